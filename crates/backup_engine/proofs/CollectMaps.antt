@@ -230,7 +230,7 @@ module _ (s : Store) (index : PlaceMap) (v : DiskView) (sized : v.size ≡ size_
     alone_by SweepStage (Release source entry) sweep last changes now is change chain =
         let was = far.is_at.invariant image far.is_at.stands.known.1 in
         subst (λ (l : List StoreChange). SweepsSpare Needs l so.after now) (sym change.0)
-        (ready_is_spare far.is_at.index so.after m.files (slot_in_turn sweep) is.header is.there was.index_is_newest was.files_are_indexed is.none, change.1)
+        (ready_is_spare (IsReachable m.files) far.is_at.index so.after (slot_in_turn sweep) is.header is.there was.index_is_newest was.files_are_indexed is.none, change.1)
     alone_by SweepStage End sweep last changes now is change chain = nothing changes now change.0 change.1
 
     pub map_more : MapSoFar new

@@ -36,7 +36,7 @@ use Rattle.store_model.specs.Files.{Files}
 use Rattle.store_model.specs.Image.{IsValidFor, Store}
 use Rattle.store_model.specs.Indexing.{entry_key, with_entries}
 use Rattle.store_model.specs.Reserve.{HoldsNone, IsReachable, IsSpare}
-use Rattle.store_model.specs.Slots.{Copy, HasFree, HoldSlots, HoldsSlot, IsPartialIndexOf, first_free, last_id, place_of, with_slot, without_slot}
+use Rattle.store_model.specs.Slots.{HasKey, Copy, HasFree, HoldSlots, HoldsSlot, IsPartialIndexOf, first_free, last_id, place_of, with_slot, without_slot}
 use Rattle.store_model.specs.Standing.{IsStoreOf}
 use Rattle.store_model.specs.Trees.{node_key}
 use Rattle.store_model.proofs.Copies.{some_same}
@@ -432,10 +432,10 @@ as_spared P index held c now same was = record {
     alone_by Select is = tt
     alone_by SweepStage is = is
 
--- A container that is about to be given back holds the newest copy of no key that files need.
-pub ready_is_spare : (index : PlaceMap) (store : Store) (files : Files) (slot : ℕ) (h : HeaderValue) → slice_get store.held slot ≡ Some (Some h) → IsPartialIndexOf store.held index
-    → IndexesFiles index files → HasNoEntryIn index slot → IsSpare (IsReachable files) store.held slot
-ready_is_spare index store files slot h there partial indexed none = record {
+-- A container that is about to be given back holds the newest copy of no key of which P holds, where the index has all such.
+pub ready_is_spare : (P : List ℕ → Type 0) (index : PlaceMap) (store : Store) (slot : ℕ) (h : HeaderValue) → slice_get store.held slot ≡ Some (Some h) → IsPartialIndexOf store.held index
+    → ((key : List ℕ) → P key → HasKey index key) → HasNoEntryIn index slot → IsSpare P store.held slot
+ready_is_spare P index store slot h there partial indexed none = record {
   header = h;
   holds = there;
   none = λ key copy needed is. none_held store index slot partial none key copy (indexed key needed) is;

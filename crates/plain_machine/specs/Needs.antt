@@ -1,15 +1,14 @@
 -- What actors need: the files that they take, and what their turns have kept (docs/MODEL.md, 'The plain machine').
-use Rattle.std.specs.Prelude.{◌≡◌, ◌<◌, ℕ, zero, suc, Bool, true, false, List, [], ◌++◌, map}
+use Rattle.std.specs.Prelude.{◌≡◌, ℕ, Bool, true, false, List, [], ◌∷◌, ◌++◌, map}
 use Rattle.container_meta.specs.declared.kind.Kind.TheVariants.{Leaf, Tree}
 use Rattle.container_meta.specs.Segments.{segment_key}
-use Rattle.actor_parts.specs.declared.actor.TheConstants.{ACTORS}
 use Rattle.actor_parts.specs.declared.step.Answer.{Answer}
 use Rattle.ingest_session.specs.Facts.{kept}
 use Rattle.ingest_session.specs.History.{History, HasHistory}
 use Rattle.ingest_session.specs.State.{SessionState}
 use Rattle.store_model.specs.Reserve.{tree_keys}
 use Rattle.store_model.specs.Trees.{file_tree}
-use Rattle.plain_machine.specs.Machine.{Machine, Part, Idle, Writing, Finished, Reading, part_in}
+use Rattle.plain_machine.specs.Machine.{Machine, Part, Idle, Writing, Finished, Reading}
 
 -- the keys of the segments that a history has as kept
 abbrev pub keys_kept : History → List (List ℕ)
@@ -33,13 +32,11 @@ NeedsJust (Writing given answers) keys = AreKeptFor given false answers keys
 NeedsJust (Finished file answers) keys = AreKeptFor file true answers keys
 NeedsJust (Reading file rest) keys = keys ≡ tree_keys (file_tree file)
 
--- the keys of the actors of the numbers below this one
-abbrev pub joined : (ℕ → List (List ℕ)) → ℕ → List (List ℕ)
-joined keys zero = []
-joined keys (suc count) = keys count ++ joined keys count
+-- just these are the keys that actors need, one after the other
+abbrev pub NeedAll : List Part → List (List ℕ) → Type 0
+NeedAll [] needed = needed ≡ []
+NeedAll (part ∷ parts) needed =
+    (mine : List (List ℕ)) × (rest : List (List ℕ)) × (needed ≡ mine ++ rest) × NeedsJust part mine × NeedAll parts rest
 
--- Just these keys are what actors need.
-pub record ActorsNeed (m : Machine) (needed : List (List ℕ)) : Type 0 where
-  pub keys : ℕ → List (List ℕ)
-  pub each : (actor : ℕ) → actor < ACTORS → NeedsJust (part_in m actor) (keys actor)
-  pub all : needed ≡ joined keys ACTORS
+abbrev pub ActorsNeed : Machine → List (List ℕ) → Type 0
+ActorsNeed m needed = NeedAll m.parts needed

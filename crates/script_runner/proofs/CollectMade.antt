@@ -1,5 +1,5 @@
 -- A step of a collection that was made is one of the machine, and the runner follows it.
-use Rattle.std.proofs.Common.{◌≡◌, ◌+◌, ◌-◌, ◌<◌, ◌≤◌, ℕ, suc, List, length, Option, Some, Result, Ok, refl, sym, ◌∙◌, ap, subst, arith, true, false}
+use Rattle.std.proofs.Common.{◌≡◌, inl, inr, ◌+◌, ◌-◌, ◌<◌, ◌≤◌, ℕ, suc, List, length, Option, Some, Result, Ok, refl, sym, ◌∙◌, ap, subst, arith, true, false}
 use Rattle.std.specs.Prelude.{Contains}
 use Rattle.container_meta.specs.Places.{PlaceMap}
 use Rattle.dd_disk.specs.Ending.{Done}
@@ -32,7 +32,7 @@ use Rattle.gc_sweep.proofs.SourceRead.{not_other}
 use Rattle.store_model.specs.Collisions.{HasNoCollisions, ByteSet, IsIn}
 use Rattle.store_model.specs.Image.{Encodes, Store}
 use Rattle.store_model.specs.Reserve.{IsReachable}
-use Rattle.store_model.specs.Slots.{HoldsSlot}
+use Rattle.store_model.specs.Slots.{HasKey, HoldsSlot}
 use Rattle.store_model.specs.Standing.{IsStoreOf}
 use Rattle.store_model.proofs.Once.{store_once}
 use Rattle.store_state.specs.Invariant.{CoreInvariant}
@@ -42,10 +42,10 @@ use Rattle.store_core.specs.Core.{CoreStep, IndexesAll}
 use Rattle.store_core.specs.Runs.{IsAt, IsSafeIn}
 use Rattle.store_core.specs.State.{CoreState, IsUnderWayIn}
 use Rattle.store_core.proofs.Leading.{Leads}
-use Rattle.plain_machine.specs.Collections.{ChangesBy, GoesTo, IsShort, RecordsBy, StepsCollection, forgets_by, freed_by, last_by}
+use Rattle.plain_machine.specs.Collections.{ChangesBy, GoesTo, IsNeededOr, IsShort, RecordsBy, StepsCollection, forgets_by, freed_by, last_by}
 use Rattle.plain_machine.specs.Content.{SameStore}
 use Rattle.plain_machine.specs.Machine.{Collecting, Machine, WasNeeded}
-use Rattle.script_runner.specs.Follows.{CountsEach, FollowsCollecting, HasCounted, IsAtProgress, IsWritten, HoldsCollection, LivesByNeed, LivesWithin, SparesNeeded, WroteOnce}
+use Rattle.script_runner.specs.Follows.{CountsEach, FollowsCollecting, HasCounted, IsAtProgress, IsWritten, HoldsCollection, IsLiveAtStage, LivesByNeed, LivesJust, SparesNeeded, WroteOnce}
 use Rattle.script_runner.specs.Sessions.{Sessions}
 use Rattle.script_runner.proofs.CollectBytes.{GivesNothing}
 use Rattle.script_runner.proofs.CollectCauses.{no_end, phase_is}
@@ -300,23 +300,33 @@ module _ (C : Type 0) (state : C → CoreState) (among : ByteSet) (apart : HasNo
   abbrev Was : List ℕ → Type 0
   Was = WasNeeded has.collecting.since
 
-  lives_before : LivesWithin Was at.running.begins.store (state old) goes.before
+  lives_before : LivesJust Was at.running.begins.store (state old) goes.before
   lives_before =
       let spares = subst (λ (o : Option Collecting). HoldsCollection m.stored.files at.running.begins.store o (state old)) has.is at.running.begins.spares in
       spares.2 goes.before goes.ran
 
   same_at : (stage : Stage) (next : Next) → Touches stage next goes.before.sweep (state old).tables Done (state old).disk (state new).disk → IsStoreAfter stage next goes.before.snapshot goes.before.sweep begins.index at.running.begins.store leaves.store_now m.content
-      → IsSameIn at.running.begins.store led_to (state old) (state new) stage
-  same_at (Mark level slot) next touch then = (touch.only.content_is, sym led_is ∙ then)
-  same_at (Filter slot) next touch then = tt
-  same_at Select next touch then = tt
-  same_at Sweep next touch then = tt
+      → StepsTo stage next (at_moment (state old) goes.before) (at_moment (state new) goes.after) → IsSameIn at.running.begins.store led_to (state old) (state new) stage
+  same_at (Mark level slot) next touch then steps = (touch.only.content_is, sym led_is ∙ then, steps.1)
+  same_at (Filter slot) next touch then steps = tt
+  same_at Select next touch then steps = tt
+  same_at Sweep next touch then steps = tt
+
+  safe_then : IsSafe leaves.later led_to (state old).parts image_now goes.after
+  safe_then = subst (λ (s : Store). IsSafe leaves.later s (state old).parts image_now goes.after) led_is leaves.safe
 
   lives_now : LivesByNeed led_to goes_so (state new)
   lives_now collection runs =
-      subst (LivesWithin Was led_to (state new)) (same_some goes.after collection (state new).collection goes.runs runs)
-      (lives_made Was among at.running.begins.store led_to m.stored (state old) (state new) begins m.content at.content_is goes.before goes.after lives_before
-      (same_at goes.before.stage goes.before.sweep.next touches leaves.store_is) steps_known)
+      subst (LivesJust Was led_to (state new)) (same_some goes.after collection (state new).collection goes.runs runs)
+      (lives_made Was among at.running.begins.store led_to m.stored (state old) (state new) begins m.content at.content_is leaves.later image_now leaves.known_is told_now goes.before goes.after lives_before leaves.lives
+      (state old).parts safe_then (same_at goes.before.stage goes.before.sweep.next touches leaves.store_is goes.steps) steps_known)
+
+  -- the index has each key that files need, or that was needed
+  indexed_at : (stage : Stage) → goes.before.stage ≡ stage → stage ≡ Sweep → (key : List ℕ) → IsNeededOr m.stored.files Was key → HasKey begins.index key
+  indexed_at stage is sweeps key (inl file) = invariant.files_are_indexed key file
+  indexed_at stage is sweeps key (inr was) =
+      let live = subst (λ (s : Stage). IsLiveAtStage s begins.index at.running.begins.store.held m.content goes.before.live key) (is ∙ sweeps) (lives_before.all begins.index m.content begins.index_known at.content_is key was) in
+      (live.0, live.1.0)
 
   spares_now : HoldsCollection m.stored.files led_to (Some goes_so) (state new)
   spares_now = (
@@ -362,7 +372,8 @@ module _ (C : Type 0) (state : C → CoreState) (among : ByteSet) (apart : HasNo
   changes_at Sweep (Release source entry) is next_is touch tables other = (
     refl,
     refl,
-    freed among at.running.begins.store m.stored (state old) (state new) begins at.running.begins.settled m.content image_now at.content_is told_now goes.before goes.ran is source entry next_is has.collecting.snapshot has.collecting.percent has.collecting.recorded snapshot_before
+    freed among at.running.begins.store m.stored (state old) (state new) begins at.running.begins.settled m.content image_now at.content_is told_now goes.before goes.ran is source entry next_is (IsNeededOr m.stored.files Was)
+        (indexed_at Sweep is refl) has.collecting.snapshot has.collecting.percent has.collecting.recorded snapshot_before
         percent_before recorded_before touch,
   )
   changes_at Sweep End is next_is touch tables other = absurd (other refl)
@@ -410,7 +421,7 @@ module _ (C : Type 0) (state : C → CoreState) (among : ByteSet) (apart : HasNo
       subst (λ (p : Phase). RecordsBy p has.collecting.alone Was has.collecting.snapshot m has.collecting.recorded goes.after.liveness) stage_phase
       (subst (λ (n : ℕ). RecordsBy here has.collecting.alone Was n m has.collecting.recorded goes.after.liveness) snapshot_before
       (subst (λ (rs : List ContainerLiveness). RecordsBy here has.collecting.alone Was goes.before.snapshot m rs goes.after.liveness) recorded_before
-      (records_on among at.running.begins.store m.stored (state old) (state new) begins m.content at.content_is goes.before goes.after goes.ran has.collecting.alone within_alone Was lives_before.within m refl refl steps_known)))
+      (records_on among at.running.begins.store m.stored (state old) (state new) begins m.content at.content_is goes.before goes.after goes.ran has.collecting.alone within_alone Was lives_before m refl refl steps_known)))
     where
       here : Phase
       here = phase_at goes.before.stage goes.before.sweep.next

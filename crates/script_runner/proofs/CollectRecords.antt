@@ -43,8 +43,9 @@ use Rattle.store_core.proofs.ByNeed.{sum_once, sums_needed}
 use Rattle.plain_machine.specs.Collections.{IsRecordOf, RecordsBy, ids_before}
 use Rattle.plain_machine.specs.Content.{OfStore}
 use Rattle.plain_machine.specs.Machine.{Machine}
+use Rattle.script_runner.specs.Follows.{IsLiveAtStage, LivesJust}
 use Rattle.script_runner.proofs.CollectNeeds.{needs_here, told_here}
-use Rattle.script_runner.proofs.NeedsLive.{live_some, live_within, needs_some}
+use Rattle.script_runner.proofs.NeedsLive.{live_within, needs_some}
 use Rattle.script_runner.proofs.TurnHolds.{right_here}
 
 -- ---- the ids of containers that came before
@@ -83,7 +84,7 @@ split_old snapshot (x ∷ ids) (suc slot) within old =
 -- ---- a step
 
 module _ (among : ByteSet) (store : Store) (stored : Stored) (old new : CoreState) (at : IsAt (IsIn among) store stored old) (content : List ℕ) (here : old.disk.content ≡ Some content) (c d : Collection) (runs : old.collection ≡ Some c)
-    (alone : Bool) (spares : alone ≡ true → IsWithin (IsReachable stored.files) c.live) (Was : List ℕ → Type 0) (within : IsWithin Was c.live) where
+    (alone : Bool) (spares : alone ≡ true → IsWithin (IsReachable stored.files) c.live) (Was : List ℕ → Type 0) (lives : LivesJust Was store old c) where
   abbrev index : PlaceMap
   index = at.index
 
@@ -121,6 +122,15 @@ module _ (among : ByteSet) (store : Store) (stored : Stored) (old new : CoreStat
     came_before : of.header.id < c.snapshot
     came_before = let below = (old_id c.snapshot (get_or old.tables.held.ids.items slot 0) old_here).1 in omega (arith, below, id_here)
 
+    -- and so is each that was needed
+    was_live : (key : List ℕ) → Was key → IsLive index c.live key
+    was_live key needed = subst (λ (stage : Stage). IsLiveAtStage stage index store.held content c.live key) stage_is (lives.all index content at.index_known here key needed)
+
+    live_needed : SumsNeeded Was store.held of.header.kind slot of.header.entries r.live
+    live_needed =
+        sums_needed Was index store.held c.live invariant.index_is_newest lives.within (λ key needed. let live = was_live key needed in (live.0, live.1.0))
+        (λ key place needed. let live = was_live key needed in live_anywhere c.live key live.0 place live.1.1) of.header.kind slot of.header.entries r.live of.sums
+
     needs : (needed : ℕ) × (SumsNeeded P store.held of.header.kind slot of.header.entries needed × (needed ≤ r.live))
     needs = needs_some stored.files index store.held c.live invariant.index_is_newest marked of.header.kind slot of.header.entries r.live of.sums
 
@@ -142,11 +152,11 @@ module _ (among : ByteSet) (store : Store) (stored : Stored) (old new : CoreStat
       id_is = of.id_is;
       kind_is = of.kind_is;
       all_is = of.all_is;
+      live_is = live_needed;
       needed = needs.0;
       sums = needs.1.0;
       at_least = needs.1.1;
       at_most = omega (arith, live_within index c.live of.header.kind slot of.header.entries r.live of.sums, of.all_is);
-      was_needed = live_some Was index store.held c.live invariant.index_is_newest within of.header.kind slot of.header.entries r.live of.sums;
       exact = same_alone;
     }
 

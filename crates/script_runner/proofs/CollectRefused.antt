@@ -15,11 +15,13 @@ use Rattle.gc_steps.specs.declared.collection.Stage.{Stage}
 use Rattle.gc_steps.specs.declared.collection.Stage.TheVariants.{Mark, Filter, Select, Sweep}
 use Rattle.gc_steps.specs.Stepping.{Keeps, Touches, moment, phase_at}
 use Rattle.gc_steps.proofs.Sparing as sparing
+use Rattle.gc_sweep.specs.Holding.{IsLive}
 use Rattle.gc_sweep.specs.declared.sweep.Next.{Next}
 use Rattle.gc_sweep.specs.declared.sweep.Next.TheVariants.{Copy, Flush, Release, End}
 use Rattle.store_model.specs.Collisions.{HasNoCollisions, ByteSet, IsIn}
 use Rattle.store_model.specs.Image.{Store}
 use Rattle.store_model.specs.Reserve.{IsReachable}
+use Rattle.store_model.specs.Slots.{HasKey}
 use Rattle.store_model.specs.Steps.{StoreChange}
 use Rattle.store_state.specs.Refused.{blames}
 use Rattle.store_state.specs.declared.tables.Tables.{Tables}
@@ -29,10 +31,10 @@ use Rattle.store_core.specs.Core.{CoreStep, IndexesAll, Steps}
 use Rattle.store_core.specs.Runs.{ChangesTo, IsAt}
 use Rattle.store_core.specs.State.{CoreState}
 use Rattle.store_core.proofs.JustNeeded.{kept_takes}
-use Rattle.plain_machine.specs.Collections.{BreaksBy, BreaksStep, HasToCopy, IsCollecting, MayCome, MayRead, RefusesCollectionStep}
+use Rattle.plain_machine.specs.Collections.{BreaksBy, BreaksStep, HasToCopy, IsCollecting, IsNeededOr, MayCome, MayRead, RefusesCollectionStep}
 use Rattle.plain_machine.specs.Content.{SameStore}
 use Rattle.plain_machine.specs.Machine.{Collecting, Machine, Marking, Progress, Recording, Stopped, Sweeping, WasNeeded}
-use Rattle.script_runner.specs.Follows.{Follows, IsAtProgress, IsOfFound, HoldsCollection, LivesByNeed, LivesWithin, SparesNeeded, WroteOnce}
+use Rattle.script_runner.specs.Follows.{Follows, IsAtProgress, IsOfFound, HoldsCollection, IsLiveAtStage, LivesByNeed, LivesJust, SparesNeeded, WroteOnce}
 use Rattle.script_runner.specs.Sessions.{Sessions}
 use Rattle.script_runner.proofs.CollectBytes.{GivesNothing, IsRest}
 use Rattle.script_runner.proofs.CollectCauses.{IsCauseAt, IsCollectCause, IsReadCause, IsRestCause, cause_at, collect_cause}
@@ -42,10 +44,10 @@ use Rattle.script_runner.proofs.CollectNeeds.{needs_closed, needs_here, told_her
 use Rattle.script_runner.proofs.CollectParts.{gc_event}
 use Rattle.script_runner.proofs.CollectProgress.{may_come}
 use Rattle.script_runner.proofs.CollectIndex.{rest_index}
-use Rattle.script_runner.proofs.Lives.{IsSameIn, lives_kept}
+use Rattle.script_runner.proofs.Lives.{IsSameIn, kept_marks, lives_kept}
 use Rattle.script_runner.proofs.CollectStep.{HasCollecting, flush_same, image, is_collecting, keeps, kept_unchanged, leads, right, runs_then, same_index, same_so, same_some, some_collecting, step, steps, told, touched}
 use Rattle.script_runner.proofs.Harmless.{is_harmless}
-use Rattle.script_runner.proofs.SweepContent.{copies_broke, freeing_broke, some_to_copy}
+use Rattle.script_runner.proofs.SweepContent.{copies_broke, freeing_broke, some_of_copied, some_to_copy}
 use Rattle.script_runner.proofs.TurnRunning.{RunsAt, follows_at}
 use Rattle.script_runner.proofs.WrittenOnce.{once_unchanged}
 
@@ -168,24 +170,41 @@ module _ (C : Type 0) (state : C → CoreState) (among : ByteSet) (apart : HasNo
         let before = subst (λ (o : Option Collecting). HoldsCollection m.stored.files at.running.begins.store o (state old)) has_some.is at.running.begins.spares in
         once_unchanged (state old) (state new) at.running.begins.store at.running.begins.store has_some.collecting (λ slot h there. there) (state old).collection refl (kept_unchanged (state old) (state new) refusal row) before.1
 
-    -- only what was needed since it began is live
-    lives_then : LivesWithin (WasNeeded has_some.collecting.since) at.running.begins.store (state old) row.before
+    -- just what was needed as it began, or since, is live
+    abbrev Was : List ℕ → Type 0
+    Was = WasNeeded has_some.collecting.since
+
+    lives_then : LivesJust Was at.running.begins.store (state old) row.before
     lives_then =
         let before = subst (λ (o : Option Collecting). HoldsCollection m.stored.files at.running.begins.store o (state old)) has_some.is at.running.begins.spares in
         before.2 row.before row.ran
 
-    same_at : (stage : Stage) (next : Next) → Touched stage next → IsSameIn at.running.begins.store at.running.begins.store (state old) (state new) stage
-    same_at (Mark level slot) next touch = (touch.only.content_is, refl)
-    same_at (Filter slot) next touch = tt
-    same_at Select next touch = tt
-    same_at Sweep next touch = tt
+    same_at : (stage : Stage) (next : Next) → Touched stage next → (state new).known ≡ (state old).known → IsSameIn at.running.begins.store at.running.begins.store (state old) (state new) stage
+    same_at (Mark level slot) next touch same = (touch.only.content_is, refl, same)
+    same_at (Filter slot) next touch same = tt
+    same_at Select next touch same = tt
+    same_at Sweep next touch same = tt
 
-    lives_rested : LivesByNeed at.running.begins.store has_some.collecting (state new)
-    lives_rested collection runs =
-        subst (LivesWithin (WasNeeded has_some.collecting.since) at.running.begins.store (state new)) (same_some row.after collection (state new).collection row.runs runs)
-        (lives_kept (WasNeeded has_some.collecting.since) among at.running.begins.store at.running.begins.store m.stored (state old) (state new) begins_then m.content at.content_is row.before row.after lives_then refusal
-        (same_at row.before.stage row.before.sweep.next touches_so)
-        (subst (λ (known : Option PlaceMap). Keeps row.before.stage row.before.sweep.next (moment (state old).tables known (state old).disk row.before) (at_moment (state new) row.after) refusal) begins_then.index_known row.kept))
+    keeps_known : Keeps row.before.stage row.before.sweep.next (moment (state old).tables (Some begins_then.index) (state old).disk row.before) (at_moment (state new) row.after) refusal
+    keeps_known =
+        subst (λ (known : Option PlaceMap). Keeps row.before.stage row.before.sweep.next (moment (state old).tables known (state old).disk row.before) (at_moment (state new) row.after) refusal) begins_then.index_known row.kept
+
+    -- what was live is so still
+    live_still : (key : List ℕ) → IsLive begins_then.index row.before.live key → IsLive begins_then.index row.after.live key
+    live_still key is = (is.0, (is.1.0, kept_marks (state old) (state new) begins_then.index row.before row.after row.before.stage row.before.sweep.next refusal keeps_known key is.0 is.1.1))
+
+    lives_rested : IsRestCause refusal → LivesByNeed at.running.begins.store has_some.collecting (state new)
+    lives_rested rests collection runs =
+        subst (LivesJust Was at.running.begins.store (state new)) (same_some row.after collection (state new).collection row.runs runs)
+        (lives_kept Was among at.running.begins.store at.running.begins.store m.stored (state old) (state new) begins_then m.content at.content_is begins_then.index image_then (index_then rests ∙ begins_then.index_known) told_then row.before
+        row.after lives_then live_still refusal (same_at row.before.stage row.before.sweep.next touches_so (index_then rests)) keeps_known)
+
+    -- while it sweeps the index has each key that files need, or that was needed
+    indexed_then : row.before.stage ≡ Sweep → (key : List ℕ) → IsNeededOr m.stored.files Was key → HasKey begins_then.index key
+    indexed_then is key (inl file) = (begins_then.invariant m.content at.content_is).files_are_indexed key file
+    indexed_then is key (inr was) =
+        let live = subst (λ (s : Stage). IsLiveAtStage s begins_then.index at.running.begins.store.held m.content row.before.live key) is (lives_then.all begins_then.index m.content begins_then.index_known at.content_is key was) in
+        (live.0, live.1.0)
 
     spares_rested : IsRestCause refusal → HoldsCollection m.stored.files at.running.begins.store m.collecting (state new)
     spares_rested rests =
@@ -195,7 +214,7 @@ module _ (C : Type 0) (state : C → CoreState) (among : ByteSet) (apart : HasNo
               (same_index begins_then.index index (state new).known (index_then rests ∙ begins_then.index_known) known)
               (subst SparesAt (same_some row.after collection (state new).collection row.runs runs) (spares_after (spared_then alone)))),
           once_rested,
-          lives_rested,
+          lives_rested rests,
         )
 
     rested : IsRestCause refusal → (state new).stop ≡ None → (faults : ℕ) → (state new).disk.faults ≡ faults → Follows (IsIn among) (record m { content = image_then; faults = faults }) sessions (state new)
@@ -220,7 +239,7 @@ module _ (C : Type 0) (state : C → CoreState) (among : ByteSet) (apart : HasNo
         no_read : IsReadCause refusal → ⊥
         no_read reads = subst IsReadCause is reads
 
-        by_step : (stage : Stage) (next : Next) → row.before.stage ≡ stage → row.before.sweep.next ≡ next → BreaksBy (phase_at stage next) Chosen has_some.collecting.snapshot m image_then → BreaksStep m image_then
+        by_step : (stage : Stage) (next : Next) → row.before.stage ≡ stage → row.before.sweep.next ≡ next → BreaksBy (phase_at stage next) Was Chosen has_some.collecting.snapshot m image_then → BreaksStep m image_then
         by_step stage next stage_is next_is breaks = record {
           running = has_some.collecting;
           ran = has_some.is;
@@ -243,23 +262,32 @@ module _ (C : Type 0) (state : C → CoreState) (among : ByteSet) (apart : HasNo
             )
         by_stage Sweep (Release source entry) stage_is next_is at_stage touches =
             by_step Sweep (Release source entry) stage_is next_is
-            (freeing_broke among at.running.begins.store m.stored (state old) (state new) begins_then at.running.begins.settled m.content image_then at.content_is told_then row.before row.ran stage_is source entry next_is
-            has_some.collecting.snapshot has_some.collecting.percent has_some.collecting.recorded snapshot_before percent_before recorded_before (broken_as Sweep (Release source entry) touches))
+            (freeing_broke among at.running.begins.store m.stored (state old) (state new) begins_then at.running.begins.settled m.content image_then at.content_is told_then row.before row.ran stage_is source entry next_is (IsNeededOr m.stored.files Was)
+            (indexed_then stage_is) has_some.collecting.snapshot has_some.collecting.percent has_some.collecting.recorded snapshot_before percent_before recorded_before (broken_as Sweep (Release source entry) touches))
         by_stage Sweep End stage_is next_is at_stage touches = absurd at_stage
 
     -- ---- no id is left
 
-    -- where it runs alone, copies were to be written
+    -- something may be copied, and where it runs alone is to be
     some_left : (source entry : ℕ) → row.before.stage ≡ Sweep → row.before.sweep.next ≡ Flush source entry → HasToCopy m.collecting m
-    some_left source entry stage_is next_is =
-        subst (λ (o : Option Collecting). HasToCopy o m) (sym has_some.is) (λ alone. (
-          at.running.begins.store,
-          (
-            right C state among apart m sessions old new at err buf made,
-            some_to_copy among at.running.begins.store m.stored (state old) (state new) begins_then at.running.begins.settled m.content image_then at.content_is told_then row.before row.ran stage_is
-                has_some.collecting.snapshot has_some.collecting.percent has_some.collecting.recorded snapshot_before percent_before recorded_before source entry next_is (spared_then alone).0,
-          ),
-        ))
+    some_left source entry stage_is next_is = subst (λ (o : Option Collecting). HasToCopy o m) (sym has_some.is) (
+      (
+        at.running.begins.store,
+        (
+          right C state among apart m sessions old new at err buf made,
+          some_of_copied among at.running.begins.store m.stored (state old) (state new) begins_then at.running.begins.settled m.content image_then at.content_is told_then row.before row.ran stage_is
+              has_some.collecting.snapshot has_some.collecting.percent has_some.collecting.recorded snapshot_before percent_before recorded_before source entry next_is Was lives_then.within,
+        ),
+      ),
+      λ alone. (
+        at.running.begins.store,
+        (
+          right C state among apart m sessions old new at err buf made,
+          some_to_copy among at.running.begins.store m.stored (state old) (state new) begins_then at.running.begins.settled m.content image_then at.content_is told_then row.before row.ran stage_is
+              has_some.collecting.snapshot has_some.collecting.percent has_some.collecting.recorded snapshot_before percent_before recorded_before source entry next_is (spared_then alone).0,
+        ),
+      ),
+    )
 
     no_id : refusal ≡ refusals.Numbers → IsCollecting phases.Flush m.collecting × (LAST_ID ≤ m.last_id) × HasToCopy m.collecting m
     no_id is = by_stage row.before.stage row.before.sweep.next refl refl cause

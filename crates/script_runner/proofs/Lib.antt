@@ -39,6 +39,7 @@ pub mod LinesStat
 pub mod LinesTaking
 pub mod LinesTurn
 pub mod Lists
+pub mod LiveTrees
 pub mod Lives
 pub mod LivesOn
 pub mod MostSteps

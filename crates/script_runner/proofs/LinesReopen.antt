@@ -129,7 +129,7 @@ module _ (old new : CoreState) (reads : OnlyReads old.disk new.disk) (tables_are
     whole = λ none. subst (IndexesAll begins.store) (sym index_is) (begins.whole none);
     collects = still_follows collecting begins.collects;
     spares = spares_still old new stored.files begins.store index_is (same_live old.collection new.collection collection_is) collecting
-        (lives_still old new begins.store collection_is reads.content_is collecting (lives_of stored.files begins.store collecting old begins.spares)) begins.spares;
+        (lives_still old new begins.store collection_is index_is reads.content_is collecting (lives_of stored.files begins.store collecting old begins.spares)) begins.spares;
     low = begins.low;
     last_id_is = ap (λ (tables : Tables). tables.held.last_id) tables_are ∙ begins.last_id_is;
     settled = subst (λ (tables : Tables). IsSettled tables.slots new.disk) (sym tables_are)

@@ -1,5 +1,5 @@
--- What is live was needed since the collection began, also after a step that is none of it: what the step keeps is needed from then on, and
--- the children of a node that it keeps are pinned, so that they are live.
+-- Just what was needed since a collection began is live, also after a step that is none of it: what the step keeps is needed from then on, and
+-- pinned, as are the children of a node that it keeps, so that all these are live; and what was live and held whole stays so.
 use Rattle.std.proofs.Common.{◌≡◌, ◌⊎◌, ◌↔◌, inl, inr, ℕ, zero, suc, ◌+◌, ◌-◌, ◌<◌, Bool, true, false, List, [], ◌∷◌, ◌++◌, length, map, Option, Some, None, Result, Ok, refl, sym, ◌∙◌, ap, subst, arith}
 use Rattle.std.specs.Prelude.{Contains, slice_get}
 use Rattle.std.specs.FinMap as finite
@@ -14,6 +14,7 @@ use Rattle.container_meta.specs.declared.entry.Entry.{Entry}
 use Rattle.container_meta.specs.declared.kind.Kind.{Kind}
 use Rattle.container_meta.specs.declared.kind.Kind.TheVariants.{Leaf, Tree}
 use Rattle.container_meta.specs.declared.place.Place.{Place}
+use Rattle.container_meta.specs.Places.{PlaceMap}
 use Rattle.container_meta.specs.Segments.{Segment, entries_from, segment_key}
 use Rattle.container_meta.specs.Spelling.{HeaderValue, header_of}
 use Rattle.merkle_file.specs.declared.node.Child.{Child}
@@ -33,7 +34,7 @@ use Rattle.refusals.specs.declared.refusal.Refusal.{Refusal}
 use Rattle.gc_enumerate.specs.Live.{LiveKeys, IsLiveAt}
 use Rattle.gc_enumerate.specs.Scanning.{child_key, child_keys}
 use Rattle.store_model.specs.Files.{Stored}
-use Rattle.store_model.specs.Image.{Store}
+use Rattle.store_model.specs.Image.{Store, names_of}
 use Rattle.store_model.specs.Reserve.{key_set}
 use Rattle.store_model.specs.Slots.{AreHeaders, Copy, HasKey, newest}
 use Rattle.store_model.specs.Trees.{bytes_at, node_key}
@@ -50,23 +51,28 @@ use Rattle.gc_steps.specs.declared.collection.Collection.{Collection}
 use Rattle.gc_steps.specs.declared.collection.Stage.{Stage}
 use Rattle.gc_steps.specs.declared.collection.Stage.TheVariants.{Mark, Filter, Select, Sweep}
 use Rattle.gc_steps.specs.LiveTrees.{HoldsNode}
-use Rattle.gc_steps.specs.Roots.{IsPartKey, Marks}
+use Rattle.gc_steps.specs.Roots.{IsPartKey, IsRoot, Marks}
 use Rattle.gc_steps.specs.Safety.{IsSafeAt}
 use Rattle.gc_steps.specs.Sparing.{IsWithin}
+use Rattle.gc_steps.specs.SweepIsSafe.{SweepIsSafe}
 use Rattle.gc_steps.proofs.ChildTrees.{leaf_apart}
 use Rattle.gc_steps.proofs.ClaimedPin.{one_more}
 use Rattle.gc_steps.proofs.Marked.{contains_first, contains_none, marks_none}
 use Rattle.gc_steps.proofs.PinnedTrees.{pin_found}
 use Rattle.gc_steps.proofs.SealedPins.{key_found}
+use Rattle.gc_sweep.specs.Holding.{IsLive}
 use Rattle.store_core.specs.Collecting.{Collects, IsKeptKey, MarksIn}
 use Rattle.store_core.specs.Core.{Row, Steps}
 use Rattle.store_core.specs.Frame.{KeepsStanding}
 use Rattle.store_core.specs.Runs.{ChangesTo, IsAt, IsSafeIn, changes_by}
 use Rattle.store_core.specs.State.{CoreState, Event}
+use Rattle.store_core.proofs.KeepingFiles.{NextOn}
 use Rattle.store_core.proofs.Marks.{contains_one}
 use Rattle.store_core.proofs.OwnParts.{all_part}
+use Rattle.store_core.proofs.Sealing.{one_map}
 use Rattle.plain_machine.specs.Machine.{Collecting, Since, WasNeeded, disturbed}
-use Rattle.script_runner.specs.Follows.{IsClosedAt, LivesWithin}
+use Rattle.script_runner.specs.Follows.{IsClosedAt, IsLiveAtStage, LivesJust}
+use Rattle.script_runner.proofs.LiveTrees.{below_on, live_below, live_on}
 use Rattle.script_runner.proofs.Lives.{LivesIn}
 use Rattle.script_runner.proofs.PlainSteps.{IsPlainStep, collecting_after}
 use Rattle.script_runner.proofs.WrittenOnce.{StandOn, stands_by}
@@ -79,13 +85,13 @@ record NeedsMore (K : List ℕ → Type 0) (before after : Since) : Type 0 where
   gained : (key : List ℕ) → K key → WasNeeded after key
   told : (key : List ℕ) → WasNeeded after key → WasNeeded before key ⊎ K key
 
-needs_more : (K : List ℕ → Type 0) (before : Since) (keys : List (List ℕ)) → ((key : List ℕ) → Contains keys key ↔ K key) → NeedsMore K before (record before { kept = before.kept ++ keys })
+needs_more : (K : List ℕ → Type 0) (before : Since) (keys : List (List ℕ)) → ((key : List ℕ) → Contains keys key ↔ K key) → NeedsMore K before (record before { keys = before.keys ++ keys })
 needs_more K before keys same = record {
-  still = λ key is. elim is [ inl file ↦ inl file | inr kept ↦ inr (Contains-append_left before.kept keys key kept) ];
-  gained = λ key is. inr (Contains-append_right before.kept keys key ((same key).1 is));
+  still = λ key is. elim is [ inl file ↦ inl file | inr kept ↦ inr (Contains-append_left before.keys keys key kept) ];
+  gained = λ key is. inr (Contains-append_right before.keys keys key ((same key).1 is));
   told = λ key is. elim is [
     | inl file ↦ inl (inl file)
-    | inr kept ↦ elim (Contains-append_cases before.kept keys key kept) [ inl was ↦ inl (inr was) | inr now ↦ inr ((same key).0 now) ]
+    | inr kept ↦ elim (Contains-append_cases before.keys keys key kept) [ inl was ↦ inl (inr was) | inr now ↦ inr ((same key).0 now) ]
   ];
 }
 
@@ -95,9 +101,9 @@ needs_same K since none = record { still = λ key is. is; gained = λ key is. ab
 none_kept : (key : List ℕ) → Contains [] key ↔ ⊥
 none_kept key = (λ there. contains_none key there, λ none. absurd none)
 
--- all that is live was needed by then
+-- just what was needed by then is live
 abbrev LivesSince : Store → Since → CoreState → Type 0
-LivesSince store since c = (collection : Collection) → c.collection ≡ Some collection → LivesWithin (WasNeeded since) store c collection
+LivesSince store since c = (collection : Collection) → c.collection ≡ Some collection → LivesJust (WasNeeded since) store c collection
 
 module _ (store : Store) (c : CoreState) where
   -- so it is of what a collection has come to, where keys of which K holds were kept
@@ -110,7 +116,7 @@ module _ (store : Store) (c : CoreState) where
 
   more_lives : (K : List ℕ → Type 0) (keys : List (List ℕ)) (o : Option Collecting) → ((key : List ℕ) → Contains keys key ↔ K key) → LivesMore K o → LivesIn store (disturbed keys o) c
   more_lives K keys None same lives = tt
-  more_lives K keys (Some k) same lives = lives k (record k.since { kept = k.since.kept ++ keys }) refl (needs_more K k.since keys same)
+  more_lives K keys (Some k) same lives = lives k (record k.since { keys = k.since.keys ++ keys }) refl (needs_more K k.since keys same)
 
   lives_after : (step : StepValue) (answer : Result Answer Refusal) (o : Option Collecting) → LivesMore (IsKeptKey step answer) o → LivesIn store (collecting_after step answer o) c
   lives_after (asked.Claim seg) (Ok answers.Held) o lives =
@@ -278,10 +284,24 @@ marks_kept (asked.GcStart percent) answer old new plain collects = absurd plain
 marks_kept asked.GcStep answer old new plain collects = absurd plain
 marks_kept step answer old new plain collects = unmarked (IsKeptKey step answer) old.collection new.collection (λ key none. none) collects
 
-module _ (S : List ℕ → Type 0) (s t : Store) (stored later : Stored) (old new : CoreState) (e : Event) (at : IsAt S s stored old) (then : IsAt S t later new) (plain : IsPlainStep e.step) (steps : Steps e old new)
-    (chain : ChangesTo (changes_by e.step e.answer) s t) (base image : List ℕ) (was : old.disk.content ≡ Some base) (now : new.disk.content ≡ Some image) (standing : KeepsStanding s t base image) where
+module _ (S : List ℕ → Type 0) (s : Store) (stored later : Stored) (old new : CoreState) (e : Event) (at : IsAt S s stored old) (next : NextOn S s (changes_by e.step e.answer) later old new) (plain : IsPlainStep e.step) (steps : Steps e old new)
+    (base image : List ℕ) (was : old.disk.content ≡ Some base) (now : new.disk.content ≡ Some image) (standing : KeepsStanding s next.next.store base image) where
   abbrev K : List ℕ → Type 0
   K = IsKeptKey e.step e.answer
+
+  -- what the step leads to
+  abbrev t : Store
+  t = next.next.store
+
+  abbrev then : IsAt S t later new
+  then = next.next.is_at
+
+  abbrev chain : ChangesTo (changes_by e.step e.answer) s t
+  chain = next.next.chain
+
+  -- the index keeps its keys
+  abbrev keys_on : (key : List ℕ) → HasKey at.index key → HasKey then.index key
+  keys_on = next.keys at.index then.index at.index_known then.index_known
 
   -- a node that the step doesn't keep was held
   node_before : (n : Contents) (copy : Copy) → HoldsNode t.held image n copy → (K (node_key n) → ⊥) → HoldsNode s.held base n copy
@@ -293,6 +313,17 @@ module _ (S : List ℕ → Type 0) (s t : Store) (stored later : Stored) (old ne
         bytes_are = sym (copy_stays s t base image standing (stands_by s t e.step e.answer chain) at.valid.headers (node_key n) copy is) ∙ node.bytes_are;
       }
 
+  -- what its actor pins is a root from then on
+  pinned_root : (pins : PinMap) → part_of new.parts e.actor ≡ Writing pins → (key : List ℕ) → IsPartKey (Writing pins) key → IsRoot (names_of t) new.parts key
+  pinned_root pins writing key pinned =
+      inr (e.actor, (omega (arith, writes_within new.parts e.actor pins writing, then.many), subst (λ (p : Part). IsPartKey p key) (sym writing) pinned))
+
+  -- and so is what the step keeps
+  kept_root : (key : List ℕ) → K key → IsRoot (names_of t) new.parts key
+  kept_root key kept =
+      let is = kept_pinned e.step e.actor e.answer e.buf old new steps.made.row key kept in
+      pinned_root is.pins is.writing key is.pinned
+
   -- while it marks, the children of one that the step keeps are live
   children_live : (level slot : ℕ) (c : Collection) → IsSafeAt (Mark level slot) then.index t new.parts image c → (n : Contents) (copy : Copy) → HoldsNode t.held image n copy → K (node_key n)
       → (key : List ℕ) → Contains (child_keys n) key → (place : Place) × IsLiveAt c.live key place
@@ -301,8 +332,7 @@ module _ (S : List ℕ → Type 0) (s t : Store) (stored later : Stored) (old ne
       let all : ArePinsOf (HasKey then.index) t.held image is.pins =
       subst (HoldsPart (HasKey then.index) t.held image) is.writing (all_part (HoldsPart (HasKey then.index) t.held image) new.parts e.actor tt (then.invariant image now).pins_are_closed) in
       let pinned : IsPartKey (Writing is.pins) key = children_pinned (HasKey then.index) t.held image is.pins all n copy node is.pinned key child in
-      let live = safe.roots_are_live key
-      (inr (e.actor, (omega (arith, writes_within new.parts e.actor is.pins is.writing, then.many), subst (λ (p : Part). IsPartKey p key) (sym is.writing) pinned))) in
+      let live = safe.roots_are_live key (pinned_root is.pins is.writing key pinned) in
       (live.0, live.1.1)
 
   module _ (before after : Since) (more : NeedsMore K before after) where
@@ -328,8 +358,27 @@ module _ (S : List ℕ → Type 0) (s t : Store) (stored later : Stored) (old ne
     closed_on Select c within safe closed = tt
     closed_on Sweep c within safe closed = tt
 
-    -- what is live then was needed, where it was so before
-    by_collection : (o : Option Collection) → ((c : Collection) → o ≡ Some c → LivesWithin (WasNeeded before) s old c) → MarksIn K o new.collection → LivesSince t after new
+    -- once it has marked, each key that was needed is live
+    live_after : (old_live : LiveKeys) (c : Collection) → Marks K old_live c.live → SweepIsSafe then.index t new.parts image c → ((key : List ℕ) → WasNeeded before key → IsLive at.index old_live key) → (key : List ℕ) → WasNeeded after key
+        → IsLive then.index c.live key
+    live_after old_live c marks safe all key needed = elim (more.told key needed) [
+      | inl is ↦ live_on at.index then.index keys_on old_live c.live (λ k place lived. (marks k place).1 (inl lived)) key (all key is)
+      | inr kept ↦ safe.roots_are_live key (kept_root key kept)
+    ]
+
+    -- by the stage: while it marks, each is below a live key
+    all_on : (stage : Stage) (old_live : LiveKeys) (c : Collection) → Marks K old_live c.live → IsSafeAt stage then.index t new.parts image c
+        → ((key : List ℕ) → WasNeeded before key → IsLiveAtStage stage at.index s.held base old_live key) → (key : List ℕ) → WasNeeded after key → IsLiveAtStage stage then.index t.held image c.live key
+    all_on (Mark level slot) old_live c marks safe all key needed = elim (more.told key needed) [
+      | inl is ↦ below_on at.index then.index keys_on s t base image (next.copies at.index base image at.index_known was now) old_live c.live (λ k place lived. (marks k place).1 (inl lived)) key (all key is)
+      | inr kept ↦ let live = safe.roots_are_live key (kept_root key kept) in live_below then.index t.held image c.live key live (safe.live_is_whole key live)
+    ]
+    all_on (Filter slot) old_live c marks safe all key needed = live_after old_live c marks safe all key needed
+    all_on Select old_live c marks safe all key needed = live_after old_live c marks safe all key needed
+    all_on Sweep old_live c marks safe all key needed = live_after old_live c marks safe all key needed
+
+    -- just what was needed is live then, where it was so before
+    by_collection : (o : Option Collection) → ((c : Collection) → o ≡ Some c → LivesJust (WasNeeded before) s old c) → MarksIn K o new.collection → LivesSince t after new
     by_collection None lives marks c runs = absurd (let wrong : None ≡ Some c = sym marks ∙ runs in cc)
     by_collection (Some b) lives marks c runs =
         let a : Collection = record b { live = marks.0 } in
@@ -337,12 +386,16 @@ module _ (S : List ℕ → Type 0) (s t : Store) (stored later : Stored) (old ne
         let within : IsWithin (WasNeeded after) a.live = within_on b.live marks.0 marks.1.1 lived.within in
         let safe : IsSafeAt b.stage then.index t new.parts image a = subst (IsSafeIn then.index t new.parts image) marks.1.0 (then.safe image now) in
         let closed : IsClosedAt b.stage (WasNeeded after) t.held image = closed_on b.stage a within safe (lived.closed base was) in
-        subst (LivesWithin (WasNeeded after) t new) (some_same a c (sym marks.1.0 ∙ runs)) (record {
+        let all : (key : List ℕ) → WasNeeded after key → IsLiveAtStage b.stage then.index t.held image a.live key = all_on b.stage b.live a marks.1.1 safe (lived.all at.index base at.index_known was) in
+        subst (LivesJust (WasNeeded after) t new) (some_same a c (sym marks.1.0 ∙ runs)) (record {
           within = within;
           closed = λ shown is. subst (IsClosedAt b.stage (WasNeeded after) t.held) (some_same image shown (sym now ∙ is)) closed;
+          all = λ index shown known is key needed.
+              subst (λ (m : PlaceMap). IsLiveAtStage b.stage m t.held shown a.live key) (one_map then.index index (sym then.index_known ∙ known))
+              (subst (λ (bytes : List ℕ). IsLiveAtStage b.stage then.index t.held bytes a.live key) (some_same image shown (sym now ∙ is)) (all key needed));
         })
 
-  -- What is live was needed since the collection began, after the step, too.
+  -- Just what was needed since the collection began is live, after the step, too.
   pub lives_on : (collecting : Option Collecting) → LivesIn s collecting old → LivesIn t (collecting_after e.step e.answer collecting) new
   lives_on collecting lives = lives_after t new e.step e.answer collecting (λ k after is more.
       by_collection k.since after more old.collection (subst (λ (o : Option Collecting). LivesIn s o old) is lives) (marks_kept e.step e.answer old new plain steps.collects))

@@ -1,8 +1,9 @@
 -- What actors need as a collection begins: the keys of its roots, and with a node's key those of its children.
-use Rattle.std.proofs.Common.{◌≡◌, ◌<◌, ◌≤◌, inl, inr, ℕ, zero, suc, List, [], ◌∷◌, ◌++◌, map, Option, None, Some, refl, sym, ◌∙◌, ap, subst, arith}
-use Rattle.std.specs.Prelude.{Contains, slice_get}
-use Rattle.std.proofs.lemmas.Bool.Decides.{eqb_tells}
-use Rattle.std.proofs.lemmas.List.Elements.{Contains-append_cases, Contains-append_left, Contains-append_right}
+use Rattle.std.proofs.Common.{◌≡◌, ◌<◌, ◌≤◌, inl, inr, ℕ, zero, suc, List, [], ◌∷◌, ◌++◌, map, Option, None, Some, refl, sym, ◌∙◌, ap, subst, arith, length, get_or, ◌⊎◌}
+use Rattle.std.specs.Prelude.{Contains, slice_get, slice_index_or}
+use Rattle.std.specs.FinMap as finite
+use Rattle.std.specs.List.{All, AllByRecursion}
+use Rattle.std.proofs.lemmas.List.Elements.{Contains-append_cases, Contains-append_left, Contains-append_right, Contains-get_or}
 use Rattle.actor_parts.specs.declared.actor.TheConstants.{ACTORS}
 use Rattle.actor_parts.specs.declared.part.Part.TheVariants as core_parts
 use Rattle.actor_parts.specs.declared.part.Part as core_part
@@ -11,22 +12,32 @@ use Rattle.actor_parts.specs.PinMap.{PinMap}
 use Rattle.actor_parts.specs.Segments.{pin_by}
 use Rattle.container_meta.specs.declared.kind.Kind.{Kind}
 use Rattle.container_meta.specs.declared.kind.Kind.TheVariants.{Leaf, Tree}
+use Rattle.container_meta.specs.Places.{PlaceMap}
 use Rattle.container_meta.specs.Segments.{Segment, segment_key}
+use Rattle.gc_enumerate.specs.Live.{LiveKeys}
 use Rattle.gc_enumerate.specs.Scanning.{child_keys}
+use Rattle.gc_sweep.specs.Holding.{IsLive}
 use Rattle.gc_steps.specs.LiveTrees.{HoldsNode}
 use Rattle.gc_steps.specs.Roots.{IsPartKey, IsRoot}
 use Rattle.gc_steps.proofs.FileKeys.{key_of_root, name_reachable, tree_closed}
 use Rattle.gc_steps.proofs.Marked.{contains_first, contains_head, contains_next, contains_none}
-use Rattle.gc_steps.proofs.RootTrees.{top_of}
+use Rattle.gc_steps.proofs.Needed.{closed_tree}
+use Rattle.gc_steps.proofs.NeededKeys.{reachable_has}
+use Rattle.gc_steps.proofs.ReaderNeeds.{tree_root}
+use Rattle.gc_steps.proofs.RootTrees.{root_there, top_of}
+use Rattle.gc_steps.proofs.Started.{root_whole}
 use Rattle.ingest_session.specs.Facts.{IsKept, kept}
 use Rattle.ingest_session.specs.History.{History}
 use Rattle.ingest_session.specs.State.{SessionState}
 use Rattle.merkle_file.specs.Node as node
-use Rattle.store_model.specs.Collisions.{ByteSet, IsIn}
+use Rattle.merkle_file.specs.Tree as tree
+use Rattle.merkle_file.specs.Walk.{IsTree, trees_in}
 use Rattle.store_model.specs.Files.{Stored}
 use Rattle.store_model.specs.Image.{Store, names_of}
+use Rattle.store_model.specs.Refusals.{root_key}
 use Rattle.store_model.specs.Reserve.{tree_keys}
 use Rattle.store_model.specs.Slots.{Copy, HasKey}
+use Rattle.store_model.specs.Standing.{IsStoreOf}
 use Rattle.store_model.specs.Trees.{file_tree, node_key}
 use Rattle.store_model.proofs.Unfolding.{right_file, root_of_tree}
 use Rattle.store_state.specs.Invariant.{HoldsPart}
@@ -34,8 +45,8 @@ use Rattle.store_core.specs.Runs.{IsAt}
 use Rattle.store_core.specs.State.{CoreState}
 use Rattle.store_core.proofs.OwnParts.{all_part}
 use Rattle.plain_machine.specs.Machine.{Finished, Idle, Machine, Part, Reading, WasNeeded, Writing, part_in}
-use Rattle.plain_machine.specs.Needs.{IsActorsNeed, IsNeededAt}
-use Rattle.script_runner.specs.Follows.{FollowsPart, HasKeptKey}
+use Rattle.plain_machine.specs.Needs.{ActorsNeed, NeedAll, NeedsJust, keys_kept}
+use Rattle.script_runner.specs.Follows.{FollowsPart, HasKeptKey, IsBelowLive}
 use Rattle.script_runner.specs.Sessions.{Sessions, session_of}
 use Rattle.script_runner.proofs.CollectNeeds.{needs_closed, needs_here}
 use Rattle.script_runner.proofs.Lives.{IsClosed}
@@ -54,9 +65,6 @@ in_kind : (kind : Kind) (xs : List Segment) (index : ℕ) (x : Segment) → slic
 in_kind kind [] index x is = absurd cc
 in_kind kind (y ∷ ys) zero x is = subst (λ (s : Segment). Contains (map (segment_key kind) (y ∷ ys)) (segment_key kind s)) (let same : y ≡ x = cc in same) (contains_head (segment_key kind y) (map (segment_key kind) ys))
 in_kind kind (y ∷ ys) (suc index) x is = contains_next (segment_key kind y) (segment_key kind x) (map (segment_key kind) ys) (in_kind kind ys index x is)
-
-abbrev pub keys_kept : History → List (List ℕ)
-keys_kept h = map (segment_key Leaf) (kept h Leaf) ++ map (segment_key Tree) (kept h Tree)
 
 kept_in : (h : History) (kind : Kind) (x : Segment) → IsKept h kind x → Contains (keys_kept h) (segment_key kind x)
 kept_in h Leaf x is = Contains-append_left (map (segment_key Leaf) (kept h Leaf)) (map (segment_key Tree) (kept h Tree)) (segment_key Leaf x) (in_kind Leaf (kept h Leaf) is.0 x is.1)
@@ -81,16 +89,14 @@ module _ (c : CoreState) where
   keys_at (Reading file rest) None (core_parts.Reading reader) follows = tree_keys (file_tree file)
   keys_at part session core follows = []
 
-  needed_at : (part : Part) (session : Option SessionState) (core : core_part.Part) (follows : FollowsPart part session core c) (key : List ℕ) → Contains (keys_at part session core follows) key → IsNeededAt part key
-  needed_at Idle None core_parts.Idle follows key there = absurd (contains_none key there)
-  needed_at (Writing given answers) (Some s) (core_parts.Writing pins) follows key there =
-      let has = in_kept follows.history key there in
-      record { session = s; history = follows.history; has = follows.has; given_is = follows.given_is; answers_are = follows.answered; ended_is = follows.ended_is; kind = has.0; segment = has.1; kept = has.2; key_is = has.3 }
-  needed_at (Finished file answers) (Some s) (core_parts.Writing pins) follows key there =
-      let has = in_kept follows.history key there in
-      record { session = s; history = follows.history; has = follows.has; given_is = follows.given_is; answers_are = follows.answered; ended_is = follows.ended_is; kind = has.0; segment = has.1; kept = has.2; key_is = has.3 }
-  needed_at (Reading file rest) None (core_parts.Reading reader) follows key there = there
-  needed_at part session core follows key there = absurd follows
+  just_at : (part : Part) (session : Option SessionState) (core : core_part.Part) (follows : FollowsPart part session core c) → NeedsJust part (keys_at part session core follows)
+  just_at Idle None core_parts.Idle follows = refl
+  just_at (Writing given answers) (Some s) (core_parts.Writing pins) follows =
+      record { session = s; history = follows.history; has = follows.has; given_is = follows.given_is; answers_are = follows.answered; ended_is = follows.ended_is; keys_are = refl }
+  just_at (Finished file answers) (Some s) (core_parts.Writing pins) follows =
+      record { session = s; history = follows.history; has = follows.has; given_is = follows.given_is; answers_are = follows.answered; ended_is = follows.ended_is; keys_are = refl }
+  just_at (Reading file rest) None (core_parts.Reading reader) follows = refl
+  just_at part session core follows = absurd follows
 
   -- among them are its roots
   root_in : (part : Part) (session : Option SessionState) (core : core_part.Part) (follows : FollowsPart part session core c) (key : List ℕ) → IsPartKey core key → Contains (keys_at part session core follows) key
@@ -123,75 +129,186 @@ module _ (c : CoreState) where
         tree_closed store.held image n copy node_is key child (file_tree file) (right_file file follows.fits) (follows.whole store image at.represents told).tree_is_held there
     closed_in part session core follows holds there = absurd follows
 
+  -- the keys of what an actor needs lie below its roots, and the index has them
+  module _ (S : List ℕ → Type 0) (store : Store) (stored : Stored) (at : IsAt S store stored c) (image : List ℕ) (told : c.disk.content ≡ Some image) where
+    indexed_in : (part : Part) (session : Option SessionState) (core : core_part.Part) (follows : FollowsPart part session core c) → HoldsPart (HasKey at.index) store.held image core
+        → (key : List ℕ) → Contains (keys_at part session core follows) key → HasKey at.index key
+    indexed_in Idle None core_parts.Idle follows holds key there = absurd (contains_none key there)
+    indexed_in (Writing given answers) (Some s) (core_parts.Writing pins) follows holds key there =
+        let has = in_kept follows.history key there in
+        let pinned = follows.pinned has.0 has.1 has.2 in
+        subst (HasKey at.index) has.3 (holds (segment_key has.0 has.1) (pin_by pinned.0 pinned.1) pinned.4).counts
+    indexed_in (Finished file answers) (Some s) (core_parts.Writing pins) follows holds key there =
+        let has = in_kept follows.history key there in
+        let pinned = follows.pinned has.0 has.1 has.2 in
+        subst (HasKey at.index) has.3 (holds (segment_key has.0 has.1) (pin_by pinned.0 pinned.1) pinned.4).counts
+    indexed_in (Reading file rest) None (core_parts.Reading reader) follows holds key there =
+        follows.indexed at.index at.index_known key ((follows.whole store image at.represents told).count key there)
+    indexed_in part session core follows holds key there = absurd follows
+
+    module _ (P : List ℕ → Type 0) (closed : (n : node.Contents) (copy : Copy) → HoldsNode store.held image n copy → P (node_key n) → All P (child_keys n)) where
+      below_in : (part : Part) (session : Option SessionState) (core : core_part.Part) (follows : FollowsPart part session core c) → ((k : List ℕ) → IsPartKey core k → P k)
+          → (key : List ℕ) → Contains (keys_at part session core follows) key → P key
+      below_in Idle None core_parts.Idle follows roots key there = absurd (contains_none key there)
+      below_in (Writing given answers) (Some s) (core_parts.Writing pins) follows roots key there =
+          let has = in_kept follows.history key there in
+          let pinned = follows.pinned has.0 has.1 has.2 in
+          subst P has.3 (roots (segment_key has.0 has.1) (pin_by pinned.0 pinned.1, pinned.4))
+      below_in (Finished file answers) (Some s) (core_parts.Writing pins) follows roots key there =
+          let has = in_kept follows.history key there in
+          let pinned = follows.pinned has.0 has.1 has.2 in
+          subst P has.3 (roots (segment_key has.0 has.1) (pin_by pinned.0 pinned.1, pinned.4))
+      below_in (Reading file rest) None (core_parts.Reading reader) follows roots key there =
+          let root = tree_root (file_tree file) reader.root key (right_file file follows.fits) (ap top_of (follows.root_is ∙ root_of_tree file follows.fits)) there in
+          closed_tree store.held image P closed (file_tree file) (root_key reader.root) root.2 (follows.whole store image at.represents told).tree_is_held root.1 (roots (root_key reader.root) root.0) key there
+      below_in part session core follows roots key there = absurd follows
+
 -- ---- all actors
 
--- the actor of that number is one, and those of the numbers below it are
-pub is_one : (count : ℕ) → suc count ≤ ACTORS → count < ACTORS
-is_one count below = omega (arith, below)
+pub first_there : (p : Part) (ps : List Part) → 0 < length (p ∷ ps)
+first_there p ps = omega arith
 
-pub are_fewer : (count : ℕ) → suc count ≤ ACTORS → count ≤ ACTORS
-are_fewer count below = omega (arith, below)
+pub next_there : (p : Part) (ps : List Part) (i : ℕ) → i < length ps → suc i < length (p ∷ ps)
+next_there p ps i below = omega (arith, below)
 
-pub all_of_them : ACTORS ≤ ACTORS
-all_of_them = omega arith
+module _ (c : CoreState) where
+  abbrev pub FollowAll : List Part → (ℕ → Option SessionState) → (ℕ → core_part.Part) → Type 0
+  FollowAll ps session core = (i : ℕ) → i < length ps → FollowsPart (slice_index_or ps i Idle) (session i) (core i) c
 
-module _ (among : ByteSet) (m : Machine) (sessions : Sessions) (c : CoreState) (each : (actor : ℕ) → actor < ACTORS → FollowsPart (part_in m actor) (session_of sessions actor) (part_of c.parts actor) c) where
-  -- the keys of what the first of them need
-  abbrev pub keys_upto : (count : ℕ) → count ≤ ACTORS → List (List ℕ)
-  keys_upto zero below = []
-  keys_upto (suc count) below = keys_at c (part_in m count) (session_of sessions count) (part_of c.parts count) (each count (is_one count below)) ++ keys_upto count (are_fewer count below)
+  abbrev pub others : {X : Type 0} → (ℕ → X) → ℕ → X
+  others f i = f (suc i)
 
-  needed_upto : (count : ℕ) (below : count ≤ ACTORS) (key : List ℕ) → Contains (keys_upto count below) key → IsActorsNeed m key
-  needed_upto zero below key there = absurd (contains_none key there)
-  needed_upto (suc count) below key there =
-      let mine = keys_at c (part_in m count) (session_of sessions count) (part_of c.parts count) (each count (is_one count below)) in
-      elim (Contains-append_cases mine (keys_upto count (are_fewer count below)) key there) [
-        | inl here ↦ (count, needed_at c (part_in m count) (session_of sessions count) (part_of c.parts count) (each count (is_one count below)) key here)
-        | inr rest ↦ needed_upto count (are_fewer count below) key rest
+  -- the keys of what they need
+  abbrev pub keys_of : (ps : List Part) (session : ℕ → Option SessionState) (core : ℕ → core_part.Part) → FollowAll ps session core → List (List ℕ)
+  keys_of [] session core each = []
+  keys_of (p ∷ ps) session core each =
+      keys_at c p (session 0) (core 0) (each 0 (first_there p ps)) ++ keys_of ps (others session) (others core) (λ i below. each (suc i) (next_there p ps i below))
+
+  just_of : (ps : List Part) (session : ℕ → Option SessionState) (core : ℕ → core_part.Part) (each : FollowAll ps session core) → NeedAll ps (keys_of ps session core each)
+  just_of [] session core each = refl
+  just_of (p ∷ ps) session core each = (
+    keys_at c p (session 0) (core 0) (each 0 (first_there p ps)),
+    keys_of ps (others session) (others core) (λ i below. each (suc i) (next_there p ps i below)),
+    refl,
+    just_at c p (session 0) (core 0) (each 0 (first_there p ps)),
+    just_of ps (others session) (others core) (λ i below. each (suc i) (next_there p ps i below)),
+  )
+
+  root_of_one : (ps : List Part) (session : ℕ → Option SessionState) (core : ℕ → core_part.Part) (each : FollowAll ps session core) (i : ℕ) → i < length ps → (key : List ℕ) → IsPartKey (core i) key
+      → Contains (keys_of ps session core each) key
+  root_of_one [] session core each i below key is = absurd (omega (arith, below))
+  root_of_one (p ∷ ps) session core each zero below key is =
+      Contains-append_left (keys_at c p (session 0) (core 0) (each 0 (first_there p ps))) (keys_of ps (others session) (others core) (λ i below. each (suc i) (next_there p ps i below))) key
+      (root_in c p (session 0) (core 0) (each 0 (first_there p ps)) key is)
+  root_of_one (p ∷ ps) session core each (suc i) below key is =
+      Contains-append_right (keys_at c p (session 0) (core 0) (each 0 (first_there p ps))) (keys_of ps (others session) (others core) (λ j under. each (suc j) (next_there p ps j under))) key
+      (root_of_one ps (others session) (others core) (λ j under. each (suc j) (next_there p ps j under)) i (omega (arith, below)) key is)
+
+  -- What is so of the keys of each actor is so of all.
+  of_each : (Q : List ℕ → Type 0) (ps : List Part) (session : ℕ → Option SessionState) (core : ℕ → core_part.Part) (each : FollowAll ps session core)
+      → ((i : ℕ) (below : i < length ps) (key : List ℕ) → Contains (keys_at c (slice_index_or ps i Idle) (session i) (core i) (each i below)) key → Q key)
+      → (key : List ℕ) → Contains (keys_of ps session core each) key → Q key
+  of_each Q [] session core each so key there = absurd (contains_none key there)
+  of_each Q (p ∷ ps) session core each so key there =
+      elim (Contains-append_cases (keys_at c p (session 0) (core 0) (each 0 (first_there p ps))) (keys_of ps (others session) (others core) (λ i below. each (suc i) (next_there p ps i below))) key there) [
+        | inl mine ↦ so 0 (first_there p ps) key mine
+        | inr rest ↦ of_each Q ps (others session) (others core) (λ i below. each (suc i) (next_there p ps i below)) (λ i below. so (suc i) (next_there p ps i below)) key rest
       ]
 
-  root_upto : (count : ℕ) (below : count ≤ ACTORS) (actor : ℕ) → actor < count → (key : List ℕ) → IsPartKey (part_of c.parts actor) key → Contains (keys_upto count below) key
-  root_upto zero below actor within key is = absurd (omega (arith, within))
-  root_upto (suc count) below actor within key is = elim (eqb_tells actor count) [
-    | inl same ↦
-        Contains-append_left mine (keys_upto count (are_fewer count below)) key
-        (root_in c (part_in m count) (session_of sessions count) (part_of c.parts count) (each count (is_one count below)) key (subst (λ (a : ℕ). IsPartKey (part_of c.parts a) key) same.1 is))
-    | inr other ↦ Contains-append_right mine (keys_upto count (are_fewer count below)) key (root_upto count (are_fewer count below) actor (omega (arith, within, other.1)) key is)
-  ]
-    where
-      mine : List (List ℕ)
-      mine = keys_at c (part_in m count) (session_of sessions count) (part_of c.parts count) (each count (is_one count below))
-
-  module _ (store : Store) (stored : Stored) (at : IsAt (IsIn among) store stored c) (image : List ℕ) (told : c.disk.content ≡ Some image) where
-    closed_upto : (count : ℕ) (below : count ≤ ACTORS) (n : node.Contents) (copy : Copy) → HoldsNode store.held image n copy → Contains (keys_upto count below) (node_key n) → (key : List ℕ) → Contains (child_keys n) key
-        → Contains (keys_upto count below) key
-    closed_upto zero below n copy node_is there key child = absurd (contains_none (node_key n) there)
-    closed_upto (suc count) below n copy node_is there key child =
-        let follows = each count (is_one count below) in
-        let mine = keys_at c (part_in m count) (session_of sessions count) (part_of c.parts count) follows in
-        elim (Contains-append_cases mine (keys_upto count (are_fewer count below)) (node_key n) there) [
-          | inl here ↦
-              Contains-append_left mine (keys_upto count (are_fewer count below)) key
-              (closed_in c (IsIn among) store stored at image told n copy node_is key child (part_in m count) (session_of sessions count) (part_of c.parts count) follows
-              (all_part (HoldsPart (HasKey at.index) store.held image) c.parts count tt (at.invariant image told).pins_are_closed) here)
-          | inr rest ↦ Contains-append_right mine (keys_upto count (are_fewer count below)) key (closed_upto count (are_fewer count below) n copy node_is rest key child)
+  module _ (S : List ℕ → Type 0) (store : Store) (stored : Stored) (at : IsAt S store stored c) (image : List ℕ) (told : c.disk.content ≡ Some image) where
+    closed_of : (ps : List Part) (session : ℕ → Option SessionState) (core : ℕ → core_part.Part) (each : FollowAll ps session core) → ((i : ℕ) → i < length ps → HoldsPart (HasKey at.index) store.held image (core i))
+        → (n : node.Contents) (copy : Copy) → HoldsNode store.held image n copy → Contains (keys_of ps session core each) (node_key n) → (key : List ℕ) → Contains (child_keys n) key
+        → Contains (keys_of ps session core each) key
+    closed_of [] session core each holds n copy node_is there key child = absurd (contains_none (node_key n) there)
+    closed_of (p ∷ ps) session core each holds n copy node_is there key child =
+        elim (Contains-append_cases (keys_at c p (session 0) (core 0) (each 0 (first_there p ps))) (keys_of ps (others session) (others core) (λ i below. each (suc i) (next_there p ps i below))) (node_key n) there) [
+          | inl mine ↦
+              Contains-append_left (keys_at c p (session 0) (core 0) (each 0 (first_there p ps))) (keys_of ps (others session) (others core) (λ i below. each (suc i) (next_there p ps i below))) key
+              (closed_in c S store stored at image told n copy node_is key child p (session 0) (core 0) (each 0 (first_there p ps)) (holds 0 (first_there p ps)) mine)
+          | inr rest ↦
+              Contains-append_right (keys_at c p (session 0) (core 0) (each 0 (first_there p ps))) (keys_of ps (others session) (others core) (λ i below. each (suc i) (next_there p ps i below))) key
+              (closed_of ps (others session) (others core) (λ i below. each (suc i) (next_there p ps i below)) (λ i below. holds (suc i) (next_there p ps i below)) n copy node_is rest key child)
         ]
 
-    -- ---- as a collection begins
+-- ---- a core that follows a machine
 
-    abbrev pub kept_then : List (List ℕ)
-    kept_then = keys_upto ACTORS all_of_them
+module _ (S : List ℕ → Type 0) (m : Machine) (sessions : Sessions) (c : CoreState) (many : length m.parts ≡ ACTORS)
+    (follows : (actor : ℕ) → actor < ACTORS → FollowsPart (part_in m actor) (session_of sessions actor) (part_of c.parts actor) c)
+    (store : Store) (stored : Stored) (at : IsAt S store stored c) (image : List ℕ) (told : c.disk.content ≡ Some image) where
+  abbrev pub each : FollowAll c m.parts (session_of sessions) (part_of c.parts)
+  each i below = follows i (subst (λ (n : ℕ). i < n) many below)
 
-    pub kept_needed : (key : List ℕ) → Contains kept_then key → IsActorsNeed m key
-    kept_needed = needed_upto ACTORS all_of_them
+  -- the keys of what its actors need
+  abbrev pub keys_then : List (List ℕ)
+  keys_then = keys_of c m.parts (session_of sessions) (part_of c.parts) each
 
-    abbrev P : List ℕ → Type 0
-    P = WasNeeded (record { files = stored.files; kept = kept_then })
+  pub actors_need : ActorsNeed m keys_then
+  actors_need = just_of c m.parts (session_of sessions) (part_of c.parts) each
 
-    pub roots_needed : (key : List ℕ) → IsRoot (names_of store) c.parts key → P key
-    roots_needed key (inl name) = inl (name_reachable store stored.files image key (needs_here (IsIn among) store stored c at image told) name)
-    roots_needed key (inr actor) = inr (root_upto ACTORS all_of_them actor.0 actor.1.0 key actor.1.1)
+  holds_all : (i : ℕ) → i < length m.parts → HoldsPart (HasKey at.index) store.held image (part_of c.parts i)
+  holds_all i below = all_part (HoldsPart (HasKey at.index) store.held image) c.parts i tt (at.invariant image told).pins_are_closed
 
-    pub needed_closed : IsClosed P store image
-    needed_closed n copy node_is (inl file) key child = inl (needs_closed (IsIn among) store stored c at image told n copy node_is file key child)
-    needed_closed n copy node_is (inr kept) key child = inr (closed_upto ACTORS all_of_them n copy node_is kept key child)
+  -- the index has them
+  pub indexed_then : (key : List ℕ) → Contains keys_then key → HasKey at.index key
+  indexed_then =
+      of_each c (HasKey at.index) m.parts (session_of sessions) (part_of c.parts) each
+      (λ i below. indexed_in c S store stored at image told (slice_index_or m.parts i Idle) (session_of sessions i) (part_of c.parts i) (each i below) (holds_all i below))
+
+  -- so one that it lacks is none of them
+  pub none_needs : (key : List ℕ) → ((index : PlaceMap) → c.known ≡ Some index → finite.get index key ≡ None) → ¬ (Contains keys_then key)
+  none_needs key lacks there =
+      let has = indexed_then key there in
+      let wrong : None ≡ Some has.0 = sym (lacks at.index at.index_known) ∙ has.1 in
+      absurd cc
+
+  -- ---- as a collection begins
+
+  abbrev P : List ℕ → Type 0
+  P = WasNeeded (record { files = stored.files; keys = keys_then })
+
+  holds : IsStoreOf store stored.files image
+  holds = needs_here S store stored c at image told
+
+  -- its roots are needed
+  pub roots_needed : (key : List ℕ) → IsRoot (names_of store) c.parts key → P key
+  roots_needed key (inl name) = inl (name_reachable store stored.files image key holds name)
+  roots_needed key (inr actor) =
+      inr (root_of_one c m.parts (session_of sessions) (part_of c.parts) each actor.0 (subst (λ (n : ℕ). actor.0 < n) (sym many) actor.1.0) key actor.1.1)
+
+  -- and with a node's key those of its children
+  pub needed_closed : IsClosed P store image
+  needed_closed n copy node_is (inl file) key child = inl (needs_closed S store stored c at image told n copy node_is file key child)
+  needed_closed n copy node_is (inr kept) key child =
+      inr (closed_of c S store stored at image told m.parts (session_of sessions) (part_of c.parts) each holds_all n copy node_is kept key child)
+
+  -- all that is needed lies below the roots
+  module _ (live : LiveKeys) (roots : (key : List ℕ) → IsRoot (names_of store) c.parts key → IsLive at.index live key) where
+    abbrev Below : List ℕ → Type 0
+    Below = IsBelowLive at.index store.held image live
+
+    root_below : (key : List ℕ) → IsRoot (names_of store) c.parts key → Below key
+    root_below key is =
+        let whole = root_whole at.index store stored.files c.parts image (at.invariant image told) holds key is in
+        let top = root_there whole.whole key whole.root_is in
+        record { root = key; is_live = roots key is; tree = whole; there = subst (Contains (tree_keys whole.whole)) (sym top.1) top.2 }
+
+    tree_right : (t : tree.Tree (List ℕ)) → IsTree t → AllByRecursion IsTree (trees_in t)
+    tree_right tree.Empty right = absurd right
+    tree_right (tree.Leaf segment) right = (right, tt)
+    tree_right (tree.Node level ts) right = (right, tt)
+
+    below_closed : (n : node.Contents) (copy : Copy) → HoldsNode store.held image n copy → Below (node_key n) → All Below (child_keys n)
+    below_closed n copy node_is below k other within = record {
+      root = below.root;
+      is_live = below.is_live;
+      tree = below.tree;
+      there = tree_closed store.held image n copy node_is (get_or (child_keys n) k other) (Contains-get_or (child_keys n) k other within) below.tree.whole (tree_right below.tree.whole below.tree.right) below.tree.is_held.tree_is_held
+          below.there;
+    }
+
+    pub needed_below : (key : List ℕ) → P key → Below key
+    needed_below key (inl file) = reachable_has at.index store stored.files c.parts image holds Below root_below below_closed key file
+    needed_below key (inr kept) =
+        of_each c Below m.parts (session_of sessions) (part_of c.parts) each
+        (λ i below. below_in c S store stored at image told Below below_closed (slice_index_or m.parts i Idle) (session_of sessions i) (part_of c.parts i) (each i below)
+        (λ k is. root_below k (inr (i, (subst (λ (n : ℕ). i < n) many below, is))))) key kept

@@ -9,7 +9,6 @@ use Rattle.container_meta.specs.Places.{PlaceMap}
 use Rattle.container_meta.specs.Spelling.{HeaderValue, bytes_of}
 use Rattle.copy_forward.specs.Entries.{IsLiveCopy, SumsLive, is_copy}
 use Rattle.gc_enumerate.specs.Live.{LiveKeys}
-use Rattle.gc_steps.specs.Sparing.{IsWithin}
 use Rattle.gc_steps.proofs.Marked.{keys_there}
 use Rattle.gc_sweep.specs.Holding.{IsLive}
 use Rattle.gc_sweep.proofs.InSlots.{at_copy, copy_at, live_anywhere}
@@ -21,7 +20,6 @@ use Rattle.store_model.specs.Slots.{IsPartialIndexOf, place_of}
 use Rattle.store_model.specs.Trees.{file_tree}
 use Rattle.store_model.proofs.Copies.{some_same}
 use Rattle.store_model.proofs.Counted.{contained, in_set}
-use Rattle.plain_machine.specs.Collections.{SumsSome}
 
 -- ---- whether files need a key
 
@@ -102,14 +100,6 @@ module _ (files : Files) (index : PlaceMap) (held : List (Option HeaderValue)) (
   needs_some kind slot (e ∷ es) sum (inr (dead, sums)) =
       let more = needs_some kind slot es sum sums in
       (more.0, (inr ((λ is. dead (needs_live kind slot e is)), more.1.0), more.1.1))
-
--- Where only keys of which P holds are live, the live bytes are those of copies of such keys.
-pub live_some : (P : List ℕ → Type 0) (index : PlaceMap) (held : List (Option HeaderValue)) (live : LiveKeys) → IsPartialIndexOf held index → IsWithin P live → (kind : Kind) (slot : ℕ) (es : List Entry) (sum : ℕ)
-    → SumsLive index live kind slot es sum → SumsSome P held kind slot es sum
-live_some P index held live partial within kind slot [] sum sums = sums
-live_some P index held live partial within kind slot (e ∷ es) sum (inl (here, (rest, sum_is, sums))) =
-    inl ((within (entry_key kind e) (place_of slot e) here.1, partial (entry_key kind e) (place_of slot e) (copy_at index kind slot e here.0)), (rest, sum_is, live_some P index held live partial within kind slot es rest sums))
-live_some P index held live partial within kind slot (e ∷ es) sum (inr (dead, sums)) = inr (live_some P index held live partial within kind slot es sum sums)
 
 -- no more bytes are live than there are
 pub live_within : (index : PlaceMap) (live : LiveKeys) (kind : Kind) (slot : ℕ) (es : List Entry) (sum : ℕ) → SumsLive index live kind slot es sum → sum ≤ bytes_of es

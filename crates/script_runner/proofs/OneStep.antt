@@ -125,7 +125,7 @@ module _ (C : Type 0) (state : C → CoreState) (among : ByteSet) (apart : HasNo
 
     lives : LivesIn next.next.store (collecting_after f.event.step f.event.answer m.collecting) (state new)
     lives =
-        lives_on S store next.next.store m.stored (stored_by f m.stored) (state old) (state new) f.event running.begins.is_at next.next.is_at plain steps next.next.chain m.content standing.0 content_is standing.1 standing.2
+        lives_on S store m.stored (stored_by f m.stored) (state old) (state new) f.event running.begins.is_at next plain steps m.content standing.0 content_is standing.1 standing.2
         m.collecting (lives_of m.stored.files store m.collecting (state old) running.begins.spares)
 
     begins : FollowsStore S (stored_by f m.stored) (last_after f.event.answer m.last_id) (collecting_after f.event.step f.event.answer m.collecting) m.collected (state new)

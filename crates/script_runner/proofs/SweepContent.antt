@@ -37,7 +37,7 @@ use Rattle.store_model.specs.Files.{Stored}
 use Rattle.store_model.specs.Freeing.{with_freed}
 use Rattle.store_model.specs.Image.{Encodes, Store}
 use Rattle.store_model.specs.Reserve.{IsReachable, IsSpare}
-use Rattle.store_model.specs.Slots.{first_free, free_slots}
+use Rattle.store_model.specs.Slots.{HasKey, first_free, free_slots}
 use Rattle.store_model.specs.Steps.{CanFlush, MaySeal, with_sealed}
 use Rattle.store_model.specs.Trees.{HasNewest}
 use Rattle.store_model.proofs.Free.{some_free, zeros_free}
@@ -124,7 +124,13 @@ module _ (among : ByteSet) (store : Store) (stored : Stored) (old new : CoreStat
         are_to_copy Chosen index store.held content old.tables.held c.live c.snapshot c.sweep represents.slots_hold invariant.index_is_newest sweeping was_held chosen_so (IsReachable stored.files) spares.within
         (subst (λ (stage : Stage). CopiesAlone stage index store.held c) stage_is spares.alone)
 
-    -- before copies are written something is
+    -- before copies are written something may be copied
+    pub some_of_copied : (source entry : ℕ) → c.sweep.next ≡ Flush source entry → (Was : List ℕ → Type 0) → IsWithin Was c.live → (key : List ℕ) × IsOfCopied Was Chosen snapshot store.held key
+    some_of_copied source entry next_is Was within =
+        first_of (IsOfCopied Was Chosen snapshot store.held) c.sweep.buffer.kind c.sweep.buffer.segments
+        (subst (HasNext old.tables.held c.sweep) next_is sweeping.next_is).1 (filled_of_copied Was within)
+
+    -- and where it runs alone is to be
     pub some_to_copy : (source entry : ℕ) → c.sweep.next ≡ Flush source entry → Spares (IsReachable stored.files) index store.held c
         → (key : List ℕ) × IsToCopy (IsReachable stored.files) Chosen store.held key
     some_to_copy source entry next_is spares =
@@ -211,15 +217,15 @@ module _ (among : ByteSet) (store : Store) (stored : Stored) (old new : CoreStat
 
   -- ---- a container that is given back
 
-  module _ (source entry : ℕ) (next_is : c.sweep.next ≡ Release source entry) where
+  module _ (source entry : ℕ) (next_is : c.sweep.next ≡ Release source entry) (P : List ℕ → Type 0) (indexed : (key : List ℕ) → P key → HasKey index key) where
     abbrev turned : ℕ
     turned = slot_in_turn c.sweep
 
     turn : IsInTurn index store.held c.snapshot c.sweep
     turn = in_turn old.tables.held index store.held content c.live c.snapshot source entry c.sweep represents.slots_hold sweeping next_is was_held
 
-    spare : IsSpare (IsReachable stored.files) store.held turned
-    spare = ready_is_spare index store stored.files turned turn.stands.header turn.stands.there invariant.index_is_newest invariant.files_are_indexed turn.none
+    spare : IsSpare P store.held turned
+    spare = ready_is_spare P index store turned turn.stands.header turn.stands.there invariant.index_is_newest indexed turn.none
 
     there : turned < store.slots
     there = omega (arith, held_within store.held turned turn.stands.header turn.stands.there, at.valid.many)
@@ -243,7 +249,7 @@ module _ (among : ByteSet) (store : Store) (stored : Stored) (old new : CoreStat
           subst (λ (h : HeaderValue). IsSelectedId snapshot percent recorded h.id) same_header
           (chosen_so snapshot percent recorded snapshot_is percent_is recorded_is turn.stands.header.id is_source)
 
-      pub freed : Touches Sweep (Release source entry) c.sweep old.tables Done old.disk new.disk → FreesContainer (IsReachable stored.files) (IsSelectedId snapshot percent recorded) snapshot content image
+      pub freed : Touches Sweep (Release source entry) c.sweep old.tables Done old.disk new.disk → FreesContainer P (IsSelectedId snapshot percent recorded) snapshot content image
       freed touches = record {
         store = store;
         was = right;
@@ -256,7 +262,7 @@ module _ (among : ByteSet) (store : Store) (stored : Stored) (old new : CoreStat
       }
 
       -- where a write broke off
-      pub freeing_broke : Touches Sweep (Release source entry) c.sweep old.tables Broken old.disk new.disk → BreaksGate (IsReachable stored.files) (IsSelectedId snapshot percent recorded) snapshot content image
+      pub freeing_broke : Touches Sweep (Release source entry) c.sweep old.tables Broken old.disk new.disk → BreaksGate P (IsSelectedId snapshot percent recorded) snapshot content image
       freeing_broke touches = record {
         store = store;
         was = right;

@@ -41,11 +41,12 @@ use Rattle.ingest_session.specs.Told.{IsAnswerFor, IsSettled, told_by}
 use Rattle.ingest_session.proofs.Members.{IsIn, all_of, one_of}
 use Rattle.plain_machine.specs.Content.{AddsContainer, Holds, SameBut}
 use Rattle.plain_machine.specs.Machine.{Machine, Part, disturbed, part_in, put_at}
-use Rattle.plain_machine.specs.Turns.{LacksIn, Writer, MachineTurn, MayBe, Shows, kept_by, last_by, told}
+use Rattle.plain_machine.specs.Turns.{IsOfNoActor, LacksIn, Writer, MachineTurn, MayBe, Shows, kept_by, last_by, told}
 use Rattle.script_runner.specs.Follows.{FollowsPart, Gives, HasKeptKey, HasPinOf}
 use Rattle.script_runner.specs.Sessions.{Sessions, with_session}
 use Rattle.session_turns.specs.Turns.{Asks}
 use Rattle.script_runner.proofs.OneStep.{Stepped}
+use Rattle.script_runner.proofs.NeededThen.{actors_need, keys_then, none_needs}
 use Rattle.script_runner.proofs.PieceKeys.{lacks_by}
 use Rattle.script_runner.proofs.PlainSteps.{collecting_after}
 use Rattle.session_turns.proofs.Told as stays
@@ -236,7 +237,14 @@ module _ (S : List ℕ → Type 0) (m : Machine) (sessions : Sessions) (actor : 
           let image : List ℕ = leads.content.0 in
           let same : image ≡ m.content = same_some image m.content (sym leads.content.1 ∙ made.made.effect.disk.only.content_is ∙ at.content_is) in
           let begins = at.running.begins in
-          let lacks : LacksIn m seg = lacks_by S begins.store m old begins.is_at at.content_is seg claimed.looked_up begins.whole in
+          let none : IsOfNoActor m seg = (
+            keys_then S m sessions old at.parts_are at.running.parts begins.store m.stored begins.is_at m.content at.content_is,
+            (
+              actors_need S m sessions old at.parts_are at.running.parts begins.store m.stored begins.is_at m.content at.content_is,
+              none_needs S m sessions old at.parts_are at.running.parts begins.store m.stored begins.is_at m.content at.content_is (key_of_seg seg) claimed.looked_up,
+            ),
+          ) in
+          let lacks : LacksIn m seg = lacks_by S begins.store m old begins.is_at at.content_is seg claimed.looked_up begins.whole none in
           turned answers.Absent t told_is history (asked.Claim seg) buf leads step made.stops refl made.made.effect.disk.faults_are made.counted_is Claim due refl
           (seg, (offered, lacks, same))
           pins

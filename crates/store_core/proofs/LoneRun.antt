@@ -121,7 +121,7 @@ module _ (among : ByteSet) (f : FileEvent) (s : Store) (stored : Stored) (old ne
     chain_at id SweepStage (Copy source entry) store_is chain = chain
     chain_at id SweepStage (Flush source entry) store_is chain = (chain.0, chain.1)
     chain_at id SweepStage (Release source entry) frees chain =
-        (ready_is_spare at.index s stored.files (slot_in_turn b.sweep) frees.header frees.there invariant.index_is_newest invariant.files_are_indexed frees.none, chain.1)
+        (ready_is_spare (IsReachable stored.files) at.index s (slot_in_turn b.sweep) frees.header frees.there invariant.index_is_newest invariant.files_are_indexed frees.none, chain.1)
     chain_at id SweepStage End store_is chain = chain
 
     did_chain : SweepsSpare Needs one.changes s one.store

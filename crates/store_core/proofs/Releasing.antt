@@ -115,7 +115,7 @@ module _ (among : ByteSet) (distinct : HasNoCollisions (IsIn among)) (f : FileEv
     by_stage SweepStage (Release source entry) frees = record {
       changes = FreeContainer (slot_in_turn c.sweep) ∷ [];
       many = refl;
-      chain = (ready_is_spare at.index s stored.files (slot_in_turn c.sweep) frees.header frees.there was.index_is_newest was.files_are_indexed frees.none, frees.now_is);
+      chain = (ready_is_spare (IsReachable stored.files) at.index s (slot_in_turn c.sweep) frees.header frees.there was.index_is_newest was.files_are_indexed frees.none, frees.now_is);
     }
     by_stage SweepStage End same = none_given phases.End refl same
 

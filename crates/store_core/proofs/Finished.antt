@@ -64,6 +64,7 @@ use Rattle.store_core.proofs.CopiesOnce.{HoldsNewer, IsNoneOf, distinct_then, ke
 use Rattle.store_core.proofs.CoreRuns.{running_step, was_running}
 use Rattle.store_core.proofs.Counted.{Counts, CountsOn, IsQuiet, changed_by, counts_none, counts_same, counts_step, counts_then, refused_live, unwritten}
 use Rattle.store_core.proofs.FinishedStores.{Sweeps, added_stands, all_then, stands_on, stood, sweeps_then}
+use Rattle.store_core.proofs.FoundSteps.{Fills, FindsAll, fills_left, fills_made, finds_none, finds_then}
 use Rattle.store_core.proofs.Frames.{first_with}
 use Rattle.store_core.proofs.GcSteps.{phase_of}
 use Rattle.store_core.proofs.KeepingFiles.{chain_on, run_running}
@@ -159,6 +160,7 @@ pub record Goes (among : ByteSet) (f : FileEvent) (b : Collection) (s : Store) (
   pub recorded_on : RecordsOn (IsIn among) f old s.held b a
   pub fates : KeepsFates changes b a s store old new
   pub from : CopiesFrom changes b a s store old new
+  pub fills : Fills (IsIn among) f changes b a old new
   pub once : IsDistinct bytes_eq (copied_keys changes)
   pub others : (key : List ℕ) → IsSettled s b key → IsNoneOf (copied_keys changes) key × IsSettled store a key
   pub settles : (key : List ℕ) → listed (copied_keys changes) key ≡ true → IsSettled store a key
@@ -269,8 +271,9 @@ module _ (among : ByteSet) (distinct : HasNoCollisions (IsIn among)) (f : FileEv
 
   -- but for its live keys it is as it was
   unchanged : (changes : List StoreChange) → AreChangesBy f.event.step f.event.answer changes → ChangesTo changes s t → ((sources : List ℕ) → Adds Copies b.snapshot sources changes s t)
-      → (on : Stays old new b ran) → KeepsKeys changes b on.0 old new → (f.event.step ≡ asked.GcStep → IsOfStage b changes) → Goes among f b s stored old new
-  unchanged changes are chain adds on keys made = record {
+      → (on : Stays old new b ran) → KeepsKeys changes b on.0 old new → (f.event.step ≡ asked.GcStep → IsOfStage b changes) → (IsDid phases.Copy f → ⊥)
+      → Goes among f b s stored old new
+  unchanged changes are chain adds on keys made other = record {
     a = record b { live = on.0 };
     runs = on.1;
     store = t;
@@ -291,6 +294,7 @@ module _ (among : ByteSet) (distinct : HasNoCollisions (IsIn among)) (f : FileEv
     recorded_on = inl refl;
     fates = fates_left changes b on.0 s t old new keys (adds []).sweeps;
     from = from_left changes b on.0 s t old new keys (adds []).sweeps (adds []).no_keys;
+    fills = fills_left (IsIn among) f changes b (record b { live = on.0 }) old new (adds []).no_keys (λ key. refl) other;
     once = subst (IsDistinct bytes_eq) (sym (adds []).no_keys) none_distinct;
     others = λ key settled. (
       subst (λ (keys : List (List ℕ)). IsNoneOf keys key) (sym (adds []).no_keys) tt,
@@ -317,7 +321,7 @@ module _ (among : ByteSet) (distinct : HasNoCollisions (IsIn among)) (f : FileEv
       on
       (subst (λ (changes : List StoreChange). KeepsKeys changes b on.0 old new) (sym same)
       (keys_other old new b on.0 ran on.1 stays f.event.actor old.acknowledged f.event.buf f.event.step f.event.answer other steps.made.row steps.made.effect steps.collects steps.stops))
-      (λ is. absurd (let wrong : ⊥ = subst IsNoGcStep is other in wrong))
+      (λ is. absurd (let wrong : ⊥ = subst IsNoGcStep is other in wrong)) (λ did. let wrong : ⊥ = subst IsNoGcStep did.0 other in wrong)
 
   -- ---- of a collection
 
@@ -502,6 +506,7 @@ module _ (among : ByteSet) (distinct : HasNoCollisions (IsIn among)) (f : FileEv
               recorded_on = records_on among f s stored old new at b goes.after ran b.stage b.sweep.next refl under.stage_is steps_here did;
               fates = fates_made among s stored old new at t b goes.after under made.id (holds_at image told) steps_here led_here;
               from = from_made among s stored old new at t b goes.after under made.id (holds_at image told) steps_here led_here;
+              fills = fills_made among f s stored old new at b goes.after ran goes.runs quiet made.id steps_here did;
               once = keys.once;
               others = λ key was. (
                 keys.others key was,
@@ -521,8 +526,8 @@ module _ (among : ByteSet) (distinct : HasNoCollisions (IsIn among)) (f : FileEv
         broken : StopsAfter asked.GcStep (Err refusals.DiskWrite) old.acknowledged new.stop → ⊥
         broken stops = let both = sym stays ∙ stops in cc
 
-    refused_goes : (refusal : Refusal) → leads.changes ≡ [] → IsNotMade refusal old new → StopsAfter asked.GcStep (Err refusal) old.acknowledged new.stop → Goes among f b s stored old new
-    refused_goes refusal none row stops =
+    refused_goes : (refusal : Refusal) → f.event.answer ≡ Err refusal → leads.changes ≡ [] → IsNotMade refusal old new → StopsAfter asked.GcStep (Err refusal) old.acknowledged new.stop → Goes among f b s stored old new
+    refused_goes refusal answer_is none row stops =
         let same = same_some row.before b old.collection row.ran ran in
         let keeps : Keeps b.stage b.sweep.next (at_moment old b) (at_moment new row.after) refusal =
         subst (λ (x : Collection). Keeps x.stage x.sweep.next (at_moment old x) (at_moment new row.after) refusal) same row.kept in
@@ -534,14 +539,14 @@ module _ (among : ByteSet) (distinct : HasNoCollisions (IsIn among)) (f : FileEv
         (live.0, row.runs ∙ ap Some live.1)
         (keys_same old new b live.0 ran (row.runs ∙ ap Some live.1) stays leads.changes known
         (λ index key place index_is lacks is_live. refused_unmarked old new b row.after index index_is b.stage b.sweep.next refusal keeps key place lacks (subst (λ (x : Collection). IsLiveAt x.live key place) (sym live.1) is_live)))
-        (λ gc. inl none)
+        (λ gc. inl none) (λ did. let both : Err refusal ≡ Ok (answers.Did phases.Copy) = sym answer_is ∙ did.1 in cc)
 
     gc_by : (answer : Result Answer Refusal) → f.event.answer ≡ answer → IsNoEnd answer → GcRow answer old new → GcEffect answer old new → AreChangesBy asked.GcStep answer leads.changes
         → StopsAfter asked.GcStep answer old.acknowledged new.stop → Goes among f b s stored old new
     gc_by (Ok (answers.Did phase)) answer_is goes_on row effect are stops = did_goes phase answer_is row.0 effect.touches effect.later
     gc_by (Ok (answers.Done freed copied)) answer_is goes_on row effect are stops = absurd goes_on
     gc_by (Err refusals.NotCollecting) answer_is goes_on row effect are stops = absurd (let wrong : None ≡ Some b = sym row.0.none_ran ∙ ran in cc)
-    gc_by (Err refusal) answer_is goes_on row effect are stops = refused_goes refusal are row.0 stops
+    gc_by (Err refusal) answer_is goes_on row effect are stops = refused_goes refusal answer_is are row.0 stops
     gc_by answer answer_is goes_on row effect are stops = absurd row
 
     gc_goes : IsNoEnd f.event.answer → Goes among f b s stored old new
@@ -578,6 +583,7 @@ module _ (C : Type 0) (state : C → CoreState) where
     records : RecordsAll C state (IsIn among) steps mid new run s.held b c
     fates : KeepsFates changes b c s store (state mid) (state new)
     from : CopiesAllFrom changes b c s (state mid)
+    finds : FindsAll C state (IsIn among) steps mid new run changes b c
     once : IsDistinct bytes_eq (copied_keys changes)
     others : (key : List ℕ) → IsSettled s b key → IsNoneOf (copied_keys changes) key
     along : (before : List StoreChange) → AreGcSteps steps → Inv before b s stored (state mid) → Inv (before ++ changes) c store (stored_after steps stored) (state new)
@@ -603,6 +609,7 @@ module _ (C : Type 0) (state : C → CoreState) where
         records = record { more = []; adds = ap (λ (x : Collection). x.liveness) same ∙ sym (append-nil b.liveness); each = tt; low = tt };
         fates = fates_none b c s (state mid) (state new) same (ap (λ (x : C). (state x).known) run);
         from = λ index key index_is there. absurd (omega (arith, there.1));
+        finds = finds_none C state (IsIn among) mid new run b c same;
         once = none_distinct;
         others = λ key settled. tt;
         along = λ before all inv.
@@ -640,6 +647,7 @@ module _ (C : Type 0) (state : C → CoreState) where
             (one.is_at.invariant one.is_at.stands.known.0 one.is_at.stands.known.1).index_is_newest keeps.snapshot_is (λ stage. (keeps.chosen stage).1) c.sweep.sources.items
             (subst (λ (n : ℕ). Sweeps n c.sweep.sources.items one.changes s one.store) (sym keeps.snapshot_is) (one.sweeps c.sweep.sources.items (λ stage. (keeps.chosen stage).1)))
             one.from rest.from;
+        finds = finds_then C state (IsIn among) f fs mid new run one.changes rest.changes b one.a c one.fills rest.finds;
         once = subst (IsDistinct bytes_eq) (sym (keys_then one.changes rest.changes))
             (distinct_then (copied_keys one.changes) (copied_keys rest.changes) one.once rest.once (λ key has. rest.others key (one.settles key has)));
         others = λ key settled.
@@ -730,6 +738,16 @@ module _ (C : Type 0) (state : C → CoreState) where
           no_other = λ slot h there. stood snapshot c.sweep.sources.items all.changes s all.store slot h sweeps there;
           copies = all.copies;
           once = all.once;
+          found = λ key. (
+            (λ copied. elim (all.finds.found key (inl copied)) [
+              | inl filled ↦ absurd (no_key b.sweep.buffer key row_first.nothing_yet.1.empty filled)
+              | inr found ↦ found
+            ]),
+            (λ found. elim (all.finds.copied key (inr found)) [
+              | inl copied ↦ copied
+              | inr filled ↦ absurd (no_key c.sweep.buffer key has.1 filled)
+            ]),
+          );
           all_copied = λ key copy h copy_is there is_selected live.
               written_at_end all.changes b c s all.store (state begun) (state new) begun_at.index all.is_at.index key copy.place h all.fates begun_at.index_known all.is_at.index_known
               (lies_from key copy h copy_is there) (λ still. gone copy.place.slot h still is_selected) live;

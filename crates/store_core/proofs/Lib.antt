@@ -12,6 +12,8 @@ pub mod Damage
 pub mod Finished
 pub mod FinishedStores
 pub mod Flushed
+pub mod FoundCopies
+pub mod FoundSteps
 pub mod Frames
 pub mod GcSteps
 pub mod GivingFiles

@@ -1,29 +1,32 @@
 -- What a collection has done once it has ended, whatever steps of others came between its own (docs/MODEL.md, 'The core').
-use Rattle.std.specs.Prelude.{◌≡◌, ◌⊎◌, ℕ, ◌≤◌, List, [], ◌∷◌, map, slice_get, Option, Some, Ok, ◌++◌, length, Contains}
+use Rattle.std.specs.Prelude.{true, ◌≡◌, ◌⊎◌, ◌↔◌, ℕ, ◌<◌, ◌≤◌, List, [], ◌∷◌, get_or, map, slice_get, Option, Some, Ok, ◌++◌, length, Contains}
 use Rattle.std.specs.List.{AllByRecursion, IsDistinct}
 use Rattle.std.specs.Str.{bytes_eq}
 use Rattle.actor_parts.specs.declared.step.Answer.TheVariants as answers
 use Rattle.actor_parts.specs.StepValue as asked
 use Rattle.base_model.specs.Known.{Known}
+use Rattle.container_meta.specs.declared.entry.Entry.{Entry}
 use Rattle.container_meta.specs.declared.kind.Kind.{Kind}
 use Rattle.container_meta.specs.Segments.{Segment, segment_key}
 use Rattle.container_meta.specs.Spelling.{HeaderValue, bytes_of, header_of}
-use Rattle.copy_forward.specs.Entries.{SumsLive}
+use Rattle.copy_forward.specs.Entries.{SumsLive, is_copy}
 use Rattle.gc_enumerate.specs.Live.{IsLiveAt}
 use Rattle.gc_select.specs.declared.liveness.ContainerLiveness.{ContainerLiveness}
 use Rattle.gc_select.specs.Selecting.{IsSelectedId, ids_of, selected, sources_of}
 use Rattle.gc_steps.specs.declared.collection.Collection.{Collection}
-use Rattle.gc_steps.specs.declared.collection.Stage.TheVariants.{Filter}
+use Rattle.gc_steps.specs.declared.collection.Stage.TheVariants.{Filter, Sweep as SweepStage}
 use Rattle.gc_steps.specs.Roots.{IsActorKey}
 use Rattle.gc_steps.specs.UnderWay.{old_ids}
+use Rattle.gc_sweep.specs.declared.sweep.Next.TheVariants.{Copy as CopyNext, Flush as FlushNext}
 use Rattle.gc_sweep.specs.Holding.{IsCopied}
 use Rattle.refusals.specs.declared.refusal.Phase.{Phase}
 use Rattle.refusals.specs.declared.refusal.Phase.TheVariants as phases
 use Rattle.store_model.specs.Collisions.{HasNoCollisions, ByteSet, IsIn}
 use Rattle.store_model.specs.Files.{Stored}
 use Rattle.store_model.specs.Image.{Store}
+use Rattle.store_model.specs.Indexing.{entry_key}
 use Rattle.store_model.specs.Reserve.{HoldsJustNeeded}
-use Rattle.store_model.specs.Slots.{Copy, ids_of as ids_held, newest}
+use Rattle.store_model.specs.Slots.{Copy, ids_of as ids_held, newest, place_of}
 use Rattle.store_model.specs.Steps.{StoreChange, SealContainer, FlushContainer}
 use Rattle.store_core.specs.Bounds.{NoneEnds, starts}
 use Rattle.store_core.specs.Core.{CoreStep}
@@ -100,6 +103,42 @@ pub record WereCopies (C : Type 0) (state : C → CoreState) (S : List ℕ → T
   pub kind_is : copies.collection.sweep.buffer.kind ≡ kind
   pub segments_are : copies.collection.sweep.buffer.segments ≡ segments
 
+-- A core at a store whose collection copies next, and the core after that step: of the source that was next the step went over the entries
+-- from the one where it stood, up to the one that it stopped before, or else to the last. The key is that of one of these; the index has
+-- this entry as the key's copy; and the key is live.
+pub record Finds (S : List ℕ → Type 0) (c d : CoreState) (key : List ℕ) : Type 0 where
+  pub store : Store
+  pub stored : Stored
+  pub is_at : IsAt S store stored c
+  pub before : Collection
+  pub runs : c.collection ≡ Some before
+  pub sweeps : before.stage ≡ SweepStage
+  pub after : Collection
+  pub runs_then : d.collection ≡ Some after
+  pub source : ℕ
+  pub entry : ℕ
+  pub next_is : before.sweep.next ≡ CopyNext source entry
+  pub slot : ℕ
+  pub header : HeaderValue
+  pub there : slice_get store.held slot ≡ Some (Some header)
+  pub source_is : header.id ≡ get_or before.sweep.sources.items source 0
+  pub number : ℕ
+  pub found : Entry
+  pub found_is : slice_get header.entries number ≡ Some found
+  pub from : entry ≤ number
+  pub passed : (stopped : ℕ) → after.sweep.next ≡ FlushNext source stopped → number < stopped
+  pub key_is : entry_key header.kind found ≡ key
+  pub copy : is_copy is_at.index header.kind slot found ≡ true
+  pub live : IsLiveAt before.live key (place_of slot found)
+
+-- And so did a step of the run, which answered that it copied.
+pub record WasFound (C : Type 0) (state : C → CoreState) (S : List ℕ → Type 0) (steps : List FileEvent) (old new : C)
+    (run : FileRun C state S steps old new) (key : List ℕ) : Type 0 where
+  pub here : C
+  pub next : C
+  pub on_run : IsDidOnRun C state S steps old new run phases.Copy here next
+  pub finds : Finds S (state here) (state next) key
+
 -- P holds of the kind and the segments of a container, if that is one of copies that the change writes
 abbrev pub IsOfCopies : (Kind → List Segment → Type 0) → StoreChange → Type 0
 IsOfCopies P (FlushContainer id kind segments) = P kind segments
@@ -152,6 +191,8 @@ pub record Collected (C : Type 0) (state : C → CoreState) (S : List ℕ → Ty
   -- What was written with copies were live segments, as the store held them at the step that wrote them; and no key was copied twice.
   pub copies : AllByRecursion (IsOfCopies (WereCopies C state S steps begun new run)) changes
   pub once : IsDistinct bytes_eq (copied_keys changes)
+  -- Just those keys were copied that a step of the run found live, with the index's copy among the entries of a source that it went over.
+  pub found : (key : List ℕ) → Contains (copied_keys changes) key ↔ WasFound C state S steps begun new run key
   -- Each key that is live at the end, and whose newest copy lay in a container of a selected id when it began, was copied, or was sealed
   -- since then.
   pub all_copied : (key : List ℕ) (copy : Copy) (h : HeaderValue) → newest 0 s.held key ≡ Some copy

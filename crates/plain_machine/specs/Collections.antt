@@ -16,7 +16,7 @@ use Rattle.store_model.specs.Files.{Files}
 use Rattle.store_model.specs.Image.{Encodes, Store}
 use Rattle.store_model.specs.Needed.{Needs}
 use Rattle.store_model.specs.Reserve.{HoldsJustNeeded, IsReachable, IsSpare}
-use Rattle.plain_machine.specs.Content.{AddsCopies, BreaksCopies, BreaksGate, FreesContainer, IsOfCopied, IsToCopy, OfStore, SameStore}
+use Rattle.plain_machine.specs.Content.{AddsCopies, BreaksCopies, BreaksGate, FreesContainer, MayBeCopied, IsToCopy, OfStore, SameStore}
 use Rattle.plain_machine.specs.Machine.{Collecting, Machine, Marking, Progress, Recording, Since, Stopped, Sweeping, WasNeeded, are_idle}
 use Rattle.plain_machine.specs.Needs.{ActorsNeed}
 use Rattle.plain_machine.specs.Turns.{Stays}
@@ -173,7 +173,7 @@ IsCollecting phase (Some running) = MayCome phase running.progress
 abbrev pub HasToCopy : Option Collecting → Machine → Type 0
 HasToCopy None m = ⊥
 HasToCopy (Some running) m =
-    OfStore m.content (λ store. (key : List ℕ) × IsOfCopied (WasNeeded running.since)
+    OfStore m.content (λ store. (key : List ℕ) × MayBeCopied (WasNeeded running.since)
     (IsSelectedId running.snapshot running.percent running.recorded) running.snapshot store.held key)
     × (running.alone ≡ true → OfStore m.content (λ store. (key : List ℕ)
     × IsToCopy (IsReachable m.stored.files) (IsSelectedId running.snapshot running.percent running.recorded) store.held key))

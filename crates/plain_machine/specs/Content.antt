@@ -128,7 +128,7 @@ pub record IsToCopy (P : List ℕ → Type 0) (Chosen : ℕ → Type 0) (held : 
 
 -- A key that may be copied, of those that were needed as the collection began, or since (Was): its newest copy is in a container whose id is
 -- chosen, or in one of an id from the snapshot on, since another actor may have sealed it once more meanwhile.
-pub record IsOfCopied (Was : List ℕ → Type 0) (Chosen : ℕ → Type 0) (snapshot : ℕ) (held : List (Option HeaderValue)) (key : List ℕ)
+pub record MayBeCopied (Was : List ℕ → Type 0) (Chosen : ℕ → Type 0) (snapshot : ℕ) (held : List (Option HeaderValue)) (key : List ℕ)
     : Type 0 where
   pub needed : Was key
   pub copy : Copy
@@ -146,7 +146,7 @@ pub record AddsCopies (alone : Bool) (P Was : List ℕ → Type 0) (Chosen : ℕ
   pub filled : Contents
   pub can : CanFlush (suc last) filled.kind filled.segments store
   pub many : count ≡ length filled.segments
-  pub from_chosen : AllByRecursion (λ s. IsOfCopied Was Chosen snapshot store.held (segment_key filled.kind s)) filled.segments
+  pub may_be : AllByRecursion (λ s. MayBeCopied Was Chosen snapshot store.held (segment_key filled.kind s)) filled.segments
   pub to_copy : alone ≡ true → AllByRecursion (λ s. IsToCopy P Chosen store.held (segment_key filled.kind s)) filled.segments
   pub new_keys : AllByRecursion (λ s. ¬ (Contains written (segment_key filled.kind s))) filled.segments
   pub written_is : later ≡ written ++ map (segment_key filled.kind) filled.segments

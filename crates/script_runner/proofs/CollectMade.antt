@@ -56,7 +56,7 @@ use Rattle.script_runner.proofs.CollectProgress.{Progresses, ReadsSame, progress
 use Rattle.script_runner.proofs.CollectRecords.{records_on}
 use Rattle.script_runner.proofs.CollectStep.{HasCollecting, Stepped, image, last_after, leads, low_after, runs_then, same_index, same_so, same_some, some_collecting, steps, told, touched, under}
 use Rattle.script_runner.proofs.Lives.{IsSameIn, lives_made}
-use Rattle.script_runner.proofs.SweepContent.{copies_added, filled_of_copied, filled_to_copy, freed}
+use Rattle.script_runner.proofs.SweepContent.{copies_added, filled_may_be, filled_to_copy, freed}
 use Rattle.script_runner.proofs.Sweeping.{IsFewIn, few_after, few_by, left_by, left_on}
 use Rattle.script_runner.proofs.TurnHolds.{right_here}
 use Rattle.script_runner.proofs.TurnRunning.{RunsAt}
@@ -364,7 +364,7 @@ module _ (C : Type 0) (state : C → CoreState) (among : ByteSet) (apart : HasNo
   changes_at Sweep (Flush source entry) is next_is touch tables other =
       copies_added among at.running.begins.store m.stored (state old) (state new) begins at.running.begins.settled m.content image_now at.content_is told_now goes.before goes.ran is source entry next_is tables.0 tables.1
       touch has.collecting.alone Was Chosen has.collecting.snapshot m.last_id has.collecting.written at.running.begins.last_id_is
-      (filled_of_copied among at.running.begins.store m.stored (state old) (state new) begins at.running.begins.settled m.content image_now at.content_is told_now goes.before goes.ran is has.collecting.snapshot has.collecting.percent has.collecting.recorded snapshot_before
+      (filled_may_be among at.running.begins.store m.stored (state old) (state new) begins at.running.begins.settled m.content image_now at.content_is told_now goes.before goes.ran is has.collecting.snapshot has.collecting.percent has.collecting.recorded snapshot_before
       percent_before recorded_before Was lives_before.within)
       (λ alone. filled_to_copy among at.running.begins.store m.stored (state old) (state new) begins at.running.begins.settled m.content image_now at.content_is told_now goes.before goes.ran is has.collecting.snapshot has.collecting.percent has.collecting.recorded snapshot_before
       percent_before recorded_before (spared alone).0)

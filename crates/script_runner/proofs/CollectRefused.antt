@@ -47,7 +47,7 @@ use Rattle.script_runner.proofs.CollectIndex.{rest_index}
 use Rattle.script_runner.proofs.Lives.{IsSameIn, kept_marks, lives_kept}
 use Rattle.script_runner.proofs.CollectStep.{HasCollecting, flush_same, image, is_collecting, keeps, kept_unchanged, leads, right, runs_then, same_index, same_so, same_some, some_collecting, step, steps, told, touched}
 use Rattle.script_runner.proofs.Harmless.{is_harmless}
-use Rattle.script_runner.proofs.SweepContent.{copies_broke, freeing_broke, some_of_copied, some_to_copy}
+use Rattle.script_runner.proofs.SweepContent.{copies_broke, freeing_broke, some_may_be, some_to_copy}
 use Rattle.script_runner.proofs.TurnRunning.{RunsAt, follows_at}
 use Rattle.script_runner.proofs.WrittenOnce.{once_unchanged}
 
@@ -275,7 +275,7 @@ module _ (C : Type 0) (state : C → CoreState) (among : ByteSet) (apart : HasNo
         at.running.begins.store,
         (
           right C state among apart m sessions old new at err buf made,
-          some_of_copied among at.running.begins.store m.stored (state old) (state new) begins_then at.running.begins.settled m.content image_then at.content_is told_then row.before row.ran stage_is
+          some_may_be among at.running.begins.store m.stored (state old) (state new) begins_then at.running.begins.settled m.content image_then at.content_is told_then row.before row.ran stage_is
               has_some.collecting.snapshot has_some.collecting.percent has_some.collecting.recorded snapshot_before percent_before recorded_before source entry next_is Was lives_then.within,
         ),
       ),

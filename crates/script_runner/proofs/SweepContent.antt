@@ -46,10 +46,10 @@ use Rattle.store_state.specs.Settled.{IsSettled}
 use Rattle.store_state.specs.Tables.{Represents}
 use Rattle.store_core.specs.Runs.{IsAt, IsSafeIn}
 use Rattle.store_core.specs.State.{CoreState, IsUnderWayIn}
-use Rattle.plain_machine.specs.Content.{AddsCopies, BreaksCopies, BreaksGate, FreesContainer, Holds, IsOfCopied, IsToCopy}
+use Rattle.plain_machine.specs.Content.{AddsCopies, BreaksCopies, BreaksGate, FreesContainer, Holds, MayBeCopied, IsToCopy}
 use Rattle.script_runner.proofs.CollectBytes.{flush_changes, gate_broke, gate_changed}
 use Rattle.script_runner.proofs.CollectNeeds.{told_here}
-use Rattle.script_runner.proofs.ToCopy.{are_of_copied, are_to_copy, first_of}
+use Rattle.script_runner.proofs.ToCopy.{may_all_be_copied, are_to_copy, first_of}
 use Rattle.script_runner.proofs.TurnHolds.{right_here}
 use Rattle.script_runner.proofs.TurnKept.{of_kind}
 
@@ -111,11 +111,11 @@ module _ (among : ByteSet) (store : Store) (stored : Stored) (old new : CoreStat
         ((chosen_which c.snapshot c.percent c.liveness c.sweep.sources.items sources_are id).0 source)))
 
     -- all that is filled has its newest copies there, or in containers that came since
-    pub filled_of_copied : (Was : List ℕ → Type 0) → IsWithin Was c.live
-        → AllByRecursion (λ x. IsOfCopied Was Chosen snapshot store.held (segment_key c.sweep.buffer.kind x)) c.sweep.buffer.segments
-    filled_of_copied Was within =
-        subst (λ (n : ℕ). AllByRecursion (λ x. IsOfCopied Was Chosen n store.held (segment_key c.sweep.buffer.kind x)) c.sweep.buffer.segments) snapshot_is
-        (are_of_copied Chosen index store.held content old.tables.held c.live c.snapshot c.sweep represents.slots_hold invariant.index_is_newest sweeping was_held chosen_so Was within)
+    pub filled_may_be : (Was : List ℕ → Type 0) → IsWithin Was c.live
+        → AllByRecursion (λ x. MayBeCopied Was Chosen snapshot store.held (segment_key c.sweep.buffer.kind x)) c.sweep.buffer.segments
+    filled_may_be Was within =
+        subst (λ (n : ℕ). AllByRecursion (λ x. MayBeCopied Was Chosen n store.held (segment_key c.sweep.buffer.kind x)) c.sweep.buffer.segments) snapshot_is
+        (may_all_be_copied Chosen index store.held content old.tables.held c.live c.snapshot c.sweep represents.slots_hold invariant.index_is_newest sweeping was_held chosen_so Was within)
 
     -- where it spares what is needed, all that is filled is to be copied
     pub filled_to_copy : Spares (IsReachable stored.files) index store.held c
@@ -125,10 +125,10 @@ module _ (among : ByteSet) (store : Store) (stored : Stored) (old new : CoreStat
         (subst (λ (stage : Stage). CopiesAlone stage index store.held c) stage_is spares.alone)
 
     -- before copies are written something may be copied
-    pub some_of_copied : (source entry : ℕ) → c.sweep.next ≡ Flush source entry → (Was : List ℕ → Type 0) → IsWithin Was c.live → (key : List ℕ) × IsOfCopied Was Chosen snapshot store.held key
-    some_of_copied source entry next_is Was within =
-        first_of (IsOfCopied Was Chosen snapshot store.held) c.sweep.buffer.kind c.sweep.buffer.segments
-        (subst (HasNext old.tables.held c.sweep) next_is sweeping.next_is).1 (filled_of_copied Was within)
+    pub some_may_be : (source entry : ℕ) → c.sweep.next ≡ Flush source entry → (Was : List ℕ → Type 0) → IsWithin Was c.live → (key : List ℕ) × MayBeCopied Was Chosen snapshot store.held key
+    some_may_be source entry next_is Was within =
+        first_of (MayBeCopied Was Chosen snapshot store.held) c.sweep.buffer.kind c.sweep.buffer.segments
+        (subst (HasNext old.tables.held c.sweep) next_is sweeping.next_is).1 (filled_may_be Was within)
 
     -- and where it runs alone is to be
     pub some_to_copy : (source entry : ℕ) → c.sweep.next ≡ Flush source entry → Spares (IsReachable stored.files) index store.held c
@@ -181,17 +181,17 @@ module _ (among : ByteSet) (store : Store) (stored : Stored) (old new : CoreStat
       are_held = each_so (λ x. HasNewest written.held (segment_key filled.kind x) x.level x.bytes image) (λ x. Holds image (of_kind filled.kind x)) filled.segments (λ x has. (written, (now, has))) newest_now
 
       pub copies_added : (alone : Bool) (Was : List ℕ → Type 0) (Of : ℕ → Type 0) (snapshot last : ℕ) (wrote : List (List ℕ)) → old.tables.held.last_id ≡ last
-          → AllByRecursion (λ x. IsOfCopied Was Of snapshot store.held (segment_key filled.kind x)) filled.segments
+          → AllByRecursion (λ x. MayBeCopied Was Of snapshot store.held (segment_key filled.kind x)) filled.segments
           → (alone ≡ true → AllByRecursion (λ x. IsToCopy (IsReachable stored.files) Of store.held (segment_key filled.kind x)) filled.segments)
           → AllByRecursion (λ x. ¬ (Contains wrote (segment_key filled.kind x))) filled.segments
           → AddsCopies alone (IsReachable stored.files) Was Of snapshot last (length filled.segments) wrote (wrote ++ keys_of filled) content image
-      copies_added alone Was Of snapshot last wrote last_is from_chosen to_copy new_keys = record {
+      copies_added alone Was Of snapshot last wrote last_is may_be to_copy new_keys = record {
         store = store;
         was = right;
         filled = filled;
         can = subst (λ (n : ℕ). CanFlush n filled.kind filled.segments store) id_is can;
         many = refl;
-        from_chosen = from_chosen;
+        may_be = may_be;
         to_copy = to_copy;
         new_keys = new_keys;
         written_is = refl;

@@ -1,6 +1,6 @@
 -- Collections, step by step: it is recorded how much of each container is live, segments of the containers that are chosen by that are
 -- copied, and these containers are given back (docs/MODEL.md, 'The plain machine').
-use Rattle.std.specs.Prelude.{◌≡◌, ◌⊎◌, ℕ, suc, ◌+◌, ◌*◌, ◌<◌, ◌≤◌, Bool, true, false, if◌then◌else◌, nat_lt, List, [], ◌∷◌, ◌++◌, length, slice_get, Option, None, Some, IsSome}
+use Rattle.std.specs.Prelude.{◌≡◌, ◌⊎◌, ℕ, suc, ◌+◌, ◌*◌, ◌<◌, ◌≤◌, Bool, true, false, if◌then◌else◌, nat_lt, List, [], ◌∷◌, ◌++◌, length, slice_get, Contains, Option, None, Some, IsSome}
 use Rattle.base_model.specs.Fault.{Rose}
 use Rattle.container_meta.specs.declared.kind.Kind.{Kind}
 use Rattle.container_meta.specs.declared.kind.Kind.TheVariants.{Leaf, Tree}
@@ -16,7 +16,7 @@ use Rattle.store_model.specs.Files.{Files}
 use Rattle.store_model.specs.Image.{Encodes, Store}
 use Rattle.store_model.specs.Needed.{Needs}
 use Rattle.store_model.specs.Reserve.{HoldsJustNeeded, IsReachable, IsSpare}
-use Rattle.plain_machine.specs.Content.{AddsCopies, BreaksCopies, BreaksGate, FreesContainer, MayBeCopied, IsToCopy, OfStore, SameStore}
+use Rattle.plain_machine.specs.Content.{AddsCopies, BreaksCopies, BreaksGate, FreesContainer, IsToCopy, OfStore, SameStore}
 use Rattle.plain_machine.specs.Machine.{Collecting, Machine, Marking, Progress, Recording, Since, Stopped, Sweeping, WasNeeded, are_idle}
 use Rattle.plain_machine.specs.Needs.{ActorsNeed}
 use Rattle.plain_machine.specs.Turns.{Stays}
@@ -50,7 +50,8 @@ most_steps held = 6 * trees_in held + 6 * containers_in held + 3
 
 -- ---- what it does
 
--- One begins where none ran. Its snapshot is the next id. Needed are then what the files need that the names have, and what actors need.
+-- One begins where none ran. Its snapshot is the next id. What is needed then: what the files need that the names have, and what actors
+-- need.
 pub record BeginsCollection (percent snapshot : ℕ) (m n : Machine) : Type 0 where
   pub none_ran : m.collecting ≡ None
   pub snapshot_is : snapshot ≡ suc m.last_id
@@ -66,6 +67,7 @@ pub record BeginsCollection (percent snapshot : ℕ) (m n : Machine) : Type 0 wh
       to_come = most;
       freed = 0;
       copied = 0;
+      filled = [];
       written = [];
       recorded = [];
       alone = are_idle m.parts;
@@ -109,18 +111,27 @@ RecordsBy phase alone Was snapshot m recorded next = next ≡ recorded
 abbrev pub IsNeededOr : Files → (Was : List ℕ → Type 0) → List ℕ → Type 0
 IsNeededOr files Was key = IsReachable files key ⊎ Was key
 
--- What a step changes: a flush adds a container of so many copies, of keys that were needed as the collection began, or since (Was), whose
--- newest copies are in containers whose ids are chosen or that came since the snapshot, none of them a key that it wrote before; and where
--- it runs alone just of keys that files need, with newest copies in those that are chosen. A release gives a container back that came before
--- the snapshot, whose id is chosen, and that holds the newest copy of no key that a file needs, or that was needed so. No other step changes
--- anything.
+-- What is copied and isn't written yet, after a step: after one that copies what was so before it, and keys that were needed as the
+-- collection began, or since (Was), and whose newest copies are in containers whose ids are chosen; after a flush nothing.
+abbrev pub FillsBy : Phase → (Was : List ℕ → Type 0) → (Chosen : ℕ → Type 0) → Machine → (filled now : List (List ℕ)) → Type 0
+FillsBy Copy Was Chosen m filled now =
+    ((key : List ℕ) → Contains filled key → Contains now key)
+    × ((key : List ℕ) → Contains now key → Contains filled key ⊎ OfStore m.content (λ store. IsToCopy Was Chosen store.held key))
+FillsBy Flush Was Chosen m filled now = now ≡ []
+FillsBy phase Was Chosen m filled now = now ≡ filled
+
+-- What a step changes: a flush adds a container of so many copies, of the keys that are filled, none of them a key that the collection wrote
+-- before, and where it runs alone just of keys that files need, with newest copies in those whose ids are chosen. A release gives a
+-- container back that came before the snapshot, whose id is chosen, and that holds the newest copy of no key that a file needs, or that was
+-- needed as the collection began, or since (Was). No other step changes anything.
 abbrev pub ChangesBy : Phase → (alone : Bool) → (Was : List ℕ → Type 0) → (Chosen : ℕ → Type 0) → (snapshot copies : ℕ)
-    → (written later : List (List ℕ)) → Machine → List ℕ → Type 0
-ChangesBy Flush alone Was Chosen snapshot copies written later m new =
-    AddsCopies alone (IsReachable m.stored.files) Was Chosen snapshot m.last_id copies written later m.content new
-ChangesBy Release alone Was Chosen snapshot copies written later m new =
+    → (filled written later : List (List ℕ)) → Machine → List ℕ → Type 0
+ChangesBy Flush alone Was Chosen snapshot copies filled written later m new =
+    AddsCopies alone (IsReachable m.stored.files) Chosen m.last_id copies filled written later m.content new
+ChangesBy Release alone Was Chosen snapshot copies filled written later m new =
     (copies ≡ 0) × (later ≡ written) × FreesContainer (IsNeededOr m.stored.files Was) Chosen snapshot m.content new
-ChangesBy phase alone Was Chosen snapshot copies written later m new = (copies ≡ 0) × (later ≡ written) × SameStore m.content new
+ChangesBy phase alone Was Chosen snapshot copies filled written later m new =
+    (copies ≡ 0) × (later ≡ written) × SameStore m.content new
 
 -- the last id is another after a flush
 abbrev pub last_by : Phase → ℕ → ℕ
@@ -169,12 +180,11 @@ abbrev pub IsCollecting : Phase → Option Collecting → Type 0
 IsCollecting phase None = ⊥
 IsCollecting phase (Some running) = MayCome phase running.progress
 
--- there is a key that may be copied, and where it runs alone one that is to be copied
+-- something was copied that isn't written yet; and where it runs alone there is a key that is to be copied
 abbrev pub HasToCopy : Option Collecting → Machine → Type 0
 HasToCopy None m = ⊥
 HasToCopy (Some running) m =
-    OfStore m.content (λ store. (key : List ℕ) × MayBeCopied (WasNeeded running.since)
-    (IsSelectedId running.snapshot running.percent running.recorded) running.snapshot store.held key)
+    ((key : List ℕ) × Contains running.filled key)
     × (running.alone ≡ true → OfStore m.content (λ store. (key : List ℕ)
     × IsToCopy (IsReachable m.stored.files) (IsSelectedId running.snapshot running.percent running.recorded) store.held key))
 
@@ -193,6 +203,7 @@ pub record StepsCollection (phase : Phase) (m n : Machine) : Type 0 where
   pub left : ℕ
   pub freed : ℕ
   pub copied : ℕ
+  pub filled : List (List ℕ)
   pub written : List (List ℕ)
   pub recorded : List ContainerLiveness
   pub alone : Bool
@@ -204,6 +215,7 @@ pub record StepsCollection (phase : Phase) (m n : Machine) : Type 0 where
     to_come = suc left;
     freed = freed;
     copied = copied;
+    filled = filled;
     written = written;
     recorded = recorded;
     alone = alone;
@@ -211,8 +223,11 @@ pub record StepsCollection (phase : Phase) (m n : Machine) : Type 0 where
   })
   pub short : IsShort phase freed (selected snapshot percent recorded)
   pub copies : ℕ
+  pub filled_now : List (List ℕ)
+  pub fills : FillsBy phase (WasNeeded since) (IsSelectedId snapshot percent recorded) m filled filled_now
   pub written_now : List (List ℕ)
-  pub changes : ChangesBy phase alone (WasNeeded since) (IsSelectedId snapshot percent recorded) snapshot copies written written_now m n.content
+  pub changes : ChangesBy phase alone (WasNeeded since) (IsSelectedId snapshot percent recorded) snapshot copies filled written written_now m
+      n.content
   pub recorded_now : List ContainerLiveness
   pub records : RecordsBy phase alone (WasNeeded since) snapshot m recorded recorded_now
   pub others : n ≡ record m {
@@ -225,6 +240,7 @@ pub record StepsCollection (phase : Phase) (m n : Machine) : Type 0 where
       to_come = left;
       freed = freed + freed_by phase;
       copied = copied + copies;
+      filled = filled_now;
       written = written_now;
       recorded = recorded_now;
       alone = alone;
@@ -257,6 +273,7 @@ pub record EndsCollection (freed copied : ℕ) (m n : Machine) : Type 0 where
     to_come = left;
     freed = freed;
     copied = copied;
+    filled = [];
     written = written;
     recorded = recorded;
     alone = alone;

@@ -126,30 +126,21 @@ pub record IsToCopy (P : List ℕ → Type 0) (Chosen : ℕ → Type 0) (held : 
   pub copy_is : newest 0 held key ≡ Some copy
   pub chosen : Chosen copy.id
 
--- A key that may be copied, of those that were needed as the collection began, or since (Was): its newest copy is in a container whose id is
--- chosen, or in one of an id from the snapshot on, since another actor may have sealed it once more meanwhile.
-pub record MayBeCopied (Was : List ℕ → Type 0) (Chosen : ℕ → Type 0) (snapshot : ℕ) (held : List (Option HeaderValue)) (key : List ℕ)
-    : Type 0 where
-  pub needed : Was key
-  pub copy : Copy
-  pub copy_is : newest 0 held key ≡ Some copy
-  pub from : Chosen copy.id ⊎ (snapshot ≤ copy.id)
-
 -- Copies were written: a container of so many segments, each of which was held, stands in the free slot of least number, under the id after
--- the last one, and all else is as it was. The key of each might be copied, and is none that the collection wrote before, to which they are
--- added then. So no key is copied twice. Where a collection runs alone the key of each was to be copied; and then it is to be copied no more,
--- since its newest copy has an id above all that are chosen.
-pub record AddsCopies (alone : Bool) (P Was : List ℕ → Type 0) (Chosen : ℕ → Type 0) (snapshot last count : ℕ)
-    (written later : List (List ℕ)) (old new : List ℕ) : Type 0 where
+-- the last one, and all else is as it was. Their keys are those that are filled, and none that the collection wrote before, to which they
+-- are added then. So no key is copied twice. Where a collection runs alone the key of each was to be copied; and then it is to be copied no
+-- more, since its newest copy has an id above all that are chosen.
+pub record AddsCopies (alone : Bool) (P : List ℕ → Type 0) (Chosen : ℕ → Type 0) (last count : ℕ) (filled_keys written later : List (List ℕ))
+    (old new : List ℕ) : Type 0 where
   pub store : Store
   pub was : Encodes old store
   pub filled : Contents
   pub can : CanFlush (suc last) filled.kind filled.segments store
   pub many : count ≡ length filled.segments
-  pub may_be : AllByRecursion (λ s. MayBeCopied Was Chosen snapshot store.held (segment_key filled.kind s)) filled.segments
+  pub keys_are : map (segment_key filled.kind) filled.segments ≡ filled_keys
   pub to_copy : alone ≡ true → AllByRecursion (λ s. IsToCopy P Chosen store.held (segment_key filled.kind s)) filled.segments
   pub new_keys : AllByRecursion (λ s. ¬ (Contains written (segment_key filled.kind s))) filled.segments
-  pub written_is : later ≡ written ++ map (segment_key filled.kind) filled.segments
+  pub written_is : later ≡ written ++ filled_keys
   pub were_held : AllByRecursion (λ s. Holds old (record { kind = filled.kind; segment = s })) filled.segments
   pub now : Encodes new (with_sealed (suc last) filled.kind filled.segments store)
   pub held : AllByRecursion (λ s. Holds new (record { kind = filled.kind; segment = s })) filled.segments

@@ -78,7 +78,8 @@ pub record Collecting : Type 0 where
   pub to_come : ℕ
   pub freed : ℕ
   pub copied : ℕ
-  -- the keys of the copies that it wrote, one after the other
+  -- the keys of what it copied that isn't written yet, and of the copies that it wrote, one after the other
+  pub filled : List (List ℕ)
   pub written : List (List ℕ)
   -- what it recorded of each container, one after the other: which are chosen goes by these
   pub recorded : List ContainerLiveness
@@ -107,7 +108,7 @@ pub record Machine : Type 0 where
   pub last_id : ℕ
   -- the collection that runs, if one does
   pub collecting : Option Collecting
-  -- keys left the index since the opening: what no file has may be forgotten
+  -- keys left the index since the opening: what no file and no actor needs may be forgotten
   pub collected : Bool
 
 abbrev pub part_in : Machine → ℕ → Part

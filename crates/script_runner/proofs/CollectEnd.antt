@@ -8,6 +8,7 @@ use Rattle.actor_parts.specs.declared.step.Answer.{Answer}
 use Rattle.actor_parts.specs.declared.step.Answer.TheVariants as answers
 use Rattle.refusals.specs.declared.refusal.Refusal.{Refusal}
 use Rattle.refusals.specs.declared.refusal.Refusal.TheVariants as refusals
+use Rattle.std.proofs.lemmas.List.{nil_from_length}
 use Rattle.container_meta.specs.Segments.{Contents, Segment}
 use Rattle.container_meta.specs.Spelling.{HeaderValue}
 use Rattle.gc_select.specs.declared.liveness.ContainerLiveness.{ContainerLiveness}
@@ -39,11 +40,12 @@ use Rattle.store_core.proofs.Leading.{Leads}
 use Rattle.plain_machine.specs.Collections.{EndsCollection, RefusesCollectionStep}
 use Rattle.plain_machine.specs.Content.{OfStore}
 use Rattle.plain_machine.specs.Machine.{Collecting, Machine, Progress, Sweeping}
-use Rattle.script_runner.specs.Follows.{CountsEach, FollowsCollection, HasCounted, IsAtProgress, IsAtStage, HoldsCollection, SparesNeeded, is_filled}
+use Rattle.script_runner.specs.Follows.{CountsEach, FollowsCollection, HasCounted, HasFilled, IsAtProgress, IsAtStage, HoldsCollection, SparesNeeded, is_filled}
 use Rattle.script_runner.specs.Sessions.{Sessions}
 use Rattle.script_runner.proofs.CollectNeeds.{told_here}
 use Rattle.script_runner.proofs.CollectParts.{gc_event}
 use Rattle.script_runner.proofs.CollectProgress.{at_end}
+use Rattle.script_runner.proofs.Filled.{no_keys}
 use Rattle.script_runner.proofs.CollectStep.{HasCollecting, Stepped, as_stage, leads, none_collecting, right, runs_then, same_some, some_collecting, steps, touched, under}
 use Rattle.script_runner.proofs.TurnRunning.{RunsAt}
 
@@ -92,6 +94,12 @@ module _ (C : Type 0) (state : C → CoreState) (among : ByteSet) (apart : HasNo
     -- nothing is to be written
     none_left : length ended.before.sweep.buffer.segments ≡ 0
     none_left = none_filled ended.before.sweep.buffer.segments (not_filled has_ended.collecting.progress ended.before at_last ended.at_end.0 (subst (IsAtProgress has_ended.collecting.progress) same has_ended.follows.progress_is))
+
+    filled_none : has_ended.collecting.filled ≡ []
+    filled_none =
+        subst (λ (stage : Stage). HasFilled stage ended.before.sweep has_ended.collecting.filled) ended.at_end.0
+        (subst (λ (c : Collection). HasFilled c.stage c.sweep has_ended.collecting.filled) same has_ended.follows.filled_is)
+        ∙ no_keys ended.before.sweep.buffer (nil_from_length ended.before.sweep.buffer.segments (omega (arith, none_left)))
 
     freed_same : has_ended.collecting.freed ≡ freed
     freed_same = sym counted.0 ∙ sym ended.freed_is
@@ -215,9 +223,10 @@ module _ (C : Type 0) (state : C → CoreState) (among : ByteSet) (apart : HasNo
         alone = has_ended.collecting.alone;
         since = has_ended.collecting.since;
         ran = has_ended.is
-            ∙ ap (λ (n : ℕ). let k : Collecting = record { percent = has_ended.collecting.percent; snapshot = has_ended.collecting.snapshot; progress = has_ended.collecting.progress; to_come = has_ended.collecting.to_come; freed = n; copied = has_ended.collecting.copied; recorded = has_ended.collecting.recorded; written = has_ended.collecting.written; alone = has_ended.collecting.alone; since = has_ended.collecting.since } in Some k) freed_same
-            ∙ ap (λ (n : ℕ). let k : Collecting = record { percent = has_ended.collecting.percent; snapshot = has_ended.collecting.snapshot; progress = has_ended.collecting.progress; to_come = has_ended.collecting.to_come; freed = freed; copied = n; recorded = has_ended.collecting.recorded; written = has_ended.collecting.written; alone = has_ended.collecting.alone; since = has_ended.collecting.since } in Some k) copied_same
-            ∙ ap (λ (p : Progress). let k : Collecting = record { percent = has_ended.collecting.percent; snapshot = has_ended.collecting.snapshot; progress = p; to_come = has_ended.collecting.to_come; freed = freed; copied = copied; recorded = has_ended.collecting.recorded; written = has_ended.collecting.written; alone = has_ended.collecting.alone; since = has_ended.collecting.since } in Some k) at_last;
+            ∙ ap (λ (n : ℕ). let k : Collecting = record { percent = has_ended.collecting.percent; snapshot = has_ended.collecting.snapshot; progress = has_ended.collecting.progress; to_come = has_ended.collecting.to_come; freed = n; copied = has_ended.collecting.copied; filled = has_ended.collecting.filled; recorded = has_ended.collecting.recorded; written = has_ended.collecting.written; alone = has_ended.collecting.alone; since = has_ended.collecting.since } in Some k) freed_same
+            ∙ ap (λ (n : ℕ). let k : Collecting = record { percent = has_ended.collecting.percent; snapshot = has_ended.collecting.snapshot; progress = has_ended.collecting.progress; to_come = has_ended.collecting.to_come; freed = freed; copied = n; filled = has_ended.collecting.filled; recorded = has_ended.collecting.recorded; written = has_ended.collecting.written; alone = has_ended.collecting.alone; since = has_ended.collecting.since } in Some k) copied_same
+            ∙ ap (λ (p : Progress). let k : Collecting = record { percent = has_ended.collecting.percent; snapshot = has_ended.collecting.snapshot; progress = p; to_come = has_ended.collecting.to_come; freed = freed; copied = copied; filled = has_ended.collecting.filled; recorded = has_ended.collecting.recorded; written = has_ended.collecting.written; alone = has_ended.collecting.alone; since = has_ended.collecting.since } in Some k) at_last
+            ∙ ap (λ (keys : List (List ℕ)). let k : Collecting = record { percent = has_ended.collecting.percent; snapshot = has_ended.collecting.snapshot; progress = Sweeping false false; to_come = has_ended.collecting.to_come; freed = freed; copied = copied; filled = keys; recorded = has_ended.collecting.recorded; written = has_ended.collecting.written; alone = has_ended.collecting.alone; since = has_ended.collecting.since } in Some k) filled_none;
         freed_is = freed_chosen;
         gone = (at.running.begins.store, (right C state among apart m sessions old new at done buf made, gone_now));
         none_spare = none_spare;

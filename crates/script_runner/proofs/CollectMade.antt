@@ -42,10 +42,10 @@ use Rattle.store_core.specs.Core.{CoreStep, IndexesAll}
 use Rattle.store_core.specs.Runs.{IsAt, IsSafeIn}
 use Rattle.store_core.specs.State.{CoreState, IsUnderWayIn}
 use Rattle.store_core.proofs.Leading.{Leads}
-use Rattle.plain_machine.specs.Collections.{ChangesBy, GoesTo, IsNeededOr, IsShort, RecordsBy, StepsCollection, forgets_by, freed_by, last_by}
+use Rattle.plain_machine.specs.Collections.{ChangesBy, FillsBy, GoesTo, IsNeededOr, IsShort, RecordsBy, StepsCollection, forgets_by, freed_by, last_by}
 use Rattle.plain_machine.specs.Content.{SameStore}
 use Rattle.plain_machine.specs.Machine.{Collecting, Machine, WasNeeded}
-use Rattle.script_runner.specs.Follows.{CountsEach, FollowsCollecting, HasCounted, IsAtProgress, IsWritten, HoldsCollection, IsLiveAtStage, LivesByNeed, LivesJust, SparesNeeded, WroteOnce}
+use Rattle.script_runner.specs.Follows.{CountsEach, FollowsCollecting, HasCounted, HasFilled, IsAtProgress, IsWritten, HoldsCollection, IsLiveAtStage, LivesByNeed, LivesJust, SparesNeeded, WroteOnce}
 use Rattle.script_runner.specs.Sessions.{Sessions}
 use Rattle.script_runner.proofs.CollectBytes.{GivesNothing}
 use Rattle.script_runner.proofs.CollectCauses.{no_end, phase_is}
@@ -55,8 +55,9 @@ use Rattle.script_runner.proofs.CollectParts.{gc_event}
 use Rattle.script_runner.proofs.CollectProgress.{Progresses, ReadsSame, progresses}
 use Rattle.script_runner.proofs.CollectRecords.{records_on}
 use Rattle.script_runner.proofs.CollectStep.{HasCollecting, Stepped, image, last_after, leads, low_after, runs_then, same_index, same_so, same_some, some_collecting, steps, told, touched, under}
+use Rattle.script_runner.proofs.Filled.{fills_made, filled_of, has_filled}
 use Rattle.script_runner.proofs.Lives.{IsSameIn, lives_made}
-use Rattle.script_runner.proofs.SweepContent.{copies_added, filled_may_be, filled_to_copy, freed}
+use Rattle.script_runner.proofs.SweepContent.{chosen_so, copies_added, filled_to_copy, freed}
 use Rattle.script_runner.proofs.Sweeping.{IsFewIn, few_after, few_by, left_by, left_on}
 use Rattle.script_runner.proofs.TurnHolds.{right_here}
 use Rattle.script_runner.proofs.TurnRunning.{RunsAt}
@@ -119,6 +120,13 @@ module _ (C : Type 0) (state : C → CoreState) (among : ByteSet) (apart : HasNo
   abbrev copies : ℕ
   copies = copies_by goes.before.stage goes.before.sweep.next goes.before.sweep
 
+  -- what is filled then
+  abbrev filled_now : List (List ℕ)
+  filled_now = filled_of goes.after.stage goes.after.sweep
+
+  filled_before : HasFilled goes.before.stage goes.before.sweep has.collecting.filled
+  filled_before = subst (λ (c : Collection). HasFilled c.stage c.sweep has.collecting.filled) same has.follows.filled_is
+
   -- the keys that it wrote
   abbrev written_now : List (List ℕ)
   written_now = written_by goes.before.stage goes.before.sweep.next goes.before.sweep has.collecting.written
@@ -131,8 +139,8 @@ module _ (C : Type 0) (state : C → CoreState) (among : ByteSet) (apart : HasNo
       subst (λ (p : Phase). HasCounted goes.after.stage goes.after.sweep (has.collecting.freed + freed_by p) (has.collecting.copied + copies)) stage_phase
       (counted_on (at_moment (state old) goes.before) (at_moment (state new) goes.after) has.collecting.freed has.collecting.copied goes.before.stage goes.before.sweep.next refl refl counted_before goes.steps not_end)
 
-  ran : m.collecting ≡ Some (record { percent = has.collecting.percent; snapshot = has.collecting.snapshot; progress = has.collecting.progress; to_come = suc left; freed = has.collecting.freed; copied = has.collecting.copied; written = has.collecting.written; recorded = has.collecting.recorded; alone = has.collecting.alone; since = has.collecting.since })
-  ran = has.is ∙ ap (λ (n : ℕ). let k : Collecting = record { percent = has.collecting.percent; snapshot = has.collecting.snapshot; progress = has.collecting.progress; to_come = n; freed = has.collecting.freed; copied = has.collecting.copied; written = has.collecting.written; recorded = has.collecting.recorded; alone = has.collecting.alone; since = has.collecting.since } in Some k) (let e : has.collecting.to_come ≡ suc left = omega (arith, fewer) in e)
+  ran : m.collecting ≡ Some (record { percent = has.collecting.percent; snapshot = has.collecting.snapshot; progress = has.collecting.progress; to_come = suc left; freed = has.collecting.freed; copied = has.collecting.copied; filled = has.collecting.filled; written = has.collecting.written; recorded = has.collecting.recorded; alone = has.collecting.alone; since = has.collecting.since })
+  ran = has.is ∙ ap (λ (n : ℕ). let k : Collecting = record { percent = has.collecting.percent; snapshot = has.collecting.snapshot; progress = has.collecting.progress; to_come = n; freed = has.collecting.freed; copied = has.collecting.copied; filled = has.collecting.filled; written = has.collecting.written; recorded = has.collecting.recorded; alone = has.collecting.alone; since = has.collecting.since } in Some k) (let e : has.collecting.to_come ≡ suc left = omega (arith, fewer) in e)
 
   -- ---- the last id
 
@@ -224,7 +232,7 @@ module _ (C : Type 0) (state : C → CoreState) (among : ByteSet) (apart : HasNo
   leads_on = progresses (state old) (state new) goes.before goes.after reads_same has.collecting.progress at_before goes.steps not_end
 
   abbrev goes_so : Collecting
-  goes_so = record { percent = has.collecting.percent; snapshot = has.collecting.snapshot; progress = leads_on.next; to_come = left; freed = has.collecting.freed + freed_by phase; copied = has.collecting.copied + copies; written = written_now; recorded = goes.after.liveness; alone = has.collecting.alone; since = has.collecting.since }
+  goes_so = record { percent = has.collecting.percent; snapshot = has.collecting.snapshot; progress = leads_on.next; to_come = left; freed = has.collecting.freed + freed_by phase; copied = has.collecting.copied + copies; filled = filled_now; written = written_now; recorded = goes.after.liveness; alone = has.collecting.alone; since = has.collecting.since }
 
   -- each source that came to its end is counted still
   each_now : CountsEach goes.after.sweep
@@ -242,6 +250,7 @@ module _ (C : Type 0) (state : C → CoreState) (among : ByteSet) (apart : HasNo
     progress_is = leads_on.is_at;
     recorded_is = refl;
     counted = counted_now;
+    filled_is = has_filled goes.after.stage goes.after.sweep;
     each = each_now;
     most = has.follows.most;
     few = few_after has.follows.most phase (state old) (state new) at.running.up.under_way few goes;
@@ -356,16 +365,15 @@ module _ (C : Type 0) (state : C → CoreState) (among : ByteSet) (apart : HasNo
   Chosen = IsSelectedId has.collecting.snapshot has.collecting.percent has.collecting.recorded
 
   changes_at : (stage : Stage) (next : Next) → goes.before.stage ≡ stage → goes.before.sweep.next ≡ next → Touched stage next → TablesAfter stage next (at_moment (state old) goes.before) (at_moment (state new) goes.after)
-      → (phase_at stage next ≡ phase_at Sweep End → ⊥) → ChangesBy (phase_at stage next) has.collecting.alone Was Chosen has.collecting.snapshot (copies_by stage next goes.before.sweep) has.collecting.written (written_by stage next goes.before.sweep has.collecting.written) m image_now
+      → (phase_at stage next ≡ phase_at Sweep End → ⊥) → ChangesBy (phase_at stage next) has.collecting.alone Was Chosen has.collecting.snapshot (copies_by stage next goes.before.sweep) has.collecting.filled has.collecting.written (written_by stage next goes.before.sweep has.collecting.written) m image_now
   changes_at (Mark level slot) next is next_is touch tables other = (refl, refl, nothing (Mark level slot) next tt touch)
   changes_at (Filter slot) next is next_is touch tables other = (refl, refl, nothing (Filter slot) next tt touch)
   changes_at Select next is next_is touch tables other = (refl, refl, nothing Select next tt touch)
   changes_at Sweep (Copy source entry) is next_is touch tables other = (refl, refl, nothing Sweep (Copy source entry) tt touch)
   changes_at Sweep (Flush source entry) is next_is touch tables other =
       copies_added among at.running.begins.store m.stored (state old) (state new) begins at.running.begins.settled m.content image_now at.content_is told_now goes.before goes.ran is source entry next_is tables.0 tables.1
-      touch has.collecting.alone Was Chosen has.collecting.snapshot m.last_id has.collecting.written at.running.begins.last_id_is
-      (filled_may_be among at.running.begins.store m.stored (state old) (state new) begins at.running.begins.settled m.content image_now at.content_is told_now goes.before goes.ran is has.collecting.snapshot has.collecting.percent has.collecting.recorded snapshot_before
-      percent_before recorded_before Was lives_before.within)
+      touch has.collecting.alone Chosen m.last_id has.collecting.filled has.collecting.written at.running.begins.last_id_is
+      (sym (subst (λ (stage : Stage). HasFilled stage goes.before.sweep has.collecting.filled) is filled_before))
       (λ alone. filled_to_copy among at.running.begins.store m.stored (state old) (state new) begins at.running.begins.settled m.content image_now at.content_is told_now goes.before goes.ran is has.collecting.snapshot has.collecting.percent has.collecting.recorded snapshot_before
       percent_before recorded_before (spared alone).0)
       (none_of has.collecting.written goes.before.sweep.buffer.kind goes.before.sweep.buffer.segments (λ key there filled. (once_before key there).unfilled filled))
@@ -378,9 +386,24 @@ module _ (C : Type 0) (state : C → CoreState) (among : ByteSet) (apart : HasNo
   )
   changes_at Sweep End is next_is touch tables other = absurd (other refl)
 
-  changes : ChangesBy phase has.collecting.alone Was Chosen has.collecting.snapshot copies has.collecting.written written_now m image_now
+  -- what is filled
+  fills : FillsBy phase Was Chosen m has.collecting.filled filled_now
+  fills =
+      subst (λ (p : Phase). FillsBy p Was Chosen m has.collecting.filled filled_now) stage_phase
+      (fills_made among at.running.begins.store m.stored (state old) (state new) begins goes.before goes.after goes.ran goes.runs m at.content_is (λ is. at_stage (state old).tables.held goes.before Sweep under_before is) Was Chosen
+      lives_before.within chosen_sources has.collecting.filled filled_before goes.steps not_end)
+    where
+      under_before : IsUnderWay (state old).tables.held goes.before
+      under_before = under C state among apart m sessions old new at did buf made goes.before goes.ran
+
+      chosen_sources : goes.before.stage ≡ Sweep → (id : ℕ) → Contains goes.before.sweep.sources.items id → Chosen id
+      chosen_sources is =
+          chosen_so among at.running.begins.store m.stored (state old) (state new) begins at.running.begins.settled m.content image_now at.content_is told_now goes.before goes.ran is has.collecting.snapshot has.collecting.percent
+          has.collecting.recorded snapshot_before percent_before recorded_before
+
+  changes : ChangesBy phase has.collecting.alone Was Chosen has.collecting.snapshot copies has.collecting.filled has.collecting.written written_now m image_now
   changes =
-      subst (λ (p : Phase). ChangesBy p has.collecting.alone Was Chosen has.collecting.snapshot copies has.collecting.written written_now m image_now) stage_phase (changes_at goes.before.stage goes.before.sweep.next refl refl touches goes.tables not_end)
+      subst (λ (p : Phase). ChangesBy p has.collecting.alone Was Chosen has.collecting.snapshot copies has.collecting.filled has.collecting.written written_now m image_now) stage_phase (changes_at goes.before.stage goes.before.sweep.next refl refl touches goes.tables not_end)
 
   -- ---- the sources that are left
 
@@ -462,6 +485,9 @@ module _ (C : Type 0) (state : C → CoreState) (among : ByteSet) (apart : HasNo
       left = left;
       freed = has.collecting.freed;
       copied = has.collecting.copied;
+      filled = has.collecting.filled;
+      filled_now = filled_now;
+      fills = fills;
       written = has.collecting.written;
       written_now = written_now;
       recorded = has.collecting.recorded;

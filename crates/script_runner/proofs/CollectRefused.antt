@@ -15,6 +15,8 @@ use Rattle.gc_steps.specs.declared.collection.Stage.{Stage}
 use Rattle.gc_steps.specs.declared.collection.Stage.TheVariants.{Mark, Filter, Select, Sweep}
 use Rattle.gc_steps.specs.Stepping.{Keeps, Touches, moment, phase_at}
 use Rattle.gc_steps.proofs.Sparing as sparing
+use Rattle.gc_steps.proofs.UnderWay.{at_stage}
+use Rattle.gc_sweep.specs.UnderWay.{HasNext}
 use Rattle.gc_sweep.specs.Holding.{IsLive}
 use Rattle.gc_sweep.specs.declared.sweep.Next.{Next}
 use Rattle.gc_sweep.specs.declared.sweep.Next.TheVariants.{Copy, Flush, Release, End}
@@ -34,7 +36,7 @@ use Rattle.store_core.proofs.JustNeeded.{kept_takes}
 use Rattle.plain_machine.specs.Collections.{BreaksBy, BreaksStep, HasToCopy, IsCollecting, IsNeededOr, MayCome, MayRead, RefusesCollectionStep}
 use Rattle.plain_machine.specs.Content.{SameStore}
 use Rattle.plain_machine.specs.Machine.{Collecting, Machine, Marking, Progress, Recording, Stopped, Sweeping, WasNeeded}
-use Rattle.script_runner.specs.Follows.{Follows, IsAtProgress, IsOfFound, HoldsCollection, IsLiveAtStage, LivesByNeed, LivesJust, SparesNeeded, WroteOnce}
+use Rattle.script_runner.specs.Follows.{Follows, HasFilled, IsAtProgress, IsOfFound, HoldsCollection, IsLiveAtStage, LivesByNeed, LivesJust, SparesNeeded, WroteOnce}
 use Rattle.script_runner.specs.Sessions.{Sessions}
 use Rattle.script_runner.proofs.CollectBytes.{GivesNothing, IsRest}
 use Rattle.script_runner.proofs.CollectCauses.{IsCauseAt, IsCollectCause, IsReadCause, IsRestCause, cause_at, collect_cause}
@@ -44,10 +46,11 @@ use Rattle.script_runner.proofs.CollectNeeds.{needs_closed, needs_here, told_her
 use Rattle.script_runner.proofs.CollectParts.{gc_event}
 use Rattle.script_runner.proofs.CollectProgress.{may_come}
 use Rattle.script_runner.proofs.CollectIndex.{rest_index}
+use Rattle.script_runner.proofs.Filled.{first_key}
 use Rattle.script_runner.proofs.Lives.{IsSameIn, kept_marks, lives_kept}
-use Rattle.script_runner.proofs.CollectStep.{HasCollecting, flush_same, image, is_collecting, keeps, kept_unchanged, leads, right, runs_then, same_index, same_so, same_some, some_collecting, step, steps, told, touched}
+use Rattle.script_runner.proofs.CollectStep.{HasCollecting, flush_same, image, is_collecting, keeps, kept_unchanged, leads, right, runs_then, same_index, same_so, same_some, some_collecting, step, steps, told, touched, under}
 use Rattle.script_runner.proofs.Harmless.{is_harmless}
-use Rattle.script_runner.proofs.SweepContent.{copies_broke, freeing_broke, some_may_be, some_to_copy}
+use Rattle.script_runner.proofs.SweepContent.{copies_broke, freeing_broke, some_to_copy}
 use Rattle.script_runner.proofs.TurnRunning.{RunsAt, follows_at}
 use Rattle.script_runner.proofs.WrittenOnce.{once_unchanged}
 
@@ -268,17 +271,12 @@ module _ (C : Type 0) (state : C → CoreState) (among : ByteSet) (apart : HasNo
 
     -- ---- no id is left
 
-    -- something may be copied, and where it runs alone is to be
+    -- something is to be written, and where it runs alone there is a key that is to be copied
     some_left : (source entry : ℕ) → row.before.stage ≡ Sweep → row.before.sweep.next ≡ Flush source entry → HasToCopy m.collecting m
     some_left source entry stage_is next_is = subst (λ (o : Option Collecting). HasToCopy o m) (sym has_some.is) (
-      (
-        at.running.begins.store,
-        (
-          right C state among apart m sessions old new at err buf made,
-          some_may_be among at.running.begins.store m.stored (state old) (state new) begins_then at.running.begins.settled m.content image_then at.content_is told_then row.before row.ran stage_is
-              has_some.collecting.snapshot has_some.collecting.percent has_some.collecting.recorded snapshot_before percent_before recorded_before source entry next_is Was lives_then.within,
-        ),
-      ),
+      first_key row.before.sweep.buffer has_some.collecting.filled
+          (subst (λ (stage : Stage). HasFilled stage row.before.sweep has_some.collecting.filled) stage_is (subst (λ (c : Collection). HasFilled c.stage c.sweep has_some.collecting.filled) (same_some has_some.follows.collection row.before (state old).collection has_some.follows.runs row.ran) has_some.follows.filled_is))
+          (subst (HasNext (state old).tables.held row.before.sweep) next_is (at_stage (state old).tables.held row.before Sweep (under C state among apart m sessions old new at err buf made row.before row.ran) stage_is).next_is).1,
       λ alone. (
         at.running.begins.store,
         (

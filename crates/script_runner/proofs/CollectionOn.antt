@@ -91,6 +91,7 @@ module _ (old new : CoreState) where
         snapshot_is = follows.snapshot_is;
         recorded_is = follows.recorded_is;
         counted = follows.counted;
+        filled_is = follows.filled_is;
         each = follows.each;
         most = follows.most;
         few = with_live follows.most now c is.0 still.0;

@@ -20,6 +20,7 @@ pub mod CommitRefused
 pub mod CopyRefused
 pub mod Disturbing
 pub mod FaultsCounted
+pub mod Filled
 pub mod Harmless
 pub mod IdleParts
 pub mod Images

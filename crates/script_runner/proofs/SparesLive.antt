@@ -156,6 +156,7 @@ follows_disturbed keys (Some k) c follows = record {
   snapshot_is = follows.snapshot_is;
   recorded_is = follows.recorded_is;
   counted = follows.counted;
+  filled_is = follows.filled_is;
   each = follows.each;
   most = follows.most;
   few = follows.few;

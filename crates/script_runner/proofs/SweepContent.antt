@@ -46,10 +46,10 @@ use Rattle.store_state.specs.Settled.{IsSettled}
 use Rattle.store_state.specs.Tables.{Represents}
 use Rattle.store_core.specs.Runs.{IsAt, IsSafeIn}
 use Rattle.store_core.specs.State.{CoreState, IsUnderWayIn}
-use Rattle.plain_machine.specs.Content.{AddsCopies, BreaksCopies, BreaksGate, FreesContainer, Holds, MayBeCopied, IsToCopy}
+use Rattle.plain_machine.specs.Content.{AddsCopies, BreaksCopies, BreaksGate, FreesContainer, Holds, IsToCopy}
 use Rattle.script_runner.proofs.CollectBytes.{flush_changes, gate_broke, gate_changed}
 use Rattle.script_runner.proofs.CollectNeeds.{told_here}
-use Rattle.script_runner.proofs.ToCopy.{may_all_be_copied, are_to_copy, first_of}
+use Rattle.script_runner.proofs.ToCopy.{are_to_copy, first_of}
 use Rattle.script_runner.proofs.TurnHolds.{right_here}
 use Rattle.script_runner.proofs.TurnKept.{of_kind}
 
@@ -103,19 +103,12 @@ module _ (among : ByteSet) (store : Store) (stored : Stored) (old new : CoreStat
     Chosen = IsSelectedId snapshot percent recorded
 
     -- a source is selected by what was recorded
-    chosen_so : (id : ℕ) → Contains c.sweep.sources.items id → Chosen id
+    pub chosen_so : (id : ℕ) → Contains c.sweep.sources.items id → Chosen id
     chosen_so id source =
         subst (λ (n : ℕ). IsSelectedId n percent recorded id) snapshot_is
         (subst (λ (n : ℕ). IsSelectedId c.snapshot n recorded id) percent_is
         (subst (λ (rs : List ContainerLiveness). IsSelectedId c.snapshot c.percent rs id) recorded_is
         ((chosen_which c.snapshot c.percent c.liveness c.sweep.sources.items sources_are id).0 source)))
-
-    -- all that is filled has its newest copies there, or in containers that came since
-    pub filled_may_be : (Was : List ℕ → Type 0) → IsWithin Was c.live
-        → AllByRecursion (λ x. MayBeCopied Was Chosen snapshot store.held (segment_key c.sweep.buffer.kind x)) c.sweep.buffer.segments
-    filled_may_be Was within =
-        subst (λ (n : ℕ). AllByRecursion (λ x. MayBeCopied Was Chosen n store.held (segment_key c.sweep.buffer.kind x)) c.sweep.buffer.segments) snapshot_is
-        (may_all_be_copied Chosen index store.held content old.tables.held c.live c.snapshot c.sweep represents.slots_hold invariant.index_is_newest sweeping was_held chosen_so Was within)
 
     -- where it spares what is needed, all that is filled is to be copied
     pub filled_to_copy : Spares (IsReachable stored.files) index store.held c
@@ -124,13 +117,7 @@ module _ (among : ByteSet) (store : Store) (stored : Stored) (old new : CoreStat
         are_to_copy Chosen index store.held content old.tables.held c.live c.snapshot c.sweep represents.slots_hold invariant.index_is_newest sweeping was_held chosen_so (IsReachable stored.files) spares.within
         (subst (λ (stage : Stage). CopiesAlone stage index store.held c) stage_is spares.alone)
 
-    -- before copies are written something may be copied
-    pub some_may_be : (source entry : ℕ) → c.sweep.next ≡ Flush source entry → (Was : List ℕ → Type 0) → IsWithin Was c.live → (key : List ℕ) × MayBeCopied Was Chosen snapshot store.held key
-    some_may_be source entry next_is Was within =
-        first_of (MayBeCopied Was Chosen snapshot store.held) c.sweep.buffer.kind c.sweep.buffer.segments
-        (subst (HasNext old.tables.held c.sweep) next_is sweeping.next_is).1 (filled_may_be Was within)
-
-    -- and where it runs alone is to be
+    -- before copies are written something is
     pub some_to_copy : (source entry : ℕ) → c.sweep.next ≡ Flush source entry → Spares (IsReachable stored.files) index store.held c
         → (key : List ℕ) × IsToCopy (IsReachable stored.files) Chosen store.held key
     some_to_copy source entry next_is spares =
@@ -180,21 +167,20 @@ module _ (among : ByteSet) (store : Store) (stored : Stored) (old new : CoreStat
       are_held : AllByRecursion (λ x. Holds image (of_kind filled.kind x)) filled.segments
       are_held = each_so (λ x. HasNewest written.held (segment_key filled.kind x) x.level x.bytes image) (λ x. Holds image (of_kind filled.kind x)) filled.segments (λ x has. (written, (now, has))) newest_now
 
-      pub copies_added : (alone : Bool) (Was : List ℕ → Type 0) (Of : ℕ → Type 0) (snapshot last : ℕ) (wrote : List (List ℕ)) → old.tables.held.last_id ≡ last
-          → AllByRecursion (λ x. MayBeCopied Was Of snapshot store.held (segment_key filled.kind x)) filled.segments
+      pub copies_added : (alone : Bool) (Of : ℕ → Type 0) (last : ℕ) (filled_keys wrote : List (List ℕ)) → old.tables.held.last_id ≡ last → keys_of filled ≡ filled_keys
           → (alone ≡ true → AllByRecursion (λ x. IsToCopy (IsReachable stored.files) Of store.held (segment_key filled.kind x)) filled.segments)
           → AllByRecursion (λ x. ¬ (Contains wrote (segment_key filled.kind x))) filled.segments
-          → AddsCopies alone (IsReachable stored.files) Was Of snapshot last (length filled.segments) wrote (wrote ++ keys_of filled) content image
-      copies_added alone Was Of snapshot last wrote last_is may_be to_copy new_keys = record {
+          → AddsCopies alone (IsReachable stored.files) Of last (length filled.segments) filled_keys wrote (wrote ++ keys_of filled) content image
+      copies_added alone Of last filled_keys wrote last_is keys_are to_copy new_keys = record {
         store = store;
         was = right;
         filled = filled;
         can = subst (λ (n : ℕ). CanFlush n filled.kind filled.segments store) id_is can;
         many = refl;
-        may_be = may_be;
+        keys_are = keys_are;
         to_copy = to_copy;
         new_keys = new_keys;
-        written_is = refl;
+        written_is = ap (λ (keys : List (List ℕ)). wrote ++ keys) keys_are;
         were_held = were_held;
         now = subst (λ (n : ℕ). Encodes image (with_sealed n filled.kind filled.segments store)) id_is now;
         held = are_held;

@@ -25,7 +25,7 @@ use Rattle.store_model.specs.Slots.{Copy, IsPartialIndexOf, newest}
 use Rattle.store_model.proofs.Copies.{LiesIn, lies}
 use Rattle.store_state.specs.Tables.{RepresentsSlots}
 use Rattle.store_state.specs.declared.slot_table.SlotTable.{SlotTable}
-use Rattle.plain_machine.specs.Content.{MayBeCopied, IsToCopy}
+use Rattle.plain_machine.specs.Content.{IsToCopy}
 
 -- what is so of each key that is listed is so of the key of each segment
 each_listed : (Q : List ℕ → Type 0) (kind : Kind) (xs : List Segment) → ((key : List ℕ) → listed (map (segment_key kind) xs) key ≡ true → Q key) → AllByRecursion (λ x. Q (segment_key kind x)) xs
@@ -80,23 +80,6 @@ module _ (Chosen : ℕ → Type 0) (index : PlaceMap) (held : List (Option Heade
 
     alone_chosen : Contains s.waiting.items place.slot ⊎ ((h : HeaderValue) × IsHalfCopied held s place.slot h) → Chosen found.0.id
     alone_chosen alone = source_chosen (alone_source held t snapshot s under slots place.slot at.header there alone)
-
-    may_be_copied : (Was : List ℕ → Type 0) → IsWithin Was live → MayBeCopied Was Chosen snapshot held key
-    may_be_copied Was within = record {
-      needed = within key place filled_live.1.1;
-      copy = found.0;
-      copy_is = found.1.0;
-      from = by_origin (holds.origin key place has found_at);
-    }
-      where
-        by_origin : IsOrigin held snapshot s place.slot → Chosen found.0.id ⊎ (snapshot ≤ found.0.id)
-        by_origin (inl waits) = inl (alone_chosen (inl waits))
-        by_origin (inr (inl half)) = inl (alone_chosen (inr half))
-        by_origin (inr (inr (h, (stands, newer)))) =
-            inr (omega (arith, newer, ap (λ (x : HeaderValue). x.id) (one_header held place.slot place.slot h at.header refl stands there), ap (λ (c : Copy). c.id) at.copy_is))
-
-  pub may_all_be_copied : (Was : List ℕ → Type 0) → IsWithin Was live → AllByRecursion (λ x. MayBeCopied Was Chosen snapshot held (segment_key s.buffer.kind x)) s.buffer.segments
-  may_all_be_copied Was within = each_listed (MayBeCopied Was Chosen snapshot held) s.buffer.kind s.buffer.segments (λ key has. may_be_copied key has Was within)
 
   -- ---- where it runs alone all is in sources, and needed
 

@@ -9,7 +9,7 @@ use Rattle.container_meta.specs.declared.kind.Kind.{Kind}
 use Rattle.container_meta.specs.declared.entry.Entry.{Entry}
 use Rattle.container_meta.specs.Format.{kind_byte}
 use Rattle.container_meta.specs.Places.{PlaceMap}
-use Rattle.container_meta.specs.Segments.{Contents, Segment, has_key, segment_key}
+use Rattle.container_meta.specs.Segments.{Contents, Segment, has_key, keys_of, segment_key}
 use Rattle.container_meta.specs.Spelling.{HeaderValue}
 use Rattle.merkle_file.specs.Node as node
 use Rattle.actor_parts.specs.declared.actor.TheConstants.{ACTORS}
@@ -137,12 +137,17 @@ abbrev pub HasCounted : Stage → SweepValue → ℕ → ℕ → Type 0
 HasCounted stages.Sweep s freed copied = (s.freed ≡ freed) × (s.copied ≡ copied + length s.buffer.segments)
 HasCounted stage s freed copied = (freed ≡ 0) × (copied ≡ 0)
 
+-- just these keys are filled: none before it sweeps
+abbrev pub HasFilled : Stage → SweepValue → List (List ℕ) → Type 0
+HasFilled stages.Sweep s filled = filled ≡ keys_of s.buffer
+HasFilled stage s filled = filled ≡ []
+
 -- each source that came to its end was given back, waits, or is ready
 abbrev pub CountsEach : SweepValue → Type 0
 CountsEach s = s.freed + length s.waiting.items + length s.ready.items ≡ sources_before s s.next
 
 -- One runs, of that percentage and from that snapshot, that has come so far, recorded the same, gave so many containers back and wrote so
--- many copies, and no more steps of it come.
+-- many copies, has filled the same, and no more steps of it come.
 pub record FollowsCollecting (k : Collecting) (c : CoreState) : Type 0 where
   pub collection : Collection
   pub runs : c.collection ≡ Some collection
@@ -151,6 +156,7 @@ pub record FollowsCollecting (k : Collecting) (c : CoreState) : Type 0 where
   pub progress_is : IsAtProgress k.progress collection
   pub recorded_is : collection.liveness ≡ k.recorded
   pub counted : HasCounted collection.stage collection.sweep k.freed k.copied
+  pub filled_is : HasFilled collection.stage collection.sweep k.filled
   pub each : CountsEach collection.sweep
   pub most : ℕ
   pub few : HasFewSources most c.tables.held collection
@@ -191,7 +197,7 @@ IsClosedAt (stages.Mark level at) P held image = (n : node.Contents) (copy : Hel
     → (key : List ℕ) → Contains (child_keys n) key → P key
 IsClosedAt stage P held image = Unit {0}
 
--- The key is one of the tree of a live key, which is held whole.
+-- The key is one of the tree of a live key; that tree is held whole.
 pub record IsBelowLive (index : PlaceMap) (held : List (Option HeaderValue)) (image : List ℕ) (live : LiveKeys) (key : List ℕ) : Type 0 where
   pub root : List ℕ
   pub is_live : IsLive index live root
@@ -203,7 +209,7 @@ abbrev pub IsLiveAtStage : Stage → PlaceMap → List (Option HeaderValue) → 
 IsLiveAtStage (stages.Mark level at) index held image live key = IsBelowLive index held image live key
 IsLiveAtStage stage index held image live key = IsLive index live key
 
--- Just keys of which P holds are live, once it has marked.
+-- Just the keys of which P holds are live, once it has marked; while it marks some of them are.
 pub record LivesJust (P : List ℕ → Type 0) (store : Store) (c : CoreState) (collection : Collection) : Type 0 where
   pub within : IsWithin P collection.live
   pub closed : (image : List ℕ) → c.disk.content ≡ Some image → IsClosedAt collection.stage P store.held image

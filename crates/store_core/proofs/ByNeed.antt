@@ -86,7 +86,7 @@ or_second : (a b : Bool) → b ≡ true → (a || b) ≡ true
 or_second true b is = refl
 or_second false b is = is
 
-of_listed : (keys : List (List ℕ)) (key : List ℕ) → listed keys key ≡ true → Contains keys key
+pub of_listed : (keys : List (List ℕ)) (key : List ℕ) → listed keys key ≡ true → Contains keys key
 of_listed [] key has = absurd cc
 of_listed (x ∷ xs) key has = elim (or_cases (bytes_eq x key) (listed xs key) has) [
   | inl same ↦ (0, omega arith, (bytes_eq-Decides x key).0 same)

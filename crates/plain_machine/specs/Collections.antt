@@ -108,8 +108,8 @@ RecordsBy Select alone Was snapshot m recorded next =
 RecordsBy phase alone Was snapshot m recorded next = next ≡ recorded
 
 -- a file needs the key, or it was needed so
-abbrev pub IsNeededOr : Files → (Was : List ℕ → Type 0) → List ℕ → Type 0
-IsNeededOr files Was key = IsReachable files key ⊎ Was key
+abbrev pub IsOrWasNeeded : Files → (Was : List ℕ → Type 0) → List ℕ → Type 0
+IsOrWasNeeded files Was key = IsReachable files key ⊎ Was key
 
 -- What is copied and isn't written yet, after a step: after one that copies what was so before it, and keys that were needed as the
 -- collection began, or since (Was), and whose newest copies are in containers whose ids are chosen; after a flush nothing.
@@ -129,7 +129,7 @@ abbrev pub ChangesBy : Phase → (alone : Bool) → (Was : List ℕ → Type 0) 
 ChangesBy Flush alone Was Chosen snapshot copies filled written later m new =
     AddsCopies alone (IsReachable m.stored.files) Chosen m.last_id copies filled written later m.content new
 ChangesBy Release alone Was Chosen snapshot copies filled written later m new =
-    (copies ≡ 0) × (later ≡ written) × FreesContainer (IsNeededOr m.stored.files Was) Chosen snapshot m.content new
+    (copies ≡ 0) × (later ≡ written) × FreesContainer (IsOrWasNeeded m.stored.files Was) Chosen snapshot m.content new
 ChangesBy phase alone Was Chosen snapshot copies filled written later m new =
     (copies ≡ 0) × (later ≡ written) × SameStore m.content new
 
@@ -296,7 +296,7 @@ Sweeps freed copied m n = (phases : List Phase) × ((mid : Machine) × (Collecti
 abbrev pub BreaksBy : Phase → (Was : List ℕ → Type 0) → (Chosen : ℕ → Type 0) → ℕ → Machine → List ℕ → Type 0
 BreaksBy Copy Was Chosen snapshot m new = SameStore m.content new
 BreaksBy Flush Was Chosen snapshot m new = (m.last_id < LAST_ID) × BreaksCopies m.content new
-BreaksBy Release Was Chosen snapshot m new = BreaksGate (IsNeededOr m.stored.files Was) Chosen snapshot m.content new
+BreaksBy Release Was Chosen snapshot m new = BreaksGate (IsOrWasNeeded m.stored.files Was) Chosen snapshot m.content new
 BreaksBy phase Was Chosen snapshot m new = ⊥
 
 -- A step of the collection that runs, one that may come, broke off.

@@ -33,10 +33,10 @@ NeedsJust (Finished file answers) keys = AreKeptFor file true answers keys
 NeedsJust (Reading file rest) keys = keys ≡ tree_keys (file_tree file)
 
 -- just these are the keys that actors need, one after the other
-abbrev pub NeedAll : List Part → List (List ℕ) → Type 0
-NeedAll [] needed = needed ≡ []
-NeedAll (part ∷ parts) needed =
-    (mine : List (List ℕ)) × (rest : List (List ℕ)) × (needed ≡ mine ++ rest) × NeedsJust part mine × NeedAll parts rest
+abbrev pub PartsNeed : List Part → List (List ℕ) → Type 0
+PartsNeed [] needed = needed ≡ []
+PartsNeed (part ∷ parts) needed =
+    (mine : List (List ℕ)) × (rest : List (List ℕ)) × (needed ≡ mine ++ rest) × NeedsJust part mine × PartsNeed parts rest
 
 abbrev pub ActorsNeed : Machine → List (List ℕ) → Type 0
-ActorsNeed m needed = NeedAll m.parts needed
+ActorsNeed m needed = PartsNeed m.parts needed

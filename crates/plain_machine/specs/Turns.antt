@@ -1,6 +1,6 @@
 -- Turns: a claim or a seal that is due for the file that an actor gives (docs/MODEL.md, 'Sessions').
 use Rattle.std.specs.FinMap as finite
-use Rattle.std.specs.Prelude.{◌≡◌, ℕ, ◌<◌, ◌≤◌, slice_get, Some, None, Bool, true, false, List, [], ◌∷◌, ◌++◌, map, Contains, ◌≢◌, ◌⊎◌}
+use Rattle.std.specs.Prelude.{◌≡◌, ℕ, ◌<◌, ◌≤◌, slice_get, Some, None, Bool, true, false, List, [], ◌∷◌, ◌++◌, map, Contains, ◌≢◌, ◌⊎◌, Option}
 use Rattle.base_model.specs.Fault.{Rose}
 use Rattle.container_meta.specs.Segments.{KindSegment, Segment, segment_key}
 use Rattle.disk_format.specs.declared.numbers.TheConstants.{LAST_ID, RESERVE}
@@ -17,7 +17,7 @@ use Rattle.refusals.specs.declared.refusal.Refusal.{Refusal}
 use Rattle.refusals.specs.declared.refusal.Refusal.TheVariants.{DiskRead, DiskWrite, Full, Clash, Numbers, Unpinned}
 use Rattle.store_model.specs.Slots.{free_slots}
 use Rattle.plain_machine.specs.Content.{OfStore, Holds, Lacks, AddsContainer, BreaksOff, ClashesWith, HasTwins, SameStore}
-use Rattle.plain_machine.specs.Machine.{Machine, Part, Writing, Finished, Stopped, disturbed, part_in, put_at}
+use Rattle.plain_machine.specs.Machine.{Collecting, Machine, Part, Writing, Finished, Stopped, WasNeeded, disturbed, part_in, put_at}
 use Rattle.plain_machine.specs.Needs.{ActorsNeed}
 use Rattle.store_model.specs.Files.{Files}
 use Rattle.store_model.specs.Pieces.{IsPieceOf, Piece, piece_segment}
@@ -60,9 +60,15 @@ IsOfNoFile files seg = (name file : List ℕ) (piece : Piece) → finite.get fil
 abbrev pub IsOfNoActor : Machine → KindSegment → Type 0
 IsOfNoActor m seg = (needed : List (List ℕ)) × (ActorsNeed m needed × ¬ (Contains needed (segment_key seg.kind seg.segment)))
 
--- no container has the segment's key; or keys left the index since the opening, and no file needs it, and no actor
+-- no collection runs for which it was needed as that began, or since
+abbrev pub IsOfNoCollection : Option Collecting → KindSegment → Type 0
+IsOfNoCollection None seg = Unit {0}
+IsOfNoCollection (Some running) seg = ¬ (WasNeeded running.since (segment_key seg.kind seg.segment))
+
+-- no container has the segment's key; or keys left the index since the opening, and no file needs it, no actor, and no collection that runs
 abbrev pub LacksIn : Machine → KindSegment → Type 0
-LacksIn m seg = Lacks m.content seg ⊎ ((m.collected ≡ true) × IsOfNoFile m.stored.files seg × IsOfNoActor m seg)
+LacksIn m seg = Lacks m.content seg
+    ⊎ ((m.collected ≡ true) × IsOfNoFile m.stored.files seg × IsOfNoActor m seg × IsOfNoCollection m.collecting seg)
 
 -- what was answered shows of the machine, and does to the content
 abbrev pub Shows : Due → SessionState → Answer → Machine → List ℕ → Type 0

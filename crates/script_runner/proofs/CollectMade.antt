@@ -42,7 +42,7 @@ use Rattle.store_core.specs.Core.{CoreStep, IndexesAll}
 use Rattle.store_core.specs.Runs.{IsAt, IsSafeIn}
 use Rattle.store_core.specs.State.{CoreState, IsUnderWayIn}
 use Rattle.store_core.proofs.Leading.{Leads}
-use Rattle.plain_machine.specs.Collections.{ChangesBy, FillsBy, GoesTo, IsNeededOr, IsShort, RecordsBy, StepsCollection, forgets_by, freed_by, last_by}
+use Rattle.plain_machine.specs.Collections.{ChangesBy, FillsBy, GoesTo, IsOrWasNeeded, IsShort, RecordsBy, StepsCollection, forgets_by, freed_by, last_by}
 use Rattle.plain_machine.specs.Content.{SameStore}
 use Rattle.plain_machine.specs.Machine.{Collecting, Machine, WasNeeded}
 use Rattle.script_runner.specs.Follows.{CountsEach, FollowsCollecting, HasCounted, HasFilled, IsAtProgress, IsWritten, HoldsCollection, IsLiveAtStage, LivesByNeed, LivesJust, SparesNeeded, WroteOnce}
@@ -331,7 +331,7 @@ module _ (C : Type 0) (state : C → CoreState) (among : ByteSet) (apart : HasNo
       (state old).parts safe_then (same_at goes.before.stage goes.before.sweep.next touches leaves.store_is goes.steps) steps_known)
 
   -- the index has each key that files need, or that was needed
-  indexed_at : (stage : Stage) → goes.before.stage ≡ stage → stage ≡ Sweep → (key : List ℕ) → IsNeededOr m.stored.files Was key → HasKey begins.index key
+  indexed_at : (stage : Stage) → goes.before.stage ≡ stage → stage ≡ Sweep → (key : List ℕ) → IsOrWasNeeded m.stored.files Was key → HasKey begins.index key
   indexed_at stage is sweeps key (inl file) = invariant.files_are_indexed key file
   indexed_at stage is sweeps key (inr was) =
       let live = subst (λ (s : Stage). IsLiveAtStage s begins.index at.running.begins.store.held m.content goes.before.live key) (is ∙ sweeps) (lives_before.all begins.index m.content begins.index_known at.content_is key was) in
@@ -380,7 +380,7 @@ module _ (C : Type 0) (state : C → CoreState) (among : ByteSet) (apart : HasNo
   changes_at Sweep (Release source entry) is next_is touch tables other = (
     refl,
     refl,
-    freed among at.running.begins.store m.stored (state old) (state new) begins at.running.begins.settled m.content image_now at.content_is told_now goes.before goes.ran is source entry next_is (IsNeededOr m.stored.files Was)
+    freed among at.running.begins.store m.stored (state old) (state new) begins at.running.begins.settled m.content image_now at.content_is told_now goes.before goes.ran is source entry next_is (IsOrWasNeeded m.stored.files Was)
         (indexed_at Sweep is refl) has.collecting.snapshot has.collecting.percent has.collecting.recorded snapshot_before
         percent_before recorded_before touch,
   )

@@ -33,7 +33,7 @@ use Rattle.store_core.specs.Core.{CoreStep, IndexesAll, Steps}
 use Rattle.store_core.specs.Runs.{ChangesTo, IsAt}
 use Rattle.store_core.specs.State.{CoreState}
 use Rattle.store_core.proofs.JustNeeded.{kept_takes}
-use Rattle.plain_machine.specs.Collections.{BreaksBy, BreaksStep, HasToCopy, IsCollecting, IsNeededOr, MayCome, MayRead, RefusesCollectionStep}
+use Rattle.plain_machine.specs.Collections.{BreaksBy, BreaksStep, HasToCopy, IsCollecting, IsOrWasNeeded, MayCome, MayRead, RefusesCollectionStep}
 use Rattle.plain_machine.specs.Content.{SameStore}
 use Rattle.plain_machine.specs.Machine.{Collecting, Machine, Marking, Progress, Recording, Stopped, Sweeping, WasNeeded}
 use Rattle.script_runner.specs.Follows.{Follows, HasFilled, IsAtProgress, IsOfFound, HoldsCollection, IsLiveAtStage, LivesByNeed, LivesJust, SparesNeeded, WroteOnce}
@@ -203,7 +203,7 @@ module _ (C : Type 0) (state : C → CoreState) (among : ByteSet) (apart : HasNo
         row.after lives_then live_still refusal (same_at row.before.stage row.before.sweep.next touches_so (index_then rests)) keeps_known)
 
     -- while it sweeps the index has each key that files need, or that was needed
-    indexed_then : row.before.stage ≡ Sweep → (key : List ℕ) → IsNeededOr m.stored.files Was key → HasKey begins_then.index key
+    indexed_then : row.before.stage ≡ Sweep → (key : List ℕ) → IsOrWasNeeded m.stored.files Was key → HasKey begins_then.index key
     indexed_then is key (inl file) = (begins_then.invariant m.content at.content_is).files_are_indexed key file
     indexed_then is key (inr was) =
         let live = subst (λ (s : Stage). IsLiveAtStage s begins_then.index at.running.begins.store.held m.content row.before.live key) is (lives_then.all begins_then.index m.content begins_then.index_known at.content_is key was) in
@@ -265,7 +265,7 @@ module _ (C : Type 0) (state : C → CoreState) (among : ByteSet) (apart : HasNo
             )
         by_stage Sweep (Release source entry) stage_is next_is at_stage touches =
             by_step Sweep (Release source entry) stage_is next_is
-            (freeing_broke among at.running.begins.store m.stored (state old) (state new) begins_then at.running.begins.settled m.content image_then at.content_is told_then row.before row.ran stage_is source entry next_is (IsNeededOr m.stored.files Was)
+            (freeing_broke among at.running.begins.store m.stored (state old) (state new) begins_then at.running.begins.settled m.content image_then at.content_is told_then row.before row.ran stage_is source entry next_is (IsOrWasNeeded m.stored.files Was)
             (indexed_then stage_is) has_some.collecting.snapshot has_some.collecting.percent has_some.collecting.recorded snapshot_before percent_before recorded_before (broken_as Sweep (Release source entry) touches))
         by_stage Sweep End stage_is next_is at_stage touches = absurd at_stage
 

@@ -28,7 +28,7 @@ use Rattle.store_model.specs.Image.{Store}
 use Rattle.store_model.specs.Slots.{Copy, newest, place_of}
 use Rattle.store_model.proofs.Copies.{lies}
 use Rattle.store_core.specs.Collecting.{at_moment}
-use Rattle.store_core.specs.Finished.{Finds}
+use Rattle.store_core.specs.Finished.{FindsLive}
 use Rattle.store_core.specs.Runs.{IsAt}
 use Rattle.store_core.specs.State.{CoreState}
 use Rattle.store_core.proofs.ByNeed.{of_listed}
@@ -88,7 +88,7 @@ module _ (among : ByteSet) (store : Store) (stored : Stored) (old new : CoreStat
   S = IsIn among
 
   -- what a step found is to be copied then
-  module _ (key : List ℕ) (finds : Finds S old new key) where
+  module _ (key : List ℕ) (finds : FindsLive S old new key) where
     same : b ≡ finds.before
     same = same_some b finds.before old.collection ran finds.runs
 

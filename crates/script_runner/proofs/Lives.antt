@@ -1,4 +1,4 @@
--- What is live was needed since the collection began: what a step of the collection leaves of that, made or refused.
+-- Just what was needed as a collection began, or since, is live: what a step of the collection leaves of that, made or refused.
 use Rattle.std.proofs.Common.{◌≡◌, inl, inr, ℕ, List, ◌+◌, Option, None, Some, refl, sym, ◌∙◌, ap, subst}
 use Rattle.std.specs.Prelude.{Contains}
 use Rattle.gc_enumerate.specs.Scanning.{child_keys}
@@ -17,6 +17,9 @@ use Rattle.gc_sweep.specs.Holding.{IsLive}
 use Rattle.actor_parts.specs.declared.part.Part.{Part}
 use Rattle.container_meta.specs.declared.place.Place.{Place}
 use Rattle.container_meta.specs.Places.{PlaceMap}
+use Rattle.std.specs.FinMap as finite
+use Rattle.container_meta.specs.Segments.{KindSegment}
+use Rattle.ingest_steps.specs.Claiming.{key_of_seg}
 use Rattle.gc_enumerate.specs.Live.{IsLiveAt}
 use Rattle.gc_sweep.specs.declared.sweep.Next.{Next}
 use Rattle.gc_sweep.specs.declared.sweep.Next.TheVariants.{Copy as CopyNext, End, Flush, Release}
@@ -26,14 +29,15 @@ use Rattle.refusals.specs.declared.refusal.Refusal.TheVariants as refusals
 use Rattle.store_model.specs.Collisions.{ByteSet, IsIn}
 use Rattle.store_model.specs.Files.{Files, Stored}
 use Rattle.store_model.specs.Image.{Store}
-use Rattle.store_model.specs.Slots.{Copy, IsPartialIndexOf}
+use Rattle.store_model.specs.Slots.{Copy, HasKey, IsPartialIndexOf}
 use Rattle.store_model.specs.Standing.{IsStoreOf}
 use Rattle.store_model.specs.Trees.{node_key}
 use Rattle.store_core.specs.Collecting.{at_moment}
 use Rattle.store_core.specs.Runs.{IsAt}
 use Rattle.store_core.specs.State.{CoreState}
-use Rattle.plain_machine.specs.Machine.{Collecting}
-use Rattle.script_runner.specs.Follows.{HoldsCollection, IsBelowLive, IsClosedAt, IsLiveAtStage, LivesByNeed, LivesJust}
+use Rattle.plain_machine.specs.Machine.{Collecting, WasNeeded}
+use Rattle.plain_machine.specs.Turns.{IsOfNoCollection}
+use Rattle.script_runner.specs.Follows.{FollowsCollection, HoldsCollection, IsBelowLive, IsClosedAt, IsLiveAtStage, LivesByNeed, LivesJust}
 use Rattle.script_runner.proofs.CollectNeeds.{needs_here}
 
 -- so it is of the collection that runs, if one does
@@ -56,6 +60,26 @@ lives_still old new store collection_is known_is content_is (Some k) lives = λ 
       closed = λ image told. was.closed image (sym content_is ∙ told);
       all = λ index image known told. was.all index image (sym known_is ∙ known) (sym content_is ∙ told);
     }
+
+-- the index has each key of which P holds
+pub lives_indexed : (P : List ℕ → Type 0) (store : Store) (c : CoreState) (collection : Collection) → LivesJust P store c collection → (index : PlaceMap) (image : List ℕ) → c.known ≡ Some index → c.disk.content ≡ Some image
+    → (key : List ℕ) → P key → HasKey index key
+lives_indexed P store c collection lives index image known told key needed = by_stage collection.stage (lives.all index image known told key needed)
+  where
+    by_stage : (stage : Stage) → IsLiveAtStage stage index store.held image collection.live key → HasKey index key
+    by_stage (Mark level slot) below = below.tree.is_held.count key below.there
+    by_stage (Filter slot) live = (live.0, live.1.0)
+    by_stage Select live = (live.0, live.1.0)
+    by_stage Sweep live = (live.0, live.1.0)
+
+-- so one that it lacks is none that was needed
+pub none_collects : (S : List ℕ → Type 0) (store : Store) (stored : Stored) (c : CoreState) (at : IsAt S store stored c) (image : List ℕ) → c.disk.content ≡ Some image → (collecting : Option Collecting) → FollowsCollection collecting c
+    → LivesIn store collecting c → (seg : KindSegment) → ((index : PlaceMap) → c.known ≡ Some index → finite.get index (key_of_seg seg) ≡ None) → IsOfNoCollection collecting seg
+none_collects S store stored c at image told None follows lives seg lacks = tt
+none_collects S store stored c at image told (Some k) follows lives seg lacks = λ needed.
+    let has = lives_indexed (WasNeeded k.since) store c follows.collection (lives follows.collection follows.runs) at.index image at.index_known told (key_of_seg seg) needed in
+    let wrong : None ≡ Some has.0 = sym (lacks at.index at.index_known) ∙ has.1 in
+    absurd cc
 
 -- ---- a step of the collection
 

@@ -45,7 +45,7 @@ use Rattle.store_core.specs.Runs.{IsAt}
 use Rattle.store_core.specs.State.{CoreState}
 use Rattle.store_core.proofs.OwnParts.{all_part}
 use Rattle.plain_machine.specs.Machine.{Finished, Idle, Machine, Part, Reading, WasNeeded, Writing, part_in}
-use Rattle.plain_machine.specs.Needs.{ActorsNeed, NeedAll, NeedsJust, keys_kept}
+use Rattle.plain_machine.specs.Needs.{ActorsNeed, PartsNeed, NeedsJust, keys_kept}
 use Rattle.script_runner.specs.Follows.{FollowsPart, HasKeptKey, IsBelowLive}
 use Rattle.script_runner.specs.Sessions.{Sessions, session_of}
 use Rattle.script_runner.proofs.CollectNeeds.{needs_closed, needs_here}
@@ -184,7 +184,7 @@ module _ (c : CoreState) where
   keys_of (p ∷ ps) session core each =
       keys_at c p (session 0) (core 0) (each 0 (first_there p ps)) ++ keys_of ps (others session) (others core) (λ i below. each (suc i) (next_there p ps i below))
 
-  just_of : (ps : List Part) (session : ℕ → Option SessionState) (core : ℕ → core_part.Part) (each : FollowAll ps session core) → NeedAll ps (keys_of ps session core each)
+  just_of : (ps : List Part) (session : ℕ → Option SessionState) (core : ℕ → core_part.Part) (each : FollowAll ps session core) → PartsNeed ps (keys_of ps session core each)
   just_of [] session core each = refl
   just_of (p ∷ ps) session core each = (
     keys_at c p (session 0) (core 0) (each 0 (first_there p ps)),

@@ -26,7 +26,7 @@ use Rattle.store_core.specs.State.{CoreState}
 use Rattle.store_core.proofs.KeepingSegments.{all_on}
 use Rattle.ingest_steps.specs.Claiming.{key_of_seg}
 use Rattle.plain_machine.specs.Machine.{Machine}
-use Rattle.plain_machine.specs.Turns.{IsOfNoActor, IsOfNoFile, LacksIn}
+use Rattle.plain_machine.specs.Turns.{IsOfNoActor, IsOfNoCollection, IsOfNoFile, LacksIn}
 use Rattle.script_runner.proofs.TurnHolds.{lacked_here}
 
 -- ---- what is so of each key of a tree is so of its leaves and its nodes
@@ -108,10 +108,10 @@ module _ (S : List ℕ → Type 0) (store : Store) (m : Machine) (c : CoreState)
       let here : HasKey at.index (key_of_seg seg) = subst (HasKey at.index) (sym (key_same piece) ∙ same) indexed in
       none_some (finite.get at.index (key_of_seg seg)) here.0 (none at.index at.index_known) here.1
 
-  -- no container has it; or where keys left the index no file, and no actor, needs it
-  pub lacks_by : (m.collected ≡ false → IndexesAll store c.known) → IsOfNoActor m seg → LacksIn m seg
-  lacks_by whole none_needs = by_begun m.collected refl
+  -- no container has it; or where keys left the index no file needs it, no actor, and no collection
+  pub lacks_by : (m.collected ≡ false → IndexesAll store c.known) → IsOfNoActor m seg → IsOfNoCollection m.collecting seg → LacksIn m seg
+  lacks_by whole no_actor no_collection = by_begun m.collected refl
     where
       by_begun : (begun : Bool) → m.collected ≡ begun → LacksIn m seg
       by_begun false is = inl (lacked_here S store m.stored c at m.content content_is (whole is) seg none)
-      by_begun true is = inr (is, no_file, none_needs)
+      by_begun true is = inr (is, no_file, no_actor, no_collection)

@@ -47,6 +47,7 @@ use Rattle.script_runner.specs.Sessions.{Sessions, with_session}
 use Rattle.session_turns.specs.Turns.{Asks}
 use Rattle.script_runner.proofs.OneStep.{Stepped}
 use Rattle.script_runner.proofs.NeededThen.{actors_need, keys_then, none_needs}
+use Rattle.script_runner.proofs.Lives.{lives_of, none_collects}
 use Rattle.script_runner.proofs.PieceKeys.{lacks_by}
 use Rattle.script_runner.proofs.PlainSteps.{collecting_after}
 use Rattle.session_turns.proofs.Told as stays
@@ -244,7 +245,8 @@ module _ (S : List ℕ → Type 0) (m : Machine) (sessions : Sessions) (actor : 
               none_needs S m sessions old at.parts_are at.running.parts begins.store m.stored begins.is_at m.content at.content_is (key_of_seg seg) claimed.looked_up,
             ),
           ) in
-          let lacks : LacksIn m seg = lacks_by S begins.store m old begins.is_at at.content_is seg claimed.looked_up begins.whole none in
+          let lacks : LacksIn m seg = lacks_by S begins.store m old begins.is_at at.content_is seg claimed.looked_up begins.whole none
+          (none_collects S begins.store m.stored old begins.is_at m.content at.content_is m.collecting begins.collects (lives_of m.stored.files begins.store m.collecting old begins.spares) seg claimed.looked_up) in
           turned answers.Absent t told_is history (asked.Claim seg) buf leads step made.stops refl made.made.effect.disk.faults_are made.counted_is Claim due refl
           (seg, (offered, lacks, same))
           pins

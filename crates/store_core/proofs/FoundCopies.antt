@@ -47,7 +47,7 @@ use Rattle.store_model.specs.Standing.{IsStoreOf}
 use Rattle.store_model.proofs.Copies.{some_same}
 use Rattle.store_state.specs.Tables.{Represents}
 use Rattle.store_core.specs.Collecting.{at_moment}
-use Rattle.store_core.specs.Finished.{Finds}
+use Rattle.store_core.specs.Finished.{FindsLive}
 use Rattle.store_core.specs.Runs.{IsAt, IsSafeIn}
 use Rattle.store_core.specs.State.{CoreState, IsUnderWayIn}
 use Rattle.store_core.proofs.SparedRest.{same_some}
@@ -212,12 +212,12 @@ module _ (among : ByteSet) (s : Store) (stored : Stored) (old new : CoreState) (
       ∙ filled_on index s.held image b.live b.snapshot source entry b.sweep copies.slot copies.kind copies.filling h partial read old.disk new.disk told plan is key has
 
   -- what is filled then was before, or was found
-  pub filled_found : (key : List ℕ) → has_key a.sweep.buffer key ≡ true → (has_key b.sweep.buffer key ≡ true) ⊎ Finds (IsIn among) old new key
+  pub filled_found : (key : List ℕ) → has_key a.sweep.buffer key ≡ true → (has_key b.sweep.buffer key ≡ true) ⊎ FindsLive (IsIn among) old new key
   filled_found key has =
       elim (takes_new src (Shows old.disk new.disk) index refl (drop entry h.entries) (planned copies.filling []) (planned plan.buffer plan.dead.items) is.passed read.kind_is is.takes key
       (ap (λ (c : Contents). has_key c key) (sym has_plan.buffer_is) ∙ has)) [
         | inl was ↦ inl (filled_was index s.held image b.live b.snapshot source entry b.sweep copies.slot copies.kind copies.filling h partial read old.disk new.disk told plan is key was)
-        | inr taken ↦ inr (let one : Finds (IsIn among) old new key = record {
+        | inr taken ↦ inr (let one : FindsLive (IsIn among) old new key = record {
           store = s;
           stored = stored;
           is_at = at;
@@ -282,7 +282,7 @@ module _ (among : ByteSet) (s : Store) (stored : Stored) (old new : CoreState) (
 
 -- a step of a sweep that copies next
 pub finds_filled : (among : ByteSet) (old new : CoreState) (b a : Collection) → old.collection ≡ Some b → new.collection ≡ Some a → StepsTo b.stage b.sweep.next (at_moment old b) (at_moment new a) → (key : List ℕ)
-    → Finds (IsIn among) old new key → has_key a.sweep.buffer key ≡ true
+    → FindsLive (IsIn among) old new key → has_key a.sweep.buffer key ≡ true
 finds_filled among old new b a ran runs steps key finds =
     let before_is : b ≡ finds.before = same_some b finds.before old.collection ran finds.runs in
     let after_is : a ≡ finds.after = same_some a finds.after new.collection runs finds.runs_then in

@@ -21,7 +21,7 @@ use Rattle.store_model.specs.Files.{Stored}
 use Rattle.store_model.specs.Image.{Store}
 use Rattle.store_model.specs.Steps.{StoreChange, FreeContainer}
 use Rattle.store_core.specs.Collecting.{at_moment}
-use Rattle.store_core.specs.Finished.{Finds, IsDid, IsDidOnRun, WasFound, copied_keys}
+use Rattle.store_core.specs.Finished.{FindsLive, IsDid, IsDidOnRun, WasFound, copied_keys}
 use Rattle.store_core.specs.Runs.{FileEvent, FileRun, IsAt}
 use Rattle.store_core.specs.State.{CoreState}
 use Rattle.store_core.proofs.CopiesOnce.{keys_then, listed_of}
@@ -34,8 +34,8 @@ use Rattle.store_core.proofs.KeyFates.{tells}
 -- What is filled after it was filled before, or this step found it; what it found is filled; what it writes was filled; and what was filled is
 -- written, or stays so.
 pub record Fills (S : List ℕ → Type 0) (f : FileEvent) (changes : List StoreChange) (b a : Collection) (old new : CoreState) : Type 0 where
-  pub filled : (key : List ℕ) → has_key a.sweep.buffer key ≡ true → (has_key b.sweep.buffer key ≡ true) ⊎ (IsDid phases.Copy f × Finds S old new key)
-  pub finds : (key : List ℕ) → IsDid phases.Copy f → Finds S old new key → has_key a.sweep.buffer key ≡ true
+  pub filled : (key : List ℕ) → has_key a.sweep.buffer key ≡ true → (has_key b.sweep.buffer key ≡ true) ⊎ (IsDid phases.Copy f × FindsLive S old new key)
+  pub finds : (key : List ℕ) → IsDid phases.Copy f → FindsLive S old new key → has_key a.sweep.buffer key ≡ true
   pub written : (key : List ℕ) → Contains (copied_keys changes) key → has_key b.sweep.buffer key ≡ true
   pub kept : (key : List ℕ) → has_key b.sweep.buffer key ≡ true → Contains (copied_keys changes) key ⊎ (has_key a.sweep.buffer key ≡ true)
 
@@ -141,7 +141,7 @@ module _ (C : Type 0) (state : C → CoreState) (S : List ℕ → Type 0) (f : F
   Written key = Contains (copied_keys (first ++ rest)) key ⊎ (has_key c.sweep.buffer key ≡ true)
 
   -- by the first step, or by a later one
-  first_found : (key : List ℕ) → IsDid phases.Copy f → Finds S (state mid) (state run.0) key → All key
+  first_found : (key : List ℕ) → IsDid phases.Copy f → FindsLive S (state mid) (state run.0) key → All key
   first_found key did finds = record { here = mid; next = run.0; on_run = inl (did, (refl, refl)); finds = finds }
 
   later_found : (key : List ℕ) → Rest key → All key
@@ -170,9 +170,9 @@ module _ (C : Type 0) (state : C → CoreState) (S : List ℕ → Type 0) (f : F
     | inr filled ↦ inr filled
   ]
 
-  by_step : (key : List ℕ) (here next : C) → Finds S (state here) (state next) key → (IsDid phases.Copy f × ((here ≡ mid) × (next ≡ run.0))) ⊎ IsDidOnRun C state S fs run.0 new run.1.1 phases.Copy here next → Written key
+  by_step : (key : List ℕ) (here next : C) → FindsLive S (state here) (state next) key → (IsDid phases.Copy f × ((here ≡ mid) × (next ≡ run.0))) ⊎ IsDidOnRun C state S fs run.0 new run.1.1 phases.Copy here next → Written key
   by_step key here next finds (inl (did, (here_is, next_is))) =
-      in_rest key (inl (now.finds key did (subst (λ (x : C). Finds S (state x) (state run.0) key) here_is (subst (λ (x : C). Finds S (state here) (state x) key) next_is finds))))
+      in_rest key (inl (now.finds key did (subst (λ (x : C). FindsLive S (state x) (state run.0) key) here_is (subst (λ (x : C). FindsLive S (state here) (state x) key) next_is finds))))
   by_step key here next finds (inr later) = in_rest key (inr (let was : Rest key = record { here = here; next = next; on_run = later; finds = finds } in was))
 
   copied_then : (key : List ℕ) → (has_key b.sweep.buffer key ≡ true) ⊎ All key → Written key

@@ -106,7 +106,7 @@ pub record WereCopies (C : Type 0) (state : C → CoreState) (S : List ℕ → T
 -- A core at a store whose collection copies next, and the core after that step: of the source that was next the step went over the entries
 -- from the one where it stood, up to the one that it stopped before, or else to the last. The key is that of one of these; the index has
 -- this entry as the key's copy; and the key is live.
-pub record Finds (S : List ℕ → Type 0) (c d : CoreState) (key : List ℕ) : Type 0 where
+pub record FindsLive (S : List ℕ → Type 0) (c d : CoreState) (key : List ℕ) : Type 0 where
   pub store : Store
   pub stored : Stored
   pub is_at : IsAt S store stored c
@@ -137,7 +137,7 @@ pub record WasFound (C : Type 0) (state : C → CoreState) (S : List ℕ → Typ
   pub here : C
   pub next : C
   pub on_run : IsDidOnRun C state S steps old new run phases.Copy here next
-  pub finds : Finds S (state here) (state next) key
+  pub finds : FindsLive S (state here) (state next) key
 
 -- P holds of the kind and the segments of a container, if that is one of copies that the change writes
 abbrev pub IsOfCopies : (Kind → List Segment → Type 0) → StoreChange → Type 0

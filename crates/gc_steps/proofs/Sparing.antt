@@ -35,14 +35,13 @@ use Rattle.refusals.specs.declared.refusal.Refusal.TheVariants.{Memory}
 use Rattle.store_model.specs.Files.{Files}
 use Rattle.store_model.specs.Image.{IsValidFor, Store}
 use Rattle.store_model.specs.Indexing.{entry_key, with_entries}
-use Rattle.store_model.specs.Reserve.{HoldsNone, IsReachable, IsSpare}
-use Rattle.store_model.specs.Slots.{HasKey, Copy, HasFree, HoldSlots, HoldsSlot, IsPartialIndexOf, first_free, last_id, place_of, with_slot, without_slot}
+use Rattle.store_model.specs.Reserve.{HoldsNone, IsSpare}
+use Rattle.store_model.specs.Slots.{Copy, HasFree, HasKey, HoldSlots, HoldsSlot, IsPartialIndexOf, first_free, last_id, place_of, with_slot, without_slot}
 use Rattle.store_model.specs.Standing.{IsStoreOf}
 use Rattle.store_model.specs.Trees.{node_key}
 use Rattle.store_model.proofs.Copies.{some_same}
 use Rattle.store_model.proofs.Free.{as_many}
 use Rattle.store_model.proofs.Lookups.{finds}
-use Rattle.store_state.specs.Invariant.{IndexesFiles}
 use Rattle.store_state.specs.Tables.{Represents, RepresentsSlots}
 use Rattle.store_state.specs.declared.slot_table.SlotTable.{SlotTable}
 use Rattle.store_state.specs.declared.tables.Tables.{Tables}

@@ -1,5 +1,5 @@
 -- What the next step of a collection does, by its stage (docs/MODEL.md, 'Collection').
-use Rattle.std.specs.Prelude.{◌≡◌, ℕ, ◌+◌, ◌≤◌, length, Option, Some}
+use Rattle.std.specs.Prelude.{◌≡◌, ℕ, ◌+◌, ◌≤◌, length, Option, Some, Result, IfOk, IfErr}
 use Rattle.base_model.specs.Known.{Known}
 use Rattle.container_meta.specs.Places.{PlaceMap}
 use Rattle.copy_forward.specs.Entries.{MapStays}
@@ -159,6 +159,11 @@ pub record Refuses (old new : Moment) (refusal : Refusal) : Type 0 where
   pub kept : Keeps old.collection.stage old.collection.sweep.next old new refusal
   pub tables_kept : new.tables ≡ old.tables
   pub runs_still : new.known ≡ old.known → Runs old.disk.size old.known old.tables → Runs new.disk.size new.known new.tables
+
+-- How a step ended: it was made, or refused, and what that leaves.
+pub record Ends (result : Result StepDone Refusal) (old new : Moment) : Type 0 where
+  pub made : IfOk result (Makes old new)
+  pub refused : IfErr result (Refuses old new)
 
 -- what it does to the disk, made or refused
 pub record GoesBy (c : Collection) (t : Tables) (ending : Ending) (old new : DiskView) : Type 0 where

@@ -1,11 +1,11 @@
 //! The next step of a collection.
-ghost use Rattle.std.specs.Prelude.{◌≡◌, ◌≤◌, ℕ, length, IfOk, IfErr};
+ghost use Rattle.std.specs.Prelude.{◌≡◌, ◌≤◌, ℕ, length};
 ghost use Rattle.dd_disk.specs.Ending.{ending};
 ghost use Rattle.disk_format.specs.declared.numbers.TheConstants.{MOST_SEGMENT};
 ghost use Rattle.store_state.specs.Refused.{blames};
 ghost use Rattle.store_state.specs.Tables.{Runs};
 ghost use Rattle.gc_sweep.specs.declared.sweep.Next.TheVariants.{Release as ReleaseNext};
-ghost use Rattle.gc_steps.specs.Stepping.{GoesBy, Makes, Refuses, moment};
+ghost use Rattle.gc_steps.specs.Stepping.{Ends, GoesBy, moment};
 ghost use Rattle.gc_steps.specs.UnderWay.{IsUnderWay};
 ghost use Rattle.gc_steps.specs.declared.collection.Stage.TheVariants.{Sweep as SweepStage};
 
@@ -36,10 +36,8 @@ pub fn step<D: Disk, X: Index>(
     requires runs { (known : _) × Runs (D.view disk.old).size known tables.old }
     requires under_way { IsUnderWay tables.old.held collection.old }
     requires room { MOST_SEGMENT ≤ length buf.old }
-    ensures made { IfOk result (Makes (moment tables.old (X.places index.old (D.view disk.old).content) (D.view disk.old) collection.old)
-        (moment tables.new (X.places index.new (D.view disk.new).content) (D.view disk.new) collection.new)) }
-    ensures refused { IfErr result (Refuses (moment tables.old (X.places index.old (D.view disk.old).content) (D.view disk.old) collection.old)
-        (moment tables.new (X.places index.new (D.view disk.new).content) (D.view disk.new) collection.new)) }
+    ensures step { Ends result (moment tables.old (X.places index.old (D.view disk.old).content) (D.view disk.old) collection.old)
+        (moment tables.new (X.places index.new (D.view disk.new).content) (D.view disk.new) collection.new) }
     ensures disk { GoesBy collection.old tables.old (ending blames result) (D.view disk.old) (D.view disk.new) }
     ensures under_way { IsUnderWay tables.new.held collection.new }
     // The index isn't asked where a container is given back.

@@ -1,11 +1,11 @@
 //! A step of the sweep, by what comes next in it.
-ghost use Rattle.std.specs.Prelude.{◌≡◌, ◌≤◌, ℕ, length, IfOk, IfErr};
+ghost use Rattle.std.specs.Prelude.{◌≡◌, ◌≤◌, ℕ, length};
 ghost use Rattle.dd_disk.specs.Ending.{ending};
 ghost use Rattle.disk_format.specs.declared.numbers.TheConstants.{MOST_SEGMENT};
 ghost use Rattle.store_state.specs.Refused.{blames};
 ghost use Rattle.store_state.specs.Tables.{Runs};
 ghost use Rattle.gc_sweep.specs.declared.sweep.Next.TheVariants.{Copy as CopyNext, Flush as FlushNext, Release as ReleaseNext};
-ghost use Rattle.gc_steps.specs.Stepping.{GoesBy, Makes, Refuses, moment};
+ghost use Rattle.gc_steps.specs.Stepping.{Ends, GoesBy, moment};
 ghost use Rattle.gc_steps.specs.UnderWay.{IsUnderWay};
 ghost use Rattle.gc_steps.specs.declared.collection.Stage.TheVariants.{Sweep as SweepStage};
 
@@ -35,10 +35,8 @@ fn copy_next<D: Disk, X: Index>(
     requires stage { collection.old.stage ≡ SweepStage }
     requires next { collection.old.sweep.next ≡ CopyNext source entry }
     requires room { MOST_SEGMENT ≤ length buf.old }
-    ensures made { IfOk result (Makes (moment tables.now (X.places index.old (D.view disk.old).content) (D.view disk.old) collection.old)
-        (moment tables.now (X.places index.new (D.view disk.new).content) (D.view disk.new) collection.new)) }
-    ensures refused { IfErr result (Refuses (moment tables.now (X.places index.old (D.view disk.old).content) (D.view disk.old) collection.old)
-        (moment tables.now (X.places index.new (D.view disk.new).content) (D.view disk.new) collection.new)) }
+    ensures step { Ends result (moment tables.now (X.places index.old (D.view disk.old).content) (D.view disk.old) collection.old)
+        (moment tables.now (X.places index.new (D.view disk.new).content) (D.view disk.new) collection.new) }
     ensures disk { GoesBy collection.old tables.now (ending blames result) (D.view disk.old) (D.view disk.new) }
     ensures under_way { IsUnderWay tables.now.held collection.new }
     ensures served { X.serves index.new (D.view disk.new).size }
@@ -73,10 +71,8 @@ fn flush_next<D: Disk, X: Index>(
     requires under_way { IsUnderWay tables.old.held collection.old }
     requires stage { collection.old.stage ≡ SweepStage }
     requires next { collection.old.sweep.next ≡ FlushNext source entry }
-    ensures made { IfOk result (Makes (moment tables.old (X.places index.old (D.view disk.old).content) (D.view disk.old) collection.old)
-        (moment tables.new (X.places index.new (D.view disk.new).content) (D.view disk.new) collection.new)) }
-    ensures refused { IfErr result (Refuses (moment tables.old (X.places index.old (D.view disk.old).content) (D.view disk.old) collection.old)
-        (moment tables.new (X.places index.new (D.view disk.new).content) (D.view disk.new) collection.new)) }
+    ensures step { Ends result (moment tables.old (X.places index.old (D.view disk.old).content) (D.view disk.old) collection.old)
+        (moment tables.new (X.places index.new (D.view disk.new).content) (D.view disk.new) collection.new) }
     ensures disk { GoesBy collection.old tables.old (ending blames result) (D.view disk.old) (D.view disk.new) }
     ensures under_way { IsUnderWay tables.new.held collection.new }
     ensures served { X.serves index.new (D.view disk.new).size }
@@ -107,10 +103,8 @@ fn release_next<D: Disk, X: Index>(
     requires under_way { IsUnderWay tables.old.held collection.old }
     requires stage { collection.old.stage ≡ SweepStage }
     requires next { collection.old.sweep.next ≡ ReleaseNext source entry }
-    ensures made { IfOk result (Makes (moment tables.old (X.places index.now (D.view disk.old).content) (D.view disk.old) collection.old)
-        (moment tables.new (X.places index.now (D.view disk.new).content) (D.view disk.new) collection.new)) }
-    ensures refused { IfErr result (Refuses (moment tables.old (X.places index.now (D.view disk.old).content) (D.view disk.old) collection.old)
-        (moment tables.new (X.places index.now (D.view disk.new).content) (D.view disk.new) collection.new)) }
+    ensures step { Ends result (moment tables.old (X.places index.now (D.view disk.old).content) (D.view disk.old) collection.old)
+        (moment tables.new (X.places index.now (D.view disk.new).content) (D.view disk.new) collection.new) }
     ensures disk { GoesBy collection.old tables.old (ending blames result) (D.view disk.old) (D.view disk.new) }
     ensures under_way { IsUnderWay tables.new.held collection.new }
     ensures served { X.serves index.now (D.view disk.new).size }
@@ -133,10 +127,8 @@ pub(crate) fn sweep_on<D: Disk, X: Index>(
     requires under_way { IsUnderWay tables.old.held collection.old }
     requires stage { collection.old.stage ≡ SweepStage }
     requires room { MOST_SEGMENT ≤ length buf.old }
-    ensures made { IfOk result (Makes (moment tables.old (X.places index.old (D.view disk.old).content) (D.view disk.old) collection.old)
-        (moment tables.new (X.places index.new (D.view disk.new).content) (D.view disk.new) collection.new)) }
-    ensures refused { IfErr result (Refuses (moment tables.old (X.places index.old (D.view disk.old).content) (D.view disk.old) collection.old)
-        (moment tables.new (X.places index.new (D.view disk.new).content) (D.view disk.new) collection.new)) }
+    ensures step { Ends result (moment tables.old (X.places index.old (D.view disk.old).content) (D.view disk.old) collection.old)
+        (moment tables.new (X.places index.new (D.view disk.new).content) (D.view disk.new) collection.new) }
     ensures disk { GoesBy collection.old tables.old (ending blames result) (D.view disk.old) (D.view disk.new) }
     ensures under_way { IsUnderWay tables.new.held collection.new }
     ensures index { (source entry : ℕ) → collection.old.sweep.next ≡ ReleaseNext source entry → index.new ≡ index.old }

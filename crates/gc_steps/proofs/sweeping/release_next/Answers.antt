@@ -7,8 +7,8 @@ use Rattle.gc_steps.proofs.SweepSteps.{release_made, swept}
 use Rattle.gc_steps.proofs.UnderWay.{at_stage, runs_alone, swept_on}
 use Rattle.gc_steps.proofs.sweeping.release_next.Goals as goal
 
-pub returns-clause-made : goal.returns-clause-made
-returns-clause-made g c =
+pub returns-clause-step : goal.returns-clause-step
+returns-clause-step g c =
     let view = g.D.Disk.view in
     let did = c.in_ok-release_source.ensures in
     let index = c.args.index.now in
@@ -17,10 +17,13 @@ returns-clause-made g c =
     let new = view c.release_source.new.disk in
     let now = c.args.collection.now in
     let sweeping = at_stage c.args.tables.now.held now Sweep c.requires.under_way c.requires.stage in
-    release_made c.args.tables.now c.release_source.new.tables (places old.content) (places new.content) old new now c.release_source.new.sweep c.args.source c.args.entry c.requires.stage c.requires.under_way c.requires.next
-    did.disk.later.size_is did.tables did.sweep did.durable
-    (λ given content. map_kept places (g.X.Index.owned_from index) (g.met.X.Index.places_stay index) (g.X.Index.serves index) (g.met.X.Index.owns_no_slot index) c.requires.runs.0 c.args.tables.now (slot_in_turn now.sweep)
-    old new c.requires.runs.1 (slot_within c.args.source c.args.entry now.snapshot c.args.tables.now now.sweep c.requires.next sweeping) c.requires.serves given content (did.frame.content refl given content))
+    record {
+      made = release_made c.args.tables.now c.release_source.new.tables (places old.content) (places new.content) old new now c.release_source.new.sweep c.args.source c.args.entry c.requires.stage c.requires.under_way c.requires.next
+          did.disk.later.size_is did.tables did.sweep did.durable
+          (λ given content. map_kept places (g.X.Index.owned_from index) (g.met.X.Index.places_stay index) (g.X.Index.serves index) (g.met.X.Index.owns_no_slot index) c.requires.runs.0 c.args.tables.now (slot_in_turn now.sweep)
+          old new c.requires.runs.1 (slot_within c.args.source c.args.entry now.snapshot c.args.tables.now now.sweep c.requires.next sweeping) c.requires.serves given content (did.frame.content refl given content));
+      refused = tt;
+    }
 
 pub returns-clause-under_way : goal.returns-clause-under_way
 returns-clause-under_way g c =

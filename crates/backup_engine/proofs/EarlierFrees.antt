@@ -1,9 +1,9 @@
 -- Changes that give back only containers of before, one after the other.
-use Rattle.std.proofs.Common.{◌≤◌, ℕ, List, [], ◌∷◌, ◌++◌, sym, subst, arith}
+use Rattle.std.proofs.Common.{◌≤◌, ℕ, List, [], ◌∷◌, ◌++◌, subst, arith}
 use Rattle.store_core.specs.Runs.{ChangesTo}
 use Rattle.store_model.specs.Freeing.{with_freed}
 use Rattle.store_model.specs.Image.{Store}
-use Rattle.store_model.specs.Steps.{StoreChange, SealContainer, ChangeName, FlushContainer, FreeContainer, changed, with_change, with_sealed}
+use Rattle.store_model.specs.Steps.{StoreChange, SealContainer, ChangeName, FlushContainer, FreeContainer, with_change, with_sealed}
 use Rattle.backup_engine.specs.Collected.{FreesUpTo}
 
 -- and others after them

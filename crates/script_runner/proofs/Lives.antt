@@ -7,7 +7,7 @@ use Rattle.gc_steps.specs.declared.collection.Stage.{Stage}
 use Rattle.gc_steps.specs.declared.collection.Stage.TheVariants.{Filter, Mark, Select, Sweep}
 use Rattle.gc_steps.specs.LiveTrees.{HoldsNode}
 use Rattle.gc_steps.specs.Sparing.{IsWithin}
-use Rattle.gc_steps.specs.Stages.{filter_at, filter_from, first_slot, is_old_slot}
+use Rattle.gc_steps.specs.Stages.{filter_at, first_slot, is_old_slot}
 use Rattle.gc_steps.specs.Stepping.{Keeps, StepsTo, moment}
 use Rattle.gc_steps.specs.Safety.{IsSafe, IsSafeAt}
 use Rattle.gc_steps.specs.SweepIsSafe.{SweepIsSafe}

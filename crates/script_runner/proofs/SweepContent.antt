@@ -13,7 +13,7 @@ use Rattle.gc_steps.specs.declared.collection.Collection.{Collection}
 use Rattle.gc_steps.specs.declared.collection.Stage.{Stage}
 use Rattle.gc_steps.specs.declared.collection.Stage.TheVariants.{Sweep}
 use Rattle.gc_steps.specs.Safety.{IsSafeAt}
-use Rattle.gc_steps.specs.Sparing.{CopiesAlone, IsWithin, Spares}
+use Rattle.gc_steps.specs.Sparing.{CopiesAlone, Spares}
 use Rattle.gc_steps.specs.Stepping.{Touches}
 use Rattle.gc_steps.specs.SweepIsSafe.{HoldsAt, SweepIsSafe}
 use Rattle.gc_steps.specs.UnderWay.{HasChosen}

@@ -1,6 +1,5 @@
--- What a collection has to write: keys whose newest copies are in containers that it has chosen, or in some that came since the snapshot; one
--- that runs alone just keys that files need, from containers that it has chosen.
-use Rattle.std.proofs.Common.{◌≡◌, ◌≢◌, ◌⊎◌, inl, inr, ◌+◌, ◌≤◌, ℕ, true, List, [], ◌∷◌, map, Option, Some, None, refl, sym, ◌∙◌, ap, subst, arith}
+-- What a collection that runs alone has to write: just keys that files need, whose newest copies are in containers that it has chosen.
+use Rattle.std.proofs.Common.{◌≡◌, ◌≢◌, ◌⊎◌, ◌+◌, ℕ, true, List, [], ◌∷◌, map, Option, Some, None, refl, sym, ◌∙◌, ap, subst, arith}
 use Rattle.std.specs.Prelude.{Contains, slice_get}
 use Rattle.std.specs.FinMap as finite
 use Rattle.std.specs.List.{AllByRecursion}
@@ -17,9 +16,9 @@ use Rattle.gc_steps.specs.Taking.{IsSourceId}
 use Rattle.gc_steps.proofs.CopiedOn.{keys_so, live_so}
 use Rattle.gc_steps.proofs.SparingStages.{AreAlone, alone_source}
 use Rattle.gc_sweep.specs.declared.sweep.Sweep.{Sweep}
-use Rattle.gc_sweep.specs.Holding.{HoldsSweep, IsHalfCopied, IsLive, IsOrigin}
+use Rattle.gc_sweep.specs.Holding.{HoldsSweep, IsHalfCopied, IsLive}
 use Rattle.gc_sweep.specs.UnderWay.{IsSweeping}
-use Rattle.gc_sweep.proofs.InSlots.{copy_of, one_header}
+use Rattle.gc_sweep.proofs.InSlots.{copy_of}
 use Rattle.gc_sweep.proofs.KeyLists.{listed, listed_left, listed_one, listed_right, listed_so}
 use Rattle.store_model.specs.Slots.{Copy, IsPartialIndexOf, newest}
 use Rattle.store_model.proofs.Copies.{LiesIn, lies}

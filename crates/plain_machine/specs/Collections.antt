@@ -111,14 +111,19 @@ RecordsBy phase alone Was snapshot m recorded next = next ≡ recorded
 abbrev pub IsOrWasNeeded : Files → (Was : List ℕ → Type 0) → List ℕ → Type 0
 IsOrWasNeeded files Was key = IsReachable files key ⊎ Was key
 
--- What is copied and isn't written yet, after a step: after one that copies what was so before it, and keys that were needed as the
--- collection began, or since (Was), and whose newest copies are in containers whose ids are chosen; after a flush nothing.
+-- What is copied and not yet written, after a step. A step that copies keeps what was there, and adds only keys that were needed as the
+-- collection began, or since (Was), and whose newest copies are in containers whose ids are chosen. A flush leaves nothing.
 abbrev pub FillsBy : Phase → (Was : List ℕ → Type 0) → (Chosen : ℕ → Type 0) → Machine → (filled now : List (List ℕ)) → Type 0
 FillsBy Copy Was Chosen m filled now =
     ((key : List ℕ) → Contains filled key → Contains now key)
     × ((key : List ℕ) → Contains now key → Contains filled key ⊎ OfStore m.content (λ store. IsToCopy Was Chosen store.held key))
 FillsBy Flush Was Chosen m filled now = now ≡ []
 FillsBy phase Was Chosen m filled now = now ≡ filled
+
+-- how far it is tells whether something is to be written
+abbrev pub TellsFilled : Progress → List (List ℕ) → Type 0
+TellsFilled (Sweeping ready some) filled = some ≡ nat_lt 0 (length filled)
+TellsFilled progress filled = Unit {0}
 
 -- What a step changes: a flush adds a container of so many copies, of the keys that are filled, none of them a key that the collection wrote
 -- before, and where it runs alone just of keys that files need, with newest copies in those whose ids are chosen. A release gives a
@@ -225,6 +230,7 @@ pub record StepsCollection (phase : Phase) (m n : Machine) : Type 0 where
   pub copies : ℕ
   pub filled_now : List (List ℕ)
   pub fills : FillsBy phase (WasNeeded since) (IsSelectedId snapshot percent recorded) m filled filled_now
+  pub tells : TellsFilled next filled_now
   pub written_now : List (List ℕ)
   pub changes : ChangesBy phase alone (WasNeeded since) (IsSelectedId snapshot percent recorded) snapshot copies filled written written_now m
       n.content

@@ -127,8 +127,8 @@ pub record IsToCopy (P : List ℕ → Type 0) (Chosen : ℕ → Type 0) (held : 
   pub chosen : Chosen copy.id
 
 -- Copies were written: a container of so many segments, each of which was held, stands in the free slot of least number, under the id after
--- the last one, and all else is as it was. Their keys are those that are filled, and none that the collection wrote before, to which they
--- are added then. So no key is copied twice. Where a collection runs alone the key of each was to be copied; and then it is to be copied no
+-- the last one, and all else is as it was. Their keys are just those that were filled. The collection wrote none of them before, and they are
+-- added to what it wrote: so no key is copied twice. Where a collection runs alone the key of each was to be copied; and then it is to be copied no
 -- more, since its newest copy has an id above all that are chosen.
 pub record AddsCopies (alone : Bool) (P : List ℕ → Type 0) (Chosen : ℕ → Type 0) (last count : ℕ) (filled_keys written later : List (List ℕ))
     (old new : List ℕ) : Type 0 where

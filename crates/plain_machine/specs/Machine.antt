@@ -108,7 +108,7 @@ pub record Machine : Type 0 where
   pub last_id : ℕ
   -- the collection that runs, if one does
   pub collecting : Option Collecting
-  -- keys left the index since the opening: what no file and no actor needs may be forgotten
+  -- keys left the index since the opening: what no file, no actor and no collection that runs needs may be forgotten
   pub collected : Bool
 
 abbrev pub part_in : Machine → ℕ → Part

@@ -55,7 +55,7 @@ use Rattle.script_runner.proofs.CollectParts.{gc_event}
 use Rattle.script_runner.proofs.CollectProgress.{Progresses, ReadsSame, progresses}
 use Rattle.script_runner.proofs.CollectRecords.{records_on}
 use Rattle.script_runner.proofs.CollectStep.{HasCollecting, Stepped, image, last_after, leads, low_after, runs_then, same_index, same_so, same_some, some_collecting, steps, told, touched, under}
-use Rattle.script_runner.proofs.Filled.{fills_made, filled_of, has_filled}
+use Rattle.script_runner.proofs.Filled.{fills_made, filled_of, has_filled, tells_filled}
 use Rattle.script_runner.proofs.Lives.{IsSameIn, lives_made}
 use Rattle.script_runner.proofs.SweepContent.{chosen_so, copies_added, filled_to_copy, freed}
 use Rattle.script_runner.proofs.Sweeping.{IsFewIn, few_after, few_by, left_by, left_on}
@@ -488,6 +488,7 @@ module _ (C : Type 0) (state : C → CoreState) (among : ByteSet) (apart : HasNo
       filled = has.collecting.filled;
       filled_now = filled_now;
       fills = fills;
+      tells = tells_filled leads_on.next goes.after leads_on.is_at;
       written = has.collecting.written;
       written_now = written_now;
       recorded = has.collecting.recorded;

@@ -1,6 +1,7 @@
 -- What a collection has copied that isn't written yet: a step that copies adds keys that are to be copied then, and a flush writes them all.
-use Rattle.std.proofs.Common.{◌≡◌, ◌≢◌, ◌∷◌, inl, inr, ◌+◌, ◌<◌, ℕ, List, [], length, get_or, map, Option, Some, None, refl, sym, ◌∙◌, ap, subst, arith}
+use Rattle.std.proofs.Common.{◌≡◌, ◌≢◌, ◌∷◌, inl, inr, ◌+◌, ◌<◌, ℕ, List, [], length, get_or, map, Option, Some, None, refl, sym, ◌∙◌, ap, subst, arith, nat_lt, true, false}
 use Rattle.std.specs.Prelude.{Contains, slice_get}
+use Rattle.std.proofs.lemmas.List.{length-map}
 use Rattle.std.specs.FinMap as finite
 use Rattle.std.proofs.lemmas.List.Elements.{Contains-get_or}
 use Rattle.std.proofs.lemmas.Option.{slice_get-get_or}
@@ -34,10 +35,10 @@ use Rattle.store_core.specs.State.{CoreState}
 use Rattle.store_core.proofs.ByNeed.{of_listed}
 use Rattle.store_core.proofs.CopiesOnce.{listed_of}
 use Rattle.store_core.proofs.FoundCopies.{filled_found, filled_still}
-use Rattle.plain_machine.specs.Collections.{FillsBy}
+use Rattle.plain_machine.specs.Collections.{FillsBy, TellsFilled}
 use Rattle.plain_machine.specs.Content.{IsToCopy, OfStore}
-use Rattle.plain_machine.specs.Machine.{Machine}
-use Rattle.script_runner.specs.Follows.{HasFilled}
+use Rattle.plain_machine.specs.Machine.{Machine, Marking, Progress, Recording, Sweeping}
+use Rattle.script_runner.specs.Follows.{HasFilled, IsAtProgress, IsAtStage}
 use Rattle.script_runner.proofs.CollectStep.{same_some}
 use Rattle.script_runner.proofs.TurnHolds.{right_here}
 
@@ -66,6 +67,16 @@ none_early Sweep s early = absurd early
 
 pub no_keys : (buffer : Contents) → buffer.segments ≡ [] → keys_of buffer ≡ []
 no_keys buffer none = ap (map (segment_key buffer.kind)) none
+
+-- whether something is filled the machine's progress tells
+pub tells_filled : (p : Progress) (c : Collection) → IsAtProgress p c → TellsFilled p (filled_of c.stage c.sweep)
+tells_filled p c = by_stage p c.stage
+  where
+    by_stage : (q : Progress) (stage : Stage) → IsAtStage q stage c.sweep.next c.sweep.buffer → TellsFilled q (filled_of stage c.sweep)
+    by_stage Marking stage is = tt
+    by_stage Recording stage is = tt
+    by_stage (Sweeping ready some) Sweep is = is.1 ∙ ap (nat_lt 0) (sym (length-map c.sweep.buffer.segments))
+    by_stage (Sweeping ready some) stage is = absurd is
 
 -- some key is filled
 pub first_key : (buffer : Contents) (filled : List (List ℕ)) → filled ≡ keys_of buffer → buffer.segments ≢ [] → (key : List ℕ) × Contains filled key

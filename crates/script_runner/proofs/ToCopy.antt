@@ -40,7 +40,7 @@ pub first_of : (Q : List ℕ → Type 0) (kind : Kind) (xs : List Segment) → x
 first_of Q kind [] some all = absurd (some refl)
 first_of Q kind (x ∷ xs) some all = (segment_key kind x, all.0)
 
--- ---- what is filled has its newest copies in sources, or in containers that came since the snapshot
+-- ---- what is filled is live, and has a newest copy
 
 module _ (Chosen : ℕ → Type 0) (index : PlaceMap) (held : List (Option HeaderValue)) (image : List ℕ) (t : SlotTable) (live : LiveKeys) (snapshot : ℕ) (s : Sweep) (slots : RepresentsSlots held t)
     (partial : IsPartialIndexOf held index) (under : IsSweeping t snapshot s) (holds : HoldsSweep index held image live snapshot s) (chosen : (id : ℕ) → Contains s.sources.items id → Chosen id) where

@@ -42,8 +42,8 @@ pub fn a_core_collects_the_rest<C: HasState>()
 /// Over data without collisions, of a core that began at a store: a collection that ended has given back each container that it selected
 /// and no other, whatever steps were made between its own. What it recorded of each container was so as it recorded it. It has copied only
 /// live segments, as they were held, of keys that had their newest copies, as it began, in containers that it selected, each once: just
-/// those that its copying steps found live, with the index's copy in such a container; and so each such key that is live at the end, but
-/// for those that others sealed meanwhile. Where one ran alone, while no actor held a key, it has given back just the containers of which
+/// those that its copying steps found live, with the index's copy in such a container; and each such key that is live at the end, but for
+/// those that others sealed meanwhile. Where one ran alone, while no actor held a key, it has given back just the containers of which
 /// less than the percentage was needed, or nothing, and has copied just the needed keys that had their newest copies in these; at the
 /// percentage 100 the containers hold just what the files need, each key once. The function does nothing.
 pub fn a_core_collects_what_it_selected<C: HasState>()

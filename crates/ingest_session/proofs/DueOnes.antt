@@ -1,5 +1,5 @@
 -- What was given and answered fixes what is due.
-use Rattle.std.proofs.Common.{◌≡◌, inl, inr, ◌≤◌, ◌+◌, ◌∙◌, ℕ, Bool, true, false, List, [], ◌∷◌, ◌++◌, Option, Some, None, length, map, refl, sym, ap, subst, arith, append-nil, append_assoc, length-append}
+use Rattle.std.proofs.Common.{◌≡◌, inl, inr, ◌≤◌, ◌+◌, ◌∙◌, ℕ, Bool, true, false, List, [], ◌∷◌, ◌++◌, Option, Some, None, length, map, refl, sym, ap, subst, arith, append-nil, length-append}
 use Rattle.std.proofs.lemmas.Bool.{cases_lt}
 use Rattle.std.proofs.lemmas.List.{nil_from_length}
 use Rattle.std.specs.Option.{option_to_list}
@@ -17,14 +17,15 @@ use Rattle.ingest_session.specs.State.{SessionState, IsWhole, is_last, rest_of}
 use Rattle.ingest_session.specs.Stream.{IsCutInto, IsUncut}
 use Rattle.ingest_session.specs.Told.{IsSettled}
 use Rattle.ingest_session.proofs.Answering.{known}
+use Rattle.ingest_session.proofs.BothReplayed.{BothReplay, both_replay}
 use Rattle.ingest_session.proofs.CutOnce.{cut_once}
 use Rattle.ingest_session.proofs.Ends.{nodes_at_end, none_begun}
 use Rattle.ingest_session.proofs.Following.{taken_of}
 use Rattle.ingest_session.proofs.Growing.{nodes_go_on}
-use Rattle.ingest_session.proofs.InTurn.{all_next, none_left, turn_next}
+use Rattle.ingest_session.proofs.InTurn.{all_next, none_left}
 use Rattle.ingest_session.proofs.Members.{data_append, nodes_append, parts_count}
-use Rattle.ingest_session.proofs.Next.{AreNext, finished_over, next_append, one_begins}
-use Rattle.ingest_session.proofs.Replayed.{Replays, none_turn, replays, start}
+use Rattle.ingest_session.proofs.Next.{AreNext, finished_over, one_begins}
+use Rattle.ingest_session.proofs.Replayed.{none_turn, start}
 use Rattle.ingest_session.proofs.Replaying.{Core, Left, core_of, like_at, replay, session_at, skip, skip_none}
 use Rattle.ingest_session.proofs.Waiting.{session_of}
 
@@ -122,68 +123,51 @@ module _ (s t : SessionState) (h g : History) (has : HasHistory s h) (gas : HasH
 
 -- ---- the same answers too
 
-next_pieces : (s : SessionState) (h : History) → HasHistory s h → AreNext (h.given ++ []) [] (h.placed ++ turn s)
-next_pieces s h has =
-    next_append (h.given ++ []) [] h.placed (turn s) (all_next s h has [] (λ after. refl)) (turn_next s h has [] (λ after. refl))
-
 -- the one has no fewer pieces that are in their place or have their turn
 module _ (s t : SessionState) (h g : History) (has : HasHistory s h) (gas : HasHistory t g) (given : h.given ≡ g.given) (ended : s.ended ≡ t.ended)
     (answers : h.answers ≡ g.answers) (settled : IsSettled s) (other : IsSettled t)
     (longer : length (g.placed ++ turn t) ≤ length (h.placed ++ turn s)) where
-  begins : (rest : List Piece) × (h.placed ++ turn s ≡ (g.placed ++ turn t) ++ rest)
-  begins =
-      one_begins (g.given ++ []) [] (h.placed ++ turn s) (g.placed ++ turn t)
-      (subst (λ (b : List ℕ). AreNext (b ++ []) [] (h.placed ++ turn s)) given (next_pieces s h has)) (next_pieces t g gas) longer
+  both : BothReplay s t h g
+  both = both_replay s t h g has gas given longer
 
   -- where the other has no item left, neither has the one
-  none_then : turn t ≡ [] → begins.0 ≡ []
+  none_then : turn t ≡ [] → both.rest ≡ []
   none_then none =
       let few = no_more t s g h gas has (sym given) (sym ended) none in
-      let long = ap length begins.1 in
-      let parts = length-append (g.placed ++ turn t) begins.0 in
-      nil_from_length begins.0 (omega (arith, few, long, parts))
+      let long = ap length both.same in
+      let all = length-append g.placed (turn t ++ both.rest) in
+      let parts = length-append (turn t) both.rest in
+      let others = length-append g.placed (turn t) in nil_from_length both.rest (omega (arith, few, long, all, parts, others))
 
-  all_same : h.placed ++ turn s ≡ g.placed ++ (turn t ++ begins.0)
-  all_same = begins.1 ∙ append_assoc g.placed (turn t) begins.0
-
-  replayed : Replays (core_of s) h.placed h.answers (turn s)
-  replayed = replays s h has [] (λ after. refl) (turn s) [] (sym (append-nil (turn s))) (next_pieces s h has)
-
-  replayed_other : Replays (core_of t) g.placed g.answers (turn t ++ begins.0)
-  replayed_other =
-      replays t g gas [] (λ after. refl) (turn t ++ begins.0) begins.0 refl
-      (subst (λ (b : List ℕ). AreNext (b ++ []) [] (g.placed ++ (turn t ++ begins.0))) given
-      (subst (λ (ps : List Piece). AreNext (h.given ++ []) [] ps) all_same (next_pieces s h has)))
-
-  left_same : replay (start (h.placed ++ turn s)) h.answers ≡ replay (start (g.placed ++ (turn t ++ begins.0))) g.answers
+  left_same : replay (start (h.placed ++ turn s)) h.answers ≡ replay (start (g.placed ++ (turn t ++ both.rest))) g.answers
   left_same =
-      ap (λ (ps : List Piece). replay (start ps) h.answers) all_same
-      ∙ ap (replay (start (g.placed ++ (turn t ++ begins.0)))) answers
+      ap (λ (ps : List Piece). replay (start ps) h.answers) both.same
+      ∙ ap (replay (start (g.placed ++ (turn t ++ both.rest)))) answers
 
   core_same : core_of s ≡ core_of t
-  core_same = sym replayed.core ∙ ap (λ (l : Left). l.core) left_same ∙ replayed_other.core
+  core_same = sym both.one.core ∙ ap (λ (l : Left). l.core) left_same ∙ both.other.core
 
   turns_same : turn s ≡ turn t
   turns_same =
       let mine : skip (core_of s) (turn s) ≡ turn s =
       ap (skip (core_of s)) (sym (append-nil (turn s))) ∙ skip_none s [] settled.none (λ none. refl) ∙ append-nil (turn s) in
-      let its : skip (core_of t) (turn t ++ begins.0) ≡ turn t ++ begins.0 = skip_none t begins.0 other.none none_then in
-      let both : turn s ≡ turn t ++ begins.0 =
+      let its : skip (core_of t) (turn t ++ both.rest) ≡ turn t ++ both.rest = skip_none t both.rest other.none none_then in
+      let turns : turn s ≡ turn t ++ both.rest =
       sym mine
-      ∙ sym replayed.left
+      ∙ sym both.one.left
       ∙ ap (λ (l : Left). skip (core_of s) l.pieces) left_same
-      ∙ ap (λ (c : Core). skip c (replay (start (g.placed ++ (turn t ++ begins.0))) g.answers).pieces) core_same
-      ∙ replayed_other.left
+      ∙ ap (λ (c : Core). skip c (replay (start (g.placed ++ (turn t ++ both.rest))) g.answers).pieces) core_same
+      ∙ both.other.left
       ∙ its in
-      let long = ap length both in
-      let parts = length-append (turn t) begins.0 in
+      let long = ap length turns in
+      let parts = length-append (turn t) both.rest in
       let most = turn_one s.node s.queue in
-      let rest : begins.0 ≡ [] =
+      let rest : both.rest ≡ [] =
       elim (cases_lt 0 (length (turn t))) [
-        | inl some ↦ nil_from_length begins.0 (omega (arith, some, long, parts, most))
+        | inl some ↦ nil_from_length both.rest (omega (arith, some, long, parts, most))
         | inr none ↦ none_then (nil_from_length (turn t) (omega (arith, none)))
       ] in
-      both ∙ ap (λ (ps : List Piece). turn t ++ ps) rest ∙ append-nil (turn t)
+      turns ∙ ap (λ (ps : List Piece). turn t ++ ps) rest ∙ append-nil (turn t)
 
   pub due_same : due_in s ≡ due_in t
   due_same =

@@ -26,5 +26,8 @@ pub mod CutOnce
 pub mod Next
 pub mod InTurn
 pub mod Replaying
+pub mod KeptReplaying
 pub mod Replayed
+pub mod BothReplayed
 pub mod DueOnes
+pub mod KeptOnes

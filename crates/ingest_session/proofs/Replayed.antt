@@ -1,4 +1,4 @@
--- The open containers of a session are what the pieces of its file and the answers make of them.
+-- The open containers of a session, and what it has held and sealed, are what the pieces of its file and the answers make of them.
 use Rattle.std.proofs.Common.{◌≡◌, ◌⊎◌, inl, inr, ◌∙◌, ℕ, Bool, true, false, not, if◌then◌else◌, List, [], ◌∷◌, ◌++◌, Option, Some, None, length, drop, refl, sym, ap, subst, append-nil, append_assoc}
 use Rattle.std.proofs.Math.Seq.{drop-append_seam}
 use Rattle.container_meta.specs.declared.kind.Kind.{Kind}
@@ -14,15 +14,16 @@ use Rattle.ingest_session.specs.declared.due.Due.TheVariants.{Seal, Nothing}
 use Rattle.ingest_session.specs.Calls.{IsEnding, TakesTurn}
 use Rattle.ingest_session.specs.Due.{HasTurn, due_in, end_due, item_due, item_kind, needs_no_step, queue_due}
 use Rattle.ingest_session.specs.Facts.{MayFollow, data_in, nodes_in}
-use Rattle.ingest_session.specs.History.{History, HasHistory, IsBegun, Begun, Pushed, Ended, Moved, Asked, Told, answered, moved, placed_by, turn, turn_of}
+use Rattle.ingest_session.specs.History.{History, HasHistory, IsBegun, Begun, Pushed, Ended, Moved, Asked, Told, answered, held_by, moved, placed_by, sealed_by, turn, turn_of}
 use Rattle.ingest_session.specs.Settling.{SettleStep, Spelled, Advanced, Closed, PlacedNode, PlacedFront}
 use Rattle.ingest_session.specs.Sound.{IsSession}
 use Rattle.ingest_session.specs.State.{SessionState, rest_after, rest_of}
 use Rattle.ingest_session.specs.Told.{IsAnswerFor, IsSettled, told_by}
 use Rattle.ingest_session.proofs.Ends.{nodes_at_end, segments_at_end}
 use Rattle.ingest_session.proofs.InTurn.{placed_or_none, told_ended}
+use Rattle.ingest_session.proofs.KeptReplaying.{gained, gained_more, held_alike, sealed_alike, session_next}
 use Rattle.ingest_session.proofs.Next.{AreNext, IsNext, next_after, none_after}
-use Rattle.ingest_session.proofs.Replaying.{Core, Left, core_of, left_by, like_at, places_alike_by, replay, replay_more, session_at, skip, skip_none, skip_there, told_alike}
+use Rattle.ingest_session.proofs.Replaying.{Core, IsLike, Left, core_of, left_by, like_at, places_alike_by, replay, replay_more, session_at, skip, skip_none, skip_there, told_alike}
 use Rattle.ingest_session.proofs.Settled.{settles_by, settling_keeps}
 use Rattle.ingest_session.proofs.Waiting.{claimed_has_turn, on_and_off, session_of, waiting_has_turn}
 
@@ -33,10 +34,13 @@ start pieces = record {
   pieces = pieces;
 }
 
--- The answers make this of the pieces in their place and these after them, up to pieces that need no step.
-pub record Replays (c : Core) (placed : List Piece) (answers : List Answer) (pieces : List Piece) : Type 0 where
-  pub core : (replay (start (placed ++ pieces)) answers).core ≡ c
-  pub left : skip c (replay (start (placed ++ pieces)) answers).pieces ≡ skip c pieces
+-- The answers make this of the pieces in their place and these after them, up to pieces that need no step; and this is held
+-- and sealed by them.
+pub record Replays (c : Core) (h : History) (pieces : List Piece) : Type 0 where
+  pub core : (replay (start (h.placed ++ pieces)) h.answers).core ≡ c
+  pub left : skip c (replay (start (h.placed ++ pieces)) h.answers).pieces ≡ skip c pieces
+  pub held : (kind : Kind) → h.held kind ≡ gained (held_by kind) (start (h.placed ++ pieces)) h.answers
+  pub sealed : (kind : Kind) → h.sealed kind ≡ gained (sealed_by kind) (start (h.placed ++ pieces)) h.answers
 
 -- ---- a new session
 
@@ -140,62 +144,90 @@ module _ (s : SessionState) (h : History) (has : HasHistory s h) (ended : s.ende
 
 -- ---- one answer
 
-module _ (c : Core) (placed : List Piece) (answers : List Answer) (pieces : List Piece) where
-  replays_on : (others : List Piece) → placed ≡ others → Replays c placed answers pieces → Replays c others answers pieces
-  replays_on others same = subst (λ (ps : List Piece). Replays c ps answers pieces) same
+module _ (c : Core) (h : History) (pieces : List Piece) where
+  replays_on : (others : List Piece) → h.placed ≡ others → Replays c h pieces → Replays c (record h { placed = others }) pieces
+  replays_on others same = subst (λ (ps : List Piece). Replays c (record h { placed = ps }) pieces) same
+
+  -- what was given doesn't matter
+  given_on : (given : List ℕ) → Replays c h pieces → Replays c (record h { given = given }) pieces
+  given_on given before = record { core = before.core; left = before.left; held = before.held; sealed = before.sealed }
 
   -- the item whose turn it is needs no step
-  replays_there : (one : List Piece) → skip c (one ++ pieces) ≡ skip c pieces → Replays c placed answers (one ++ pieces)
-      → Replays c (placed ++ one) answers pieces
+  replays_there : (one : List Piece) → skip c (one ++ pieces) ≡ skip c pieces → Replays c h (one ++ pieces)
+      → Replays c (record h { placed = h.placed ++ one }) pieces
   replays_there one there before =
-      let same = append_assoc placed one pieces in
+      let same = append_assoc h.placed one pieces in
       record {
-        core = ap (λ (ps : List Piece). (replay (start ps) answers).core) same ∙ before.core;
-        left = ap (λ (ps : List Piece). skip c (replay (start ps) answers).pieces) same ∙ before.left ∙ there;
+        core = ap (λ (ps : List Piece). (replay (start ps) h.answers).core) same ∙ before.core;
+        left = ap (λ (ps : List Piece). skip c (replay (start ps) h.answers).pieces) same ∙ before.left ∙ there;
+        held = λ kind. before.held kind ∙ sym (ap (λ (ps : List Piece). gained (held_by kind) (start ps) h.answers) same);
+        sealed = λ kind. before.sealed kind ∙ sym (ap (λ (ps : List Piece). gained (sealed_by kind) (start ps) h.answers) same);
       }
 
 -- an answer, told to a session that is settled
-replays_answer : (s : SessionState) (placed : List Piece) (answers : List Answer) (answer : Answer) (pieces rest : List Piece) → IsSettled s
-    → IsAnswerFor answer (due_in s) → placed_by answer s ++ pieces ≡ turn s ++ rest → (turn s ≡ [] → (rest ≡ []) × (s.ended ≡ true))
-    → Replays (core_of s) placed answers (turn s ++ rest)
-    → Replays (core_of (told_by answer s)) (placed ++ placed_by answer s) (answers ++ answer ∷ []) pieces
-replays_answer s placed answers answer pieces rest settled right turns at_end before =
-    let l = replay (start (placed ++ (turn s ++ rest))) answers in
-    let like = like_at s true rest at_end in
-    let same : (placed ++ placed_by answer s) ++ pieces ≡ placed ++ (turn s ++ rest) =
-    append_assoc placed (placed_by answer s) pieces ∙ ap (λ (ps : List Piece). placed ++ ps) turns in
-    let first : skip (core_of s) l.pieces ≡ turn s ++ rest =
-    before.left ∙ skip_none s rest settled.none (λ none. (at_end none).0) in
-    let step : replay (start ((placed ++ placed_by answer s) ++ pieces)) (answers ++ answer ∷ []) ≡ left_by answer (core_of s) (turn s ++ rest) =
-    ap (λ (ps : List Piece). replay (start ps) (answers ++ answer ∷ [])) same
-    ∙ replay_more (start (placed ++ (turn s ++ rest))) answers answer
-    ∙ ap (λ (c : Core). left_by answer c (skip c l.pieces)) before.core
-    ∙ ap (left_by answer (core_of s)) first in
-    let after : (left_by answer (core_of s) (turn s ++ rest)).core ≡ core_of (told_by answer s) =
-    told_alike s (session_at true (core_of s) (turn s ++ rest)) answer like right in
-    let gone : (left_by answer (core_of s) (turn s ++ rest)).pieces ≡ pieces =
-    ap (λ (ps : List Piece). drop (length ps) (turn s ++ rest))
-    (places_alike_by s (session_at true (core_of s) (turn s ++ rest)) answer like right)
-    ∙ ap (drop (length (placed_by answer s))) (sym turns)
-    ∙ drop-append_seam (placed_by answer s) pieces in
-    record {
-      core = ap (λ (k : Left). k.core) step ∙ after;
-      left = ap (λ (k : Left). skip (core_of (told_by answer s)) k.pieces) step ∙ ap (skip (core_of (told_by answer s))) gone;
-    }
+module _ (s : SessionState) (h : History) (answer : Answer) (pieces rest : List Piece) (settled : IsSettled s) (right : IsAnswerFor answer (due_in s))
+    (turns : placed_by answer s ++ pieces ≡ turn s ++ rest) (at_end : turn s ≡ [] → (rest ≡ []) × (s.ended ≡ true))
+    (before : Replays (core_of s) h (turn s ++ rest)) where
+  abbrev left_before : Left
+  left_before = replay (start (h.placed ++ (turn s ++ rest))) h.answers
+
+  like_this : IsLike s (session_at true (core_of s) (turn s ++ rest))
+  like_this = like_at s true rest at_end
+
+  same_pieces : (h.placed ++ placed_by answer s) ++ pieces ≡ h.placed ++ (turn s ++ rest)
+  same_pieces = append_assoc h.placed (placed_by answer s) pieces ∙ ap (λ (ps : List Piece). h.placed ++ ps) turns
+
+  first_left : skip (core_of s) left_before.pieces ≡ turn s ++ rest
+  first_left = before.left ∙ skip_none s rest settled.none (λ none. (at_end none).0)
+
+  gains : (add : Answer → SessionState → List Segment) (earlier : List Segment) → earlier ≡ gained add (start (h.placed ++ (turn s ++ rest))) h.answers
+      → add answer (session_at true (core_of s) (turn s ++ rest)) ≡ add answer s
+      → earlier ++ add answer s ≡ gained add (start ((h.placed ++ placed_by answer s) ++ pieces)) (h.answers ++ answer ∷ [])
+  gains add earlier is alike =
+      let session : session_next left_before ≡ session_at true (core_of s) (turn s ++ rest) =
+      ap (λ (c : Core). session_at true c (skip c left_before.pieces)) before.core ∙ ap (session_at true (core_of s)) first_left in
+      ap (λ (ss : List Segment). ss ++ add answer s) is
+      ∙ ap (λ (ss : List Segment). gained add (start (h.placed ++ (turn s ++ rest))) h.answers ++ ss) (sym (ap (add answer) session ∙ alike))
+      ∙ sym (gained_more add (start (h.placed ++ (turn s ++ rest))) h.answers answer)
+      ∙ sym (ap (λ (ps : List Piece). gained add (start ps) (h.answers ++ answer ∷ [])) same_pieces)
+
+  replays_answer : Replays (core_of (told_by answer s)) (answered answer s h) pieces
+  replays_answer =
+      let step : replay (start ((h.placed ++ placed_by answer s) ++ pieces)) (h.answers ++ answer ∷ []) ≡ left_by answer (core_of s) (turn s ++ rest) =
+      ap (λ (ps : List Piece). replay (start ps) (h.answers ++ answer ∷ [])) same_pieces
+      ∙ replay_more (start (h.placed ++ (turn s ++ rest))) h.answers answer
+      ∙ ap (λ (c : Core). left_by answer c (skip c left_before.pieces)) before.core
+      ∙ ap (left_by answer (core_of s)) first_left in
+      let after : (left_by answer (core_of s) (turn s ++ rest)).core ≡ core_of (told_by answer s) =
+      told_alike s (session_at true (core_of s) (turn s ++ rest)) answer like_this right in
+      let gone : (left_by answer (core_of s) (turn s ++ rest)).pieces ≡ pieces =
+      ap (λ (ps : List Piece). drop (length ps) (turn s ++ rest))
+      (places_alike_by s (session_at true (core_of s) (turn s ++ rest)) answer like_this right)
+      ∙ ap (drop (length (placed_by answer s))) (sym turns)
+      ∙ drop-append_seam (placed_by answer s) pieces in
+      record {
+        core = ap (λ (k : Left). k.core) step ∙ after;
+        left = ap (λ (k : Left). skip (core_of (told_by answer s)) k.pieces) step ∙ ap (skip (core_of (told_by answer s))) gone;
+        held = λ kind.
+            gains (held_by kind) (h.held kind) (before.held kind) (held_alike kind s (session_at true (core_of s) (turn s ++ rest)) answer like_this);
+        sealed = λ kind.
+            gains (sealed_by kind) (h.sealed kind) (before.sealed kind)
+            (sealed_alike kind s (session_at true (core_of s) (turn s ++ rest)) answer like_this);
+      }
 
 -- ---- all calls
 
 abbrev pub HasReplay : List ℕ → SessionState → History → Type 0
 HasReplay more s h = (pieces rest : List Piece) → pieces ≡ turn s ++ rest → AreNext (h.given ++ more) [] (h.placed ++ pieces)
-    → Replays (core_of s) h.placed h.answers pieces
+    → Replays (core_of s) h pieces
 
 -- a move that puts nothing in its place
 same_replay : (s t : SessionState) (h : History) (more : List ℕ) → core_of t ≡ core_of s → turn t ≡ turn s → HasReplay more s h
     → HasReplay more t (record h { placed = h.placed ++ [] })
 same_replay s t h more core same before pieces rest turns are =
     let none = append-nil h.placed in
-    replays_on (core_of t) h.placed h.answers pieces (h.placed ++ []) (sym none)
-    (subst (λ (c : Core). Replays c h.placed h.answers pieces) (sym core)
+    replays_on (core_of t) h pieces (h.placed ++ []) (sym none)
+    (subst (λ (c : Core). Replays c h pieces) (sym core)
     (before pieces rest (turns ∙ ap (λ (ps : List Piece). ps ++ rest) same)
     (subst (λ (ps : List Piece). AreNext (h.given ++ more) [] (ps ++ pieces)) none are)))
 
@@ -203,8 +235,8 @@ same_replay s t h more core same before pieces rest turns are =
 there_replay : (s t : SessionState) (h : History) (more : List ℕ) → core_of t ≡ core_of s → needs_no_step s ≡ true → HasReplay more s h
     → HasReplay more t (record h { placed = h.placed ++ turn s })
 there_replay s t h more core there before pieces rest turns are =
-    subst (λ (c : Core). Replays c (h.placed ++ turn s) h.answers pieces) (sym core)
-    (replays_there (core_of s) h.placed h.answers pieces (turn s) (skip_there s pieces there)
+    subst (λ (c : Core). Replays c (record h { placed = h.placed ++ turn s }) pieces) (sym core)
+    (replays_there (core_of s) h pieces (turn s) (skip_there s pieces there)
     (before (turn s ++ pieces) pieces refl
     (subst (λ (ps : List Piece). AreNext (h.given ++ more) [] ps) (append_assoc h.placed (turn s) pieces) are)))
 
@@ -236,25 +268,26 @@ told_replay s h answer more has settled right follow before pieces rest turns ar
           (subst (λ (f : List ℕ). AreNext f [] (h.placed ++ all)) file next)),
       ended,
     )) in
-    replays_answer s h.placed h.answers answer pieces begins.0 settled right begins.1 at_end
-    (subst (λ (ps : List Piece). Replays (core_of s) h.placed h.answers ps) begins.1 (before all begins.0 begins.1 next))
+    replays_answer s h answer pieces begins.0 settled right begins.1 at_end
+    (subst (λ (ps : List Piece). Replays (core_of s) h ps) begins.1 (before all begins.0 begins.1 next))
 
 pub replays : (s : SessionState) (h : History) → HasHistory s h → (more : List ℕ) → MayFollow more s → HasReplay more s h
 replays s _ (Begun _ is begun) more follow pieces rest turns are =
-    record { core = begun_core s is begun; left = refl }
+    record { core = begun_core s is begun; left = refl; held = λ kind. refl; sealed = λ kind. refl }
 replays t _ (Pushed s _ h bytes has _ is) more follow pieces rest turns are =
     let on = keeps_turn s t is.more (ap (λ (u : SessionState). u.node) is.others) is.queue in
-    subst (λ (c : Core). Replays c h.placed h.answers pieces) (sym (ap core_of is.others))
+    subst (λ (c : Core). Replays c (record h { given = h.given ++ bytes }) pieces) (sym (ap core_of is.others))
+    (given_on (core_of s) h pieces (h.given ++ bytes)
     (replays s h has (bytes ++ more) (λ ended. on_and_off s.ended ended is.ongoing) pieces (on.0 ++ rest)
     (turns ∙ ap (λ (ps : List Piece). ps ++ rest) on.1 ∙ append_assoc (turn s) on.0 rest)
-    (subst (λ (file : List ℕ). AreNext file [] (h.placed ++ pieces)) (append_assoc h.given bytes more) are))
+    (subst (λ (file : List ℕ). AreNext file [] (h.placed ++ pieces)) (append_assoc h.given bytes more) are)))
 replays t h (Ended s _ _ has _ is) more follow pieces rest turns are =
     let on = ending_turn s t is in
-    subst (λ (c : Core). Replays c h.placed h.answers pieces) (sym (ap core_of is.others))
+    subst (λ (c : Core). Replays c h pieces) (sym (ap core_of is.others))
     (replays s h has more (λ ended. on_and_off s.ended ended is.ongoing) pieces (on.0 ++ rest)
     (turns ∙ ap (λ (ps : List Piece). ps ++ rest) on.1 ∙ append_assoc (turn s) on.0 rest) are)
 replays t h (Asked s _ _ has _ is) more follow pieces rest turns are =
-    subst (λ (c : Core). Replays c h.placed h.answers pieces) (sym (ap core_of is))
+    subst (λ (c : Core). Replays c h pieces) (sym (ap core_of is))
     (replays s h has more (λ ended. follow (ap (λ (u : SessionState). u.ended) is ∙ ended)) pieces rest
     (turns ∙ ap (λ (ps : List Piece). ps ++ rest) (ap turn is)) are)
 replays t _ (Moved s _ h has after step) more follow pieces rest turns are =

@@ -1,8 +1,10 @@
--- What is due of a file whose bytes were given in part, whatever the pieces were in which they came.
+-- What is due, and what is kept, of a file whose bytes were given in part, whatever the pieces were in which they came.
 use Rattle.std.specs.Prelude.{◌≡◌, ℕ, Bool, List}
+use Rattle.container_meta.specs.declared.kind.Kind.{Kind}
 use Rattle.actor_parts.specs.declared.step.Answer.{Answer}
 use Rattle.ingest_session.specs.declared.due.Due.{Due}
 use Rattle.ingest_session.specs.Due.{due_in}
+use Rattle.ingest_session.specs.Facts.{kept}
 use Rattle.ingest_session.specs.History.{History, HasHistory}
 use Rattle.ingest_session.specs.State.{SessionState}
 use Rattle.ingest_session.specs.Told.{IsSettled}
@@ -22,3 +24,9 @@ pub record IsDueFor (given : List ℕ) (ended : Bool) (answers : List Answer) (d
 abbrev pub DueIsOne : Type 0
 DueIsOne = (given : List ℕ) (ended : Bool) (answers : List Answer) (one other : Due) → IsDueFor given ended answers one
     → IsDueFor given ended answers other → one ≡ other
+
+-- However the bytes came in pieces between the answers, and whether the file has ended or not, the same segments of each kind are
+-- kept, in the same order.
+abbrev pub KeptIsOne : Type 0
+KeptIsOne = (s t : SessionState) (h g : History) → HasHistory s h → HasHistory t g → h.given ≡ g.given → h.answers ≡ g.answers → (kind : Kind)
+    → kept h kind ≡ kept g kind

@@ -1,6 +1,6 @@
 //! Laws of sessions with a history, for those who stand on them (docs/MODEL.md, 'Sessions'). Their functions do nothing.
 ghost use Rattle.ingest_session.specs.Facts.{AllIsKept, BytesAreCounted, ChildrenComeFirst, OpenNodesHaveChildren, OpensArePieces, PlacedComeFirst, SealsWereAbsent, StepsAreFew, TurnsArePieces, WaitsForAnother};
-ghost use Rattle.ingest_session.specs.DueFor.{DueIsOne};
+ghost use Rattle.ingest_session.specs.DueFor.{DueIsOne, KeptIsOne};
 
 /// How many bytes were taken is counted.
 pub fn bytes_are_counted()
@@ -35,6 +35,12 @@ pub fn steps_are_few()
 /// What is due of some bytes after some answers is one step, however the bytes came in pieces between the answers.
 pub fn due_is_one()
     ensures { DueIsOne }
+{}
+
+/// What was kept of some bytes after some answers, as answered Held or sealed, are the same segments of each kind in the same
+/// order, however the bytes came in pieces between the answers.
+pub fn kept_is_one()
+    ensures { KeptIsOne }
 {}
 
 /// When the file has ended and nothing is due, its pieces are in their place, and each was answered Held, or sealed.

@@ -24,8 +24,8 @@ mod telling;
 
 pub use due::Due;
 pub use laws::{
-    all_is_kept, bytes_are_counted, children_come_first, due_is_one, seals_were_absent,
-    steps_are_few, steps_have_pieces,
+    all_is_kept, bytes_are_counted, children_come_first, due_is_one, kept_is_one,
+    seals_were_absent, steps_are_few, steps_have_pieces,
 };
 pub use queue::MOST_WAITING;
 pub use session::Session;

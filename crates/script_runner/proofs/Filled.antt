@@ -75,7 +75,7 @@ tells_filled p c = by_stage p c.stage
     by_stage : (q : Progress) (stage : Stage) → IsAtStage q stage c.sweep.next c.sweep.buffer → TellsFilled q (filled_of stage c.sweep)
     by_stage Marking stage is = tt
     by_stage Recording stage is = tt
-    by_stage (Sweeping ready some) Sweep is = is.1 ∙ ap (nat_lt 0) (sym (length-map c.sweep.buffer.segments))
+    by_stage (Sweeping ready some) Sweep is = is.1 ∙ ap (nat_lt 0) (sym (length-map c.sweep.buffer.segments (segment_key c.sweep.buffer.kind)))
     by_stage (Sweeping ready some) stage is = absurd is
 
 -- some key is filled

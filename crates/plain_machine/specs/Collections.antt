@@ -6,7 +6,7 @@ use Rattle.container_meta.specs.declared.kind.Kind.{Kind}
 use Rattle.container_meta.specs.declared.kind.Kind.TheVariants.{Leaf, Tree}
 use Rattle.container_meta.specs.Spelling.{HeaderValue, bytes_of}
 use Rattle.gc_select.specs.declared.liveness.ContainerLiveness.{ContainerLiveness}
-use Rattle.gc_select.specs.Selecting.{IsSelectedId, ids_of, selected}
+use Rattle.gc_select.specs.Selecting.{IsSelectedId, ids_of, selected, sources_of}
 use Rattle.refusals.specs.declared.refusal.Phase.{Phase}
 use Rattle.refusals.specs.declared.refusal.Phase.TheVariants.{Copy, End, Filter, Flush, Mark, Release, Select}
 use Rattle.refusals.specs.declared.refusal.Refusal.{Refusal}
@@ -16,7 +16,7 @@ use Rattle.store_model.specs.Files.{Files}
 use Rattle.store_model.specs.Image.{Encodes, Store}
 use Rattle.store_model.specs.Needed.{Needs}
 use Rattle.store_model.specs.Reserve.{HoldsJustNeeded, IsReachable, IsSpare}
-use Rattle.plain_machine.specs.Content.{AddsCopies, BreaksCopies, BreaksGate, FreesContainer, IsToCopy, OfStore, SameStore}
+use Rattle.plain_machine.specs.Content.{AddsCopies, BreaksCopies, BreaksGate, CopiesFrom, FreesContainer, IsToCopy, OfStore, SameStore}
 use Rattle.plain_machine.specs.Machine.{Collecting, Machine, Marking, Progress, Recording, Since, Stopped, Sweeping, WasNeeded, are_idle}
 use Rattle.plain_machine.specs.Needs.{ActorsNeed}
 use Rattle.plain_machine.specs.Turns.{Stays}
@@ -67,6 +67,8 @@ pub record BeginsCollection (percent snapshot : ℕ) (m n : Machine) : Type 0 wh
       to_come = most;
       freed = 0;
       copied = 0;
+      source = 0;
+      entry = 0;
       filled = [];
       written = [];
       recorded = [];
@@ -119,6 +121,13 @@ FillsBy Copy Was Chosen m filled now =
     × ((key : List ℕ) → Contains now key → Contains filled key ⊎ OfStore m.content (λ store. IsToCopy Was Chosen store.held key))
 FillsBy Flush Was Chosen m filled now = now ≡ []
 FillsBy phase Was Chosen m filled now = now ≡ filled
+
+-- Which entries a step goes over: one that copies some of the next source (CopiesFrom), and others none.
+abbrev pub GoesOver : Phase → (Was : List ℕ → Type 0) → (sources : List ℕ) → Machine → (filled : List (List ℕ))
+    → (source entry source_now entry_now : ℕ) → Type 0
+GoesOver Copy Was sources m filled source entry source_now entry_now =
+    OfStore m.content (λ store. CopiesFrom Was sources store.held filled source entry source_now entry_now)
+GoesOver phase Was sources m filled source entry source_now entry_now = (source_now ≡ source) × (entry_now ≡ entry)
 
 -- how far it is tells whether something is to be written
 abbrev pub TellsFilled : Progress → List (List ℕ) → Type 0
@@ -208,6 +217,8 @@ pub record StepsCollection (phase : Phase) (m n : Machine) : Type 0 where
   pub left : ℕ
   pub freed : ℕ
   pub copied : ℕ
+  pub source : ℕ
+  pub entry : ℕ
   pub filled : List (List ℕ)
   pub written : List (List ℕ)
   pub recorded : List ContainerLiveness
@@ -220,6 +231,8 @@ pub record StepsCollection (phase : Phase) (m n : Machine) : Type 0 where
     to_come = suc left;
     freed = freed;
     copied = copied;
+    source = source;
+    entry = entry;
     filled = filled;
     written = written;
     recorded = recorded;
@@ -231,6 +244,10 @@ pub record StepsCollection (phase : Phase) (m n : Machine) : Type 0 where
   pub filled_now : List (List ℕ)
   pub fills : FillsBy phase (WasNeeded since) (IsSelectedId snapshot percent recorded) m filled filled_now
   pub tells : TellsFilled next filled_now
+  pub source_now : ℕ
+  pub entry_now : ℕ
+  pub goes_over : GoesOver phase (WasNeeded since) (sources_of (selected snapshot percent recorded)) m filled_now source entry source_now
+      entry_now
   pub written_now : List (List ℕ)
   pub changes : ChangesBy phase alone (WasNeeded since) (IsSelectedId snapshot percent recorded) snapshot copies filled written written_now m
       n.content
@@ -246,6 +263,8 @@ pub record StepsCollection (phase : Phase) (m n : Machine) : Type 0 where
       to_come = left;
       freed = freed + freed_by phase;
       copied = copied + copies;
+      source = source_now;
+      entry = entry_now;
       filled = filled_now;
       written = written_now;
       recorded = recorded_now;
@@ -260,14 +279,16 @@ abbrev pub CollectionSteps : List Phase → Machine → Machine → Type 0
 CollectionSteps [] m n = n ≡ m
 CollectionSteps (phase ∷ phases) m n = (mid : Machine) × (StepsCollection phase m mid × CollectionSteps phases mid n)
 
--- It ends, where the sources were chosen, none is ready and nothing is to be written, and tells how many containers it gave back and how
--- many segments it copied. It gave back so many as are selected by what it recorded, and no container has the id of one of these any more.
--- One that ran alone leaves no container that holds the newest copy of no key that a file needs: each such one was given back. One of the
--- percentage 100 that ran alone leaves just what the files need, each key once.
+-- It ends, where all sources were copied to their end, none is ready and nothing is to be written, and tells how many containers it gave back
+-- and how many segments it copied. It gave back so many as are selected by what it recorded, and no container has the id of one of these any
+-- more. One that ran alone leaves no container that holds the newest copy of no key that a file needs: each such one was given back. One of
+-- the percentage 100 that ran alone leaves just what the files need, each key once.
 pub record EndsCollection (freed copied : ℕ) (m n : Machine) : Type 0 where
   pub percent : ℕ
   pub snapshot : ℕ
   pub left : ℕ
+  pub source : ℕ
+  pub entry : ℕ
   pub written : List (List ℕ)
   pub recorded : List ContainerLiveness
   pub alone : Bool
@@ -279,12 +300,15 @@ pub record EndsCollection (freed copied : ℕ) (m n : Machine) : Type 0 where
     to_come = left;
     freed = freed;
     copied = copied;
+    source = source;
+    entry = entry;
     filled = [];
     written = written;
     recorded = recorded;
     alone = alone;
     since = since;
   })
+  pub copied_all : source ≡ length (sources_of (selected snapshot percent recorded))
   pub freed_is : freed ≡ length (selected snapshot percent recorded)
   pub gone : OfStore m.content (λ store. (slot : ℕ) (h : HeaderValue) → slice_get store.held slot ≡ Some (Some h)
       → ¬ (IsSelectedId snapshot percent recorded h.id))

@@ -1,11 +1,12 @@
 -- What lines show of the disk's content, and what they change of it.
 use Rattle.std.specs.Int.{w32, w64}
 use Rattle.base_model.specs.Numbers.{number_at}
-use Rattle.std.specs.Prelude.{◌≡◌, ◌≢◌, ◌⊎◌, ℕ, suc, ◌-◌, ◌<◌, ◌≤◌, Bool, true, List, ◌++◌, Contains, length, map, slice_get, Option, Some, None, max, ◌+◌, ◌==◌, if◌then◌else◌, zero}
+use Rattle.std.specs.Prelude.{◌≡◌, ◌≢◌, ◌⊎◌, ℕ, suc, ◌-◌, ◌<◌, ◌≤◌, Bool, true, List, ◌++◌, Contains, get_or, length, map, slice_get, Option, Some, None, max, ◌+◌, ◌==◌, if◌then◌else◌, zero}
 use Rattle.std.specs.FinMap as finite
 use Rattle.std.specs.List.{AllByRecursion}
 use Rattle.sha2.specs.Sha256.{sha256}
 use Rattle.base_model.specs.Bytes.{range, byte_at}
+use Rattle.container_meta.specs.declared.entry.Entry.{Entry}
 use Rattle.container_meta.specs.declared.kind.Kind.TheVariants.{Tree}
 use Rattle.container_meta.specs.Segments.{Contents, KindSegment, segment_key}
 use Rattle.container_meta.specs.Spelling.{HeaderValue}
@@ -18,7 +19,8 @@ use Rattle.refusals.specs.declared.refusal.Difference.TheVariants.{Length, Byte}
 use Rattle.script_lines.specs.declared.reply.Holdings.{Holdings}
 use Rattle.store_model.specs.Files.{Files}
 use Rattle.store_model.specs.Image.{Store, Encodes}
-use Rattle.store_model.specs.Indexing.{entries_in, bytes_in_slots}
+use Rattle.store_model.specs.Indexing.{entries_in, entry_key, bytes_in_slots}
+use Rattle.store_model.specs.Needed.{IsNeededCopy}
 use Rattle.store_model.specs.Pieces.{Piece, Node, IsPieceOf, piece_segment}
 use Rattle.store_model.specs.Reserve.{IsReachable, IsSpare}
 use Rattle.store_model.specs.Slots.{Copy, newest, first_free, free_slots}
@@ -125,6 +127,22 @@ pub record IsToCopy (P : List ℕ → Type 0) (Chosen : ℕ → Type 0) (held : 
   pub copy : Copy
   pub copy_is : newest 0 held key ≡ Some copy
   pub chosen : Chosen copy.id
+
+-- Of the sources of these ids one is copied, that of a number, from an entry of it on: up to its end, where the next one comes, or up to an
+-- entry where it goes on. Of the entries between each that is the newest copy of a key of which Was holds has its key among these then.
+pub record CopiesFrom (Was : List ℕ → Type 0) (sources : List ℕ) (held : List (Option HeaderValue)) (keys : List (List ℕ))
+    (source entry source_now entry_now : ℕ) : Type 0 where
+  pub slot : ℕ
+  pub header : HeaderValue
+  pub there : slice_get held slot ≡ Some (Some header)
+  pub within : source < length sources
+  pub id_is : header.id ≡ get_or sources source 0
+  pub stop : ℕ
+  pub from : entry ≤ stop
+  pub most : stop ≤ length header.entries
+  pub goes : ((stop ≡ length header.entries) × (source_now ≡ suc source) × (entry_now ≡ 0)) ⊎ ((source_now ≡ source) × (entry_now ≡ stop))
+  pub taken : (number : ℕ) (e : Entry) → entry ≤ number → number < stop → slice_get header.entries number ≡ Some e
+      → IsNeededCopy Was held header.kind slot e → Contains keys (entry_key header.kind e)
 
 -- Copies were written: a container of so many segments, each of which was held, stands in the free slot of least number, under the id after
 -- the last one, and all else is as it was. Their keys are just those that were filled. The collection wrote none of them before, and they are

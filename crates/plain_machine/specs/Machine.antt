@@ -78,6 +78,9 @@ pub record Collecting : Type 0 where
   pub to_come : ℕ
   pub freed : ℕ
   pub copied : ℕ
+  -- how many of the sources it has copied to their end, and the entry of the next one where it goes on
+  pub source : ℕ
+  pub entry : ℕ
   -- the keys of what it copied that isn't written yet, and of the copies that it wrote, one after the other
   pub filled : List (List ℕ)
   pub written : List (List ℕ)

@@ -40,7 +40,7 @@ use Rattle.store_core.proofs.Leading.{Leads}
 use Rattle.plain_machine.specs.Collections.{EndsCollection, RefusesCollectionStep}
 use Rattle.plain_machine.specs.Content.{OfStore}
 use Rattle.plain_machine.specs.Machine.{Collecting, Machine, Progress, Sweeping}
-use Rattle.script_runner.specs.Follows.{CountsEach, FollowsCollection, HasCounted, HasFilled, IsAtProgress, IsAtStage, HoldsCollection, SparesNeeded, is_filled}
+use Rattle.script_runner.specs.Follows.{CountsEach, FollowsCollection, HasCounted, HasFilled, HasPlace, IsAtProgress, IsAtStage, HoldsCollection, SparesNeeded, is_filled}
 use Rattle.script_runner.specs.Sessions.{Sessions}
 use Rattle.script_runner.proofs.CollectNeeds.{told_here}
 use Rattle.script_runner.proofs.CollectParts.{gc_event}
@@ -171,6 +171,13 @@ module _ (C : Type 0) (state : C → CoreState) (among : ByteSet) (apart : HasNo
           sources_many (selected has_ended.collecting.snapshot has_ended.collecting.percent has_ended.collecting.recorded),
         )
 
+    -- each was copied to its end
+    all_copied : has_ended.collecting.source ≡ length (sources_of (selected has_ended.collecting.snapshot has_ended.collecting.percent has_ended.collecting.recorded))
+    all_copied =
+        (subst (λ (stage : Stage). HasPlace stage ended.before.sweep has_ended.collecting.source has_ended.collecting.entry) ended.at_end.0
+        (subst (λ (c : Collection). HasPlace c.stage c.sweep has_ended.collecting.source has_ended.collecting.entry) same has_ended.follows.place_is)).0
+        ∙ ap (sources_before ended.before.sweep) ended.at_end.1 ∙ ap (λ (ids : List ℕ). length ids) sources_are
+
     -- and none is there
     gone_now : (slot : ℕ) (h : HeaderValue) → slice_get at.running.begins.store.held slot ≡ Some (Some h) → ¬ (Selected h.id)
     gone_now slot h there is_selected =
@@ -219,14 +226,17 @@ module _ (C : Type 0) (state : C → CoreState) (among : ByteSet) (apart : HasNo
         snapshot = has_ended.collecting.snapshot;
         left = has_ended.collecting.to_come;
         recorded = has_ended.collecting.recorded;
+        source = has_ended.collecting.source;
+        entry = has_ended.collecting.entry;
         written = has_ended.collecting.written;
         alone = has_ended.collecting.alone;
         since = has_ended.collecting.since;
         ran = has_ended.is
-            ∙ ap (λ (n : ℕ). let k : Collecting = record { percent = has_ended.collecting.percent; snapshot = has_ended.collecting.snapshot; progress = has_ended.collecting.progress; to_come = has_ended.collecting.to_come; freed = n; copied = has_ended.collecting.copied; filled = has_ended.collecting.filled; recorded = has_ended.collecting.recorded; written = has_ended.collecting.written; alone = has_ended.collecting.alone; since = has_ended.collecting.since } in Some k) freed_same
-            ∙ ap (λ (n : ℕ). let k : Collecting = record { percent = has_ended.collecting.percent; snapshot = has_ended.collecting.snapshot; progress = has_ended.collecting.progress; to_come = has_ended.collecting.to_come; freed = freed; copied = n; filled = has_ended.collecting.filled; recorded = has_ended.collecting.recorded; written = has_ended.collecting.written; alone = has_ended.collecting.alone; since = has_ended.collecting.since } in Some k) copied_same
-            ∙ ap (λ (p : Progress). let k : Collecting = record { percent = has_ended.collecting.percent; snapshot = has_ended.collecting.snapshot; progress = p; to_come = has_ended.collecting.to_come; freed = freed; copied = copied; filled = has_ended.collecting.filled; recorded = has_ended.collecting.recorded; written = has_ended.collecting.written; alone = has_ended.collecting.alone; since = has_ended.collecting.since } in Some k) at_last
-            ∙ ap (λ (keys : List (List ℕ)). let k : Collecting = record { percent = has_ended.collecting.percent; snapshot = has_ended.collecting.snapshot; progress = Sweeping false false; to_come = has_ended.collecting.to_come; freed = freed; copied = copied; filled = keys; recorded = has_ended.collecting.recorded; written = has_ended.collecting.written; alone = has_ended.collecting.alone; since = has_ended.collecting.since } in Some k) filled_none;
+            ∙ ap (λ (n : ℕ). let k : Collecting = record { percent = has_ended.collecting.percent; snapshot = has_ended.collecting.snapshot; progress = has_ended.collecting.progress; to_come = has_ended.collecting.to_come; freed = n; copied = has_ended.collecting.copied; source = has_ended.collecting.source; entry = has_ended.collecting.entry; filled = has_ended.collecting.filled; recorded = has_ended.collecting.recorded; written = has_ended.collecting.written; alone = has_ended.collecting.alone; since = has_ended.collecting.since } in Some k) freed_same
+            ∙ ap (λ (n : ℕ). let k : Collecting = record { percent = has_ended.collecting.percent; snapshot = has_ended.collecting.snapshot; progress = has_ended.collecting.progress; to_come = has_ended.collecting.to_come; freed = freed; copied = n; source = has_ended.collecting.source; entry = has_ended.collecting.entry; filled = has_ended.collecting.filled; recorded = has_ended.collecting.recorded; written = has_ended.collecting.written; alone = has_ended.collecting.alone; since = has_ended.collecting.since } in Some k) copied_same
+            ∙ ap (λ (p : Progress). let k : Collecting = record { percent = has_ended.collecting.percent; snapshot = has_ended.collecting.snapshot; progress = p; to_come = has_ended.collecting.to_come; freed = freed; copied = copied; source = has_ended.collecting.source; entry = has_ended.collecting.entry; filled = has_ended.collecting.filled; recorded = has_ended.collecting.recorded; written = has_ended.collecting.written; alone = has_ended.collecting.alone; since = has_ended.collecting.since } in Some k) at_last
+            ∙ ap (λ (keys : List (List ℕ)). let k : Collecting = record { percent = has_ended.collecting.percent; snapshot = has_ended.collecting.snapshot; progress = Sweeping false false; to_come = has_ended.collecting.to_come; freed = freed; copied = copied; source = has_ended.collecting.source; entry = has_ended.collecting.entry; filled = keys; recorded = has_ended.collecting.recorded; written = has_ended.collecting.written; alone = has_ended.collecting.alone; since = has_ended.collecting.since } in Some k) filled_none;
+        copied_all = all_copied;
         freed_is = freed_chosen;
         gone = (at.running.begins.store, (right C state among apart m sessions old new at done buf made, gone_now));
         none_spare = none_spare;

@@ -10,7 +10,7 @@ use Rattle.actor_parts.specs.declared.step.Answer.TheVariants as answers
 use Rattle.refusals.specs.declared.refusal.Phase.{Phase}
 use Rattle.refusals.specs.declared.refusal.Refusal.{Refusal}
 use Rattle.gc_select.specs.declared.liveness.ContainerLiveness.{ContainerLiveness}
-use Rattle.gc_select.specs.Selecting.{IsSelectedId, selected}
+use Rattle.gc_select.specs.Selecting.{IsSelectedId, selected, sources_of}
 use Rattle.gc_steps.specs.declared.collection.Collection.{Collection}
 use Rattle.gc_steps.specs.declared.collection.Stage.{Stage}
 use Rattle.gc_steps.specs.declared.collection.Stage.TheVariants.{Mark, Filter, Select, Sweep}
@@ -42,10 +42,10 @@ use Rattle.store_core.specs.Core.{CoreStep, IndexesAll}
 use Rattle.store_core.specs.Runs.{IsAt, IsSafeIn}
 use Rattle.store_core.specs.State.{CoreState, IsUnderWayIn}
 use Rattle.store_core.proofs.Leading.{Leads}
-use Rattle.plain_machine.specs.Collections.{ChangesBy, FillsBy, GoesTo, IsOrWasNeeded, IsShort, RecordsBy, StepsCollection, forgets_by, freed_by, last_by}
+use Rattle.plain_machine.specs.Collections.{ChangesBy, FillsBy, GoesOver, GoesTo, IsOrWasNeeded, IsShort, RecordsBy, StepsCollection, forgets_by, freed_by, last_by}
 use Rattle.plain_machine.specs.Content.{SameStore}
 use Rattle.plain_machine.specs.Machine.{Collecting, Machine, WasNeeded}
-use Rattle.script_runner.specs.Follows.{CountsEach, FollowsCollecting, HasCounted, HasFilled, IsAtProgress, IsWritten, HoldsCollection, IsLiveAtStage, LivesByNeed, LivesJust, SparesNeeded, WroteOnce}
+use Rattle.script_runner.specs.Follows.{CountsEach, FollowsCollecting, HasCounted, HasFilled, HasPlace, IsAtProgress, IsWritten, HoldsCollection, IsLiveAtStage, LivesByNeed, LivesJust, SparesNeeded, WroteOnce}
 use Rattle.script_runner.specs.Sessions.{Sessions}
 use Rattle.script_runner.proofs.CollectBytes.{GivesNothing}
 use Rattle.script_runner.proofs.CollectCauses.{no_end, phase_is}
@@ -57,6 +57,7 @@ use Rattle.script_runner.proofs.CollectRecords.{records_on}
 use Rattle.script_runner.proofs.CollectStep.{HasCollecting, Stepped, image, last_after, leads, low_after, runs_then, same_index, same_so, same_some, some_collecting, steps, told, touched, under}
 use Rattle.script_runner.proofs.Filled.{fills_made, filled_of, has_filled, tells_filled}
 use Rattle.script_runner.proofs.Lives.{IsSameIn, lives_made}
+use Rattle.script_runner.proofs.Places.{entry_of, has_place, over_made, source_of}
 use Rattle.script_runner.proofs.SweepContent.{chosen_so, copies_added, filled_to_copy, freed}
 use Rattle.script_runner.proofs.Sweeping.{IsFewIn, few_after, few_by, left_by, left_on}
 use Rattle.script_runner.proofs.TurnHolds.{right_here}
@@ -139,8 +140,8 @@ module _ (C : Type 0) (state : C → CoreState) (among : ByteSet) (apart : HasNo
       subst (λ (p : Phase). HasCounted goes.after.stage goes.after.sweep (has.collecting.freed + freed_by p) (has.collecting.copied + copies)) stage_phase
       (counted_on (at_moment (state old) goes.before) (at_moment (state new) goes.after) has.collecting.freed has.collecting.copied goes.before.stage goes.before.sweep.next refl refl counted_before goes.steps not_end)
 
-  ran : m.collecting ≡ Some (record { percent = has.collecting.percent; snapshot = has.collecting.snapshot; progress = has.collecting.progress; to_come = suc left; freed = has.collecting.freed; copied = has.collecting.copied; filled = has.collecting.filled; written = has.collecting.written; recorded = has.collecting.recorded; alone = has.collecting.alone; since = has.collecting.since })
-  ran = has.is ∙ ap (λ (n : ℕ). let k : Collecting = record { percent = has.collecting.percent; snapshot = has.collecting.snapshot; progress = has.collecting.progress; to_come = n; freed = has.collecting.freed; copied = has.collecting.copied; filled = has.collecting.filled; written = has.collecting.written; recorded = has.collecting.recorded; alone = has.collecting.alone; since = has.collecting.since } in Some k) (let e : has.collecting.to_come ≡ suc left = omega (arith, fewer) in e)
+  ran : m.collecting ≡ Some (record { percent = has.collecting.percent; snapshot = has.collecting.snapshot; progress = has.collecting.progress; to_come = suc left; freed = has.collecting.freed; copied = has.collecting.copied; source = has.collecting.source; entry = has.collecting.entry; filled = has.collecting.filled; written = has.collecting.written; recorded = has.collecting.recorded; alone = has.collecting.alone; since = has.collecting.since })
+  ran = has.is ∙ ap (λ (n : ℕ). let k : Collecting = record { percent = has.collecting.percent; snapshot = has.collecting.snapshot; progress = has.collecting.progress; to_come = n; freed = has.collecting.freed; copied = has.collecting.copied; source = has.collecting.source; entry = has.collecting.entry; filled = has.collecting.filled; written = has.collecting.written; recorded = has.collecting.recorded; alone = has.collecting.alone; since = has.collecting.since } in Some k) (let e : has.collecting.to_come ≡ suc left = omega (arith, fewer) in e)
 
   -- ---- the last id
 
@@ -232,7 +233,7 @@ module _ (C : Type 0) (state : C → CoreState) (among : ByteSet) (apart : HasNo
   leads_on = progresses (state old) (state new) goes.before goes.after reads_same has.collecting.progress at_before goes.steps not_end
 
   abbrev goes_so : Collecting
-  goes_so = record { percent = has.collecting.percent; snapshot = has.collecting.snapshot; progress = leads_on.next; to_come = left; freed = has.collecting.freed + freed_by phase; copied = has.collecting.copied + copies; filled = filled_now; written = written_now; recorded = goes.after.liveness; alone = has.collecting.alone; since = has.collecting.since }
+  goes_so = record { percent = has.collecting.percent; snapshot = has.collecting.snapshot; progress = leads_on.next; to_come = left; freed = has.collecting.freed + freed_by phase; copied = has.collecting.copied + copies; source = source_of goes.after.stage goes.after.sweep; entry = entry_of goes.after.stage goes.after.sweep; filled = filled_now; written = written_now; recorded = goes.after.liveness; alone = has.collecting.alone; since = has.collecting.since }
 
   -- each source that came to its end is counted still
   each_now : CountsEach goes.after.sweep
@@ -251,6 +252,7 @@ module _ (C : Type 0) (state : C → CoreState) (among : ByteSet) (apart : HasNo
     recorded_is = refl;
     counted = counted_now;
     filled_is = has_filled goes.after.stage goes.after.sweep;
+    place_is = has_place goes.after.stage goes.after.sweep;
     each = each_now;
     most = has.follows.most;
     few = few_after has.follows.most phase (state old) (state new) at.running.up.under_way few goes;
@@ -401,6 +403,29 @@ module _ (C : Type 0) (state : C → CoreState) (among : ByteSet) (apart : HasNo
           chosen_so among at.running.begins.store m.stored (state old) (state new) begins at.running.begins.settled m.content image_now at.content_is told_now goes.before goes.ran is has.collecting.snapshot has.collecting.percent
           has.collecting.recorded snapshot_before percent_before recorded_before
 
+  -- which entries it goes over
+  abbrev Sources : List ℕ
+  Sources = sources_of (selected has.collecting.snapshot has.collecting.percent has.collecting.recorded)
+
+  over : GoesOver phase Was Sources m filled_now has.collecting.source has.collecting.entry (source_of goes.after.stage goes.after.sweep) (entry_of goes.after.stage goes.after.sweep)
+  over =
+      subst (λ (p : Phase). GoesOver p Was Sources m filled_now has.collecting.source has.collecting.entry (source_of goes.after.stage goes.after.sweep) (entry_of goes.after.stage goes.after.sweep)) stage_phase
+      (over_made among at.running.begins.store m.stored (state old) (state new) begins goes.before goes.after goes.ran goes.runs m at.content_is (λ is. at_stage (state old).tables.held goes.before Sweep under_so is) Was lives_before Sources
+      sources_now has.collecting.source has.collecting.entry place_before goes.steps not_end)
+    where
+      under_so : IsUnderWay (state old).tables.held goes.before
+      under_so = under C state among apart m sessions old new at did buf made goes.before goes.ran
+
+      place_before : HasPlace goes.before.stage goes.before.sweep has.collecting.source has.collecting.entry
+      place_before = subst (λ (c : Collection). HasPlace c.stage c.sweep has.collecting.source has.collecting.entry) same has.follows.place_is
+
+      sources_now : goes.before.stage ≡ Sweep → goes.before.sweep.sources.items ≡ Sources
+      sources_now is =
+          subst (λ (n : ℕ). goes.before.sweep.sources.items ≡ sources_of (selected n has.collecting.percent has.collecting.recorded)) snapshot_before
+          (subst (λ (n : ℕ). goes.before.sweep.sources.items ≡ sources_of (selected goes.before.snapshot n has.collecting.recorded)) percent_before
+          (subst (λ (rs : List ContainerLiveness). goes.before.sweep.sources.items ≡ sources_of (selected goes.before.snapshot goes.before.percent rs)) recorded_before
+          (subst (λ (stage : Stage). HasChosen stage goes.before) is under_so.sources_are)))
+
   changes : ChangesBy phase has.collecting.alone Was Chosen has.collecting.snapshot copies has.collecting.filled has.collecting.written written_now m image_now
   changes =
       subst (λ (p : Phase). ChangesBy p has.collecting.alone Was Chosen has.collecting.snapshot copies has.collecting.filled has.collecting.written written_now m image_now) stage_phase (changes_at goes.before.stage goes.before.sweep.next refl refl touches goes.tables not_end)
@@ -485,10 +510,15 @@ module _ (C : Type 0) (state : C → CoreState) (among : ByteSet) (apart : HasNo
       left = left;
       freed = has.collecting.freed;
       copied = has.collecting.copied;
+      source = has.collecting.source;
+      entry = has.collecting.entry;
       filled = has.collecting.filled;
       filled_now = filled_now;
       fills = fills;
       tells = tells_filled leads_on.next goes.after leads_on.is_at;
+      source_now = source_of goes.after.stage goes.after.sweep;
+      entry_now = entry_of goes.after.stage goes.after.sweep;
+      goes_over = over;
       written = has.collecting.written;
       written_now = written_now;
       recorded = has.collecting.recorded;

@@ -52,6 +52,7 @@ use Rattle.script_runner.proofs.CollectNeeds.{told_here}
 use Rattle.script_runner.proofs.CollectStep.{none_collecting, same_some}
 use Rattle.script_runner.proofs.IdleParts.{none_at, roots_reachable}
 use Rattle.script_runner.proofs.Filled.{early_filled}
+use Rattle.script_runner.proofs.Places.{early_place}
 use Rattle.script_runner.proofs.LinesReopen.{still_follows}
 use Rattle.script_runner.proofs.MostSteps.{steps_most}
 use Rattle.script_runner.proofs.PartsOn.{part_on, takes_on}
@@ -179,7 +180,7 @@ module _ (C : Type 0) (state : C → CoreState) (among : ByteSet) (apart : HasNo
     since_then = record { files = m.stored.files; keys = needed }
 
     abbrev begins_so : Collecting
-    begins_so = record { percent = percent; snapshot = snapshot; progress = Marking; to_come = most_steps held.held; freed = 0; copied = 0; filled = []; written = []; recorded = []; alone = are_idle m.parts; since = since_then }
+    begins_so = record { percent = percent; snapshot = snapshot; progress = Marking; to_come = most_steps held.held; freed = 0; copied = 0; source = 0; entry = 0; filled = []; written = []; recorded = []; alone = are_idle m.parts; since = since_then }
 
     -- the sources are still to be chosen
     early : IsToChoose begun.collection.stage
@@ -195,6 +196,7 @@ module _ (C : Type 0) (state : C → CoreState) (among : ByteSet) (apart : HasNo
       recorded_is = begun.nothing_yet.0;
       counted = early_counted begun.collection.stage begun.collection.sweep 0 0 early refl refl;
       filled_is = early_filled begun.collection.stage begun.collection.sweep early;
+      place_is = early_place begun.collection.stage begun.collection.sweep early;
       each = begun_counted (state old).tables.held [] begun.collection.sweep begun.nothing_yet.1;
       most = most;
       few = subst (λ (t : SlotTable). HasFewSources most t begun.collection) (sym slots_same) (few_begun (state old).tables.held begun.collection begun.nothing_yet.1.sources_are);

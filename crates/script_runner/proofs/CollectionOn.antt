@@ -92,6 +92,7 @@ module _ (old new : CoreState) where
         recorded_is = follows.recorded_is;
         counted = follows.counted;
         filled_is = follows.filled_is;
+        place_is = follows.place_is;
         each = follows.each;
         most = follows.most;
         few = with_live follows.most now c is.0 still.0;

@@ -62,6 +62,7 @@ pub mod Onward
 pub mod OpenedFollow
 pub mod PartsOn
 pub mod PieceKeys
+pub mod Places
 pub mod PlainSteps
 pub mod Replied
 pub mod Resting

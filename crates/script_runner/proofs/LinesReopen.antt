@@ -115,6 +115,7 @@ module _ (old new : CoreState) (reads : OnlyReads old.disk new.disk) (tables_are
     recorded_is = follows.recorded_is;
     counted = follows.counted;
     filled_is = follows.filled_is;
+    place_is = follows.place_is;
     each = follows.each;
     progress_is = follows.progress_is;
     most = follows.most;

@@ -157,6 +157,7 @@ follows_disturbed keys (Some k) c follows = record {
   recorded_is = follows.recorded_is;
   counted = follows.counted;
   filled_is = follows.filled_is;
+  place_is = follows.place_is;
   each = follows.each;
   most = follows.most;
   few = follows.few;

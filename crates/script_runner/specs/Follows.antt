@@ -35,7 +35,7 @@ use Rattle.gc_sweep.specs.declared.sweep.Next.{Next}
 use Rattle.gc_sweep.specs.declared.sweep.Next.TheVariants.{Copy, Flush, Release, End}
 use Rattle.gc_sweep.specs.declared.sweep.Sweep.{Sweep as SweepValue}
 use Rattle.gc_sweep.specs.Holding.{IsLive}
-use Rattle.gc_sweep.specs.UnderWay.{sources_before}
+use Rattle.gc_sweep.specs.UnderWay.{entry_in, sources_before}
 use Rattle.ingest_session.specs.Facts.{IsKept}
 use Rattle.ingest_session.specs.History.{History, HasHistory}
 use Rattle.ingest_session.specs.State.{SessionState}
@@ -142,12 +142,17 @@ abbrev pub HasFilled : Stage → SweepValue → List (List ℕ) → Type 0
 HasFilled stages.Sweep s filled = filled ≡ keys_of s.buffer
 HasFilled stage s filled = filled ≡ []
 
+-- so many sources were copied to their end, and the next goes on at this entry: none before it sweeps
+abbrev pub HasPlace : Stage → SweepValue → (source entry : ℕ) → Type 0
+HasPlace stages.Sweep s source entry = (source ≡ sources_before s s.next) × (entry ≡ entry_in s.next)
+HasPlace stage s source entry = (source ≡ 0) × (entry ≡ 0)
+
 -- each source that came to its end was given back, waits, or is ready
 abbrev pub CountsEach : SweepValue → Type 0
 CountsEach s = s.freed + length s.waiting.items + length s.ready.items ≡ sources_before s s.next
 
 -- One runs, of that percentage and from that snapshot, that has come so far, recorded the same, gave so many containers back and wrote so
--- many copies, has filled the same, and no more steps of it come.
+-- many copies, is at the same entry of a source, has filled the same, and no more steps of it come.
 pub record FollowsCollecting (k : Collecting) (c : CoreState) : Type 0 where
   pub collection : Collection
   pub runs : c.collection ≡ Some collection
@@ -157,6 +162,7 @@ pub record FollowsCollecting (k : Collecting) (c : CoreState) : Type 0 where
   pub recorded_is : collection.liveness ≡ k.recorded
   pub counted : HasCounted collection.stage collection.sweep k.freed k.copied
   pub filled_is : HasFilled collection.stage collection.sweep k.filled
+  pub place_is : HasPlace collection.stage collection.sweep k.source k.entry
   pub each : CountsEach collection.sweep
   pub most : ℕ
   pub few : HasFewSources most c.tables.held collection

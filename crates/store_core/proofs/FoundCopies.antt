@@ -1,5 +1,5 @@
 -- What a step that copies finds: just the keys that it finds come to be filled, beside those that were.
-use Rattle.std.proofs.Common.{◌≡◌, ◌⊎◌, inl, inr, ℕ, zero, suc, ◌+◌, ◌<◌, Bool, true, false, List, [], ◌∷◌, ◌++◌, length, drop, take, map, get_or, Option, Some, None, refl, sym, ◌∙◌, ap, subst, arith}
+use Rattle.std.proofs.Common.{◌≡◌, ◌⊎◌, inl, inr, ℕ, zero, suc, ◌+◌, ◌<◌, Bool, true, false, List, [], ◌∷◌, ◌++◌, length, drop, take, map, get_or, Option, Some, None, refl, sym, ◌∙◌, ap, subst, arith, ◌≤◌}
 use Rattle.std.specs.Prelude.{◌||◌, slice_get}
 use Rattle.std.specs.FinMap as finite
 use Rattle.std.specs.List.{AllByRecursion}
@@ -32,7 +32,8 @@ use Rattle.gc_sweep.specs.declared.sweep.Next.{Next}
 use Rattle.gc_sweep.specs.declared.sweep.Next.TheVariants.{Copy, Flush, Release, End}
 use Rattle.gc_sweep.specs.Copying.{CopiesSource, EndsBy, TakesBy}
 use Rattle.gc_sweep.specs.Next.{IsNext}
-use Rattle.gc_sweep.specs.UnderWay.{IsSweeping}
+use Rattle.gc_sweep.specs.declared.sweep.Sweep.{Sweep}
+use Rattle.gc_sweep.specs.UnderWay.{HasNext, IsSweeping, entry_in, sources_before}
 use Rattle.gc_sweep.proofs.Gains.{takes_gain}
 use Rattle.gc_sweep.proofs.InSlots.{at_copy, copy_at, one_header, one_slot}
 use Rattle.gc_sweep.proofs.KeyLists.{keys_append, listed, listed_either}
@@ -46,6 +47,7 @@ use Rattle.store_model.specs.Slots.{HoldsSlot, IsPartialIndexOf, place_of}
 use Rattle.store_model.specs.Standing.{IsStoreOf}
 use Rattle.store_model.proofs.Copies.{some_same}
 use Rattle.store_state.specs.Tables.{Represents}
+use Rattle.store_state.specs.declared.slot_table.SlotTable.{SlotTable}
 use Rattle.store_core.specs.Collecting.{at_moment}
 use Rattle.store_core.specs.Finished.{FindsLive}
 use Rattle.store_core.specs.Runs.{IsAt, IsSafeIn}
@@ -123,6 +125,18 @@ of_first P n [] k e all below there = absurd cc
 of_first P zero (x ∷ xs) k e all below there = absurd (omega (arith, below))
 of_first P (suc n) (x ∷ xs) zero e all below there = subst P (some_same x e there) all.0
 of_first P (suc n) (x ∷ xs) (suc k) e all below there = of_first P n xs k e all.1 (omega (arith, below)) there
+
+-- what comes next tells how many sources were copied to their end, and the entry where the next goes on
+pub next_place : (t : SlotTable) (sources : List ℕ) (buffer : Contents) (source entry : ℕ) (s : Sweep) → length s.sources.items ≡ length sources → source ≤ length sources → (0 < entry → source < length sources) → (next : Next)
+    → IsNext t sources buffer source entry next → (sources_before s next ≡ source) × (entry_in next ≡ entry)
+next_place t sources buffer source entry s many below some (Copy x e) is = (is.0, is.1)
+next_place t sources buffer source entry s many below some (Flush x e) is = (is.0, is.1)
+next_place t sources buffer source entry s many below some (Release x e) is = absurd is
+next_place t sources buffer source entry s many below some End is = (omega (arith, many, below, is.1), no_entry entry some is.1)
+  where
+    no_entry : (n : ℕ) → (0 < n → source < length sources) → length sources ≤ source → 0 ≡ n
+    no_entry zero none past = refl
+    no_entry (suc n) none past = absurd (omega (arith, none (omega arith), past))
 
 -- ---- a source is copied
 
@@ -277,6 +291,55 @@ module _ (among : ByteSet) (s : Store) (stored : Stored) (old new : CoreState) (
         (passed_copied index s.held image b.live b.snapshot source entry b.sweep copies.slot copies.kind copies.filling h partial read old.disk new.disk told plan is) (went_over plan.ended refl has_plan.ends) there_found
         (at_copy (without_keys plan.dead.items index) h.kind copies.slot found (stays ∙ was)) in
         ap (has_key a.sweep.buffer) key_is ∙ ap (λ (c : Contents). has_key c (entry_key h.kind found)) has_plan.buffer_is ∙ has
+
+  -- ---- how far it came
+
+  source_below : source < length b.sweep.sources.items
+  source_below = (subst (HasNext old.tables.held b.sweep) next_is sweeping.next_is).0
+
+  sources_same : length a.sweep.sources.items ≡ length b.sweep.sources.items
+  sources_same = ap (λ (xs : _). length xs.items) copies.others.sources_are
+
+  -- The step went over the entries of a source from the one where it stood up to where it stopped, which is the source's end, or where it goes
+  -- on. Of those between each that is live, and the index's copy, is filled then.
+  pub record WentOver : Type 0 where
+    pub slot : ℕ
+    pub header : HeaderValue
+    pub there : slice_get s.held slot ≡ Some (Some header)
+    pub source_is : header.id ≡ get_or b.sweep.sources.items source 0
+    pub within : source < length b.sweep.sources.items
+    pub stop : ℕ
+    pub from : entry ≤ stop
+    pub most : stop ≤ length header.entries
+    pub goes : ((stop ≡ length header.entries) × (sources_before a.sweep a.sweep.next ≡ suc source) × (entry_in a.sweep.next ≡ 0))
+        ⊎ ((sources_before a.sweep a.sweep.next ≡ source) × (entry_in a.sweep.next ≡ stop))
+    pub taken : (number : ℕ) (e : Entry) → number < stop → slice_get header.entries number ≡ Some e → is_copy index header.kind slot e ≡ true → IsLiveAt b.live (entry_key header.kind e) (place_of slot e)
+        → has_key a.sweep.buffer (entry_key header.kind e) ≡ true
+
+  pub goes_over : WentOver
+  goes_over = record {
+    slot = copies.slot;
+    header = h;
+    there = read.there;
+    source_is = read.id_is;
+    within = source_below;
+    stop = plan.next;
+    from = omega (arith, is.next_is);
+    most = is.within;
+    goes = by_end plan.ended refl has_plan.ends;
+    taken = λ number e below there copy live.
+        found_filled copies.slot number h e read.there read.id_is there (λ stopped here. omega (arith, below, stops plan.ended has_plan.ends stopped here)) copy live;
+  }
+    where
+      by_end : (ended : Bool) → plan.ended ≡ ended → EndsBy ended old.tables.held copies.slot source plan b.sweep a.sweep
+          → ((plan.next ≡ length h.entries) × (sources_before a.sweep a.sweep.next ≡ suc source) × (entry_in a.sweep.next ≡ 0))
+          ⊎ ((sources_before a.sweep a.sweep.next ≡ source) × (entry_in a.sweep.next ≡ plan.next))
+      by_end true ended (inl (some, waits, ready, next)) =
+          let place = next_place old.tables.held b.sweep.sources.items plan.buffer (source + 1) 0 a.sweep (omega (arith, sources_same)) (omega (arith, source_below)) (λ none. absurd (omega (arith, none))) a.sweep.next next in
+          inl (eqb-true plan.next (length h.entries) (sym is.ended_is ∙ ended), omega (arith, place.0), place.1)
+      by_end true ended (inr (none, waits, ready, next)) =
+          inl (eqb-true plan.next (length h.entries) (sym is.ended_is ∙ ended), ap (sources_before a.sweep) next ∙ (let one : source + 1 ≡ suc source = omega arith in one), ap entry_in next)
+      by_end false ended (waits, ready, next) = inr (ap (sources_before a.sweep) next, ap entry_in next)
 
 -- ---- what a step found
 

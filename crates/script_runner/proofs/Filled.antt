@@ -1,5 +1,5 @@
 -- What a collection has copied that isn't written yet: a step that copies adds keys that are to be copied then, and a flush writes them all.
-use Rattle.std.proofs.Common.{◌≡◌, ◌≢◌, ◌∷◌, inl, inr, ◌+◌, ◌<◌, ℕ, List, [], length, get_or, map, Option, Some, None, refl, sym, ◌∙◌, ap, subst, arith, nat_lt, true, false}
+use Rattle.std.proofs.Common.{◌≡◌, ◌≢◌, ◌∷◌, inl, inr, ◌+◌, ◌<◌, ℕ, List, [], length, get_or, map, Option, Some, None, refl, sym, ◌∙◌, ap, subst, arith, nat_lt}
 use Rattle.std.specs.Prelude.{Contains, slice_get}
 use Rattle.std.proofs.lemmas.List.{length-map}
 use Rattle.std.specs.FinMap as finite

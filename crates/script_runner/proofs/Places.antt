@@ -1,5 +1,5 @@
 -- How far a collection has copied its sources: a step that copies goes over entries of one, and others over none.
-use Rattle.std.proofs.Common.{◌≡◌, ◌≢◌, ◌⊎◌, inl, inr, ◌+◌, ◌<◌, ◌≤◌, ℕ, zero, suc, List, [], ◌∷◌, length, get_or, true, Option, Some, refl, sym, ◌∙◌, ap, subst, arith}
+use Rattle.std.proofs.Common.{◌≡◌, inl, inr, ◌+◌, ◌≤◌, ℕ, suc, List, [], ◌∷◌, length, get_or, true, Option, Some, refl, sym, ◌∙◌, ap, subst, arith}
 use Rattle.std.specs.Prelude.{Contains}
 use Rattle.container_meta.specs.declared.entry.Entry.{Entry}
 use Rattle.container_meta.specs.declared.kind.Kind.{Kind}
@@ -32,7 +32,6 @@ use Rattle.store_core.specs.State.{CoreState}
 use Rattle.store_core.proofs.ByNeed.{of_listed}
 use Rattle.store_core.proofs.FoundCopies.{goes_over, next_place}
 use Rattle.plain_machine.specs.Collections.{GoesOver}
-use Rattle.plain_machine.specs.Content.{OfStore}
 use Rattle.plain_machine.specs.Machine.{Machine}
 use Rattle.script_runner.specs.Follows.{HasPlace, IsLiveAtStage, LivesJust}
 use Rattle.script_runner.proofs.Filled.{filled_of}

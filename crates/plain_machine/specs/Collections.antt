@@ -113,21 +113,15 @@ RecordsBy phase alone Was snapshot m recorded next = next ≡ recorded
 abbrev pub IsOrWasNeeded : Files → (Was : List ℕ → Type 0) → List ℕ → Type 0
 IsOrWasNeeded files Was key = IsReachable files key ⊎ Was key
 
--- What is copied and not yet written, after a step. A step that copies keeps what was there, and adds only keys that were needed as the
--- collection began, or since (Was), and whose newest copies are in containers whose ids are chosen. A flush leaves nothing.
-abbrev pub FillsBy : Phase → (Was : List ℕ → Type 0) → (Chosen : ℕ → Type 0) → Machine → (filled now : List (List ℕ)) → Type 0
-FillsBy Copy Was Chosen m filled now =
-    ((key : List ℕ) → Contains filled key → Contains now key)
-    × ((key : List ℕ) → Contains now key → Contains filled key ⊎ OfStore m.content (λ store. IsToCopy Was Chosen store.held key))
-FillsBy Flush Was Chosen m filled now = now ≡ []
-FillsBy phase Was Chosen m filled now = now ≡ filled
-
--- Which entries a step goes over: one that copies some of the next source (CopiesFrom), and others none.
-abbrev pub GoesOver : Phase → (Was : List ℕ → Type 0) → (sources : List ℕ) → Machine → (filled : List (List ℕ))
+-- What is copied and not yet written, after a step, and how far the sources are copied. A step that copies goes over entries of the next
+-- source, and takes just the keys that were needed as the collection began, or since (Was), and whose newest copies are among them
+-- (CopiesFrom). A flush leaves nothing to be written. No other step goes over any, or changes what is to be written.
+abbrev pub GoesOver : Phase → (Was : List ℕ → Type 0) → (sources : List ℕ) → Machine → (filled now : List (List ℕ))
     → (source entry source_now entry_now : ℕ) → Type 0
-GoesOver Copy Was sources m filled source entry source_now entry_now =
-    OfStore m.content (λ store. CopiesFrom Was sources store.held filled source entry source_now entry_now)
-GoesOver phase Was sources m filled source entry source_now entry_now = (source_now ≡ source) × (entry_now ≡ entry)
+GoesOver Copy Was sources m filled now source entry source_now entry_now =
+    OfStore m.content (λ store. CopiesFrom Was sources store.held filled now source entry source_now entry_now)
+GoesOver Flush Was sources m filled now source entry source_now entry_now = (now ≡ []) × (source_now ≡ source) × (entry_now ≡ entry)
+GoesOver phase Was sources m filled now source entry source_now entry_now = (now ≡ filled) × (source_now ≡ source) × (entry_now ≡ entry)
 
 -- how far it is tells whether something is to be written
 abbrev pub TellsFilled : Progress → List (List ℕ) → Type 0
@@ -189,10 +183,21 @@ abbrev pub MayCome : Phase → Progress → Type 0
 MayCome End progress = progress ≡ Sweeping false false
 MayCome phase progress = (next : Progress) × GoesTo phase progress next
 
+-- one copies only while a source is left to be copied, and ends only where none is
+abbrev pub HasSource : Phase → (source : ℕ) → (sources : List ℕ) → Type 0
+HasSource Copy source sources = source < length sources
+HasSource End source sources = source ≡ length sources
+HasSource phase source sources = Unit {0}
+
+-- the next step of one that has come so far may be this one
+abbrev pub IsNextOf : Phase → Collecting → Type 0
+IsNextOf phase running = MayCome phase running.progress
+    × HasSource phase running.source (sources_of (selected running.snapshot running.percent running.recorded))
+
 -- one runs, whose next step may be this one
 abbrev pub IsCollecting : Phase → Option Collecting → Type 0
 IsCollecting phase None = ⊥
-IsCollecting phase (Some running) = MayCome phase running.progress
+IsCollecting phase (Some running) = IsNextOf phase running
 
 -- something was copied that isn't written yet; and where it runs alone there is a key that is to be copied
 abbrev pub HasToCopy : Option Collecting → Machine → Type 0
@@ -242,12 +247,11 @@ pub record StepsCollection (phase : Phase) (m n : Machine) : Type 0 where
   pub short : IsShort phase freed (selected snapshot percent recorded)
   pub copies : ℕ
   pub filled_now : List (List ℕ)
-  pub fills : FillsBy phase (WasNeeded since) (IsSelectedId snapshot percent recorded) m filled filled_now
   pub tells : TellsFilled next filled_now
   pub source_now : ℕ
   pub entry_now : ℕ
-  pub goes_over : GoesOver phase (WasNeeded since) (sources_of (selected snapshot percent recorded)) m filled_now source entry source_now
-      entry_now
+  pub goes_over : GoesOver phase (WasNeeded since) (sources_of (selected snapshot percent recorded)) m filled filled_now source entry
+      source_now entry_now
   pub written_now : List (List ℕ)
   pub changes : ChangesBy phase alone (WasNeeded since) (IsSelectedId snapshot percent recorded) snapshot copies filled written written_now m
       n.content
@@ -334,7 +338,7 @@ pub record BreaksStep (m : Machine) (new : List ℕ) : Type 0 where
   pub running : Collecting
   pub ran : m.collecting ≡ Some running
   pub phase : Phase
-  pub may : MayCome phase running.progress
+  pub may : IsNextOf phase running
   pub breaks : BreaksBy phase (WasNeeded running.since) (IsSelectedId running.snapshot running.percent running.recorded) running.snapshot m new
 
 -- Why no step is made. Copies are not written where no id is left, and there are some to be written. Where a write or a sync failed the store

@@ -128,9 +128,21 @@ pub record IsToCopy (P : List ℕ → Type 0) (Chosen : ℕ → Type 0) (held : 
   pub copy_is : newest 0 held key ≡ Some copy
   pub chosen : Chosen copy.id
 
+-- Of the entries of a container, from a number on and below another, one is the newest copy of the key, of which P holds.
+pub record IsAmong (P : List ℕ → Type 0) (held : List (Option HeaderValue)) (slot : ℕ) (header : HeaderValue) (first stop : ℕ)
+    (key : List ℕ) : Type 0 where
+  pub number : ℕ
+  pub entry : Entry
+  pub from : first ≤ number
+  pub below : number < stop
+  pub there : slice_get header.entries number ≡ Some entry
+  pub key_is : entry_key header.kind entry ≡ key
+  pub copy : IsNeededCopy P held header.kind slot entry
+
 -- Of the sources of these ids one is copied, that of a number, from an entry of it on: up to its end, where the next one comes, or up to an
--- entry where it goes on. Of the entries between each that is the newest copy of a key of which Was holds has its key among these then.
-pub record CopiesFrom (Was : List ℕ → Type 0) (sources : List ℕ) (held : List (Option HeaderValue)) (keys : List (List ℕ))
+-- entry where it goes on. Of the entries between just those are taken that are newest copies of keys of which Was holds: what is filled now is
+-- what was filled, and their keys.
+pub record CopiesFrom (Was : List ℕ → Type 0) (sources : List ℕ) (held : List (Option HeaderValue)) (filled now : List (List ℕ))
     (source entry source_now entry_now : ℕ) : Type 0 where
   pub slot : ℕ
   pub header : HeaderValue
@@ -141,8 +153,10 @@ pub record CopiesFrom (Was : List ℕ → Type 0) (sources : List ℕ) (held : L
   pub from : entry ≤ stop
   pub most : stop ≤ length header.entries
   pub goes : ((stop ≡ length header.entries) × (source_now ≡ suc source) × (entry_now ≡ 0)) ⊎ ((source_now ≡ source) × (entry_now ≡ stop))
+  pub stays : (key : List ℕ) → Contains filled key → Contains now key
   pub taken : (number : ℕ) (e : Entry) → entry ≤ number → number < stop → slice_get header.entries number ≡ Some e
-      → IsNeededCopy Was held header.kind slot e → Contains keys (entry_key header.kind e)
+      → IsNeededCopy Was held header.kind slot e → Contains now (entry_key header.kind e)
+  pub only : (key : List ℕ) → Contains now key → Contains filled key ⊎ IsAmong Was held slot header entry stop key
 
 -- Copies were written: a container of so many segments, each of which was held, stands in the free slot of least number, under the id after
 -- the last one, and all else is as it was. Their keys are just those that were filled. The collection wrote none of them before, and they are

@@ -42,7 +42,7 @@ use Rattle.store_core.specs.Core.{CoreStep, IndexesAll}
 use Rattle.store_core.specs.Runs.{IsAt, IsSafeIn}
 use Rattle.store_core.specs.State.{CoreState, IsUnderWayIn}
 use Rattle.store_core.proofs.Leading.{Leads}
-use Rattle.plain_machine.specs.Collections.{ChangesBy, FillsBy, GoesOver, GoesTo, IsOrWasNeeded, IsShort, RecordsBy, StepsCollection, forgets_by, freed_by, last_by}
+use Rattle.plain_machine.specs.Collections.{ChangesBy, GoesOver, GoesTo, IsOrWasNeeded, IsShort, RecordsBy, StepsCollection, forgets_by, freed_by, last_by}
 use Rattle.plain_machine.specs.Content.{SameStore}
 use Rattle.plain_machine.specs.Machine.{Collecting, Machine, WasNeeded}
 use Rattle.script_runner.specs.Follows.{CountsEach, FollowsCollecting, HasCounted, HasFilled, HasPlace, IsAtProgress, IsWritten, HoldsCollection, IsLiveAtStage, LivesByNeed, LivesJust, SparesNeeded, WroteOnce}
@@ -55,10 +55,10 @@ use Rattle.script_runner.proofs.CollectParts.{gc_event}
 use Rattle.script_runner.proofs.CollectProgress.{Progresses, ReadsSame, progresses}
 use Rattle.script_runner.proofs.CollectRecords.{records_on}
 use Rattle.script_runner.proofs.CollectStep.{HasCollecting, Stepped, image, last_after, leads, low_after, runs_then, same_index, same_so, same_some, some_collecting, steps, told, touched, under}
-use Rattle.script_runner.proofs.Filled.{fills_made, filled_of, has_filled, tells_filled}
+use Rattle.script_runner.proofs.Filled.{filled_of, has_filled, tells_filled}
 use Rattle.script_runner.proofs.Lives.{IsSameIn, lives_made}
-use Rattle.script_runner.proofs.Places.{entry_of, has_place, over_made, source_of}
-use Rattle.script_runner.proofs.SweepContent.{chosen_so, copies_added, filled_to_copy, freed}
+use Rattle.script_runner.proofs.Places.{entry_of, has_place, over_made, source_of, sources_recorded}
+use Rattle.script_runner.proofs.SweepContent.{copies_added, filled_to_copy, freed}
 use Rattle.script_runner.proofs.Sweeping.{IsFewIn, few_after, few_by, left_by, left_on}
 use Rattle.script_runner.proofs.TurnHolds.{right_here}
 use Rattle.script_runner.proofs.TurnRunning.{RunsAt}
@@ -388,43 +388,21 @@ module _ (C : Type 0) (state : C → CoreState) (among : ByteSet) (apart : HasNo
   )
   changes_at Sweep End is next_is touch tables other = absurd (other refl)
 
-  -- what is filled
-  fills : FillsBy phase Was Chosen m has.collecting.filled filled_now
-  fills =
-      subst (λ (p : Phase). FillsBy p Was Chosen m has.collecting.filled filled_now) stage_phase
-      (fills_made among at.running.begins.store m.stored (state old) (state new) begins goes.before goes.after goes.ran goes.runs m at.content_is (λ is. at_stage (state old).tables.held goes.before Sweep under_before is) Was Chosen
-      lives_before.within chosen_sources has.collecting.filled filled_before goes.steps not_end)
-    where
-      under_before : IsUnderWay (state old).tables.held goes.before
-      under_before = under C state among apart m sessions old new at did buf made goes.before goes.ran
-
-      chosen_sources : goes.before.stage ≡ Sweep → (id : ℕ) → Contains goes.before.sweep.sources.items id → Chosen id
-      chosen_sources is =
-          chosen_so among at.running.begins.store m.stored (state old) (state new) begins at.running.begins.settled m.content image_now at.content_is told_now goes.before goes.ran is has.collecting.snapshot has.collecting.percent
-          has.collecting.recorded snapshot_before percent_before recorded_before
-
   -- which entries it goes over
   abbrev Sources : List ℕ
   Sources = sources_of (selected has.collecting.snapshot has.collecting.percent has.collecting.recorded)
 
-  over : GoesOver phase Was Sources m filled_now has.collecting.source has.collecting.entry (source_of goes.after.stage goes.after.sweep) (entry_of goes.after.stage goes.after.sweep)
+  over : GoesOver phase Was Sources m has.collecting.filled filled_now has.collecting.source has.collecting.entry (source_of goes.after.stage goes.after.sweep) (entry_of goes.after.stage goes.after.sweep)
   over =
-      subst (λ (p : Phase). GoesOver p Was Sources m filled_now has.collecting.source has.collecting.entry (source_of goes.after.stage goes.after.sweep) (entry_of goes.after.stage goes.after.sweep)) stage_phase
+      subst (λ (p : Phase). GoesOver p Was Sources m has.collecting.filled filled_now has.collecting.source has.collecting.entry (source_of goes.after.stage goes.after.sweep) (entry_of goes.after.stage goes.after.sweep)) stage_phase
       (over_made among at.running.begins.store m.stored (state old) (state new) begins goes.before goes.after goes.ran goes.runs m at.content_is (λ is. at_stage (state old).tables.held goes.before Sweep under_so is) Was lives_before Sources
-      sources_now has.collecting.source has.collecting.entry place_before goes.steps not_end)
+      (sources_recorded (state old).tables.held goes.before has.collecting under_so snapshot_before percent_before recorded_before) has.collecting.filled has.collecting.source has.collecting.entry filled_before place_before goes.steps not_end)
     where
       under_so : IsUnderWay (state old).tables.held goes.before
       under_so = under C state among apart m sessions old new at did buf made goes.before goes.ran
 
       place_before : HasPlace goes.before.stage goes.before.sweep has.collecting.source has.collecting.entry
       place_before = subst (λ (c : Collection). HasPlace c.stage c.sweep has.collecting.source has.collecting.entry) same has.follows.place_is
-
-      sources_now : goes.before.stage ≡ Sweep → goes.before.sweep.sources.items ≡ Sources
-      sources_now is =
-          subst (λ (n : ℕ). goes.before.sweep.sources.items ≡ sources_of (selected n has.collecting.percent has.collecting.recorded)) snapshot_before
-          (subst (λ (n : ℕ). goes.before.sweep.sources.items ≡ sources_of (selected goes.before.snapshot n has.collecting.recorded)) percent_before
-          (subst (λ (rs : List ContainerLiveness). goes.before.sweep.sources.items ≡ sources_of (selected goes.before.snapshot goes.before.percent rs)) recorded_before
-          (subst (λ (stage : Stage). HasChosen stage goes.before) is under_so.sources_are)))
 
   changes : ChangesBy phase has.collecting.alone Was Chosen has.collecting.snapshot copies has.collecting.filled has.collecting.written written_now m image_now
   changes =
@@ -514,7 +492,6 @@ module _ (C : Type 0) (state : C → CoreState) (among : ByteSet) (apart : HasNo
       entry = has.collecting.entry;
       filled = has.collecting.filled;
       filled_now = filled_now;
-      fills = fills;
       tells = tells_filled leads_on.next goes.after leads_on.is_at;
       source_now = source_of goes.after.stage goes.after.sweep;
       entry_now = entry_of goes.after.stage goes.after.sweep;

@@ -9,7 +9,7 @@ use Rattle.refusals.specs.declared.refusal.Phase.{Phase}
 use Rattle.refusals.specs.declared.refusal.Phase.TheVariants as phases
 use Rattle.refusals.specs.declared.refusal.Refusal.{Refusal}
 use Rattle.refusals.specs.declared.refusal.Refusal.TheVariants as refusals
-use Rattle.gc_select.specs.Selecting.{IsSelectedId}
+use Rattle.gc_select.specs.Selecting.{IsSelectedId, selected, sources_of}
 use Rattle.gc_steps.specs.declared.collection.Collection.{Collection}
 use Rattle.gc_steps.specs.declared.collection.Stage.{Stage}
 use Rattle.gc_steps.specs.declared.collection.Stage.TheVariants.{Mark, Filter, Select, Sweep}
@@ -33,10 +33,10 @@ use Rattle.store_core.specs.Core.{CoreStep, IndexesAll, Steps}
 use Rattle.store_core.specs.Runs.{ChangesTo, IsAt}
 use Rattle.store_core.specs.State.{CoreState}
 use Rattle.store_core.proofs.JustNeeded.{kept_takes}
-use Rattle.plain_machine.specs.Collections.{BreaksBy, BreaksStep, HasToCopy, IsCollecting, IsOrWasNeeded, MayCome, MayRead, RefusesCollectionStep}
+use Rattle.plain_machine.specs.Collections.{BreaksBy, BreaksStep, HasSource, HasToCopy, IsCollecting, IsNextOf, IsOrWasNeeded, MayCome, MayRead, RefusesCollectionStep}
 use Rattle.plain_machine.specs.Content.{SameStore}
 use Rattle.plain_machine.specs.Machine.{Collecting, Machine, Marking, Progress, Recording, Stopped, Sweeping, WasNeeded}
-use Rattle.script_runner.specs.Follows.{Follows, HasFilled, IsAtProgress, IsOfFound, HoldsCollection, IsLiveAtStage, LivesByNeed, LivesJust, SparesNeeded, WroteOnce}
+use Rattle.script_runner.specs.Follows.{Follows, HasFilled, IsOfFound, HoldsCollection, IsLiveAtStage, LivesByNeed, LivesJust, SparesNeeded, WroteOnce}
 use Rattle.script_runner.specs.Sessions.{Sessions}
 use Rattle.script_runner.proofs.CollectBytes.{GivesNothing, IsRest}
 use Rattle.script_runner.proofs.CollectCauses.{IsCauseAt, IsCollectCause, IsReadCause, IsRestCause, cause_at, collect_cause}
@@ -44,24 +44,24 @@ use Rattle.script_runner.proofs.CollectEnd.{not_collecting}
 use Rattle.script_runner.proofs.CollectionOn.{by_collection, same_come}
 use Rattle.script_runner.proofs.CollectNeeds.{needs_closed, needs_here, told_here}
 use Rattle.script_runner.proofs.CollectParts.{gc_event}
-use Rattle.script_runner.proofs.CollectProgress.{may_come}
 use Rattle.script_runner.proofs.CollectIndex.{rest_index}
 use Rattle.script_runner.proofs.Filled.{first_key}
 use Rattle.script_runner.proofs.Lives.{IsSameIn, kept_marks, lives_kept}
 use Rattle.script_runner.proofs.CollectStep.{HasCollecting, flush_same, image, is_collecting, keeps, kept_unchanged, leads, right, runs_then, same_index, same_so, same_some, some_collecting, step, steps, told, touched, under}
 use Rattle.script_runner.proofs.Harmless.{is_harmless}
+use Rattle.script_runner.proofs.Places.{is_next_of}
 use Rattle.script_runner.proofs.SweepContent.{copies_broke, freeing_broke, some_to_copy}
 use Rattle.script_runner.proofs.TurnRunning.{RunsAt, follows_at}
 use Rattle.script_runner.proofs.WrittenOnce.{once_unchanged}
 
 -- where the sources may be chosen, it may mark or record, too
-chooses_reads : (k : Collecting) → MayCome phases.Select k.progress → MayRead (Some k)
-chooses_reads k may = by_progress k.progress may
+chooses_reads : (k : Collecting) → IsNextOf phases.Select k → MayRead (Some k)
+chooses_reads k may = by_progress k.progress may.0
   where
-    by_progress : (progress : Progress) → MayCome phases.Select progress
-        → MayCome phases.Mark progress ⊎ MayCome phases.Filter progress ⊎ MayCome phases.Copy progress ⊎ MayCome phases.Flush progress
-    by_progress Marking may = inl (Marking, refl)
-    by_progress Recording may = inr (inl (Recording, refl))
+    by_progress : (progress : Progress) → MayCome phases.Select progress → (MayCome phases.Mark progress × Unit {0}) ⊎ (MayCome phases.Filter progress × Unit {0})
+        ⊎ (MayCome phases.Copy progress × HasSource phases.Copy k.source (sources_of (selected k.snapshot k.percent k.recorded))) ⊎ (MayCome phases.Flush progress × Unit {0})
+    by_progress Marking may = inl ((Marking, refl), tt)
+    by_progress Recording may = inr (inl ((Recording, refl), tt))
     by_progress (Sweeping ready filled) may = absurd may.1
 
 module _ (C : Type 0) (state : C → CoreState) (among : ByteSet) (apart : HasNoCollisions (IsIn among)) (m : Machine) (sessions : Sessions) (old new : C) (at : RunsAt (IsIn among) m sessions (state old)) (buf : List ℕ) where
@@ -97,10 +97,9 @@ module _ (C : Type 0) (state : C → CoreState) (among : ByteSet) (apart : HasNo
     may_be = collect_cause row.before.stage row.before.sweep.next (state old).tables refusal cause
 
     -- the machine's next step may be that one
-    next_may : MayCome (phase_at row.before.stage row.before.sweep.next) has_some.collecting.progress
+    next_may : IsNextOf (phase_at row.before.stage row.before.sweep.next) has_some.collecting
     next_may =
-        may_come has_some.collecting.progress row.before
-        (subst (IsAtProgress has_some.collecting.progress) (same_some has_some.follows.collection row.before (state old).collection has_some.follows.runs row.ran) has_some.follows.progress_is)
+        is_next_of has_some.collecting (state old) row.before has_some.follows row.ran (under C state among apart m sessions old new at err buf made row.before row.ran)
 
     snapshot_before : row.before.snapshot ≡ has_some.collecting.snapshot
     snapshot_before = subst (λ (c : Collection). c.snapshot ≡ has_some.collecting.snapshot) (same_some has_some.follows.collection row.before (state old).collection has_some.follows.runs row.ran) has_some.follows.snapshot_is
@@ -116,7 +115,7 @@ module _ (C : Type 0) (state : C → CoreState) (among : ByteSet) (apart : HasNo
 
     collects_as : (phase : Phase) → phase_at row.before.stage row.before.sweep.next ≡ phase → IsCollecting phase m.collecting
     collects_as phase is =
-        subst (IsCollecting phase) (sym has_some.is) (subst (λ (p : Phase). MayCome p has_some.collecting.progress) is next_may)
+        subst (IsCollecting phase) (sym has_some.is) (subst (λ (p : Phase). IsNextOf p has_some.collecting) is next_may)
 
     -- ---- what it leaves of the content
 
@@ -247,7 +246,7 @@ module _ (C : Type 0) (state : C → CoreState) (among : ByteSet) (apart : HasNo
           running = has_some.collecting;
           ran = has_some.is;
           phase = phase_at stage next;
-          may = subst (λ (p : Phase). MayCome p has_some.collecting.progress) (ap (λ (s : Stage). phase_at s row.before.sweep.next) stage_is ∙ ap (phase_at stage) next_is) next_may;
+          may = subst (λ (p : Phase). IsNextOf p has_some.collecting) (ap (λ (s : Stage). phase_at s row.before.sweep.next) stage_is ∙ ap (phase_at stage) next_is) next_may;
           breaks = breaks;
         }
 
@@ -316,7 +315,7 @@ module _ (C : Type 0) (state : C → CoreState) (among : ByteSet) (apart : HasNo
         by_stage (Filter slot) next stage_is next_is at_stage = inr (inl (collects_as phases.Filter (ap (λ (s : Stage). phase_at s row.before.sweep.next) stage_is)))
         by_stage Select next stage_is next_is at_stage =
             subst MayRead (sym has_some.is)
-            (chooses_reads has_some.collecting (subst (λ (p : Phase). MayCome p has_some.collecting.progress) (ap (λ (s : Stage). phase_at s row.before.sweep.next) stage_is) next_may))
+            (chooses_reads has_some.collecting (subst (λ (p : Phase). IsNextOf p has_some.collecting) (ap (λ (s : Stage). phase_at s row.before.sweep.next) stage_is) next_may))
         by_stage Sweep (Copy source entry) stage_is next_is at_stage =
             inr (inr (inl (collects_as phases.Copy (ap (λ (s : Stage). phase_at s row.before.sweep.next) stage_is ∙ ap (phase_at Sweep) next_is))))
         by_stage Sweep (Flush source entry) stage_is next_is at_stage =

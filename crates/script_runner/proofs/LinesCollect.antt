@@ -9,13 +9,13 @@ use Rattle.script_lines.specs.ReplyValue as replies
 use Rattle.script_lines.specs.ReplyValue.{ReplyValue}
 use Rattle.store_model.specs.Collisions.{HasNoCollisions, ByteSet, IsIn}
 use Rattle.store_model.specs.Files.{Stored}
-use Rattle.store_core.specs.State.{CoreState}
-use Rattle.plain_machine.specs.Collections.{CollectionSteps, IsCollecting, MayCome, RefusesCollectionStep, RefusesSweep}
+use Rattle.store_core.specs.State.{CoreState, IsUnderWayIn}
+use Rattle.plain_machine.specs.Collections.{CollectionSteps, IsCollecting, IsNextOf, RefusesCollectionStep, RefusesSweep}
 use Rattle.plain_machine.specs.Machine.{Machine, Running}
 use Rattle.plain_machine.specs.Refused.{IsAtRightPart, Refuses}
 use Rattle.script_runner.specs.Acts.{Acts, ActsOrNot, Admits, CollectionRun, RunnerState, Starts}
-use Rattle.script_runner.specs.Follows.{Follows, IsAtProgress}
-use Rattle.script_runner.proofs.CollectProgress.{may_come}
+use Rattle.script_runner.specs.Follows.{Follows}
+use Rattle.script_runner.proofs.Places.{is_next_of}
 use Rattle.script_runner.specs.Sessions.{Sessions}
 use Rattle.script_runner.proofs.Along.{GoesAlong}
 use Rattle.script_runner.proofs.CollectStart.{started_step, unstarted_memory, unstarted_running}
@@ -23,7 +23,7 @@ use Rattle.script_runner.proofs.CollectStart as start
 use Rattle.script_runner.proofs.CollectEnd.{ended_step}
 use Rattle.script_runner.proofs.CollectMade.{did_step}
 use Rattle.script_runner.proofs.CollectRefused.{refused_step}
-use Rattle.script_runner.proofs.CollectStep.{none_collecting, same_some, some_collecting}
+use Rattle.script_runner.proofs.CollectStep.{none_collecting, some_collecting}
 use Rattle.script_runner.proofs.CollectStep as collect
 use Rattle.script_runner.proofs.LinesBarred.{right_part, taken_or_not}
 use Rattle.script_runner.proofs.LinesTurn.{line_keeps}
@@ -94,8 +94,8 @@ module _ (C : Type 0) (state : C → CoreState) (among : ByteSet) (distinct : Ha
       line_keeps C state S (lines.Gc percent) (replies.Refused (refusals.Collecting phase)) m r s is m (
         right_part S m r.sessions (state r.core) follows (at is).running (lines.Gc percent) admits,
         (
-          subst (IsCollecting phase) (sym has.is) (subst (λ (p : Phase). MayCome p has.collecting.progress) (sym so.made.row.0.1.1) (may_come has.collecting.progress so.made.row.0.0
-              (subst (IsAtProgress has.collecting.progress) (same_some has.follows.collection so.made.row.0.0 (state r.core).collection has.follows.runs so.made.row.0.1.0) has.follows.progress_is))),
+          subst (IsCollecting phase) (sym has.is) (subst (λ (p : Phase). IsNextOf p has.collecting) (sym so.made.row.0.1.1) (is_next_of has.collecting (state r.core) so.made.row.0.0 has.follows so.made.row.0.1.0
+              (subst (IsUnderWayIn (state r.core).tables.held) so.made.row.0.1.0 (at is).running.begins.is_at.under_way))),
           refl,
         ),
       ) r.sessions sessions

@@ -225,13 +225,41 @@ module _ (among : ByteSet) (s : Store) (stored : Stored) (old new : CoreState) (
       ap (λ (c : Contents). has_key c key) has_plan.buffer_is
       ∙ filled_on index s.held image b.live b.snapshot source entry b.sweep copies.slot copies.kind copies.filling h partial read old.disk new.disk told plan is key has
 
-  -- what is filled then was before, or was found
-  pub filled_found : (key : List ℕ) → has_key a.sweep.buffer key ≡ true → (has_key b.sweep.buffer key ≡ true) ⊎ FindsLive (IsIn among) old new key
-  filled_found key has =
+  -- of these entries of the source one, which the step went over, is the index's copy of the key, and live
+  pub record TookIn (header : HeaderValue) (slot stop : ℕ) (key : List ℕ) : Type 0 where
+    pub number : ℕ
+    pub found : Entry
+    pub from : entry ≤ number
+    pub below : number < stop
+    pub found_is : slice_get header.entries number ≡ Some found
+    pub key_is : entry_key header.kind found ≡ key
+    pub copy : is_copy index header.kind slot found ≡ true
+    pub live : IsLiveAt b.live key (place_of slot found)
+
+  -- what is filled then was before, or is the key of such an entry
+  took_in : (key : List ℕ) → has_key a.sweep.buffer key ≡ true → (has_key b.sweep.buffer key ≡ true) ⊎ TookIn h copies.slot plan.next key
+  took_in key has =
       elim (takes_new src (Shows old.disk new.disk) index refl (drop entry h.entries) (planned copies.filling []) (planned plan.buffer plan.dead.items) is.passed read.kind_is is.takes key
       (ap (λ (c : Contents). has_key c key) (sym has_plan.buffer_is) ∙ has)) [
         | inl was ↦ inl (filled_was index s.held image b.live b.snapshot source entry b.sweep copies.slot copies.kind copies.filling h partial read old.disk new.disk told plan is key was)
-        | inr taken ↦ inr (let one : FindsLive (IsIn among) old new key = record {
+        | inr taken ↦ inr (let one : TookIn h copies.slot plan.next key = record {
+          number = entry + taken.number;
+          found = taken.entry;
+          from = omega arith;
+          below = omega (arith, taken.below, is.next_is);
+          found_is = sym (dropped entry h.entries taken.number) ∙ taken.there;
+          key_is = taken.key_is;
+          copy = taken.copy;
+          live = subst (λ (k : List ℕ). IsLiveAt b.live k (place_of copies.slot taken.entry)) taken.key_is taken.live;
+        } in one)
+      ]
+
+  -- and was found so
+  pub filled_found : (key : List ℕ) → has_key a.sweep.buffer key ≡ true → (has_key b.sweep.buffer key ≡ true) ⊎ FindsLive (IsIn among) old new key
+  filled_found key has =
+      elim (took_in key has) [
+        | inl was ↦ inl was
+        | inr took ↦ inr (let one : FindsLive (IsIn among) old new key = record {
           store = s;
           stored = stored;
           is_at = at;
@@ -247,14 +275,14 @@ module _ (among : ByteSet) (s : Store) (stored : Stored) (old new : CoreState) (
           header = h;
           there = read.there;
           source_is = read.id_is;
-          number = entry + taken.number;
-          found = taken.entry;
-          found_is = sym (dropped entry h.entries taken.number) ∙ taken.there;
-          from = omega arith;
-          passed = λ stopped here. omega (arith, taken.below, is.next_is, stops plan.ended has_plan.ends stopped here);
-          key_is = taken.key_is;
-          copy = taken.copy;
-          live = subst (λ (k : List ℕ). IsLiveAt b.live k (place_of copies.slot taken.entry)) taken.key_is taken.live;
+          number = took.number;
+          found = took.found;
+          found_is = took.found_is;
+          from = took.from;
+          passed = λ stopped here. omega (arith, took.below, stops plan.ended has_plan.ends stopped here);
+          key_is = took.key_is;
+          copy = took.copy;
+          live = took.live;
         } in one)
       ]
 
@@ -301,7 +329,7 @@ module _ (among : ByteSet) (s : Store) (stored : Stored) (old new : CoreState) (
   sources_same = ap (λ (xs : _). length xs.items) copies.others.sources_are
 
   -- The step went over the entries of a source from the one where it stood up to where it stopped, which is the source's end, or where it goes
-  -- on. Of those between each that is live, and the index's copy, is filled then.
+  -- on. Of those between each that is live, and the index's copy, is filled then; and nothing else is that was not filled before.
   pub record WentOver : Type 0 where
     pub slot : ℕ
     pub header : HeaderValue
@@ -315,6 +343,7 @@ module _ (among : ByteSet) (s : Store) (stored : Stored) (old new : CoreState) (
         ⊎ ((sources_before a.sweep a.sweep.next ≡ source) × (entry_in a.sweep.next ≡ stop))
     pub taken : (number : ℕ) (e : Entry) → number < stop → slice_get header.entries number ≡ Some e → is_copy index header.kind slot e ≡ true → IsLiveAt b.live (entry_key header.kind e) (place_of slot e)
         → has_key a.sweep.buffer (entry_key header.kind e) ≡ true
+    pub only : (key : List ℕ) → has_key a.sweep.buffer key ≡ true → (has_key b.sweep.buffer key ≡ true) ⊎ TookIn header slot stop key
 
   pub goes_over : WentOver
   goes_over = record {
@@ -329,6 +358,7 @@ module _ (among : ByteSet) (s : Store) (stored : Stored) (old new : CoreState) (
     goes = by_end plan.ended refl has_plan.ends;
     taken = λ number e below there copy live.
         found_filled copies.slot number h e read.there read.id_is there (λ stopped here. omega (arith, below, stops plan.ended has_plan.ends stopped here)) copy live;
+    only = took_in;
   }
     where
       by_end : (ended : Bool) → plan.ended ≡ ended → EndsBy ended old.tables.held copies.slot source plan b.sweep a.sweep

@@ -37,14 +37,13 @@ use Rattle.store_model.specs.Freeing.{with_freed}
 use Rattle.store_model.specs.Image.{Store}
 use Rattle.store_model.specs.Indexing.{with_entries}
 use Rattle.store_model.specs.Slots.{Copy as HeldCopy, IsPartialIndexOf, first_free, free_slots, newest}
-use Rattle.store_model.specs.Standing.{IsStoreOf}
 use Rattle.store_model.specs.Steps.{StoreChange, SealContainer, ChangeName, FlushContainer, FreeContainer, with_change, with_sealed}
 use Rattle.store_model.proofs.Indexing.{put_none}
-use Rattle.store_state.specs.Tables.{Represents}
 use Rattle.store_core.specs.Collecting.{at_moment}
 use Rattle.store_core.specs.Finished.{copied_keys, sealed_keys}
 use Rattle.store_core.specs.Runs.{IsAt}
 use Rattle.store_core.specs.State.{CoreState}
+use Rattle.store_core.proofs.AtStore.{AtStore, at_store}
 use Rattle.store_core.proofs.Counted.{changed_by}
 use Rattle.store_core.proofs.CopiesOnce.{HoldsNewer, keys_then, listed_found, listed_of, newer_on, not_old}
 use Rattle.store_core.proofs.FinishedStores.{Sweeps}
@@ -134,14 +133,8 @@ module _ (among : ByteSet) (s : Store) (stored : Stored) (old new : CoreState) (
   abbrev told : old.disk.content ≡ Some image
   told = at.stands.known.1
 
-  shows : Represents s (Some index) old.tables
-  shows = subst (λ (known : Option PlaceMap). Represents s known old.tables) at.index_known at.represents
-
-  stands : IsStoreOf s stored.files image
-  stands = (at.stands.each image (old.disk.as_read image told)).holds
-
-  partial : IsPartialIndexOf s.held index
-  partial = shows.index_is_newest index refl
+  core : AtStore (IsIn among) s stored old at
+  core = at_store (IsIn among) s stored old at
 
   by_map : (changes : List StoreChange) (later : PlaceMap) → new.known ≡ Some later → ComesFrom changes b a s t index later → CopiesFrom changes b a s t old new
   by_map changes later known_is from m last m_is last_is =
@@ -168,19 +161,19 @@ module _ (among : ByteSet) (s : Store) (stored : Stored) (old new : CoreState) (
         (copies : CopiesSource old.tables.held b.live (Some index) new.known old.disk new.disk source entry b.sweep a.sweep) where
       leaves : LeavesHeld index s.held image b.live b.snapshot new.known a.sweep
       leaves =
-          copied_leaves old.tables.held index s.held image b.live b.snapshot source entry b.sweep a.sweep new.known old.disk new.disk shows.slots_hold stands.right.different stands.right.slots_are partial told
+          copied_leaves old.tables.held index s.held image b.live b.snapshot source entry b.sweep a.sweep new.known old.disk new.disk core.shows.slots_hold core.stands.right.different core.stands.right.slots_are core.partial told
           sweeping next_is holds.1 copies
 
       read_here : IsReadOf index s.held b.snapshot source entry b.sweep copies.slot copies.kind copies.filling copies.plans.header
       read_here =
-          read old.tables.held index s.held image b.live b.snapshot source entry b.sweep a.sweep new.known old.disk new.disk shows.slots_hold stands.right.different stands.right.slots_are partial told sweeping
+          read old.tables.held index s.held image b.live b.snapshot source entry b.sweep a.sweep new.known old.disk new.disk core.shows.slots_hold core.stands.right.different core.stands.right.slots_are core.partial told sweeping
           next_is holds.1 copies
 
       within : HasNext old.tables.held b.sweep (Copy source entry)
       within = subst (HasNext old.tables.held b.sweep) next_is sweeping.next_is
 
       filled_from : (key : List ℕ) → has_key a.sweep.buffer key ≡ true → (has_key b.sweep.buffer key ≡ true) ⊎ ((b.stage ≡ SweepStage) × IsFromSource index s.held b.snapshot b.sweep.sources.items key)
-      filled_from key has = elim (came old.tables.held index s.held image b.live b.snapshot source entry b.sweep a.sweep new.known old.disk new.disk shows.slots_hold stands.right.different stands.right.slots_are partial told
+      filled_from key has = elim (came old.tables.held index s.held image b.live b.snapshot source entry b.sweep a.sweep new.known old.disk new.disk core.shows.slots_hold core.stands.right.different core.stands.right.slots_are core.partial told
           sweeping next_is holds.1 copies key is_live.0 place_was has) [
             | inl before ↦ inl before
             | inr here ↦ inr (

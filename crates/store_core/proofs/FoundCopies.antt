@@ -43,15 +43,14 @@ use Rattle.store_model.specs.Collisions.{ByteSet, IsIn}
 use Rattle.store_model.specs.Files.{Stored}
 use Rattle.store_model.specs.Image.{Store}
 use Rattle.store_model.specs.Indexing.{entry_key}
-use Rattle.store_model.specs.Slots.{HoldsSlot, IsPartialIndexOf, place_of}
-use Rattle.store_model.specs.Standing.{IsStoreOf}
+use Rattle.store_model.specs.Slots.{HoldsSlot, place_of}
 use Rattle.store_model.proofs.Copies.{some_same}
-use Rattle.store_state.specs.Tables.{Represents}
 use Rattle.store_state.specs.declared.slot_table.SlotTable.{SlotTable}
 use Rattle.store_core.specs.Collecting.{at_moment}
 use Rattle.store_core.specs.Finished.{FindsLive}
 use Rattle.store_core.specs.Runs.{IsAt, IsSafeIn}
 use Rattle.store_core.specs.State.{CoreState, IsUnderWayIn}
+use Rattle.store_core.proofs.AtStore.{AtStore, at_store}
 use Rattle.store_core.proofs.SparedRest.{same_some}
 
 -- ---- the entries of a source
@@ -152,14 +151,8 @@ module _ (among : ByteSet) (s : Store) (stored : Stored) (old new : CoreState) (
   abbrev told : old.disk.content ≡ Some image
   told = at.stands.known.1
 
-  shows : Represents s (Some index) old.tables
-  shows = subst (λ (known : Option PlaceMap). Represents s known old.tables) at.index_known at.represents
-
-  stands : IsStoreOf s stored.files image
-  stands = (at.stands.each image (old.disk.as_read image told)).holds
-
-  partial : IsPartialIndexOf s.held index
-  partial = shows.index_is_newest index refl
+  core : AtStore (IsIn among) s stored old at
+  core = at_store (IsIn among) s stored old at
 
   sweeping : IsSweeping old.tables.held b.snapshot b.sweep
   sweeping = at_stage old.tables.held b SweepStage (subst (IsUnderWayIn old.tables.held) ran at.under_way) stage_is
@@ -183,7 +176,7 @@ module _ (among : ByteSet) (s : Store) (stored : Stored) (old new : CoreState) (
 
   read : IsReadOf index s.held b.snapshot source entry b.sweep copies.slot copies.kind copies.filling h
   read =
-      read_of old.tables.held index s.held image b.live b.snapshot source entry b.sweep shows.slots_hold stands.right.different stands.right.slots_are sweeping next_is holds.1 copies.slot copies.kind copies.filling
+      read_of old.tables.held index s.held image b.live b.snapshot source entry b.sweep core.shows.slots_hold core.stands.right.different core.stands.right.slots_are sweeping next_is holds.1 copies.slot copies.kind copies.filling
       copies.is_source h shown
 
   record HasPlan : Type 0 where
@@ -197,7 +190,7 @@ module _ (among : ByteSet) (s : Store) (stored : Stored) (old new : CoreState) (
     where
       by_found : (o : Option Plan) → PlansBy src (Shows old.disk new.disk) h entry copies.filling o → TakesBy old.tables.held copies.slot source o b.sweep a.sweep → HasPlan
       by_found None other takes =
-          absurd (not_other old.tables.held index s.held image b.live b.snapshot source entry b.sweep shows.slots_hold stands.right.different stands.right.slots_are sweeping next_is holds.1 copies.slot copies.kind
+          absurd (not_other old.tables.held index s.held image b.live b.snapshot source entry b.sweep core.shows.slots_hold core.stands.right.different core.stands.right.slots_are sweeping next_is holds.1 copies.slot copies.kind
           copies.filling copies.is_source h shown other)
       by_found (Some plan) (kind_is, is) takes = record { plan = plan; is_plan = is; buffer_is = takes.0; ends = takes.2 }
 
@@ -223,7 +216,7 @@ module _ (among : ByteSet) (s : Store) (stored : Stored) (old new : CoreState) (
   pub filled_still : (key : List ℕ) → has_key b.sweep.buffer key ≡ true → has_key a.sweep.buffer key ≡ true
   filled_still key has =
       ap (λ (c : Contents). has_key c key) has_plan.buffer_is
-      ∙ filled_on index s.held image b.live b.snapshot source entry b.sweep copies.slot copies.kind copies.filling h partial read old.disk new.disk told plan is key has
+      ∙ filled_on index s.held image b.live b.snapshot source entry b.sweep copies.slot copies.kind copies.filling h core.partial read old.disk new.disk told plan is key has
 
   -- of these entries of the source one, which the step went over, is the index's copy of the key, and live
   pub record TookIn (header : HeaderValue) (slot stop : ℕ) (key : List ℕ) : Type 0 where
@@ -241,7 +234,7 @@ module _ (among : ByteSet) (s : Store) (stored : Stored) (old new : CoreState) (
   took_in key has =
       elim (takes_new src (Shows old.disk new.disk) index refl (drop entry h.entries) (planned copies.filling []) (planned plan.buffer plan.dead.items) is.passed read.kind_is is.takes key
       (ap (λ (c : Contents). has_key c key) (sym has_plan.buffer_is) ∙ has)) [
-        | inl was ↦ inl (filled_was index s.held image b.live b.snapshot source entry b.sweep copies.slot copies.kind copies.filling h partial read old.disk new.disk told plan is key was)
+        | inl was ↦ inl (filled_was index s.held image b.live b.snapshot source entry b.sweep copies.slot copies.kind copies.filling h core.partial read old.disk new.disk told plan is key was)
         | inr taken ↦ inr (let one : TookIn h copies.slot plan.next key = record {
           number = entry + taken.number;
           found = taken.entry;
@@ -291,7 +284,7 @@ module _ (among : ByteSet) (s : Store) (stored : Stored) (old new : CoreState) (
       (found_is : slice_get header.entries number ≡ Some found) (passed : (stopped : ℕ) → a.sweep.next ≡ Flush source stopped → number < stopped)
       (copy : is_copy index header.kind slot found ≡ true) (live : IsLiveAt b.live (entry_key header.kind found) (place_of slot found)) where
     slot_is : slot ≡ copies.slot
-    slot_is = one_slot s.held slot copies.slot header h stands.right.different there read.there (source_is ∙ sym read.id_is)
+    slot_is = one_slot s.held slot copies.slot header h core.stands.right.different there read.there (source_is ∙ sym read.id_is)
 
     header_is : header ≡ h
     header_is = one_header s.held slot copies.slot header h slot_is there read.there
@@ -312,11 +305,11 @@ module _ (among : ByteSet) (s : Store) (stored : Stored) (old new : CoreState) (
         let was : finite.get index (entry_key h.kind found) ≡ Some (place_of copies.slot found) = copy_at index h.kind copies.slot found copy_here in
         let live_here : IsLiveAt b.live (entry_key h.kind found) (place_of copies.slot found) =
         subst (λ (k : List ℕ). IsLiveAt b.live k (place_of copies.slot found)) key_is (subst (λ (n : ℕ). IsLiveAt b.live (entry_key header.kind found) (place_of n found)) slot_is live) in
-        let stays = keys_stay index s.held image b.live b.snapshot source entry b.sweep copies.slot copies.kind copies.filling h partial read old.disk new.disk told plan is (entry_key h.kind found)
+        let stays = keys_stay index s.held image b.live b.snapshot source entry b.sweep copies.slot copies.kind copies.filling h core.partial read old.disk new.disk told plan is (entry_key h.kind found)
         (place_of copies.slot found, (was, live_here)) in
         let has : has_key plan.buffer (entry_key h.kind found) ≡ true =
         of_first (λ (e : Entry). is_copy (without_keys plan.dead.items index) h.kind copies.slot e ≡ true → has_key plan.buffer (entry_key h.kind e) ≡ true) plan.next h.entries number found
-        (passed_copied index s.held image b.live b.snapshot source entry b.sweep copies.slot copies.kind copies.filling h partial read old.disk new.disk told plan is) (went_over plan.ended refl has_plan.ends) there_found
+        (passed_copied index s.held image b.live b.snapshot source entry b.sweep copies.slot copies.kind copies.filling h core.partial read old.disk new.disk told plan is) (went_over plan.ended refl has_plan.ends) there_found
         (at_copy (without_keys plan.dead.items index) h.kind copies.slot found (stays ∙ was)) in
         ap (has_key a.sweep.buffer) key_is ∙ ap (λ (c : Contents). has_key c (entry_key h.kind found)) has_plan.buffer_is ∙ has
 

@@ -54,18 +54,17 @@ use Rattle.store_model.specs.Collisions.{ByteSet, IsIn}
 use Rattle.store_model.specs.Files.{Stored}
 use Rattle.store_model.specs.Image.{Store, names_of}
 use Rattle.store_model.specs.Indexing.{with_entries}
-use Rattle.store_model.specs.Slots.{Copy as HeldCopy, HasKey, IsPartialIndexOf, newest}
-use Rattle.store_model.specs.Standing.{IsStoreOf}
+use Rattle.store_model.specs.Slots.{Copy as HeldCopy, HasKey, newest}
 use Rattle.store_model.specs.Steps.{StoreChange, SealContainer, ChangeName, FlushContainer, FreeContainer}
 use Rattle.store_model.proofs.Freed.{other_there}
 use Rattle.store_model.proofs.Indexing.{put_none}
-use Rattle.store_state.specs.Tables.{Represents}
 use Rattle.store_state.specs.declared.slot_table.SlotTable.{SlotTable}
 use Rattle.store_core.specs.Collecting.{Collects, IsKeptKey, MarksIn, StartRow, at_moment}
 use Rattle.store_core.specs.Core.{ClaimRow, Effect, KeepsUnlessBroken, NamesOne, Row, SealRow, SealsOne, StopsAfter}
 use Rattle.store_core.specs.Finished.{copied_keys, sealed_keys}
 use Rattle.store_core.specs.Runs.{IsAt, IsNoGcStep, IsSafeIn, changes_by}
 use Rattle.store_core.specs.State.{CoreState}
+use Rattle.store_core.proofs.AtStore.{AtStore, at_store}
 use Rattle.store_core.proofs.Counted.{changed_by}
 use Rattle.store_core.proofs.CopiesOnce.{keys_then}
 use Rattle.store_core.proofs.FinishedStores.{Sweeps, stands_on, still_there}
@@ -190,14 +189,8 @@ module _ (among : ByteSet) (s : Store) (stored : Stored) (old new : CoreState) (
   abbrev told : old.disk.content ≡ Some image
   told = at.stands.known.1
 
-  shows : Represents s (Some index) old.tables
-  shows = subst (λ (known : Option PlaceMap). Represents s known old.tables) at.index_known at.represents
-
-  stands : IsStoreOf s stored.files image
-  stands = (at.stands.each image (old.disk.as_read image told)).holds
-
-  partial : IsPartialIndexOf s.held index
-  partial = shows.index_is_newest index refl
+  core : AtStore (IsIn among) s stored old at
+  core = at_store (IsIn among) s stored old at
 
   -- by the map of the index that there is then
   abbrev Fates : List StoreChange → PlaceMap → Type 0
@@ -236,7 +229,7 @@ module _ (among : ByteSet) (s : Store) (stored : Stored) (old new : CoreState) (
         (copies : CopiesSource old.tables.held b.live (Some index) new.known old.disk new.disk source entry b.sweep a.sweep) (store_is : t ≡ s) where
       leaves : LeavesHeld index s.held image b.live b.snapshot new.known a.sweep
       leaves =
-          copied_leaves old.tables.held index s.held image b.live b.snapshot source entry b.sweep a.sweep new.known old.disk new.disk shows.slots_hold stands.right.different stands.right.slots_are partial told
+          copied_leaves old.tables.held index s.held image b.live b.snapshot source entry b.sweep a.sweep new.known old.disk new.disk core.shows.slots_hold core.stands.right.different core.stands.right.slots_are core.partial told
           sweeping next_is holds.1 copies
 
       still_in : (key : List ℕ) (place : Place) (h : HeaderValue) (got : Option Place) → finite.get leaves.later key ≡ got → finite.get index key ≡ Some place → slice_get s.held place.slot ≡ Some (Some h)

@@ -1,4 +1,5 @@
 pub mod AnySteps
+pub mod AtStore
 pub mod Bounded
 pub mod ByNeed
 pub mod CheckedReads

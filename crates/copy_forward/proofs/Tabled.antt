@@ -1,20 +1,25 @@
 -- A header beside what the tables have for its slot.
-use Rattle.std.proofs.Common.{◌≡◌, ℕ, true, List, length, get_or, Option, Some, Ok, Err, refl, sym, ap, subst, ◌∙◌, eq-eqb}
-use Rattle.std.specs.Prelude.{slice_get}
+use Rattle.std.proofs.Common.{◌≡◌, ℕ, zero, suc, true, List, [], ◌∷◌, length, get_or, Option, None, Some, Ok, Err, refl, sym, ap, subst, ◌∙◌, eq-eqb}
+use Rattle.std.specs.Prelude.{slice_get, option_map}
 use Rattle.std.specs.Str.{bytes_eq}
 use Rattle.std.proofs.lemmas.Bool.{eqb-true}
 use Rattle.std.proofs.lemmas.Slice.Eq.{bytes_eq-Decides}
+use Rattle.std.proofs.lemmas.Option.{slice_get-map}
 use Rattle.base_model.specs.Checks.{passes}
 use Rattle.base_model.proofs.Checks.{AllHold, checked_all, checked_ok}
 use Rattle.container_meta.specs.declared.kind.Kind.{Kind}
 use Rattle.container_meta.specs.declared.kind.Kind.TheVariants.{Leaf, Tree}
 use Rattle.container_meta.specs.Format.{kind_byte}
 use Rattle.container_meta.specs.Spelling.{HeaderValue, header_digest}
+use Rattle.dd_disk.specs.View.{DiskView}
+use Rattle.dd_disk.proofs.Shows.{shown_content}
 use Rattle.disk_format.specs.declared.why.Why.{Why}
+use Rattle.store_model.specs.Slots.{HoldsSlot, ids_of}
+use Rattle.store_model.proofs.Once.{slot_once}
 use Rattle.store_state.specs.declared.slot_table.SlotCount.{SlotCount}
 use Rattle.store_state.specs.declared.slot_table.SlotTable.{SlotTable}
-use Rattle.store_state.specs.Tables.{count_of}
-use Rattle.copy_forward.specs.Headers.{IsTabled, header_checks}
+use Rattle.store_state.specs.Tables.{RepresentsSlots, count_of}
+use Rattle.copy_forward.specs.Headers.{IsOtherHeader, IsTabled, header_checks}
 
 same_kind : (a b : Kind) → kind_byte a ≡ kind_byte b → a ≡ b
 same_kind Leaf Leaf same = refl
@@ -62,3 +67,25 @@ one_differs t slot c h k why there same differs tabled =
   where
     header_is : (let found : Option HeaderValue = Some h in found) ≡ Some k → k ≡ h
     header_is e = cc
+
+-- ---- the header of a container that the table stands for
+
+id_at : (held : List (Option HeaderValue)) (slot : ℕ) (h : HeaderValue) → slice_get held slot ≡ Some (Some h) → get_or (ids_of held) slot 0 ≡ h.id
+id_at [] slot h there = absurd cc
+id_at (None ∷ cs) zero h there = absurd cc
+id_at (Some g ∷ cs) zero h there = let same : g ≡ h = cc in ap (λ (x : HeaderValue). x.id) same
+id_at (None ∷ cs) (suc slot) h there = id_at cs slot h there
+id_at (Some g ∷ cs) (suc slot) h there = id_at cs slot h there
+
+pub held_tabled : (held : List (Option HeaderValue)) (t : SlotTable) (slot : ℕ) (h : HeaderValue) → RepresentsSlots held t → slice_get held slot ≡ Some (Some h) → IsTabled t slot h
+held_tabled held t slot h slots there = record {
+  id_is = ap (λ (ids : List ℕ). get_or ids slot 0) slots.ids_are ∙ id_at held slot h there;
+  count_is = ap (λ (counts : List SlotCount). slice_get counts slot) slots.counts_are ∙ slice_get-map count_of held slot ∙ ap (option_map count_of) there;
+}
+
+-- over a disk that tells its content it is not read as another
+pub never_other : (held : List (Option HeaderValue)) (t : SlotTable) (slot : ℕ) (h : HeaderValue) (image : List ℕ) (old new : DiskView) (why : Why) → RepresentsSlots held t
+    → slice_get held slot ≡ Some (Some h) → HoldsSlot image slot (Some h) → old.content ≡ Some image → IsOtherHeader t old new slot why → ⊥
+never_other held t slot h image old new why slots there holds content other =
+    let read : HoldsSlot image slot (Some other.header) = shown_content old new (λ (i : List ℕ). HoldsSlot i slot (Some other.header)) image other.shown content in
+    one_differs t slot other.count other.header h why other.there (slot_once slot (Some other.header) (Some h) image read holds) other.first (held_tabled held t slot h slots there)

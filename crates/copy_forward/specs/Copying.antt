@@ -45,7 +45,8 @@ abbrev pub IsSourceRefusal : SlotTable → Option PlaceMap → LiveKeys → ℕ 
 IsSourceRefusal t known live slot from buffer old new refusal =
     IsHeaderRefusal t old new slot refusal
     ⊎ ((h : HeaderValue) × IsTabled t slot h × Shows old new (λ image. HoldsSlot image slot (Some h)) × (h.kind ≡ buffer.kind)
-    × (from ≤ length h.entries) × IsPlanRefusal (source_of known live slot h.kind) (Shows old new) (drop from h.entries) (planned buffer []) refusal)
+    × (from ≤ length h.entries)
+    × IsPlanRefusal (source_of known live slot h.kind) (Shows old new) (drop from h.entries) (planned buffer []) refusal)
 
 -- or why it is not done
 abbrev pub IsCopyRefusal : SlotTable → Option PlaceMap → LiveKeys → ℕ → ℕ → Contents → DiskView → DiskView → Refusal → Type 0

@@ -100,16 +100,13 @@ pub fn live_bytes<D: Disk, X: Index>(
     ensures reads { Reads (ending blames result) (D.view disk.old) (D.view disk.new) }
     ensures served { X.serves index.new (D.view disk.new).size }
 {
-    let Some((entry, rest)) = entries.split_first() else {
-        return Ok(0);
-    };
-    let counts = is_live_copy(disk, index, live, slot, kind, entry)?;
-    let sum = live_bytes(disk, index, live, slot, kind, rest)?;
-    if counts {
-        Ok(entry.length + sum)
-    } else {
-        Ok(sum)
+    let mut sum = 0;
+    for entry in entries {
+        if is_live_copy(disk, index, live, slot, kind, entry)? {
+            sum += entry.length;
+        }
     }
+    Ok(sum)
 }
 
 /// Takes keys out of the index, the first of them first. It takes no memory. After `DiskWrite`, and after `Damaged`, some may
@@ -128,9 +125,8 @@ pub(crate) fn remove_keys<D: Disk, X: Index>(
         → Changes (slot_at slots) (ending blames result) (D.view disk.old) (D.view disk.new) }
     ensures served { X.serves index.new (D.view disk.new).size }
 {
-    let Some((key, rest)) = keys.split_first() else {
-        return Ok(());
-    };
-    remove_key(disk, index, key)?;
-    remove_keys(disk, index, rest)
+    for key in keys {
+        remove_key(disk, index, key)?;
+    }
+    Ok(())
 }

@@ -26,10 +26,6 @@ AddsMarks marked old new = (key : List ℕ) (place : Place) → IsLiveAt new key
 abbrev pub AddsSome : List KeyPlace → LiveKeys → LiveKeys → Type 0
 AddsSome found old new = (marked : List KeyPlace) × ((others : List KeyPlace) × ((found ≡ marked ++ others) × AddsMarks marked old new))
 
--- A key is live, and the index, where its map is known, has it.
-abbrev pub IsLive : Option PlaceMap → LiveKeys → List ℕ → Type 0
-IsLive known live key = (place : Place) × (IsPlaceOf known key place × IsLiveAt live key place)
-
 -- no two keys have one place
 abbrev pub IsOneToOne : PlaceMap → Type 0
 IsOneToOne m = (key other : List ℕ) (place there : Place) → finite.get m key ≡ Some place → finite.get m other ≡ Some there

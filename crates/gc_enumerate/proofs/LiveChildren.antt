@@ -1,5 +1,5 @@
 -- What is live once the children of a container's nodes are marked.
-use Rattle.std.proofs.Common.{◌≡◌, inl, inr, ℕ, List, [], ◌∷◌, ◌++◌, length, refl, sym, subst, arith}
+use Rattle.std.proofs.Common.{◌≡◌, inl, inr, ℕ, ◌-◌, List, [], ◌∷◌, ◌++◌, length, refl, sym, subst, arith}
 use Rattle.std.specs.Prelude.{Option, Some}
 use Rattle.std.specs.List.{All, AllByRecursion, Contains, flat_map}
 use Rattle.std.proofs.lemmas.List.{take_all}
@@ -9,20 +9,20 @@ use Rattle.container_meta.specs.declared.place.Place.{Place}
 use Rattle.container_meta.specs.Places.{PlaceMap}
 use Rattle.merkle_file.specs.Node.{Contents}
 use Rattle.gc_enumerate.specs.declared.layer.KeyPlace.{KeyPlace}
-use Rattle.gc_enumerate.specs.Copies.{IsPlaceOf}
 use Rattle.gc_enumerate.specs.Live.{IsLiveAt, LiveKeys, SharesMark}
-use Rattle.gc_enumerate.specs.Marking.{AddsMarks, AddsSome, ChildrenAreLive, HasLiveChildren, IsAmong, IsLive, MarksChildren, MarksSome}
-use Rattle.gc_enumerate.specs.Scanning.{FindsChildren, HaveNodes, Scan, child_keys, keys_of}
+use Rattle.gc_enumerate.specs.Marking.{AddsMarks, AddsSome, ChildrenAreLive, HasLiveChildren, IsAmong, IsLiveOf, MarksChildren, MarksSome}
+use Rattle.gc_enumerate.specs.Scanning.{FindsChildren, HaveNodes, IsPlacedAt, Scan, child_keys, keys_of}
 use Rattle.gc_enumerate.proofs.MarkLaws.{own_mark}
 use Rattle.gc_enumerate.proofs.Marks.{marks_none}
 use Rattle.gc_enumerate.proofs.Scans.{finds_none}
 
 -- each key that was marked is live
 module _ (known : Option PlaceMap) (old new : LiveKeys) where
-  all_live : (found : List KeyPlace) → AllByRecursion (λ f. IsPlaceOf known f.key f.place) found → ((f : KeyPlace) → IsAmong f.key f.place found → IsLiveAt new f.key f.place)
-      → AllByRecursion (IsLive known new) (keys_of found)
-  all_live [] placed live = tt
-  all_live (f ∷ fs) placed live = ((f.place, (placed.0, live f (inl (own_mark f.key f.place)))), all_live fs placed.1 (λ g among. live g (inr among)))
+  all_live : (level : ℕ) (found : List KeyPlace) → AllByRecursion (IsPlacedAt known level) found → ((f : KeyPlace) → IsAmong f.key f.place found → IsLiveAt new f.key f.place)
+      → AllByRecursion (IsLiveOf known new level) (keys_of found)
+  all_live level [] placed live = tt
+  all_live level (f ∷ fs) placed live =
+      ((f.place, (placed.0.0, live f (inl (own_mark f.key f.place)), placed.0.1)), all_live level fs placed.1 (λ g among. live g (inr among)))
 
 first_part : {X : Type 0} (P : X → Type 0) (xs ys : List X) → AllByRecursion P (xs ++ ys) → AllByRecursion P xs
 first_part P [] ys all = tt
@@ -33,23 +33,29 @@ last_part P [] ys all = all
 last_part P (x ∷ xs) ys all = last_part P xs ys all.1
 
 module _ (s : Scan) (showed : Place → List ℕ → Type 0) (new : LiveKeys) (m : PlaceMap) (is_known : s.known ≡ Some m) where
-  each_has : (es : List Entry) (nodes : List Contents) → HaveNodes s showed es nodes → AllByRecursion (IsLive s.known new) (flat_map child_keys nodes)
+  abbrev LiveBelow : ℕ → List ℕ → Type 0
+  LiveBelow level = IsLiveOf s.known new (level - 1)
+
+  each_has : (es : List Entry) (nodes : List Contents) → HaveNodes s showed es nodes → AllByRecursion (LiveBelow s.layer.level) (flat_map child_keys nodes)
       → All (HasLiveChildren s showed new) es
   each_has [] nodes have live = All-nil _
   each_has (e ∷ es) nodes (inl over) live = All-cons (HasLiveChildren s showed new) e es (λ to_scan. absurd (over.0 m is_known to_scan)) (each_has es nodes over.1 live)
   each_has (e ∷ es) nodes (inr has) live =
-      let split : AllByRecursion (IsLive s.known new) (child_keys has.0 ++ flat_map child_keys has.1.0) =
-      subst (λ (ns : List Contents). AllByRecursion (IsLive s.known new) (flat_map child_keys ns)) has.1.1.0 live in
+      let split : AllByRecursion (LiveBelow s.layer.level) (child_keys has.0 ++ flat_map child_keys has.1.0) =
+      subst (λ (ns : List Contents). AllByRecursion (LiveBelow s.layer.level) (flat_map child_keys ns)) has.1.1.0 live in
+      let own : All (LiveBelow s.layer.level) (child_keys has.0) =
+      All-from_recursion (LiveBelow s.layer.level) (child_keys has.0) (first_part (LiveBelow s.layer.level) (child_keys has.0) (flat_map child_keys has.1.0) split) in
       All-cons (HasLiveChildren s showed new) e es
-      (λ to_scan. (has.0, (has.1.1.2, All-from_recursion (IsLive s.known new) (child_keys has.0) (first_part (IsLive s.known new) (child_keys has.0) (flat_map child_keys has.1.0) split))))
-      (each_has es has.1.0 has.1.1.3 (last_part (IsLive s.known new) (child_keys has.0) (flat_map child_keys has.1.0) split))
+      (λ to_scan. (has.0, (has.1.1.2, subst (λ (level : ℕ). All (LiveBelow level) (child_keys has.0)) (sym has.1.1.2.level_is) own)))
+      (each_has es has.1.0 has.1.1.3 (last_part (LiveBelow s.layer.level) (child_keys has.0) (flat_map child_keys has.1.0) split))
 
 pub children_live : (s : Scan) (showed : Place → List ℕ → Type 0) (entries : List Entry) (found : List KeyPlace) (new : LiveKeys) → FindsChildren s showed entries found → AddsMarks found s.live new
     → ChildrenAreLive s showed entries new
 children_live s showed entries found new finds marks m is_known =
     each_has s showed new m is_known entries finds.nodes finds.nodes_are
-    (subst (AllByRecursion (IsLive s.known new)) finds.keys_are
-    (all_live s.known s.live new found (recursion_from_All (λ (f : KeyPlace). IsPlaceOf s.known f.key f.place) found finds.placed) (λ f among. (marks f.key f.place).1 (inr among))))
+    (subst (AllByRecursion (IsLiveOf s.known new (s.layer.level - 1))) finds.keys_are
+    (all_live s.known s.live new (s.layer.level - 1) found (recursion_from_All (IsPlacedAt s.known (s.layer.level - 1)) found finds.placed)
+    (λ f among. (marks f.key f.place).1 (inr among))))
 
 -- nothing was marked, or some of what was found
 pub some_none : (s : Scan) (showed : Place → List ℕ → Type 0) (entries : List Entry) → MarksSome s showed entries s.live

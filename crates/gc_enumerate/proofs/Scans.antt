@@ -1,5 +1,5 @@
 -- Entries that are scanned, one after the other.
-use Rattle.std.proofs.Common.{◌≡◌, inl, inr, ℕ, ◌+◌, ◌<◌, Bool, true, List, [], ◌∷◌, ◌++◌, length, take, drop, get_or, Option, Result, Ok, Err, IfOk, Vec, refl, sym, ◌∙◌, ap, subst}
+use Rattle.std.proofs.Common.{◌≡◌, inl, inr, ℕ, ◌+◌, ◌-◌, ◌<◌, Bool, true, List, [], ◌∷◌, ◌++◌, length, take, drop, get_or, Option, Result, Ok, Err, IfOk, Vec, refl, sym, ◌∙◌, ap, subst}
 use Rattle.std.specs.List.{flat_map}
 use Rattle.std.proofs.lemmas.Grind.{flat_map-append}
 use Rattle.std.proofs.lemmas.List.{append-nil, drop_more, map-append, take-append-drop, take_more}
@@ -13,9 +13,8 @@ use Rattle.merkle_file.specs.Node.{Contents}
 use Rattle.gc_enumerate.specs.declared.fault.ScanFault.{ScanFault}
 use Rattle.gc_enumerate.specs.declared.fault.ScanFault.TheVariants.{DiskRead, Corrupt, Missing, Damaged, Memory}
 use Rattle.gc_enumerate.specs.declared.layer.KeyPlace.{KeyPlace}
-use Rattle.gc_enumerate.specs.Copies.{IsPlaceOf}
 use Rattle.gc_enumerate.specs.Faults.{IsCorrupt}
-use Rattle.gc_enumerate.specs.Scanning.{ArePlaced, FindsChildren, HaveNodes, IsAsked, IsChildFault, IsDecided, IsEntryFault, IsNoNode, IsNodeOf, IsScanFault, IsStuck, IsToScan, IsUnread, LacksChild, Scan, child_keys, keys_of, place_in}
+use Rattle.gc_enumerate.specs.Scanning.{ArePlaced, FindsChildren, HaveNodes, IsAsked, IsChildFault, IsDecided, IsEntryFault, IsNoNode, IsNodeOf, IsPlacedAt, IsScanFault, IsStuck, IsToScan, IsUnread, LacksChild, MisplacesChild, Scan, child_keys, keys_of, place_in}
 
 -- ---- one entry
 
@@ -29,16 +28,16 @@ pub finds_none : (s : Scan) (showed : Place → List ℕ → Type 0) → FindsCh
 finds_none s showed = record { nodes = []; nodes_are = refl; keys_are = refl; placed = All-nil _ }
 
 pub finds_one : (s : Scan) (showed : Place → List ℕ → Type 0) (known : Option PlaceMap) (e : Entry) (n : Contents) (found : List KeyPlace) → known ≡ s.known → IsToScan s e
-    → IsNodeOf s.layer showed e n → keys_of found ≡ child_keys n → ArePlaced known found → FindsChildren s showed (e ∷ []) found
+    → IsNodeOf s.layer showed e n → keys_of found ≡ child_keys n → ArePlaced known (n.level - 1) found → FindsChildren s showed (e ∷ []) found
 finds_one s showed known e n found same to_scan node keys placed = record {
   nodes = n ∷ [];
   nodes_are = inr (n, ([], (refl, to_scan, node, refl)));
   keys_are = keys ∙ sym (append-nil (child_keys n));
-  placed = subst (λ (k : Option PlaceMap). ArePlaced k found) same placed;
+  placed = subst (λ (level : ℕ). ArePlaced s.known (level - 1) found) node.level_is (subst (λ (k : Option PlaceMap). ArePlaced k (n.level - 1) found) same placed);
 }
 
 pub if_found : {E : Type 0} (result : Result (Vec KeyPlace Global) E) (s : Scan) (showed : Place → List ℕ → Type 0) (known : Option PlaceMap) (e : Entry) (n : Contents) → known ≡ s.known → IsToScan s e
-    → IsNodeOf s.layer showed e n → IfOk result (λ found. keys_of found.items ≡ child_keys n) → IfOk result (λ found. ArePlaced known found.items)
+    → IsNodeOf s.layer showed e n → IfOk result (λ found. keys_of found.items ≡ child_keys n) → IfOk result (λ found. ArePlaced known (n.level - 1) found.items)
     → IfOk result (λ found. FindsChildren s showed (e ∷ []) found.items)
 if_found (Ok found) s showed known e n same to_scan node keys placed = finds_one s showed known e n found.items same to_scan node keys placed
 if_found (Err fault) s showed known e n same to_scan node keys placed = tt
@@ -87,7 +86,7 @@ module _ (s : Scan) (showed showed' : Place → List ℕ → Type 0) (wider : (p
   unread damaged e DiskRead to_scan cause = was_asked s e to_scan
   unread damaged e (Corrupt slot offset count want got) to_scan cause = (to_scan, corrupt_wider e slot offset count want got cause)
   unread damaged e (Missing key) to_scan cause = absurd cause
-  unread damaged e (Damaged at why) to_scan cause = inr (to_scan, no_node_wider e at why cause)
+  unread damaged e (Damaged at why) to_scan cause = inr (inl (to_scan, no_node_wider e at why cause))
 
   module _ (damaged damaged' : ℕ → Why → Type 0) (wider_still : (at : ℕ) (why : Why) → damaged at why → damaged' at why) where
     pub entry_fault_wider : (e : Entry) (fault : ScanFault) → IsEntryFault s showed damaged e fault → IsEntryFault s showed' damaged' e fault
@@ -96,7 +95,8 @@ module _ (s : Scan) (showed showed' : Place → List ℕ → Type 0) (wider : (p
     entry_fault_wider e (Corrupt slot offset count want got) cause = (cause.0, corrupt_wider e slot offset count want got cause.1)
     entry_fault_wider e (Missing key) cause = (cause.0, (cause.1.0, node_wider e cause.0 cause.1.1, cause.1.2))
     entry_fault_wider e (Damaged at why) (inl by_index) = inl (by_index.0, wider_still at why by_index.1)
-    entry_fault_wider e (Damaged at why) (inr no_node) = inr (no_node.0, no_node_wider e at why no_node.1)
+    entry_fault_wider e (Damaged at why) (inr (inl no_node)) = inr (inl (no_node.0, no_node_wider e at why no_node.1))
+    entry_fault_wider e (Damaged at why) (inr (inr wrong)) = inr (inr (wrong.0, (wrong.1.0, node_wider e wrong.0 wrong.1.1, wrong.1.2)))
 
 -- why a child's place is not given is why the entry is not scanned
 pub child_lacks : (s : Scan) (showed : Place → List ℕ → Type 0) (known : Option PlaceMap) (damaged damaged' : ℕ → Why → Type 0) (e : Entry) (n : Contents) (fault : ScanFault) → known ≡ s.known
@@ -105,7 +105,9 @@ child_lacks s showed known damaged damaged' e n Memory same wider to_scan node c
 child_lacks s showed known damaged damaged' e n DiskRead same wider to_scan node cause = was_asked s e to_scan
 child_lacks s showed known damaged damaged' e n (Corrupt slot offset count want got) same wider to_scan node cause = absurd cause
 child_lacks s showed known damaged damaged' e n (Missing key) same wider to_scan node cause = (n, (to_scan, node, subst (λ (k : Option PlaceMap). LacksChild k n key) same cause))
-child_lacks s showed known damaged damaged' e n (Damaged at why) same wider to_scan node cause = inl (was_asked s e to_scan, wider at why cause)
+child_lacks s showed known damaged damaged' e n (Damaged at why) same wider to_scan node (inl by_index) = inl (was_asked s e to_scan, wider at why by_index)
+child_lacks s showed known damaged damaged' e n (Damaged at why) same wider to_scan node (inr wrong) =
+    inr (inr (n, (to_scan, node, subst (λ (k : Option PlaceMap). MisplacesChild k n at why) same wrong)))
 
 -- ---- entry after entry
 
@@ -122,7 +124,7 @@ module _ (s : Scan) (showed : Place → List ℕ → Type 0) where
     nodes_are = nodes_append es fs first.nodes then.nodes first.nodes_are then.nodes_are;
     keys_are = map-append (λ (x : KeyPlace). x.key) found more ∙ ap (λ (keys : List (List ℕ)). keys ++ keys_of more) first.keys_are
         ∙ ap (λ (keys : List (List ℕ)). flat_map child_keys first.nodes ++ keys) then.keys_are ∙ sym (flat_map-append child_keys first.nodes then.nodes);
-    placed = All-append (λ (x : KeyPlace). IsPlaceOf s.known x.key x.place) found more first.placed then.placed;
+    placed = All-append (IsPlacedAt s.known (s.layer.level - 1)) found more first.placed then.placed;
   }
 
   pub finds_more : (entries : List Entry) (i : ℕ) (d : Entry) (found more taken after : List KeyPlace) → i < length entries → FindsChildren s showed (take i entries) found

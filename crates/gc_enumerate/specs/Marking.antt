@@ -1,5 +1,5 @@
 -- What a scan of a container marks (docs/MODEL.md, 'Marking').
-use Rattle.std.specs.Prelude.{◌≡◌, ◌⊎◌, ◌↔◌, ℕ, List, [], ◌∷◌, ◌++◌, Option, Some, take}
+use Rattle.std.specs.Prelude.{◌≡◌, ◌⊎◌, ◌↔◌, ℕ, ◌-◌, List, [], ◌∷◌, ◌++◌, Option, Some, take}
 use Rattle.std.specs.FinMap as finite
 use Rattle.std.specs.List.{All, Contains, flat_map}
 use Rattle.container_meta.specs.declared.entry.Entry.{Entry}
@@ -26,10 +26,6 @@ AddsMarks marked old new = (key : List ℕ) (place : Place) → IsLiveAt new key
 abbrev pub AddsSome : List KeyPlace → LiveKeys → LiveKeys → Type 0
 AddsSome found old new = (marked : List KeyPlace) × ((others : List KeyPlace) × ((found ≡ marked ++ others) × AddsMarks marked old new))
 
--- A key is live, and the index, where its map is known, has it.
-abbrev pub IsLive : Option PlaceMap → LiveKeys → List ℕ → Type 0
-IsLive known live key = (place : Place) × (IsPlaceOf known key place × IsLiveAt live key place)
-
 -- no two keys have one place
 abbrev pub IsOneToOne : PlaceMap → Type 0
 IsOneToOne m = (key other : List ℕ) (place there : Place) → finite.get m key ≡ Some place → finite.get m other ≡ Some there
@@ -55,10 +51,14 @@ pub record MarksSome (s : Scan) (showed : Place → List ℕ → Type 0) (entrie
   pub finds : FindsChildren s showed (take count entries) found
   pub marks : AddsSome found s.live new
 
--- An entry that is to be scanned has a node whose children are live.
+-- A key is live, and the index, where its map is known, has it at a place of this level.
+abbrev pub IsLiveOf : Option PlaceMap → LiveKeys → ℕ → List ℕ → Type 0
+IsLiveOf known live level key = (place : Place) × (IsPlaceOf known key place × IsLiveAt live key place × (place.level ≡ level))
+
+-- An entry that is to be scanned has a node whose children are live, and which the index has at the level below.
 abbrev pub HasLiveChildren : Scan → (Place → List ℕ → Type 0) → LiveKeys → Entry → Type 0
 HasLiveChildren s showed new e =
-    IsToScan s e → (n : Contents) × (IsNodeOf s.layer showed e n × All (IsLive s.known new) (child_keys n))
+    IsToScan s e → (n : Contents) × (IsNodeOf s.layer showed e n × All (IsLiveOf s.known new (n.level - 1)) (child_keys n))
 
 -- Where the map is known, each such entry has.
 abbrev pub ChildrenAreLive : Scan → (Place → List ℕ → Type 0) → List Entry → LiveKeys → Type 0

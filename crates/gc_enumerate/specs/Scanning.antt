@@ -1,5 +1,5 @@
 -- What a scan of a container finds: the children of the nodes that it reads (docs/MODEL.md, 'Marking').
-use Rattle.std.specs.Prelude.{◌≡◌, ◌⊎◌, ℕ, ◌+◌, ◌==◌, if◌then◌else◌, Bool, true, false, List, [], ◌∷◌, ◌++◌, length, map, Option, None}
+use Rattle.std.specs.Prelude.{◌≡◌, ◌≢◌, ◌⊎◌, ℕ, ◌+◌, ◌-◌, ◌==◌, if◌then◌else◌, Bool, true, false, List, [], ◌∷◌, ◌++◌, length, map, Option, None}
 use Rattle.std.specs.FinMap as finite
 use Rattle.std.specs.List.{All, flat_map}
 use Rattle.sha2.specs.Sha256.{sha256}
@@ -94,19 +94,23 @@ HaveNodes s showed (e ∷ es) nodes =
     (IsPassedOver s e × HaveNodes s showed es nodes)
     ⊎ ((n : Contents) × ((rest : List Contents) × ((nodes ≡ n ∷ rest) × IsToScan s e × IsNodeOf s.layer showed e n × HaveNodes s showed es rest)))
 
--- the index has these places for these keys
-abbrev pub ArePlaced : Option PlaceMap → List KeyPlace → Type 0
-ArePlaced known found = All (λ f. IsPlaceOf known f.key f.place) found
+-- the index has this place for the key, and a segment of this level lies there
+abbrev pub IsPlacedAt : Option PlaceMap → ℕ → KeyPlace → Type 0
+IsPlacedAt known level f = IsPlaceOf known f.key f.place × (f.place.level ≡ level)
+
+-- the index has these places for these keys, each of this level
+abbrev pub ArePlaced : Option PlaceMap → ℕ → List KeyPlace → Type 0
+ArePlaced known level found = All (IsPlacedAt known level) found
 
 abbrev pub keys_of : List KeyPlace → List (List ℕ)
 keys_of found = map (λ f. f.key) found
 
--- These are the children of the nodes of entries, each with the place that the index has for it.
+-- These are the children of the nodes of entries, each with the place that the index has for it: one of the level below.
 pub record FindsChildren (s : Scan) (showed : Place → List ℕ → Type 0) (entries : List Entry) (found : List KeyPlace) : Type 0 where
   pub nodes : List Contents
   pub nodes_are : HaveNodes s showed entries nodes
   pub keys_are : keys_of found ≡ flat_map child_keys nodes
-  pub placed : ArePlaced s.known found
+  pub placed : ArePlaced s.known (s.layer.level - 1) found
 
 -- ---- why a container is not scanned
 
@@ -127,13 +131,31 @@ pub record IsNoNode (layer : Layer) (showed : Place → List ℕ → Type 0) (e 
   pub at_is : at ≡ data_at layer.slot + e.offset
   pub wrong_is : IsNodeFault layer.level bytes why
 
--- A child of a node is the first that the index, where its map is known, doesn't have.
-pub record LacksChild (known : Option PlaceMap) (n : Contents) (key : List ℕ) : Type 0 where
+-- The index has the key where a segment of another level lies, at this byte of the disk: so the level is the field that is wrong.
+pub record IsMisplaced (known : Option PlaceMap) (level : ℕ) (key : List ℕ) (at : ℕ) (why : Why) : Type 0 where
+  pub place : Place
+  pub place_is : IsPlaceOf known key place
+  pub differs : place.level ≢ level
+  pub at_is : at ≡ data_at place.slot + place.offset
+  pub why_is : why ≡ Field 0 place.level
+
+-- A child of a node has this key, and the index has all children before it at their level.
+pub record ComesTo (known : Option PlaceMap) (n : Contents) (key : List ℕ) : Type 0 where
   pub before : List KeyPlace
   pub after : List (List ℕ)
   pub keys_are : child_keys n ≡ keys_of before ++ key ∷ after
-  pub placed : ArePlaced known before
+  pub placed : ArePlaced known (n.level - 1) before
+
+-- It is the first that the index, where its map is known, doesn't have.
+pub record LacksChild (known : Option PlaceMap) (n : Contents) (key : List ℕ) : Type 0 where
+  pub comes : ComesTo known n key
   pub missing : KnownMap known (λ m. finite.get m key ≡ None)
+
+-- It is the first that the index has at another level.
+pub record MisplacesChild (known : Option PlaceMap) (n : Contents) (at : ℕ) (why : Why) : Type 0 where
+  pub key : List ℕ
+  pub comes : ComesTo known n key
+  pub misplaced : IsMisplaced known (n.level - 1) key at why
 
 -- why the node of an entry is not given
 abbrev pub IsUnread : Layer → (Place → List ℕ → Type 0) → Entry → ScanFault → Type 0
@@ -143,19 +165,19 @@ IsUnread layer showed e (Corrupt slot offset count want got) = IsCorrupt showed 
 IsUnread layer showed e (Damaged at why) = IsNoNode layer showed e at why
 IsUnread layer showed e fault = ⊥
 
--- why the place of a key is not given
-abbrev pub IsUnplaced : Option PlaceMap → (ℕ → Why → Type 0) → List ℕ → ScanFault → Type 0
-IsUnplaced known damaged key DiskRead = Unit {0}
-IsUnplaced known damaged key (Missing k) = (k ≡ key) × KnownMap known (λ m. finite.get m key ≡ None)
-IsUnplaced known damaged key (Damaged at why) = damaged at why
-IsUnplaced known damaged key fault = ⊥
+-- why the place of a key that a level is named for is not given
+abbrev pub IsUnplaced : Option PlaceMap → (ℕ → Why → Type 0) → ℕ → List ℕ → ScanFault → Type 0
+IsUnplaced known damaged level key DiskRead = Unit {0}
+IsUnplaced known damaged level key (Missing k) = (k ≡ key) × KnownMap known (λ m. finite.get m key ≡ None)
+IsUnplaced known damaged level key (Damaged at why) = damaged at why ⊎ IsMisplaced known level key at why
+IsUnplaced known damaged level key fault = ⊥
 
 -- why the places of a node's children are not given
 abbrev pub IsChildFault : Option PlaceMap → (ℕ → Why → Type 0) → Contents → ScanFault → Type 0
 IsChildFault known damaged n Memory = Unit {0}
 IsChildFault known damaged n DiskRead = Unit {0}
 IsChildFault known damaged n (Missing key) = LacksChild known n key
-IsChildFault known damaged n (Damaged at why) = damaged at why
+IsChildFault known damaged n (Damaged at why) = damaged at why ⊎ MisplacesChild known n at why
 IsChildFault known damaged n fault = ⊥
 
 -- Why an entry is not scanned. A failed read, or damage of the index, comes of a live one of the level alone; all else, but want of
@@ -167,9 +189,12 @@ IsEntryFault s showed damaged e (Corrupt slot offset count want got) =
     IsToScan s e × IsCorrupt showed (place_in s.layer e) e.digest slot offset count want got
 IsEntryFault s showed damaged e (Missing key) =
     (n : Contents) × (IsToScan s e × IsNodeOf s.layer showed e n × LacksChild s.known n key)
-IsEntryFault s showed damaged e (Damaged at why) = (IsAsked s e × damaged at why) ⊎ (IsToScan s e × IsNoNode s.layer showed e at why)
+IsEntryFault s showed damaged e (Damaged at why) =
+    (IsAsked s e × damaged at why)
+    ⊎ (IsToScan s e × IsNoNode s.layer showed e at why)
+    ⊎ ((n : Contents) × (IsToScan s e × IsNodeOf s.layer showed e n × MisplacesChild s.known n at why))
 
--- A scan came to an entry that is not scanned. Of those before it the index has all children.
+-- A scan came to an entry that is not scanned. Of those before it the index has all children, at their level.
 pub record IsStuck (s : Scan) (showed : Place → List ℕ → Type 0) (damaged : ℕ → Why → Type 0) (entries : List Entry) (fault : ScanFault)
     : Type 0 where
   pub before : List Entry

@@ -1,5 +1,5 @@
 //! The nodes of entries, and the places of their children.
-ghost use Rattle.std.specs.Prelude.{◌≡◌, ◌≤◌, ◌<◌, length, IfOk, IfErr};
+ghost use Rattle.std.specs.Prelude.{◌≡◌, ◌≤◌, ◌<◌, ◌-◌, length, IfOk, IfErr};
 ghost use Rattle.base_model.specs.Bytes.{byte_at};
 ghost use Rattle.disk_format.specs.declared.numbers.TheConstants.{MOST_SEGMENT};
 ghost use Rattle.merkle_file.specs.Node.{IsNode, spelling};
@@ -97,23 +97,31 @@ fn child_key(level: u8, child: &Child) -> Key
     key_of(child_kind(level), &child.digest)
 }
 
-// The key with the place that the index has for it.
-fn look_up<C: Copies>(copies: &mut C, key: &Key) -> Result<KeyPlace, ScanFault>
+// The key with the place that the index has for it, where a segment of the level lies.
+fn look_up<C: Copies>(copies: &mut C, key: &Key, level: u8) -> Result<KeyPlace, ScanFault>
     requires { C.serves copies.old }
     ensures key { IfOk result (λ found. found.key ≡ key.now) }
     ensures place { IfOk result (λ found. IsPlaceOf (C.places copies.old) key.now found.place) }
-    ensures refused { IfErr result (IsUnplaced (C.places copies.old) (C.damaged copies.old copies.new) key.now) }
+    ensures level { IfOk result (λ found. found.place.level ≡ level) }
+    ensures refused { IfErr result (IsUnplaced (C.places copies.old) (C.damaged copies.old copies.new) level key.now) }
     ensures later { C.later copies.old copies.new }
     ensures served { C.serves copies.new }
     ensures counts { CountsReads result (C.failures copies.old) (C.failures copies.new) }
 {
     match copies.place_of(key)? {
-        Some(place) => Ok(KeyPlace { key: *key, place }),
+        Some(place) if place.level == level => Ok(KeyPlace { key: *key, place }),
+        Some(place) => Err(ScanFault::Damaged {
+            at: data_at(place.slot) + u64::from(place.offset),
+            why: Why::Field {
+                offset: 0,
+                got: u64::from(place.level),
+            },
+        }),
         None => Err(ScanFault::Missing { key: *key }),
     }
 }
 
-/// The keys of a node's children, in order, each with the place that the index has for it.
+/// The keys of a node's children, in order, each with the place that the index has for it: one of the level below the node's.
 pub(crate) fn look_up_children<C: Copies>(
     alloc: Global,
     copies: &mut C,
@@ -121,7 +129,7 @@ pub(crate) fn look_up_children<C: Copies>(
 ) -> Result<Vec<KeyPlace>, ScanFault>
     requires { C.serves copies.old }
     ensures keys { IfOk result (λ found. keys_of found.items ≡ child_keys node.now) }
-    ensures placed { IfOk result (λ found. ArePlaced (C.places copies.old) found.items) }
+    ensures placed { IfOk result (λ found. ArePlaced (C.places copies.old) (node.now.level - 1) found.items) }
     ensures refused { IfErr result (IsChildFault (C.places copies.old) (C.damaged copies.old copies.new) node.now) }
     ensures later { C.later copies.old copies.new }
     ensures served { C.serves copies.new }
@@ -130,7 +138,7 @@ pub(crate) fn look_up_children<C: Copies>(
     let mut found = Vec::new(alloc);
     let level = node.level();
     for child in node.children() {
-        found.push(look_up(copies, &child_key(level, child))?)?;
+        found.push(look_up(copies, &child_key(level, child), level - 1)?)?;
     }
     Ok(found)
 }

@@ -108,8 +108,9 @@ fn scan_entries<C: Copies>(
 ///
 /// Refusals, entry by entry, in the order in which they come: `DiskRead` or `Damaged` by the index, as it is asked for the entry's
 /// key; `DiskRead` or `Corrupt` by the read; `Damaged` for a node by its first wrong field, or where its level isn't the
-/// entry's; child by child `DiskRead` or `Damaged` by the index, and `Missing` where the index has no such key. `Memory` may come
-/// at each, and once all was found: then some of the children may be live. After every other refusal the live keys are as before.
+/// entry's; child by child `DiskRead` or `Damaged` by the index, `Missing` where the index has no such key, and `Damaged` where
+/// what it has is of another level than the one below. `Memory` may come at each, and once all was found: then some of the children
+/// may be live. After every other refusal the live keys are as before.
 pub fn scan_container<C: Copies>(
     alloc: Global,
     copies: &mut C,

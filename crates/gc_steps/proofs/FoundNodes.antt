@@ -1,5 +1,5 @@
 -- The nodes that a scan of a container found, on a disk whose content is known: just the live nodes of the level whose newest copies lie in it.
-use Rattle.std.proofs.Common.{◌≡◌, ◌⊎◌, inl, inr, ℕ, ◌<◌, ◌≤◌, true, List, [], ◌∷◌, length, get_or, Option, Some, None, refl, sym, ◌∙◌, ap, subst, arith}
+use Rattle.std.proofs.Common.{◌≡◌, ◌⊎◌, inl, inr, ℕ, ◌-◌, ◌<◌, ◌≤◌, true, List, [], ◌∷◌, length, get_or, Option, Some, None, refl, sym, ◌∙◌, ap, subst, arith}
 use Rattle.std.specs.Prelude.{slice_get}
 use Rattle.std.specs.FinMap as finite
 use Rattle.std.specs.List.{All, AllByRecursion, Contains, flat_map}
@@ -18,8 +18,7 @@ use Rattle.container_meta.specs.Spelling.{HeaderValue}
 use Rattle.dd_disk.specs.View.{DiskView}
 use Rattle.dd_disk.proofs.Shows.{shown_content}
 use Rattle.gc_enumerate.specs.Live.{LiveKeys, IsLiveAt}
-use Rattle.gc_enumerate.specs.Marking.{HasLiveChildren}
-use Rattle.gc_enumerate.specs.Marking as marking
+use Rattle.gc_enumerate.specs.Marking.{HasLiveChildren, IsLiveOf}
 use Rattle.gc_enumerate.specs.Scanning.{HaveNodes, IsNodeOf, IsToScan, Scan, child_keys}
 use Rattle.merkle_file.specs.Node.{Contents, node_digest, spelling}
 use Rattle.store_model.specs.Files.{Files}
@@ -137,14 +136,14 @@ module _ (index : PlaceMap) (store : Store) (files : Files) (image : List ℕ) (
 
   -- The children of such a node in the slot are live, where those of each entry that is to be scanned are.
   module _ (there : slice_get store.held slot ≡ Some (Some h)) (after : LiveKeys) (children : All (HasLiveChildren scan (ShowsAt old new) after) h.entries) where
-    live_in : (key : List ℕ) → marking.IsLive (Some index) after key → IsLive index after key
-    live_in key is = (is.0, (is.1.0 index refl, is.1.1))
+    live_in : (below : ℕ) (key : List ℕ) → IsLiveOf (Some index) after below key → IsLive index after key
+    live_in below key is = (is.0, (is.1.0 index refl, is.1.1))
 
     closed_by : (e : Entry) (m n : Contents) (copy : Copy) → copy.place ≡ place_of slot e → IsNodeOf scan.layer (ShowsAt old new) e m → HoldsNode store.held image n copy
-        → All (marking.IsLive (Some index) after) (child_keys m) → All (IsLive index after) (child_keys n)
+        → All (IsLiveOf (Some index) after (m.level - 1)) (child_keys m) → All (IsLive index after) (child_keys n)
     closed_by e m n copy place read node live =
         subst (λ (x : Contents). All (IsLive index after) (child_keys x)) (same_node e m n copy place read node)
-        (All-weaker (marking.IsLive (Some index) after) (IsLive index after) live_in (child_keys m) live)
+        (All-weaker (IsLiveOf (Some index) after (m.level - 1)) (IsLive index after) (live_in (m.level - 1)) (child_keys m) live)
 
     pub node_scanned : (n : Contents) (copy : Copy) → HoldsNode store.held image n copy → IsLive index before (node_key n) → n.level ≡ level → copy.place.slot ≡ slot → All (IsLive index after) (child_keys n)
     node_scanned n copy node live level_is slot_is =

@@ -11,6 +11,7 @@ pub mod FirstStage
 pub mod FoundNodes
 pub mod FreshMarks
 pub mod GainedPins
+pub mod Levels
 pub mod ListedKeys
 pub mod MakesSteps
 pub mod MapKept
@@ -30,8 +31,10 @@ pub mod ReaderNeeds
 pub mod RecordOf
 pub mod Recorded
 pub mod RefusedSafe
+pub mod RootKeys
 pub mod RootTrees
 pub mod RootsAfter
+pub mod RootsFound
 pub mod Safe
 pub mod ScanKeeps
 pub mod Scanned

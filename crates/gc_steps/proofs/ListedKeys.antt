@@ -4,11 +4,12 @@ use Rattle.std.specs.Prelude.{T}
 use Rattle.std.specs.Ordering.{nat_cmp, eq_by_cmp, is_lt, is_eq}
 use Rattle.std.specs.Cmp.Lexicographic.{slice_cmp}
 use Rattle.std.specs.FinMap as finite
+use Rattle.std.specs.List.{AllByRecursion}
 use Rattle.std.specs.FinMap.Entries.{below_all}
 use Rattle.std.proofs.Common.{Ordering, Less, Equal, Greater}
 use Rattle.std.proofs.lemmas.Slice.Eq.{bytes_eq-Decides}
 use Rattle.namespace.specs.declared.record.Named.{Named}
-use Rattle.namespace.specs.Listing.{named_root}
+use Rattle.namespace.specs.Listing.{NamedRoot, listing_of, named_root}
 use Rattle.namespace.specs.Names.{NameMap}
 use Rattle.store_model.proofs.Indexing.{tied}
 use Rattle.gc_steps.specs.Roots.{HasRootKey, IsListedKey, IsNameKey}
@@ -77,9 +78,23 @@ listed_by (e ∷ es) key sorted (inr later) =
       has = rest.has;
     }
 
+-- each is found by its name
+pub each_listed : (P : NamedRoot → Type 0) (es : List (List ℕ × Named)) → T (finite.is_sorted (slice_cmp nat_cmp) es)
+    → ((name : List ℕ) (named : Named) → finite.find (slice_cmp nat_cmp) name es ≡ Some named → P (named_root (name, named))) → AllByRecursion P (map named_root es)
+each_listed P [] sorted all = tt
+each_listed P (e ∷ es) sorted all = (
+  all e.0 e.1 (first_found e es),
+  each_listed P es (tail_of (below_all (slice_cmp nat_cmp) e.0 es) _ sorted)
+      (λ name named found. all name named (rest_found e es name named (head_of _ (finite.is_sorted (slice_cmp nat_cmp) es) sorted) found)),
+)
+
 -- ---- names
 
 pub name_of_key : (names : NameMap) (key : List ℕ) → IsNameKey names key → HasName names key
 name_of_key names key is =
     let one = listed_by (finite.entries names) key (finite.entries_sorted names) is in
     record { name = one.name; named = one.named; found = finite.get-entries names one.name ∙ one.found; has = one.has }
+
+pub each_name : (P : NamedRoot → Type 0) (names : NameMap) → ((name : List ℕ) (named : Named) → finite.get names name ≡ Some named → P (named_root (name, named)))
+    → AllByRecursion P (listing_of names)
+each_name P names all = each_listed P (finite.entries names) (finite.entries_sorted names) (λ name named found. all name named (finite.get-entries names name ∙ found))

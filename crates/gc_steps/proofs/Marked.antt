@@ -1,23 +1,16 @@
 -- What becomes live, key by key.
-use Rattle.std.proofs.Common.{◌≡◌, ◌⊎◌, ◌↔◌, ◌<◌, inl, inr, ℕ, zero, suc, ◌+◌, Bool, true, false, List, [], ◌∷◌, ◌++◌, length, map, take, get_or, Option, Some, None, is_some, Result, Ok, Err, OnOk, arith, refl, sym, ◌∙◌, ap, subst, ◌≤◌}
+use Rattle.std.proofs.Common.{◌≡◌, ◌⊎◌, ◌↔◌, ◌<◌, inl, inr, ℕ, zero, suc, ◌+◌, Bool, true, false, List, [], ◌∷◌, ◌++◌, length, take, get_or, Option, Some, None, is_some, arith, refl, sym, ◌∙◌, subst}
 use Rattle.std.specs.Prelude.{◌||◌}
 use Rattle.std.specs.Cmp.Lexicographic.{slice_cmp}
 use Rattle.std.specs.FinMap as finite
 use Rattle.std.specs.List.{Contains, list_any}
 use Rattle.std.specs.Ordering.{nat_cmp, eq_by_cmp}
-use Rattle.std.proofs.lemmas.Bool.Decides.{leb_tells}
-use Rattle.std.proofs.lemmas.List.{map_push, take_all, take_more}
+use Rattle.std.proofs.lemmas.List.{take_more}
 use Rattle.std.proofs.lemmas.Slice.Eq.{bytes_eq-Decides}
-use Rattle.actor_parts.specs.declared.actor.TheConstants.{ACTORS}
 use Rattle.actor_parts.specs.declared.part.Part.{Part}
-use Rattle.actor_parts.specs.declared.part.Part.TheVariants.{Writing}
-use Rattle.actor_parts.specs.PinMap.{PinMap}
 use Rattle.store_model.proofs.Indexing.{tied}
-use Rattle.container_meta.specs.declared.place.Place.{Place}
 use Rattle.gc_enumerate.specs.Live.{LiveKeys, IsLiveAt}
-use Rattle.namespace.specs.declared.listing.ListedName.{ListedName}
-use Rattle.namespace.specs.Listing.{NamedRoot, listed_value}
-use Rattle.gc_steps.specs.Roots.{HasRootKey, IsListedKey, IsPartKey, IsNumberKey, IsActorKey, Marks}
+use Rattle.gc_steps.specs.Roots.{IsNumberKey, Marks}
 
 pub marks_none : (P : List ℕ → Type 0) (live : LiveKeys) → ((key : List ℕ) → P key → ⊥) → Marks P live live
 marks_none P live none key place = (λ is. inl is, λ is. by_case is)
@@ -54,38 +47,6 @@ marks_more P Q old mid new first second key place = (λ is. to ((second key plac
     back (inr (inr q)) = inr q
 
 -- ---- lists, one more at the end
-
-listed_last : (n : NamedRoot) (key : List ℕ) → (⊥ ⊎ HasRootKey n.root key) ↔ (HasRootKey n.root key ⊎ ⊥)
-listed_last n key = (λ is. to is, λ is. back is)
-  where
-    to : ⊥ ⊎ HasRootKey n.root key → HasRootKey n.root key ⊎ ⊥
-    to (inl none) = absurd none
-    to (inr has) = inl has
-
-    back : HasRootKey n.root key ⊎ ⊥ → ⊥ ⊎ HasRootKey n.root key
-    back (inl has) = inr has
-    back (inr none) = absurd none
-
--- of three, the third comes first or last
-turned : {A B C D : Type 0} → (A ⊎ B) ↔ C → ((D ⊎ A) ⊎ B) ↔ (D ⊎ C)
-turned {A} {B} {C} {D} rest = (λ is. to is, λ is. back is)
-  where
-    to : (D ⊎ A) ⊎ B → D ⊎ C
-    to (inl (inl d)) = inl d
-    to (inl (inr a)) = inr (rest.0 (inl a))
-    to (inr b) = inr (rest.0 (inr b))
-
-    again : A ⊎ B → (D ⊎ A) ⊎ B
-    again (inl a) = inl (inr a)
-    again (inr b) = inr b
-
-    back : D ⊎ C → (D ⊎ A) ⊎ B
-    back (inl d) = inl (inl d)
-    back (inr c) = again (rest.1 c)
-
-pub listed_more : (ns : List NamedRoot) (n : NamedRoot) (key : List ℕ) → (IsListedKey ns key ⊎ HasRootKey n.root key) ↔ IsListedKey (ns ++ n ∷ []) key
-listed_more [] n key = listed_last n key
-listed_more (m ∷ ms) n key = turned (listed_more ms n key)
 
 -- what a list has is its first, or in the rest
 pub contains_first : (k key : List ℕ) (ks : List (List ℕ)) → Contains (k ∷ ks) key → (key ≡ k) ⊎ Contains ks key
@@ -181,17 +142,6 @@ keys_there m key = (
 
 -- ---- loops, one turn more
 
--- the keys of one root more
-pub listed_turn : (files : List ListedName) (i : ℕ) (file : ListedName) (old mid new : LiveKeys) → i < length files → file ≡ get_or files i file
-    → Marks (IsListedKey (map listed_value (take i files))) old mid → Marks (HasRootKey file.root) mid new → Marks (IsListedKey (map listed_value (take (i + 1) files))) old new
-listed_turn files i file old mid new within is first second =
-    let ns : List NamedRoot = map listed_value (take i files) in
-    let more : map listed_value (take (i + 1) files) ≡ ns ++ listed_value file ∷ [] =
-    ap (map listed_value) (take_more files i file within ∙ ap (λ (x : ListedName). take i files ++ x ∷ []) (sym is)) ∙ map_push listed_value (take i files) file in
-    subst (λ (all : List NamedRoot). Marks (IsListedKey all) old new) (sym more)
-    (marks_as (λ key. IsListedKey ns key ⊎ HasRootKey file.root key) (IsListedKey (ns ++ listed_value file ∷ [])) old new (listed_more ns (listed_value file))
-    (marks_more (IsListedKey ns) (HasRootKey file.root) old mid new first second))
-
 -- one key more
 pub keys_turn : (keys : List (List ℕ)) (i : ℕ) (old mid new : LiveKeys) → i < length keys → Marks (Contains (take i keys)) old mid → Marks (λ k. k ≡ get_or keys i []) mid new
     → Marks (Contains (take (i + 1) keys)) old new
@@ -201,63 +151,7 @@ keys_turn keys i old mid new within first second =
     (marks_as (λ k. Contains (take i keys) k ⊎ (k ≡ key)) (Contains (take i keys ++ key ∷ [])) old new (contains_more (take i keys) key)
     (marks_more (Contains (take i keys)) (λ k. k ≡ key) old mid new first second))
 
-pub keys_whole : (keys : List (List ℕ)) (i : ℕ) (old new : LiveKeys) → length keys ≤ i → Marks (Contains (take i keys)) old new → Marks (Contains keys) old new
-keys_whole keys i old new past marks = subst (λ (all : List (List ℕ)). Marks (Contains all) old new) (take_all i keys past) marks
-
 -- ---- the actors, by their numbers
 
 abbrev pub OfFirst : List Part → ℕ → List ℕ → Type 0
 OfFirst parts count key = (actor : ℕ) × ((actor < count) × IsNumberKey parts actor key)
-
-first_more : (parts : List Part) (count : ℕ) (key : List ℕ) → (OfFirst parts count key ⊎ IsNumberKey parts count key) ↔ OfFirst parts (count + 1) key
-first_more parts count key = (λ is. to is, λ is. back is (by_number is.0 is.1.0))
-  where
-    to : OfFirst parts count key ⊎ IsNumberKey parts count key → OfFirst parts (count + 1) key
-    to (inl (actor, (below, is))) = (actor, (omega (arith, below), is))
-    to (inr is) = (count, (omega arith, is))
-
-    by_number : (actor : ℕ) → actor < count + 1 → (actor < count) ⊎ (actor ≡ count)
-    by_number actor below = elim (leb_tells (suc actor) count) [
-      | inl less ↦ inl (omega (arith, less.1))
-      | inr more ↦ inr (omega (arith, more.1, below))
-    ]
-
-    back : (is : OfFirst parts (count + 1) key) → (is.0 < count) ⊎ (is.0 ≡ count) → OfFirst parts count key ⊎ IsNumberKey parts count key
-    back (actor, (below, is)) (inl less) = inl (actor, (less, is))
-    back (actor, (below, is)) (inr same) = inr (subst (λ (n : ℕ). IsNumberKey parts n key) same is)
-
-pub actors_turn : (parts : List Part) (count : ℕ) (old mid new : LiveKeys) → Marks (OfFirst parts count) old mid → Marks (IsNumberKey parts count) mid new → Marks (OfFirst parts (count + 1)) old new
-actors_turn parts count old mid new first second =
-    marks_as (λ key. OfFirst parts count key ⊎ IsNumberKey parts count key) (OfFirst parts (count + 1)) old new (first_more parts count)
-    (marks_more (OfFirst parts count) (IsNumberKey parts count) old mid new first second)
-
-pub actors_none : (parts : List Part) (live : LiveKeys) → Marks (OfFirst parts 0) live live
-actors_none parts live = marks_none (OfFirst parts 0) live (λ key is. omega (arith, is.1.0))
-
-pub actors_whole : (parts : List Part) (count : ℕ) (old new : LiveKeys) → ACTORS ≤ count → Marks (OfFirst parts count) old new → Marks (IsActorKey parts) old new
-actors_whole parts count old new all marks =
-    marks_as (OfFirst parts count) (IsActorKey parts) old new
-    (λ key. (λ is. (is.0, is.1.1), λ is. (is.0, (let within : is.0 < count = omega (arith, is.1.0, all) in within, is.1)))) marks
-
--- a part that keeps segments
-pub pins_live : (part : Part) (pins : PinMap) (keys : List (List ℕ)) (old new : LiveKeys) → part ≡ Writing pins → keys ≡ finite.keys pins → Marks (Contains keys) old new → Marks (IsPartKey part) old new
-pins_live part pins keys old new is all marks =
-    subst (λ (p : Part). Marks (IsPartKey p) old new) (sym is)
-    (marks_as (Contains (finite.keys pins)) (IsPartKey (Writing pins)) old new (keys_there pins) (subst (λ (ks : List (List ℕ)). Marks (Contains ks) old new) all marks))
-
--- first those, then others, and none before
-pub first_marks : (P Q : List ℕ → Type 0) (none mid new : LiveKeys) → ((key : List ℕ) (place : Place) → IsLiveAt none key place → ⊥) → Marks P none mid → Marks Q mid new
-    → (key : List ℕ) (place : Place) → IsLiveAt new key place ↔ (P key ⊎ Q key)
-first_marks P Q none mid new empty first second key place = (λ is. to ((both key place).0 is), λ is. (both key place).1 (inr is))
-  where
-    both : Marks (λ k. P k ⊎ Q k) none new
-    both = marks_more P Q none mid new first second
-
-    to : IsLiveAt none key place ⊎ (P key ⊎ Q key) → P key ⊎ Q key
-    to (inl is) = absurd (empty key place is)
-    to (inr is) = is
-
--- what follows after an Ok
-pub then_ok : {T E : Type 0} (result : Result T E) (P Q : Type 0) → (P → Q) → OnOk result P → OnOk result Q
-then_ok (Ok x) P Q follows holds = follows holds
-then_ok (Err e) P Q follows holds = tt

@@ -60,7 +60,7 @@ use Rattle.gc_sweep.specs.UnderWay.{is_old}
 use Rattle.gc_steps.specs.Stages.{is_old_slot}
 use Rattle.gc_steps.specs.Stepping.{IsStepRefusal, moment}
 use Rattle.gc_steps.specs.UnderWay.{HasStage, IsUnderWay}
-use Rattle.gc_steps.proofs.NoneMissing.{never_missing}
+use Rattle.gc_steps.proofs.NoneMissing.{never_missing, not_misplaced}
 
 -- a refusal tells of no damage, and of nothing that is missing
 abbrev pub IsClean : Refusal → Type 0
@@ -209,15 +209,19 @@ module _ (index : PlaceMap) (store : Store) (files : Files) (image : List ℕ) (
     fault_clean h (faults.Corrupt at offset count want got) right shown stuck = entry_right level slot h before stuck.at at offset count want got stuck.cause.0 stuck.cause.1
     fault_clean h (faults.Damaged at why) right shown stuck = by_cause stuck.cause
       where
+        within : Contains h.entries stuck.at
+        within = subst (λ (es : List Entry). Contains es stuck.at) (sym stuck.entries_are) (between stuck.before stuck.at stuck.after)
+
         rule : is_level h.kind stuck.at.level ≡ true
         rule =
             let rules = All-from_recursion (λ (e : Entry). is_level h.kind e.level ≡ true) h.entries (have_levels h.kind h.kind [] h.entries refl right.entries) in
-            All-contains (λ (e : Entry). is_level h.kind e.level ≡ true) h.entries stuck.at rules
-            (subst (λ (es : List Entry). Contains es stuck.at) (sym stuck.entries_are) (between stuck.before stuck.at stuck.after))
+            All-contains (λ (e : Entry). is_level h.kind e.level ≡ true) h.entries stuck.at rules within
 
         by_cause : IsEntryFault (scan_for (Some index) before.live slot level h) (ShowsAt old new) (λ at why. Some index ≡ None) stuck.at (faults.Damaged at why) → ⊥
         by_cause (inl index_damage) = map_known index_damage.1
-        by_cause (inr node) = entry_node level slot h before stuck.at at why some rule node.0 node.1
+        by_cause (inr (inl node)) = entry_node level slot h before stuck.at at why some rule node.0 node.1
+        by_cause (inr (inr child)) =
+            not_misplaced index store files parts image holds partial old new content level slot before closed h stuck.at child.0 at why right within child.1.0 child.1.1 child.1.2
 
     mark_clean : (refusal : Refusal) → HasHeader store.held slot → IsMarkRefusal (Some index) old new level slot before.live refusal → IsClean refusal
     mark_clean refusal has (inl header) = header_clean slot refusal has header

@@ -13,6 +13,7 @@ use Rattle.actor_parts.specs.Segments.{IsNodeSegment, IsOfKind, child_kind, chil
 use Rattle.container_meta.specs.declared.kind.Kind.{Kind}
 use Rattle.container_meta.specs.declared.kind.Kind.TheVariants.{Leaf, Tree}
 use Rattle.container_meta.specs.Format.{kind_byte}
+use Rattle.container_meta.specs.declared.place.Place.{Place}
 use Rattle.container_meta.specs.Places.{PlaceMap}
 use Rattle.container_meta.specs.Segments.{Segment, segment_key}
 use Rattle.container_meta.specs.Spelling.{HeaderValue}
@@ -25,7 +26,7 @@ use Rattle.merkle_file.specs.Walk.{AreBelow, contents_of}
 use Rattle.store_model.specs.Files.{Files}
 use Rattle.store_model.specs.Image.{Store}
 use Rattle.store_model.specs.Reserve.{keys_below, tree_keys}
-use Rattle.store_model.specs.Slots.{Copy, HasKey, newest}
+use Rattle.store_model.specs.Slots.{Copy, HasKey, IsPartialIndexOf, newest}
 use Rattle.store_model.specs.Standing.{IsStoreOf}
 use Rattle.store_model.specs.Trees.{HasNewest, HoldsTrees, leaf_key, node_key}
 use Rattle.store_model.proofs.Copies.{copy_within, headers_of_right}
@@ -34,6 +35,7 @@ use Rattle.store_model.proofs.Roots.{length_of_copy}
 use Rattle.store_model.proofs.TreeKeys.{at_head, either_part, none_there}
 use Rattle.store_state.specs.Invariant.{ArePinsOf, HoldsPin}
 use Rattle.gc_steps.specs.LiveTrees.{IsRootOf, IsWhole}
+use Rattle.gc_steps.proofs.Levels.{whole_level}
 
 -- ---- pins and children
 
@@ -184,3 +186,9 @@ module _ (index : PlaceMap) (store : Store) (files : Files) (image : List ℕ) (
   -- What an actor has pinned is held whole.
   pub pinned_whole : (key : List ℕ) (pin : Pin) → finite.get pins key ≡ Some pin → IsWhole index store.held image key
   pinned_whole key pin found = (pinned_tree pin.level key pin refl (all key pin found)).is_whole
+
+  -- The index has it at the level that is said of it.
+  pub pinned_level : IsPartialIndexOf store.held index → (key : List ℕ) (pin : Pin) → finite.get pins key ≡ Some pin → (place : Place) → finite.get index key ≡ Some place → place.level ≡ pin.level
+  pinned_level partial key pin found place there =
+      let has = pinned_tree pin.level key pin refl (all key pin found) in
+      whole_level index store image partial key has.is_whole place there ∙ has.level_is

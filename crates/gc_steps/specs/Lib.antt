@@ -9,6 +9,7 @@ pub mod Roots
 pub mod Safety
 pub mod Scanning
 pub mod Stages
+pub mod Starting
 pub mod Stepping
 pub mod Sparing
 pub mod StepsToCome

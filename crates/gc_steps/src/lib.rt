@@ -9,6 +9,7 @@ mod fresh;
 mod laws;
 mod marking;
 mod phase;
+mod roots;
 mod slots;
 mod starting;
 mod stepping;

@@ -1,7 +1,7 @@
-use Rattle.std.proofs.Common.{◌≡◌, ◌<◌, ◌∙◌, ℕ, List, [], length, get_or, ap, subst}
+use Rattle.std.proofs.Common.{◌≡◌, ◌<◌, ◌-◌, ◌∙◌, ℕ, List, [], length, get_or, ap, subst}
 use Rattle.base_model.proofs.Outcome.{passed_on}
 use Rattle.merkle_file.specs.declared.node.Child.{Child}
-use Rattle.gc_enumerate.specs.Scanning.{child_key}
+use Rattle.gc_enumerate.specs.Scanning.{IsUnplaced, child_key}
 use Rattle.gc_enumerate.proofs.Children.{child_more, child_stuck}
 use Rattle.gc_enumerate.proofs.nodes.look_up_children.Goals as goal
 
@@ -20,7 +20,8 @@ returns-in_err-look_up-clause-refused g c =
     (child_stuck (copies.places c.args.copies.now) (copies.places c.loop-child.copies) (laws.places_stay c.args.copies.now c.loop-child.copies so_far.3) node i blank within c.child_key.result key_is
     c.loop-child.found.items so_far.2 (copies.damaged c.args.copies.now c.look_up.new.copies) (copies.damaged c.loop-child.copies c.look_up.new.copies) c.in_err-look_up.field-0.0
     (λ at why is. laws.damaged_wider c.args.copies.now c.loop-child.copies c.look_up.new.copies c.look_up.new.copies at why so_far.3 c.in_err-look_up.ensures.later (laws.later_at_once c.look_up.new.copies) is)
-    c.in_err-look_up.ensures.refused)
+    (subst (λ (level : ℕ). IsUnplaced (copies.places c.loop-child.copies) (copies.damaged c.loop-child.copies c.look_up.new.copies) (level - 1) c.child_key.result c.in_err-look_up.field-0.0) so_far.1
+    c.in_err-look_up.ensures.refused))
 
 pub loop-child-preserved : goal.loop-child-preserved
 loop-child-preserved g c =
@@ -36,7 +37,8 @@ loop-child-preserved g c =
       so_far.0,
       so_far.1,
       child_more (copies.places c.args.copies.now) (copies.places c.loop-child.copies) (laws.places_stay c.args.copies.now c.loop-child.copies so_far.3) node i blank within c.child_key.result key_is
-          c.loop-child.found.items so_far.2 c.in_ok-look_up.field-0 c.push.new.self.items c.in_ok-look_up.ensures.key c.in_ok-look_up.ensures.place c.in_ok-push.ensures.items,
+          c.loop-child.found.items so_far.2 c.in_ok-look_up.field-0 c.push.new.self.items c.in_ok-look_up.ensures.key c.in_ok-look_up.ensures.place
+          (c.in_ok-look_up.ensures.level ∙ ap (λ (level : ℕ). level - 1) so_far.1) c.in_ok-push.ensures.items,
       laws.later_on c.args.copies.now c.loop-child.copies c.look_up.new.copies so_far.3 c.in_ok-look_up.ensures.later,
       c.in_ok-look_up.ensures.counts ∙ so_far.4,
       c.in_ok-look_up.ensures.served,

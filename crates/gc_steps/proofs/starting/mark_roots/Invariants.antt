@@ -1,0 +1,7 @@
+use Rattle.std.proofs.Common.{map, take}
+use Rattle.std.specs.List.{Contains}
+use Rattle.gc_steps.specs.Roots.{Marks, key_at}
+use Rattle.gc_steps.proofs.starting.mark_roots.Given as goal
+
+abbrev pub invariant-loop-root : goal.invariant-loop-root
+invariant-loop-root l = Marks (Contains (map key_at (take l.root-index l.roots))) l.fn.live l.live

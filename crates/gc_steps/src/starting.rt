@@ -57,7 +57,8 @@ fn mark_roots(live: &mut Live, roots: &[RootKey]) -> Result<(), AllocError>
 
 // What is live as a collection begins.
 fn first_live(alloc: Global, roots: &[RootKey]) -> Result<Live, AllocError>
-    ensures live { IfOk result (λ live. (key : List ℕ) (place : PlaceValue) → IsLiveAt live key place ↔ Contains (map key_at roots.now) key) }
+    ensures live { IfOk result (λ live. (key : List ℕ) (place : PlaceValue) → IsLiveAt live key place
+        ↔ Contains (map key_at roots.now) key) }
 {
     let mut live = Live::new(alloc);
     mark_roots(&mut live, roots)?;

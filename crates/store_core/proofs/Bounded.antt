@@ -117,7 +117,7 @@ module _ (old new : CoreState) (b : Collection) (ran : old.collection ≡ Some b
   start_leaves : (percent : ℕ) (answer : Result Answer Refusal) → StartRow percent answer old new → KeepsTables old new → Leaves (asked.GcStart percent) answer b old new
   start_leaves percent (Ok (answers.Started snapshot)) row tables = absurd (let wrong : None ≡ Some b = sym row.0.none_ran ∙ ran in cc)
   start_leaves percent (Err (refusals.Collecting phase)) row tables = kept (asked.GcStart percent) (Err (refusals.Collecting phase)) refl (ap (λ (t : Tables). t.held) tables.tables_are) row.1
-  start_leaves percent (Err refusals.Memory) row tables = absurd (let wrong : None ≡ Some b = sym row.0 ∙ ran in cc)
+  start_leaves percent (Err refusal) row tables = absurd (let wrong : None ≡ Some b = sym row.none_ran ∙ ran in cc)
   start_leaves percent answer row tables = absurd row
 
   -- ---- its own

@@ -179,7 +179,7 @@ module _ (old new : CoreState) (b : Collection) (ran : old.collection ≡ Some b
   start_stays : (percent : ℕ) (answer : Result Answer Refusal) → StartRow percent answer old new → Stays
   start_stays percent (Ok (answers.Started snapshot)) row = absurd (let wrong : None ≡ Some b = sym row.0.none_ran ∙ ran in cc)
   start_stays percent (Err (refusals.Collecting phase)) row = same_stays row.1
-  start_stays percent (Err refusals.Memory) row = absurd (let wrong : None ≡ Some b = sym row.0 ∙ ran in cc)
+  start_stays percent (Err refusal) row = absurd (let wrong : None ≡ Some b = sym row.none_ran ∙ ran in cc)
   start_stays percent answer row = absurd row
 
   other_stays : (actor : ℕ) (buf : List ℕ) (step : StepValue) (answer : Result Answer Refusal) → IsNoGcStep step → Row step actor answer buf old new → Collects step answer old new → Stays

@@ -1,5 +1,5 @@
 -- What becomes of a key whose copy a collection found in a container, step by step: it lies there still, or was written, or it was dead.
-use Rattle.std.proofs.Common.{◌≡◌, ◌≢◌, ◌⊎◌, inl, inr, ℕ, zero, suc, Bool, true, false, List, [], ◌∷◌, ◌++◌, append_assoc, get_or, map, Option, Some, None, Result, Ok, Err, refl, sym, ◌∙◌, ap, subst, arith}
+use Rattle.std.proofs.Common.{◌≡◌, ◌≢◌, ◌⊎◌, inl, inr, ℕ, zero, suc, ◌-◌, Bool, true, false, List, [], ◌∷◌, ◌++◌, append_assoc, get_or, map, Option, Some, None, Result, Ok, Err, refl, sym, ◌∙◌, ap, subst, arith}
 use Rattle.std.specs.Prelude.{◌||◌, slice_get, option_map, Contains}
 use Rattle.std.specs.FinMap as finite
 use Rattle.std.specs.List.{AllByRecursion}
@@ -147,11 +147,12 @@ fates_then first rest b a c s t u old mid new middle middle_is now then index la
 
 -- ---- what a scan marks
 
--- the index has each of these keys
-placed_has : {X : Type 0} (index : PlaceMap) (key : List ℕ) (xs : List X) (of : X → List ℕ) (at : X → Place) → AllByRecursion (λ x. IsPlaceOf (Some index) (of x) (at x)) xs → Contains (map of xs) key → HasKey index key
-placed_has index key [] of at placed (k, below, is) = absurd (omega (arith, below))
-placed_has index key (x ∷ xs) of at placed (zero, below, is) = (at x, ap (finite.get index) (sym is) ∙ placed.0 index refl)
-placed_has index key (x ∷ xs) of at placed (suc k, below, is) = placed_has index key xs of at placed.1 (k, omega (arith, below), is)
+-- the index has each of these keys, at this level
+placed_has : {X : Type 0} (index : PlaceMap) (level : ℕ) (key : List ℕ) (xs : List X) (of : X → List ℕ) (at : X → Place)
+    → AllByRecursion (λ x. IsPlaceOf (Some index) (of x) (at x) × ((at x).level ≡ level)) xs → Contains (map of xs) key → HasKey index key
+placed_has index level key [] of at placed (k, below, is) = absurd (omega (arith, below))
+placed_has index level key (x ∷ xs) of at placed (zero, below, is) = (at x, ap (finite.get index) (sym is) ∙ placed.0.0 index refl)
+placed_has index level key (x ∷ xs) of at placed (suc k, below, is) = placed_has index level key xs of at placed.1 (k, omega (arith, below), is)
 
 first_ones : {X : Type 0} (of : X → List ℕ) (xs ys : List X) (key : List ℕ) → Contains (map of xs) key → Contains (map of (xs ++ ys)) key
 first_ones of [] ys key (k, below, is) = absurd (omega (arith, below))
@@ -163,7 +164,7 @@ module _ (index : PlaceMap) (old new : DiskView) (slot level : ℕ) (h : HeaderV
   scan_unmarked scanned key place none is_live = elim ((scanned.marks.marks key place).0 is_live) [
     | inl was ↦ was
     | inr among ↦ absurd (
-        let has = placed_has index key scanned.marks.found (λ f. f.key) (λ f. f.place) (recursion_from_All _ scanned.marks.found scanned.marks.finds.placed) (among_keys key place scanned.marks.found among) in
+        let has = placed_has index (level - 1) key scanned.marks.found (λ f. f.key) (λ f. f.place) (recursion_from_All _ scanned.marks.found scanned.marks.finds.placed) (among_keys key place scanned.marks.found among) in
         let wrong : None ≡ Some has.0 = sym none ∙ has.1 in cc)
   ]
 
@@ -173,7 +174,7 @@ module _ (index : PlaceMap) (old new : DiskView) (slot level : ℕ) (h : HeaderV
     | inr among ↦ absurd (
         let some : Contains (keys_of (scanned.marks.0 ++ scanned.marks.1.0)) key = first_ones _ scanned.marks.0 scanned.marks.1.0 key (among_keys key place scanned.marks.0 among) in
         let all : Contains (keys_of scanned.found) key = subst (λ found. Contains (keys_of found) key) (sym scanned.marks.1.1.0) some in
-        let has = placed_has index key scanned.found (λ f. f.key) (λ f. f.place) (recursion_from_All _ scanned.found scanned.finds.placed) all in
+        let has = placed_has index (level - 1) key scanned.found (λ f. f.key) (λ f. f.place) (recursion_from_All _ scanned.found scanned.finds.placed) all in
         let wrong : None ≡ Some has.0 = sym none ∙ has.1 in cc)
   ]
 
@@ -415,7 +416,7 @@ module _ (old new : CoreState) (b : Collection) (live : LiveKeys) (ran : old.col
   keys_started : (percent : ℕ) (answer : Result Answer Refusal) → StartRow percent answer old new → new.known ≡ old.known → KeepsKeys [] b live old new
   keys_started percent (Ok (answers.Started snapshot)) row known = absurd (let wrong : None ≡ Some b = sym row.0.none_ran ∙ ran in cc)
   keys_started percent (Err (refusals.Collecting phase)) row known = keys_rest [] known row.1
-  keys_started percent (Err refusals.Memory) row known = absurd (let wrong : None ≡ Some b = sym row.0 ∙ ran in cc)
+  keys_started percent (Err refusal) row known = absurd (let wrong : None ≡ Some b = sym row.none_ran ∙ ran in cc)
   keys_started percent answer row known = absurd row
 
   -- a step that is none of a collection

@@ -166,7 +166,7 @@ module _ (old new : CoreState) where
   begun_on percent (Ok (answers.Started snapshot)) row kept under_way =
       subst (λ (t : Tables). IsUnderWayIn t.held new.collection) (sym kept.tables_are) (subst (IsUnderWayIn old.tables.held) (sym row.0.runs) row.0.under_way)
   begun_on percent (Err (refusals.Collecting phase)) row kept under_way = kept_on kept row.1 under_way
-  begun_on percent (Err refusals.Memory) row kept under_way = kept_on kept row.1 under_way
+  begun_on percent (Err refusal) row kept under_way = kept_on kept row.none_runs under_way
   begun_on percent answer row kept under_way = absurd row
 
   pub commit_held : (name : List ℕ) (root : Root) (actor : ℕ) (answer : Result Answer Refusal) → CommitRow name root actor answer old new → NamesOne name (Put root) answer old new → new.tables.held ≡ old.tables.held

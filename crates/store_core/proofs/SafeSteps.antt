@@ -322,7 +322,7 @@ module _ (among : ByteSet) (s : Store) (stored : Stored) (old new : CoreState) (
   pub start_parts : (percent : ℕ) (answer : Result Answer Refusal) → StartRow percent answer old new → new.parts ≡ old.parts
   start_parts percent (Ok (answers.Started snapshot)) row = row.1
   start_parts percent (Err (refusals.Collecting phase)) row = row.2
-  start_parts percent (Err refusals.Memory) row = row.2
+  start_parts percent (Err refusal) row = row.parts_are
   start_parts percent answer row = absurd row
 
   begun_here : (percent : ℕ) (answer : Result Answer Refusal) → StartRow percent answer old new → IsStoreOf s stored.files image → Safe
@@ -334,7 +334,8 @@ module _ (among : ByteSet) (s : Store) (stored : Stored) (old new : CoreState) (
       (start_safe at.index s old.parts image stored.files (at.invariant image here) holds old.tables begun.collection represents begun.next_is begun.stage_is begun.live))
   begun_here percent (Err (refusals.Collecting phase)) row holds safe =
       unchanged_safe at.index at.index s s old.parts new.parts image image old.collection new.collection (still_rested row.2) row.1 safe
-  begun_here percent (Err refusals.Memory) row holds safe = unchanged_safe at.index at.index s s old.parts new.parts image image old.collection new.collection (still_rested row.2) row.1 safe
+  begun_here percent (Err refusal) row holds safe =
+      unchanged_safe at.index at.index s s old.parts new.parts image image old.collection new.collection (still_rested row.parts_are) row.none_runs safe
   begun_here percent answer row holds safe = absurd row
 
   pub begun_safe : (percent : ℕ) (answer : Result Answer Refusal) → StartRow percent answer old new → Rests answer old new → IsSafeFor at.index s stored new

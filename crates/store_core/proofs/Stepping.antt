@@ -95,7 +95,7 @@ module _ (actor : ℕ) (buf : List ℕ) (old new : CoreState) where
   start_one : (percent : ℕ) (answer : Result Answer Refusal) → StartRow percent answer old new → ChangesOne actor old.parts new.parts
   start_one percent (Ok (answers.Started snapshot)) row = same_one actor old.parts new.parts row.1
   start_one percent (Err (refusals.Collecting phase)) row = same_one actor old.parts new.parts row.2
-  start_one percent (Err refusals.Memory) row = same_one actor old.parts new.parts row.2
+  start_one percent (Err refusal) row = same_one actor old.parts new.parts row.parts_are
   start_one percent answer row = absurd row
 
   gc_one : (answer : Result Answer Refusal) → GcRow answer old new → ChangesOne actor old.parts new.parts

@@ -20,8 +20,9 @@ use Rattle.gc_sweep.specs.Beginning.{Begins as SweepBegins}
 use Rattle.gc_steps.specs.declared.collection.Stage.TheVariants.{Sweep}
 use Rattle.gc_steps.specs.declared.phase.StepDone.TheVariants.{Did}
 use Rattle.gc_steps.specs.Fresh.{IsAsLive, Unmarks}
-use Rattle.gc_steps.specs.Roots.{IsRoot, Marks}
+use Rattle.gc_steps.specs.Roots.{IsRoot, Marks, roots_of}
 use Rattle.gc_steps.specs.Stages.{mark_level}
+use Rattle.gc_steps.specs.Starting.{AreFound, IsStartRefusal}
 use Rattle.gc_steps.specs.Stepping.{IsStepRefusal, Keeps, Moment, StepsTo, TablesAfter, Touches, answer_of, moment, phase_at}
 use Rattle.gc_steps.specs.StepsToCome.{Nears, old_from, steps_to_come, trees_from}
 use Rattle.segment_index.specs.Places.{KnownMap}
@@ -63,7 +64,8 @@ Collects step answer old new = new.collection ≡ old.collection
 
 -- ---- it begins
 
--- None ran, and one runs: its snapshot is the next container id, and just the roots of names and readers and all pins are live.
+-- None ran, and one runs: its snapshot is the next container id, and just the roots of names and readers and all pins are live. The index
+-- has each of them at its level.
 pub record Begins (percent snapshot : ℕ) (old new : CoreState) : Type 0 where
   pub none_ran : old.collection ≡ None
   pub collection : Collection
@@ -72,6 +74,7 @@ pub record Begins (percent snapshot : ℕ) (old new : CoreState) : Type 0 where
   pub next_is : collection.snapshot ≡ min (old.tables.held.last_id + 1) (2 ^ 64 - 1)
   pub percent_is : collection.percent ≡ percent
   pub live : (key : List ℕ) (place : Place) → IsLiveAt collection.live key place ↔ IsRoot old.tables.names old.parts key
+  pub found : AreFound old.known (roots_of old.tables.names old.parts)
   pub nothing_yet : (collection.liveness ≡ []) × SweepBegins old.tables.held [] collection.sweep
   pub under_way : IsUnderWay old.tables.held collection
   pub stage_is : collection.stage ≡ mark_level collection.snapshot old.tables.held MOST_LEVEL
@@ -83,13 +86,19 @@ pub record Begins (percent snapshot : ℕ) (old new : CoreState) : Type 0 where
 abbrev pub IsCollecting : Phase → Option Collection → Type 0
 IsCollecting phase running = (c : Collection) × ((running ≡ Some c) × (phase ≡ phase_at c.stage c.sweep.next))
 
+-- None ran, and none runs: memory ran out, or a root is the first that the index doesn't have at its level.
+pub record IsUnbegun (refusal : Refusal) (old new : CoreState) : Type 0 where
+  pub none_ran : old.collection ≡ None
+  pub cause : IsStartRefusal old.known (roots_of old.tables.names old.parts) refusal
+  pub none_runs : new.collection ≡ old.collection
+  pub parts_are : new.parts ≡ old.parts
+
 abbrev pub StartRow : ℕ → Result Answer Refusal → CoreState → CoreState → Type 0
 StartRow percent (Ok (answers.Started snapshot)) old new = Begins percent snapshot old new × (new.parts ≡ old.parts)
 StartRow percent (Err (refusals.Collecting phase)) old new =
     IsCollecting phase old.collection × (new.collection ≡ old.collection) × (new.parts ≡ old.parts)
-StartRow percent (Err refusals.Memory) old new =
-    (old.collection ≡ None) × (new.collection ≡ old.collection) × (new.parts ≡ old.parts)
-StartRow percent answer old new = ⊥
+StartRow percent (Err refusal) old new = IsUnbegun refusal old new
+StartRow percent (Ok answer) old new = ⊥
 
 -- ---- its steps
 

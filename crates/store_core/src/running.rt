@@ -358,7 +358,14 @@ impl<D: Disk, M: Summary> Core<D, M> {
                 phase: phase_of(running),
             });
         }
-        let begun = start(self.alloc, &self.tables, &self.parts, percent)?;
+        let begun = start(
+            self.alloc,
+            &mut self.disk,
+            &self.tables,
+            &mut self.index,
+            &self.parts,
+            percent,
+        )?;
         let snapshot = begun.snapshot;
         self.collection = Some(begun);
         Ok(Answer::Started { snapshot })

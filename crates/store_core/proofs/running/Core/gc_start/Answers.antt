@@ -1,5 +1,4 @@
 use Rattle.std.proofs.Common.{refl}
-use Rattle.dd_disk.proofs.Later.{reads_here}
 use Rattle.store_core.proofs.MakingGc.{made_running}
 use Rattle.store_core.proofs.running.Core.gc_start.Goals as goal
 
@@ -16,16 +15,17 @@ returns-clause-made g c = λ buf stop count.
           collection = c.in_ok-begun.begun;
           runs = refl;
           snapshot_is = refl;
-          next_is = is.snapshot;
-          percent_is = is.percent;
-          live = is.live;
-          nothing_yet = is.nothing_yet;
+          next_is = is.begun.snapshot_is;
+          percent_is = is.begun.percent_is;
+          live = is.begun.live;
+          found = is.found;
+          nothing_yet = is.begun.nothing_yet;
           under_way = is.under_way;
-          stage_is = is.stage;
+          stage_is = is.begun.stage_is;
           steps = is.steps;
         },
         refl,
       );
-      effect = record { disk = record { only = reads_here _; faults_are = refl }; tables = record { tables_are = refl; index_is = refl } };
-      served = λ served. served;
+      effect = record { disk = is.reads; tables = record { tables_are = refl; index_is = is.map } };
+      served = λ served. is.served;
     }

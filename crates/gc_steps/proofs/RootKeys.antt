@@ -220,13 +220,13 @@ pub found_more : (known : Option PlaceMap) (roots : List RootKey) (i : ℕ) (d :
 found_more known roots i d within before here =
     subst (AreFound known) (sym (take_more roots i d within)) (All-push (IsFound known) (take i roots) (get_or roots i d) before here)
 
-stops_is : (known : Option PlaceMap) (roots : List RootKey) (refusal : Refusal) → StopsAt known roots refusal → IsStartRefusal known roots refusal
-stops_is known roots Memory stops = tt
-stops_is known roots _ stops = stops
+stops_is : (alone known : Option PlaceMap) (roots : List RootKey) (refusal : Refusal) → StopsAt alone known roots refusal → IsStartRefusal alone known roots refusal
+stops_is alone known roots Memory stops = tt
+stops_is alone known roots _ stops = stops
 
-pub stuck_at : (known : Option PlaceMap) (roots : List RootKey) (i : ℕ) (d : RootKey) (refusal : Refusal) → i < length roots → AreFound known (take i roots)
-    → IsUnfound known (get_or roots i d) refusal → IsStartRefusal known roots refusal
-stuck_at known roots i d refusal within before cause = stops_is known roots refusal (record {
+pub stuck_at : (alone known : Option PlaceMap) (roots : List RootKey) (i : ℕ) (d : RootKey) (refusal : Refusal) → i < length roots → AreFound known (take i roots)
+    → IsUnfound alone known (get_or roots i d) refusal → IsStartRefusal alone known roots refusal
+stuck_at alone known roots i d refusal within before cause = stops_is alone known roots refusal (record {
   before = take i roots;
   at = get_or roots i d;
   after = drop (i + 1) roots;

@@ -1,5 +1,5 @@
 -- The roots of a collection are found, where the content of the disk stands for files.
-use Rattle.std.proofs.Common.{◌≡◌, ◌≢◌, ◌≤◌, inl, inr, ℕ, zero, suc, ◌==◌, Bool, true, false, List, [], ◌∷◌, ◌++◌, length, Option, Some, None, refl, sym, ◌∙◌, ap, subst}
+use Rattle.std.proofs.Common.{◌≡◌, ◌≢◌, ◌⊎◌, ◌≤◌, inl, inr, ℕ, zero, suc, ◌==◌, Bool, true, false, List, [], ◌∷◌, ◌++◌, length, Option, Some, None, refl, sym, ◌∙◌, ap, subst}
 use Rattle.std.specs.Prelude.{if◌then◌else◌, nat_lt}
 use Rattle.std.specs.FinMap as finite
 use Rattle.std.specs.List.{AllByRecursion, Contains, flat_map}
@@ -26,7 +26,7 @@ use Rattle.merkle_file.specs.Walk.{IsTree, contents_of, trees_in}
 use Rattle.namespace.specs.declared.record.Named.{Named}
 use Rattle.namespace.specs.Listing.{NamedRoot, listing_of}
 use Rattle.refusals.specs.declared.refusal.Refusal.{Refusal}
-use Rattle.refusals.specs.declared.refusal.Refusal.TheVariants.{Clash, Corrupt, Damaged, Memory, Missing}
+use Rattle.refusals.specs.declared.refusal.Refusal.TheVariants.{Damaged, DiskRead, Memory, Missing}
 use Rattle.store_model.specs.Files.{Files}
 use Rattle.store_model.specs.Image.{Store, names_of}
 use Rattle.store_model.specs.Refusals.{root_key}
@@ -44,7 +44,6 @@ use Rattle.gc_steps.specs.Roots.{keys_as_pinned, keys_of_first, keys_of_listed, 
 use Rattle.gc_steps.specs.Starting.{IsFound, IsStartRefusal, IsUnfound, StopsAt}
 use Rattle.gc_steps.proofs.Levels.{tree_level}
 use Rattle.gc_steps.proofs.ListedKeys.{each_name}
-use Rattle.gc_steps.proofs.NoDamage.{IsClean}
 use Rattle.gc_steps.proofs.NoneMissing.{between}
 use Rattle.gc_steps.proofs.PinnedTrees.{pinned_level}
 use Rattle.gc_steps.proofs.RootTrees.{not_zero, root_there, top_key, top_of}
@@ -142,27 +141,36 @@ roots_found index store files parts image core holds =
 
 -- ---- so none is a reason to refuse
 
-module _ (index : PlaceMap) (root : RootKey) (found : IsFound (Some index) root) where
+module _ (alone : Option PlaceMap) (index : PlaceMap) (root : RootKey) (found : IsFound (Some index) root) where
   not_misplaced : (at : ℕ) (why : Why) → IsMisplaced (Some index) root.level root.key at why → ⊥
   not_misplaced at why wrong =
       let same : found.0 ≡ wrong.place = some_same found.0 wrong.place (sym (found.1.0 index refl) ∙ wrong.place_is index refl) in
       wrong.differs (ap (λ (p : Place). p.level) (sym same) ∙ found.1.1)
 
-  cause_clean : (refusal : Refusal) → IsUnfound (Some index) root refusal → IsClean refusal
-  cause_clean (Missing key) (same, missing) = absurd (let wrong : None ≡ Some found.0 = sym (missing index refl) ∙ ap (finite.get index) same ∙ found.1.0 index refl in cc)
-  cause_clean (Damaged at why) (inl unknown) = absurd cc
-  cause_clean (Damaged at why) (inr wrong) = not_misplaced at why wrong
-  cause_clean (Corrupt slot offset count want got) is = is
-  cause_clean (Clash key at) is = is
-  cause_clean refusal is = tt
+  cause_unread : (refusal : Refusal) → IsUnfound alone (Some index) root refusal → (refusal ≡ DiskRead) × (alone ≡ None)
+  cause_unread DiskRead unread = (refl, unread)
+  cause_unread (Missing key) (same, missing) = absurd (let wrong : None ≡ Some found.0 = sym (missing index refl) ∙ ap (finite.get index) same ∙ found.1.0 index refl in cc)
+  cause_unread (Damaged at why) (inl unknown) = absurd (let wrong : Some index ≡ None = unknown.1 in cc)
+  cause_unread (Damaged at why) (inr wrong) = absurd (not_misplaced at why wrong)
+  cause_unread refusal is = absurd is
 
-stopped_clean : (index : PlaceMap) (roots : List RootKey) → AllByRecursion (IsFound (Some index)) roots → (refusal : Refusal) → StopsAt (Some index) roots refusal → IsClean refusal
-stopped_clean index roots all refusal stops =
-    cause_clean index stops.at
+stopped_unread : (alone : Option PlaceMap) (index : PlaceMap) (roots : List RootKey) → AllByRecursion (IsFound (Some index)) roots → (refusal : Refusal) → StopsAt alone (Some index) roots refusal
+    → (refusal ≡ DiskRead) × (alone ≡ None)
+stopped_unread alone index roots all refusal stops =
+    cause_unread alone index stops.at
     (All-contains (IsFound (Some index)) roots stops.at (All-from_recursion (IsFound (Some index)) roots all)
     (subst (λ (rs : List RootKey). Contains rs stops.at) (sym stops.roots_are) (between stops.before stops.at stops.after))) refusal stops.cause
 
--- No collection is refused by a root.
-pub begins_clean : (index : PlaceMap) (roots : List RootKey) → AllByRecursion (IsFound (Some index)) roots → (refusal : Refusal) → IsStartRefusal (Some index) roots refusal → IsClean refusal
-begins_clean index roots all Memory refused = tt
-begins_clean index roots all refusal refused = stopped_clean index roots all refusal refused
+-- Where each root is found, a collection that does not begin ran out of memory, or a read failed, and the map is not known by itself then.
+pub begins_unless : (alone : Option PlaceMap) (index : PlaceMap) (roots : List RootKey) → AllByRecursion (IsFound (Some index)) roots → (refusal : Refusal)
+    → IsStartRefusal alone (Some index) roots refusal → (refusal ≡ Memory) ⊎ ((refusal ≡ DiskRead) × (alone ≡ None))
+begins_unless alone index roots all Memory refused = inl refl
+begins_unless alone index roots all refusal refused = inr (stopped_unread alone index roots all refusal refused)
+
+-- So it ran out of memory where the map is known by itself.
+pub begins_by_memory : (index : PlaceMap) (roots : List RootKey) → AllByRecursion (IsFound (Some index)) roots → (refusal : Refusal)
+    → IsStartRefusal (Some index) (Some index) roots refusal → refusal ≡ Memory
+begins_by_memory index roots all refusal refused = elim (begins_unless (Some index) index roots all refusal refused) [
+  | inl memory ↦ memory
+  | inr unread ↦ absurd (let wrong : Some index ≡ None = unread.1 in cc)
+]

@@ -25,26 +25,27 @@ IsFound known root = (place : Place) × (IsPlaceOf known root.key place × (plac
 abbrev pub AreFound : Option PlaceMap → List RootKey → Type 0
 AreFound known roots = All (IsFound known) roots
 
--- Why one is not found: a read failed; the index lacks its key; or it has it at another level, or is damaged, whose map is not known then.
-abbrev pub IsUnfound : Option PlaceMap → RootKey → Refusal → Type 0
-IsUnfound known root DiskRead = Unit {0}
-IsUnfound known root (Missing key) = (key ≡ root.key) × KnownMap known (λ m. finite.get m key ≡ None)
-IsUnfound known root (Damaged at why) = (known ≡ None) ⊎ IsMisplaced known root.level root.key at why
-IsUnfound known root refusal = ⊥
+-- Why one is not found: the index lacks its key, or has it at another level. Or a read failed, or the index is damaged, whose map is not
+-- known then; nor is it known by itself (alone), with no disk.
+abbrev pub IsUnfound : (alone known : Option PlaceMap) → RootKey → Refusal → Type 0
+IsUnfound alone known root DiskRead = alone ≡ None
+IsUnfound alone known root (Missing key) = (key ≡ root.key) × KnownMap known (λ m. finite.get m key ≡ None)
+IsUnfound alone known root (Damaged at why) = ((alone ≡ None) × (known ≡ None)) ⊎ IsMisplaced known root.level root.key at why
+IsUnfound alone known root refusal = ⊥
 
 -- It is the first that is not found.
-pub record StopsAt (known : Option PlaceMap) (roots : List RootKey) (refusal : Refusal) : Type 0 where
+pub record StopsAt (alone known : Option PlaceMap) (roots : List RootKey) (refusal : Refusal) : Type 0 where
   pub before : List RootKey
   pub at : RootKey
   pub after : List RootKey
   pub roots_are : roots ≡ before ++ at ∷ after
   pub passed : AreFound known before
-  pub cause : IsUnfound known at refusal
+  pub cause : IsUnfound alone known at refusal
 
 -- Why a collection does not begin. Want of memory is the one free answer.
-abbrev pub IsStartRefusal : Option PlaceMap → List RootKey → Refusal → Type 0
-IsStartRefusal known roots Memory = Unit {0}
-IsStartRefusal known roots refusal = StopsAt known roots refusal
+abbrev pub IsStartRefusal : (alone known : Option PlaceMap) → List RootKey → Refusal → Type 0
+IsStartRefusal alone known roots Memory = Unit {0}
+IsStartRefusal alone known roots refusal = StopsAt alone known roots refusal
 
 -- A collection that has begun: its snapshot is the next container id; just the roots are live; nothing was recorded, and no sources were
 -- chosen; and it marks the highest level first.

@@ -1,5 +1,5 @@
 //! A collection begins.
-ghost use Rattle.std.specs.Prelude.{◌≡◌, ◌↔◌, ◌+◌, ◌*◌, ◌≤◌, ℕ, List, [], Contains, map, IfOk, IfErr, OnOk, OnErr};
+ghost use Rattle.std.specs.Prelude.{◌≡◌, ◌↔◌, ◌+◌, ◌*◌, ◌≤◌, ℕ, List, [], None, Contains, map, IfOk, IfErr, OnOk, OnErr};
 ghost use Rattle.dd_disk.specs.Ending.{ending, Reads};
 ghost use Rattle.disk_format.specs.declared.numbers.TheConstants.{RESERVE};
 ghost use Rattle.container_meta.specs.declared.place.Place.{Place as PlaceValue};
@@ -69,8 +69,9 @@ fn first_live(alloc: Global, roots: &[RootKey]) -> Result<Live, AllocError>
 fn look_up<D: Disk, X: Index>(disk: &mut D, index: &mut X, root: &RootKey) -> Result<(), Refusal>
     requires { X.serves index.old (D.view disk.old).size }
     ensures found { OnOk result (IsFound (X.places index.old (D.view disk.old).content) root.now) }
-    ensures refused { IfErr result (IsUnfound (X.places index.old (D.view disk.old).content) root.now) }
+    ensures refused { IfErr result (IsUnfound (X.places index.old None) (X.places index.old (D.view disk.old).content) root.now) }
     ensures map { X.places index.new (D.view disk.new).content ≡ X.places index.old (D.view disk.old).content }
+    ensures alone { X.places index.new None ≡ X.places index.old None }
     ensures reads { Reads (ending blames result) (D.view disk.old) (D.view disk.new) }
     ensures served { X.serves index.new (D.view disk.new).size }
 {
@@ -95,8 +96,9 @@ fn look_up_all<D: Disk, X: Index>(
 ) -> Result<(), Refusal>
     requires { X.serves index.old (D.view disk.old).size }
     ensures found { OnOk result (AreFound (X.places index.old (D.view disk.old).content) roots.now) }
-    ensures refused { IfErr result (IsStartRefusal (X.places index.old (D.view disk.old).content) roots.now) }
+    ensures refused { IfErr result (IsStartRefusal (X.places index.old None) (X.places index.old (D.view disk.old).content) roots.now) }
     ensures map { X.places index.new (D.view disk.new).content ≡ X.places index.old (D.view disk.old).content }
+    ensures alone { X.places index.new None ≡ X.places index.old None }
     ensures reads { Reads (ending blames result) (D.view disk.old) (D.view disk.new) }
     ensures served { X.serves index.new (D.view disk.new).size }
 {
@@ -129,7 +131,8 @@ pub fn start<D: Disk, X: Index>(
     ensures steps { IfOk result (λ c. (chosen : ℕ) → steps_to_come chosen tables.now.held c
         ≤ 6 * trees_from c.snapshot tables.now.held 0 + old_from c.snapshot tables.now.held 0 + 1 + 4 * chosen) }
     ensures found { OnOk result (AreFound (X.places index.old (D.view disk.old).content) (roots_of tables.now.names parts.now)) }
-    ensures refused { IfErr result (IsStartRefusal (X.places index.old (D.view disk.old).content) (roots_of tables.now.names parts.now)) }
+    ensures refused { IfErr result (IsStartRefusal (X.places index.old None) (X.places index.old (D.view disk.old).content)
+        (roots_of tables.now.names parts.now)) }
     ensures map { X.places index.new (D.view disk.new).content ≡ X.places index.old (D.view disk.old).content }
     ensures reads { Reads (ending blames result) (D.view disk.old) (D.view disk.new) }
     ensures served { X.serves index.new (D.view disk.new).size }

@@ -66,10 +66,10 @@ use Rattle.script_runner.proofs.TurnRunning.{RunsAt}
 abbrev pub start_event : ℕ → Result Answer Refusal → List ℕ → FileEvent
 start_event percent answer buf = record { event = record { actor = 0; step = asked.GcStart percent; answer = answer; buf = buf }; bytes = [] }
 
-parts_still : (percent : ℕ) (old new : CoreState) (answer : Result Answer Refusal) → StartRow percent answer old new → new.parts ≡ old.parts
+pub parts_still : (percent : ℕ) (old new : CoreState) (answer : Result Answer Refusal) → StartRow percent answer old new → new.parts ≡ old.parts
 parts_still percent old new (Ok (answers.Started snapshot)) row = row.1
 parts_still percent old new (Err (refusals.Collecting phase)) row = row.2
-parts_still percent old new (Err refusals.Memory) row = row.2
+parts_still percent old new (Err refusal) row = row.parts_are
 parts_still percent old new answer row = absurd row
 
 module _ (C : Type 0) (state : C → CoreState) (among : ByteSet) (apart : HasNoCollisions (IsIn among)) (m : Machine) (sessions : Sessions) (old new : C) (at : RunsAt (IsIn among) m sessions (state old))
@@ -298,9 +298,9 @@ module _ (C : Type 0) (state : C → CoreState) (among : ByteSet) (apart : HasNo
   unstarted_memory made =
       let so = steps C state among apart m sessions old new at percent (Err refusals.Memory) buf made in
       runs_then C state among apart m sessions old new at percent (Err refusals.Memory) buf made so.stops m.collecting so.made.effect.disk.faults_are so.counted_is
-      (still_follows (state old) (state new) so.made.effect.disk.only so.made.effect.tables.tables_are so.made.effect.tables.index_is so.made.row.1 m.collecting at.running.begins.collects)
-      (spares_still (state old) (state new) m.stored.files at.running.begins.store so.made.effect.tables.index_is (same_live (state old).collection (state new).collection so.made.row.1) m.collecting
-      (lives_still (state old) (state new) at.running.begins.store so.made.row.1 so.made.effect.tables.index_is so.made.effect.disk.only.content_is m.collecting (lives_of m.stored.files at.running.begins.store m.collecting (state old) at.running.begins.spares))
+      (still_follows (state old) (state new) so.made.effect.disk.only so.made.effect.tables.tables_are so.made.effect.tables.index_is so.made.row.none_runs m.collecting at.running.begins.collects)
+      (spares_still (state old) (state new) m.stored.files at.running.begins.store so.made.effect.tables.index_is (same_live (state old).collection (state new).collection so.made.row.none_runs) m.collecting
+      (lives_still (state old) (state new) at.running.begins.store so.made.row.none_runs so.made.effect.tables.index_is so.made.effect.disk.only.content_is m.collecting (lives_of m.stored.files at.running.begins.store m.collecting (state old) at.running.begins.spares))
       at.running.begins.spares)
 
   pub unstarted_running : (phase : _) (made : CoreStep (state old) (start_event percent (Err (refusals.Collecting phase)) buf).event (state new)) → RunsAt (IsIn among) m sessions (state new)

@@ -13,6 +13,7 @@ use Rattle.store_core.specs.State.{CoreState, IsUnderWayIn}
 use Rattle.plain_machine.specs.Collections.{CollectionSteps, IsCollecting, IsNextOf, RefusesCollectionStep, RefusesSweep}
 use Rattle.plain_machine.specs.Machine.{Machine, Running}
 use Rattle.plain_machine.specs.Refused.{IsAtRightPart, Refuses}
+use Rattle.store_core.proofs.Unbegun.{unbegun_memory}
 use Rattle.script_runner.specs.Acts.{Acts, ActsOrNot, Admits, CollectionRun, RunnerState, Starts}
 use Rattle.script_runner.specs.Follows.{Follows}
 use Rattle.script_runner.proofs.Places.{is_next_of}
@@ -80,14 +81,17 @@ module _ (C : Type 0) (state : C → CoreState) (among : ByteSet) (distinct : Ha
 
   -- ---- gc
 
-  not_started : (percent : ℕ) (refusal : Refusal) → m.state ≡ Running → Admits (lines.Gc percent) r.sessions (state r.core) → Starts C state percent (Err refusal) r.core s.core → s.sessions ≡ r.sessions
-      → GoesAlong C state S (lines.Gc percent) (replies.Refused refusal) m r s
-  not_started percent refusals.Memory is admits starts sessions =
+  not_started_memory : (percent : ℕ) → m.state ≡ Running → Admits (lines.Gc percent) r.sessions (state r.core) → Starts C state percent (Err refusals.Memory) r.core s.core → s.sessions ≡ r.sessions
+      → GoesAlong C state S (lines.Gc percent) (replies.Refused refusals.Memory) m r s
+  not_started_memory percent is admits starts sessions =
       let so = start.steps C state among distinct m r.sessions r.core s.core (at is) percent (Err refusals.Memory) starts.0 starts.1 in
       line_keeps C state S (lines.Gc percent) (replies.Refused refusals.Memory) m r s is m
-      (right_part S m r.sessions (state r.core) follows (at is).running (lines.Gc percent) admits, (none_collecting m (state r.core) so.made.row.0 (at is).running.begins.collects, refl)) r.sessions sessions
+      (right_part S m r.sessions (state r.core) follows (at is).running (lines.Gc percent) admits, (none_collecting m (state r.core) so.made.row.none_ran (at is).running.begins.collects, refl)) r.sessions sessions
       (follows_at S m r.sessions (state s.core) (unstarted_memory C state among distinct m r.sessions r.core s.core (at is) percent starts.0 starts.1))
       (start.keeps C state among distinct m r.sessions r.core s.core (at is) percent (Err refusals.Memory) starts.0 starts.1)
+
+  not_started : (percent : ℕ) (refusal : Refusal) → m.state ≡ Running → Admits (lines.Gc percent) r.sessions (state r.core) → Starts C state percent (Err refusal) r.core s.core → s.sessions ≡ r.sessions
+      → GoesAlong C state S (lines.Gc percent) (replies.Refused refusal) m r s
   not_started percent (refusals.Collecting phase) is admits starts sessions =
       let so = start.steps C state among distinct m r.sessions r.core s.core (at is) percent (Err (refusals.Collecting phase)) starts.0 starts.1 in
       let has = some_collecting m (state r.core) so.made.row.0.0 so.made.row.0.1.0 (at is).running.begins.collects in
@@ -101,7 +105,11 @@ module _ (C : Type 0) (state : C → CoreState) (among : ByteSet) (distinct : Ha
       ) r.sessions sessions
       (follows_at S m r.sessions (state s.core) (unstarted_running C state among distinct m r.sessions r.core s.core (at is) percent starts.0 phase starts.1))
       (start.keeps C state among distinct m r.sessions r.core s.core (at is) percent (Err (refusals.Collecting phase)) starts.0 starts.1)
-  not_started percent refusal is admits starts sessions = absurd (start.steps C state among distinct m r.sessions r.core s.core (at is) percent (Err refusal) starts.0 starts.1).made.row
+  not_started percent refusal is admits starts sessions =
+      let row = (start.steps C state among distinct m r.sessions r.core s.core (at is) percent (Err refusal) starts.0 starts.1).made.row in
+      let memory : refusal ≡ refusals.Memory = unbegun_memory S (at is).running.begins.store m.stored (state r.core) (state s.core) (at is).running.begins.is_at refusal row in
+      subst (λ (x : Refusal). GoesAlong C state S (lines.Gc percent) (replies.Refused x) m r s) (sym memory)
+      (not_started_memory percent is admits (subst (λ (x : Refusal). Starts C state percent (Err x) r.core s.core) memory starts) sessions)
 
   gc_acts : (percent : ℕ) (reply : ReplyValue) → m.state ≡ Running → Admits (lines.Gc percent) r.sessions (state r.core) → Acts C state (lines.Gc percent) reply r s → GoesAlong C state S (lines.Gc percent) reply m r s
   gc_acts percent (replies.Collecting snapshot) is admits acts =

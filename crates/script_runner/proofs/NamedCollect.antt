@@ -1,5 +1,5 @@
 -- Lines of a collection leave what is named, on any disk.
-use Rattle.std.proofs.Common.{◌≡◌, inl, inr, ℕ, List, [], ◌∷◌, length, false, Option, None, Result, Ok, Err, refl, sym, ◌∙◌, ap, subst, arith}
+use Rattle.std.proofs.Common.{◌≡◌, inl, inr, ℕ, List, [], ◌∷◌, length, false, Option, Some, None, Result, Ok, Err, refl, sym, ◌∙◌, ap, subst, arith}
 use Rattle.actor_parts.specs.declared.part.Part as core_part
 use Rattle.actor_parts.specs.declared.step.Answer.{Answer}
 use Rattle.actor_parts.specs.declared.step.Answer.TheVariants as answers
@@ -26,13 +26,14 @@ use Rattle.script_lines.specs.ReplyValue as replies
 use Rattle.script_lines.specs.ReplyValue.{ReplyValue}
 use Rattle.store_state.specs.declared.tables.Tables.{Tables}
 use Rattle.store_state.specs.declared.slot_table.SlotTable.{SlotTable}
-use Rattle.store_core.specs.Collecting.{GcRow, at_moment}
+use Rattle.store_core.specs.Collecting.{GcRow, StartRow, at_moment}
 use Rattle.store_core.specs.Core.{CoreStep, Steps, StopsAfter}
 use Rattle.store_core.specs.State.{CoreState, Event, IsRunning}
 use Rattle.store_core.proofs.CoreRuns.{running_step}
 use Rattle.store_core.proofs.RunningOn.{step_runs}
 use Rattle.script_runner.specs.Acts.{Acts, Admits, CollectionRun, Collects, RunnerState, Starts, Sweeps}
-use Rattle.script_runner.specs.Named.{Account, IsOfCollection, stops}
+use Rattle.script_runner.specs.Named.{Account, IsOfCollection, IsOfStart, stops}
+use Rattle.script_runner.proofs.CollectStart.{parts_still as start_parts}
 use Rattle.script_runner.proofs.CollectStep.{counts_still, parts_still}
 use Rattle.script_runner.proofs.CopyRefused.{IsCopyCause, copying_cause}
 use Rattle.script_runner.proofs.NamedAt.{At, Told, no_actor, refuses, still, still_runs, told}
@@ -175,22 +176,29 @@ module _ (C : Type 0) (state : C → CoreState) (t : Account) (r s : RunnerState
 
   -- ---- gc
 
+  -- what it is refused by
+  of_start : (percent : ℕ) (refusal : Refusal) → IsTold old → StartRow percent (Err refusal) old new → IsOfStart refusal
+  of_start percent refusals.Memory told row = tt
+  of_start percent (refusals.Collecting phase) told row = tt
+  of_start percent (refusals.Missing key) told row = tt
+  of_start percent (refusals.Damaged at why) told row = tt
+  of_start percent refusals.DiskRead told row = absurd (let wrong : Some told.0 ≡ None = sym told.1 ∙ row.cause.cause in cc)
+  of_start percent refusal told row = absurd row.cause.cause
+
+  -- none of these stops the store
+  start_goes : (refusal : Refusal) → IsOfStart refusal → stops refusal ≡ false
+  start_goes refusals.DiskWrite is = absurd is
+  start_goes refusal is = refl
+
   not_started : (percent : ℕ) (refusal : Refusal) → Admits (lines.Gc percent) r.sessions (state r.core) → Starts C state percent (Err refusal) r.core s.core → s.sessions ≡ r.sessions
       → Told C state (lines.Gc percent) (replies.Refused refusal) t s
-  not_started percent refusals.Memory admits starts sessions =
-      let e : Event = record { actor = 0; step = asked.GcStart percent; answer = Err refusals.Memory; buf = starts.0 } in
-      let steps = running_step old new e admits.runs starts.1 in
-      still C state (lines.Gc percent) (replies.Refused refusals.Memory) t r s at 0 (omega arith) (quiet_step old new e starts.1 tt at.running) false
-      (refused_stands old new (asked.GcStart percent) 0 refusals.Memory starts.0 tt steps (told t r.sessions old at admits.runs))
-      (refuses (lines.Gc percent) refusals.Memory t (no_actor (lines.Gc percent) t refl) tt, refl) sessions (first_part steps.made.row.2)
-  not_started percent (refusals.Collecting phase) admits starts sessions =
-      let e : Event = record { actor = 0; step = asked.GcStart percent; answer = Err (refusals.Collecting phase); buf = starts.0 } in
-      let steps = running_step old new e admits.runs starts.1 in
-      still C state (lines.Gc percent) (replies.Refused (refusals.Collecting phase)) t r s at 0 (omega arith) (quiet_step old new e starts.1 tt at.running) false
-      (refused_stands old new (asked.GcStart percent) 0 (refusals.Collecting phase) starts.0 tt steps (told t r.sessions old at admits.runs))
-      (refuses (lines.Gc percent) (refusals.Collecting phase) t (no_actor (lines.Gc percent) t refl) tt, refl) sessions (first_part steps.made.row.2)
   not_started percent refusal admits starts sessions =
-      absurd (running_step old new (let e : Event = record { actor = 0; step = asked.GcStart percent; answer = Err refusal; buf = starts.0 } in e) admits.runs starts.1).made.row
+      let e : Event = record { actor = 0; step = asked.GcStart percent; answer = Err refusal; buf = starts.0 } in
+      let steps = running_step old new e admits.runs starts.1 in
+      let is = of_start percent refusal (told t r.sessions old at admits.runs) steps.made.row in
+      still C state (lines.Gc percent) (replies.Refused refusal) t r s at 0 (omega arith) (quiet_step old new e starts.1 tt at.running) (stops refusal)
+      (refused_stands old new (asked.GcStart percent) 0 refusal starts.0 tt steps (told t r.sessions old at admits.runs))
+      (refuses (lines.Gc percent) refusal t (no_actor (lines.Gc percent) t refl) is, refl) sessions (first_part (start_parts percent old new (Err refusal) steps.made.row))
 
   pub gc_told : (percent : ℕ) (reply : ReplyValue) → Admits (lines.Gc percent) r.sessions (state r.core) → Acts C state (lines.Gc percent) reply r s → Told C state (lines.Gc percent) reply t s
   gc_told percent (replies.Collecting snapshot) admits acts =

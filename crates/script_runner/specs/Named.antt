@@ -210,7 +210,16 @@ IsOfNext next (Missing key) = key ≡ top_key next
 IsOfNext next (Damaged at why) = Unit {0}
 IsOfNext next refusal = ⊥
 
--- what a step of a collection may be refused by: that goes by what the disk holds or does
+-- What a collection may be refused by as it begins: a root that the index lacks, or has at another level, goes by what the disk held as the
+-- store was opened.
+abbrev pub IsOfStart : Refusal → Type 0
+IsOfStart Memory = Unit {0}
+IsOfStart (Collecting phase) = Unit {0}
+IsOfStart (Missing key) = Unit {0}
+IsOfStart (Damaged at why) = Unit {0}
+IsOfStart refusal = ⊥
+
+-- what a step of one may be refused by: that goes by what the disk holds or does
 abbrev pub IsOfCollection : Refusal → Type 0
 IsOfCollection NotCollecting = Unit {0}
 IsOfCollection Memory = Unit {0}
@@ -247,8 +256,7 @@ RefusesOn (lines.Read a name) refusal t = IsNameRefusal t.names name refusal
 RefusesOn (lines.Next a) refusal t = (next : Top) × (IsNext a next t × IsOfNext next refusal)
 RefusesOn (lines.Delete name) refusal t = RefusesDelete name refusal t
 RefusesOn lines.ListNames Memory t = Unit {0}
-RefusesOn (lines.Gc percent) Memory t = Unit {0}
-RefusesOn (lines.Gc percent) (Collecting phase) t = Unit {0}
+RefusesOn (lines.Gc percent) refusal t = IsOfStart refusal
 RefusesOn lines.GcStep refusal t = IsOfCollection refusal
 RefusesOn lines.Sweep refusal t = IsOfCollection refusal
 RefusesOn line refusal t = ⊥

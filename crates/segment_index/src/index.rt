@@ -1,5 +1,5 @@
 //! An index as the store sees it.
-ghost use Rattle.std.specs.Prelude.{◌≡◌, ◌⊎◌, ℕ, ◌≤◌, List, length, Option, Some, None, Err, IsSome, OnOk, IfOk, IfErr, IfSome};
+ghost use Rattle.std.specs.Prelude.{◌≡◌, ◌⊎◌, ℕ, ◌≤◌, List, length, Option, Some, None, Err, IsSome, OnOk, OnErr, IfOk, IfErr, IfSome};
 ghost use Rattle.std.specs.FinMap as finite;
 ghost use Rattle.dd_disk.specs.Ending.{ending, Reads};
 ghost use Rattle.dd_disk.specs.Shows.{Shows};
@@ -41,6 +41,8 @@ pub trait Index {
         ensures form { (at : ℕ) (why : Why) (bytes : List ℕ) → breaks self.new at why bytes → breaks self.old at why bytes }
         ensures fault { IfErr result (IsGetFault (λ at why. (places self.old (D.view disk.old).content ≡ None)
             × Shows (D.view disk.old) (D.view disk.new) (breaks self.old at why))) }
+        // What is known of the map by itself, with no disk, stays; and where it is known the call asks the disk for nothing.
+        ensures alone { (places self.new None ≡ places self.old None) × OnErr result (places self.old None ≡ None) }
         ensures reads { Reads (ending blames result) (D.view disk.old) (D.view disk.new) }
         ensures served { serves self.new (D.view disk.new).size };
 

@@ -47,12 +47,10 @@ use Rattle.store_core.proofs.AnySteps.{keeps_files}
 use Rattle.store_core.proofs.OwnParts.{stuck_held}
 use Rattle.gc_steps.specs.declared.collection.Collection.{Collection}
 use Rattle.gc_steps.specs.declared.collection.Stage.TheVariants.{Filter, Mark, Select, Sweep}
+use Rattle.store_core.proofs.Unbegun.{unbegun_memory}
 use Rattle.store_core.specs.Collecting.{GcRow, IsNotMade, StartRow}
 use Rattle.gc_steps.proofs.NoDamage.{IsClean, no_damage, IsMarked}
-use Rattle.gc_steps.specs.Roots.{roots_of}
 use Rattle.gc_steps.specs.Safety.{IsSafeAt}
-use Rattle.gc_steps.specs.Starting.{IsStartRefusal}
-use Rattle.gc_steps.proofs.RootsFound.{begins_clean, roots_found}
 use Rattle.container_meta.specs.Places.{PlaceMap}
 use Rattle.store_state.specs.Tables.{Represents}
 use Rattle.gc_steps.specs.declared.collection.Stage.{Stage}
@@ -256,19 +254,9 @@ module _ (among : ByteSet) (s : Store) (stored : Stored) (old new : CoreState) (
     read_harmless (refusals.Damaged at_byte why) row = absurd (stuck (refusals.Damaged at_byte why) row row.cause).1.1.1
     read_harmless refusal row = tt
 
-    start_clean : (refusal : Refusal) → IsStartRefusal old.known (roots_of old.tables.names old.parts) refusal → IsClean refusal
-    start_clean refusal cause =
-        let found = roots_found at.index s stored.files old.parts image (at.invariant image here) stands_here.holds in
-        begins_clean at.index (roots_of (names_of s) old.parts) found refusal
-        (subst (λ (k : Option PlaceMap). IsStartRefusal k (roots_of (names_of s) old.parts) refusal) at.index_known
-        (subst (λ (names : NameMap). IsStartRefusal old.known (roots_of names old.parts) refusal) at.represents.names_are.names_are cause))
-
     start_harmless : (percent : ℕ) (refusal : Refusal) → StartRow percent (Err refusal) old new → IsHarmless ⊥ refusal
-    start_harmless percent (refusals.Clash key d) row = start_clean (refusals.Clash key d) row.cause
-    start_harmless percent (refusals.Corrupt slot offset count want got) row = start_clean (refusals.Corrupt slot offset count want got) row.cause
-    start_harmless percent (refusals.Missing key) row = start_clean (refusals.Missing key) row.cause
-    start_harmless percent (refusals.Damaged at_byte why) row = start_clean (refusals.Damaged at_byte why) row.cause
-    start_harmless percent refusal row = tt
+    start_harmless percent (refusals.Collecting phase) row = tt
+    start_harmless percent refusal row = subst (IsHarmless ⊥) (sym (unbegun_memory (IsIn among) s stored old new at refusal row)) tt
 
     -- while it marks, the marks are closed
     marked_at : (c : Collection) (stage : Stage) → IsSafeAt stage at.index s old.parts image c → IsMarked at.index s old.parts image c stage

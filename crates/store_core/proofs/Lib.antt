@@ -42,4 +42,5 @@ pub mod SparedRest
 pub mod Standing
 pub mod Stepping
 pub mod Tallied
+pub mod Unbegun
 pub mod WrittenCopies

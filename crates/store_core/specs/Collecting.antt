@@ -86,10 +86,11 @@ pub record Begins (percent snapshot : ℕ) (old new : CoreState) : Type 0 where
 abbrev pub IsCollecting : Phase → Option Collection → Type 0
 IsCollecting phase running = (c : Collection) × ((running ≡ Some c) × (phase ≡ phase_at c.stage c.sweep.next))
 
--- None ran, and none runs: memory ran out, or a root is the first that the index doesn't have at its level.
+-- None ran, and none runs: memory ran out, or a root is the first that the index doesn't have at its level. The index in memory knows its
+-- map by itself.
 pub record IsUnbegun (refusal : Refusal) (old new : CoreState) : Type 0 where
   pub none_ran : old.collection ≡ None
-  pub cause : IsStartRefusal old.known (roots_of old.tables.names old.parts) refusal
+  pub cause : IsStartRefusal old.known old.known (roots_of old.tables.names old.parts) refusal
   pub none_runs : new.collection ≡ old.collection
   pub parts_are : new.parts ≡ old.parts
 

@@ -1,6 +1,6 @@
 //! What the index of a running store answers, and what is put into it.
 ghost use Rattle.std.specs.Prelude.{◌≡◌, ◌+◌, ◌<◌, ◌≤◌, ℕ, None, Some, Err, length};
-ghost use Rattle.std.specs.Prelude.{IsSome, IsTrue, IsFalse, OnOk, IfOk, IfErr, IfSome};
+ghost use Rattle.std.specs.Prelude.{IsSome, IsTrue, IsFalse, OnOk, OnErr, IfOk, IfErr, IfSome};
 ghost use Rattle.std.specs.FinMap as finite;
 ghost use Rattle.std.specs.List.{AllByRecursion};
 ghost use Rattle.dd_disk.specs.Ending.{ending, Reads};
@@ -36,6 +36,7 @@ pub fn find<D: Disk, X: Index>(
     ensures map { X.places index.new (D.view disk.new).content ≡ X.places index.old (D.view disk.old).content }
     ensures refused { IfErr result (IsFindRefusal (λ at why. (X.places index.old (D.view disk.old).content ≡ None)
         × Shows (D.view disk.old) (D.view disk.new) (X.breaks index.old at why))) }
+    ensures alone { (X.places index.new None ≡ X.places index.old None) × OnErr result (X.places index.old None ≡ None) }
     ensures reads { Reads (ending blames result) (D.view disk.old) (D.view disk.new) }
     ensures served { X.serves index.new (D.view disk.new).size }
 {

@@ -83,24 +83,24 @@ free_sealed first base (FreeContainer slot ∷ changes) s t chain seals free = a
 -- the journal of the one is that of the other
 module _ (first store : Store) (is : store ≡ record first { held = store.held }) where
   pub journal_later : (image : List ℕ) → HasJournal first image → HasJournal store image
-  journal_later image has = subst (λ (s : Store). HasJournal s image) (sym is) (record { holds = has.holds; other = has.other; past = has.past })
+  journal_later image has = subst (λ (s : Store). HasJournal s image) (sym is) (record { holds = has.holds; other = has.other })
 
   pub still_first : (image : List ℕ) → StandsStill HasJournal store image → StandsStill HasJournal first image
   still_first image (inl (is_open, stands)) =
       let has = subst (λ (s : Store). HasJournal (with_other is_open s) image) is stands in
-      inl (is_open, record { holds = has.holds; other = has.other; past = has.past })
+      inl (is_open, record { holds = has.holds; other = has.other })
   still_first image (inr stands) =
       let has = subst (λ (s : Store). HasJournal (with_cell s) image) is stands in
-      inr (record { holds = has.holds; other = has.other; past = has.past })
+      inr (record { holds = has.holds; other = has.other })
 
   pub change_first : (name : List ℕ) (change : Change) (image : List ℕ) → HasJournal (with_change name change store) image → HasJournal (with_change name change first) image
   change_first name change image stands =
       let has = subst (λ (s : Store). HasJournal (with_change name change s) image) is stands in
-      record { holds = has.holds; other = has.other; past = has.past }
+      record { holds = has.holds; other = has.other }
 
   pub change_later : (name : List ℕ) (change : Change) (image : List ℕ) → HasJournal (with_change name change first) image → HasJournal (with_change name change store) image
   change_later name change image has =
-      subst (λ (s : Store). HasJournal (with_change name change s) image) (sym is) (record { holds = has.holds; other = has.other; past = has.past })
+      subst (λ (s : Store). HasJournal (with_change name change s) image) (sym is) (record { holds = has.holds; other = has.other })
 
 -- its first free slot is closed there
 pub first_is_shut : (first : Store) (base : List ℕ) (store : Store) → IsFreeIn first base store → first_free store.held < length store.held → byte_at (slot_at (first_free store.held)) base ≢ CONTAINER_GATE

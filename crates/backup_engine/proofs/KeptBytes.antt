@@ -20,7 +20,7 @@ use Rattle.ingest_steps.specs.Naming.{StandsStill}
 use Rattle.ingest_steps.specs.Sealing.{SameButSlotOf}
 use Rattle.journal_cells.specs.Appending.{SameButNext}
 use Rattle.journal_cells.specs.Journal.{JournalValue}
-use Rattle.store_model.proofs.Journaled.{SameButJournal, has_kept}
+use Rattle.store_model.proofs.Journaled.{SameButJournal, has_journal, has_kept}
 use Rattle.ingest_steps.specs.Recording.{SameButRecord, SameButRecordBy}
 use Rattle.ingest_steps.proofs.Recorded.{cell_of_count}
 use Rattle.ingest_steps.proofs.RecordFrames.{record_alone}
@@ -156,7 +156,7 @@ module _ (store : Store) (base : List ℕ) (right : Encodes base store) (reserve
       cells = λ half cell low within other. keeps.front (cell_at half cell) CELL_BYTES (omega (arith, low, within));
     };
     containers = keeps.containers;
-    names = λ has. inl (inl (store.other_open, has_kept store base old keeps.front has));
+    names = inl (inl (store.other_open, has_kept store base old keeps.front (has_journal store base right)));
   }
 
   -- and so it does where a record is written
@@ -193,7 +193,7 @@ module _ (store : Store) (base : List ℕ) (right : Encodes base store) (reserve
       }
 
     pub open_next : (name : List ℕ) (ending : Option Ending) → MayChange ending
-        → (HasJournal store base → StandsStill HasJournal store new ⊎ ((root : Root) × HasJournal (with_change name (Put root) store) new)) → KeepsOpen name ending base new
+        → StandsStill HasJournal store new ⊎ ((root : Root) × HasJournal (with_change name (Put root) store) new) → KeepsOpen name ending base new
     open_next name ending may names = record {
       store = store;
       right = right;
@@ -202,5 +202,5 @@ module _ (store : Store) (base : List ℕ) (right : Encodes base store) (reserve
       format = alone.format ∙ keeps.front 0 CELL_BYTES (omega arith);
       journal = λ needs. journal_next (omega (arith, needs may, count_is)) ending may;
       containers = λ slot below opened. alone.slots (slot_at slot) SLOT_BYTES (omega arith) ∙ keeps.containers slot below opened;
-      names = λ has. elim (names has) [ inl still ↦ inl still | inr put ↦ inr (may, put) ];
+      names = elim names [ inl still ↦ inl still | inr put ↦ inr (may, put) ];
     }

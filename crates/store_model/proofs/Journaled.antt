@@ -28,9 +28,13 @@ pub record SameButJournal (old new : List ℕ) : Type 0 where
 abbrev pub with_journal : SelectorValue → Bool → List RecordValue → Store → Store
 with_journal selector other_open records store = record store { selector = selector; other_open = other_open; records = records }
 
--- the journal of an image that is of files
+-- the journal of an image that holds a store
+pub has_journal : (store : Store) (image : List ℕ) → Encodes image store → HasJournal store image
+has_journal store image right = record { holds = right.journal; other = right.other }
+
+-- of one that is of files
 pub journal_in : (S : List ℕ → Type 0) (store : Store) (files : Files) (image : List ℕ) → Stands S store files image → HasJournal store image
-journal_in S store files image is = record { holds = is.holds.right.journal; other = is.holds.right.other }
+journal_in S store files image is = has_journal store image is.holds.right
 
 -- and of one that is as it was before the slots
 pub has_kept : (store : Store) (old new : List ℕ) → SameTo FIRST_SLOT old new → HasJournal store old → HasJournal store new

@@ -31,6 +31,7 @@ use Rattle.reply_text.specs.declared.ending.Ending.TheVariants.{Sink, Refused}
 use Rattle.reply_text.specs.Text.{deleted_line}
 use Rattle.store_model.specs.Image.{Store, Encodes, names_of}
 use Rattle.store_model.specs.Standing.{HasJournal}
+use Rattle.store_model.proofs.Journaled.{has_journal}
 use Rattle.store_model.specs.Steps.{CanChangeName, with_change}
 use Rattle.store_state.specs.Refused.{blames}
 use Rattle.store_core.specs.Core.{CoreStep, NamesOne, Steps}
@@ -64,6 +65,9 @@ module _ (C : Type 0) (state : C → CoreState) (v w : DiskView) (old new : C) (
     made : (answer : Result Answer Refusal) (buf : List ℕ) → CoreStep (state old) (asks answer buf) (state new) → Steps (asks answer buf) (state old) (state new)
     made answer buf step = steps_of (asks answer buf) (state old) (state new) called.opened.stop_is step
 
+    opened_so : (base : List ℕ) → v.content ≡ Some base → Encodes base store
+    opened_so base known = shown_content v (state old).disk (λ image. Encodes image store) base called.opened.right known
+
     -- ---- the bytes
 
     module _ (ending : Option Ending) (may : MayChange ending) where
@@ -89,10 +93,10 @@ module _ (C : Type 0) (state : C → CoreState) (v w : DiskView) (old new : C) (
       but_record base known c changes = record {
         may = may;
         store = store;
-        right = shown_content v (state old).disk (λ image. Encodes image store) base called.opened.right known;
+        right = opened_so base known;
         reserve = called.opened.reserve;
         same = of_store base c (has_cell journal) refl changes.same;
-        names = λ has. changes.journal store called.opened.represents.names_are has has;
+        names = let has = has_journal store base (opened_so base known) in changes.journal store called.opened.represents.names_are has has;
       }
 
       -- nothing but the bytes of a record changed
@@ -118,8 +122,9 @@ module _ (C : Type 0) (state : C → CoreState) (v w : DiskView) (old new : C) (
           (effect.made.can.store_has store on.represents on.valid on.has_free).0
 
       -- the journal of the disk now is that without the name
-      names_without : (base : List ℕ) → v.content ≡ Some base → HasJournal store base → StandsFor (HasJournal (with_change name Gone store)) w
-      names_without base known has =
+      names_without : (base : List ℕ) → v.content ≡ Some base → StandsFor (HasJournal (with_change name Gone store)) w
+      names_without base known =
+          let has = has_journal store base (opened_so base known) in
           let told : (state old).disk.content ≡ Some base = called.first.only.content_is ∙ known in
           let moved = effect.moves.journal store called.opened.represents.names_are (stands_durable (HasJournal store) (state old).disk base called.durable told has) in
           stands_reads (HasJournal (with_change name Gone store)) (state new).disk w moved.arrives called.last.only
@@ -129,7 +134,7 @@ module _ (C : Type 0) (state : C → CoreState) (v w : DiskView) (old new : C) (
         holds = holds C state v w old new called (to_end C state v w old new called effect.disk.later);
         may = record { named = can.named; knows = is_some_of (finite.get (names_of store) name) can.place };
         numbers = record { sequence = can.number; generation = can.rise };
-        names = λ base known has. names_without base known has;
+        names = λ base known. names_without base known;
       }
 
       done_caused : (ending : Option Ending) (source : SourceView) (sink sink_now : SinkView) → IsReplied ending sink sink_now → IsCaused (Delete name) [] v w source source sink sink_now ending

@@ -72,7 +72,7 @@ module _ (C : Type 0) (state : C → CoreState) (v w : DiskView) (old new : C) (
           let same = open_there.journal (λ may. absurd may) in
           record { head = same.head; cells = λ half cell low within other. same.cells half cell low within (λ is. absurd is.0) };
       containers = open_there.containers;
-      names = λ has. elim (open_there.names has) [ inl still ↦ inl still | inr put ↦ absurd put.0 ];
+      names = elim open_there.names [ inl still ↦ inl still | inr put ↦ absurd put.0 ];
     }
 
     stopped_left : (name bytes : List ℕ) (ending : Option Ending) → ¬ (MayChange ending) → PutRun C state name bytes (Err Memory) old new → Left name base ending

@@ -20,7 +20,7 @@ use Rattle.ingest_steps.specs.Naming.{StandsStill}
 use Rattle.ingest_steps.specs.Sealing.{SameButSlotOf}
 use Rattle.journal_cells.specs.Appending.{SameButNext}
 use Rattle.journal_cells.specs.Journal.{JournalValue}
-use Rattle.store_model.proofs.Journaled.{SameButJournal, has_kept}
+use Rattle.store_model.proofs.Journaled.{SameButJournal, has_journal, has_kept}
 use Rattle.ingest_steps.specs.Recording.{SameButRecord, SameButRecordBy}
 use Rattle.ingest_steps.proofs.Recorded.{cell_of_count}
 use Rattle.ingest_steps.proofs.RecordFrames.{record_alone}
@@ -83,24 +83,24 @@ free_sealed first base (FreeContainer slot ∷ changes) s t chain seals free = a
 -- the journal of the one is that of the other
 module _ (first store : Store) (is : store ≡ record first { held = store.held }) where
   pub journal_later : (image : List ℕ) → HasJournal first image → HasJournal store image
-  journal_later image has = subst (λ (s : Store). HasJournal s image) (sym is) (record { holds = has.holds; other = has.other; past = has.past })
+  journal_later image has = subst (λ (s : Store). HasJournal s image) (sym is) (record { holds = has.holds; other = has.other })
 
   pub still_first : (image : List ℕ) → StandsStill HasJournal store image → StandsStill HasJournal first image
   still_first image (inl (is_open, stands)) =
       let has = subst (λ (s : Store). HasJournal (with_other is_open s) image) is stands in
-      inl (is_open, record { holds = has.holds; other = has.other; past = has.past })
+      inl (is_open, record { holds = has.holds; other = has.other })
   still_first image (inr stands) =
       let has = subst (λ (s : Store). HasJournal (with_cell s) image) is stands in
-      inr (record { holds = has.holds; other = has.other; past = has.past })
+      inr (record { holds = has.holds; other = has.other })
 
   pub change_first : (name : List ℕ) (change : Change) (image : List ℕ) → HasJournal (with_change name change store) image → HasJournal (with_change name change first) image
   change_first name change image stands =
       let has = subst (λ (s : Store). HasJournal (with_change name change s) image) is stands in
-      record { holds = has.holds; other = has.other; past = has.past }
+      record { holds = has.holds; other = has.other }
 
   pub change_later : (name : List ℕ) (change : Change) (image : List ℕ) → HasJournal (with_change name change first) image → HasJournal (with_change name change store) image
   change_later name change image has =
-      subst (λ (s : Store). HasJournal (with_change name change s) image) (sym is) (record { holds = has.holds; other = has.other; past = has.past })
+      subst (λ (s : Store). HasJournal (with_change name change s) image) (sym is) (record { holds = has.holds; other = has.other })
 
 -- its first free slot is closed there
 pub first_is_shut : (first : Store) (base : List ℕ) (store : Store) → IsFreeIn first base store → first_free store.held < length store.held → byte_at (slot_at (first_free store.held)) base ≢ CONTAINER_GATE
@@ -156,7 +156,7 @@ module _ (store : Store) (base : List ℕ) (right : Encodes base store) (reserve
       cells = λ half cell low within other. keeps.front (cell_at half cell) CELL_BYTES (omega (arith, low, within));
     };
     containers = keeps.containers;
-    names = λ has. inl (inl (store.other_open, has_kept store base old keeps.front has));
+    names = inl (inl (store.other_open, has_kept store base old keeps.front (has_journal store base right)));
   }
 
   -- and so it does where a record is written
@@ -193,7 +193,7 @@ module _ (store : Store) (base : List ℕ) (right : Encodes base store) (reserve
       }
 
     pub open_next : (name : List ℕ) (ending : Option Ending) → MayChange ending
-        → (HasJournal store base → StandsStill HasJournal store new ⊎ ((root : Root) × HasJournal (with_change name (Put root) store) new)) → KeepsOpen name ending base new
+        → StandsStill HasJournal store new ⊎ ((root : Root) × HasJournal (with_change name (Put root) store) new) → KeepsOpen name ending base new
     open_next name ending may names = record {
       store = store;
       right = right;
@@ -202,5 +202,5 @@ module _ (store : Store) (base : List ℕ) (right : Encodes base store) (reserve
       format = alone.format ∙ keeps.front 0 CELL_BYTES (omega arith);
       journal = λ needs. journal_next (omega (arith, needs may, count_is)) ending may;
       containers = λ slot below opened. alone.slots (slot_at slot) SLOT_BYTES (omega arith) ∙ keeps.containers slot below opened;
-      names = λ has. elim (names has) [ inl still ↦ inl still | inr put ↦ inr (may, put) ];
+      names = elim names [ inl still ↦ inl still | inr put ↦ inr (may, put) ];
     }

@@ -160,7 +160,7 @@ module _ (C : Type 0) (state : C → CoreState) (v w : DiskView) (old new : C) (
               place = has_place (puts (Ok tt) run).after ends.root ends.can;
             };
             numbers = record { sequence = ends.can.number; generation = ends.can.rise };
-            names = λ base known has. names_with C state v w old new called base known name given run has;
+            names = λ base known. names_with C state v w old new called base known name given run;
           }
 
       -- the file was put in

@@ -23,7 +23,7 @@ use Rattle.store_model.specs.Standing.{HasJournal}
 use Rattle.store_model.specs.Steps.{with_change}
 use Rattle.store_model.specs.Trees.{root_of}
 use Rattle.store_model.proofs.Free.{some_free}
-use Rattle.store_model.proofs.Journaled.{has_kept}
+use Rattle.store_model.proofs.Journaled.{has_journal, has_kept}
 use Rattle.store_state.specs.Settled.{IsSettled}
 use Rattle.ingest_steps.specs.Naming.{ChangesBytes, StandsStill}
 use Rattle.ingest_steps.specs.Sealing.{ChangesSlotAlone, SameButSlotOf}
@@ -127,9 +127,12 @@ module _ (first : Store) (base : List ℕ) (t : Store) (old new : CoreState) (on
       abbrev Changes : List ℕ → List ℕ → Type 0
       Changes = ChangesBytes old.tables name (Put root) given
 
-      names_next : (d c : List ℕ) → KeepsSlots slots base d → Changes d c → HasJournal first base
+      has : HasJournal first base
+      has = has_journal first base right
+
+      names_next : (d c : List ℕ) → KeepsSlots slots base d → Changes d c
           → StandsStill HasJournal first c ⊎ ((r : Root) × HasJournal (with_change name (Put r) first) c)
-      names_next d c keeps_there changes has = elim (changes.journal t on.represents.names_are (has_on given keeps has) (has_on d keeps_there has)) [
+      names_next d c keeps_there changes = elim (changes.journal t on.represents.names_are (has_on given keeps has) (has_on d keeps_there has)) [
         | inl still ↦ inl (still_first first t held.free.rest_is c still)
         | inr put ↦ inr (root, change_first first t held.free.rest_is name (Put root) c put)
       ]

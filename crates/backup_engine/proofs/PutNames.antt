@@ -10,6 +10,7 @@ use Rattle.store_model.specs.Image.{Store, Encodes, IsValidFor}
 use Rattle.store_model.specs.Standing.{HasJournal}
 use Rattle.store_model.specs.Steps.{with_change}
 use Rattle.store_model.specs.Trees.{root_of}
+use Rattle.store_model.proofs.Journaled.{has_journal}
 use Rattle.store_core.specs.State.{CoreState}
 use Rattle.backup_engine.specs.Running.{PutRun, seals_of}
 use Rattle.backup_engine.proofs.Called.{Called, settled}
@@ -68,8 +69,9 @@ module _ (C : Type 0) (state : C → CoreState) (v w : DiskView) (old new : C) (
           change_later store after free.rest_is name (Put (root_of given))
 
       -- the journal of the disk now is that with the name
-      pub names_with : HasJournal store base → StandsFor (HasJournal (with_change name (Put (root_of given)) after)) w
-      names_with has =
+      pub names_with : StandsFor (HasJournal (with_change name (Put (root_of given)) after)) w
+      names_with =
+          let has = has_journal store base opened_right in
           let ways = ways_of C state name given (Ok tt) old new run in
           let there = framed_way store base name given (state old).disk C state ways.way old ways.mid opened_framed ways.ran ways.each in
           let named = last_named store base name given (state old).disk (state ways.mid) (state new) there ways.last has in

@@ -172,7 +172,7 @@ module _ (loans loans_now : List ℕ) (v w : DiskView) where
       added = added given is.added;
       all = is.all;
       numbers = is.numbers;
-      names = λ old told has. let stands = is.names old told has in record { known = stands.known; each = stands.each };
+      names = λ old told. let stands = is.names old told in record { known = stands.known; each = stands.each };
     }
 
     ingest_caused : (ending : Option Ending) → IsCaused (Ingest name) given lent lent_now source source_now sink sink_now ending → IsCaused (Ingest name) given v w source source_now sink sink_now ending
@@ -221,7 +221,7 @@ module _ (loans loans_now : List ℕ) (v w : DiskView) where
       holds = holds is.holds;
       may = is.may;
       numbers = is.numbers;
-      names = λ old told has. let stands = is.names old told has in record { known = stands.known; each = stands.each };
+      names = λ old told. let stands = is.names old told in record { known = stands.known; each = stands.each };
     }
 
     delete_caused : (ending : Option Ending) → IsCaused (Delete name) given lent lent_now source source_now sink sink_now ending → IsCaused (Delete name) given v w source source_now sink sink_now ending

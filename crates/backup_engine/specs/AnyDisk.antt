@@ -235,22 +235,21 @@ IsRefused (Collect percent) given disk disk_now source source_now sink sink_now 
 IsRefused (Collect percent) given disk disk_now source source_now sink sink_now refusal =
     IsOpenRefusal (Shows disk disk_now) disk.size refusal ⊎ ((holds : Holds disk disk_now) × IsUncollected holds refusal)
 
--- An `ingest` that was done: each piece of the file is held, the name has room, and its record had its numbers. The disk's journal is
--- now that with the name, whatever its containers hold, where no record was open after the store's own.
+-- An `ingest` that was done: each piece of the file is held, the name has room, and its record had its numbers. The journal of a disk
+-- that tells its content is now that with the name, whatever its containers hold.
 pub record IsStored (name given : List ℕ) (disk disk_now : DiskView) : Type 0 where
   pub added : HasAdded given disk disk_now
   pub all : HasAll name given (room_in (Ingest name) added.after)
   pub numbers : HasNumbers (room_in (Ingest name) added.after)
-  pub names : Known disk.content (λ old. HasJournal added.holds.store old
-      → StandsFor (HasJournal (with_change name (Put (root_of given)) added.after)) disk_now)
+  pub names : Known disk.content (λ _. StandsFor (HasJournal (with_change name (Put (root_of given)) added.after)) disk_now)
 
--- A `delete` that was done: the store that the disk held has the name, and its record had its numbers. The disk's journal is now
--- that without the name, whatever its containers hold, where no record was open after the store's own.
+-- A `delete` that was done: the store that the disk held has the name, and its record had its numbers. The journal of a disk that
+-- tells its content is now that without the name, whatever its containers hold.
 pub record IsDeleted (name : List ℕ) (disk disk_now : DiskView) : Type 0 where
   pub holds : Holds disk disk_now
   pub may : MayDelete name (room_in (Delete name) holds.store)
   pub numbers : HasNumbers (room_in (Delete name) holds.store)
-  pub names : Known disk.content (λ old. HasJournal holds.store old → StandsFor (HasJournal (with_change name Gone holds.store)) disk_now)
+  pub names : Known disk.content (λ _. StandsFor (HasJournal (with_change name Gone holds.store)) disk_now)
 
 -- what is so of a command that was done, but perhaps for its reply
 abbrev pub IsDone : CommandLine → List ℕ → DiskView → DiskView → Type 0

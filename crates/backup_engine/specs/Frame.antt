@@ -38,9 +38,8 @@ pub record KeepsOpen (name : List ℕ) (ending : Option Ending) (old new : List 
       → SameJournal (λ half cell. MayChange ending × (half ≡ store.selector.half) × (cell ≡ length store.records)) old new
   pub containers : (slot : ℕ) → slot < store.slots → byte_at (slot_at slot) old ≡ CONTAINER_GATE
       → range (slot_at slot) SLOT_BYTES new ≡ range (slot_at slot) SLOT_BYTES old
-  -- names and last number stand still, or the name was given a root, where no record was open after the store's own
-  pub names : HasJournal store old
-      → StandsStill HasJournal store new ⊎ (MayChange ending × ((root : Root) × HasJournal (with_change name (Put root) store) new))
+  -- names and last number stand still, or the name was given a root
+  pub names : StandsStill HasJournal store new ⊎ (MayChange ending × ((root : Root) × HasJournal (with_change name (Put root) store) new))
 
 -- all bytes but those of a record of this store: the next cell's; or, where none is free, those of the other half of the journal and of
 -- its selector
@@ -50,14 +49,14 @@ SameButRecordOf store old new =
     ⊎ ((half_cells ≤ length store.records) × SameButHalf (1 - store.selector.half) old new)
 
 -- The content held a store that is opened, whose map may have changed. All but the bytes of one record is as it was.
--- Names and last number stand still, or the name is gone, where no record was open after the store's own.
+-- Names and last number stand still, or the name is gone.
 pub record KeepsButRecord (name : List ℕ) (ending : Option Ending) (old new : List ℕ) : Type 0 where
   pub may : MayChange ending
   pub store : Store
   pub right : Encodes old store
   pub reserve : RESERVE ≤ free_slots store.held
   pub same : SameButRecordOf store old new
-  pub names : HasJournal store old → StandsStill HasJournal store new ⊎ HasJournal (with_change name Gone store) new
+  pub names : StandsStill HasJournal store new ⊎ HasJournal (with_change name Gone store) new
 
 -- some bytes lie beside all of these slots
 abbrev pub LiesBeside : List ℕ → ℕ → ℕ → Type 0

@@ -8,7 +8,7 @@ use Rattle.namespace.specs.Puts.{puts_of}
 use Rattle.journal_cells.specs.Appending.{SameButNext, CanFollow, Appends, IsAppended}
 use Rattle.journal_cells.specs.Checkpoints.{HoldsStill, IsFoundIn, HasMoved, SameButHalf, Checkpoints, IsCheckpointed, next_selector}
 use Rattle.journal_cells.specs.Journal.{JournalValue, IsJournalOf, IsTold, with_record}
-use Rattle.store_model.specs.Journal.{HoldsRecords, ClosedFrom, KnowsOther, last_of}
+use Rattle.store_model.specs.Journal.{HoldsRecords, KnowsOther, last_of}
 use Rattle.store_model.specs.Image.{Store, names_of}
 use Rattle.store_model.specs.Standing.{HasJournal}
 use Rattle.store_model.specs.Steps.{appended, record_of, with_checkpoint, with_other}
@@ -45,8 +45,6 @@ module _ (name : List ℕ) (change : Change) (Base : Store → List ℕ → Type
     count = sym told.count;
     previous = sym told.previous;
     holds = subst (λ (h : ℕ). HoldsRecords h base.records image) (sym told.half) has.holds.records_are;
-    closed = subst (λ (h : ℕ). ClosedFrom h journal.count image) (sym told.half)
-        (subst (λ (n : ℕ). ClosedFrom base.selector.half n image) (sym told.count) has.past);
   }
 
   can_follow : (image : List ℕ) → HasJournal base image → CanFollow journal r base.records image
@@ -63,16 +61,15 @@ module _ (name : List ℕ) (change : Change) (Base : Store → List ℕ → Type
   alone old new has same = next_alone journal old new (omega (arith, told.half, has.holds.selector_is.0.half)) room same
 
   -- records of the half that counts, with the selectors of before
-  has_these : (records : List RecordValue) (old new : List ℕ) → HasJournal base old → SameButNext journal old new → HoldsRecords journal.half records new → ClosedFrom journal.half (length records) new
+  has_these : (records : List RecordValue) (old new : List ℕ) → HasJournal base old → SameButNext journal old new → HoldsRecords journal.half records new
       → HasJournal (record base { records = records }) new
-  has_these records old new has same holds closed = record {
+  has_these records old new has same holds = record {
     holds = record {
       selector_is = selector_kept old new (front old new same) base.selector has.holds.selector_is;
       older = older_kept old new (front old new same) base.selector has.holds.older;
       records_are = subst (λ (h : ℕ). HoldsRecords h records new) told.half holds;
     };
     other = other_kept old new (front old new same) base.other_open base.selector.half has.other;
-    past = subst (λ (h : ℕ). ClosedFrom h (length records) new) told.half closed;
   }
 
   -- the records of before, and none after them
@@ -80,14 +77,13 @@ module _ (name : List ℕ) (change : Change) (Base : Store → List ℕ → Type
   still old new was same of =
       let has = above.journal base old was in
       above.still base old new was (alone old new has same) base.selector base.other_open base.records refl
-      (has_these base.records old new has same of.holds (subst (λ (n : ℕ). ClosedFrom journal.half n new) (sym of.count) of.closed))
+      (has_these base.records old new has same of.holds)
 
   -- and one more
   more : (old new : List ℕ) → HasJournal base old → SameButNext journal old new → IsJournalOf (with_record r journal) (base.records ++ r ∷ []) new → HasJournal (appended name change base) new
   more old new has same of =
       has_these (appended name change base).records old new has same
       (subst (λ (v : RecordValue). HoldsRecords journal.half (base.records ++ v ∷ []) new) is of.holds)
-      (subst (λ (v : RecordValue). ClosedFrom journal.half (length (base.records ++ v ∷ [])) new) is (subst (λ (n : ℕ). ClosedFrom journal.half n new) (sym of.count) of.closed))
 
   pub append_after : (given c : List ℕ) → HasJournal base given → IsAppended journal r given c → HasJournal (appended name change base) c
   append_after given c has of = more given c has of.same (of.records_are base.records (can_follow given has))
@@ -111,7 +107,7 @@ module _ (Base : Store → List ℕ → Type 0) (above : IsAbove Base) (store : 
 
   found_in : (image : List ℕ) → HasJournal store image → IsFoundIn journal names store.selector store.records image
   found_in image has = record {
-    alone = record { holds = has.holds; closed = has.past };
+    holds = has.holds;
     other = subst (λ (b : Bool). KnowsOther b journal.half image) (sym told.other)
         (subst (λ (h : ℕ). KnowsOther store.other_open h image) (sym told.half) has.other);
     told = own_told;
@@ -127,7 +123,7 @@ module _ (Base : Store → List ℕ → Type 0) (above : IsAbove Base) (store : 
       let known = other_known store.selector.half new in (
         known.0,
         above.still store old new was (half_of old new same) store.selector known.0 store.records refl
-            (record { holds = stays.alone.holds; other = known.1; past = stays.alone.closed }),
+            (record { holds = stays.holds; other = known.1 }),
       )
 
   -- or the new one stands
@@ -137,7 +133,7 @@ module _ (Base : Store → List ℕ → Type 0) (above : IsAbove Base) (store : 
       let selector_is : next_selector journal ≡ after.selector = cc in
       let puts_are : puts_of names ≡ after.records = ap puts_of told.names_are in
       let found = moved.found in
-      let has : HasJournal (record store { selector = next_selector journal; other_open = true; records = puts_of names }) new = record { holds = found.alone.holds; other = found.other; past = found.alone.closed } in
+      let has : HasJournal (record store { selector = next_selector journal; other_open = true; records = puts_of names }) new = record { holds = found.holds; other = found.other } in
       above.still store old new was (half_of old new same) after.selector true after.records
       (names_checkpoint store (above.journal store old was).holds.records_are.right)
       (subst (λ (s : SelectorValue). HasJournal (record store { selector = s; other_open = true; records = after.records }) new) selector_is

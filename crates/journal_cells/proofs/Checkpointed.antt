@@ -20,11 +20,11 @@ use Rattle.dd_disk.proofs.Outside.{same_cell, cell_cases}
 use Rattle.dd_disk.proofs.Writes.{writes_weaker}
 use Rattle.namespace.specs.Names.{NameMap, names_with, names_after}
 use Rattle.namespace.specs.Puts.{puts_of}
-use Rattle.store_model.specs.Journal.{HoldsSelector, IsOlder, KnowsOther, Follow, StandFrom, ClosedFrom, last_of}
+use Rattle.store_model.specs.Journal.{HoldsJournal, HoldsSelector, IsOlder, KnowsOther, Follow, StandFrom, ClosedFrom, last_of}
 use Rattle.store_model.proofs.Puts.{puts_follow, puts_leave, puts_last, puts_room, last_below}
 use Rattle.store_model.proofs.Spellings.{gate_of_selector}
 use Rattle.journal_cells.specs.declared.checkpoint.FreshHalf.{FreshHalf}
-use Rattle.journal_cells.specs.Checkpoints.{checkpointed, next_selector, HoldsAlone, IsFoundIn, SameButHalf, HoldsStill, StaysFound, HasMoved, StaysOrMoves, Checkpoints, IsCheckpointed}
+use Rattle.journal_cells.specs.Checkpoints.{checkpointed, next_selector, IsFoundIn, SameButHalf, HoldsStill, StaysFound, HasMoved, StaysOrMoves, Checkpoints, IsCheckpointed}
 use Rattle.journal_cells.specs.Checkpoints.{cells_of, IsFreshHalf, cells_filled, half_filled, gate_closed, replaced, Replaces}
 use Rattle.journal_cells.specs.Journal.{JournalValue, IsTold}
 use Rattle.journal_cells.proofs.Appended.{length_record_cell}
@@ -81,22 +81,19 @@ module _ (half : ℕ) (low : half ≤ 1) (old new : List ℕ) (same : SameButHal
   own_records cell (r ∷ rs) few stands = (own_cell cell 512 (omega (arith, few)) (omega arith) ∙ stands.0, own_records (cell + 1) rs (omega (arith, few)) stands.1)
 
 -- the journal, where the other selector doesn't count
-alone_kept : (selector : SelectorValue) (records : List RecordValue) (old new : List ℕ) → SameButHalf (1 - selector.half) old new → HoldsAlone old selector records → IsOlder new selector → HoldsAlone new selector records
-alone_kept selector records old new same alone older =
-    let low = alone.holds.selector_is.0.half in
-    let is = alone.holds.records_are in
+journal_kept : (selector : SelectorValue) (records : List RecordValue) (old new : List ℕ) → SameButHalf (1 - selector.half) old new → HoldsJournal old selector records → IsOlder new selector → HoldsJournal new selector records
+journal_kept selector records old new same holds older =
+    let low = holds.selector_is.0.half in
+    let is = holds.records_are in
     record {
-      holds = record {
-        selector_is = (alone.holds.selector_is.0, own_selector selector.half low old new same ∙ alone.holds.selector_is.1);
-        older = older;
-        records_are = record {
-          few = is.few;
-          right = is.right;
-          stand = own_records selector.half low old new same 0 records (omega (arith, is.few)) is.stand;
-          ends = λ less opened. is.ends less (sym (own_gate selector.half low old new same (length records) less) ∙ opened);
-        };
+      selector_is = (holds.selector_is.0, own_selector selector.half low old new same ∙ holds.selector_is.1);
+      older = older;
+      records_are = record {
+        few = is.few;
+        right = is.right;
+        stand = own_records selector.half low old new same 0 records (omega (arith, is.few)) is.stand;
+        closed = λ cell from within opened. is.closed cell from within (sym (own_gate selector.half low old new same cell within) ∙ opened);
       };
-      closed = λ cell from within opened. alone.closed cell from within (sym (own_gate selector.half low old new same cell within) ∙ opened);
     }
 
 -- ---- the other selector's gate
@@ -131,7 +128,7 @@ module _ (journal : JournalValue) where
   stays_shut : (names : NameMap) (selector : SelectorValue) (records : List RecordValue) (old new : List ℕ) → SameButHalf other old new → byte_at (selector_at other) new ≢ SELECTOR_GATE
       → IsFoundIn journal names selector records old → HoldsStill journal selector records old new
   stays_shut names selector records old new same shut found = record {
-    alone = alone_kept selector records old new (subst (λ (h : ℕ). SameButHalf (1 - h) old new) found.told.half same) found.alone
+    holds = journal_kept selector records old new (subst (λ (h : ℕ). SameButHalf (1 - h) old new) found.told.half same) found.holds
         (inl (subst (λ (h : ℕ). byte_at (selector_at (1 - h)) new ≢ SELECTOR_GATE) found.told.half shut));
     opens = λ opened. absurd (shut opened);
   }
@@ -153,9 +150,9 @@ module _ (journal : JournalValue) where
             let half = found.told.half in
             let known : KnowsOther true journal.half old = subst (λ (b : Bool). KnowsOther b journal.half old) is found.other in
             record {
-              alone = alone_kept selector records old new (subst (λ (h : ℕ). SameButHalf (1 - h) old new) half but) found.alone
+              holds = journal_kept selector records old new (subst (λ (h : ℕ). SameButHalf (1 - h) old new) half but) found.holds
                   (older_torn selector old new fits (omega (arith, half, low)) (subst (λ (h : ℕ). SameOutside (selector_at (1 - h)) 1 old new) half same)
-                  (subst (λ (h : ℕ). byte_at (selector_at (1 - h)) old ≡ SELECTOR_GATE) half (known.0 (search rules))) found.alone.holds.older);
+                  (subst (λ (h : ℕ). byte_at (selector_at (1 - h)) old ≡ SELECTOR_GATE) half (known.0 (search rules))) found.holds.older);
               opens = λ opened. (subst IsTrue (sym is) (search rules), same.after (cell_at other 0) HALF_BYTES (omega (arith, low)));
             };
       }
@@ -273,7 +270,7 @@ module _ (journal : JournalValue) (names : NameMap) (new : FreshHalf) (is : IsFr
       told = found.told
 
       follow : Follow 0 finite.empty records
-      follow = found.alone.holds.records_are.right
+      follow = found.holds.records_are.right
 
       follow_puts : Follow 0 finite.empty puts
       follow_puts = subst (λ (n : NameMap). Follow 0 finite.empty (puts_of n)) (sym told.names_are) (puts_follow records follow)
@@ -302,7 +299,7 @@ module _ (journal : JournalValue) (names : NameMap) (new : FreshHalf) (is : IsFr
         generation = omega (arith, is.below);
         form = refl;
         half = omega arith;
-        last = omega (arith, told.last_is, found.alone.holds.selector_is.0.last, last_below 0 finite.empty records (omega arith) follow);
+        last = omega (arith, told.last_is, found.holds.selector_is.0.last, last_below 0 finite.empty records (omega arith) follow);
       }
 
       holds_next : HoldsSelector c (next_selector journal)
@@ -315,8 +312,8 @@ module _ (journal : JournalValue) (names : NameMap) (new : FreshHalf) (is : IsFr
 
       holds_old : HoldsSelector c selector
       holds_old = (
-        found.alone.holds.selector_is.0,
-        own_selector selector.half found.alone.holds.selector_is.0.half given c (subst (λ (h : ℕ). SameButHalf (1 - h) given c) told.half same_c) ∙ found.alone.holds.selector_is.1,
+        found.holds.selector_is.0,
+        own_selector selector.half found.holds.selector_is.0.half given c (subst (λ (h : ℕ). SameButHalf (1 - h) given c) told.half same_c) ∙ found.holds.selector_is.1,
       )
 
       back : 1 - other journal ≡ selector.half
@@ -339,18 +336,15 @@ module _ (journal : JournalValue) (names : NameMap) (new : FreshHalf) (is : IsFr
       moved : HasMoved journal names c
       moved = record {
         found = record {
-          alone = record {
-            holds = record {
-              selector_is = holds_next;
-              older = older;
-              records_are = record {
-                few = few_puts;
-                right = follow_puts;
-                stand = stand_after (other journal) 0 (selector_at (other journal)) puts filled c (omega arith) cell_c (puts_stand right_puts);
-                ends = λ less. closed_c (length puts) (omega arith) less;
-              };
+          holds = record {
+            selector_is = holds_next;
+            older = older;
+            records_are = record {
+              few = few_puts;
+              right = follow_puts;
+              stand = stand_after (other journal) 0 (selector_at (other journal)) puts filled c (omega arith) cell_c (puts_stand right_puts);
+              closed = closed_c;
             };
-            closed = closed_c;
           };
           other = (λ opened. gate_open, λ opened. search rules);
           told = record {

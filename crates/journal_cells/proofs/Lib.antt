@@ -11,6 +11,7 @@ pub mod Listed
 pub mod Names
 pub mod Outcomes
 pub mod Parts
+pub mod Past
 pub mod Prepared
 pub mod Replays
 pub mod Scanned

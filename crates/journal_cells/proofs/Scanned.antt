@@ -15,7 +15,7 @@ use Rattle.journal_cells.specs.declared.fault.CellFault.{CellFault}
 use Rattle.journal_cells.specs.declared.fault.CellFault.TheVariants.{Memory, DiskRead, DiskWrite, Damaged, NotAStore, Version, Numbers}
 use Rattle.journal_cells.specs.Faults.{IsFoundFault, IsRecordBreak, IsCellFault}
 use Rattle.journal_cells.specs.Records.{Replay, nothing_yet, after_record, record_in, replayed}
-use Rattle.journal_cells.specs.Scanning.{IsNext, HasNext, HasNextFault, Leave, HasPart, HasWhole, IsPart, IsWhole}
+use Rattle.journal_cells.specs.Scanning.{IsNext, HasNext, HasNextFault, Leave, HasPart, HasRead, IsPart, IsRead}
 use Rattle.journal_cells.proofs.Damage.{IsDamage, record_damage}
 use Rattle.journal_cells.proofs.Replays.{follow_push, stand_push, replayed_open, replayed_closed, replayed_fault, replayed_full, gate_stands}
 
@@ -86,25 +86,15 @@ more_stand half records replay r image room leave part next =
     }
 
 none_more : (half : ℕ) (records : List RecordValue) (replay : Replay) (image : List ℕ) → replay.count < half_cells → Leave records replay → HasPart half records replay image → byte_at (cell_at half replay.count) image ≢ RECORD_GATE
-    → HasWhole half records replay image
+    → HasRead half records replay image
 none_more half records replay image room leave part closed = record {
-  holds = record {
-    few = omega (arith, room, leave.count);
-    right = leave.right;
-    stand = part.stand;
-    ends = λ short is. closed (ap (λ n. byte_at (cell_at half n) image) leave.count ∙ is);
-  };
+  stand = part.stand;
   read = part.goes_on ∙ replayed_closed half (half_cells - replay.count) replay image closed;
 }
 
-all_stand : (half : ℕ) (records : List RecordValue) (replay : Replay) (image : List ℕ) → replay.count ≡ half_cells → Leave records replay → HasPart half records replay image → HasWhole half records replay image
-all_stand half records replay image full leave part = record {
-  holds = record {
-    few = omega (arith, full, leave.count);
-    right = leave.right;
-    stand = part.stand;
-    ends = λ short. absurd (omega (arith, short, full, leave.count));
-  };
+all_stand : (half : ℕ) (records : List RecordValue) (replay : Replay) (image : List ℕ) → replay.count ≡ half_cells → HasPart half records replay image → HasRead half records replay image
+all_stand half records replay image full part = record {
+  stand = part.stand;
   read = part.goes_on ∙ ap (λ n. replayed half n replay image) (omega (arith, full)) ∙ replayed_full half replay image;
 }
 
@@ -117,8 +107,8 @@ module _ (half : ℕ) (old mid new : DiskView) (replay : Replay) (room : replay.
         seen = weaker old new (λ image sized seen. more_stand half part.records replay r image room part.leave seen.0 seen.1) (both old mid new part.seen before next.3 after.later);
       }
 
-  pub part_whole : IsNext (Shows mid new) half replay None → IsWhole (Shows old new) half replay
-  part_whole next =
+  pub part_read : IsNext (Shows mid new) half replay None → IsRead (Shows old new) half replay
+  part_read next =
       record {
         records = part.records;
         few = omega (arith, room, part.leave.count);
@@ -141,11 +131,11 @@ module _ (half : ℕ) (old mid new : DiskView) (replay : Replay) (room : replay.
   part_fault (Version n) is = absurd is.0
   part_fault Numbers is = absurd is
 
-pub part_full : (half : ℕ) (old new : DiskView) (replay : Replay) → replay.count ≡ half_cells → IsPart (Shows old new) half replay → IsWhole (Shows old new) half replay
-part_full half old new replay full part =
+pub part_all : (half : ℕ) (old new : DiskView) (replay : Replay) → replay.count ≡ half_cells → IsPart (Shows old new) half replay → IsRead (Shows old new) half replay
+part_all half old new replay full part =
     record {
       records = part.records;
       few = omega (arith, full, part.leave.count);
       leave = part.leave;
-      seen = weaker old new (λ image sized seen. all_stand half part.records replay image full part.leave seen) part.seen;
+      seen = weaker old new (λ image sized seen. all_stand half part.records replay image full seen) part.seen;
     }

@@ -3,7 +3,6 @@ use Rattle.std.proofs.Common.{◌≡◌, inl, inr, ℕ, ◌≤◌, Bool, List, m
 use Rattle.base_model.specs.Checks.{◌>>=◌}
 use Rattle.base_model.proofs.Checks.{then_step}
 use Rattle.disk_format.specs.Cells.{RecordValue, SelectorValue, IsSelector}
-use Rattle.disk_format.specs.Layout.{half_cells}
 use Rattle.dd_disk.specs.View.{DiskView, OnlyReads}
 use Rattle.dd_disk.specs.Shows.{Shows}
 use Rattle.dd_disk.proofs.Shows.{also, always, weaker, both, until}
@@ -14,18 +13,19 @@ use Rattle.journal_cells.specs.declared.fault.CellFault.TheVariants.{Memory, Dis
 use Rattle.journal_cells.specs.Faults.{fails, IsSelectorBreak, IsRecordBreak, IsJournalBreak, IsReadFault, IsCellFault}
 use Rattle.journal_cells.specs.declared.heads.Selection.{Selection}
 use Rattle.journal_cells.specs.Heads.{HoldsSelection, selection_of}
-use Rattle.journal_cells.specs.Records.{Replay, nothing_yet, replayed}
+use Rattle.journal_cells.specs.Records.{Replay, half_in, nothing_yet}
 use Rattle.journal_cells.specs.Journal.{IsScanned, IsTold, journal_in}
 use Rattle.journal_cells.specs.Scanning.{opened, IsWhole}
-use Rattle.journal_cells.proofs.Replays.{replay_of, holds_again, replay_count, replay_previous, replay_names}
+use Rattle.journal_cells.proofs.Past.{half_again}
+use Rattle.journal_cells.proofs.Replays.{replay_of, replay_count, replay_previous, replay_names}
 
 no_selector : (image : List ℕ) (f : CellFault) → selection_of image ≡ Err f → journal_in image ≡ Err f
 unfolding journal_in
-no_selector image f e = ap (λ r. r >>= (λ (s : Selection). replayed s.selector.half half_cells nothing_yet image)) e
+no_selector image f e = ap (λ r. r >>= (λ (s : Selection). half_in s.selector.half image)) e
 
-half_of : (image : List ℕ) (s : Selection) (read : Result Replay CellFault) → selection_of image ≡ Ok s → replayed s.selector.half half_cells nothing_yet image ≡ read → journal_in image ≡ read
+half_of : (image : List ℕ) (s : Selection) (read : Result Replay CellFault) → selection_of image ≡ Ok s → half_in s.selector.half image ≡ read → journal_in image ≡ read
 unfolding journal_in
-half_of image s read e h = then_step (selection_of image) (λ (t : Selection). replayed t.selector.half half_cells nothing_yet image) s read e h
+half_of image s read e h = then_step (selection_of image) (λ (t : Selection). half_in t.selector.half image) s read e h
 
 ok_replay : (a b : Replay) → (let r : Result Replay CellFault = Ok a in r) ≡ Ok b → a ≡ b
 ok_replay a b e = cc
@@ -50,8 +50,8 @@ told_of s t is_open records replay same other is =
     }
 
 -- what a reader finds in the half of the selector that stands there
-found_there : (s t : SelectorValue) (records : List RecordValue) (image : List ℕ) → s ≡ t → HoldsJournal image t records → replayed s.half half_cells nothing_yet image ≡ Ok (replay_of nothing_yet records)
-found_there s t records image same held = ap (λ (v : SelectorValue). replayed v.half half_cells nothing_yet image) same ∙ holds_again t.half records image held.records_are
+found_there : (s t : SelectorValue) (records : List RecordValue) (image : List ℕ) → s ≡ t → HoldsJournal image t records → half_in s.half image ≡ Ok (replay_of nothing_yet records)
+found_there s t records image same held = ap (λ (v : SelectorValue). half_in v.half image) same ∙ half_again t.half records image held.records_are
 
 -- ---- faults
 
@@ -66,7 +66,7 @@ selector_fault old new (Version n) is = (is.0, weaker old new (λ image sized no
 selector_fault old new Numbers is = absurd is
 
 module _ (s : Selection) (old mid new : DiskView) (before : OnlyReads old mid) (after : OnlyReads mid new) where
-  pub half_fault : (e : CellFault) → s.selector.half ≤ 1 → Shows old mid (λ image. selection_of image ≡ Ok s) → IsCellFault (IsRecordBreak s.selector.half) (λ f. Shows mid new (λ image. replayed s.selector.half half_cells nothing_yet image ≡ Err f)) e
+  pub half_fault : (e : CellFault) → s.selector.half ≤ 1 → Shows old mid (λ image. selection_of image ≡ Ok s) → IsCellFault (IsRecordBreak s.selector.half) (λ f. Shows mid new (λ image. half_in s.selector.half image ≡ Err f)) e
       → IsCellFault IsJournalBreak (λ f. Shows old new (λ image. journal_in image ≡ Err f)) e
   half_fault Memory small selector is = tt
   half_fault DiskRead small selector is = tt
@@ -117,13 +117,13 @@ module _ (s : Selection) (old mid new : DiskView) (before : OnlyReads old mid) (
         (both old mid new (also old mid held selector) before whole.seen after.later)
 
   -- where a record has a fault, no journal stands there
-  none_stands : (f : CellFault) → Shows old mid (λ image. (t : SelectorValue) → HoldsSelector image t → IsOlder image t → s.selector ≡ t) → Shows mid new (λ image. replayed s.selector.half half_cells nothing_yet image ≡ Err f)
+  none_stands : (f : CellFault) → Shows old mid (λ image. (t : SelectorValue) → HoldsSelector image t → IsOlder image t → s.selector ≡ t) → Shows mid new (λ image. half_in s.selector.half image ≡ Err f)
       → Shows old new (λ image. (t : SelectorValue) (records : List RecordValue) (is_open : Bool) → HoldsJournal image t records → KnowsOther is_open t.half image → IsTrue (fails f))
   none_stands f selector fault =
       weaker old new (λ image sized seen t records is_open held knows. absurd (not_both (replay_of nothing_yet records) f (sym (found_there s.selector t records image (seen.0 t held.selector_is held.older) held) ∙ seen.1))) (both old mid new selector before fault after.later)
 
   -- where one stands, memory or the disk failed
-  pub fails_alone : (e : CellFault) → Shows old mid (λ image. (t : SelectorValue) → HoldsSelector image t → IsOlder image t → s.selector ≡ t) → IsCellFault (IsRecordBreak s.selector.half) (λ f. Shows mid new (λ image. replayed s.selector.half half_cells nothing_yet image ≡ Err f)) e
+  pub fails_alone : (e : CellFault) → Shows old mid (λ image. (t : SelectorValue) → HoldsSelector image t → IsOlder image t → s.selector ≡ t) → IsCellFault (IsRecordBreak s.selector.half) (λ f. Shows mid new (λ image. half_in s.selector.half image ≡ Err f)) e
       → Shows old new (λ image. (t : SelectorValue) (records : List RecordValue) (is_open : Bool) → HoldsJournal image t records → KnowsOther is_open t.half image → IsTrue (fails e))
   fails_alone Memory selector is = always old new _ (λ image sized t records is_open held knows. refl)
   fails_alone DiskRead selector is = always old new _ (λ image sized t records is_open held knows. refl)

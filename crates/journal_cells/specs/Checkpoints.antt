@@ -8,7 +8,7 @@ use Rattle.disk_format.specs.Cells.{RecordValue, SelectorValue, record_cell, sel
 use Rattle.disk_format.specs.Layout.{selector_at, cell_at, half_cells}
 use Rattle.namespace.specs.Names.{NameMap}
 use Rattle.namespace.specs.Puts.{puts_of}
-use Rattle.store_model.specs.Journal.{HoldsJournal, KnowsOther, ClosedFrom, last_of, selector_after}
+use Rattle.store_model.specs.Journal.{HoldsJournal, KnowsOther, last_of, selector_after}
 use Rattle.journal_cells.specs.declared.checkpoint.FreshHalf.{FreshHalf}
 use Rattle.journal_cells.specs.declared.fault.CellFault.{CellFault}
 use Rattle.journal_cells.specs.declared.fault.CellFault.TheVariants.{Memory, Numbers}
@@ -39,15 +39,10 @@ IsPrepareFault journal fault = ⊥
 
 -- ---- images
 
--- the journal of an image, and no cell is open after its records
-pub record HoldsAlone (image : List ℕ) (selector : SelectorValue) (records : List RecordValue) : Type 0 where
-  pub holds : HoldsJournal image selector records
-  pub closed : ClosedFrom selector.half (length records) image
-
 -- the journal and the names are those of an image
 pub record IsFoundIn (journal : JournalValue) (names : NameMap) (selector : SelectorValue) (records : List RecordValue)
     (image : List ℕ) : Type 0 where
-  pub alone : HoldsAlone image selector records
+  pub holds : HoldsJournal image selector records
   pub other : KnowsOther journal.other_open journal.half image
   pub told : IsTold journal.other_open selector records journal names journal.last
 
@@ -71,7 +66,7 @@ KeepsOtherHalf journal old new = range (cell_at (1 - journal.half) 0) HALF_BYTES
 -- The journal stands. The other half's selector is open only where it was, and then the half is as it was: it is closed before
 -- its half is written.
 pub record HoldsStill (journal : JournalValue) (selector : SelectorValue) (records : List RecordValue) (old new : List ℕ) : Type 0 where
-  pub alone : HoldsAlone new selector records
+  pub holds : HoldsJournal new selector records
   pub opens : IsOtherOpen journal new → IsTrue journal.other_open × KeepsOtherHalf journal old new
 
 -- Nothing but the other half and its selector changed, and that selector doesn't count: the journal stands still.

@@ -474,7 +474,7 @@ module _ (s : Store) (base : List ℕ) (t : Store) (old new : CoreState) (framed
                   (keeps_fewer s base (length t.records) Still Same given framed.content.2 (length t.records) Still (Now h) (λ so. (so, omega arith)) (λ slot now. sym (other_with slot h t.held (now_other h slot now)) ∙ now))
                   place left.0 (now_other h) left.2,
             );
-            journal = λ has. stands_weaker (HasJournal t) (HasJournal (changed change t)) new.disk (λ c so. record { holds = so.holds; other = so.other; past = so.past })
+            journal = λ has. stands_weaker (HasJournal t) (HasJournal (changed change t)) new.disk (λ c so. record { holds = so.holds; other = so.other })
                 (has_still left.0 left.1 calm (λ p n within. left.2.before p n (omega (arith, within))) has);
           };
           fits = λ count more fits. fits_fewer s count t (names_in (change ∷ []) + more) more (omega arith) fits;

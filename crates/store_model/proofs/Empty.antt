@@ -68,14 +68,13 @@ formatted_holds slots image laid = (
       journal = record {
         selector_is = (record { from_one = omega arith; generation = omega arith; form = refl; half = omega arith; last = omega arith }, laid.selector);
         older = inl laid.other_selector;
-        records_are = record { few = omega arith; right = tt; stand = tt; ends = λ less. laid.records 0 less };
+        records_are = record { few = omega arith; right = tt; stand = tt; closed = λ cell first less. laid.records cell less };
       };
       other = (λ is. absurd (no_truth is), λ is. absurd (laid.other_selector is));
       many = length-replicate slots None;
       slots_are = slots_closed 0 slots image (λ one within. laid.containers one (omega arith));
       different = ids_differ slots;
     };
-    past = λ cell from within. laid.records cell within;
     copies = no_copies 0 slots image;
     nodes = no_nodes 0 slots image;
     files_are = no_files_held (none_held slots) image;

@@ -17,7 +17,7 @@ use Rattle.store_model.specs.Standing.{AreNodes, IsFileOf, AreFilesOf}
 use Rattle.store_model.specs.Collisions.{AreAmong, Stands}
 use Rattle.store_model.specs.Trees.{file_tree, leaf_key, node_key, HasNewest, HoldsTree, HoldsTrees}
 use Rattle.store_model.proofs.Copies.{headers_of_right}
-use Rattle.store_model.proofs.Frames.{SameTo, SameSlots, format_kept, journal_kept, other_kept, closed_kept, slots_kept, copies_kept}
+use Rattle.store_model.proofs.Frames.{SameTo, SameSlots, format_kept, journal_kept, other_kept, slots_kept, copies_kept}
 use Rattle.store_model.proofs.HeldSlots.{SameHeld, all_held, others_held, newest_still, IsNodeEntry, IsAmongThese, so_still, nodes_so, so_nodes, among_so, so_among}
 use Rattle.store_model.proofs.Kept.{holds_still, copies_still}
 
@@ -64,7 +64,6 @@ pub stands_on : (S : List ℕ → Type 0) (store : Store) (files : Files) (image
 stands_on S store files image new front held stands right copies nodes among files_are = record {
   holds = record {
     right = right;
-    past = closed_kept image new front store.selector.half (length store.records) stands.holds.right.journal.selector_is.0.half stands.holds.past;
     copies = copies;
     nodes = nodes;
     files_are = files_are;

@@ -63,6 +63,10 @@ module _ (old new : List ℕ) (same : SameTo FIRST_SLOT old new) where
   gate_kept : (half cell : ℕ) → half ≤ 1 → cell < half_cells → byte_at (cell_at half cell) new ≡ byte_at (cell_at half cell) old
   gate_kept half cell low within = byte_of_range (cell_at half cell) old new (same (cell_at half cell) 1 (omega arith))
 
+  -- cells that aren't open
+  closed_kept : (half from : ℕ) → half ≤ 1 → ClosedFrom half from old → ClosedFrom half from new
+  closed_kept half from low closed cell first within opened = closed cell first within (sym (gate_kept half cell low within) ∙ opened)
+
   pub journal_kept : (selector : SelectorValue) (records : List RecordValue) → HoldsJournal old selector records → HoldsJournal new selector records
   journal_kept selector records journal =
       let low : selector.half ≤ 1 = journal.selector_is.0.half in
@@ -73,13 +77,9 @@ module _ (old new : List ℕ) (same : SameTo FIRST_SLOT old new) where
           few = journal.records_are.few;
           right = journal.records_are.right;
           stand = stand_kept selector.half 0 records low (omega (arith, journal.records_are.few)) journal.records_are.stand;
-          ends = λ room opened. journal.records_are.ends room (sym (gate_kept selector.half (length records) low room) ∙ opened);
+          closed = closed_kept selector.half (length records) low journal.records_are.closed;
         };
       }
-
-  -- cells that aren't open
-  pub closed_kept : (half from : ℕ) → half ≤ 1 → ClosedFrom half from old → ClosedFrom half from new
-  closed_kept half from low closed cell first within opened = closed cell first within (sym (gate_kept half cell low within) ∙ opened)
 
 -- ---- a slot
 

@@ -20,7 +20,7 @@ use Rattle.store_model.specs.Steps.{KeepsCopies}
 use Rattle.store_model.specs.Standing.{AreFilesOf, IsStoreOf, CanBeOpened, StandsFor}
 use Rattle.store_model.specs.Trees.{HasNewest}
 use Rattle.store_model.proofs.Copies.{headers_of_right}
-use Rattle.store_model.proofs.Frames.{SameSlot, closed_kept}
+use Rattle.store_model.proofs.Frames.{SameSlot}
 use Rattle.store_model.proofs.Free.{first_closed, some_free}
 use Rattle.store_model.proofs.Freed.{closed_there, encodes_freed, same_gate, slot_held, unfreed_same, other_there, there_before, same_before}
 use Rattle.store_model.proofs.FreedTrees.{newest_freed, none_after, none_of_fewer, needed_file}
@@ -264,7 +264,6 @@ module _ (S P : List ℕ → Type 0) (files : Files) (s : Store) (freed given no
   holds_on : IsStoreOf s files given → IsStoreOf later files now
   holds_on holds = record {
     right = after;
-    past = closed_kept given now (same_before freed given now same) s.selector.half (length s.records) holds.right.journal.selector_is.0.half holds.past;
     copies = so_copies 0 more now (so_on IsCopyEntry (copies_so 0 s.held given holds.copies));
     nodes = so_nodes 0 more now (so_on IsNodeEntry (nodes_so 0 s.held given holds.nodes));
     files_are = files_on holds.files_are;

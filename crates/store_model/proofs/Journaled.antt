@@ -14,7 +14,7 @@ use Rattle.store_model.specs.Standing.{AreFilesOf, HasJournal}
 use Rattle.store_model.specs.Collisions.{Stands}
 use Rattle.store_model.specs.Steps.{HoldsFor, appended, change_of, name_of}
 use Rattle.store_model.proofs.Copies.{headers_of_right}
-use Rattle.store_model.proofs.Frames.{SameTo, SameSlots, slots_kept, copies_kept, other_kept, journal_kept, closed_kept}
+use Rattle.store_model.proofs.Frames.{SameTo, SameSlots, slots_kept, copies_kept, other_kept, journal_kept}
 use Rattle.store_model.proofs.HeldKept.{nodes_kept, among_kept, newest_kept, tree_held, file_held}
 use Rattle.store_model.proofs.NameChanges.{files_changed}
 
@@ -28,16 +28,19 @@ pub record SameButJournal (old new : List ℕ) : Type 0 where
 abbrev pub with_journal : SelectorValue → Bool → List RecordValue → Store → Store
 with_journal selector other_open records store = record store { selector = selector; other_open = other_open; records = records }
 
--- the journal of an image that is of files
+-- the journal of an image that holds a store
+pub has_journal : (store : Store) (image : List ℕ) → Encodes image store → HasJournal store image
+has_journal store image right = record { holds = right.journal; other = right.other }
+
+-- of one that is of files
 pub journal_in : (S : List ℕ → Type 0) (store : Store) (files : Files) (image : List ℕ) → Stands S store files image → HasJournal store image
-journal_in S store files image is = record { holds = is.holds.right.journal; other = is.holds.right.other; past = is.holds.past }
+journal_in S store files image is = has_journal store image is.holds.right
 
 -- and of one that is as it was before the slots
 pub has_kept : (store : Store) (old new : List ℕ) → SameTo FIRST_SLOT old new → HasJournal store old → HasJournal store new
 has_kept store old new same has = record {
   holds = journal_kept old new same store.selector store.records has.holds;
   other = other_kept old new (λ p n within. same p n (omega (arith, within))) store.other_open store.selector.half has.other;
-  past = closed_kept old new same store.selector.half (length store.records) has.holds.selector_is.0.half has.past;
 }
 
 module _ (image new : List ℕ) (store : Store) (right : Encodes image store) (same : SameButJournal image new) where
@@ -87,7 +90,6 @@ module _ (S : List ℕ → Type 0) (image new : List ℕ) (store : Store) (files
   stands_where selector other_open records filed has files_are = record {
     holds = record {
       right = right_where image new store encodes same selector other_open records has;
-      past = has.past;
       copies = copies_kept image new 0 store.held (slots image new store encodes same) (headers image new store encodes same) is.holds.copies;
       nodes = nodes_kept image new 0 store.held (slots image new store encodes same) (headers image new store encodes same) is.holds.nodes;
       files_are = files_are;

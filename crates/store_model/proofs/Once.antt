@@ -118,8 +118,8 @@ store_once image s t one other =
     let zero_before : (n : ℕ) → 0 + n ≡ n = λ n. omega arith in
     let records : s.records ≡ t.records =
     records_once s.selector.half 0 0 finite.empty s.records t.records image mine.right theirs.right mine.stand theirs.stand (omega (arith, mine.few)) (omega (arith, theirs.few))
-    (λ below shut. mine.ends (omega (arith, below)) (ap (λ (k : ℕ). byte_at (cell_at s.selector.half k) image) (sym (zero_before (length s.records))) ∙ shut))
-    (λ below shut. theirs.ends (omega (arith, below)) (ap (λ (k : ℕ). byte_at (cell_at s.selector.half k) image) (sym (zero_before (length t.records))) ∙ shut)) in
+    (λ below shut. mine.closed (length s.records) (omega arith) (omega (arith, below)) (ap (λ (k : ℕ). byte_at (cell_at s.selector.half k) image) (sym (zero_before (length s.records))) ∙ shut))
+    (λ below shut. theirs.closed (length t.records) (omega arith) (omega (arith, below)) (ap (λ (k : ℕ). byte_at (cell_at s.selector.half k) image) (sym (zero_before (length t.records))) ∙ shut)) in
     let held : s.held ≡ t.held = slots_once 0 s.held t.held image (one.many ∙ slots ∙ sym other.many) one.slots_are other.slots_are in
     let gate : s.other_open ≡ t.other_open =
     other_once s.other_open t.other_open s.selector.half image one.other (subst (λ (x : SelectorValue). KnowsOther t.other_open x.half image) (sym selector) other.other) in

@@ -31,12 +31,16 @@ abbrev pub StandFrom : ℕ → ℕ → List RecordValue → List ℕ → Type 0
 StandFrom half cell [] image = Unit {0}
 StandFrom half cell (r ∷ rs) image = (range (cell_at half cell) 512 image ≡ record_cell r) × StandFrom half (cell + 1) rs image
 
--- the records of a half, up to its first closed gate
+-- from a cell of a half on none is open
+abbrev pub ClosedFrom : ℕ → ℕ → List ℕ → Type 0
+ClosedFrom half from image = (cell : ℕ) → from ≤ cell → cell < half_cells → byte_at (cell_at half cell) image ≢ RECORD_GATE
+
+-- the records of a half, after which no cell is open
 pub record HoldsRecords (half : ℕ) (records : List RecordValue) (image : List ℕ) : Type 0 where
   pub few : length records ≤ half_cells
   pub right : Follow 0 finite.empty records
   pub stand : StandFrom half 0 records image
-  pub ends : length records < half_cells → byte_at (cell_at half (length records)) image ≢ RECORD_GATE
+  pub closed : ClosedFrom half (length records) image
 
 -- the journal: the selector that counts, and the records of its half
 pub record HoldsJournal (image : List ℕ) (selector : SelectorValue) (records : List RecordValue) : Type 0 where
@@ -48,10 +52,6 @@ pub record HoldsJournal (image : List ℕ) (selector : SelectorValue) (records :
 abbrev pub last_of : ℕ → List RecordValue → ℕ
 last_of previous [] = previous
 last_of previous (r ∷ rs) = last_of r.sequence rs
-
--- from a cell of a half on none is open
-abbrev pub ClosedFrom : ℕ → ℕ → List ℕ → Type 0
-ClosedFrom half from image = (cell : ℕ) → from ≤ cell → cell < half_cells → byte_at (cell_at half cell) image ≢ RECORD_GATE
 
 -- the selector of a checkpoint: of the other half, under the next generation, with the last sequence number of all
 abbrev pub selector_after : ℕ → ℕ → ℕ → SelectorValue

@@ -15,7 +15,7 @@ use Rattle.namespace.specs.Names.{NameMap}
 use Rattle.segmenter.specs.Segments.{segments_of}
 use Rattle.store_model.specs.Files.{Files, no_files}
 use Rattle.store_model.specs.Image.{Store, Encodes, AreCopies, empty_store, names_of, last_sequence}
-use Rattle.store_model.specs.Journal.{HoldsJournal, KnowsOther, ClosedFrom}
+use Rattle.store_model.specs.Journal.{HoldsJournal, KnowsOther}
 use Rattle.store_model.specs.Reserve.{HasReserve, IsReachable}
 use Rattle.store_model.specs.Slots.{free_slots}
 use Rattle.store_model.specs.Trees.{root_of, file_tree, HoldsTree, IsNodeOf}
@@ -51,17 +51,15 @@ AreFilesOf held names image files = (name : List ℕ) → IsFileOf held image (f
 abbrev pub file_listing : Files → List NamedRoot
 file_listing files = map (λ (e : List ℕ × List ℕ). record { name = e.0; root = root_of e.1 }) (finite.entries files)
 
--- The image has the journal of the store, and no record is open after its own; whatever else it has.
+-- The image has the journal of the store, whatever else it has.
 pub record HasJournal (store : Store) (image : List ℕ) : Type 0 where
   pub holds : HoldsJournal image store.selector store.records
   pub other : KnowsOther store.other_open store.selector.half image
-  pub past : ClosedFrom store.selector.half (length store.records) image
 
--- The image holds this store, and is a store of these files: after its records no record is open, and each entry's bytes have its
--- digest and are of its kind. How many slots are closed it doesn't say.
+-- The image holds this store, and is a store of these files: each entry's bytes have its digest and are of its kind. How many slots
+-- are closed it doesn't say.
 pub record IsStoreOf (store : Store) (files : Files) (image : List ℕ) : Type 0 where
   pub right : Encodes image store
-  pub past : ClosedFrom store.selector.half (length store.records) image
   pub copies : AreCopies 0 store.held image
   pub nodes : AreNodes 0 store.held image
   pub files_are : AreFilesOf store.held (names_of store) image files

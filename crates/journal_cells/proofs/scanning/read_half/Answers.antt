@@ -1,47 +1,23 @@
-use Rattle.std.proofs.Common.{◌<◌, sym, ap, subst, arith}
-use Rattle.std.specs.Prelude.{option_map}
 use Rattle.base_model.proofs.Outcome.{passed_on}
-use Rattle.disk_format.specs.Layout.{half_cells}
-use Rattle.dd_disk.specs.Ending.{Done}
-use Rattle.dd_disk.specs.Shows.{Shows}
-use Rattle.dd_disk.proofs.Ended.{reads_none, reads_on}
-use Rattle.namespace.specs.Names.{record_value}
-use Rattle.journal_cells.specs.Scanning.{replay, IsNext, IsPart}
-use Rattle.journal_cells.proofs.Scanned.{part_none, part_more, part_whole, part_full, part_fault}
+use Rattle.journal_cells.specs.Scanning.{replay}
+use Rattle.journal_cells.proofs.Past.{past_fault, records_fault, whole_half}
 use Rattle.journal_cells.proofs.scanning.read_half.Goals as goal
 
-pub loop-init : goal.loop-init
-loop-init g c =
-    let v = g.D.Disk.view c.args.disk.now in
-    record {
-      count = ap (λ r. r.count) c.new-before.ensures;
-      reads = reads_none v;
-      part = subst (IsPart (Shows v v) c.args.half) (sym c.new-before.ensures) (part_none c.args.half v);
-    }
+pub returns-in_err-read-clause-cause : goal.returns-in_err-read-clause-cause
+returns-in_err-read-clause-cause g c =
+    let view = g.D.Disk.view in
+    passed_on c.from_residual.result _ c.in_err-read.field-0.0 c.from_residual.ensures.1
+    (records_fault c.args.half (view c.args.disk.now) (view c.read_records.new.disk) c.in_err-read.field-0.0 c.in_err-read.ensures.cause)
 
-pub returns-in_err-next-clause-cause : goal.returns-in_err-next-clause-cause
-returns-in_err-next-clause-cause g c =
-    let room : c.loop.before.count < half_cells = omega (arith, c.loop.invariant.count, c.loop-test.true) in
-    passed_on c.from_residual.result _ c.in_err-next.field-0.0 c.from_residual.ensures.1
-    (part_fault c.args.half _ _ _ (replay c.loop.before) room c.loop.invariant.part c.loop.invariant.reads.only c.in_err-next.ensures.reads.only c.in_err-next.field-0.0 c.in_err-next.ensures.cause)
-
-pub returns-in-None-clause-whole : goal.returns-in-None-clause-whole
-returns-in-None-clause-whole g c =
-    let room : c.loop.before.count < half_cells = omega (arith, c.loop.invariant.count, c.loop-test.true) in
-    let next = subst (λ n. IsNext (Shows (g.D.Disk.view c.loop.disk) (g.D.Disk.view c.read_next.new.disk)) c.args.half (replay c.loop.before) (option_map record_value n)) c.in-None.is c.in_ok-next.ensures.next in
-    part_whole c.args.half _ _ _ (replay c.loop.before) room c.loop.invariant.part c.loop.invariant.reads.only c.in_ok-next.ensures.reads.only next
-
-pub loop-preserved : goal.loop-preserved
-loop-preserved g c =
-    let room : c.loop.before.count < half_cells = omega (arith, c.loop.invariant.count, c.loop-test.true) in
-    let next = subst (λ n. IsNext (Shows (g.D.Disk.view c.loop.disk) (g.D.Disk.view c.read_next.new.disk)) c.args.half (replay c.loop.before) (option_map record_value n)) c.in-Some.is c.in_ok-next.ensures.next in
-    record {
-      count = omega (arith, c.loop.invariant.count, ap (λ r. r.count) c.in_ok-add-in-Some.ensures.ok);
-      reads = reads_on Done _ _ _ c.loop.invariant.reads c.in_ok-next.ensures.reads;
-      part = subst (IsPart (Shows (g.D.Disk.view c.args.disk.now) (g.D.Disk.view c.read_next.new.disk)) c.args.half) (sym c.in_ok-add-in-Some.ensures.ok)
-          (part_more c.args.half _ _ _ (replay c.loop.before) room c.loop.invariant.part c.loop.invariant.reads.only c.in_ok-next.ensures.reads.only (record_value c.in-Some.next) next);
-    }
+pub returns-in_err-check_closed-clause-cause : goal.returns-in_err-check_closed-clause-cause
+returns-in_err-check_closed-clause-cause g c =
+    let view = g.D.Disk.view in
+    passed_on c.from_residual-in_err-check_closed.result _ c.in_err-check_closed.field-0.0 c.from_residual-in_err-check_closed.ensures.1
+    (past_fault c.args.half (view c.args.disk.now) (view c.read_records.new.disk) (view c.check_closed.new.disk) (replay c.in_ok-read.read) c.in_ok-read.ensures.read c.in_ok-read.ensures.reads.only
+    c.in_err-check_closed.ensures.reads.only c.in_err-check_closed.field-0.0 c.in_err-check_closed.ensures.cause)
 
 pub returns-clause-whole : goal.returns-clause-whole
 returns-clause-whole g c =
-    part_full c.args.half _ _ (replay c.loop.before) (omega (arith, c.loop.invariant.count, c.loop-test.false, c.loop.auto)) c.loop.invariant.part
+    let view = g.D.Disk.view in
+    whole_half c.args.half (view c.args.disk.now) (view c.read_records.new.disk) (view c.check_closed.new.disk) (replay c.in_ok-read.read) c.in_ok-read.ensures.read c.in_ok-read.ensures.reads.only
+    c.in_ok-check_closed.ensures.reads.only c.in_ok-check_closed.ensures.closed

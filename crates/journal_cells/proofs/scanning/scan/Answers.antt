@@ -1,11 +1,10 @@
 use Rattle.std.proofs.Common.{◌≡◌, ℕ, sym, ap, subst, Err}
 use Rattle.base_model.proofs.Outcome.{passed_on}
-use Rattle.disk_format.specs.Layout.{half_cells}
 use Rattle.dd_disk.specs.Shows.{Shows}
 use Rattle.dd_disk.proofs.Shows.{weaker}
 use Rattle.journal_cells.specs.Faults.{IsRecordBreak, IsCellFault}
 use Rattle.journal_cells.specs.Journal.{IsScanned, IsTold, JournalValue}
-use Rattle.journal_cells.specs.Records.{nothing_yet, replayed}
+use Rattle.journal_cells.specs.Records.{half_in}
 use Rattle.journal_cells.specs.Scanning.{replay, IsWhole}
 use Rattle.journal_cells.proofs.Outcomes.{failed_on}
 use Rattle.journal_cells.proofs.Whole.{selector_fault, half_fault, scanned, only_one, fails_alone}
@@ -17,14 +16,14 @@ returns-in_err-selection-clause-cause g c =
 
 pub returns-in_err-left-clause-only : goal.returns-in_err-left-clause-only
 returns-in_err-left-clause-only g c =
-    let fault = subst (λ (h : ℕ). IsCellFault (IsRecordBreak h) (λ f. Shows (g.D.Disk.view c.read_selectors.new.disk) (g.D.Disk.view c.read_half.new.disk) (λ image. replayed h half_cells nothing_yet image ≡ Err f)) c.in_err-left.field-0.0)
+    let fault = subst (λ (h : ℕ). IsCellFault (IsRecordBreak h) (λ f. Shows (g.D.Disk.view c.read_selectors.new.disk) (g.D.Disk.view c.read_half.new.disk) (λ image. half_in h image ≡ Err f)) c.in_err-left.field-0.0)
     (ap (λ v. v.selector.half) c.selection.view_is) c.in_err-left.ensures.cause in
     weaker _ _ (λ image sized none t records is_open held knows. failed_on _ c.from_residual-in_err-left.result c.in_err-left.field-0.0 c.from_residual-in_err-left.ensures.1 (none t records is_open held knows))
     (fails_alone c.in_ok-selection.selection _ _ _ c.in_ok-selection.ensures.reads.only c.in_err-left.ensures.reads.only c.in_err-left.field-0.0 c.in_ok-selection.ensures.only fault)
 
 pub returns-in_err-left-clause-cause : goal.returns-in_err-left-clause-cause
 returns-in_err-left-clause-cause g c =
-    let fault = subst (λ (h : ℕ). IsCellFault (IsRecordBreak h) (λ f. Shows (g.D.Disk.view c.read_selectors.new.disk) (g.D.Disk.view c.read_half.new.disk) (λ image. replayed h half_cells nothing_yet image ≡ Err f)) c.in_err-left.field-0.0)
+    let fault = subst (λ (h : ℕ). IsCellFault (IsRecordBreak h) (λ f. Shows (g.D.Disk.view c.read_selectors.new.disk) (g.D.Disk.view c.read_half.new.disk) (λ image. half_in h image ≡ Err f)) c.in_err-left.field-0.0)
     (ap (λ v. v.selector.half) c.selection.view_is) c.in_err-left.ensures.cause in
     passed_on c.from_residual-in_err-left.result _ c.in_err-left.field-0.0 c.from_residual-in_err-left.ensures.1
     (half_fault c.in_ok-selection.selection _ _ _ c.in_ok-selection.ensures.reads.only c.in_err-left.ensures.reads.only c.in_err-left.field-0.0 c.in_ok-selection.ensures.right.half c.in_ok-selection.ensures.read fault)

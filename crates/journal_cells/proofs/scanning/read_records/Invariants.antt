@@ -2,7 +2,7 @@ use Rattle.std.proofs.Common.{◌≡◌}
 use Rattle.dd_disk.specs.Ending.{Done, Reads}
 use Rattle.dd_disk.specs.Shows.{Shows}
 use Rattle.journal_cells.specs.Scanning.{replay, IsPart}
-use Rattle.journal_cells.proofs.scanning.read_half.Given as goal
+use Rattle.journal_cells.proofs.scanning.read_records.Given as goal
 
 abbrev pub invariant-loop : goal.invariant-loop
 invariant-loop g l = record {

@@ -1,0 +1,5 @@
+use Rattle.journal_cells.specs.Scanning.{AreShut}
+use Rattle.journal_cells.proofs.scanning.first_open.Given as goal
+
+abbrev pub invariant-loop-number : goal.invariant-loop-number
+invariant-loop-number l = AreShut l.number l.cells

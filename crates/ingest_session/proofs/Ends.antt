@@ -126,7 +126,7 @@ end_done s ended due =
     (none_in s.leaves.segments leaves.0, none_in s.nodes.segments nodes.0)
 
 -- a node that stands in line at the end is due
-due_at_end : (s : SessionState) (n : node.Contents) → is_last s.ended s.queue ≡ true → is_node_due s n ≡ true
+pub due_at_end : (s : SessionState) (n : node.Contents) → is_last s.ended s.queue ≡ true → is_node_due s n ≡ true
 due_at_end s n last = or_left _ _ (or_right _ _ last)
 
 line_done : (s : SessionState) (line : List node.Contents) → is_last s.ended s.queue ≡ true → node_in_turn (turn_for s line) line ≡ None → line ≡ []

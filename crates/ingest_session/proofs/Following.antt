@@ -117,15 +117,15 @@ built_whole b c (Some other) top segments taken none ends is = absurd (cc)
 pub begun_follows : (s : SessionState) → IsSession s → IsBegun s → Follows s [] []
 begun_follows s session is =
     let built : IsBuilt s.built s.top (pushed_of s []) (taken_of s []) = rw (is.top, is.ahead, is.line) is.built in record {
-  cut = rw (is.ongoing, is.queue) is.cut;
-  built = built;
-  lined = lined_by s [] built session is.ahead;
-  counted = is.count;
-}
+      cut = rw (is.ongoing, is.queue) is.cut;
+      built = built;
+      lined = lined_by s [] built session is.ahead;
+      counted = is.count;
+    }
 
 -- ---- bytes are taken, and the file ends
 
-ongoing_last : (ended : Bool) (queue : List (List ℕ)) → ended ≡ false → is_last ended queue ≡ false
+pub ongoing_last : (ended : Bool) (queue : List (List ℕ)) → ended ≡ false → is_last ended queue ≡ false
 ongoing_last false queue on = refl
 ongoing_last true queue on = absurd (cc)
 

@@ -24,3 +24,9 @@ pub mod Answering
 pub mod Facts
 pub mod Ends
 pub mod CutOnce
+pub mod Replaying
+pub mod Runs
+pub mod Agreeing
+pub mod Replayed
+pub mod DueOnes
+pub mod KeptOnes

@@ -1,8 +1,6 @@
-use Rattle.std.proofs.Common.{◌≡◌, ◌∙◌, IsSome, Some, None, Option, sym, rules}
-use Rattle.merkle_file.specs.Node as node
+use Rattle.std.proofs.Common.{rules}
 use Rattle.ingest_session.specs.Finished.{first_of}
 use Rattle.ingest_session.proofs.Fitting.{can_add_node}
-use Rattle.ingest_session.proofs.InLine.{first_if_some}
 use Rattle.ingest_session.proofs.session.Session.add_node.Goals as goal
 
 pub add_to-requires-clause-can : goal.add_to-requires-clause-can

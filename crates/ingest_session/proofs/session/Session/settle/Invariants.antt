@@ -1,4 +1,4 @@
-use Rattle.std.proofs.Common.{◌≡◌, false, length}
+use Rattle.std.proofs.Common.{◌≡◌, false}
 use Rattle.ingest_session.specs.Work.{to_do}
 use Rattle.ingest_session.specs.Settling.{Settles, seen}
 use Rattle.ingest_session.proofs.session.Session.settle.Given as goal

@@ -15,7 +15,7 @@ use Rattle.ingest_session.specs.Due.{HasTurn, due_in, item_is_held, item_kind, o
 use Rattle.ingest_session.specs.History.{item_if, same_kind, sealed_for, waiting}
 use Rattle.ingest_session.specs.Items.{item_of}
 use Rattle.ingest_session.specs.Sound.{IsSession}
-use Rattle.ingest_session.specs.State.{SessionState, HasItem, IsAhead}
+use Rattle.ingest_session.specs.State.{SessionState, HasItem, IsAhead, turn_node}
 use Rattle.store_model.specs.Trees.{leaf_key, node_key}
 use Rattle.ingest_session.specs.Told.{told_by}
 use Rattle.ingest_session.proofs.Sealing as sealing
@@ -136,17 +136,17 @@ module _ (s : SessionState) (id : ℕ) (mine : Kind) (due : due_in s ≡ Seal mi
     item_lacks None (x ∷ xs) turn none = lacks_key s.leaves Leaf (leaf_key x) session.data_kind none
 
     -- so what waits has a key that the container which is sealed lacks
-    waiting_differs : (waits : Bool) → s.waits ≡ waits → (waits ≡ true → item_is_held s s.node ≡ false) → (x : Segment) → IsOneOf x (if waits then item_if mine s else [])
+    waiting_differs : (waits : Bool) → s.waits ≡ waits → (waits ≡ true → item_is_held s (turn_node s) ≡ false) → (x : Segment) → IsOneOf x (if waits then item_if mine s else [])
         → AllByRecursion (λ y. segment_key mine x ≢ segment_key mine y) (open_of s mine).segments
     waiting_differs false off lacks x one = absurd (let none : None ≡ Some x = one.1 in cc)
     waiting_differs true on lacks x one =
         let item = one_item s mine x one in
-        let turn = turn_of_item s.node s.spelled s.ahead s.queue (session.waits on).0 session.ahead in
+        let turn = turn_of_item (turn_node s) s.spelled s.ahead s.queue (session.waits on).0 session.ahead in
         subst (λ (k : Kind). AllByRecursion (λ y. segment_key k x ≢ segment_key k y) (open_of s k).segments) (sym item.0)
-        (subst (λ (z : Segment). AllByRecursion (λ y. segment_key (item_kind s.node) z ≢ segment_key (item_kind s.node) y) (open_of s (item_kind s.node)).segments) (sym item.1)
-        (item_lacks s.node s.queue turn (sym (same_held s.node) ∙ lacks refl)))
+        (subst (λ (z : Segment). AllByRecursion (λ y. segment_key (item_kind (turn_node s)) z ≢ segment_key (item_kind (turn_node s)) y) (open_of s (item_kind (turn_node s))).segments) (sym item.1)
+        (item_lacks (turn_node s) s.queue turn (sym (same_held (turn_node s)) ∙ lacks refl)))
 
-    by_kind : (s.waits ≡ true → item_is_held s s.node ≡ false) → (kind : Kind) (same : Bool) → same_kind kind mine ≡ same → (x : Segment) → IsOneOf x (left kind)
+    by_kind : (s.waits ≡ true → item_is_held s (turn_node s) ≡ false) → (kind : Kind) (same : Bool) → same_kind kind mine ≡ same → (x : Segment) → IsOneOf x (left kind)
         → AllByRecursion (λ y. segment_key kind x ≢ segment_key mine y) (open_of s mine).segments
     by_kind lacks kind false apart x one = all_differ kind mine x (open_of s mine).segments apart
     by_kind lacks kind true same x one =
@@ -162,7 +162,7 @@ module _ (s : SessionState) (id : ℕ) (mine : Kind) (due : due_in s ≡ Seal mi
         same_kinds Tree Leaf is = absurd cc
 
     -- What is left after a seal was there before, and has no key of what was sealed.
-    pub left_differs : (s.waits ≡ true → item_is_held s s.node ≡ false) → (kind : Kind)
+    pub left_differs : (s.waits ≡ true → item_is_held s (turn_node s) ≡ false) → (kind : Kind)
         → AllByRecursion (λ x. IsOneOf x (opens_of s kind) × AllByRecursion (λ y. segment_key kind x ≢ segment_key mine y) (open_of s mine).segments) (left kind)
     left_differs lacks kind =
         all_of (λ x. IsOneOf x (opens_of s kind) × AllByRecursion (λ y. segment_key kind x ≢ segment_key mine y) (open_of s mine).segments) (left kind)

@@ -15,7 +15,7 @@ use Rattle.ingest_session.specs.Facts.{IsKept}
 use Rattle.ingest_session.specs.History.{History, HasHistory, IsBegun, Places, answered, no_history}
 use Rattle.ingest_session.specs.Moving.{IsItem}
 use Rattle.ingest_session.specs.Settling.{KeepsOpen}
-use Rattle.ingest_session.specs.State.{SessionState}
+use Rattle.ingest_session.specs.State.{SessionState, turn_node}
 use Rattle.ingest_session.specs.Told.{told_by}
 use Rattle.session_turns.proofs.Told.{told}
 use Rattle.ingest_session.proofs.Members.{in_left, in_right}
@@ -116,7 +116,7 @@ module _ (C : Type 0) (state : C → CoreState) where
               ]);
         }
 
-    pub fed_held : (seg : KindSegment) → due_in s ≡ Claim → IsItem s.node s.queue seg → WayOn (opens_of s) (seg ∷ []) → HasHistory (told_by answers.Held s) (answered answers.Held s fed.history)
+    pub fed_held : (seg : KindSegment) → due_in s ≡ Claim → IsItem (turn_node s) s.queue seg → WayOn (opens_of s) (seg ∷ []) → HasHistory (told_by answers.Held s) (answered answers.Held s fed.history)
         → IsFed C state given (told_by answers.Held s) start new
     fed_held seg due item on has =
         let opens = way_as C state (MayBe given s) (opens_of s) start new on.0 (MayBe given s) (opens_of (told_by answers.Held s)) (λ file is. is) (λ kind places fresh. subst (AreNew places kind) (sym (opens_held s kind due)) fresh) in
@@ -127,8 +127,8 @@ module _ (C : Type 0) (state : C → CoreState) where
               let same = one_item s kind x now in
               let whole : record { kind = kind; segment = x } ≡ seg =
               ap (λ (k : Kind). let y : KindSegment = record { kind = k; segment = x } in y) same.0
-              ∙ ap (λ (z : Segment). let y : KindSegment = record { kind = item_kind s.node; segment = z } in y) same.1
-              ∙ sym (item_is s.node s.queue seg item) in
+              ∙ ap (λ (z : Segment). let y : KindSegment = record { kind = item_kind (turn_node s); segment = z } in y) same.1
+              ∙ sym (item_is (turn_node s) s.queue seg item) in
               inr (0, ap Some (sym whole))
         ])
 

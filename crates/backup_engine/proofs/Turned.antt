@@ -72,7 +72,7 @@ module _ (C : Type 0) (state : C → CoreState) (laws : SessionLaws) (actor : �
   refused_turn refusal s t old new refused fed name file may =
       let here = fed_paused s t old refused.0 fed in
       let asks = subst (λ (a : ℕ). Asks a (due_in t) t (Err refusal) (state old) (state new)) first refused.2 in
-      asked_refused C state given t start old new here laws.turns laws.opens laws.claims laws.seals (due_in t) refusal refl asks name file (may_be_still given t s file (sym refused.0.keeps.ended) may)
+      asked_refused C state given t start old new here laws.turns laws.opens laws.claims laws.seals refused.1 (due_in t) refusal refl asks name file (may_be_still given t s file (sym refused.0.keeps.ended) may)
 
   pub stopped_turns : (refusal : Refusal) (s t : SessionState) (old new : C) → TurnsStopped C state actor refusal s t old new → IsFed C state given s start old → (name file : List ℕ) → MayBe given s file
       → Stops C state name file refusal start new

@@ -25,8 +25,9 @@ use Rattle.ingest_session.specs.Facts.{ChildrenComeFirst, IsKeptChild, MayFollow
 use Rattle.ingest_session.specs.History.{HasHistory, answered, item_if, turn_of, waiting}
 use Rattle.ingest_session.specs.Items.{item_of}
 use Rattle.ingest_session.specs.Moving.{IsItem, IsOffered}
-use Rattle.ingest_session.specs.State.{SessionState}
-use Rattle.ingest_session.specs.Told.{told_by}
+use Rattle.ingest_session.specs.State.{SessionState, turn_node}
+use Rattle.ingest_session.specs.Told.{IsSettled, told_by}
+use Rattle.ingest_session.proofs.Waiting.{claimed_turn}
 use Rattle.ingest_session.proofs.Waiting.{session_of}
 use Rattle.session_turns.specs.Turns.{Asks}
 use Rattle.ingest_session.proofs.Members.{all_of}
@@ -87,10 +88,10 @@ module _ (C : Type 0) (state : C → CoreState) (given : List ℕ) (s : SessionS
 
   module _ (turns : TurnsArePieces) (due : due_in s ≡ Claim) (seg : KindSegment) (offered : IsOffered s seg) (buf : List ℕ) where
     seg_piece : (file : List ℕ) → files file → HasPieceOf file seg
-    seg_piece = by_more (λ file. HasPieceOf file seg) (λ more may. item_piece (fed.history.given ++ more) s.node s.queue seg offered.is (turns s fed.history more fed.has may))
+    seg_piece = by_more (λ file. HasPieceOf file seg) (λ more may. item_piece (fed.history.given ++ more) (turn_node s) s.queue seg offered.is (turns s fed.history more fed.has may))
 
-    seg_is : seg ≡ record { kind = item_kind s.node; segment = item_of s.node s.queue }
-    seg_is = item_is s.node s.queue seg offered.is
+    seg_is : seg ≡ record { kind = item_kind (turn_node s); segment = item_of (turn_node s) s.queue }
+    seg_is = item_is (turn_node s) s.queue seg offered.is
 
     pub claim_held : CoreStep (state old) (record { actor = 0; step = asked.Claim seg; answer = Ok answers.Held; buf = buf }) (state new) → IsRunning (state new)
         → HasHistory (told_by answers.Held s) (answered answers.Held s fed.history) → IsFed C state given (told_by answers.Held s) start new
@@ -104,7 +105,7 @@ module _ (C : Type 0) (state : C → CoreState) (given : List ℕ) (s : SessionS
         all_of (λ x. finite.get places (segment_key kind x) ≡ None) (item_if kind s) (λ x one.
         let same = one_item s kind x one in
         ap (finite.get places)
-        (ap (λ (k : Kind). segment_key k x) same.0 ∙ ap (segment_key (item_kind s.node)) same.1 ∙ sym (ap key_of_seg seg_is))
+        (ap (λ (k : Kind). segment_key k x) same.0 ∙ ap (segment_key (item_kind (turn_node s))) same.1 ∙ sym (ap key_of_seg seg_is))
         ∙ none)
 
     pub claim_absent : CoreStep (state old) (record { actor = 0; step = asked.Claim seg; answer = Ok answers.Absent; buf = buf }) (state new) → IsRunning (state new)
@@ -115,11 +116,11 @@ module _ (C : Type 0) (state : C → CoreState) (given : List ℕ) (s : SessionS
         step running in
         fed_absent C state given s start old new fed (way.0, way.1 ∙ sym (append-nil (kept_of fed.way.steps))) has
 
-    pub claim_refused : ChildrenComeFirst → (name file : List ℕ) → files file → (refusal : Refusal)
+    pub claim_refused : ChildrenComeFirst → IsSettled s → (name file : List ℕ) → files file → (refusal : Refusal)
         → CoreStep (state old) (record { actor = 0; step = asked.Claim seg; answer = Err refusal; buf = buf }) (state new) → Stops C state name file refusal start new
-    claim_refused children name file is refusal step =
+    claim_refused children settled name file is refusal step =
         inl (way_unclaimed C state files (opens_of s) start old new fed.way buf name file is seg offered.right seg_piece
-        (item_children s.node s.queue seg offered.is (λ m node_is. children s fed.history m fed.has node_is due)) refusal step)
+        (item_children (turn_node s) s.queue seg offered.is (λ m node_is. children s fed.history m fed.has (sym (claimed_turn s settled due) ∙ node_is) due)) refusal step)
 
   -- ---- a seal
 
@@ -176,8 +177,8 @@ module _ (C : Type 0) (state : C → CoreState) (given : List ℕ) (s : SessionS
   asked_on waits Nothing answer is asks running has = absurd asks
 
   -- it was refused
-  pub asked_refused : ChildrenComeFirst → OpenNodesHaveChildren → (due : Due) (refusal : Refusal) → due_in s ≡ due → Asks 0 due s (Err refusal) (state old) (state new) → (name file : List ℕ) → MayBe given s file
+  pub asked_refused : ChildrenComeFirst → OpenNodesHaveChildren → IsSettled s → (due : Due) (refusal : Refusal) → due_in s ≡ due → Asks 0 due s (Err refusal) (state old) (state new) → (name file : List ℕ) → MayBe given s file
       → Stops C state name file refusal start new
-  asked_refused children nodes Claim refusal is asks name file may = claim_refused C state given s start old new fed turns is asks.0 asks.2 asks.1 children name file may refusal asks.3
-  asked_refused children nodes (Seal kind) refusal is asks name file may = seal_refused C state given s start old new fed opens kind is asks.1 asks.2 asks.0 nodes name file may refusal asks.3
-  asked_refused children nodes Nothing refusal is asks name file may = absurd asks
+  asked_refused children nodes settled Claim refusal is asks name file may = claim_refused C state given s start old new fed turns is asks.0 asks.2 asks.1 children settled name file may refusal asks.3
+  asked_refused children nodes settled (Seal kind) refusal is asks name file may = seal_refused C state given s start old new fed opens kind is asks.1 asks.2 asks.0 nodes name file may refusal asks.3
+  asked_refused children nodes settled Nothing refusal is asks name file may = absurd asks

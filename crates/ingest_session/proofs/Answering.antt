@@ -14,20 +14,21 @@ use Rattle.actor_parts.specs.Segments.{KeyPin, children_by, node_segment}
 use Rattle.store_model.specs.Pieces.{Piece, Data, Node, piece_segment}
 use Rattle.ingest_session.specs.declared.due.Due.{Due}
 use Rattle.ingest_session.specs.declared.due.Due.TheVariants.{Seal}
-use Rattle.ingest_session.specs.Due.{HasTurn, due_in, item_is_there, item_kind, needs_no_step, open_of}
+use Rattle.ingest_session.specs.Due.{HasTurn, due_in, item_is_there, item_kind, needs_no_step, open_of, queue_is_there}
 use Rattle.ingest_session.specs.Facts.{IsKept, IsKeptChild}
 use Rattle.ingest_session.specs.History.{History, HasHistory, IsBegun, Begun, Pushed, Ended, Moved, Asked, Told, answered, item_if, moved, no_history, placed_after_seal, placed_if, same_kind, sealed_for, turn, turn_of}
 use Rattle.ingest_session.specs.Items.{fits, item_of}
-use Rattle.ingest_session.specs.Settling.{SettleStep, Spelled, Advanced, Closed, PlacedNode, PlacedFront}
+use Rattle.ingest_session.specs.Settling.{SettleStep, Turned, Spelled, Advanced, Closed, PlacedNode, PlacedFront}
 use Rattle.ingest_session.specs.Sound.{IsSession}
-use Rattle.ingest_session.specs.State.{SessionState, HasItem, IsAhead, IsSized}
+use Rattle.ingest_session.specs.State.{SessionState, HasItem, IsAhead, IsClosed, IsSized, IsWhole, is_last, rest_of, turn_node}
 use Rattle.ingest_session.specs.Told as told
 use Rattle.ingest_session.specs.Told.{IsAnswerFor, IsSettled, absent_item, added_item, emptied, placed_front, placed_item, placed_node, sealed, told_by, with_open}
-use Rattle.ingest_session.proofs.Following.{Follows, added_follows, advanced_follows, asked_follows, begun_follows, closing_follows, ending_follows, not_whole, placed_follows, placed_front_follows, placed_node_follows, spelled_follows, taking_follows, waiting_follows, with_follows}
+use Rattle.ingest_session.proofs.Following.{Follows, added_follows, advanced_follows, asked_follows, begun_follows, closing_follows, ending_follows, not_whole, placed_follows, placed_front_follows, placed_node_follows, rest_ahead, spelled_follows, taking_follows, turned_follows, waiting_follows, with_follows}
+use Rattle.ingest_session.proofs.InLine.{turn_is_first}
 use Rattle.ingest_session.proofs.Knowing.{HasChildren, IsOfPiece, IsStored, Knows, children_are_kept}
 use Rattle.ingest_session.proofs.Members.{IsIn, all_then, found_in, in_either, in_left, in_none, in_one, in_right, turn_is}
 use Rattle.ingest_session.proofs.Sealing.{claims_off, no_step_off, open_placed, waits_placed, waits_with, with_item}
-use Rattle.ingest_session.proofs.Waiting.{claimed_children, has_turn, on_and_off, session_of}
+use Rattle.ingest_session.proofs.Waiting.{claimed_children, claimed_turn, has_turn, on_and_off, session_of}
 
 -- ---- what is kept
 
@@ -83,7 +84,7 @@ knows_placed s t h g more knows grows placed follows same new off = record {
 
 -- Nothing went to its place, and an item that waits is the same.
 knows_same : (s t : SessionState) (h : History) (given : List ℕ) → Knows s h → Follows t given h.placed → t.leaves ≡ s.leaves → t.nodes ≡ s.nodes →
-    t.waits ≡ s.waits → (s.waits ≡ true → t.node ≡ s.node) → Knows t (record h { given = given })
+    t.waits ≡ s.waits → (s.waits ≡ true → (turn_node t) ≡ (turn_node s)) → Knows t (record h { given = given })
 knows_same s t h given knows follows leaves nodes waits turn =
     let same = open_same s t leaves nodes in
     record {
@@ -105,9 +106,9 @@ item_there s (Some n) queue is there = found_in s.nodes.segments (node_segment n
 item_there s None [] is there = absurd (let no : false ≡ true = rw is at there in cc)
 item_there s None (x ∷ xs) is there = found_in s.leaves.segments (record { level = 0; bytes = x }) (rw is at there)
 
-turn_stored : (s t : SessionState) (g : History) → IsStored t g (record { kind = item_kind s.node; segment = item_of s.node s.queue }) →
+turn_stored : (s t : SessionState) (g : History) → IsStored t g (record { kind = item_kind (turn_node s); segment = item_of (turn_node s) s.queue }) →
     (p : Piece) → IsIn p (turn s) → IsStored t g (piece_segment p)
-turn_stored s t g stored p there = subst (IsStored t g) (sym (turn_is s.node s.queue p there)) stored
+turn_stored s t g stored p there = subst (IsStored t g) (sym (turn_is (turn_node s) s.queue p there)) stored
 
 -- such an item is in the queue, and the builder has it
 no_ahead : (s : SessionState) (x : List ℕ) (xs : List (List ℕ)) → s.queue ≡ x ∷ xs → s.ahead ≡ None → IsSession s → IsSession (placed_front 1 s) → ⊥
@@ -119,58 +120,68 @@ no_ahead s x xs queue ahead is after =
     let sized : AllByRecursion IsSized (x ∷ xs) = rw queue at is.sized in
     let some = sized.0.0 in omega (arith, one, two, sum, some)
 
-front_is_ahead : (s : SessionState) (queue : List (List ℕ)) (ahead : Option KindSegment) → s.queue ≡ queue → s.ahead ≡ ahead → s.node ≡ None →
-    item_is_there s s.node ≡ true → IsSession s → IsSession (placed_front 1 s) → IsSome ahead
+front_is_ahead : (s : SessionState) (queue : List (List ℕ)) (ahead : Option KindSegment) → s.queue ≡ queue → s.ahead ≡ ahead → turn_node s ≡ None →
+    item_is_there s (turn_node s) ≡ true → IsSession s → IsSession (placed_front 1 s) → IsSome ahead
 front_is_ahead s queue (Some seg) queue_is ahead_is none there is after = refl
-front_is_ahead s [] None queue_is ahead_is none there is after = absurd (let no : false ≡ true = rw (none, queue_is) at there in cc)
+front_is_ahead s [] None queue_is ahead_is none there is after =
+    absurd (let no : false ≡ true = sym (ap (queue_is_there s) queue_is) ∙ sym (ap (item_is_there s) none) ∙ there in cc)
 front_is_ahead s (x ∷ xs) None queue_is ahead_is none there is after = absurd (no_ahead s x xs queue_is ahead_is is after)
+
+-- the tree is whole where its last segment goes to its place
+closed_after : (s : SessionState) (more : ℕ) → IsSome s.ahead → IsSession (placed_front more s) → is_last s.ended (rest_of s) ≡ true → IsSome s.top
+closed_after s more some after last = after.closed (ap (is_last s.ended) (sym (rest_ahead s.ahead s.queue some)) ∙ last)
 
 some_node : (o : Option node.Contents) → IsSome o → (n : node.Contents) × (o ≡ Some n)
 some_node None some = absurd (cc)
 some_node (Some n) some = (n, refl)
 
-item_in_place : (s : SessionState) → needs_no_step s ≡ true → item_is_there s s.node ≡ true
-item_in_place s none = (and_parts (not s.waits) (item_is_there s s.node) none).1
+item_in_place : (s : SessionState) → needs_no_step s ≡ true → item_is_there s (turn_node s) ≡ true
+item_in_place s none = (and_parts (not s.waits) (item_is_there s (turn_node s)) none).1
 
 moved_knows : (s t : SessionState) (h : History) → Knows s h → IsSession s → IsSession t → (step : SettleStep s t) →
     Knows t (record h { placed = h.placed ++ moved step })
+moved_knows s t h knows before after (Turned _ _ off is) =
+    nothing_placed t h
+    (knows_same s t h h.given knows (subst (λ (u : SessionState). Follows u h.given h.placed) (sym is) (turned_follows s _ h.given h.placed knows.follows))
+    (ap (λ (u : SessionState). u.leaves) is) (ap (λ (u : SessionState). u.nodes) is) (ap (λ (u : SessionState). u.waits) is)
+    (λ on. on_and_off _ on off))
 moved_knows s t h knows before after (Spelled _ _ is) =
     nothing_placed t h
     (knows_same s t h h.given knows (subst (λ (u : SessionState). Follows u h.given h.placed) (sym is) (spelled_follows s _ h.given h.placed knows.follows))
     (ap (λ (u : SessionState). u.leaves) is) (ap (λ (u : SessionState). u.nodes) is) (ap (λ (u : SessionState). u.waits) is)
-    (λ on. ap (λ (u : SessionState). u.node) is))
+    (λ on. ap (λ (u : SessionState). (turn_node u)) is))
 moved_knows s t h knows before after (Advanced _ _ is) =
     nothing_placed t h
     (knows_same s t h h.given knows (advanced_follows s t h.given h.placed before.whole is knows.follows)
     (ap (λ (u : SessionState). u.leaves) is.others) (ap (λ (u : SessionState). u.nodes) is.others) (ap (λ (u : SessionState). u.waits) is.others)
-    (λ on. ap (λ (u : SessionState). u.node) is.others))
+    (λ on. ap (λ (u : SessionState). (turn_node u)) is.others))
 moved_knows s t h knows before after (Closed _ _ is) =
     nothing_placed t h
     (knows_same s t h h.given knows (closing_follows s t h.given h.placed is knows.follows)
     (ap (λ (u : SessionState). u.leaves) is.others) (ap (λ (u : SessionState). u.nodes) is.others) (ap (λ (u : SessionState). u.waits) is.others)
-    (λ on. ap (λ (u : SessionState). u.node) is.others))
-moved_knows s t h knows before after (PlacedNode _ _ none some is) =
-    let n = some_node s.node some in
+    (λ on. ap (λ (u : SessionState). (turn_node u)) is.others))
+moved_knows s t h knows before after (PlacedNode _ _ none right some is) =
+    let n = some_node (turn_node s) some in
     let g : History = record h { placed = h.placed ++ turn s } in
-    let there : IsStored s g (record { kind = item_kind s.node; segment = item_of s.node s.queue }) =
-    inr (item_there s s.node s.queue refl (item_in_place s none)) in
+    let there : IsStored s g (record { kind = item_kind (turn_node s); segment = item_of (turn_node s) s.queue }) =
+    inr (item_there s (turn_node s) s.queue refl (item_in_place s none)) in
     let follows : Follows (placed_node s) h.given (h.placed ++ turn s) =
     subst (λ (o : Option node.Contents). Follows (placed_node s) h.given (h.placed ++ turn_of o s.queue)) (sym n.1)
     (placed_node_follows s n.0 h.given h.placed n.1 knows.follows) in
     subst (λ (u : SessionState). Knows u g) (sym is)
     (knows_placed s (placed_node s) h g (turn s) knows (λ kind x kept. kept) refl follows (open_same s (placed_node s) refl refl)
-    (turn_stored s (placed_node s) g there) (no_step_off s.waits (item_is_there s s.node) none))
-moved_knows s t h knows before after (PlacedFront _ _ none empty is) =
+    (turn_stored s (placed_node s) g there) (no_step_off s.waits (item_is_there s (turn_node s)) none))
+moved_knows s t h knows before after (PlacedFront _ _ none right empty is) =
     let g : History = record h { placed = h.placed ++ turn s } in
-    let there : IsStored s g (record { kind = item_kind s.node; segment = item_of s.node s.queue }) =
-    inr (item_there s s.node s.queue refl (item_in_place s none)) in
+    let there : IsStored s g (record { kind = item_kind (turn_node s); segment = item_of (turn_node s) s.queue }) =
+    inr (item_there s (turn_node s) s.queue refl (item_in_place s none)) in
     let some = front_is_ahead s s.queue s.ahead refl refl empty (item_in_place s none) before (subst IsSession is after) in
     let follows : Follows (placed_front 1 s) h.given (h.placed ++ turn s) =
     subst (λ (o : Option node.Contents). Follows (placed_front 1 s) h.given (h.placed ++ turn_of o s.queue)) (sym empty)
-    (placed_front_follows s 1 h.given h.placed empty some before.ahead knows.follows) in
+    (placed_front_follows s 1 h.given h.placed some before.ahead before.whole (closed_after s 1 some (subst IsSession is after)) knows.follows) in
     subst (λ (u : SessionState). Knows u g) (sym is)
     (knows_placed s (placed_front 1 s) h g (turn s) knows (λ kind x kept. kept) refl follows (open_same s (placed_front 1 s) refl refl)
-    (turn_stored s (placed_front 1 s) g there) (no_step_off s.waits (item_is_there s s.node) none))
+    (turn_stored s (placed_front 1 s) g there) (no_step_off s.waits (item_is_there s (turn_node s)) none))
 
 -- ---- an item that was answered Held
 
@@ -181,18 +192,18 @@ same_kind_self Tree = refl
 answer_grows : (answer : Answer) (s : SessionState) (h : History) → Grows h (answered answer s h)
 answer_grows answer s h kind x is = both_grow (h.held kind) (h.sealed kind) _ _ x is
 
-held_knows : (s : SessionState) (h : History) → Knows s h → IsSession s → HasItem s.node s.spelled s.ahead → s.waits ≡ false →
-    Knows (placed_item s.node s) (answered Held s h)
-held_knows s h knows is has off =
-    let kind = item_kind s.node in
-    let item = item_of s.node s.queue in
+held_knows : (s : SessionState) (h : History) → Knows s h → IsSession s → HasItem (turn_node s) s.spelled s.ahead → IsClosed s → s.waits ≡ false →
+    Knows (placed_item (turn_node s) s) (answered Held s h)
+held_knows s h knows is has closed off =
+    let kind = item_kind (turn_node s) in
+    let item = item_of (turn_node s) s.queue in
     let g = answered Held s h in
     let held : IsIn item (item_if kind s) =
     subst (λ (b : Bool). IsIn item (if b then item ∷ [] else [])) (sym (same_kind_self kind)) (0, refl) in
     let kept : IsKept g kind item = in_left (g.held kind) (g.sealed kind) item (in_right (h.held kind) (item_if kind s) item held) in
-    knows_placed s (placed_item s.node s) h g (turn s) knows (answer_grows Held s h) refl
-    (placed_follows s h.given h.placed has is.ahead knows.follows) (open_placed s.node s) (turn_stored s (placed_item s.node s) g (inl kept))
-    (waits_placed s.node s ∙ off)
+    knows_placed s (placed_item (turn_node s) s) h g (turn s) knows (answer_grows Held s h) refl
+    (placed_follows s h.given h.placed has is.ahead is.whole closed knows.follows) (open_placed (turn_node s) s) (turn_stored s (placed_item (turn_node s) s) g (inl kept))
+    (waits_placed (turn_node s) s ∙ off)
 
 -- ---- an item that was answered Absent
 
@@ -214,16 +225,16 @@ added_children : (g : History) (n : Option node.Contents) (queue : List (List �
 added_children g None queue x kept is = absurd (in_none x is)
 added_children g (Some n) queue x kept is = subst (HasChildren g) (sym (in_one (node_segment n).segment x is)) (kept n refl)
 
-module _ (s : SessionState) (h g : History) (knows : Knows s h) (has : HasItem s.node s.spelled s.ahead) (ahead : IsAhead s.ahead s.queue)
-    (off : s.waits ≡ false) (grows : Grows h g) (given : g.given ≡ h.given)
-    (kept : (n : node.Contents) → s.node ≡ Some n → HasChildren g (node_segment n).segment) where
-  added_knows : g.placed ≡ h.placed ++ turn s → Knows (placed_item s.node (added_item s)) g
+module _ (s : SessionState) (h g : History) (knows : Knows s h) (has : HasItem (turn_node s) s.spelled s.ahead) (ahead : IsAhead s.ahead s.queue)
+    (whole : IsWhole s.top (is_last s.ended (rest_of s))) (closed : IsClosed s) (off : s.waits ≡ false) (grows : Grows h g) (given : g.given ≡ h.given)
+    (kept : (n : node.Contents) → (turn_node s) ≡ Some n → HasChildren g (node_segment n).segment) where
+  added_knows : g.placed ≡ h.placed ++ turn s → Knows (placed_item (turn_node s) (added_item s)) g
   added_knows placed =
-      let t : SessionState = placed_item s.node (added_item s) in
-      let mine = item_kind s.node in
-      let item = item_of s.node s.queue in
+      let t : SessionState = placed_item (turn_node s) (added_item s) in
+      let mine = item_kind (turn_node s) in
+      let item = item_of (turn_node s) s.queue in
       let opens : (kind : Kind) → (open_of t kind).segments ≡ (open_of s kind).segments ++ (if same_kind kind mine then item ∷ [] else []) = λ kind.
-      ap (λ (c : Contents). c.segments) (open_placed s.node (added_item s) kind) ∙ with_item s kind mine item in
+      ap (λ (c : Contents). c.segments) (open_placed (turn_node s) (added_item s) kind) ∙ with_item s kind mine item in
       let stored_on : (seg : KindSegment) → IsStored s h seg → IsStored t g seg = λ seg stored.
       elim stored [
         | inl old ↦ inl (grows seg.kind seg.segment old)
@@ -232,12 +243,12 @@ module _ (s : SessionState) (h g : History) (knows : Knows s h) (has : HasItem s
       let new : IsIn item (open_of t mine).segments =
       subst (IsIn item) (sym (opens mine)) (in_right (open_of s mine).segments _ item
       (subst (λ (b : Bool). IsIn item (if b then item ∷ [] else [])) (sym (same_kind_self mine)) (0, refl))) in
-      let piece = turn_piece s.node s.queue (has_turn s.node s.spelled s.ahead s.queue has ahead) in
-      let is_piece = turn_is s.node s.queue piece.0 piece.1 in
+      let piece = turn_piece (turn_node s) s.queue (has_turn (turn_node s) s.spelled s.ahead s.queue has ahead) in
+      let is_piece = turn_is (turn_node s) s.queue piece.0 piece.1 in
       record {
         follows =
             subst (λ (bytes : List ℕ). Follows t bytes g.placed) (sym given)
-            (subst (Follows t h.given) (sym placed) (added_follows s mine _ h.given h.placed has ahead knows.follows));
+            (subst (Follows t h.given) (sym placed) (added_follows s mine _ h.given h.placed has ahead whole closed knows.follows));
         stored = λ p there.
             elim (in_either h.placed (turn s) p (subst (IsIn p) placed there)) [
               | inl old ↦ stored_on (piece_segment p) (knows.stored p old)
@@ -252,9 +263,9 @@ module _ (s : SessionState) (h g : History) (knows : Knows s h) (has : HasItem s
         children = λ x there.
             elim (in_either s.nodes.segments _ x (subst (IsIn x) (opens Tree) there)) [
               | inl old ↦ children_grow h g grows x (knows.children x old)
-              | inr added ↦ added_children g s.node s.queue x kept added
+              | inr added ↦ added_children g (turn_node s) s.queue x kept added
             ];
-        waiting = λ n on turn. on_and_off _ on (waits_placed s.node (added_item s) ∙ waits_with s mine _ ∙ off);
+        waiting = λ n on turn. on_and_off _ on (waits_placed (turn_node s) (added_item s) ∙ waits_with s mine _ ∙ off);
       }
 
   waiting_knows : g.placed ≡ h.placed ++ [] → Knows (record s { waits = true }) g
@@ -275,7 +286,7 @@ module _ (s : SessionState) (h g : History) (knows : Knows s h) (has : HasItem s
       }
 
   absent_knows : (fit : Bool) → g.placed ≡ h.placed ++ placed_if fit s →
-      Knows (if fit then placed_item s.node (added_item s) else record s { waits = true }) g
+      Knows (if fit then placed_item (turn_node s) (added_item s) else record s { waits = true }) g
   absent_knows true placed = added_knows placed
   absent_knows false placed = waiting_knows placed
 
@@ -335,12 +346,12 @@ unwaited : (s : SessionState) (mine : Kind) → record (emptied mine s) { waits 
 unwaited s Leaf = refl
 unwaited s Tree = refl
 
-node_emptied : (s : SessionState) (mine : Kind) (waits : Bool) → (record (emptied mine s) { waits = waits }).node ≡ s.node
+node_emptied : (s : SessionState) (mine : Kind) (waits : Bool) → turn_node (record (emptied mine s) { waits = waits }) ≡ turn_node s
 node_emptied s Leaf waits = refl
 node_emptied s Tree waits = refl
 
-has_emptied : (s : SessionState) (mine : Kind) (waits : Bool) → HasItem s.node s.spelled s.ahead →
-    let t : SessionState = record (emptied mine s) { waits = waits } in HasItem t.node t.spelled t.ahead
+has_emptied : (s : SessionState) (mine : Kind) (waits : Bool) → HasItem (turn_node s) s.spelled s.ahead →
+    let t : SessionState = record (emptied mine s) { waits = waits } in HasItem (turn_node t) t.spelled t.ahead
 has_emptied s Leaf waits has = has
 has_emptied s Tree waits has = has
 
@@ -348,6 +359,15 @@ ahead_emptied : (s : SessionState) (mine : Kind) (waits : Bool) → IsAhead s.ah
     let t : SessionState = record (emptied mine s) { waits = waits } in IsAhead t.ahead t.queue
 ahead_emptied s Leaf waits ahead = ahead
 ahead_emptied s Tree waits ahead = ahead
+
+whole_emptied : (s : SessionState) (mine : Kind) (waits : Bool) → IsWhole s.top (is_last s.ended (rest_of s)) →
+    let t : SessionState = record (emptied mine s) { waits = waits } in IsWhole t.top (is_last t.ended (rest_of t))
+whole_emptied s Leaf waits whole = whole
+whole_emptied s Tree waits whole = whole
+
+closed_emptied : (s : SessionState) (mine : Kind) (waits : Bool) → IsClosed s → IsClosed (record (emptied mine s) { waits = waits })
+closed_emptied s Leaf waits closed = closed
+closed_emptied s Tree waits closed = closed
 
 turn_emptied : (s : SessionState) (mine : Kind) (fit : Bool) → placed_if fit s ≡ placed_if fit (record (emptied mine s) { waits = false })
 turn_emptied s mine false = refl
@@ -376,7 +396,7 @@ module _ (s : SessionState) (h : History) (id : ℕ) (knows : Knows s h) (is : I
       ∙ ap (λ (b : Bool). h.placed ++ (if b then placed_if (fits e) s else [])) on
       ∙ ap (λ (ps : List Piece). h.placed ++ ps) (turn_emptied s mine (fits e)) in
       absent_knows e (emptied_history mine s h) g (emptied_knows s h mine false refl knows) (has_emptied s mine false (is.waits on).0)
-      (ahead_emptied s mine false is.ahead) refl (sealed_grows mine due) refl
+      (ahead_emptied s mine false is.ahead) (whole_emptied s mine false is.whole) (closed_emptied s mine false (is.waits on).1) refl (sealed_grows mine due) refl
       (λ n turn. children_grow h g (answer_grows (Sealed id) s h) (node_segment n).segment (knows.waiting n on (sym (node_emptied s mine false) ∙ turn)))
       (fits e) placed
   sealed_knows mine false off due =
@@ -393,10 +413,10 @@ module _ (s : SessionState) (h : History) (id : ℕ) (knows : Knows s h) (is : I
 
 told_knows : (s : SessionState) (answer : Answer) (h : History) → Knows s h → IsSession s → IsSettled s → IsAnswerFor answer (due_in s) →
     Knows (told_by answer s) (answered answer s h)
-told_knows s Held h knows is settled due = held_knows s h knows is (settled.claim due) (claims_off s due)
+told_knows s Held h knows is settled due = held_knows s h knows is (settled.claim due) settled.closed (claims_off s due)
 told_knows s Absent h knows is settled due =
-    absent_knows s h (answered Absent s h) knows (settled.claim due) is.ahead (claims_off s due) (answer_grows Absent s h) refl
-    (λ n turn. children_grow h (answered Absent s h) (answer_grows Absent s h) (node_segment n).segment (children_are_kept s h knows is n turn (claimed_children s n turn due)))
+    absent_knows s h (answered Absent s h) knows (settled.claim due) is.ahead is.whole settled.closed (claims_off s due) (answer_grows Absent s h) refl
+    (λ n turn. children_grow h (answered Absent s h) (answer_grows Absent s h) (node_segment n).segment (children_are_kept s h knows is n (turn_is_first s.turn s.line n turn) (claimed_children s n (sym (claimed_turn s settled due) ∙ turn) due)))
     (fits s) refl
 told_knows s (Sealed id) h knows is settled due =
     subst (λ (d : Due). Knows (told.sealed_by d s) (answered (Sealed id) s h)) (sym due.1) (sealed_knows s h id knows is due.0 s.waits refl due.1)
@@ -404,9 +424,9 @@ told_knows s other h knows is settled due = absurd due
 
 -- ---- all calls
 
-begun_knows : (s : SessionState) → IsBegun s → Knows s no_history
-begun_knows s is = record {
-  follows = begun_follows s is;
+begun_knows : (s : SessionState) → IsSession s → IsBegun s → Knows s no_history
+begun_knows s session is = record {
+  follows = begun_follows s session is;
   stored = λ p there. absurd (in_none p there);
   opens = λ kind x there. absurd (none_open kind x there);
   children = λ x there. absurd (none_open Tree x there);
@@ -418,15 +438,15 @@ begun_knows s is = record {
     none_open Tree x there = in_none x (subst (IsIn x) is.nodes there)
 
 pub known : (s : SessionState) (h : History) → HasHistory s h → Knows s h
-known s _ (Begun _ _ is) = begun_knows s is
+known s _ (Begun _ session is) = begun_knows s session is
 known t _ (Pushed s _ h bytes has _ is) =
     let before = known s h has in
     knows_same s t h (h.given ++ bytes) before (taking_follows s t h.given bytes h.placed (session_of s h has).ahead is before.follows)
     (ap (λ (u : SessionState). u.leaves) is.others) (ap (λ (u : SessionState). u.nodes) is.others) (ap (λ (u : SessionState). u.waits) is.others)
     (λ on. (is.item on).0)
-known t h (Ended s _ _ has _ is) =
+known t h (Ended s _ _ has after is) =
     let before = known s h has in
-    knows_same s t h h.given before (ending_follows s t h.given h.placed (session_of s h has).ahead is before.follows)
+    knows_same s t h h.given before (ending_follows s t h.given h.placed (session_of s h has) after is before.follows)
     (ap (λ (u : SessionState). u.leaves) is.others) (ap (λ (u : SessionState). u.nodes) is.others) (ap (λ (u : SessionState). u.waits) is.others)
     (λ on. (is.item on).0)
 known t _ (Moved s _ h has is step) = moved_knows s t h (known s h has) (session_of s h has) is step
@@ -434,5 +454,5 @@ known t h (Asked s _ _ has _ is) =
     let before = known s h has in
     knows_same s t h h.given before (subst (λ (u : SessionState). Follows u h.given h.placed) (sym is) (asked_follows s t.unseen h.given h.placed before.follows))
     (ap (λ (u : SessionState). u.leaves) is) (ap (λ (u : SessionState). u.nodes) is) (ap (λ (u : SessionState). u.waits) is)
-    (λ on. ap (λ (u : SessionState). u.node) is)
+    (λ on. ap (λ (u : SessionState). (turn_node u)) is)
 known _ _ (Told s answer h has _ settled due _) = told_knows s answer h (known s h has) (session_of s h has) settled due

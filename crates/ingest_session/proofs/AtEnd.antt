@@ -75,7 +75,7 @@ module _ (s : SessionState) (is : IsSession s) (ongoing : s.ended ≡ false) whe
         next = is.next;
         nodes_right = is.nodes_right;
         full = λ on. full_stays s x (is.waits on).0 is.ahead (is.full on);
-        alone = is.alone;
+        line = is.line;
         waits = λ on. ((is.waits on).0, λ _ at_end. absurd (not_last_and_one (rest_of s) x (ap (is_last true) (sym grows) ∙ at_end)));
       }
 
@@ -103,6 +103,6 @@ module _ (s : SessionState) (is : IsSession s) (ongoing : s.ended ≡ false) whe
         next = is.next;
         nodes_right = is.nodes_right;
         full = is.full;
-        alone = is.alone;
+        line = is.line;
         waits = λ on. ((is.waits on).0, λ _ at_end. absurd (yes_and_no _ at_end not_last));
       }

@@ -1,11 +1,12 @@
 -- A new session.
-use Rattle.std.proofs.Common.{◌≡◌, ◌∙◌, ℕ, false, List, [], None, refl, arith}
+use Rattle.std.proofs.Common.{◌≡◌, ◌∙◌, ℕ, false, List, [], None, length, map, refl, ap, arith}
 use Rattle.container_meta.specs.declared.kind.Kind.TheVariants.{Leaf, Tree}
 use Rattle.container_meta.specs.Segments.{Contents}
 use Rattle.segmenter.specs.Cutting.{Hand, empty_hand}
 use Rattle.merkle_file.specs.Form.{ByCount}
-use Rattle.merkle_file.specs.Tree.{itself}
-use Rattle.merkle_file.specs.Building.{Progress, Holds, open_trees, whole_from, rest_from, nodes_in_rows, open_over, total_of}
+use Rattle.merkle_file.specs.Node as node
+use Rattle.merkle_file.specs.Tree.{child_of, itself}
+use Rattle.merkle_file.specs.Building.{Progress, Holds, levels_left, open_trees, whole_from, rest_from, nodes_in_rows, open_over, total_of}
 use Rattle.ingest_session.specs.Sound.{IsSession}
 use Rattle.ingest_session.proofs.Uncut.{empty_is_uncut}
 
@@ -16,7 +17,12 @@ nothing_is_finished = refl
 new_builder_has_no_node : (b : Progress) → Holds b [] [] → b.finished ≡ []
 new_builder_has_no_node b holds = holds.nodes ∙ nothing_is_finished
 
-pub new_is_session : (hand : Hand) (queue : List (List ℕ)) (b : Progress) (leaves nodes : Contents) → hand ≡ empty_hand → queue ≡ [] → Holds b [] []
+nothing_is_begun : levels_left (map (map (child_of itself)) (open_over ByCount [])) ≡ 0
+unfolding open_trees whole_from rest_from
+nothing_is_begun = refl
+
+pub new_is_session : (hand : Hand) (queue : List (List ℕ)) (line : List node.Contents) (b : Progress) (leaves nodes : Contents) → hand ≡ empty_hand → queue ≡ []
+    → line ≡ [] → Holds b [] []
     → leaves ≡ record { kind = Leaf; segments = [] } → nodes ≡ record { kind = Tree; segments = [] }
     → IsSession (record {
       count = 0;
@@ -24,8 +30,9 @@ pub new_is_session : (hand : Hand) (queue : List (List ℕ)) (b : Progress) (lea
       hand = hand;
       queue = queue;
       ahead = None;
-      node = None;
+      line = line;
       spelled = None;
+      turn = Leaf;
       built = b;
       top = None;
       leaves = leaves;
@@ -33,10 +40,10 @@ pub new_is_session : (hand : Hand) (queue : List (List ℕ)) (b : Progress) (lea
       waits = false;
       unseen = 0;
     })
-new_is_session hand queue b leaves nodes empty none holds first second =
+new_is_session hand queue line b leaves nodes empty none unlined holds first second =
     let bytes : total_of b.rows ≡ 0 = holds.length in
     let count : b.leaves ≡ 0 = holds.count in
-    rw (empty, none, first, second)
+    rw (empty, none, unlined, first, second)
     (record {
       data_kind = refl;
       tree_kind = refl;
@@ -51,9 +58,11 @@ new_is_session hand queue b leaves nodes empty none holds first second =
       building = record { bytes = λ top. omega (arith, bytes); long = tt; counted = λ top last. omega (arith, count) };
       whole = tt;
       closed = λ last. absurd (cc);
-      next = λ turn ahead. new_builder_has_no_node b holds;
+      next = λ ahead. new_builder_has_no_node b holds;
+      line =
+          let finished = ap length (new_builder_has_no_node b holds) in
+          let levels = ap levels_left holds.rows ∙ nothing_is_begun in omega (arith, finished, levels);
       nodes_right = tt;
-      alone = λ some. absurd (cc);
       waits = λ on. absurd (cc);
       full = λ on. absurd (cc);
     })

@@ -11,9 +11,9 @@ use Rattle.ingest_session.specs.Due.{HasTurn, due_in, item_kind, open_of}
 use Rattle.ingest_session.specs.Sound.{IsSession}
 use Rattle.ingest_session.specs.Filling.{with_segment}
 use Rattle.ingest_session.specs.Items.{fits, item_of}
-use Rattle.ingest_session.specs.Settling.{SettleStep, Spelled, Advanced, Closed, PlacedNode, PlacedFront}
-use Rattle.ingest_session.specs.State.{SessionState}
-use Rattle.ingest_session.specs.Told.{IsAnswerFor, absent_item, added_item, emptied, placed_item, told_by, with_open}
+use Rattle.ingest_session.specs.Settling.{SettleStep, Turned, Spelled, Advanced, Closed, PlacedNode, PlacedFront}
+use Rattle.ingest_session.specs.State.{SessionState, turn_node}
+use Rattle.ingest_session.specs.Told.{IsAnswerFor, IsSettled, absent_item, added_item, emptied, placed_item, told_by, with_open}
 use Rattle.ingest_session.specs.Facts.{StepsAreFew, one_if}
 use Rattle.ingest_session.specs.History.{History, HasHistory, Begun, Pushed, Ended, Moved, Asked, Told, SealsSome, moved, placed_by, placed_if, turn, turn_of}
 use Rattle.ingest_session.proofs.Sealing.{claims_off}
@@ -64,7 +64,7 @@ unfolding filled_in
 filled_waiting s = refl
 
 after_absent : SessionState → Bool → SessionState
-after_absent s fit = if fit then placed_item s.node (added_item s) else record s { waits = true }
+after_absent s fit = if fit then placed_item (turn_node s) (added_item s) else record s { waits = true }
 
 -- an item whose turn it is, is one piece
 turn_is_one : (n : Option node.Contents) (queue : List (List ℕ)) → HasTurn n queue → length (turn_of n queue) ≡ 1
@@ -72,21 +72,21 @@ turn_is_one (Some n) queue has = refl
 turn_is_one None [] has = absurd has
 turn_is_one None (x ∷ xs) has = refl
 
-absent_few : (s : SessionState) (fit : Bool) → HasTurn s.node s.queue → s.waits ≡ false →
+absent_few : (s : SessionState) (fit : Bool) → HasTurn (turn_node s) s.queue → s.waits ≡ false →
     filled_in (after_absent s fit) + 1 ≤ filled_in s + 2 * length (placed_if fit s) + one_if (after_absent s fit).waits
 unfolding after_absent
 absent_few s true has off =
-    let one = turn_is_one s.node s.queue has in
-    let same = filled_placed s.node (added_item s) in
-    let more = filled_with s (item_kind s.node) (with_segment (open_of s (item_kind s.node)) (item_of s.node s.queue)) in omega (arith, one, same, more)
+    let one = turn_is_one (turn_node s) s.queue has in
+    let same = filled_placed (turn_node s) (added_item s) in
+    let more = filled_with s (item_kind (turn_node s)) (with_segment (open_of s (item_kind (turn_node s))) (item_of (turn_node s) s.queue)) in omega (arith, one, same, more)
 absent_few s false has off = let same = filled_waiting s in omega (arith, same)
 
 turn_emptied : (s : SessionState) (kind : Kind) → turn (record (emptied kind s) { waits = false }) ≡ turn s
 turn_emptied s Leaf = refl
 turn_emptied s Tree = refl
 
-has_turn_emptied : (s : SessionState) (kind : Kind) → HasTurn s.node s.queue →
-    HasTurn (record (emptied kind s) { waits = false }).node (record (emptied kind s) { waits = false }).queue
+has_turn_emptied : (s : SessionState) (kind : Kind) → HasTurn (turn_node s) s.queue →
+    HasTurn (turn_node (record (emptied kind s) { waits = false })) (record (emptied kind s) { waits = false }).queue
 has_turn_emptied s Leaf has = has
 has_turn_emptied s Tree has = has
 
@@ -94,7 +94,7 @@ pub placed_emptied : (s : SessionState) (kind : Kind) (fit : Bool) → placed_if
 placed_emptied s kind true = turn_emptied s kind
 placed_emptied s kind false = refl
 
-sealed_few : (s : SessionState) (kind : Kind) (waits : Bool) → s.waits ≡ waits → (waits ≡ true → HasTurn s.node s.queue) → 1 ≤ length (open_of s kind).segments →
+sealed_few : (s : SessionState) (kind : Kind) (waits : Bool) → s.waits ≡ waits → (waits ≡ true → HasTurn (turn_node s) s.queue) → 1 ≤ length (open_of s kind).segments →
     let t : SessionState = if waits then absent_item (record (emptied kind s) { waits = false }) else emptied kind s in
     filled_in t + 1 + one_if waits
     ≤ filled_in s + 2 * length (if waits then placed_if (fits (record (emptied kind s) { waits = false })) s else []) + one_if t.waits
@@ -108,27 +108,28 @@ sealed_few s kind false off has some =
     let gone = filled_emptied s kind some in
     let same = unwaited s kind in omega (arith, gone, same)
 
-told_few : (answer : Answer) (s : SessionState) → IsSession s → IsAnswerFor answer (due_in s) → SealsSome (due_in s) s →
+told_few : (answer : Answer) (s : SessionState) → IsSession s → IsSettled s → IsAnswerFor answer (due_in s) → SealsSome (due_in s) s →
     filled_in (told_by answer s) + 1 + one_if s.waits ≤ filled_in s + 2 * length (placed_by answer s) + one_if (told_by answer s).waits
 unfolding after_absent
-told_few Held s session is some =
-    let one = turn_is_one s.node s.queue (claimed_has_turn s is) in
-    let same = filled_placed s.node s in
+told_few Held s session settled is some =
+    let one = turn_is_one (turn_node s) s.queue (claimed_has_turn s settled is) in
+    let same = filled_placed (turn_node s) s in
     let off = ap one_if (claims_off s is) in omega (arith, one, same, off)
-told_few Absent s session is some =
-    let few = absent_few s (fits s) (claimed_has_turn s is) (claims_off s is) in
+told_few Absent s session settled is some =
+    let few = absent_few s (fits s) (claimed_has_turn s settled is) (claims_off s is) in
     let off = ap one_if (claims_off s is) in omega (arith, few, off)
-told_few (Sealed id) s session is some =
+told_few (Sealed id) s session settled is some =
     rw is.1 (sealed_few s is.0 s.waits refl (λ on. waiting_has_turn s session on) (subst (λ (due : Due). SealsSome due s) is.1 some))
-told_few other s session is some = absurd is
+told_few other s session settled is some = absurd is
 
 moved_few : (s t : SessionState) (step : SettleStep s t) → filled_in t + one_if s.waits ≤ filled_in s + 2 * length (moved step) + one_if t.waits
 unfolding filled_in
+moved_few s t (Turned _ _ off is) = rw is (search rules)
 moved_few s t (Spelled _ _ is) = rw is (search rules)
 moved_few s t (Advanced _ _ is) = rw is.others (search rules)
 moved_few s t (Closed _ _ is) = rw is.others (search rules)
-moved_few s t (PlacedNode _ _ none some is) = rw is (search rules)
-moved_few s t (PlacedFront _ _ none empty is) = rw is (search rules)
+moved_few s t (PlacedNode _ _ none right some is) = rw is (search rules)
+moved_few s t (PlacedFront _ _ none right empty is) = rw is (search rules)
 
 all_few : (s : SessionState) (h : History) → HasHistory s h → length h.answers + filled_in s ≤ 2 * length h.placed + one_if s.waits
 unfolding filled_in some_in
@@ -140,11 +141,11 @@ all_few t _ (Moved s _ h has _ step) =
     let before = all_few s h has in
     let more = length-append h.placed (moved step) in
     let step_is = moved_few s t step in omega (arith, before, more, step_is)
-all_few _ _ (Told s answer h has _ _ is some) =
+all_few _ _ (Told s answer h has _ settled is some) =
     let before = all_few s h has in
     let more = length-append h.placed (placed_by answer s) in
     let one = length-append h.answers (answer ∷ []) in
-    let few = told_few answer s (session_of s h has) is some in omega (arith, before, more, one, few)
+    let few = told_few answer s (session_of s h has) settled is some in omega (arith, before, more, one, few)
 
 pub steps_are_few : StepsAreFew
 steps_are_few s h has = let few = all_few s h has in omega (arith, few)

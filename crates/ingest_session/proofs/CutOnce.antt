@@ -7,7 +7,7 @@ use Rattle.segmenter.specs.Segments.{first_from, first_length, is_boundary, segm
 use Rattle.segmenter.specs.Cutting.{Hand, HasCut, ends_segment}
 use Rattle.segmenter.proofs.RunLemmas.{HasCut-finish}
 use Rattle.segmenter.proofs.SegmentLemmas.{first_length-le, first_length-least, first_length-long, is_boundary-append, segments_of-first, segments_of-none}
-use Rattle.ingest_session.specs.Stream.{IsUncut}
+use Rattle.ingest_session.specs.Stream.{IsCutInto, IsUncut}
 use Rattle.ingest_session.proofs.Waiting.{on_and_off}
 
 -- ---- where a segment ends
@@ -97,3 +97,9 @@ module _ (given : List ℕ) (ones others : List (List ℕ)) (hand other : Hand) 
 
   pub cut_once : ones ≡ others
   cut_once = cut_by hand.bytes other.bytes refl refl
+
+-- the same bytes in two sessions, before the end or after it
+pub cut_alike : (ended : Bool) (given : List ℕ) (ones others : List (List ℕ)) (hand other : Hand) → IsCutInto ended given ones hand
+    → IsCutInto ended given others other → IsUncut hand → IsUncut other → ones ≡ others
+cut_alike true given ones others hand other one two first second = sym one.0 ∙ two.0
+cut_alike false given ones others hand other one two first second = cut_once given ones others hand other one two first second

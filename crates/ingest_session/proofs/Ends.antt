@@ -1,8 +1,7 @@
 -- When a file has ended and nothing is due, all of it is kept.
 use Rattle.std.proofs.Common.{◌≡◌, ◌≤◌, ◌∙◌, ℕ, Bool, true, false, inl, inr, if◌then◌else◌, List, [], ◌∷◌, ◌++◌, Option, Some, None, IsSome, length, take, refl, sym, ap, subst, append-nil, take_all, arith}
-use Rattle.std.proofs.lemmas.Bool.{ne_eqb}
+use Rattle.std.proofs.lemmas.Bool.{ne_eqb, or_left, or_right}
 use Rattle.std.specs.Prelude.{◌==◌, not}
-use Rattle.std.specs.Option.{option_to_list}
 use Rattle.disk_format.specs.declared.numbers.TheConstants.{MOST_FILE}
 use Rattle.disk_format.specs.Cells.{Root}
 use Rattle.container_meta.specs.declared.kind.Kind.{Kind}
@@ -24,10 +23,10 @@ use Rattle.ingest_session.specs.declared.due.Due.{Due}
 use Rattle.ingest_session.specs.declared.due.Due.TheVariants.{Claim, Seal, Nothing}
 use Rattle.ingest_session.specs.Calls.{ready_by, root_by}
 use Rattle.ingest_session.specs.Child.{has_child_of}
-use Rattle.ingest_session.specs.Due.{due_in, end_due, item_due, item_kind, node_due, open_of, queue_due}
+use Rattle.ingest_session.specs.Due.{due_in, due_node, end_due, is_node_due, item_due, item_kind, node_due, open_of, queue_due, turn_for}
 use Rattle.ingest_session.specs.Facts.{AllIsKept, BytesAreCounted, IsKept, data_in, nodes_in}
 use Rattle.ingest_session.specs.History.{History, HasHistory}
-use Rattle.ingest_session.specs.State.{SessionState, IsAhead, is_last, rest_of}
+use Rattle.ingest_session.specs.State.{SessionState, IsAhead, is_last, node_in_turn, rest_of, turn_node}
 use Rattle.ingest_session.specs.Stream.{IsCutInto}
 use Rattle.ingest_session.proofs.Answering.{known}
 use Rattle.ingest_session.proofs.Following.{IsBuilt, begun, pushed_and_rest, pushed_of, taken_of}
@@ -92,7 +91,7 @@ module _ (s : SessionState) (top : Top) (h : History) (has : HasHistory s h) (en
 -- nothing is to be done
 record IsDone (s : SessionState) : Type 0 where
   waits : s.waits ≡ false
-  turn : s.node ≡ None
+  line : s.line ≡ []
   queue : s.queue ≡ []
   leaves : s.leaves.segments ≡ []
   nodes : s.nodes.segments ≡ []
@@ -126,12 +125,22 @@ end_done s ended due =
     let nodes = no_seal (not (length s.nodes.segments == 0)) Tree Nothing leaves.1 in
     (none_in s.leaves.segments leaves.0, none_in s.nodes.segments nodes.0)
 
+-- a node that stands in line at the end is due
+pub due_at_end : (s : SessionState) (n : node.Contents) → is_last s.ended s.queue ≡ true → is_node_due s n ≡ true
+due_at_end s n last = or_left _ _ (or_right _ _ last)
+
+line_done : (s : SessionState) (line : List node.Contents) → is_last s.ended s.queue ≡ true → node_in_turn (turn_for s line) line ≡ None → line ≡ []
+line_done s [] last none = refl
+line_done s (n ∷ ns) last none =
+    absurd (let some : Some n ≡ None = ap (λ (b : Bool). node_in_turn (if b then Tree else Leaf) (n ∷ ns)) (sym (due_at_end s n last)) ∙ none in cc)
+
 done_in : (s : SessionState) → s.ended ≡ true → due_in s ≡ Nothing → IsDone s
 done_in s ended due =
-    let waits = no_seal s.waits (item_kind s.node) _ due in
-    let item = item_done s s.node waits.1 in
+    let waits = no_seal s.waits (item_kind (turn_node s)) _ due in
+    let item = item_done s (due_node s) waits.1 in
     let open_ones = end_done s ended item.2 in
-    record { waits = waits.0; turn = item.0; queue = item.1; leaves = open_ones.0; nodes = open_ones.1 }
+    let last : is_last s.ended s.queue ≡ true = rw (ended, item.1) refl in
+    record { waits = waits.0; line = line_done s s.line last item.0; queue = item.1; leaves = open_ones.0; nodes = open_ones.1 }
 
 pub none_begun : (ahead : Option KindSegment) (queue : List (List ℕ)) → IsAhead ahead queue → queue ≡ [] → (ahead ≡ None) × (begun ahead queue ≡ [])
 none_begun None queue is none = (refl, refl)
@@ -143,7 +152,7 @@ some_top None some = absurd (cc)
 some_top (Some top) some = (top, refl)
 
 -- no item is left
-module _ (s : SessionState) (h : History) (has : HasHistory s h) (ended : s.ended ≡ true) (turn : s.node ≡ None) (queue : s.queue ≡ []) where
+module _ (s : SessionState) (h : History) (has : HasHistory s h) (ended : s.ended ≡ true) (line : s.line ≡ []) (queue : s.queue ≡ []) where
   the_top : (top : Top) × (s.top ≡ Some top)
   the_top =
       let last : is_last s.ended s.queue ≡ true = rw (ended, queue) refl in
@@ -159,19 +168,19 @@ module _ (s : SessionState) (h : History) (has : HasHistory s h) (ended : s.ende
   pub nodes_at_end : nodes_of_file h.given ≡ nodes_in h.placed
   nodes_at_end =
       let is = session_of s h has in
-      let finished = is.next turn (none_begun s.ahead s.queue is.ahead queue).0 in
+      let finished = is.next (none_begun s.ahead s.queue is.ahead queue).0 in
       nodes_are_taken s the_top.0 h has ended the_top.1
       ∙ ap (λ (ns : List node.Contents). taken_of s h.placed ++ ns) finished
       ∙ append-nil (taken_of s h.placed)
-      ∙ ap (λ (o : Option node.Contents). nodes_in h.placed ++ option_to_list o) turn
+      ∙ ap (λ (ns : List node.Contents). nodes_in h.placed ++ ns) line
       ∙ append-nil (nodes_in h.placed)
 
 module _ (s : SessionState) (h : History) (has : HasHistory s h) (ended : s.ended ≡ true) (due : due_in s ≡ Nothing) where
   all_segments : segments_of h.given ≡ data_in h.placed
-  all_segments = segments_at_end s h has ended (done_in s ended due).turn (done_in s ended due).queue
+  all_segments = segments_at_end s h has ended (done_in s ended due).line (done_in s ended due).queue
 
   all_nodes : nodes_of_file h.given ≡ nodes_in h.placed
-  all_nodes = nodes_at_end s h has ended (done_in s ended due).turn (done_in s ended due).queue
+  all_nodes = nodes_at_end s h has ended (done_in s ended due).line (done_in s ended due).queue
 
   none_open : (kind : Kind) (x : Segment) → IsIn x (open_of s kind).segments → ⊥
   none_open Leaf x there = in_none x (subst (IsIn x) (done_in s ended due).leaves there)
@@ -191,7 +200,7 @@ module _ (s : SessionState) (h : History) (has : HasHistory s h) (ended : s.ende
 pub all_is_kept : AllIsKept
 all_is_kept s h has ended due =
     let done = done_in s ended due in
-    let top = the_top s h has ended done.turn done.queue in
+    let top = the_top s h has ended done.line done.queue in
     record {
       kept = piece_is_kept s h has ended due;
       segments = all_segments s h has ended due;

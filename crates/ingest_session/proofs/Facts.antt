@@ -1,13 +1,13 @@
 -- What is claimed and sealed are pieces of the file, and the children of each node are kept before it.
-use Rattle.std.proofs.Common.{◌++◌, ◌∙◌, append_assoc}
-use Rattle.std.specs.Option.{option_to_list}
+use Rattle.std.proofs.Common.{◌++◌, ◌∙◌, append_assoc, arith}
 use Rattle.container_meta.specs.Segments.{Segment}
 use Rattle.store_model.specs.Pieces.{HasPieceOf}
-use Rattle.ingest_session.specs.Due.{open_of}
-use Rattle.ingest_session.specs.Facts.{ChildrenComeFirst, OpenNodesHaveChildren, OpensArePieces, PlacedComeFirst, TurnsArePieces, data_in, nodes_in}
+use Rattle.ingest_session.specs.Due.{open_of, turn_in}
+use Rattle.ingest_session.specs.Facts.{ChildrenComeFirst, NodesAreFew, OpenNodesHaveChildren, OpensArePieces, PlacedComeFirst, TurnsArePieces, data_in, nodes_in}
 use Rattle.ingest_session.proofs.Answering.{known}
 use Rattle.ingest_session.proofs.Following.{taken_of}
 use Rattle.ingest_session.proofs.Growing as growing
+use Rattle.ingest_session.proofs.InLine.{turn_is_first}
 use Rattle.ingest_session.proofs.Knowing.{HasChildren, children_are_kept}
 use Rattle.ingest_session.proofs.Members.{all_of}
 use Rattle.ingest_session.proofs.Waiting.{claimed_children, session_of}
@@ -21,10 +21,10 @@ placed_come_first s h more has follow =
     record {
       segments = (s.queue ++ segments.0, segments.1 ∙ append_assoc (data_in h.placed) s.queue segments.0);
       nodes = (
-        option_to_list s.node ++ (s.built.finished ++ nodes.0),
+        s.line ++ (s.built.finished ++ nodes.0),
         nodes.1
             ∙ append_assoc (taken_of s h.placed) s.built.finished nodes.0
-            ∙ append_assoc (nodes_in h.placed) (option_to_list s.node) (s.built.finished ++ nodes.0),
+            ∙ append_assoc (nodes_in h.placed) s.line (s.built.finished ++ nodes.0),
       );
     }
 
@@ -40,7 +40,11 @@ opens_are_pieces s h more has follow kind =
     (piece.0, growing.placed_are_pieces s h.given h.placed (session_of s h has) (known s h has).follows more follow piece.0 piece.1, piece.2))
 
 pub children_come_first : ChildrenComeFirst
-children_come_first s h n has turn due = children_are_kept s h (known s h has) (session_of s h has) n turn (claimed_children s n turn due)
+children_come_first s h n has turn due =
+    children_are_kept s h (known s h has) (session_of s h has) n (turn_is_first (turn_in s) s.line n turn) (claimed_children s n turn due)
 
 pub open_nodes_have_children : OpenNodesHaveChildren
 open_nodes_have_children s h has = all_of (HasChildren h) s.nodes.segments (known s h has).children
+
+pub nodes_are_few : NodesAreFew
+nodes_are_few s h has = let few = (session_of s h has).line in omega (arith, few)

@@ -4,6 +4,8 @@ use Rattle.std.specs.List.{AllByRecursion}
 use Rattle.std.specs.Option.{option_to_list}
 use Rattle.std.proofs.lemmas.List.{length-map, map-append}
 use Rattle.disk_format.specs.declared.numbers.TheConstants.{MOST_FILE}
+use Rattle.container_meta.specs.declared.kind.Kind.{Kind}
+use Rattle.container_meta.specs.declared.kind.Kind.TheVariants.{Leaf, Tree}
 use Rattle.segmenter.specs.Cutting.{Hand}
 use Rattle.segmenter.specs.Segments.{segments_of}
 use Rattle.segmenter.proofs.LengthLemmas.{are_few, have_right_lengths, lengths_add_up}
@@ -21,12 +23,14 @@ use Rattle.merkle_file.proofs.RootLaws.{nodes_are_right}
 use Rattle.merkle_file.proofs.TreeLaws.{segments_alike}
 use Rattle.store_model.specs.Pieces.{Piece, Data, Node, IsPieceOf, nodes_of_file}
 use Rattle.ingest_session.specs.Facts.{MayFollow, data_in, nodes_in}
+use Rattle.ingest_session.specs.Finished.{first_of}
 use Rattle.ingest_session.specs.History.{turn, turn_of}
 use Rattle.ingest_session.specs.Sound.{IsSession}
-use Rattle.ingest_session.specs.State.{SessionState, IsWhole, is_last, rest_of}
+use Rattle.ingest_session.specs.State.{SessionState, IsWhole, is_last, node_in_turn, rest_of, turn_node}
 use Rattle.ingest_session.specs.Stream.{IsCutInto}
-use Rattle.ingest_session.proofs.Following.{Follows, IsBuilt, pushed_and_rest, pushed_of, taken_of}
-use Rattle.ingest_session.proofs.Members.{IsAmong, IsIn, all_among, in_left, in_right, one_of}
+use Rattle.ingest_session.proofs.Following.{Follows, IsBuilt, begun, pushed_and_rest, pushed_of, taken_of}
+use Rattle.ingest_session.proofs.InLine.{first_and_rest}
+use Rattle.ingest_session.proofs.Members.{IsAmong, IsIn, all_among, in_first, in_left, in_none, in_one, in_right, one_of}
 
 -- ---- the segments
 
@@ -54,6 +58,11 @@ few_taken : {X : Type 0} (n : ℕ) (xs : List X) → length (take n xs) ≤ n
 few_taken n xs = let long = length-take n xs in omega (arith, long)
 
 -- ---- the nodes
+
+turn_in_line : (kind : Kind) (line : List node.Contents) (n : node.Contents) → IsIn n (option_to_list (node_in_turn kind line)) → IsIn n line
+turn_in_line Leaf line n there = absurd (in_none n there)
+turn_in_line Tree [] n there = absurd (in_none n there)
+turn_in_line Tree (m ∷ ms) n there = subst (λ (k : node.Contents). IsIn k (m ∷ ms)) (sym (in_one m n there)) (in_first m ms)
 
 tree_goes_on : (b : Progress) (top : Option Top) (pushed later : List (List ℕ)) (taken : List node.Contents) → IsBuilt b top pushed taken →
     (IsSome top → later ≡ []) → length (pushed ++ later) ≤ room_of ByCount →
@@ -130,13 +139,13 @@ module _ (s : SessionState) (given : List ℕ) (placed : List Piece) (is : IsSes
     where
       among_is : (q : Piece) → IsAmong (data_in placed) (nodes_in placed) q → IsPieceOf (given ++ more) q
       among_is (Data bytes) there = segment_of_file more follow bytes (in_left (data_in placed) s.queue bytes there)
-      among_is (Node n) there = node_of_file more follow n (in_left (nodes_in placed) (option_to_list s.node) n there)
+      among_is (Node n) there = node_of_file more follow n (in_left (nodes_in placed) s.line n there)
 
   pub turns_are_pieces : (more : List ℕ) → MayFollow more s → AllByRecursion (IsPieceOf (given ++ more)) (turn s)
   turns_are_pieces more follow =
-      turn_of_file s.node s.queue
+      turn_of_file (turn_node s) s.queue
       (λ bytes there. segment_of_file more follow bytes (in_right (data_in placed) s.queue bytes there))
-      (λ n there. node_of_file more follow n (in_right (nodes_in placed) (option_to_list s.node) n there))
+      (λ n there. node_of_file more follow n (in_right (nodes_in placed) s.line n (turn_in_line s.turn s.line n there)))
     where
       turn_of_file : (o : Option node.Contents) (queue : List (List ℕ)) →
           ((bytes : List ℕ) → IsIn bytes queue → IsPieceOf (given ++ more) (Data bytes)) →
@@ -162,19 +171,22 @@ module _ (s : SessionState) (given : List ℕ) (placed : List Piece) (is : IsSes
       one_of IsNode (nodes_of of_segment (tree_of ByCount of_segment file)) n right
       (subst (IsIn n) (sym on.1 ∙ same) (in_left (taken_of s placed ++ s.built.finished) on.0 n there))
 
-  -- Of a node that was finished and isn't in its place each child is in its place.
-  pub children_are_placed : (n : node.Contents) → s.node ≡ Some n → s.ahead ≡ None →
+  -- Of the first node in line each child is in its place.
+  pub children_are_placed : (n : node.Contents) → first_of s.line ≡ Some n →
       AllByRecursion (HasCome (map of_segment (data_in placed)) (nodes_in placed) n.level) n.children
-  children_are_placed n turn none =
-      let tree = tree_goes_on s.built s.top (pushed_of s placed) [] (taken_of s placed) follows.built (λ some. refl)
-      (subst (λ (ss : List (List ℕ)). length ss ≤ room_of ByCount) (sym (append-nil (pushed_of s placed))) few_pushed) in
-      let pushed : pushed_of s placed ≡ data_in placed = rw none (append-nil (data_in placed)) in
-      let taken : taken_of s placed ≡ nodes_in placed ++ n ∷ [] = ap (λ (o : Option node.Contents). nodes_in placed ++ option_to_list o) turn in
-      let nodes : nodes_of itself (tree_of ByCount itself (map of_segment (data_in placed))) ≡ nodes_in placed ++ n ∷ (s.built.finished ++ tree.0) =
+  children_are_placed n first_is =
+      let lined = follows.lined in
+      let rest = first_and_rest s.line n first_is in
+      let long = length-append (data_in placed) (begun s.ahead s.queue) in
+      let whole = length-append (data_in placed) [] in
+      let few = few_pushed in
+      let tree = tree_goes_on lined.built lined.top (data_in placed) [] (taken_of s placed) lined.is (λ some. refl) (omega (arith, long, whole, few)) in
+      let nodes : nodes_of itself (tree_of ByCount itself (map of_segment (data_in placed))) ≡ nodes_in placed ++ n ∷ (rest.0 ++ tree.0) =
       (segments_alike ByCount (data_in placed)).1
-      ∙ ap (λ (ss : List (List ℕ)). nodes_of of_segment (tree_of ByCount of_segment ss)) (sym (append-nil (pushed_of s placed) ∙ pushed))
+      ∙ ap (λ (ss : List (List ℕ)). nodes_of of_segment (tree_of ByCount of_segment ss)) (sym (append-nil (data_in placed)))
       ∙ tree.1
-      ∙ ap (λ (ns : List node.Contents). (ns ++ s.built.finished) ++ tree.0) taken
-      ∙ ap (λ (ns : List node.Contents). ns ++ tree.0) (append_assoc (nodes_in placed) (n ∷ []) s.built.finished)
-      ∙ append_assoc (nodes_in placed) (n ∷ s.built.finished) tree.0 in
-      first.children_come_first ByCount (map of_segment (data_in placed)) (nodes_in placed) (s.built.finished ++ tree.0) n nodes
+      ∙ ap (λ (ns : List node.Contents). (taken_of s placed ++ ns) ++ tree.0) lined.none
+      ∙ ap (λ (ns : List node.Contents). ns ++ tree.0) (append-nil (taken_of s placed))
+      ∙ append_assoc (nodes_in placed) s.line tree.0
+      ∙ ap (λ (ns : List node.Contents). nodes_in placed ++ (ns ++ tree.0)) rest.1 in
+      first.children_come_first ByCount (map of_segment (data_in placed)) (nodes_in placed) (rest.0 ++ tree.0) n nodes

@@ -1,37 +1,37 @@
 -- What was given and answered fixes what is kept.
-use Rattle.std.proofs.Common.{inl, inr, ◌≡◌, ◌∙◌, List, ◌++◌, length, sym, ap, arith}
-use Rattle.std.proofs.lemmas.Bool.{cases_lt}
-use Rattle.container_meta.specs.declared.kind.Kind.{Kind}
+use Rattle.std.proofs.Common.{◌≡◌, ◌∙◌, ℕ, Bool, true, false, List, [], ◌++◌, refl, sym, ap, subst, append-nil, reverse}
 use Rattle.container_meta.specs.Segments.{Segment}
+use Rattle.segmenter.specs.Cutting.{Hand}
+use Rattle.segmenter.specs.Segments.{segments_of}
+use Rattle.segmenter.proofs.RunLemmas.{HasCut-finish}
 use Rattle.actor_parts.specs.declared.step.Answer.{Answer}
-use Rattle.store_model.specs.Pieces.{Piece}
 use Rattle.ingest_session.specs.DueFor.{KeptIsOne}
-use Rattle.ingest_session.specs.Facts.{kept}
-use Rattle.ingest_session.specs.History.{History, held_by, sealed_by, turn}
+use Rattle.ingest_session.specs.Facts.{data_in}
+use Rattle.ingest_session.specs.History.{History, HasHistory}
 use Rattle.ingest_session.specs.State.{SessionState}
-use Rattle.ingest_session.proofs.BothReplayed.{BothReplay, both_replay}
-use Rattle.ingest_session.proofs.KeptReplaying.{gained}
-use Rattle.ingest_session.proofs.Replayed.{start}
+use Rattle.ingest_session.specs.Stream.{IsCutInto}
+use Rattle.ingest_session.proofs.Answering.{known}
+use Rattle.ingest_session.proofs.Replayed.{Extends, reaches}
+use Rattle.ingest_session.proofs.Runs.{Came, IsSame, one_point}
 
-module _ (s t : SessionState) (h g : History) (both : BothReplay s t h g) (answers : h.answers ≡ g.answers) (kind : Kind) where
-  gained_same : (add : Answer → SessionState → List Segment) →
-      gained add (start (h.placed ++ turn s)) h.answers ≡ gained add (start (g.placed ++ (turn t ++ both.rest))) g.answers
-  gained_same add =
-      ap (λ (ps : List Piece). gained add (start ps) h.answers) both.same
-      ∙ ap (gained add (start (g.placed ++ (turn t ++ both.rest)))) answers
+-- the segments of a session are the first of those of the bytes that were given, and all of them after the end
+cut_on : (ended : Bool) (given : List ℕ) (segments : List (List ℕ)) (hand : Hand) → IsCutInto ended given segments hand →
+    (extra : List (List ℕ)) × (segments_of given ≡ segments ++ extra) × (ended ≡ true → extra ≡ [])
+cut_on true given segments hand cut = ([], cut.0 ∙ sym (append-nil segments), λ on. refl)
+cut_on false given segments hand cut = (segments_of hand.bytes, HasCut-finish given segments hand cut, λ on. absurd (cc))
 
-  held_same : h.held kind ≡ g.held kind
-  held_same = both.one.held kind ∙ gained_same (held_by kind) ∙ sym (both.other.held kind)
-
-  sealed_same : h.sealed kind ≡ g.sealed kind
-  sealed_same = both.one.sealed kind ∙ gained_same (sealed_by kind) ∙ sym (both.other.sealed kind)
-
-  kept_same : kept h kind ≡ kept g kind
-  kept_same = ap (λ (ss : List Segment). ss ++ h.sealed kind) held_same ∙ ap (λ (ss : List Segment). g.held kind ++ ss) sealed_same
+given_extends : (s : SessionState) (h : History) → HasHistory s h → Extends true (segments_of h.given) s h
+given_extends s h has =
+    let on = cut_on s.ended h.given (data_in h.placed ++ s.queue) s.hand (known s h has).follows.cut in
+    record { extra = on.0; all = on.1; whole = λ end. (refl, on.2 end) }
 
 pub kept_is_one : KeptIsOne
 kept_is_one s t h g has gas given answers kind =
-    elim (cases_lt (length (h.placed ++ turn s)) (length (g.placed ++ turn t))) [
-      | inl less ↦ sym (kept_same t s g h (both_replay t s g h gas has (sym given) (omega (arith, less))) (sym answers) kind)
-      | inr few ↦ kept_same s t h g (both_replay s t h g has gas given few) answers kind
-    ]
+    let one = reaches true (segments_of h.given) s h has (given_extends s h has) in
+    let two = reaches true (segments_of h.given) t g gas
+    (subst (λ (b : List ℕ). Extends true (segments_of b) t g) (sym given) (given_extends t g gas)) in
+    let same : IsSame one.from two.from =
+    one_point true (segments_of h.given) (reverse h.answers) one.from two.from one.came
+    (subst (λ (told : List Answer). Came true (segments_of h.given) (reverse told) two.from) (sym answers) two.came) in
+    ap (λ (ss : List Segment). ss ++ h.sealed kind) (one.held kind ∙ same.held kind ∙ sym (two.held kind))
+    ∙ ap (λ (ss : List Segment). g.held kind ++ ss) (one.sealed kind ∙ same.sealed kind ∙ sym (two.sealed kind))

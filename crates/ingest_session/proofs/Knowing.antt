@@ -1,8 +1,7 @@
 -- What is known of a session with a history, and that the children of a node which is claimed are kept.
-use Rattle.std.proofs.Common.{◌≡◌, ◌≤◌, ◌⊎◌, ◌∙◌, ◌+◌, ◌-◌, ℕ, Bool, true, false, List, [], ◌∷◌, Option, Some, IsSome, map, inl, inr, refl, sym, ap, subst, arith}
+use Rattle.std.proofs.Common.{◌≡◌, ◌≤◌, ◌⊎◌, ◌∙◌, ◌+◌, ◌-◌, ℕ, Bool, true, false, List, [], ◌∷◌, Some, map, inl, inr, refl, sym, ap, subst, arith}
 use Rattle.std.specs.Prelude.{if◌then◌else◌}
 use Rattle.std.specs.List.{AllByRecursion, list_any}
-use Rattle.std.specs.Option.{option_to_list}
 use Rattle.std.proofs.lemmas.Bool.{ne_eqb}
 use Rattle.base_model.specs.Bytes.{key_of}
 use Rattle.container_meta.specs.Format.{kind_byte}
@@ -21,12 +20,14 @@ use Rattle.store_model.specs.Trees.{leaf_key, node_key}
 use Rattle.ingest_session.specs.Child.{has_child_of}
 use Rattle.ingest_session.specs.Due.{open_of}
 use Rattle.ingest_session.specs.Facts.{IsKept, IsKeptChild, data_in, nodes_in}
+use Rattle.ingest_session.specs.Finished.{first_of}
 use Rattle.ingest_session.specs.History.{History}
 use Rattle.ingest_session.specs.Sound.{IsSession}
-use Rattle.ingest_session.specs.State.{SessionState}
+use Rattle.ingest_session.specs.State.{SessionState, turn_node}
 use Rattle.ingest_session.proofs.Following.{Follows, taken_of}
 use Rattle.ingest_session.proofs.Growing.{children_are_placed, nodes_right}
-use Rattle.ingest_session.proofs.Members.{IsIn, all_map, any_first, data_is_placed, in_left, in_map, in_right, key_there, node_is_placed}
+use Rattle.ingest_session.proofs.InLine.{first_and_rest}
+use Rattle.ingest_session.proofs.Members.{IsIn, all_map, any_first, data_is_placed, in_first, in_left, in_map, in_right, key_there, node_is_placed}
 use Rattle.ingest_session.proofs.Waiting.{on_and_off}
 
 -- what a container has of a piece is kept, or lies in the open container of its kind
@@ -46,7 +47,7 @@ pub record Knows (s : SessionState) (h : History) : Type 0 where
   pub stored : (p : Piece) → IsIn p h.placed → IsStored s h (piece_segment p)
   pub opens : (kind : Kind) (x : Segment) → IsIn x (open_of s kind).segments → IsOfPiece h.placed (record { kind = kind; segment = x })
   pub children : (x : Segment) → IsIn x s.nodes.segments → HasChildren h x
-  pub waiting : (n : node.Contents) → s.waits ≡ true → s.node ≡ Some n → HasChildren h (node_segment n).segment
+  pub waiting : (n : node.Contents) → s.waits ≡ true → (turn_node s) ≡ Some n → HasChildren h (node_segment n).segment
 
 -- ---- children
 
@@ -92,7 +93,7 @@ module _ (s : SessionState) (h : History) (knows : Knows s h) (is : IsSession s)
       let m = come.0 in
       let there : IsIn m (nodes_in h.placed) = (come.1, come.2) in
       let right = nodes_right s h.given h.placed is knows.follows m
-      (in_left (taken_of s h.placed) s.built.finished m (in_left (nodes_in h.placed) (option_to_list s.node) m there)) in
+      (in_left (taken_of s h.placed) s.built.finished m (in_left (nodes_in h.placed) s.line m there)) in
       let this : has_key s.nodes (node_key m) ≡ false =
       subst (λ (k : Kind). has_key (open_of s k) (key_of (kind_byte k) (node_digest m)) ≡ false) (kind_above m.level come.3)
       (subst (λ (d : Child). has_key (open_of s (child_kind (m.level + 1))) (key_of (kind_byte (child_kind (m.level + 1))) d.digest) ≡ false) (sym come.5)
@@ -109,14 +110,14 @@ module _ (s : SessionState) (h : History) (knows : Knows s h) (is : IsSession s)
       let parts = any_first (λ (d : Child). has_key (open_of s (child_kind level)) (key_of (kind_byte (child_kind level)) d.digest)) c cs unheld in
       (child_is_kept level c come.0 parts.0, all_are_kept level cs come.1 parts.1)
 
-  -- The children of the node whose turn it is are kept, where none lies in an open container.
-  pub children_are_kept : (n : node.Contents) → s.node ≡ Some n → has_child_of (open_of s (child_kind n.level)) n ≡ false →
+  -- The children of the first node in line are kept, where none lies in an open container.
+  pub children_are_kept : (n : node.Contents) → first_of s.line ≡ Some n → has_child_of (open_of s (child_kind n.level)) n ≡ false →
       HasChildren h (node_segment n).segment
-  children_are_kept n turn unheld =
-      let there : IsIn n (option_to_list s.node) = subst (λ (o : Option node.Contents). IsIn n (option_to_list o)) (sym turn) (0, refl) in
+  children_are_kept n first unheld =
+      let rest = first_and_rest s.line n first in
+      let there : IsIn n s.line = subst (IsIn n) (sym rest.1) (in_first n rest.0) in
       let right = nodes_right s h.given h.placed is knows.follows n
-      (in_left (taken_of s h.placed) s.built.finished n (in_right (nodes_in h.placed) (option_to_list s.node) n there)) in
-      let none = is.alone (subst (λ (o : Option node.Contents). IsSome o) (sym turn) refl) in
-      let come = children_are_placed s h.given h.placed is knows.follows n turn none in
+      (in_left (taken_of s h.placed) s.built.finished n (in_right (nodes_in h.placed) s.line n there)) in
+      let come = children_are_placed s h.given h.placed is knows.follows n first in
       subst (λ (m : node.Contents). AllByRecursion (IsKeptChild h) (map (child_pin n.level) m.children)) (sym (read_again n right).1)
       (all_map (IsKeptChild h) (child_pin n.level) n.children (all_are_kept n.level n.children come unheld))

@@ -1,4 +1,5 @@
 pub mod Lists
+pub mod InLine
 pub mod Rests
 pub mod Beginning
 pub mod Uncut
@@ -23,11 +24,9 @@ pub mod Answering
 pub mod Facts
 pub mod Ends
 pub mod CutOnce
-pub mod Next
-pub mod InTurn
 pub mod Replaying
-pub mod KeptReplaying
+pub mod Runs
+pub mod Agreeing
 pub mod Replayed
-pub mod BothReplayed
 pub mod DueOnes
 pub mod KeptOnes

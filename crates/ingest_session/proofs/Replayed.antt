@@ -1,103 +1,196 @@
--- The open containers of a session, and what it has held and sealed, are what the pieces of its file and the answers make of them.
-use Rattle.std.proofs.Common.{◌≡◌, ◌⊎◌, inl, inr, ◌∙◌, ℕ, Bool, true, false, not, if◌then◌else◌, List, [], ◌∷◌, ◌++◌, Option, Some, None, length, drop, refl, sym, ap, subst, append-nil, append_assoc}
+-- What answers make of a session, they make of the session over a whole file.
+use Rattle.std.proofs.Common.{◌≡◌, ◌≤◌, ◌⊎◌, inl, inr, ◌∙◌, ℕ, Bool, true, false, not, if◌then◌else◌, List, [], ◌∷◌, ◌++◌, Option, Some, None, IsSome, length, drop, map, refl, sym, ap, subst, arith, append-nil, append_assoc, length-append, reverse}
 use Rattle.std.proofs.Math.Seq.{drop-append_seam}
+use Rattle.std.proofs.lemmas.Bool.{and_parts}
+use Rattle.std.proofs.lemmas.List.{length-map, reverse-append}
 use Rattle.container_meta.specs.declared.kind.Kind.{Kind}
 use Rattle.container_meta.specs.declared.kind.Kind.TheVariants.{Leaf, Tree}
-use Rattle.container_meta.specs.Segments.{Contents, KindSegment, Segment}
+use Rattle.container_meta.specs.Segments.{Contents, Segment}
+use Rattle.merkle_file.specs.declared.node.Child.{Child}
+use Rattle.merkle_file.specs.declared.top.Top.{Top}
 use Rattle.merkle_file.specs.Building.{Progress}
+use Rattle.merkle_file.specs.Form.{ByCount, room_of}
 use Rattle.merkle_file.specs.Node as node
+use Rattle.merkle_file.specs.Tree.{itself, nodes_of, of_segment, tree_of}
+use Rattle.merkle_file.proofs.InOrder.{nodes_come_in_order}
 use Rattle.actor_parts.specs.declared.step.Answer.{Answer}
 use Rattle.actor_parts.specs.declared.step.Answer.TheVariants.{Held, Absent, Sealed}
-use Rattle.store_model.specs.Pieces.{Piece, Data, Node}
+use Rattle.store_model.specs.Pieces.{Piece}
 use Rattle.ingest_session.specs.declared.due.Due.{Due}
 use Rattle.ingest_session.specs.declared.due.Due.TheVariants.{Seal, Nothing}
-use Rattle.ingest_session.specs.Calls.{IsEnding, TakesTurn}
-use Rattle.ingest_session.specs.Due.{HasTurn, due_in, end_due, item_due, item_kind, needs_no_step, queue_due}
-use Rattle.ingest_session.specs.Facts.{MayFollow, data_in, nodes_in}
+use Rattle.ingest_session.specs.Due.{HasTurn, due_in, due_node, end_due, item_due, item_is_there, item_kind, needs_no_step, queue_due, queue_is_there, turn_in}
+use Rattle.ingest_session.specs.Facts.{data_in, nodes_in}
 use Rattle.ingest_session.specs.History.{History, HasHistory, IsBegun, Begun, Pushed, Ended, Moved, Asked, Told, answered, held_by, moved, placed_by, sealed_by, turn, turn_of}
-use Rattle.ingest_session.specs.Settling.{SettleStep, Spelled, Advanced, Closed, PlacedNode, PlacedFront}
+use Rattle.ingest_session.specs.Items.{fits}
+use Rattle.ingest_session.specs.Settling.{SettleStep, Turned, Spelled, Advanced, Closed, PlacedNode, PlacedFront}
 use Rattle.ingest_session.specs.Sound.{IsSession}
-use Rattle.ingest_session.specs.State.{SessionState, rest_after, rest_of}
-use Rattle.ingest_session.specs.Told.{IsAnswerFor, IsSettled, told_by}
-use Rattle.ingest_session.proofs.Ends.{nodes_at_end, segments_at_end}
-use Rattle.ingest_session.proofs.InTurn.{placed_or_none, told_ended}
-use Rattle.ingest_session.proofs.KeptReplaying.{gained, gained_more, held_alike, sealed_alike, session_next}
-use Rattle.ingest_session.proofs.Next.{AreNext, IsNext, next_after, none_after}
-use Rattle.ingest_session.proofs.Replaying.{Core, IsLike, Left, core_of, left_by, like_at, places_alike_by, replay, replay_more, session_at, skip, skip_none, skip_there, told_alike}
+use Rattle.ingest_session.specs.State.{SessionState, IsWhole, is_last, node_in_turn, turn_node}
+use Rattle.ingest_session.specs.Stream.{IsCutInto}
+use Rattle.ingest_session.specs.Told.{IsAnswerFor, IsSettled, absent_item, added_item, emptied, placed_item, told_by, with_open}
+use Rattle.ingest_session.specs.Told as told
+use Rattle.ingest_session.proofs.Agreeing.{Agrees, like}
+use Rattle.ingest_session.proofs.Answering.{known}
+use Rattle.ingest_session.proofs.CutOnce.{cut_alike}
+use Rattle.ingest_session.proofs.Following.{AreFinished, IsBuilt, begun}
+use Rattle.ingest_session.proofs.Growing.{few_pushed}
+use Rattle.ingest_session.proofs.Replaying.{Core, IsLike, core_of, finished_at, held_alike, places_alike_by, sealed_alike, session_at, told_alike, turn_at, unturned, waiting_turn, any_waits}
+use Rattle.ingest_session.proofs.Runs.{Came, IsSame, Point, Skips, Stays, skip_more, start, told_at}
 use Rattle.ingest_session.proofs.Settled.{settles_by, settling_keeps}
 use Rattle.ingest_session.proofs.Waiting.{claimed_has_turn, on_and_off, session_of, waiting_has_turn}
 
--- the pieces before any answer
-abbrev pub start : List Piece → Left
-start pieces = record {
-  core = record { leaves = record { kind = Leaf; segments = [] }; nodes = record { kind = Tree; segments = [] }; waits = false };
-  pieces = pieces;
+-- ---- the session over a whole file agrees with one that is in it
+
+-- The segments of a session are the first of some, and all of them where the file has ended.
+pub record Extends (ended : Bool) (segments : List (List ℕ)) (s : SessionState) (h : History) : Type 0 where
+  pub extra : List (List ℕ)
+  pub all : segments ≡ (data_in h.placed ++ s.queue) ++ extra
+  pub whole : s.ended ≡ true → (ended ≡ true) × (extra ≡ [])
+
+finished_by : (b : Progress) (top : Option Top) (last : Bool) (segments : List (List ℕ)) (nodes : List node.Contents) → IsBuilt b top segments nodes
+    → b.finished ≡ [] → IsWhole top last → (last ≡ true → IsSome top) → nodes ≡ finished_at last segments
+finished_by b None false segments nodes is none whole closed =
+    sym (append-nil nodes) ∙ ap (λ (ns : List node.Contents). nodes ++ ns) (sym none) ∙ is.nodes
+finished_by b None true segments nodes is none whole closed = absurd (let some = closed refl in cc)
+finished_by b (Some top) true segments nodes is none whole closed =
+    sym (append-nil nodes) ∙ ap (λ (ns : List node.Contents). nodes ++ ns) (sym none) ∙ is.1
+finished_by b (Some top) false segments nodes is none whole closed = absurd (cc)
+
+-- the nodes that are finished are the first of all
+more_by : (b : Progress) (top : Option Top) (segments : List (List ℕ)) (nodes : List node.Contents) → IsBuilt b top segments nodes → b.finished ≡ []
+    → IsWhole top false → length segments ≤ room_of ByCount → (rest : List node.Contents) × (finished_at true segments ≡ nodes ++ rest)
+more_by b None segments nodes is none whole few =
+    let long = length-map segments of_segment in
+    let whole_long = length-append (map of_segment segments) [] in
+    let on = nodes_come_in_order b (map of_segment segments) [] nodes is (omega (arith, few, long, whole_long)) in (
+      on.0,
+      ap (λ (cs : List Child). nodes_of itself (tree_of ByCount itself cs)) (sym (append-nil (map of_segment segments)))
+          ∙ on.1
+          ∙ ap (λ (ns : List node.Contents). (nodes ++ ns) ++ on.0) none
+          ∙ ap (λ (ns : List node.Contents). ns ++ on.0) (append-nil nodes),
+    )
+more_by b (Some top) segments nodes is none whole few = absurd (cc)
+
+line_by : (other last : Bool) (segments : List (List ℕ)) (placed line : List node.Contents) → (last ≡ true → other ≡ true)
+    → AreFinished last segments (placed ++ line) → length segments ≤ room_of ByCount
+    → (more : List node.Contents) × (drop (length placed) (finished_at other segments) ≡ line ++ more) × (other ≡ last → more ≡ [])
+line_by true true segments placed line on is few = (
+  [],
+  ap (drop (length placed)) (sym (finished_by is.built is.top true segments (placed ++ line) is.is is.none is.whole is.closed))
+      ∙ drop-append_seam placed line ∙ sym (append-nil line),
+  λ same. refl,
+)
+line_by false false segments placed line on is few = (
+  [],
+  ap (drop (length placed)) (sym (finished_by is.built is.top false segments (placed ++ line) is.is is.none is.whole is.closed))
+      ∙ drop-append_seam placed line ∙ sym (append-nil line),
+  λ same. refl,
+)
+line_by true false segments placed line on is few =
+    let more = more_by is.built is.top segments (placed ++ line) is.is is.none is.whole few in (
+      more.0,
+      ap (drop (length placed)) (more.1 ∙ append_assoc placed line more.0) ∙ drop-append_seam placed (line ++ more.0),
+      λ same. absurd (cc),
+    )
+line_by false true segments placed line on is few = absurd (let no = on refl in cc)
+
+any_is : (waits : Bool) (turn : Kind) → any_waits (waiting_turn waits turn) ≡ waits
+any_is true turn = refl
+any_is false turn = refl
+
+found_at : (ended : Bool) (segments : List (List ℕ)) (c : Core) (placed : List Piece) → c.waits ≡ None →
+    (session_at ended segments c placed).turn ≡ turn_in (session_at ended segments c placed)
+found_at ended segments c placed none = ap (λ (w : Option Kind). turn_at w (unturned ended segments c placed)) none
+
+module _ (ended : Bool) (segments : List (List ℕ)) (s : SessionState) (h : History) (has : HasHistory s h) (extends : Extends ended segments s h) where
+  abbrev pub over : SessionState
+  over = session_at ended segments (core_of s) h.placed
+
+  queue_on : over.queue ≡ s.queue ++ extends.extra
+  queue_on =
+      ap (drop (length (data_in h.placed))) (extends.all ∙ append_assoc (data_in h.placed) s.queue extends.extra)
+      ∙ drop-append_seam (data_in h.placed) (s.queue ++ extends.extra)
+
+  pub same_queue : s.ended ≡ true → (over.ended ≡ true) × (over.queue ≡ s.queue)
+  same_queue end =
+      let all = extends.whole end in
+      (all.0, queue_on ∙ ap (λ (ss : List (List ℕ)). s.queue ++ ss) all.1 ∙ append-nil s.queue)
+
+  last_on : is_last s.ended s.queue ≡ true → is_last over.ended over.queue ≡ true
+  last_on last = go s.ended refl
+    where
+      go : (e : Bool) → s.ended ≡ e → is_last over.ended over.queue ≡ true
+      go true end =
+          let same = same_queue end in
+          ap (is_last over.ended) same.1 ∙ ap (λ (b : Bool). is_last b s.queue) (same.0 ∙ sym end) ∙ last
+      go false off = on_and_off _ last (ap (λ (b : Bool). is_last b s.queue) off)
+
+  few_placed : length (data_in h.placed) ≤ room_of ByCount
+  few_placed =
+      let few = few_pushed s h.given h.placed (session_of s h has) (known s h has).follows in
+      let long = length-append (data_in h.placed) (begun s.ahead s.queue) in omega (arith, few, long)
+
+  agrees : Agrees s over
+  agrees =
+      let line = line_by (is_last over.ended over.queue) (is_last s.ended s.queue) (data_in h.placed) (nodes_in h.placed) s.line last_on
+      (known s h has).follows.lined few_placed in
+      record {
+        leaves = refl;
+        nodes = refl;
+        waits = any_is s.waits s.turn;
+        more = line.0;
+        line = line.1;
+        same = line.2;
+        extra = extends.extra;
+        queue = queue_on;
+        ended = same_queue;
+        waiting = λ on. ap (λ (w : Bool). turn_at (waiting_turn w s.turn) (unturned ended segments (core_of s) h.placed)) on;
+        found = λ off. found_at ended segments (core_of s) h.placed (ap (λ (w : Bool). waiting_turn w s.turn) off);
+      }
+
+  pub like_over : (s.waits ≡ false → s.turn ≡ turn_in s) → (turn s ≡ [] → (over.ended ≡ s.ended) × (over.queue ≡ s.queue)) → IsLike s over
+  like_over right at_end = like s over agrees right at_end
+
+-- ---- calls leave the segments as they are
+
+pub cut_same : (s t : SessionState) (h g : History) → HasHistory s h → HasHistory t g → h.given ≡ g.given → s.ended ≡ t.ended →
+    data_in h.placed ++ s.queue ≡ data_in g.placed ++ t.queue
+cut_same s t h g has gas given ended =
+    cut_alike t.ended g.given (data_in h.placed ++ s.queue) (data_in g.placed ++ t.queue) s.hand t.hand
+    (subst (λ (e : Bool). IsCutInto e g.given (data_in h.placed ++ s.queue) s.hand) ended
+    (subst (λ (b : List ℕ). IsCutInto s.ended b (data_in h.placed ++ s.queue) s.hand) given (known s h has).follows.cut))
+    (known t g gas).follows.cut (session_of s h has).uncut (session_of t g gas).uncut
+
+extends_same : (ended : Bool) (segments : List (List ℕ)) (s t : SessionState) (h g : History) → HasHistory s h → HasHistory t g → h.given ≡ g.given →
+    s.ended ≡ t.ended → Extends ended segments t g → Extends ended segments s h
+extends_same ended segments s t h g has gas given same extends = record {
+  extra = extends.extra;
+  all = extends.all ∙ ap (λ (ss : List (List ℕ)). ss ++ extends.extra) (sym (cut_same s t h g has gas given same));
+  whole = λ end. extends.whole (sym same ∙ end);
 }
 
--- The answers make this of the pieces in their place and these after them, up to pieces that need no step; and this is held
--- and sealed by them.
-pub record Replays (c : Core) (h : History) (pieces : List Piece) : Type 0 where
-  pub core : (replay (start (h.placed ++ pieces)) h.answers).core ≡ c
-  pub left : skip c (replay (start (h.placed ++ pieces)) h.answers).pieces ≡ skip c pieces
-  pub held : (kind : Kind) → h.held kind ≡ gained (held_by kind) (start (h.placed ++ pieces)) h.answers
-  pub sealed : (kind : Kind) → h.sealed kind ≡ gained (sealed_by kind) (start (h.placed ++ pieces)) h.answers
-
--- ---- a new session
-
-contents_are : (c : Contents) (kind : Kind) → c.kind ≡ kind → c.segments ≡ [] → ◌≡◌ {A = Contents} (record { kind = kind; segments = [] }) c
-contents_are c kind is none =
-    sym (ap (λ (k : Kind). record { kind = k; segments = c.segments }) is ∙ ap (λ (ss : List Segment). record { kind = kind; segments = ss }) none)
-
-begun_core : (s : SessionState) → IsSession s → IsBegun s → (start []).core ≡ core_of s
-begun_core s is begun =
-    ap (λ (c : Contents). record { leaves = c; nodes = record { kind = Tree; segments = [] }; waits = false })
-    (contents_are s.leaves Leaf is.data_kind begun.leaves)
-    ∙ ap (λ (c : Contents). record { leaves = s.leaves; nodes = c; waits = false }) (contents_are s.nodes Tree is.tree_kind begun.nodes)
-    ∙ ap (λ (w : Bool). record { leaves = s.leaves; nodes = s.nodes; waits = w }) (sym begun.waits)
-
--- ---- bytes are taken, and the file ends: the item whose turn it is keeps it
-
-more_queued : (n : Option node.Contents) (queue more : List (List ℕ)) → (rest : List Piece) × (turn_of n (queue ++ more) ≡ turn_of n queue ++ rest)
-more_queued (Some n) queue more = ([], refl)
-more_queued None [] more = (turn_of None more, refl)
-more_queued None (x ∷ xs) more = ([], refl)
-
-keeps_turn : (s t : SessionState) (more : List (List ℕ)) → t.node ≡ s.node → t.queue ≡ s.queue ++ more →
-    (rest : List Piece) × (turn t ≡ turn s ++ rest)
-keeps_turn s t more turn_is queue =
-    let on = more_queued s.node s.queue more in
-    (on.0, ap (λ (n : Option node.Contents). turn_of n t.queue) turn_is ∙ ap (turn_of s.node) queue ∙ on.1)
-
-none_queued : (queue more : List (List ℕ)) → queue ++ more ≡ [] → queue ≡ []
-none_queued [] more none = refl
-none_queued (x ∷ xs) more none = absurd (cc)
-
-none_ahead : (ahead : Option KindSegment) (queue : List (List ℕ)) → ahead ≡ None → rest_after ahead queue ≡ [] → queue ≡ []
-none_ahead None queue is none = none
-none_ahead (Some seg) queue is none = absurd (cc)
-
-takes_turn : (s t : SessionState) (more : List (List ℕ)) (ahead : Option KindSegment) (n : Option node.Contents) (built : Progress) →
-    s.ahead ≡ ahead → s.node ≡ n → t.ahead ≡ s.ahead → t.queue ≡ s.queue ++ more → rest_of t ≡ [] → TakesTurn ahead n built t →
-    (rest : List Piece) × (turn t ≡ turn s ++ rest)
-takes_turn s t more None None built ahead turn_is same queue all takes =
-    let none = none_queued s.queue more (sym queue ∙ none_ahead t.ahead t.queue (same ∙ ahead) all) in
-    (turn t, sym (ap (λ (ps : List Piece). ps ++ turn t) (ap (λ (n : Option node.Contents). turn_of n s.queue) turn_is ∙ ap (turn_of None) none)))
-takes_turn s t more None (Some n) built ahead turn_is same queue all takes = keeps_turn s t more (takes.0 ∙ sym turn_is) queue
-takes_turn s t more (Some seg) n built ahead turn_is same queue all takes = keeps_turn s t more (takes.0 ∙ sym turn_is) queue
-
-ending_turn : (s t : SessionState) → IsEnding s t → (rest : List Piece) × (turn t ≡ turn s ++ rest)
-ending_turn s t is =
-    elim is.tree [
-      | inl on ↦ keeps_turn s t _ on.node is.queue
-      | inr ends ↦
-          takes_turn s t _ s.ahead s.node ends.built refl refl (ap (λ (u : SessionState). u.ahead) is.others) is.queue ends.all ends.turn
-    ]
+-- more segments are in the queue
+extends_more : (ended : Bool) (segments : List (List ℕ)) (s t : SessionState) (h g : History) (more : List (List ℕ)) → t.queue ≡ s.queue ++ more →
+    g.placed ≡ h.placed → s.ended ≡ false → Extends ended segments t g → Extends ended segments s h
+extends_more ended segments s t h g more queue placed off extends = record {
+  extra = more ++ extends.extra;
+  all = extends.all
+      ∙ ap (λ (ps : List Piece). (data_in ps ++ t.queue) ++ extends.extra) placed
+      ∙ ap (λ (ss : List (List ℕ)). (data_in h.placed ++ ss) ++ extends.extra) queue
+      ∙ ap (λ (ss : List (List ℕ)). ss ++ extends.extra) (sym (append_assoc (data_in h.placed) s.queue more))
+      ∙ append_assoc (data_in h.placed ++ s.queue) more extends.extra;
+  whole = λ end. on_and_off s.ended end off;
+}
 
 -- ---- an answer at the end
 
 open_end : (b : Bool) (kind : Kind) (due : Due) → (if not b then Nothing else due) ≡ Seal kind → b ≡ true
 open_end true kind due is = refl
 open_end false kind due is = absurd (cc)
+
+no_turn : (n : Option node.Contents) (queue : List (List ℕ)) → turn_of n queue ≡ [] → HasTurn n queue → ⊥
+no_turn (Some n) queue none has = cc
+no_turn None [] none has = has
+no_turn None (x ∷ xs) none has = cc
 
 seals_at_end : (s : SessionState) (waits : Bool) (n : Option node.Contents) (queue : List (List ℕ)) (kind : Kind) → s.waits ≡ waits → s.queue ≡ queue
     → turn_of n queue ≡ [] → (if waits then Seal (item_kind n) else item_due s n) ≡ Seal kind → (s.waits ≡ true) ⊎ (s.ended ≡ true)
@@ -107,192 +200,200 @@ seals_at_end s false None [] kind off queue_is none is =
     let ends : end_due s ≡ Seal kind = sym (ap (queue_due s) queue_is) ∙ is in inr (open_end s.ended kind _ ends)
 seals_at_end s false None (x ∷ xs) kind off queue_is none is = absurd (cc)
 
-no_turn : (n : Option node.Contents) (queue : List (List ℕ)) → turn_of n queue ≡ [] → HasTurn n queue → ⊥
-no_turn (Some n) queue none has = cc
-no_turn None [] none has = has
-no_turn None (x ∷ xs) none has = cc
-
-pub none_turn : (n : Option node.Contents) (queue : List (List ℕ)) → turn_of n queue ≡ [] → (n ≡ None) × (queue ≡ [])
-none_turn (Some n) queue none = absurd (cc)
-none_turn None [] none = (refl, refl)
-none_turn None (x ∷ xs) none = absurd (cc)
+-- the item that is due has its turn
+settled_step : (s : SessionState) → IsSettled s → (waits : Bool) → s.waits ≡ waits → (due : Due) → due_in s ≡ due →
+    (if waits then Seal (item_kind (turn_node s)) else item_due s (turn_node s)) ≡ due
+settled_step s settled true on due is = sym (ap (λ (w : Bool). if w then Seal (item_kind (turn_node s)) else item_due s (due_node s)) on) ∙ is
+settled_step s settled false off due is =
+    ap (λ (k : Kind). item_due s (node_in_turn k s.line)) (settled.turn off)
+    ∙ sym (ap (λ (w : Bool). if w then Seal (item_kind (turn_node s)) else item_due s (due_node s)) off)
+    ∙ is
 
 -- where no item has its turn, an answer is told only after the end
-answered_at_end : (s : SessionState) (answer : Answer) → IsSession s → IsAnswerFor answer (due_in s) → turn s ≡ [] → s.ended ≡ true
-answered_at_end s Held is right none = absurd (no_turn s.node s.queue none (claimed_has_turn s right))
-answered_at_end s Absent is right none = absurd (no_turn s.node s.queue none (claimed_has_turn s right))
-answered_at_end s (Sealed id) is right none =
-    elim (seals_at_end s s.waits s.node s.queue right.0 refl refl none right.1) [
-      | inl on ↦ absurd (no_turn s.node s.queue none (waiting_has_turn s is on))
+answered_at_end : (s : SessionState) (answer : Answer) → IsSession s → IsSettled s → IsAnswerFor answer (due_in s) → turn s ≡ [] → s.ended ≡ true
+answered_at_end s Held is settled right none = absurd (no_turn (turn_node s) s.queue none (claimed_has_turn s settled right))
+answered_at_end s Absent is settled right none = absurd (no_turn (turn_node s) s.queue none (claimed_has_turn s settled right))
+answered_at_end s (Sealed id) is settled right none =
+    elim (seals_at_end s s.waits (turn_node s) s.queue right.0 refl refl none (settled_step s settled s.waits refl (Seal right.0) right.1)) [
+      | inl on ↦ absurd (no_turn (turn_node s) s.queue none (waiting_has_turn s is on))
       | inr ended ↦ ended
     ]
-answered_at_end s other is right none = absurd right
+answered_at_end s other is settled right none = absurd right
 
--- then no piece comes next
-module _ (s : SessionState) (h : History) (has : HasHistory s h) (ended : s.ended ≡ true) (none : turn s ≡ []) where
-  not_next : (p : Piece) → IsNext h.given h.placed p → ⊥
-  not_next (Data x) is =
-      let nothing = none_turn s.node s.queue none in
-      none_after (data_in h.placed) x is.0.0 (sym (segments_at_end s h has ended nothing.0 nothing.1) ∙ is.0.1)
-  not_next (Node n) is =
-      let nothing = none_turn s.node s.queue none in
-      none_after (nodes_in h.placed) n is.0.0 (sym (nodes_at_end s h has ended nothing.0 nothing.1) ∙ is.0.1)
+-- ---- an answer leaves the end as it is
 
-  pub none_next : (rest : List Piece) → AreNext h.given [] (h.placed ++ rest) → rest ≡ []
-  none_next [] are = refl
-  none_next (p ∷ ps) are = absurd (not_next p (next_after h.given [] h.placed p ps are))
+placed_ended : (n : Option node.Contents) (s : SessionState) → (placed_item n s).ended ≡ s.ended
+placed_ended None s = refl
+placed_ended (Some n) s = refl
 
--- ---- one answer
+with_ended : (kind : Kind) (c : Contents) (s : SessionState) → (with_open kind c s).ended ≡ s.ended
+with_ended Leaf c s = refl
+with_ended Tree c s = refl
 
-module _ (c : Core) (h : History) (pieces : List Piece) where
-  replays_on : (others : List Piece) → h.placed ≡ others → Replays c h pieces → Replays c (record h { placed = others }) pieces
-  replays_on others same = subst (λ (ps : List Piece). Replays c (record h { placed = ps }) pieces) same
+absent_ended : (s : SessionState) (fit : Bool) → (if fit then placed_item (turn_node s) (added_item s) else record s { waits = true }).ended ≡ s.ended
+absent_ended s true = placed_ended (turn_node s) (added_item s) ∙ with_ended (item_kind (turn_node s)) _ s
+absent_ended s false = refl
 
-  -- what was given doesn't matter
-  given_on : (given : List ℕ) → Replays c h pieces → Replays c (record h { given = given }) pieces
-  given_on given before = record { core = before.core; left = before.left; held = before.held; sealed = before.sealed }
+sealed_ended : (s : SessionState) (kind : Kind) (waits : Bool) →
+    (if waits then absent_item (record (emptied kind s) { waits = false }) else emptied kind s).ended ≡ s.ended
+sealed_ended s kind true =
+    let e : SessionState = record (emptied kind s) { waits = false } in absent_ended e (fits e) ∙ with_ended kind _ s
+sealed_ended s kind false = with_ended kind _ s
 
-  -- the item whose turn it is needs no step
-  replays_there : (one : List Piece) → skip c (one ++ pieces) ≡ skip c pieces → Replays c h (one ++ pieces)
-      → Replays c (record h { placed = h.placed ++ one }) pieces
-  replays_there one there before =
-      let same = append_assoc h.placed one pieces in
-      record {
-        core = ap (λ (ps : List Piece). (replay (start ps) h.answers).core) same ∙ before.core;
-        left = ap (λ (ps : List Piece). skip c (replay (start ps) h.answers).pieces) same ∙ before.left ∙ there;
-        held = λ kind. before.held kind ∙ sym (ap (λ (ps : List Piece). gained (held_by kind) (start ps) h.answers) same);
-        sealed = λ kind. before.sealed kind ∙ sym (ap (λ (ps : List Piece). gained (sealed_by kind) (start ps) h.answers) same);
-      }
-
--- an answer, told to a session that is settled
-module _ (s : SessionState) (h : History) (answer : Answer) (pieces rest : List Piece) (settled : IsSettled s) (right : IsAnswerFor answer (due_in s))
-    (turns : placed_by answer s ++ pieces ≡ turn s ++ rest) (at_end : turn s ≡ [] → (rest ≡ []) × (s.ended ≡ true))
-    (before : Replays (core_of s) h (turn s ++ rest)) where
-  abbrev left_before : Left
-  left_before = replay (start (h.placed ++ (turn s ++ rest))) h.answers
-
-  like_this : IsLike s (session_at true (core_of s) (turn s ++ rest))
-  like_this = like_at s true rest at_end
-
-  same_pieces : (h.placed ++ placed_by answer s) ++ pieces ≡ h.placed ++ (turn s ++ rest)
-  same_pieces = append_assoc h.placed (placed_by answer s) pieces ∙ ap (λ (ps : List Piece). h.placed ++ ps) turns
-
-  first_left : skip (core_of s) left_before.pieces ≡ turn s ++ rest
-  first_left = before.left ∙ skip_none s rest settled.none (λ none. (at_end none).0)
-
-  gains : (add : Answer → SessionState → List Segment) (earlier : List Segment) → earlier ≡ gained add (start (h.placed ++ (turn s ++ rest))) h.answers
-      → add answer (session_at true (core_of s) (turn s ++ rest)) ≡ add answer s
-      → earlier ++ add answer s ≡ gained add (start ((h.placed ++ placed_by answer s) ++ pieces)) (h.answers ++ answer ∷ [])
-  gains add earlier is alike =
-      let session : session_next left_before ≡ session_at true (core_of s) (turn s ++ rest) =
-      ap (λ (c : Core). session_at true c (skip c left_before.pieces)) before.core ∙ ap (session_at true (core_of s)) first_left in
-      ap (λ (ss : List Segment). ss ++ add answer s) is
-      ∙ ap (λ (ss : List Segment). gained add (start (h.placed ++ (turn s ++ rest))) h.answers ++ ss) (sym (ap (add answer) session ∙ alike))
-      ∙ sym (gained_more add (start (h.placed ++ (turn s ++ rest))) h.answers answer)
-      ∙ sym (ap (λ (ps : List Piece). gained add (start ps) (h.answers ++ answer ∷ [])) same_pieces)
-
-  replays_answer : Replays (core_of (told_by answer s)) (answered answer s h) pieces
-  replays_answer =
-      let step : replay (start ((h.placed ++ placed_by answer s) ++ pieces)) (h.answers ++ answer ∷ []) ≡ left_by answer (core_of s) (turn s ++ rest) =
-      ap (λ (ps : List Piece). replay (start ps) (h.answers ++ answer ∷ [])) same_pieces
-      ∙ replay_more (start (h.placed ++ (turn s ++ rest))) h.answers answer
-      ∙ ap (λ (c : Core). left_by answer c (skip c left_before.pieces)) before.core
-      ∙ ap (left_by answer (core_of s)) first_left in
-      let after : (left_by answer (core_of s) (turn s ++ rest)).core ≡ core_of (told_by answer s) =
-      told_alike s (session_at true (core_of s) (turn s ++ rest)) answer like_this right in
-      let gone : (left_by answer (core_of s) (turn s ++ rest)).pieces ≡ pieces =
-      ap (λ (ps : List Piece). drop (length ps) (turn s ++ rest))
-      (places_alike_by s (session_at true (core_of s) (turn s ++ rest)) answer like_this right)
-      ∙ ap (drop (length (placed_by answer s))) (sym turns)
-      ∙ drop-append_seam (placed_by answer s) pieces in
-      record {
-        core = ap (λ (k : Left). k.core) step ∙ after;
-        left = ap (λ (k : Left). skip (core_of (told_by answer s)) k.pieces) step ∙ ap (skip (core_of (told_by answer s))) gone;
-        held = λ kind.
-            gains (held_by kind) (h.held kind) (before.held kind) (held_alike kind s (session_at true (core_of s) (turn s ++ rest)) answer like_this);
-        sealed = λ kind.
-            gains (sealed_by kind) (h.sealed kind) (before.sealed kind)
-            (sealed_alike kind s (session_at true (core_of s) (turn s ++ rest)) answer like_this);
-      }
+told_ended : (answer : Answer) (s : SessionState) → IsAnswerFor answer (due_in s) → (told_by answer s).ended ≡ s.ended
+told_ended Held s is = placed_ended (turn_node s) s
+told_ended Absent s is = absent_ended s (fits s)
+told_ended (Sealed id) s is = subst (λ (due : Due). (told.sealed_by due s).ended ≡ s.ended) (sym is.1) (sealed_ended s is.0 s.waits)
+told_ended other s is = absurd is
 
 -- ---- all calls
 
-abbrev pub HasReplay : List ℕ → SessionState → History → Type 0
-HasReplay more s h = (pieces rest : List Piece) → pieces ≡ turn s ++ rest → AreNext (h.given ++ more) [] (h.placed ++ pieces)
-    → Replays (core_of s) h pieces
+module _ (ended : Bool) (segments : List (List ℕ)) where
+  -- The answers come to a point from which items that need no step were put in their place.
+  pub record Reaches (s : SessionState) (h : History) : Type 0 where
+    pub from : Point
+    pub came : Came ended segments (reverse h.answers) from
+    pub core : from.core ≡ core_of s
+    pub skips : Skips ended segments (core_of s) from.placed h.placed
+    pub held : (kind : Kind) → h.held kind ≡ from.held kind
+    pub sealed : (kind : Kind) → h.sealed kind ≡ from.sealed kind
 
--- a move that puts nothing in its place
-same_replay : (s t : SessionState) (h : History) (more : List ℕ) → core_of t ≡ core_of s → turn t ≡ turn s → HasReplay more s h
-    → HasReplay more t (record h { placed = h.placed ++ [] })
-same_replay s t h more core same before pieces rest turns are =
-    let none = append-nil h.placed in
-    replays_on (core_of t) h pieces (h.placed ++ []) (sym none)
-    (subst (λ (c : Core). Replays c h pieces) (sym core)
-    (before pieces rest (turns ∙ ap (λ (ps : List Piece). ps ++ rest) same)
-    (subst (λ (ps : List Piece). AreNext (h.given ++ more) [] (ps ++ pieces)) none are)))
+  contents_are : (c : Contents) (kind : Kind) → c.kind ≡ kind → c.segments ≡ [] → ◌≡◌ {A = Contents} c (record { kind = kind; segments = [] })
+  contents_are c kind is none =
+      ap (λ (k : Kind). record { kind = k; segments = c.segments }) is ∙ ap (λ (ss : List Segment). record { kind = kind; segments = ss }) none
 
--- a move that puts the item in its place
-there_replay : (s t : SessionState) (h : History) (more : List ℕ) → core_of t ≡ core_of s → needs_no_step s ≡ true → HasReplay more s h
-    → HasReplay more t (record h { placed = h.placed ++ turn s })
-there_replay s t h more core there before pieces rest turns are =
-    subst (λ (c : Core). Replays c (record h { placed = h.placed ++ turn s }) pieces) (sym core)
-    (replays_there (core_of s) h pieces (turn s) (skip_there s pieces there)
-    (before (turn s ++ pieces) pieces refl
-    (subst (λ (ps : List Piece). AreNext (h.given ++ more) [] ps) (append_assoc h.placed (turn s) pieces) are)))
+  begun_core : (s : SessionState) → IsSession s → IsBegun s → core_of s ≡ start
+  begun_core s is begun =
+      ap (λ (w : Bool). record { leaves = s.leaves; nodes = s.nodes; waits = waiting_turn w s.turn }) begun.waits
+      ∙ ap (λ (c : Contents). record { leaves = c; nodes = s.nodes; waits = None }) (contents_are s.leaves Leaf is.data_kind begun.leaves)
+      ∙ ap (λ (c : Contents). record { leaves = record { kind = Leaf; segments = [] }; nodes = c; waits = None })
+      (contents_are s.nodes Tree is.tree_kind begun.nodes)
 
-moved_replay : (s t : SessionState) (h : History) (more : List ℕ) (step : SettleStep s t) → HasReplay more s h
-    → HasReplay more t (record h { placed = h.placed ++ moved step })
-moved_replay s t h more (Spelled _ _ is) before = same_replay s t h more (ap core_of is) (ap turn is) before
-moved_replay s t h more (Advanced _ _ is) before = same_replay s t h more (ap core_of is.others) (ap turn is.others) before
-moved_replay s t h more (Closed _ _ is) before = same_replay s t h more (ap core_of is.others) (ap turn is.others) before
-moved_replay s t h more (PlacedNode _ _ there some is) before = there_replay s t h more (ap core_of is) there before
-moved_replay s t h more (PlacedFront _ _ there empty is) before = there_replay s t h more (ap core_of is) there before
+  -- a call that puts nothing in its place
+  same_reach : (s t : SessionState) (h g : History) → core_of t ≡ core_of s → g.placed ≡ h.placed → g.answers ≡ h.answers →
+      ((kind : Kind) → g.held kind ≡ h.held kind) → ((kind : Kind) → g.sealed kind ≡ h.sealed kind) → Reaches s h → Reaches t g
+  same_reach s t h g core placed answers held sealed before = record {
+    from = before.from;
+    came = subst (λ (told : List Answer). Came ended segments (reverse told) before.from) (sym answers) before.came;
+    core = before.core ∙ sym core;
+    skips = subst (λ (c : Core). Skips ended segments c before.from.placed g.placed) (sym core)
+        (subst (λ (ps : List Piece). Skips ended segments (core_of s) before.from.placed ps) (sym placed) before.skips);
+    held = λ kind. held kind ∙ before.held kind;
+    sealed = λ kind. sealed kind ∙ before.sealed kind;
+  }
 
-told_replay : (s : SessionState) (h : History) (answer : Answer) (more : List ℕ) → HasHistory s h → IsSettled s → IsAnswerFor answer (due_in s)
-    → MayFollow more s → HasReplay more s h → HasReplay more (told_by answer s) (answered answer s h)
-told_replay s h answer more has settled right follow before pieces rest turns are =
-    let all = placed_by answer s ++ pieces in
-    let next : AreNext (h.given ++ more) [] (h.placed ++ all) =
-    subst (λ (ps : List Piece). AreNext (h.given ++ more) [] ps) (append_assoc h.placed (placed_by answer s) pieces) are in
-    let begins : (later : List Piece) × (all ≡ turn s ++ later) =
-    elim (placed_or_none answer s right) [
-      | inl one ↦ (pieces, ap (λ (ps : List Piece). ps ++ pieces) one)
-      | inr none ↦ (rest, ap (λ (ps : List Piece). ps ++ pieces) none.0 ∙ turns ∙ ap (λ (ps : List Piece). ps ++ rest) none.1)
-    ] in
-    let at_end : turn s ≡ [] → (begins.0 ≡ []) × (s.ended ≡ true) = λ none.
-    (let ended = answered_at_end s answer (session_of s h has) right none in
-    let file : h.given ++ more ≡ h.given = ap (λ (b : List ℕ). h.given ++ b) (follow ended) ∙ append-nil h.given in
-    let later : all ≡ begins.0 = begins.1 ∙ ap (λ (ps : List Piece). ps ++ begins.0) none in (
-      none_next s h has ended none begins.0
-          (subst (λ (ps : List Piece). AreNext h.given [] (h.placed ++ ps)) later
-          (subst (λ (f : List ℕ). AreNext f [] (h.placed ++ all)) file next)),
-      ended,
-    )) in
-    replays_answer s h answer pieces begins.0 settled right begins.1 at_end
-    (subst (λ (ps : List Piece). Replays (core_of s) h ps) begins.1 (before all begins.0 begins.1 next))
+  there_turn : (s : SessionState) (n : Option node.Contents) (queue : List (List ℕ)) → turn_node s ≡ n → s.queue ≡ queue → needs_no_step s ≡ true →
+      turn_of n queue ≡ [] → ⊥
+  there_turn s (Some n) queue which queue_is there none = cc
+  there_turn s None [] which queue_is there none =
+      let no : false ≡ true = sym (ap (queue_is_there s) queue_is) ∙ sym (ap (item_is_there s) which) ∙ (and_parts _ _ there).1 in cc
+  there_turn s None (x ∷ xs) which queue_is there none = cc
 
-pub replays : (s : SessionState) (h : History) → HasHistory s h → (more : List ℕ) → MayFollow more s → HasReplay more s h
-replays s _ (Begun _ is begun) more follow pieces rest turns are =
-    record { core = begun_core s is begun; left = refl; held = λ kind. refl; sealed = λ kind. refl }
-replays t _ (Pushed s _ h bytes has _ is) more follow pieces rest turns are =
-    let on = keeps_turn s t is.more (ap (λ (u : SessionState). u.node) is.others) is.queue in
-    subst (λ (c : Core). Replays c (record h { given = h.given ++ bytes }) pieces) (sym (ap core_of is.others))
-    (given_on (core_of s) h pieces (h.given ++ bytes)
-    (replays s h has (bytes ++ more) (λ ended. on_and_off s.ended ended is.ongoing) pieces (on.0 ++ rest)
-    (turns ∙ ap (λ (ps : List Piece). ps ++ rest) on.1 ∙ append_assoc (turn s) on.0 rest)
-    (subst (λ (file : List ℕ). AreNext file [] (h.placed ++ pieces)) (append_assoc h.given bytes more) are)))
-replays t h (Ended s _ _ has _ is) more follow pieces rest turns are =
-    let on = ending_turn s t is in
-    subst (λ (c : Core). Replays c h pieces) (sym (ap core_of is.others))
-    (replays s h has more (λ ended. on_and_off s.ended ended is.ongoing) pieces (on.0 ++ rest)
-    (turns ∙ ap (λ (ps : List Piece). ps ++ rest) on.1 ∙ append_assoc (turn s) on.0 rest) are)
-replays t h (Asked s _ _ has _ is) more follow pieces rest turns are =
-    subst (λ (c : Core). Replays c h pieces) (sym (ap core_of is))
-    (replays s h has more (λ ended. follow (ap (λ (u : SessionState). u.ended) is ∙ ended)) pieces rest
-    (turns ∙ ap (λ (ps : List Piece). ps ++ rest) (ap turn is)) are)
-replays t _ (Moved s _ h has after step) more follow pieces rest turns are =
-    (moved_replay s t h more step
-    (replays s h has more (λ ended. follow ((settling_keeps s t (settles_by after step)).ended ∙ ended)))) pieces rest turns are
-replays _ _ (Told s answer h has _ settled is _) more follow pieces rest turns are =
-    (told_replay s h answer more has settled is (λ ended. follow (told_ended answer s is ∙ ended))
-    (replays s h has more (λ ended. follow (told_ended answer s is ∙ ended)))) pieces rest turns are
+  -- a move that puts the item in its place
+  there_reach : (s t : SessionState) (h : History) → HasHistory s h → Extends ended segments s h → needs_no_step s ≡ true → s.turn ≡ turn_in s
+      → core_of t ≡ core_of s → Reaches s h → Reaches t (record h { placed = h.placed ++ turn s })
+  there_reach s t h has extends there right core before =
+      let alike = like_over ended segments s h has extends (λ off. right) (λ none. absurd (there_turn s (turn_node s) s.queue refl refl there none)) in
+      record {
+        from = before.from;
+        came = before.came;
+        core = before.core ∙ sym core;
+        skips = subst (λ (c : Core). Skips ended segments c before.from.placed (h.placed ++ turn s)) (sym core)
+            (subst (λ (ps : List Piece). Skips ended segments (core_of s) before.from.placed (h.placed ++ ps)) alike.pieces
+            (skip_more ended segments (core_of s) before.from.placed h.placed before.skips (alike.there ∙ there)));
+        held = before.held;
+        sealed = before.sealed;
+      }
+
+  -- an answer, told to a session that is settled
+  told_reach : (s : SessionState) (h : History) (answer : Answer) → HasHistory s h → Extends ended segments s h → IsSettled s → IsAnswerFor answer (due_in s)
+      → Reaches s h → Reaches (told_by answer s) (answered answer s h)
+  told_reach s h answer has extends settled right before =
+      let at_end : turn s ≡ [] → ((over ended segments s h has extends).ended ≡ s.ended) × ((over ended segments s h has extends).queue ≡ s.queue) = λ none.
+      (let end = answered_at_end s answer (session_of s h has) settled right none in
+      let same = same_queue ended segments s h has extends end in (same.0 ∙ sym end, same.1)) in
+      let alike = like_over ended segments s h has extends settled.turn at_end in
+      let here : session_at ended segments before.from.core h.placed ≡ session_at ended segments (core_of s) h.placed =
+      ap (λ (c : Core). session_at ended segments c h.placed) before.core in
+      let new = answered answer s h in
+      let point : Point =
+      record { core = core_of (told_by answer s); placed = new.placed; held = new.held; sealed = new.sealed } in
+      let same : IsSame point (told_at ended segments answer (record before.from { placed = h.placed })) =
+      record {
+        core = sym (told_alike s (session_at ended segments (core_of s) h.placed) answer alike right)
+            ∙ sym (ap (λ (u : SessionState). core_of (told_by answer u)) here);
+        placed = ap (λ (ps : List Piece). h.placed ++ ps) (sym (places_alike_by s (session_at ended segments (core_of s) h.placed) answer alike right))
+            ∙ sym (ap (λ (u : SessionState). h.placed ++ placed_by answer u) here);
+        held = λ kind.
+            ap (λ (ss : List Segment). ss ++ held_by kind answer s) (before.held kind)
+            ∙ ap (λ (ss : List Segment). before.from.held kind ++ ss) (sym (held_alike kind s (session_at ended segments (core_of s) h.placed) answer alike))
+            ∙ sym (ap (λ (u : SessionState). before.from.held kind ++ held_by kind answer u) here);
+        sealed = λ kind.
+            ap (λ (ss : List Segment). ss ++ sealed_by kind answer s) (before.sealed kind)
+            ∙ ap (λ (ss : List Segment). before.from.sealed kind ++ ss) (sym (sealed_alike kind s (session_at ended segments (core_of s) h.placed) answer alike))
+            ∙ sym (ap (λ (u : SessionState). before.from.sealed kind ++ sealed_by kind answer u) here);
+      } in
+      let came : Came ended segments (answer ∷ reverse h.answers) point = (
+        before.from,
+        h.placed,
+        before.came,
+        subst (λ (c : Core). Skips ended segments c before.from.placed h.placed) (sym before.core) before.skips,
+        ap needs_no_step here ∙ alike.there ∙ settled.none,
+        same,
+      ) in
+      record {
+        from = point;
+        came = subst (λ (told : List Answer). Came ended segments told point) (sym (reverse-append h.answers (answer ∷ []))) came;
+        core = refl;
+        skips = Stays new.placed;
+        held = λ kind. refl;
+        sealed = λ kind. refl;
+      }
+
+  nothing_more : (s : SessionState) (h : History) → Reaches s h → Reaches s (record h { placed = h.placed ++ [] })
+  nothing_more s h before =
+      same_reach s s h (record h { placed = h.placed ++ [] }) refl (append-nil h.placed) refl (λ kind. refl) (λ kind. refl) before
+
+  moved_reach : (s t : SessionState) (h : History) (step : SettleStep s t) → HasHistory s h → Extends ended segments s h → Reaches s h
+      → Reaches t (record h { placed = h.placed ++ moved step })
+  moved_reach s t h (Turned _ _ off is) has extends before =
+      let core : core_of t ≡ core_of s =
+      ap core_of is
+      ∙ ap (λ (w : Bool). record { leaves = s.leaves; nodes = s.nodes; waits = waiting_turn w (turn_in s) }) off
+      ∙ sym (ap (λ (w : Bool). record { leaves = s.leaves; nodes = s.nodes; waits = waiting_turn w s.turn }) off) in
+      nothing_more t h (same_reach s t h h core refl refl (λ kind. refl) (λ kind. refl) before)
+  moved_reach s t h (Spelled _ _ is) has extends before =
+      nothing_more t h (same_reach s t h h (ap core_of is) refl refl (λ kind. refl) (λ kind. refl) before)
+  moved_reach s t h (Advanced _ _ is) has extends before =
+      nothing_more t h (same_reach s t h h (ap core_of is.others) refl refl (λ kind. refl) (λ kind. refl) before)
+  moved_reach s t h (Closed _ _ is) has extends before =
+      nothing_more t h (same_reach s t h h (ap core_of is.others) refl refl (λ kind. refl) (λ kind. refl) before)
+  moved_reach s t h (PlacedNode _ _ there right some is) has extends before = there_reach s t h has extends there right (ap core_of is) before
+  moved_reach s t h (PlacedFront _ _ there right empty is) has extends before = there_reach s t h has extends there right (ap core_of is) before
+
+  pub reaches : (s : SessionState) (h : History) → HasHistory s h → Extends ended segments s h → Reaches s h
+  reaches s _ (Begun _ is begun) extends = record {
+    from = record { core = core_of s; placed = []; held = λ kind. []; sealed = λ kind. [] };
+    came = record { core = begun_core s is begun; placed = refl; held = λ kind. refl; sealed = λ kind. refl };
+    core = refl;
+    skips = Stays [];
+    held = λ kind. refl;
+    sealed = λ kind. refl;
+  }
+  reaches t _ (Pushed s _ h bytes has _ is) extends =
+      same_reach s t h (record h { given = h.given ++ bytes }) (ap core_of is.others) refl refl (λ kind. refl) (λ kind. refl)
+      (reaches s h has (extends_more ended segments s t h (record h { given = h.given ++ bytes }) is.more is.queue refl is.ongoing extends))
+  reaches t h (Ended s _ _ has _ is) extends =
+      same_reach s t h h (ap core_of is.others) refl refl (λ kind. refl) (λ kind. refl)
+      (reaches s h has (extends_more ended segments s t h h _ is.queue refl is.ongoing extends))
+  reaches t h (Asked s _ _ has after is) extends =
+      same_reach s t h h (ap core_of is) refl refl (λ kind. refl) (λ kind. refl)
+      (reaches s h has (extends_same ended segments s t h h has (Asked s t h has after is) refl (sym (ap (λ (u : SessionState). u.ended) is)) extends))
+  reaches t _ (Moved s _ h has after step) extends =
+      let before = extends_same ended segments s t h (record h { placed = h.placed ++ moved step }) has (Moved s t h has after step) refl
+      (sym (settling_keeps s t (settles_by after step)).ended) extends in
+      moved_reach s t h step has before (reaches s h has before)
+  reaches _ _ (Told s answer h has after settled is some) extends =
+      let before = extends_same ended segments s (told_by answer s) h (answered answer s h) has (Told s answer h has after settled is some) refl
+      (sym (told_ended answer s is)) extends in
+      told_reach s h answer has before settled is (reaches s h has before)

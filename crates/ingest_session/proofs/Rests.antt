@@ -5,7 +5,7 @@ use Rattle.container_meta.specs.Segments.{KindSegment, Segment, has_room}
 use Rattle.merkle_file.specs.Node as node
 use Rattle.ingest_session.specs.Due.{item_kind, open_of}
 use Rattle.ingest_session.specs.Items.{fits, item_of}
-use Rattle.ingest_session.specs.State.{SessionState, HasItem, rest_after, IsAhead, AreLong}
+use Rattle.ingest_session.specs.State.{SessionState, HasItem, rest_after, IsAhead, AreLong, turn_node}
 
 pub rest_grows : (ahead : Option KindSegment) (queue : List (List ℕ)) (x : List ℕ) → IsAhead ahead queue →
     rest_after ahead (queue ++ x ∷ []) ≡ rest_after ahead queue ++ x ∷ []
@@ -30,7 +30,7 @@ item_stays None spelled None queue x has is = absurd has
 item_stays None spelled (Some seg) [] x has is = absurd is
 item_stays None spelled (Some seg) (y ∷ ys) x has is = refl
 
-pub full_stays : (s : SessionState) (x : List ℕ) → HasItem s.node s.spelled s.ahead → IsAhead s.ahead s.queue → fits s ≡ false →
+pub full_stays : (s : SessionState) (x : List ℕ) → HasItem (turn_node s) s.spelled s.ahead → IsAhead s.ahead s.queue → fits s ≡ false →
     fits (record s { queue = s.queue ++ x ∷ [] }) ≡ false
 full_stays s x has is full =
-    ap (λ (i : Segment). has_room (open_of s (item_kind s.node)) (length i.bytes)) (item_stays s.node s.spelled s.ahead s.queue x has is) ∙ full
+    ap (λ (i : Segment). has_room (open_of s (item_kind (turn_node s))) (length i.bytes)) (item_stays (turn_node s) s.spelled s.ahead s.queue x has is) ∙ full

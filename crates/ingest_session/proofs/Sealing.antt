@@ -9,11 +9,11 @@ use Rattle.actor_parts.specs.declared.step.Answer.TheVariants.{Held, Absent, Sea
 use Rattle.ingest_session.specs.declared.due.Due.{Due}
 use Rattle.ingest_session.specs.declared.due.Due.TheVariants.{Claim, Seal}
 use Rattle.ingest_session.specs.Calls.{IsEnding, IsTaking, KeepsItem}
-use Rattle.ingest_session.specs.Due.{due_in, item_due, item_is_there, item_kind, open_of}
+use Rattle.ingest_session.specs.Due.{due_in, due_node, item_due, item_is_there, item_kind, open_of, turn_in}
 use Rattle.ingest_session.specs.Filling.{with_segment}
 use Rattle.ingest_session.specs.Items.{fits, item_of}
-use Rattle.ingest_session.specs.Settling.{SettleStep, Spelled, Advanced, Closed, PlacedNode, PlacedFront}
-use Rattle.ingest_session.specs.State.{SessionState}
+use Rattle.ingest_session.specs.Settling.{SettleStep, Turned, Spelled, Advanced, Closed, PlacedNode, PlacedFront}
+use Rattle.ingest_session.specs.State.{SessionState, turn_node}
 use Rattle.ingest_session.specs.Told.{IsAnswerFor, absent_item, added_item, emptied, placed_front, placed_item, placed_node, told_by, with_open}
 use Rattle.ingest_session.specs.Facts.{SealsWereAbsent}
 use Rattle.ingest_session.specs.History.{History, HasHistory, IsBegun, Begun, Pushed, Ended, Moved, Asked, Told, absent_by, item_if, same_kind, sealed_by, waiting}
@@ -58,12 +58,12 @@ waits_with s Leaf c = refl
 waits_with s Tree c = refl
 
 absent_kept : (kind : Kind) (s : SessionState) (fit : Bool) → s.waits ≡ false →
-    kept kind (if fit then placed_item s.node (added_item s) else record s { waits = true }) ≡ (open_of s kind).segments ++ item_if kind s
+    kept kind (if fit then placed_item (turn_node s) (added_item s) else record s { waits = true }) ≡ (open_of s kind).segments ++ item_if kind s
 absent_kept Leaf s false off = refl
 absent_kept Tree s false off = refl
 absent_kept kind s true off =
-    kept_placed kind s.node (added_item s) (waits_with s (item_kind s.node) _ ∙ off)
-    ∙ with_item s kind (item_kind s.node) (item_of s.node s.queue)
+    kept_placed kind (turn_node s) (added_item s) (waits_with s (item_kind (turn_node s)) _ ∙ off)
+    ∙ with_item s kind (item_kind (turn_node s)) (item_of (turn_node s) s.queue)
 
 -- ---- a container that was sealed
 
@@ -110,13 +110,13 @@ claim_off false k due is = refl
 claim_off true k due is = absurd (cc)
 
 pub claims_off : (s : SessionState) → due_in s ≡ Claim → s.waits ≡ false
-claims_off s is = claim_off s.waits (item_kind s.node) (item_due s s.node) is
+claims_off s is = claim_off s.waits (item_kind (turn_node s)) (item_due s (due_node s)) is
 
 pub told_kept : (kind : Kind) (answer : Answer) (s : SessionState) → IsAnswerFor answer (due_in s) →
     sealed_by kind answer s ++ kept kind (told_by answer s) ≡ kept kind s ++ absent_by kind answer s
 told_kept kind Held s is =
     let off = claims_off s is in
-    kept_placed kind s.node s off
+    kept_placed kind (turn_node s) s off
     ∙ sym (append-nil (kept kind s) ∙ ap (λ (w : List Segment). (open_of s kind).segments ++ w) (waits_not kind s off) ∙ append-nil (open_of s kind).segments)
 told_kept kind Absent s is =
     let off = claims_off s is in
@@ -129,10 +129,10 @@ told_kept kind other s is = absurd is
 
 -- ---- other calls
 
-item_same : (kind : Kind) (s t : SessionState) → t.node ≡ s.node → item_of t.node t.queue ≡ item_of s.node s.queue → item_if kind t ≡ item_if kind s
+item_same : (kind : Kind) (s t : SessionState) → (turn_node t) ≡ (turn_node s) → item_of (turn_node t) t.queue ≡ item_of (turn_node s) s.queue → item_if kind t ≡ item_if kind s
 item_same kind s t turn item =
-    ap (λ (n : Option node.Contents). if same_kind kind (item_kind n) then item_of t.node t.queue ∷ [] else []) turn
-    ∙ ap (λ (i : Segment). if same_kind kind (item_kind s.node) then i ∷ [] else []) item
+    ap (λ (n : Option node.Contents). if same_kind kind (item_kind n) then item_of (turn_node t) t.queue ∷ [] else []) turn
+    ∙ ap (λ (i : Segment). if same_kind kind (item_kind (turn_node s)) then i ∷ [] else []) item
 
 pub waiting_keeps : (kind : Kind) (s t : SessionState) (waits : Bool) → s.waits ≡ waits → t.waits ≡ s.waits → KeepsItem s t → waiting kind t ≡ waiting kind s
 waiting_keeps kind s t true on same item =
@@ -156,15 +156,17 @@ no_step_off false there is = refl
 no_step_off true there is = absurd (cc)
 
 step_kept : (kind : Kind) (s t : SessionState) → SettleStep s t → kept kind t ≡ kept kind s
+step_kept kind s t (Turned _ _ off is) =
+    ap (kept kind) is ∙ kept_same kind s (record s { turn = turn_in s }) refl refl (both_off kind s (record s { turn = turn_in s }) off refl)
 step_kept kind s t (Spelled _ _ is) = ap (kept kind) is
 step_kept kind s t (Advanced _ _ is) = ap (kept kind) is.others
 step_kept kind s t (Closed _ _ is) = ap (kept kind) is.others
-step_kept kind s t (PlacedNode _ _ none some is) =
+step_kept kind s t (PlacedNode _ _ none right some is) =
     ap (kept kind) is ∙ kept_same kind s (placed_node s) refl refl
-    (both_off kind s (placed_node s) (no_step_off s.waits (item_is_there s s.node) none) refl)
-step_kept kind s t (PlacedFront _ _ none empty is) =
+    (both_off kind s (placed_node s) (no_step_off s.waits (item_is_there s (turn_node s)) none) refl)
+step_kept kind s t (PlacedFront _ _ none right empty is) =
     ap (kept kind) is ∙ kept_same kind s (placed_front 1 s) refl refl
-    (both_off kind s (placed_front 1 s) (no_step_off s.waits (item_is_there s s.node) none) refl)
+    (both_off kind s (placed_front 1 s) (no_step_off s.waits (item_is_there s (turn_node s)) none) refl)
 
 taking_kept : (kind : Kind) (bytes : List ℕ) (s t : SessionState) → IsTaking bytes s t → kept kind t ≡ kept kind s
 taking_kept kind bytes s t is =

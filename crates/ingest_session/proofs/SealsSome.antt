@@ -16,10 +16,11 @@ use Rattle.actor_parts.specs.Segments.{AreStepSegments, IsStepSegment, child_kin
 use Rattle.store_model.specs.Trees.{leaf_key, node_key}
 use Rattle.ingest_session.specs.declared.due.Due.TheVariants.{Claim, Seal}
 use Rattle.ingest_session.specs.Child.{has_child_of}
-use Rattle.ingest_session.specs.Due.{due_in, end_due, item_due, item_kind, open_of, queue_due}
+use Rattle.ingest_session.specs.Due.{due_in, due_node, end_due, item_due, item_kind, open_of, queue_due}
 use Rattle.ingest_session.specs.Items.{item_of}
 use Rattle.ingest_session.specs.Sound.{IsSession}
-use Rattle.ingest_session.specs.State.{SessionState, HasItem, IsSized, IsSpelled}
+use Rattle.ingest_session.specs.State.{SessionState, HasItem, IsSized, IsSpelled, turn_node}
+use Rattle.ingest_session.proofs.InLine.{turn_spelled}
 
 -- data may always stand in a step
 pub leaves_are_right : (segments : List Segment) → AreStepSegments Leaf segments
@@ -38,12 +39,13 @@ some_or_none [] none = absurd (none refl)
 some_or_none (s ∷ ss) none = search rules
 
 item_is_small : (n : Option node.Contents) (spelled ahead : Option KindSegment) (queue : List (List ℕ)) → HasItem n spelled ahead →
-    IsSpelled spelled n → AllByRecursion IsSized queue → length (item_of n queue).bytes ≤ DATA_BYTES
+    ((m : node.Contents) → n ≡ Some m → IsSpelled spelled (Some m)) → AllByRecursion IsSized queue → length (item_of n queue).bytes ≤ DATA_BYTES
 item_is_small None spelled ahead [] has is sized = search rules
 item_is_small None spelled ahead (x ∷ xs) has is sized = let few = sized.0.1 in omega (arith, few)
 item_is_small (Some n) None ahead queue has is sized = absurd has
 item_is_small (Some n) (Some seg) ahead queue has is sized =
-    let here : IsStepSegment (node_segment n) = subst IsStepSegment is.0 is.1 in
+    let this = is n refl in
+    let here : IsStepSegment (node_segment n) = subst IsStepSegment this.0 this.1 in
     let long = ap length here.bytes.spelled ∙ length_spelling (contents_in (spelling n)) here.bytes.node in
     let few = here.bytes.node.most in omega (arith, long, few)
 
@@ -90,16 +92,16 @@ item_some : (s : SessionState) (n : Option node.Contents) (kind : Kind) → item
 item_some s (Some n) kind due = node_some s n _ kind refl due
 item_some s None kind due = queue_some s s.queue kind due
 
-waiting_some : (s : SessionState) (kind : Kind) → IsSession s → s.waits ≡ true → item_kind s.node ≡ kind → 1 ≤ length (open_of s kind).segments
+waiting_some : (s : SessionState) (kind : Kind) → IsSession s → s.waits ≡ true → item_kind (turn_node s) ≡ kind → 1 ≤ length (open_of s kind).segments
 waiting_some s kind is on same =
     subst (λ (k : Kind). 1 ≤ length (open_of s k).segments) same
-    (some_or_none _ (empty_has_room (open_of s (item_kind s.node)) (length (item_of s.node s.queue).bytes)
-    (item_is_small s.node s.spelled s.ahead s.queue (is.waits on).0 is.spelled is.sized) (is.full on)))
+    (some_or_none _ (empty_has_room (open_of s (item_kind (turn_node s))) (length (item_of (turn_node s) s.queue).bytes)
+    (item_is_small (turn_node s) s.spelled s.ahead s.queue (is.waits on).0 (λ m this. turn_spelled s.turn s.spelled s.line is.spelled m this) is.sized) (is.full on)))
 
 due_some : (s : SessionState) (waits : Bool) (kind : Kind) → IsSession s → s.waits ≡ waits →
-    (if waits then Seal (item_kind s.node) else item_due s s.node) ≡ Seal kind → 1 ≤ length (open_of s kind).segments
+    (if waits then Seal (item_kind (turn_node s)) else item_due s (due_node s)) ≡ Seal kind → 1 ≤ length (open_of s kind).segments
 due_some s true kind is on due = waiting_some s kind is on (seal_is _ _ due)
-due_some s false kind is on due = item_some s s.node kind due
+due_some s false kind is on due = item_some s (due_node s) kind due
 
 pub seal_holds_some : (s : SessionState) (kind : Kind) → IsSession s → due_in s ≡ Seal kind → 1 ≤ length (open_of s kind).segments
 seal_holds_some s kind is due = due_some s s.waits kind is refl due

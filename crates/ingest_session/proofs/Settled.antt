@@ -5,9 +5,9 @@ use Rattle.ingest_session.specs.Calls.{KeepsItem}
 use Rattle.ingest_session.specs.History.{HasHistory, Moved, Asked, Places, moved}
 use Rattle.ingest_session.specs.Items.{item_of}
 use Rattle.ingest_session.specs.Moving.{IsClosing}
-use Rattle.ingest_session.specs.Settling.{KeepsOpen, Settles, SettleStep, Stays, Then, Spelled, Advanced, Closed, PlacedNode, PlacedFront}
+use Rattle.ingest_session.specs.Settling.{KeepsOpen, Settles, SettleStep, Stays, Then, Turned, Spelled, Advanced, Closed, PlacedNode, PlacedFront}
 use Rattle.ingest_session.specs.Sound.{IsSession}
-use Rattle.ingest_session.specs.State.{SessionState}
+use Rattle.ingest_session.specs.State.{SessionState, turn_node}
 
 pub settles_on : {first second third : SessionState} → Settles first second → Settles second third → Settles first third
 settles_on one (Stays s) = one
@@ -60,15 +60,21 @@ waits_for_step : (waits there : Bool) → (not waits && there) ≡ true → wait
 waits_for_step true there none on = cc
 waits_for_step false there none on = cc
 
+on_and_off : (b : Bool) → b ≡ true → b ≡ false → ⊥
+on_and_off true on off = cc
+on_and_off false on off = cc
+
 step_keeps : (s t : SessionState) → SettleStep s t → KeepsOpen s t
+step_keeps s t (Turned old new off is) =
+    rw is (record { count = refl; leaves = refl; nodes = refl; ended = refl; waits = refl; item = λ on. absurd (on_and_off old.waits on off) })
 step_keeps s t (Spelled old new is) = rw is (record { count = refl; leaves = refl; nodes = refl; ended = refl; waits = refl; item = λ on. (refl, refl) })
 step_keeps s t (Advanced old new is) =
     rw is.others (record { count = refl; leaves = refl; nodes = refl; ended = refl; waits = refl; item = λ on. (refl, refl) })
 step_keeps s t (Closed old new is) =
     rw is.others (record { count = refl; leaves = refl; nodes = refl; ended = refl; waits = refl; item = λ on. (refl, refl) })
-step_keeps s t (PlacedNode old new none some is) =
+step_keeps s t (PlacedNode old new none right some is) =
     rw is (record { count = refl; leaves = refl; nodes = refl; ended = refl; waits = refl; item = λ on. absurd (waits_for_step _ _ none on) })
-step_keeps s t (PlacedFront old new none empty is) =
+step_keeps s t (PlacedFront old new none right empty is) =
     rw is (record { count = refl; leaves = refl; nodes = refl; ended = refl; waits = refl; item = λ on. absurd (waits_for_step _ _ none on) })
 
 pub settling_keeps : (s t : SessionState) → Settles s t → KeepsOpen s t
@@ -85,5 +91,5 @@ asking_keeps s t u settles asked =
       nodes = ap (λ (x : SessionState). x.nodes) asked;
       ended = ap (λ (x : SessionState). x.ended) asked;
       waits = ap (λ (x : SessionState). x.waits) asked;
-      item = λ on. (ap (λ (x : SessionState). x.node) asked, ap (λ (x : SessionState). item_of x.node x.queue) asked);
+      item = λ on. (ap (λ (x : SessionState). (turn_node x)) asked, ap (λ (x : SessionState). item_of (turn_node x) x.queue) asked);
     })

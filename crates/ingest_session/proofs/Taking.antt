@@ -9,7 +9,7 @@ use Rattle.merkle_file.specs.declared.top.Top.{Top}
 use Rattle.ingest_session.specs.declared.queue.TheConstants.{QUEUE}
 use Rattle.ingest_session.specs.Calls.{IsTaking, KeepsItem}
 use Rattle.ingest_session.specs.Sound.{IsSession}
-use Rattle.ingest_session.specs.State.{SessionState, IsWhole, rest_of, rest_after, is_last, AreLong}
+use Rattle.ingest_session.specs.State.{SessionState, IsWhole, rest_of, rest_after, is_last, AreLong, turn_node}
 use Rattle.ingest_session.specs.Stream.{IsCutInto}
 use Rattle.ingest_session.proofs.Lists.{all_and_one}
 use Rattle.ingest_session.proofs.Uncut.{empty_is_uncut}
@@ -68,7 +68,7 @@ module _ (s : SessionState) (bytes : List ℕ) (taken : Taken) (hand : Hand) (is
         closed = λ last. absurd (not_last_and_one s.ended s.queue hand.bytes last);
         next = is.next;
         nodes_right = is.nodes_right;
-        alone = is.alone;
+        line = is.line;
         full = λ on. full_stays s hand.bytes (is.waits on).0 is.ahead (is.full on);
         waits = λ on. ((is.waits on).0, λ _ last. absurd (not_last_and_one s.ended (rest_of s) hand.bytes (ap (is_last s.ended) (sym grows) ∙ last)));
       }
@@ -84,7 +84,7 @@ module _ (s : SessionState) (bytes : List ℕ) (taken : Taken) (hand : Hand) (is
 
   -- an item that waits is not the last
   item_waits : (x : List ℕ) → KeepsItem s (record s { queue = s.queue ++ x ∷ [] })
-  item_waits x on = (refl, item_stays s.node s.spelled s.ahead s.queue x (is.waits on).0 is.ahead)
+  item_waits x on = (refl, item_stays (turn_node s) s.spelled s.ahead s.queue x (is.waits on).0 is.ahead)
 
   pub cut_off_takes : taken.taken ≤ length bytes →
       ((given : List ℕ) (segments : List (List ℕ)) → HasCut given segments s.hand

@@ -4,10 +4,10 @@ use Rattle.actor_parts.specs.declared.step.Answer.{Answer}
 use Rattle.actor_parts.specs.declared.step.Answer.TheVariants.{Started, Did, Done, Begun, Held, Absent, Sealed, Committed, Aborted, Opened, Bytes, End, Dropped, Deleted, Listed, Stat}
 use Rattle.ingest_session.specs.declared.due.Due.{Due}
 use Rattle.ingest_session.specs.declared.due.Due.TheVariants.{Claim, Seal, Nothing}
-use Rattle.ingest_session.specs.Due.{due_in, item_due, item_kind}
+use Rattle.ingest_session.specs.Due.{due_in, due_node, item_due, item_kind}
 use Rattle.ingest_session.specs.History.{History, HasHistory, SealsSome, Told, answered}
 use Rattle.ingest_session.specs.Sound.{IsSession}
-use Rattle.ingest_session.specs.State.{SessionState}
+use Rattle.ingest_session.specs.State.{SessionState, turn_node}
 use Rattle.ingest_session.specs.Told.{IsAnswerFor, IsSettled, sealed_by, told_by}
 use Rattle.ingest_session.specs.Work.{to_do}
 use Rattle.ingest_session.proofs.SealsSome.{seal_holds_some}
@@ -25,13 +25,13 @@ told_has_history s t answer h told sound after settled right has =
     (Told s answer h has (subst IsSession told after) settled right (seals_some s (due_in s) refl sound))
 
 claim_waits_for_none : (s : SessionState) (waits : Bool) → s.waits ≡ waits →
-    (if waits then Seal (item_kind s.node) else item_due s s.node) ≡ Claim → s.waits ≡ false
+    (if waits then Seal (item_kind (turn_node s)) else item_due s (due_node s)) ≡ Claim → s.waits ≡ false
 claim_waits_for_none s true is due = absurd (cc)
 claim_waits_for_none s false is due = is
 
 told_is_less : (s : SessionState) (answer : Answer) → IsSession s → IsSettled s → IsAnswerFor answer (due_in s) → to_do (told_by answer s) < to_do s
 told_is_less s Held sound settled right =
-    let less = placed_is_less s s.node refl (settled.claim right) in omega (arith, less)
+    let less = placed_is_less s (turn_node s) refl (settled.claim right) in omega (arith, less)
 told_is_less s Absent sound settled right = absent_is_less s (claim_waits_for_none s s.waits refl right) (settled.claim right)
 told_is_less s (Sealed id) sound settled right =
     subst (λ (d : Due). to_do (sealed_by d s) < to_do s) (sym right.1)

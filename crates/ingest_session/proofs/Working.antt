@@ -1,5 +1,5 @@
 -- Each answer leaves a session less to do, and nothing that it does before a step leaves it more.
-use Rattle.std.proofs.Common.{◌≡◌, ◌≤◌, ◌<◌, ◌+◌, ◌*◌, ◌∙◌, ℕ, Bool, true, false, if◌then◌else◌, List, [], ◌∷◌, drop, length, Option, Some, None, IsSome, refl, ap, arith, rules}
+use Rattle.std.proofs.Common.{◌≡◌, ◌≤◌, ◌<◌, ◌+◌, ◌*◌, ◌∙◌, ℕ, Bool, true, false, if◌then◌else◌, List, [], ◌∷◌, drop, length, Option, Some, None, IsSome, refl, ap, arith, rules, length-append}
 use Rattle.std.specs.Option.{option_to_list}
 use Rattle.disk_format.specs.declared.numbers.TheConstants.{MOST_LEVEL}
 use Rattle.container_meta.specs.declared.kind.Kind.{Kind}
@@ -7,22 +7,28 @@ use Rattle.container_meta.specs.declared.kind.Kind.TheVariants.{Leaf, Tree}
 use Rattle.container_meta.specs.Segments.{Contents, KindSegment, Segment}
 use Rattle.merkle_file.specs.declared.top.Top.{Top}
 use Rattle.merkle_file.specs.Node as node
-use Rattle.merkle_file.specs.Building.{Progress}
+use Rattle.merkle_file.specs.Building.{Progress, levels_left}
 use Rattle.ingest_session.specs.Due.{item_kind, open_of}
 use Rattle.ingest_session.specs.Filling.{with_segment}
-use Rattle.ingest_session.specs.Finished.{first_of}
+use Rattle.ingest_session.specs.Finished.{without_nodes}
 use Rattle.ingest_session.specs.Items.{fits, item_of}
 use Rattle.ingest_session.specs.Moving.{BuildsFront, front_of}
-use Rattle.ingest_session.specs.Settling.{Settles, SettleStep, Stays, Then, Spelled, Advanced, Closed, PlacedNode, PlacedFront}
-use Rattle.ingest_session.specs.State.{SessionState, HasItem, rest_after}
+use Rattle.ingest_session.specs.Settling.{Settles, SettleStep, Stays, Then, Turned, Spelled, Advanced, Closed, PlacedNode, PlacedFront}
+use Rattle.ingest_session.specs.State.{SessionState, HasItem, ends_left, node_in_turn, rest_after, turn_node}
 use Rattle.ingest_session.specs.Told.{absent_item, added_item, emptied, placed_front, placed_item, placed_node, sealed, with_open}
-use Rattle.ingest_session.specs.Work.{ending_left, seals_left, to_do, waits_left}
+use Rattle.ingest_session.specs.Work.{seals_left, to_do, waits_left}
 
 -- ---- parts
 
-first_and_others : {X : Type 0} (xs : List X) → length (option_to_list (first_of xs)) + length (drop 1 xs) ≡ length xs
-first_and_others [] = refl
-first_and_others (x ∷ xs) = search rules
+-- a node that has its turn is the first in line
+in_line : (kind : Kind) (line : List node.Contents) → IsSome (node_in_turn kind line) → length line ≡ length (drop 1 line) + 1
+in_line Leaf line some = absurd (cc)
+in_line Tree [] some = absurd (cc)
+in_line Tree (n ∷ ns) some = omega arith
+
+ends_alike : (top : Option Top) (b : Progress) → ends_left top (without_nodes b) ≡ ends_left top b
+ends_alike None b = refl
+ends_alike (Some top) b = refl
 
 some_is_one : {X : Type 0} (o : Option X) → IsSome o → length (option_to_list o) ≡ 1
 some_is_one None some = absurd (cc)
@@ -43,49 +49,56 @@ one_seal (s ∷ ss) some = refl
 
 -- ---- a node, or the first of the queue, is in its place
 
-node_is_less : (s : SessionState) → IsSome s.node → to_do (placed_node s) + 4 ≤ to_do s
-node_is_less s some =
-    let one = some_is_one s.node some in
-    let all = first_and_others s.built.finished in omega (arith, one, all)
+node_is_less : (s : SessionState) → IsSome (turn_node s) → to_do (placed_node s) + 4 ≤ to_do s
+node_is_less s some = let one = in_line s.turn s.line some in omega (arith, one)
 
 front_is_no_more : (s : SessionState) (more : ℕ) → to_do (placed_front more s) ≤ to_do s
 front_is_no_more s more =
     let rest = others_are_rest s.ahead s.queue in
-    let all = first_and_others s.built.finished in omega (arith, rest, all)
+    let ends = ends_alike s.top s.built in
+    let all = length-append s.line s.built.finished in omega (arith, rest, ends, all)
 
-front_is_less : (s : SessionState) (more : ℕ) → IsSome s.ahead → to_do (placed_front more s) + 4 ≤ to_do s
+pub front_is_less : (s : SessionState) (more : ℕ) → IsSome s.ahead → to_do (placed_front more s) + 4 ≤ to_do s
 front_is_less s more some =
     let one = some_is_one s.ahead some in
     let rest = others_are_rest s.ahead s.queue in
-    let all = first_and_others s.built.finished in omega (arith, one, rest, all)
+    let ends = ends_alike s.top s.built in
+    let all = length-append s.line s.built.finished in omega (arith, one, rest, ends, all)
 
 -- ---- before a step
 
-advanced_front : (ahead new : Option KindSegment) (queue : List (List ℕ)) (old next : Progress) → ahead ≡ None → new ≡ front_of queue →
+-- an end right after a push finishes one node of each level, with those that the push finishes
+advanced_ends : (top : Option Top) (old next : Progress) → length next.finished + levels_left next.rows ≤ length old.finished + MOST_LEVEL →
+    length next.finished + ends_left top next ≤ length old.finished + ends_left top old + MOST_LEVEL
+advanced_ends None old next few = omega (arith, few)
+advanced_ends (Some top) old next few = omega (arith, few)
+
+advanced_front : (ahead new : Option KindSegment) (queue : List (List ℕ)) (top : Option Top) (old next : Progress) → ahead ≡ None → new ≡ front_of queue →
     BuildsFront queue old next →
-    64 * length (rest_after new queue) + 4 * (length (option_to_list new) + length next.finished)
-    ≤ 64 * length (rest_after ahead queue) + 4 * (length (option_to_list ahead) + length old.finished)
-advanced_front (Some seg) new queue old next none is builds = absurd (cc)
-advanced_front None new [] old next none is builds = absurd builds
-advanced_front None new (x ∷ xs) old next none is builds = let few = builds.few in rw is (omega (arith, few))
+    64 * length (rest_after new queue) + 4 * (length (option_to_list new) + length next.finished + ends_left top next)
+    ≤ 64 * length (rest_after ahead queue) + 4 * (length (option_to_list ahead) + length old.finished + ends_left top old)
+advanced_front (Some seg) new queue top old next none is builds = absurd (cc)
+advanced_front None new [] top old next none is builds = absurd builds
+advanced_front None new (x ∷ xs) top old next none is builds = let few = advanced_ends top old next builds.few in rw is (omega (arith, few))
 
 advanced_is_less : (s : SessionState) (new : Option KindSegment) (b : Progress) → s.ahead ≡ None → new ≡ front_of s.queue →
     BuildsFront s.queue s.built b → to_do (record s { ahead = new; built = b }) ≤ to_do s
 advanced_is_less s new b none is builds =
-    let front = advanced_front s.ahead new s.queue s.built b none is builds in omega (arith, front)
+    let front = advanced_front s.ahead new s.queue s.top s.built b none is builds in omega (arith, front)
 
-closed_is_less : (s : SessionState) (top : Top) (b : Progress) → s.top ≡ None → length b.finished ≤ length s.built.finished + MOST_LEVEL →
+closed_is_less : (s : SessionState) (top : Top) (b : Progress) → s.top ≡ None → length b.finished ≤ length s.built.finished + levels_left s.built.rows →
     to_do (record s { built = b; top = Some top }) ≤ to_do s
-closed_is_less s top b none few = let ending = ap ending_left none in omega (arith, ending, few)
+closed_is_less s top b none few = let ending = ap (λ (o : Option Top). ends_left o s.built) none in omega (arith, ending, few)
 
 step_is_no_more : (s t : SessionState) → SettleStep s t → to_do t ≤ to_do s
+step_is_no_more s t (Turned old new off is) = rw is (omega arith)
 step_is_no_more s t (Spelled old new is) = rw is (omega arith)
 step_is_no_more s t (Advanced old new is) =
     rw is.others (advanced_is_less old new.ahead new.built is.none is.ahead is.builds)
 step_is_no_more s t (Closed old new is) =
     rw (is.others, is.top) (closed_is_less old is.root new.built is.none is.finishes.few)
-step_is_no_more s t (PlacedNode old new none some is) = rw is (let less = node_is_less old some in omega (arith, less))
-step_is_no_more s t (PlacedFront old new none empty is) = rw is (front_is_no_more old 1)
+step_is_no_more s t (PlacedNode old new none right some is) = rw is (let less = node_is_less old some in omega (arith, less))
+step_is_no_more s t (PlacedFront old new none right empty is) = rw is (front_is_no_more old 1)
 
 pub settling_is_no_more : (s t : SessionState) → Settles s t → to_do t ≤ to_do s
 settling_is_no_more s t (Stays r) = omega arith
@@ -103,9 +116,9 @@ some_node : (o : Option node.Contents) (n : node.Contents) → o ≡ Some n → 
 some_node None n is = absurd (cc)
 some_node (Some m) n is = refl
 
-pub placed_is_less : (s : SessionState) (n : Option node.Contents) → s.node ≡ n → HasItem n s.spelled s.ahead →
+pub placed_is_less : (s : SessionState) (n : Option node.Contents) → turn_node s ≡ n → HasItem n s.spelled s.ahead →
     to_do (placed_item n s) + 4 ≤ to_do s
-placed_is_less s (Some n) same has = node_is_less s (some_node s.node n same)
+placed_is_less s (Some n) same has = node_is_less s (some_node (turn_node s) n same)
 placed_is_less s None same has = front_is_less s 0 (item_is_ahead s.spelled s.ahead has)
 
 -- a segment more in a container may need a seal more
@@ -114,22 +127,22 @@ filled_is_little s Leaf filled = let one = seals_are_few filled.segments in omeg
 filled_is_little s Tree filled = let one = seals_are_few filled.segments in omega (arith, one)
 
 -- the item is the same
-filled_has_item : (s : SessionState) (kind : Kind) (filled : Contents) → HasItem s.node s.spelled s.ahead →
-    ((with_open kind filled s).node ≡ s.node) × HasItem s.node (with_open kind filled s).spelled (with_open kind filled s).ahead
+filled_has_item : (s : SessionState) (kind : Kind) (filled : Contents) → HasItem (turn_node s) s.spelled s.ahead →
+    (turn_node (with_open kind filled s) ≡ turn_node s) × HasItem (turn_node s) (with_open kind filled s).spelled (with_open kind filled s).ahead
 filled_has_item s Leaf filled has = (refl, has)
 filled_has_item s Tree filled has = (refl, has)
 
-absent_by_room : (s : SessionState) (room : Bool) → s.waits ≡ false → HasItem s.node s.spelled s.ahead →
-    to_do (if room then placed_item s.node (added_item s) else record s { waits = true }) < to_do s
+absent_by_room : (s : SessionState) (room : Bool) → s.waits ≡ false → HasItem (turn_node s) s.spelled s.ahead →
+    to_do (if room then placed_item (turn_node s) (added_item s) else record s { waits = true }) < to_do s
 absent_by_room s true ongoing has =
-    let kind = item_kind s.node in
-    let filled = with_segment (open_of s kind) (item_of s.node s.queue) in
+    let kind = item_kind (turn_node s) in
+    let filled = with_segment (open_of s kind) (item_of (turn_node s) s.queue) in
     let here = filled_has_item s kind filled has in
-    let placed = placed_is_less (added_item s) s.node here.0 here.1 in
+    let placed = placed_is_less (added_item s) (turn_node s) here.0 here.1 in
     let little = filled_is_little s kind filled in omega (arith, placed, little)
 absent_by_room s false ongoing has = let waits = ap waits_left ongoing in omega (arith, waits)
 
-pub absent_is_less : (s : SessionState) → s.waits ≡ false → HasItem s.node s.spelled s.ahead → to_do (absent_item s) < to_do s
+pub absent_is_less : (s : SessionState) → s.waits ≡ false → HasItem (turn_node s) s.spelled s.ahead → to_do (absent_item s) < to_do s
 absent_is_less s ongoing has = absent_by_room s (fits s) ongoing has
 
 -- ---- an answer to a seal
@@ -139,12 +152,12 @@ emptied_is_less s Leaf some = let one = one_seal s.leaves.segments some in omega
 emptied_is_less s Tree some = let one = one_seal s.nodes.segments some in omega (arith, one)
 
 -- it is the same but for the container
-emptied_has_item : (s : SessionState) (kind : Kind) → HasItem s.node s.spelled s.ahead →
-    HasItem (emptied kind s).node (emptied kind s).spelled (emptied kind s).ahead × ((emptied kind s).waits ≡ s.waits)
+emptied_has_item : (s : SessionState) (kind : Kind) → HasItem (turn_node s) s.spelled s.ahead →
+    HasItem (turn_node (emptied kind s)) (emptied kind s).spelled (emptied kind s).ahead × ((emptied kind s).waits ≡ s.waits)
 emptied_has_item s Leaf has = (has, refl)
 emptied_has_item s Tree has = (has, refl)
 
-sealed_by_waits : (s : SessionState) (kind : Kind) (waits : Bool) → s.waits ≡ waits → (s.waits ≡ true → HasItem s.node s.spelled s.ahead) →
+sealed_by_waits : (s : SessionState) (kind : Kind) (waits : Bool) → s.waits ≡ waits → (s.waits ≡ true → HasItem (turn_node s) s.spelled s.ahead) →
     1 ≤ length (open_of s kind).segments →
     to_do (if waits then absent_item (record (emptied kind s) { waits = false }) else emptied kind s) < to_do s
 sealed_by_waits s kind false is has some = let less = emptied_is_less s kind some in omega (arith, less)
@@ -154,6 +167,6 @@ sealed_by_waits s kind true is has some =
     let less = emptied_is_less s kind some in
     let added = absent_is_less (record (emptied kind s) { waits = false }) refl here.0 in omega (arith, waited, less, added)
 
-pub sealed_is_less : (s : SessionState) (kind : Kind) → (s.waits ≡ true → HasItem s.node s.spelled s.ahead) →
+pub sealed_is_less : (s : SessionState) (kind : Kind) → (s.waits ≡ true → HasItem (turn_node s) s.spelled s.ahead) →
     1 ≤ length (open_of s kind).segments → to_do (sealed kind s) < to_do s
 sealed_is_less s kind has some = sealed_by_waits s kind s.waits refl has some

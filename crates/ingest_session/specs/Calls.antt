@@ -13,15 +13,16 @@ use Rattle.merkle_file.specs.Node as node
 use Rattle.ingest_session.specs.declared.due.Due.{Due}
 use Rattle.ingest_session.specs.declared.due.Due.TheVariants.{Nothing}
 use Rattle.ingest_session.specs.Due.{due_in}
-use Rattle.ingest_session.specs.Finished.{first_node, without_first}
+use Rattle.ingest_session.specs.Finished.{without_nodes}
 use Rattle.ingest_session.specs.Items.{item_of}
 use Rattle.ingest_session.specs.Moving.{Finishes}
-use Rattle.ingest_session.specs.State.{SessionState, rest_of}
+use Rattle.ingest_session.specs.State.{SessionState, rest_of, turn_node}
 use Rattle.ingest_session.specs.Stream.{IsCutInto}
 
 -- An item that waits is the same item afterwards.
 abbrev pub KeepsItem : SessionState → SessionState → Type 0
-KeepsItem old new = old.waits ≡ true → (new.node ≡ old.node) × (item_of new.node new.queue ≡ item_of old.node old.queue)
+KeepsItem old new =
+    old.waits ≡ true → (turn_node new ≡ turn_node old) × (item_of (turn_node new) new.queue ≡ item_of (turn_node old) old.queue)
 
 -- These bytes were taken: what is in hand may have changed, and segments may wait after those that waited. Nothing else
 -- changed.
@@ -56,14 +57,14 @@ IsFinishAnswer s (Err refusal) = ⊥
 
 -- the tree goes on
 pub record GoesOn (old new : SessionState) : Type 0 where
-  pub node : new.node ≡ old.node
+  pub line : new.line ≡ old.line
   pub built : new.built ≡ old.built
   pub top : new.top ≡ old.top
 
--- the next node has its turn, where no item has it
-abbrev pub TakesTurn : Option KindSegment → Option node.Contents → Progress → SessionState → Type 0
-TakesTurn None None built new = (new.node ≡ first_node built) × (new.built ≡ without_first built)
-TakesTurn ahead node built new = (new.node ≡ node) × (new.built ≡ built)
+-- The last nodes stand in line, where all segments are in their place.
+abbrev pub LinesUp : Option KindSegment → List node.Contents → Progress → SessionState → Type 0
+LinesUp None line built new = (new.line ≡ line ++ built.finished) × (new.built ≡ without_nodes built)
+LinesUp (Some seg) line built new = (new.line ≡ line) × (new.built ≡ built)
 
 -- the builder has all segments, and the tree is whole
 pub record EndsTree (old new : SessionState) : Type 0 where
@@ -73,10 +74,9 @@ pub record EndsTree (old new : SessionState) : Type 0 where
   pub top : new.top ≡ Some root
   pub built : Progress
   pub finishes : Finishes root old.built built
-  pub turn : TakesTurn old.ahead old.node built new
+  pub lined : LinesUp old.ahead old.line built new
 
--- What the end of the file changes: what is in hand is in the queue. Where the builder has all segments, the tree is whole,
--- and its next node has its turn.
+-- What the end of the file changes: what is in hand is in the queue. Where the builder has all segments, the tree is whole.
 pub record IsEnding (old new : SessionState) : Type 0 where
   pub ongoing : old.ended ≡ false
   pub ended : new.ended ≡ true
@@ -85,7 +85,7 @@ pub record IsEnding (old new : SessionState) : Type 0 where
   pub cut : (given : List ℕ) (segments : List (List ℕ)) → IsCutInto old.ended given (segments ++ rest_of old) old.hand
       → IsCutInto new.ended given (segments ++ rest_of new) new.hand
   pub tree : GoesOn old new ⊎ EndsTree old new
-  pub others : new ≡ record old { ended = true; hand = empty_hand; queue = new.queue; node = new.node; built = new.built; top = new.top }
+  pub others : new ≡ record old { ended = true; hand = empty_hand; queue = new.queue; line = new.line; built = new.built; top = new.top }
 
 abbrev pub root_by : ℕ → Option Top → Option Root
 root_by count None = None

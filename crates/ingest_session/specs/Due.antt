@@ -1,5 +1,5 @@
 -- Which step is due (docs/MODEL.md, 'Sessions').
-use Rattle.std.specs.Prelude.{ℕ, Bool, false, ◌&&◌, not, ◌==◌, if◌then◌else◌, List, [], ◌∷◌, length, Option, Some, None}
+use Rattle.std.specs.Prelude.{ℕ, Bool, false, ◌&&◌, ◌||◌, not, nat_le, ◌==◌, if◌then◌else◌, List, [], ◌∷◌, length, Option, Some, None}
 use Rattle.container_meta.specs.declared.kind.Kind.{Kind}
 use Rattle.container_meta.specs.declared.kind.Kind.TheVariants.{Leaf, Tree}
 use Rattle.container_meta.specs.Segments.{Contents, has_key, has_segment}
@@ -8,19 +8,44 @@ use Rattle.actor_parts.specs.Segments.{child_kind, node_segment}
 use Rattle.store_model.specs.Trees.{leaf_key, node_key}
 use Rattle.ingest_session.specs.declared.due.Due.{Due}
 use Rattle.ingest_session.specs.declared.due.Due.TheVariants.{Claim, Seal, Nothing}
+use Rattle.ingest_session.specs.declared.line.TheConstants.{LONG_LINE}
 use Rattle.ingest_session.specs.Child.{has_child_of}
-use Rattle.ingest_session.specs.State.{SessionState, leaf_segment}
+use Rattle.ingest_session.specs.State.{SessionState, is_last, leaf_segment, node_in_turn, turn_node}
 
 -- the open container of a kind
 abbrev pub open_of : SessionState → Kind → Contents
 open_of s Leaf = s.leaves
 open_of s Tree = s.nodes
 
+-- ---- whose turn it is
+
+-- a child of a node lies in the open container of its kind
+abbrev pub child_is_open : SessionState → node.Contents → Bool
+child_is_open s n = has_child_of (open_of s (child_kind n.level)) n
+
+-- The first node in line is due where many stand in line, at the end once the queue is empty, and once no child of it lies in
+-- an open container.
+abbrev pub is_node_due : SessionState → node.Contents → Bool
+is_node_due s n = nat_le LONG_LINE (length s.line) || is_last s.ended s.queue || not (child_is_open s n)
+
+abbrev pub turn_for : SessionState → List node.Contents → Kind
+turn_for s [] = Leaf
+turn_for s (n ∷ ns) = if is_node_due s n then Tree else Leaf
+
+-- whose turn it is, where no item waits: that of the first node in line where it is due, else that of the queue
+abbrev pub turn_in : SessionState → Kind
+turn_in s = turn_for s s.line
+
+abbrev pub due_node : SessionState → Option node.Contents
+due_node s = node_in_turn (turn_in s) s.line
+
+-- ---- the step
+
 -- The step for a node whose turn it is: the container with its children is sealed before it is claimed. So is the one that has
 -- a node of its key that is not in its place: another of its digest. A claim of it then finds that one in the store.
 abbrev pub node_due : SessionState → node.Contents → Due
 node_due s n =
-    if has_child_of (open_of s (child_kind n.level)) n then Seal (child_kind n.level)
+    if child_is_open s n then Seal (child_kind n.level)
     else if has_key s.nodes (node_key n) then Seal Tree
     else Claim
 
@@ -32,13 +57,13 @@ end_due s =
     else if not (length s.nodes.segments == 0) then Seal Tree
     else Nothing
 
--- an item has its turn: a finished node, or else the first of the queue
+-- an item has its turn: a node, or else the first of the queue
 abbrev pub HasTurn : Option node.Contents → List (List ℕ) → Type 0
 HasTurn (Some n) queue = Unit {0}
 HasTurn None [] = ⊥
 HasTurn None (x ∷ xs) = Unit {0}
 
--- the kind of the item whose turn it is: a finished node comes before the queue
+-- the kind of the item whose turn it is
 abbrev pub item_kind : Option node.Contents → Kind
 item_kind None = Leaf
 item_kind (Some n) = Tree
@@ -53,9 +78,9 @@ item_due s (Some n) = node_due s n
 item_due s None = queue_due s s.queue
 
 -- The step that is due, where every item that needs none is in its place: first that of an item which waits, then that
--- of a finished node, then that of the queue's first segment, then those of the end.
+-- of the first node in line where it is due, then that of the queue's first segment, then those of the end.
 abbrev pub due_in : SessionState → Due
-due_in s = if s.waits then Seal (item_kind s.node) else item_due s s.node
+due_in s = if s.waits then Seal (item_kind (turn_node s)) else item_due s (due_node s)
 
 -- ---- items that need no step
 
@@ -63,16 +88,16 @@ abbrev pub queue_is_there : SessionState → List (List ℕ) → Bool
 queue_is_there s [] = false
 queue_is_there s (x ∷ xs) = has_segment s.leaves (leaf_segment x).segment
 
--- a finished node lies in the open tree container, and no child of it in an open container
+-- a node lies in the open tree container, and no child of it in an open container
 abbrev pub node_is_there : SessionState → node.Contents → Bool
-node_is_there s n = not (has_child_of (open_of s (child_kind n.level)) n) && has_segment s.nodes (node_segment n).segment
+node_is_there s n = not (child_is_open s n) && has_segment s.nodes (node_segment n).segment
 
 abbrev pub item_is_there : SessionState → Option node.Contents → Bool
 item_is_there s (Some n) = node_is_there s n
 item_is_there s None = queue_is_there s s.queue
 
 abbrev pub needs_no_step : SessionState → Bool
-needs_no_step s = not s.waits && item_is_there s s.node
+needs_no_step s = not s.waits && item_is_there s (turn_node s)
 
 -- its open container has the key of the item whose turn it is
 abbrev pub queue_has_key : SessionState → List (List ℕ) → Bool

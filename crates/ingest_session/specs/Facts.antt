@@ -11,10 +11,11 @@ use Rattle.segmenter.specs.Segments.{segments_of}
 use Rattle.store_model.specs.Pieces.{Piece, Data, Node, IsPieceOf, HasPieceOf, nodes_of_file, piece_segment}
 use Rattle.store_model.specs.Trees.{root_of}
 use Rattle.ingest_session.specs.declared.due.Due.TheVariants.{Claim, Nothing}
+use Rattle.ingest_session.specs.declared.line.TheConstants.{MOST_LINE}
 use Rattle.ingest_session.specs.Calls.{ready_in}
-use Rattle.ingest_session.specs.Due.{due_in, item_is_held, open_of}
+use Rattle.ingest_session.specs.Due.{due_in, due_node, item_is_held, open_of}
 use Rattle.ingest_session.specs.History.{History, HasHistory, turn, waiting}
-use Rattle.ingest_session.specs.State.{SessionState}
+use Rattle.ingest_session.specs.State.{SessionState, turn_node}
 
 -- How many bytes were taken is counted, and a file has no more than the most.
 abbrev pub BytesAreCounted : Type 0
@@ -71,7 +72,7 @@ IsKeptChild h c =
 
 -- The children of a node whose claim is due are kept, and so are those of each node in the open container.
 abbrev pub ChildrenComeFirst : Type 0
-ChildrenComeFirst = (s : SessionState) (h : History) (n : node.Contents) → HasHistory s h → s.node ≡ Some n → due_in s ≡ Claim
+ChildrenComeFirst = (s : SessionState) (h : History) (n : node.Contents) → HasHistory s h → due_node s ≡ Some n → due_in s ≡ Claim
     → AllByRecursion (IsKeptChild h) (children_of (node_segment n))
 
 abbrev pub OpenNodesHaveChildren : Type 0
@@ -88,7 +89,7 @@ SealsWereAbsent = (s : SessionState) (h : History) (kind : Kind) → HasHistory 
 
 -- The container has no segment of the key of the item that waits for it.
 abbrev pub WaitsForAnother : Type 0
-WaitsForAnother = (s : SessionState) (h : History) → HasHistory s h → s.waits ≡ true → item_is_held s s.node ≡ false
+WaitsForAnother = (s : SessionState) (h : History) → HasHistory s h → s.waits ≡ true → item_is_held s (turn_node s) ≡ false
 
 -- one, where it is so
 abbrev pub one_if : Bool → ℕ
@@ -98,6 +99,10 @@ one_if false = 0
 -- There are at most two steps for each piece that is in its place, and one for one that waits.
 abbrev pub StepsAreFew : Type 0
 StepsAreFew = (s : SessionState) (h : History) → HasHistory s h → length h.answers ≤ 2 * length h.placed + one_if s.waits
+
+-- At most so many nodes stand in line.
+abbrev pub NodesAreFew : Type 0
+NodesAreFew = (s : SessionState) (h : History) → HasHistory s h → length s.line ≤ MOST_LINE
 
 -- ---- the end
 

@@ -14,9 +14,9 @@ use Rattle.ingest_session.specs.declared.due.Due.TheVariants.{Seal}
 use Rattle.ingest_session.specs.Calls.{IsEnding, IsTaking}
 use Rattle.ingest_session.specs.Due.{due_in, item_kind, open_of}
 use Rattle.ingest_session.specs.Items.{fits, item_of}
-use Rattle.ingest_session.specs.Settling.{SettleStep, Spelled, Advanced, Closed, PlacedNode, PlacedFront}
+use Rattle.ingest_session.specs.Settling.{SettleStep, Turned, Spelled, Advanced, Closed, PlacedNode, PlacedFront}
 use Rattle.ingest_session.specs.Sound.{IsSession}
-use Rattle.ingest_session.specs.State.{SessionState}
+use Rattle.ingest_session.specs.State.{SessionState, turn_node}
 use Rattle.ingest_session.specs.Told.{IsAnswerFor, IsSettled, emptied, told_by}
 
 pub record History : Type 0 where
@@ -44,7 +44,7 @@ turn_of None [] = []
 turn_of None (x ∷ xs) = Data x ∷ []
 
 abbrev pub turn : SessionState → List Piece
-turn s = turn_of s.node s.queue
+turn s = turn_of (turn_node s) s.queue
 
 abbrev pub same_kind : Kind → Kind → Bool
 same_kind Leaf Leaf = true
@@ -54,7 +54,7 @@ same_kind Tree Tree = true
 
 -- as a container has it, where it is of a kind
 abbrev pub item_if : Kind → SessionState → List Segment
-item_if kind s = if same_kind kind (item_kind s.node) then item_of s.node s.queue ∷ [] else []
+item_if kind s = if same_kind kind (item_kind (turn_node s)) then item_of (turn_node s) s.queue ∷ [] else []
 
 -- the item that waits, where one of a kind does
 abbrev pub waiting : Kind → SessionState → List Segment
@@ -112,7 +112,7 @@ pub record IsBegun (s : SessionState) : Type 0 where
   pub cut : HasCut [] [] s.hand
   pub queue : s.queue ≡ []
   pub ahead : s.ahead ≡ None
-  pub node : s.node ≡ None
+  pub line : s.line ≡ []
   pub built : Holds s.built [] []
   pub top : s.top ≡ None
   pub leaves : s.leaves.segments ≡ []
@@ -121,11 +121,12 @@ pub record IsBegun (s : SessionState) : Type 0 where
 
 -- what a move before a step puts in its place
 abbrev pub moved : {s t : SessionState} → SettleStep s t → List Piece
+moved (Turned s t off is) = []
 moved (Spelled s t is) = []
 moved (Advanced s t is) = []
 moved (Closed s t is) = []
-moved (PlacedNode s t none some is) = turn s
-moved (PlacedFront s t none empty is) = turn s
+moved (PlacedNode s t none right some is) = turn s
+moved (PlacedFront s t none right empty is) = turn s
 
 -- a container that is to be sealed holds a segment
 abbrev pub SealsSome : Due → SessionState → Type 0

@@ -1,23 +1,24 @@
 -- Items that need no step go to their place, and those whose turn it is get their segments.
 use Rattle.std.specs.Prelude.{◌≡◌, ◌+◌, ◌<◌, ℕ, Bool, true, false, length, None, IsSome}
-use Rattle.std.specs.Option.{option_to_list}
 use Rattle.ingest_session.specs.Sound.{IsSession}
-use Rattle.ingest_session.specs.State.{SessionState, HasItem}
-use Rattle.ingest_session.specs.Due.{item_is_there, needs_no_step}
+use Rattle.ingest_session.specs.State.{SessionState, turn_node}
+use Rattle.ingest_session.specs.Due.{needs_no_step, turn_in}
 use Rattle.ingest_session.specs.Calls.{KeepsItem}
 use Rattle.ingest_session.specs.Told.{IsSettled, placed_node, placed_front}
-use Rattle.ingest_session.specs.Moving.{IsAdvanced, IsClosing, IsSpelledOut}
+use Rattle.ingest_session.specs.Moving.{IsAdvanced, IsClosing, IsSpelledOut, IsTurned}
+use Rattle.ingest_session.specs.Work.{to_do}
 
--- What may happen before a step is due: the item whose turn it is gets its segment, and goes to its place where it needs
--- no step; the tree is made whole where its last segment has its turn.
+-- What may happen before a step is due: whose turn it is is found; that item gets its segment, and goes to its place where it
+-- needs no step; the tree is made whole where its last segment has its turn.
 pub data SettleStep : SessionState → SessionState → Type 0 where
+  Turned : (old new : SessionState) → old.waits ≡ false → IsTurned old new → SettleStep old new
   Spelled : (old new : SessionState) → IsSpelledOut old new → SettleStep old new
   Advanced : (old new : SessionState) → IsAdvanced old new → SettleStep old new
   Closed : (old new : SessionState) → IsClosing old new → SettleStep old new
-  PlacedNode : (old new : SessionState) → needs_no_step old ≡ true → IsSome old.node → new ≡ placed_node old
-      → SettleStep old new
-  PlacedFront : (old new : SessionState) → needs_no_step old ≡ true → old.node ≡ None → new ≡ placed_front 1 old
-      → SettleStep old new
+  PlacedNode : (old new : SessionState) → needs_no_step old ≡ true → old.turn ≡ turn_in old → IsSome (turn_node old)
+      → new ≡ placed_node old → SettleStep old new
+  PlacedFront : (old new : SessionState) → needs_no_step old ≡ true → old.turn ≡ turn_in old → turn_node old ≡ None
+      → new ≡ placed_front 1 old → SettleStep old new
 
 -- Any number of these, one after the other.
 pub data Settles : SessionState → SessionState → Type 0 where
@@ -34,30 +35,10 @@ pub record KeepsOpen (old new : SessionState) : Type 0 where
   pub waits : new.waits ≡ old.waits
   pub item : KeepsItem old new
 
--- how many finished nodes are not in their place
-abbrev pub nodes_left : SessionState → ℕ
-nodes_left s = length (option_to_list s.node) + length s.built.finished
-
--- the queue and whether an item waits are as before
-pub record IsBeside (old new : SessionState) : Type 0 where
-  pub queue : new.queue ≡ old.queue
-  pub waits : new.waits ≡ old.waits
-  pub ahead : new.ahead ≡ old.ahead
-
--- What trying to pass a node does: it is in its place, or it needs a step and has its segment.
-abbrev pub PassesNode : Bool → SessionState → SessionState → Type 0
-PassesNode true old new = (nodes_left new < nodes_left old) × IsBeside old new
-PassesNode false old new =
-    HasItem new.node new.spelled new.ahead × (item_is_there new new.node ≡ false) × IsSome new.node × IsBeside old new
-
--- the node whose turn it is, if there is one, needs a step and has its segment
-abbrev pub NeedsStep : SessionState → Type 0
-NeedsStep s = IsSome s.node → HasItem s.node s.spelled s.ahead × (item_is_there s s.node ≡ false)
-
--- What trying to pass the first segment of the queue does.
-abbrev pub PassesFront : Bool → SessionState → SessionState → Type 0
-PassesFront true old new = (length new.queue < length old.queue) × (new.waits ≡ old.waits)
-PassesFront false old new = IsSettled new × (new.waits ≡ old.waits)
+-- What trying to put the item whose turn it is in its place does: less is left to do, or the session is settled.
+abbrev pub Passes : Bool → SessionState → SessionState → Type 0
+Passes true old new = (to_do new < to_do old) × (new.waits ≡ false)
+Passes false old new = IsSettled new × (new.waits ≡ false)
 
 -- how many segments are seen to wait
 abbrev pub seen : SessionState → ℕ

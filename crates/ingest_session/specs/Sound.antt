@@ -5,9 +5,11 @@ use Rattle.disk_format.specs.declared.numbers.TheConstants.{MOST_FILE}
 use Rattle.container_meta.specs.declared.kind.Kind.TheVariants.{Leaf, Tree}
 use Rattle.actor_parts.specs.Segments.{AreStepSegments}
 use Rattle.ingest_session.specs.declared.queue.TheConstants.{QUEUE, BUFFERS}
+use Rattle.ingest_session.specs.declared.line.TheConstants.{MOST_LINE}
+use Rattle.ingest_session.specs.Finished.{first_of}
 use Rattle.ingest_session.specs.Items.{fits}
 use Rattle.ingest_session.specs.Stream.{IsUncut}
-use Rattle.ingest_session.specs.State.{SessionState, HasItem, IsAhead, IsBuilding, IsClosed, IsSized, IsSpelled, IsWhole, is_last, rest_of}
+use Rattle.ingest_session.specs.State.{SessionState, HasItem, IsAhead, IsBuilding, IsClosed, IsSized, IsSpelled, IsWhole, ends_left, is_last, rest_of, turn_node}
 
 pub record IsSession (s : SessionState) : Type 0 where
   pub data_kind : s.leaves.kind ≡ Leaf
@@ -19,12 +21,12 @@ pub record IsSession (s : SessionState) : Type 0 where
   pub most : length s.queue + s.unseen ≤ BUFFERS
   pub sized : AllByRecursion IsSized s.queue
   pub ahead : IsAhead s.ahead s.queue
-  pub spelled : IsSpelled s.spelled s.node
+  pub spelled : IsSpelled s.spelled (first_of s.line)
   pub building : IsBuilding s
   pub whole : IsWhole s.top (is_last s.ended (rest_of s))
   pub closed : is_last s.ended s.queue ≡ true → IsSome s.top
-  pub next : s.node ≡ None → s.ahead ≡ None → s.built.finished ≡ []
+  pub next : s.ahead ≡ None → s.built.finished ≡ []
+  pub line : length s.line + length s.built.finished + ends_left s.top s.built ≤ MOST_LINE
   pub nodes_right : AreStepSegments Tree s.nodes.segments
-  pub alone : IsSome s.node → s.ahead ≡ None
-  pub waits : s.waits ≡ true → HasItem s.node s.spelled s.ahead × IsClosed s
+  pub waits : s.waits ≡ true → HasItem (turn_node s) s.spelled s.ahead × IsClosed s
   pub full : s.waits ≡ true → fits s ≡ false

@@ -1,13 +1,15 @@
 -- What a session holds, and what holds of it at every moment.
 use Rattle.std.specs.Prelude.{◌≡◌, ◌≤◌, ℕ, ◌+◌, ◌*◌, Bool, true, false, List, [], ◌∷◌, drop, length, sum_by, Option, Some, None, IsSome}
 use Rattle.disk_format.specs.declared.numbers.TheConstants.{LEAST_SEGMENT, MOST_SEGMENT}
-use Rattle.container_meta.specs.declared.kind.Kind.TheVariants.{Leaf}
+use Rattle.container_meta.specs.declared.kind.Kind.{Kind}
+use Rattle.container_meta.specs.declared.kind.Kind.TheVariants.{Leaf, Tree}
 use Rattle.container_meta.specs.Segments.{KindSegment, Contents}
 use Rattle.segmenter.specs.Cutting.{Hand}
 use Rattle.merkle_file.specs.Node as node
 use Rattle.merkle_file.specs.declared.top.Top.{Top}
-use Rattle.merkle_file.specs.Building.{Progress, total_of}
+use Rattle.merkle_file.specs.Building.{Progress, levels_left, total_of}
 use Rattle.actor_parts.specs.Segments.{IsStepSegment, node_segment}
+use Rattle.ingest_session.specs.Finished.{first_of}
 
 -- What a session holds.
 pub record SessionState : Type 0 where
@@ -19,10 +21,12 @@ pub record SessionState : Type 0 where
   pub queue : List (List ℕ)
   -- the first of these as a segment, where the builder of the tree has it already
   pub ahead : Option KindSegment
-  -- the first finished node that isn't in its place, and the same as a segment
-  pub node : Option node.Contents
+  -- the finished nodes that aren't in their place, in line, and the first of them as a segment, where that was made
+  pub line : List node.Contents
   pub spelled : Option KindSegment
-  -- the builder of the tree, and the root where the tree is whole
+  -- whose turn it is, as it was found last: that of the first node in line, or of the first segment of the queue
+  pub turn : Kind
+  -- the builder of the tree, which has the nodes that are finished by the segment ahead, and the root where the tree is whole
   pub built : Progress
   pub top : Option Top
   -- the open containers
@@ -32,6 +36,14 @@ pub record SessionState : Type 0 where
   pub waits : Bool
   -- how many segments were put in their place by a call that was refused after it
   pub unseen : ℕ
+
+-- The node whose turn it is. Where there is none, it is that of the first segment of the queue.
+abbrev pub node_in_turn : Kind → List node.Contents → Option node.Contents
+node_in_turn Leaf line = None
+node_in_turn Tree line = first_of line
+
+abbrev pub turn_node : SessionState → Option node.Contents
+turn_node s = node_in_turn s.turn s.line
 
 -- the segments that the builder doesn't have
 abbrev pub rest_after : Option KindSegment → List (List ℕ) → List (List ℕ)
@@ -90,6 +102,11 @@ abbrev pub IsWhole : Option Top → Bool → Type 0
 IsWhole None last = Unit {0}
 IsWhole (Some top) last = last ≡ true
 
+-- how many nodes the end of the tree may still finish
+abbrev pub ends_left : Option Top → Progress → ℕ
+ends_left None built = levels_left built.rows
+ends_left (Some top) built = 0
+
 -- Where the first segment of the queue has its turn and is the last, the tree is whole.
 abbrev pub IsClosed : SessionState → Type 0
-IsClosed s = s.node ≡ None → is_last s.ended (rest_of s) ≡ true → IsSome s.top
+IsClosed s = turn_node s ≡ None → is_last s.ended (rest_of s) ≡ true → IsSome s.top

@@ -1,5 +1,5 @@
 -- What an answer does to a session.
-use Rattle.std.specs.Prelude.{◌≡◌, ℕ, ◌+◌, true, false, if◌then◌else◌, [], drop, Option, Some, None}
+use Rattle.std.specs.Prelude.{◌≡◌, ℕ, ◌+◌, true, false, if◌then◌else◌, [], ◌++◌, drop, Option, Some, None}
 use Rattle.container_meta.specs.declared.kind.Kind.{Kind}
 use Rattle.container_meta.specs.declared.kind.Kind.TheVariants.{Leaf, Tree}
 use Rattle.container_meta.specs.Segments.{Contents}
@@ -8,19 +8,26 @@ use Rattle.actor_parts.specs.declared.step.Answer.{Answer}
 use Rattle.actor_parts.specs.declared.step.Answer.TheVariants.{Held, Absent, Sealed}
 use Rattle.ingest_session.specs.declared.due.Due.{Due}
 use Rattle.ingest_session.specs.declared.due.Due.TheVariants.{Claim, Seal}
-use Rattle.ingest_session.specs.State.{SessionState, HasItem, IsClosed}
+use Rattle.ingest_session.specs.State.{SessionState, HasItem, IsClosed, turn_node}
 use Rattle.ingest_session.specs.Filling.{with_segment}
-use Rattle.ingest_session.specs.Finished.{first_node, without_first}
+use Rattle.ingest_session.specs.Finished.{without_nodes}
 use Rattle.ingest_session.specs.Items.{fits, item_of}
-use Rattle.ingest_session.specs.Due.{HasTurn, due_in, item_kind, needs_no_step, open_of}
+use Rattle.ingest_session.specs.Due.{HasTurn, due_in, item_kind, needs_no_step, open_of, turn_in}
 
--- the node whose turn it is goes to its place, and the next finished node has its turn
+-- the first node in line goes to its place
 abbrev pub placed_node : SessionState → SessionState
-placed_node s = record s { node = first_node s.built; spelled = None; built = without_first s.built }
+placed_node s = record s { line = drop 1 s.line; spelled = None }
 
--- so does the first segment of the queue; `more` says that this was a call that may still be refused
+-- The first segment of the queue goes to its place, and the nodes that it finishes stand in line. `more` says that this was a
+-- call that may still be refused.
 abbrev pub placed_front : ℕ → SessionState → SessionState
-placed_front more s = record (placed_node s) { queue = drop 1 s.queue; ahead = None; unseen = s.unseen + more }
+placed_front more s = record s {
+  queue = drop 1 s.queue;
+  ahead = None;
+  line = s.line ++ s.built.finished;
+  built = without_nodes s.built;
+  unseen = s.unseen + more;
+}
 
 abbrev pub placed_item : Option node.Contents → SessionState → SessionState
 placed_item (Some n) s = placed_node s
@@ -32,11 +39,12 @@ with_open Leaf filled s = record s { leaves = filled }
 with_open Tree filled s = record s { nodes = filled }
 
 abbrev pub added_item : SessionState → SessionState
-added_item s = with_open (item_kind s.node) (with_segment (open_of s (item_kind s.node)) (item_of s.node s.queue)) s
+added_item s =
+    with_open (item_kind (turn_node s)) (with_segment (open_of s (item_kind (turn_node s))) (item_of (turn_node s) s.queue)) s
 
 -- An item that was answered Absent goes into its container and to its place, or waits where there is no room.
 abbrev pub absent_item : SessionState → SessionState
-absent_item s = if fits s then placed_item s.node (added_item s) else record s { waits = true }
+absent_item s = if fits s then placed_item (turn_node s) (added_item s) else record s { waits = true }
 
 -- a container was sealed: it is empty, and the item that waits for it is added
 abbrev pub emptied : Kind → SessionState → SessionState
@@ -51,18 +59,19 @@ sealed_by other s = s
 
 -- the session after it was told an answer
 abbrev pub told_by : Answer → SessionState → SessionState
-told_by Held s = placed_item s.node s
+told_by Held s = placed_item (turn_node s) s
 told_by Absent s = absent_item s
 told_by (Sealed id) s = sealed_by (due_in s) s
 told_by other s = s
 
 -- ---- which answers may be told
 
--- Everything that needs no step is in its place, and the item whose turn it is has its segment.
+-- Everything that needs no step is in its place, and the item whose turn it is has its turn, and its segment.
 pub record IsSettled (s : SessionState) : Type 0 where
+  pub turn : s.waits ≡ false → s.turn ≡ turn_in s
   pub none : needs_no_step s ≡ false
-  pub item : HasTurn s.node s.queue → HasItem s.node s.spelled s.ahead
-  pub claim : due_in s ≡ Claim → HasItem s.node s.spelled s.ahead
+  pub item : HasTurn (turn_node s) s.queue → HasItem (turn_node s) s.spelled s.ahead
+  pub claim : due_in s ≡ Claim → HasItem (turn_node s) s.spelled s.ahead
   pub closed : IsClosed s
 
 -- an answer that the step which is due can have

@@ -2,7 +2,7 @@
 ghost use Rattle.std.specs.Prelude.{◌≡◌, Bool, true, false, IfSome, IfNone, OnErr, OnOk};
 ghost use Rattle.store_model.specs.Trees.{root_of};
 
-use crate::placing::next_node;
+use crate::line::line_up;
 use crate::session::Session;
 use merkle_file::tree_of_segments;
 use namespace::Root;
@@ -24,8 +24,7 @@ impl Session {
         }
     }
 
-    /// What is in hand becomes the last segment. Where the builder has all segments, the tree is whole, and its next node has
-    /// its turn. Where there is no memory, nothing changes.
+    /// What is in hand becomes the last segment. Where the builder has all segments, the tree is whole. Where there is no memory, nothing changes.
     fn end(&mut self) -> Result<(), AllocError>
         requires ongoing { self.old.ended ≡ false }
         ensures ok { OnOk result (IsEnding self.old self.new) }
@@ -44,10 +43,10 @@ impl Session {
         let top = self.builder.finish()?;
         self.top = Some(top);
         self.ended = true;
-        if self.ahead.is_some() || self.node.is_some() {
+        if self.ahead.is_some() {
             return Ok(());
         }
-        self.node = next_node(&mut self.builder);
+        line_up(&mut self.line, &mut self.builder);
         Ok(())
     }
 

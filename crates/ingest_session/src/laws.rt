@@ -1,5 +1,5 @@
 //! Laws of sessions with a history, for those who stand on them (docs/MODEL.md, 'Sessions'). Their functions do nothing.
-ghost use Rattle.ingest_session.specs.Facts.{AllIsKept, BytesAreCounted, ChildrenComeFirst, OpenNodesHaveChildren, OpensArePieces, PlacedComeFirst, SealsWereAbsent, StepsAreFew, TurnsArePieces, WaitsForAnother};
+ghost use Rattle.ingest_session.specs.Facts.{AllIsKept, BytesAreCounted, ChildrenComeFirst, NodesAreFew, OpenNodesHaveChildren, OpensArePieces, PlacedComeFirst, SealsWereAbsent, StepsAreFew, TurnsArePieces, WaitsForAnother};
 ghost use Rattle.ingest_session.specs.DueFor.{DueIsOne, KeptIsOne};
 
 /// How many bytes were taken is counted.
@@ -30,6 +30,11 @@ pub fn seals_were_absent()
 /// At most two steps are due for each piece that is in its place, and one for one that waits.
 pub fn steps_are_few()
     ensures { StepsAreFew }
+{}
+
+/// At most so many nodes wait for their place.
+pub fn nodes_are_few()
+    ensures { NodesAreFew }
 {}
 
 /// What is due of some bytes after some answers is one step, however the bytes came in pieces between the answers.

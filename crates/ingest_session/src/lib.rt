@@ -16,6 +16,7 @@ mod asking;
 mod due;
 mod ending;
 mod laws;
+mod line;
 mod placing;
 mod queue;
 mod session;
@@ -24,8 +25,9 @@ mod telling;
 
 pub use due::Due;
 pub use laws::{
-    all_is_kept, bytes_are_counted, children_come_first, due_is_one, kept_is_one,
+    all_is_kept, bytes_are_counted, children_come_first, due_is_one, kept_is_one, nodes_are_few,
     seals_were_absent, steps_are_few, steps_have_pieces,
 };
+pub use line::{LONG_LINE, MOST_LINE};
 pub use queue::MOST_WAITING;
 pub use session::Session;

@@ -1,32 +1,24 @@
 //! Segments and nodes that go to their place in the tree.
 ghost use Rattle.std.specs.Prelude.{◌≡◌, ◌<◌, ◌≤◌, true, false, IsSome, OnErr, OnOk, length, None};
-ghost use Rattle.ingest_session.specs.Finished.{first_node, without_first};
 
+use crate::line::{LONG_LINE, line_up};
 use crate::session::Session;
 use actor_parts::node_seg;
 use container_meta::Seg;
-use merkle_file::{Child, Node, TreeBuilder};
+use merkle_file::Child;
 use std::alloc::AllocError;
 
-/// Takes the first finished node.
-pub(crate) fn next_node(builder: &mut TreeBuilder) -> Option<Node>
-    ensures node { result ≡ first_node builder.old }
-    ensures rest { builder.new ≡ without_first builder.old }
-{
-    builder.take()
-}
-
 impl Session {
-    ghost use Rattle.ingest_session.specs.State.{is_last, rest_of};
+    ghost use Rattle.ingest_session.specs.State.{is_last, rest_of, turn_node};
     ghost use Rattle.ingest_session.specs.Told.{placed_node, placed_front};
     ghost use Rattle.ingest_session.specs.Moving.{IsAdvanced, IsSpelledOut};
 
-    /// Makes the segment of the node whose turn it is. Where there is no memory, nothing changes.
+    /// Makes the segment of the first node in line. Where there is no memory, nothing changes.
     pub(crate) fn spell(&mut self) -> Result<(), AllocError>
         ensures ok { OnOk result (IsSpelledOut self.old self.new) }
         ensures err { OnErr result (self.new ≡ self.old) }
     {
-        if let Some(node) = &self.node {
+        if let Some(node) = self.line.first() {
             if self.spelled.is_none() {
                 self.spelled = Some(node_seg(self.alloc, node)?);
             }
@@ -37,7 +29,7 @@ impl Session {
     /// Gives the builder the first segment of the queue. Where there is no memory, nothing changes.
     pub(crate) fn advance(&mut self) -> Result<(), AllocError>
         requires some { 0 < length self.old.queue }
-        requires node { self.old.node ≡ None }
+        requires short { length self.old.line < LONG_LINE }
         requires none { self.old.ahead ≡ None }
         ensures ok { OnOk result (IsAdvanced self.old self.new) }
         ensures err { OnErr result (self.new ≡ self.old) }
@@ -52,13 +44,13 @@ impl Session {
         Ok(())
     }
 
-    /// Puts the node whose turn it is in its place.
+    /// Puts the first node in line in its place.
     pub(crate) fn place_node(&mut self)
-        requires node { IsSome self.old.node }
+        requires node { IsSome (turn_node self.old) }
         requires waits { self.old.waits ≡ false }
         ensures placed { self.new ≡ placed_node self.old }
     {
-        self.node = next_node(&mut self.builder);
+        self.line.pop();
         self.spelled = None;
     }
 
@@ -66,15 +58,13 @@ impl Session {
     pub(crate) fn place_front(&mut self, more: usize)
         requires more { more ≤ 1 }
         requires ahead { IsSome self.old.ahead }
-        requires node { self.old.node ≡ None }
         requires waits { self.old.waits ≡ false }
         requires closed { is_last self.old.ended (rest_of self.old) ≡ true → IsSome self.old.top }
         ensures placed { self.new ≡ placed_front more self.old }
     {
         self.queue.pop();
         self.ahead = None;
-        self.node = next_node(&mut self.builder);
-        self.spelled = None;
+        line_up(&mut self.line, &mut self.builder);
         self.unseen += more;
     }
 }

@@ -1,10 +1,11 @@
 //! A session: the bytes of a file as they come.
 ghost use Rattle.std.specs.Prelude.{◌≡◌, ◌+◌, ◌*◌, ◌<◌, ◌≤◌, ℕ, false, List, [], ◌++◌, IfOk, OnErr, length, take};
 
+use crate::line::Line;
 use crate::queue::{MOST_WAITING, QUEUE, Queue};
 use container_meta::{Kind, OpenContainer, Seg};
 use disk_format::{LEAST_SEGMENT, MOST_FILE};
-use merkle_file::{Node, Top, TreeBuilder};
+use merkle_file::{Top, TreeBuilder};
 use refusals::{PartKind, Refusal};
 use segmenter::Cutter;
 use std::alloc::{AllocError, Global};
@@ -12,7 +13,7 @@ use std::marker::Model;
 
 /// The bytes of a file as they come, and what of them the store is still to hold.
 ///
-/// It takes the memory of its queue and of two open containers when it is made.
+/// It takes the memory of its queue and of two open containers when it is made; that of the nodes that wait comes with them.
 #[derive(Drop)]
 pub struct Session {
     pub(crate) alloc: Global,
@@ -24,10 +25,13 @@ pub struct Session {
     pub(crate) queue: Queue,
     /// The first segment of the queue, where the builder has it already.
     pub(crate) ahead: Option<Seg>,
-    /// The first finished node that isn't in its place.
-    pub(crate) node: Option<Node>,
-    /// The same as a segment, where that was made.
+    /// The finished nodes that aren't in their place.
+    pub(crate) line: Line,
+    /// The first of them as a segment, where that was made.
     pub(crate) spelled: Option<Seg>,
+    /// Whose turn it is, as it was found last: `Tree` where it is that of the first node in line, else `Leaf`.
+    pub(crate) turn: Kind,
+    /// It has the nodes that the segment ahead finishes.
     pub(crate) builder: TreeBuilder,
     /// The root, where the tree is whole.
     pub(crate) top: Option<Top>,
@@ -51,8 +55,9 @@ impl Model for Session {
       hand = s.cutter;
       queue = s.queue;
       ahead = s.ahead;
-      node = s.node;
+      line = s.line;
       spelled = s.spelled;
+      turn = s.turn;
       built = s.builder;
       top = s.top;
       leaves = s.leaves;
@@ -67,8 +72,9 @@ impl Model for Session {
       hand = s.cutter;
       queue = s.queue;
       ahead = s.ahead;
-      node = s.node;
+      line = s.line;
       spelled = s.spelled;
+      turn = s.turn;
       built = s.builder;
       top = s.top;
       leaves = s.leaves;
@@ -96,8 +102,9 @@ impl Session {
             cutter: Cutter::new(alloc)?,
             queue: Queue::new(alloc)?,
             ahead: None,
-            node: None,
+            line: Line::new(alloc)?,
             spelled: None,
+            turn: Kind::Leaf,
             builder: TreeBuilder::new(alloc)?,
             top: None,
             leaves: OpenContainer::new(alloc, Kind::Leaf)?,

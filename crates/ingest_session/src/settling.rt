@@ -2,22 +2,36 @@
 ghost use Rattle.std.specs.Prelude.{◌≡◌, ◌⊎◌, ◌<◌, ◌≤◌, false, IfOk, IsSome, OnErr, OnOk, length, None};
 
 use crate::due::Due;
+use crate::line::LONG_LINE;
 use crate::session::Session;
+use container_meta::Kind;
 use std::alloc::AllocError;
 
 impl Session {
-    ghost use Rattle.ingest_session.specs.State.{IsClosed};
-    ghost use Rattle.ingest_session.specs.Due.{due_in};
+    ghost use Rattle.ingest_session.specs.State.{IsClosed, turn_node};
+    ghost use Rattle.ingest_session.specs.Due.{due_in, turn_in};
     ghost use Rattle.ingest_session.specs.History.{Places};
-    ghost use Rattle.ingest_session.specs.Moving.{IsClosing};
-    ghost use Rattle.ingest_session.specs.Settling.{IsBeside, KeepsOpen, NeedsStep, PassesFront, PassesNode, Settles, seen};
+    ghost use Rattle.ingest_session.specs.Moving.{IsClosing, IsTurned};
+    ghost use Rattle.ingest_session.specs.Settling.{KeepsOpen, Passes, Settles, seen};
     ghost use Rattle.ingest_session.specs.Work.{to_do};
     ghost use Rattle.ingest_session.specs.Told.{IsSettled};
+
+    /// Finds out whose turn it is.
+    fn take_turn(&mut self)
+        requires waits { self.old.waits ≡ false }
+        ensures { IsTurned self.old self.new }
+    {
+        self.turn = if self.node_is_due() {
+            Kind::Tree
+        } else {
+            Kind::Leaf
+        };
+    }
 
     /// Gives the builder the first segment of the queue, where it doesn't have it. Where there is no memory, nothing changes.
     fn reach(&mut self) -> Result<(), AllocError>
         requires some { 0 < length self.old.queue }
-        requires node { self.old.node ≡ None }
+        requires short { length self.old.line < LONG_LINE }
         ensures ahead { OnOk result (IsSome self.new.ahead) }
         ensures settles { Settles self.old self.new }
         ensures err { OnErr result (self.new ≡ self.old) }
@@ -34,7 +48,6 @@ impl Session {
     /// Makes the tree whole, where the first segment of the queue is the last. Where there is no memory, nothing changes.
     fn close(&mut self) -> Result<(), AllocError>
         requires ahead { IsSome self.old.ahead }
-        requires node { self.old.node ≡ None }
         ensures ok { OnOk result ((self.new ≡ self.old) ⊎ IsClosing self.old self.new) }
         ensures closed { OnOk result (IsClosed self.new) }
         ensures err { OnErr result (self.new ≡ self.old) }
@@ -49,11 +62,11 @@ impl Session {
 
     /// Tries to put the node whose turn it is in its place. Where there is no memory, nothing changes.
     fn pass_node(&mut self) -> Result<bool, AllocError>
-        requires node { IsSome self.old.node }
+        requires node { IsSome (turn_node self.old) }
+        requires turn { self.old.turn ≡ turn_in self.old }
         requires waits { self.old.waits ≡ false }
-        ensures ok { IfOk result (λ passed. PassesNode passed self.old self.new) }
+        ensures ok { IfOk result (λ passed. Passes passed self.old self.new) }
         ensures settles { Settles self.old self.new }
-        ensures err { OnErr result (self.new ≡ self.old) }
         ensures seen { seen self.new ≡ seen self.old }
     {
         self.spell()?;
@@ -66,28 +79,13 @@ impl Session {
         Ok(true)
     }
 
-    /// Puts finished nodes in their place, up to one that needs a step.
-    fn pass_nodes(&mut self) -> Result<(), AllocError>
-        requires waits { self.old.waits ≡ false }
-        ensures ok { OnOk result (NeedsStep self.new) }
-        ensures beside { OnOk result (IsBeside self.old self.new) }
-        ensures settles { Settles self.old self.new }
-        ensures seen { seen self.new ≡ seen self.old }
-    {
-        while self.node.is_some() {
-            if !self.pass_node()? {
-                return Ok(());
-            }
-        }
-        Ok(())
-    }
-
     /// Tries to put the first segment of the queue in its place.
     fn pass_front(&mut self) -> Result<bool, AllocError>
         requires some { 0 < length self.old.queue }
-        requires node { self.old.node ≡ None }
+        requires node { turn_node self.old ≡ None }
+        requires turn { self.old.turn ≡ turn_in self.old }
         requires waits { self.old.waits ≡ false }
-        ensures ok { IfOk result (λ passed. PassesFront passed self.old self.new) }
+        ensures ok { IfOk result (λ passed. Passes passed self.old self.new) }
         ensures settles { Settles self.old self.new }
         ensures seen { seen self.new ≡ seen self.old }
     {
@@ -102,6 +100,24 @@ impl Session {
         Ok(true)
     }
 
+    /// Tries to put the item whose turn it is in its place.
+    fn pass_one(&mut self) -> Result<bool, AllocError>
+        requires waits { self.old.waits ≡ false }
+        ensures ok { IfOk result (λ passed. Passes passed self.old self.new) }
+        ensures settles { Settles self.old self.new }
+        ensures seen { seen self.new ≡ seen self.old }
+    {
+        self.take_turn();
+        self.sound();
+        if self.turn_node().is_some() {
+            return self.pass_node();
+        }
+        if self.queue.len() == 0 {
+            return Ok(false);
+        }
+        self.pass_front()
+    }
+
     /// Puts items in their place, up to one that needs a step. Where an item waits, none is.
     fn settle(&mut self) -> Result<(), AllocError>
         ensures ok { OnOk result (IsSettled self.new) }
@@ -113,20 +129,6 @@ impl Session {
         }
         while self.pass_one()? {}
         Ok(())
-    }
-
-    /// Puts finished nodes in their place, and then tries to put the first segment of the queue in its place.
-    fn pass_one(&mut self) -> Result<bool, AllocError>
-        requires waits { self.old.waits ≡ false }
-        ensures ok { IfOk result (λ passed. PassesFront passed self.old self.new) }
-        ensures settles { Settles self.old self.new }
-        ensures seen { seen self.new ≡ seen self.old }
-    {
-        self.pass_nodes()?;
-        if self.node.is_some() || self.queue.len() == 0 {
-            return Ok(false);
-        }
-        self.pass_front()
     }
 
     /// The step of the store that is due. Items that need none are put in their place before. It fails for want of memory

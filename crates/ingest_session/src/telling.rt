@@ -23,7 +23,7 @@ fn add_to(filled: &mut OpenContainer, seg: &Option<Seg>) -> Fit
 }
 
 impl Session {
-    ghost use Rattle.ingest_session.specs.State.{HasItem, IsClosed};
+    ghost use Rattle.ingest_session.specs.State.{HasItem, IsClosed, turn_node};
     ghost use Rattle.ingest_session.specs.Due.{due_in, item_is_held};
     ghost use Rattle.ingest_session.specs.History.{History, HasHistory, answered};
     ghost use Rattle.ingest_session.specs.Work.{to_do};
@@ -31,22 +31,22 @@ impl Session {
 
     /// Puts the item whose turn it is in its place.
     fn place(&mut self)
-        requires item { HasItem self.old.node self.old.spelled self.old.ahead }
+        requires item { HasItem (turn_node self.old) self.old.spelled self.old.ahead }
         requires closed { IsClosed self.old }
         requires waits { self.old.waits ≡ false }
-        ensures placed { self.new ≡ placed_item self.old.node self.old }
+        ensures placed { self.new ≡ placed_item (turn_node self.old) self.old }
     {
-        match self.node {
+        match self.turn_node() {
             Some(_) => self.place_node(),
             None => self.place_front(0),
         }
     }
 
     fn add_node(&mut self)
-        requires node { IsSome self.old.node }
-        requires item { HasItem self.old.node self.old.spelled self.old.ahead }
+        requires node { IsSome (turn_node self.old) }
+        requires item { HasItem (turn_node self.old) self.old.spelled self.old.ahead }
         requires waits { self.old.waits ≡ false }
-        requires new { item_is_held self.old self.old.node ≡ false }
+        requires new { item_is_held self.old (turn_node self.old) ≡ false }
         requires closed { IsClosed self.old }
         ensures told { self.new ≡ absent_item self.old }
     {
@@ -57,10 +57,10 @@ impl Session {
     }
 
     fn add_front(&mut self)
-        requires node { self.old.node ≡ None }
-        requires item { HasItem self.old.node self.old.spelled self.old.ahead }
+        requires node { turn_node self.old ≡ None }
+        requires item { HasItem (turn_node self.old) self.old.spelled self.old.ahead }
         requires waits { self.old.waits ≡ false }
-        requires new { item_is_held self.old self.old.node ≡ false }
+        requires new { item_is_held self.old (turn_node self.old) ≡ false }
         requires closed { IsClosed self.old }
         ensures told { self.new ≡ absent_item self.old }
     {
@@ -72,13 +72,13 @@ impl Session {
 
     /// Puts the item whose turn it is into its container and in its place; where there is no room it waits.
     fn add(&mut self)
-        requires item { HasItem self.old.node self.old.spelled self.old.ahead }
+        requires item { HasItem (turn_node self.old) self.old.spelled self.old.ahead }
         requires waits { self.old.waits ≡ false }
-        requires new { item_is_held self.old self.old.node ≡ false }
+        requires new { item_is_held self.old (turn_node self.old) ≡ false }
         requires closed { IsClosed self.old }
         ensures told { self.new ≡ absent_item self.old }
     {
-        match self.node {
+        match self.turn_node() {
             Some(_) => self.add_node(),
             None => self.add_front(),
         }

@@ -5,19 +5,31 @@ use Rattle.std.proofs.lemmas.Bool.{cases_Bool}
 use Rattle.std.proofs.lemmas.List.{length-append}
 use Rattle.merkle_file.specs.declared.node.Child.{Child}
 use Rattle.disk_format.specs.declared.numbers.TheConstants.{MOST_CHILDREN, MOST_LEVEL}
+use Rattle.merkle_file.specs.Building.{levels_left}
 use Rattle.merkle_file.specs.Node.{Contents}
 use Rattle.merkle_file.specs.Tree.{parent}
 use Rattle.merkle_file.specs.Steps.{place, close, are_empty}
 use Rattle.merkle_file.proofs.Placing.{node_over}
 use Rattle.merkle_file.proofs.Closing.{node_of}
 
-placed_few : (level : ℕ) (c : Child) (rows : List (List Child)) → length (place level c rows).nodes ≤ length rows
+some_row : (row : List Child) (rows : List (List Child)) → levels_left (row ∷ rows) ≤ length rows + 1
+some_row [] rows = omega (arith, few_levels rows)
+  where
+    few_levels : (rs : List (List Child)) → levels_left rs ≤ length rs
+    few_levels [] = omega arith
+    few_levels ([] ∷ rs) = omega (arith, few_levels rs)
+    few_levels ((c ∷ cs) ∷ rs) = omega arith
+some_row (c ∷ cs) rows = omega arith
+
+-- the rows in which a node was finished are empty then
+placed_few : (level : ℕ) (c : Child) (rows : List (List Child)) →
+    length (place level c rows).nodes + levels_left (place level c rows).rows ≤ length rows
 unfolding place
 placed_few level c [] = omega arith
 placed_few level c (row ∷ rows) =
     elim (cases_Bool (length row + 1 == MOST_CHILDREN)) [
       | inl full ↦ rw full (omega (arith, placed_few (level + 1) (parent (node_over level row c)) rows))
-      | inr few ↦ rw few (omega arith)
+      | inr few ↦ rw few (omega (arith, some_row (row ++ c ∷ []) rows))
     ]
 
 closed_few : (level : ℕ) (carried : List Child) (rows : List (List Child)) → length (close level carried rows).nodes ≤ length rows
@@ -33,11 +45,24 @@ closed_few level carried (row ∷ rows) =
           ]
     ]
 
--- as many as levels are added to those that were finished
-pub added_placed : (c : Child) (rows : List (List Child)) (finished later : List Contents) → length rows ≡ MOST_LEVEL → later ≡ finished ++ (place 0 c rows).nodes
-    → length later ≤ length finished + MOST_LEVEL
-added_placed c rows finished later levels is = omega (arith, ap (λ (ns : List Contents). length ns) is, length-append finished (place 0 c rows).nodes, placed_few 0 c rows)
+-- the lowest rows are passed by where they are empty
+closed_left : (level : ℕ) (rows : List (List Child)) → length (close level [] rows).nodes ≤ levels_left rows
+unfolding close
+closed_left level [] = omega arith
+closed_left level ([] ∷ rows) =
+    elim (cases_Bool (are_empty rows && nat_le (length {A = Child} ([] ++ [])) 1)) [
+      | inl last ↦ rw last (omega arith)
+      | inr more ↦ rw more (closed_left (level + 1) rows)
+    ]
+closed_left level ((c ∷ cs) ∷ rows) = omega (arith, closed_few level [] ((c ∷ cs) ∷ rows))
 
-pub added_closed : (rows : List (List Child)) (finished later : List Contents) → length rows ≡ MOST_LEVEL → later ≡ finished ++ (close 0 [] rows).nodes
-    → length later ≤ length finished + MOST_LEVEL
-added_closed rows finished later levels is = omega (arith, ap (λ (ns : List Contents). length ns) is, length-append finished (close 0 [] rows).nodes, closed_few 0 [] rows)
+-- as many as levels are added to those that were finished
+pub added_placed : (c : Child) (rows new : List (List Child)) (finished later : List Contents) → length rows ≡ MOST_LEVEL
+    → new ≡ (place 0 c rows).rows → later ≡ finished ++ (place 0 c rows).nodes
+    → length later + levels_left new ≤ length finished + MOST_LEVEL
+added_placed c rows new finished later levels row_is is =
+    omega (arith, ap (λ (ns : List Contents). length ns) is, ap levels_left row_is, length-append finished (place 0 c rows).nodes, placed_few 0 c rows)
+
+pub added_closed : (rows : List (List Child)) (finished later : List Contents) → later ≡ finished ++ (close 0 [] rows).nodes
+    → length later ≤ length finished + levels_left rows
+added_closed rows finished later is = omega (arith, ap (λ (ns : List Contents). length ns) is, length-append finished (close 0 [] rows).nodes, closed_left 0 rows)

@@ -31,6 +31,12 @@ unfoldable pub total_of : List (List Child) → ℕ
 total_of [] = 0
 total_of (row ∷ rows) = total row + total_of rows
 
+-- how many nodes an end finishes at most: one of each level from the lowest row on that has a child
+abbrev pub levels_left : List (List Child) → ℕ
+levels_left [] = 0
+levels_left ([] ∷ rows) = levels_left rows
+levels_left ((c ∷ cs) ∷ rows) = length rows + 1
+
 -- ---- what is kept of the leaves so far
 
 -- the whole groups of a list, from the left, where a group is begun already

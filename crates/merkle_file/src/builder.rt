@@ -36,7 +36,7 @@ impl TreeBuilder {
     ghost use Rattle.merkle_file.specs.declared.node.Child.{Child};
     ghost use Rattle.merkle_file.specs.Node.{Contents};
     ghost use Rattle.merkle_file.specs.Tree.{itself, nodes_of, root_of, tree_of};
-    ghost use Rattle.merkle_file.specs.Building.{Holds, IsProgress, MayPush, built_form, total_of};
+    ghost use Rattle.merkle_file.specs.Building.{Holds, IsProgress, MayPush, built_form, levels_left, total_of};
 
     /// A builder that was pushed nothing. It fails for want of memory alone.
     pub fn new(alloc: Global) -> Result<TreeBuilder, AllocError>
@@ -60,8 +60,8 @@ impl TreeBuilder {
         ensures count { OnOk result (self.new.leaves ≡ self.old.leaves + 1) }
         ensures length { OnOk result (total_of self.new.rows ≡ total_of self.old.rows + child.length) }
         ensures few { IsProgress self.new }
-        // At most one node of each level is finished.
-        ensures added { OnOk result (length self.new.finished ≤ length self.old.finished + MOST_LEVEL) }
+        // At most one node of each level is finished, or would be by an end right after.
+        ensures added { OnOk result (length self.new.finished + levels_left self.new.rows ≤ length self.old.finished + MOST_LEVEL) }
         ensures err { OnErr result (self.new ≡ self.old) }
     {
         place_leaf(self.alloc, &mut self.rows, &mut self.finished, child)?;
@@ -91,8 +91,8 @@ impl TreeBuilder {
             Holds self.old pushed taken → taken ++ self.new.finished ≡ nodes_of itself (tree_of (built_form self.old) itself pushed)) }
         ensures rows { OnOk result (self.new.rows ≡ replicate MOST_LEVEL []) }
         ensures leaves { OnOk result (self.new.leaves ≡ 0) }
-        // At most one node of each level is finished.
-        ensures added { OnOk result (length self.new.finished ≤ length self.old.finished + MOST_LEVEL) }
+        // At most one node of each level is finished, from the lowest one on that has a child.
+        ensures added { OnOk result (length self.new.finished ≤ length self.old.finished + levels_left self.old.rows) }
         ensures err { OnErr result (self.new ≡ self.old) }
     {
         let mut closed = close(self.alloc, &self.rows)?;

@@ -25,7 +25,7 @@ use Rattle.store_model.specs.Trees.{bytes_at}
 use Rattle.ingest_session.specs.Due.{open_of}
 use Rattle.ingest_session.specs.History.{History, HasHistory, turn_of}
 use Rattle.ingest_session.specs.Moving.{IsItem, IsOffered}
-use Rattle.ingest_session.specs.State.{SessionState}
+use Rattle.ingest_session.specs.State.{SessionState, turn_node}
 use Rattle.ingest_session.proofs.Facts.{opens_are_pieces, turns_are_pieces}
 use Rattle.ingest_session.proofs.Members.{one_of}
 use Rattle.plain_machine.specs.Complete.{IsGivenNode, IsHeldNode}
@@ -67,7 +67,7 @@ module _ (s : SessionState) (h : History) (has : HasHistory s h) (given : List �
   pub offered_node : (seg : KindSegment) → IsOffered s seg → seg.kind ≡ Tree → IsNodeOfFile given seg.segment.bytes
   offered_node seg offered tree =
       subst (λ (file : List ℕ). IsNodeOfFile file seg.segment.bytes) whole
-      (item_node s.node s.queue seg (h.given ++ []) (turns_are_pieces s h [] has (λ ended. refl)) offered.is tree)
+      (item_node (turn_node s) s.queue seg (h.given ++ []) (turns_are_pieces s h [] has (λ ended. refl)) offered.is tree)
 
   pub sealed_node : (kind : Kind) (index : ℕ) (x : Segment) → slice_get (open_of s kind).segments index ≡ Some x → kind ≡ Tree → IsNodeOfFile given x.bytes
   sealed_node kind index x there tree =

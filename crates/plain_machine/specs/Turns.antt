@@ -12,7 +12,7 @@ use Rattle.ingest_session.specs.Due.{item_kind, open_of}
 use Rattle.ingest_session.specs.DueFor.{IsDueFor}
 use Rattle.ingest_session.specs.Items.{item_of}
 use Rattle.ingest_session.specs.Moving.{IsOffered}
-use Rattle.ingest_session.specs.State.{SessionState}
+use Rattle.ingest_session.specs.State.{SessionState, turn_node}
 use Rattle.refusals.specs.declared.refusal.Refusal.{Refusal}
 use Rattle.refusals.specs.declared.refusal.Refusal.TheVariants.{DiskRead, DiskWrite, Full, Clash, Numbers, Unpinned}
 use Rattle.store_model.specs.Slots.{free_slots}
@@ -84,7 +84,7 @@ last_by answer last = last
 
 -- the keys of what an answer keeps: of the segment that was claimed and is held, or of those of a container that was sealed
 abbrev pub kept_by : Due → SessionState → Answer → List (List ℕ)
-kept_by Claim s answers.Held = segment_key (item_kind s.node) (item_of s.node s.queue) ∷ []
+kept_by Claim s answers.Held = segment_key (item_kind (turn_node s)) (item_of (turn_node s) s.queue) ∷ []
 kept_by (Seal kind) s (answers.Sealed id) = map (segment_key kind) (open_of s kind).segments
 kept_by due s answer = []
 

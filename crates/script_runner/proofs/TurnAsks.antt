@@ -18,7 +18,7 @@ use Rattle.ingest_session.specs.Due.{open_of}
 use Rattle.ingest_session.specs.Facts.{IsKept, MayFollow}
 use Rattle.ingest_session.specs.History.{History, HasHistory, turn_of}
 use Rattle.ingest_session.specs.Moving.{IsItem, IsOffered}
-use Rattle.ingest_session.specs.State.{SessionState}
+use Rattle.ingest_session.specs.State.{SessionState, turn_node}
 use Rattle.ingest_session.proofs.Facts.{opens_are_pieces, turns_are_pieces}
 use Rattle.ingest_session.proofs.Members.{IsIn, all_of, one_of}
 use Rattle.plain_machine.specs.Machine.{Machine, part_in}
@@ -45,7 +45,7 @@ module _ (m : Machine) (actor : ℕ) (w : Writer) (is_writer : IsWriter (part_in
   by_more P each file is = subst P (ap (λ (l : List ℕ). l ++ is.0) given_is ∙ sym is.1.1) (each is.0 (λ on. is.1.0 (sym ended_is ∙ on)))
 
   pub seg_piece : (seg : KindSegment) → IsOffered s seg → (file : List ℕ) → MayBe w file → HasPieceOf file seg
-  seg_piece seg offered = by_more (λ file. HasPieceOf file seg) (λ more may. offered_piece (h.given ++ more) s.node s.queue seg offered.is (turns_are_pieces s h more has may))
+  seg_piece seg offered = by_more (λ file. HasPieceOf file seg) (λ more may. offered_piece (h.given ++ more) (turn_node s) s.queue seg offered.is (turns_are_pieces s h more has may))
 
   pub open_piece : (kind : Kind) (x : Segment) → IsIn x (open_of s kind).segments → (file : List ℕ) → MayBe w file → HasPieceOf file (of_kind kind x)
   open_piece kind x is = by_more (λ file. HasPieceOf file (of_kind kind x)) (λ more may. one_of (λ y. HasPieceOf (h.given ++ more) (of_kind kind y)) (open_of s kind).segments x (opens_are_pieces s h more has may kind) is)

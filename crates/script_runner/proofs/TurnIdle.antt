@@ -1,5 +1,5 @@
--- A session of which nothing is due is settled.
-use Rattle.std.proofs.Common.{◌≡◌, ◌∙◌, ℕ, Bool, true, false, if◌then◌else◌, List, [], ◌∷◌, Option, Some, None, refl, sym, ap, subst}
+-- A session of which nothing is due is settled, once whose turn it is was found.
+use Rattle.std.proofs.Common.{◌≡◌, ◌∙◌, ℕ, Bool, true, false, if◌then◌else◌, List, [], ◌∷◌, ◌++◌, Option, Some, None, refl, sym, ap, subst}
 use Rattle.std.specs.Prelude.{not, ◌&&◌}
 use Rattle.merkle_file.specs.Node as node
 use Rattle.container_meta.specs.declared.kind.Kind.{Kind}
@@ -10,10 +10,13 @@ use Rattle.store_model.specs.Trees.{leaf_key, node_key}
 use Rattle.ingest_session.specs.declared.due.Due.{Due}
 use Rattle.ingest_session.specs.declared.due.Due.TheVariants.{Claim, Seal, Nothing}
 use Rattle.ingest_session.specs.Child.{has_child_of}
-use Rattle.ingest_session.specs.Due.{HasTurn, due_in, item_due, item_is_there, item_kind, open_of, queue_due, queue_is_there}
+use Rattle.ingest_session.specs.Due.{HasTurn, due_in, due_node, item_due, item_is_there, item_kind, open_of, queue_due, queue_is_there, turn_in}
+use Rattle.ingest_session.specs.History.{History, HasHistory, Moved}
+use Rattle.ingest_session.specs.Settling.{Turned}
 use Rattle.ingest_session.specs.Sound.{IsSession}
-use Rattle.ingest_session.specs.State.{SessionState, is_last, rest_after}
+use Rattle.ingest_session.specs.State.{SessionState, is_last, rest_after, turn_node}
 use Rattle.ingest_session.specs.Told.{IsSettled}
+use Rattle.ingest_session.proofs.Waiting.{on_and_off}
 
 no_wait : (waits : Bool) (kind : Kind) (due : Due) → (if waits then Seal kind else due) ≡ Nothing → due ≡ Nothing
 no_wait true kind due is = absurd cc
@@ -43,22 +46,67 @@ and_not : (a b : Bool) → b ≡ false → (a && b) ≡ false
 and_not true b is = is
 and_not false b is = refl
 
-module _ (s : SessionState) (sound : IsSession s) (nothing : due_in s ≡ Nothing) where
-  none : (s.node ≡ None) × (s.queue ≡ [])
-  none = no_item s s.node (no_wait s.waits (item_kind s.node) (item_due s s.node) nothing)
+-- whose turn it is, was found: then no item has it
+abbrev pub idle : SessionState → SessionState
+idle s = record s { turn = turn_in s }
 
-  no_turn : HasTurn s.node s.queue → ⊥
+no_seal : (waits : Bool) (kind : Kind) (due : Due) → (if waits then Seal kind else due) ≡ Nothing → waits ≡ false
+no_seal true kind due is = absurd cc
+no_seal false kind due is = refl
+
+module _ (s : SessionState) (sound : IsSession s) (nothing : due_in s ≡ Nothing) where
+  none : (due_node s ≡ None) × (s.queue ≡ [])
+  none = no_item s (due_node s) (no_wait s.waits (item_kind (turn_node s)) (item_due s (due_node s)) nothing)
+
+  off : s.waits ≡ false
+  off = no_seal s.waits (item_kind (turn_node s)) (item_due s (due_node s)) nothing
+
+  never : {A : Type 0} → s.waits ≡ true → A
+  never on = on_and_off s.waits on off
+
+  pub idle_sound : IsSession (idle s)
+  idle_sound = record {
+    data_kind = sound.data_kind;
+    tree_kind = sound.tree_kind;
+    few = sound.few;
+    hand = sound.hand;
+    uncut = sound.uncut;
+    room = sound.room;
+    most = sound.most;
+    sized = sound.sized;
+    ahead = sound.ahead;
+    spelled = sound.spelled;
+    building = record { bytes = sound.building.bytes; long = sound.building.long; counted = sound.building.counted };
+    whole = sound.whole;
+    closed = sound.closed;
+    next = sound.next;
+    line = sound.line;
+    nodes_right = sound.nodes_right;
+    waits = λ on. never on;
+    full = λ on. never on;
+  }
+
+  pub idle_has : (h : History) → HasHistory s h → HasHistory (idle s) (record h { placed = h.placed ++ [] })
+  idle_has h has = Moved s (idle s) h has idle_sound (Turned s (idle s) off refl)
+
+  pub idle_due : due_in (idle s) ≡ Nothing
+  idle_due =
+      ap (λ (w : Bool). if w then Seal (item_kind (turn_node (idle s))) else item_due s (due_node s)) off
+      ∙ no_wait s.waits (item_kind (turn_node s)) (item_due s (due_node s)) nothing
+
+  no_turn : HasTurn (due_node s) s.queue → ⊥
   no_turn turn =
       let first : HasTurn None s.queue = subst (λ (n : Option node.Contents). HasTurn n s.queue) none.0 turn in
       subst (λ (queue : List (List ℕ)). HasTurn None queue) none.1 first
 
-  not_there : item_is_there s s.node ≡ false
+  not_there : item_is_there s (due_node s) ≡ false
   not_there = ap (item_is_there s) none.0 ∙ ap (queue_is_there s) none.1
 
-  pub settled_idle : IsSettled s
+  pub settled_idle : IsSettled (idle s)
   settled_idle = record {
-    none = and_not (not s.waits) (item_is_there s s.node) not_there;
+    turn = λ _. refl;
+    none = and_not (not s.waits) (item_is_there s (due_node s)) not_there;
     item = λ turn. absurd (no_turn turn);
-    claim = λ due. absurd (let both = sym due ∙ nothing in cc);
+    claim = λ due. absurd (let both = sym due ∙ idle_due in cc);
     closed = λ first last. sound.closed (ap (is_last s.ended) (none.1 ∙ sym (no_last s.ahead s.queue none.1)) ∙ last);
   }

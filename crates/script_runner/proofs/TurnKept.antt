@@ -17,8 +17,8 @@ use Rattle.ingest_session.specs.Facts.{IsKept, MayFollow}
 use Rattle.ingest_session.specs.History.{History, HasHistory, Begun, Pushed, Ended, Moved, Asked, Told, answered, held_by, item_if, same_kind, sealed_by, sealed_for, turn_of}
 use Rattle.ingest_session.specs.Items.{item_of}
 use Rattle.ingest_session.specs.Moving.{IsItem}
-use Rattle.ingest_session.specs.State.{SessionState}
-use Rattle.ingest_session.specs.Told.{IsAnswerFor}
+use Rattle.ingest_session.specs.State.{SessionState, turn_node}
+use Rattle.ingest_session.specs.Told.{IsAnswerFor, IsSettled}
 use Rattle.ingest_session.proofs.Facts.{opens_are_pieces, turns_are_pieces}
 use Rattle.ingest_session.proofs.Members.{IsIn, in_either, in_left, in_none, in_one, in_right, one_of}
 use Rattle.ingest_session.proofs.Settled.{settles_by, settling_keeps}
@@ -34,20 +34,20 @@ item_is None [] seg is = absurd is
 item_is None (x ∷ xs) seg is = is
 
 -- so it is where an item of a kind has its turn
-pub one_item : (s : SessionState) (kind : Kind) (x : Segment) → IsIn x (item_if kind s) → (kind ≡ item_kind s.node) × (x ≡ item_of s.node s.queue)
-one_item s kind x one = by_kind kind (item_kind s.node) one
+pub one_item : (s : SessionState) (kind : Kind) (x : Segment) → IsIn x (item_if kind s) → (kind ≡ item_kind (turn_node s)) × (x ≡ item_of (turn_node s) s.queue)
+one_item s kind x one = by_kind kind (item_kind (turn_node s)) one
   where
-    by_kind : (k mine : Kind) → IsIn x (if same_kind k mine then item_of s.node s.queue ∷ [] else []) → (k ≡ mine) × (x ≡ item_of s.node s.queue)
-    by_kind Leaf Leaf one = (refl, in_one (item_of s.node s.queue) x one)
-    by_kind Tree Tree one = (refl, in_one (item_of s.node s.queue) x one)
+    by_kind : (k mine : Kind) → IsIn x (if same_kind k mine then item_of (turn_node s) s.queue ∷ [] else []) → (k ≡ mine) × (x ≡ item_of (turn_node s) s.queue)
+    by_kind Leaf Leaf one = (refl, in_one (item_of (turn_node s) s.queue) x one)
+    by_kind Tree Tree one = (refl, in_one (item_of (turn_node s) s.queue) x one)
     by_kind Leaf Tree one = absurd (in_none x one)
     by_kind Tree Leaf one = absurd (in_none x one)
 
 -- and the other way round
-pub item_in : (s : SessionState) → IsIn (item_of s.node s.queue) (item_if (item_kind s.node) s)
-item_in s = by_kind (item_kind s.node)
+pub item_in : (s : SessionState) → IsIn (item_of (turn_node s) s.queue) (item_if (item_kind (turn_node s)) s)
+item_in s = by_kind (item_kind (turn_node s))
   where
-    by_kind : (k : Kind) → IsIn (item_of s.node s.queue) (if same_kind k k then item_of s.node s.queue ∷ [] else [])
+    by_kind : (k : Kind) → IsIn (item_of (turn_node s) s.queue) (if same_kind k k then item_of (turn_node s) s.queue ∷ [] else [])
     by_kind Leaf = (0, refl)
     by_kind Tree = (0, refl)
 
@@ -117,24 +117,24 @@ item_piece file None (x ∷ xs) turn all = (Data x, all.0, refl)
 
 -- However the file goes on, what a history has as kept are pieces of it.
 module _ (kind : Kind) (x : Segment) where
-  by_answer : (s : SessionState) (answer : Answer) (h : History) (more : List ℕ) → HasHistory s h → MayFollow more s → IsAnswerFor answer (due_in s) → (IsKept h kind x → HasPieceOf (h.given ++ more) (of_kind kind x))
+  by_answer : (s : SessionState) (answer : Answer) (h : History) (more : List ℕ) → HasHistory s h → MayFollow more s → IsSettled s → IsAnswerFor answer (due_in s) → (IsKept h kind x → HasPieceOf (h.given ++ more) (of_kind kind x))
       → IsKept (answered answer s h) kind x → HasPieceOf (h.given ++ more) (of_kind kind x)
-  by_answer s answers.Held h more has may due before is = elim (kept_held s h kind x is) [
+  by_answer s answers.Held h more has may settled due before is = elim (kept_held s h kind x is) [
     | inl was ↦ before was
     | inr now ↦
         let item = one_item s kind x now in
         subst (λ (k : Kind). HasPieceOf (h.given ++ more) (of_kind k x)) (sym item.0)
-        (subst (λ (y : Segment). HasPieceOf (h.given ++ more) (of_kind (item_kind s.node) y)) (sym item.1)
-        (item_piece (h.given ++ more) s.node s.queue (claimed_has_turn s due) (turns_are_pieces s h more has may)))
+        (subst (λ (y : Segment). HasPieceOf (h.given ++ more) (of_kind (item_kind (turn_node s)) y)) (sym item.1)
+        (item_piece (h.given ++ more) (turn_node s) s.queue (claimed_has_turn s settled due) (turns_are_pieces s h more has may)))
   ]
-  by_answer s answers.Absent h more has may due before is = before (kept_absent s h kind x is)
-  by_answer s (answers.Sealed id) h more has may due before is = elim (kept_sealed s h kind x id due.0 due.1 is) [
+  by_answer s answers.Absent h more has may settled due before is = before (kept_absent s h kind x is)
+  by_answer s (answers.Sealed id) h more has may settled due before is = elim (kept_sealed s h kind x id due.0 due.1 is) [
     | inl was ↦ before was
     | inr now ↦
         subst (λ (k : Kind). HasPieceOf (h.given ++ more) (of_kind k x)) (sym now.0)
         (one_of (λ y. HasPieceOf (h.given ++ more) (of_kind due.0 y)) (open_of s due.0).segments x (opens_are_pieces s h more has may due.0) now.1)
   ]
-  by_answer s answer h more has may due before is = absurd due
+  by_answer s answer h more has may settled due before is = absurd due
 
   pub kept_pieces : (s : SessionState) (h : History) (more : List ℕ) → HasHistory s h → MayFollow more s → IsKept h kind x → HasPieceOf (h.given ++ more) (of_kind kind x)
   kept_pieces s _ more (Begun _ _ begun) may is = absurd (in_none x is)
@@ -146,7 +146,7 @@ module _ (kind : Kind) (x : Segment) where
   kept_pieces t h more (Asked s _ _ has _ same) may is = kept_pieces s h more has (λ on. may (ap (λ (u : SessionState). u.ended) same ∙ on)) is
   kept_pieces _ _ more (Told s answer h has _ settled fits some) may is =
       let before : MayFollow more s = λ on. may ((told answer s).ended ∙ on) in
-      by_answer s answer h more has before fits (λ was. kept_pieces s h more has before was) is
+      by_answer s answer h more has before settled fits (λ was. kept_pieces s h more has before was) is
 
 -- ---- what pieces are
 

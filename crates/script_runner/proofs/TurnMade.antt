@@ -36,7 +36,7 @@ use Rattle.ingest_session.specs.Facts.{IsKept}
 use Rattle.ingest_session.specs.History.{History, HasHistory, answered}
 use Rattle.ingest_session.specs.Items.{item_of}
 use Rattle.ingest_session.specs.Moving.{IsOffered}
-use Rattle.ingest_session.specs.State.{SessionState}
+use Rattle.ingest_session.specs.State.{SessionState, turn_node}
 use Rattle.ingest_session.specs.Told.{IsAnswerFor, IsSettled, told_by}
 use Rattle.ingest_session.proofs.Members.{IsIn, all_of, one_of}
 use Rattle.plain_machine.specs.Content.{AddsContainer, Holds, SameBut}
@@ -170,8 +170,8 @@ module _ (S : List ℕ → Type 0) (m : Machine) (sessions : Sessions) (actor : 
   -- ---- a claim
 
   module _ (seg : KindSegment) (buf : List ℕ) (offered : IsOffered s seg) (due : due_in s ≡ Claim) where
-    seg_is : seg ≡ of_kind (item_kind s.node) (item_of s.node s.queue)
-    seg_is = item_is s.node s.queue seg offered.is
+    seg_is : seg ≡ of_kind (item_kind (turn_node s)) (item_of (turn_node s) s.queue)
+    seg_is = item_is (turn_node s) s.queue seg offered.is
 
     seg_level : HasLevel seg
     seg_level = piece_level w.given seg (seg_piece m actor w gives.is_writer s h gives.has gives.given_is gives.ended_is seg offered w.given now_may)
@@ -179,36 +179,36 @@ module _ (S : List ℕ → Type 0) (m : Machine) (sessions : Sessions) (actor : 
     module _ (t : SessionState) (told_is : t ≡ told_by answers.Held s) (history : HasHistory t (answered answers.Held s h)) (leads : Leads (asked.Claim seg) answers.Held buf)
         (step : CoreStep old (event (asked.Claim seg) answers.Held buf).event new) where
       abbrev held_more : PinMap
-      held_more = finite.insert pins (segment_key (item_kind s.node) (item_of s.node s.queue)) (pin_by (item_kind s.node) (item_of s.node s.queue))
+      held_more = finite.insert pins (segment_key (item_kind (turn_node s)) (item_of (turn_node s) s.queue)) (pin_by (item_kind (turn_node s)) (item_of (turn_node s) s.queue))
 
       abbrev held_now : History
       held_now = answered answers.Held s h
 
-      item_kept : IsKept held_now (item_kind s.node) (item_of s.node s.queue)
-      item_kept = held_kept s h (item_kind s.node) (item_of s.node s.queue) (item_in s)
+      item_kept : IsKept held_now (item_kind (turn_node s)) (item_of (turn_node s) s.queue)
+      item_kept = held_kept s h (item_kind (turn_node s)) (item_of (turn_node s) s.queue) (item_in s)
 
       one_kept : (kind : Kind) (x : Segment) → IsKept held_now kind x → IsHeldIn (of_kind kind x) new
       one_kept kind x is = elim (kept_held s h kind x is) [
         | inl was ↦ leads.held (of_kind kind x) (gives.kept kind x was)
         | inr now ↦
             let item = one_item s kind x now in
-            subst (λ (y : KindSegment). IsHeldIn y new) (seg_is ∙ ap (λ (k : Kind). of_kind k (item_of s.node s.queue)) (sym item.0) ∙ ap (of_kind kind) (sym item.1)) leads.kept.0
+            subst (λ (y : KindSegment). IsHeldIn y new) (seg_is ∙ ap (λ (k : Kind). of_kind k (item_of (turn_node s) s.queue)) (sym item.0) ∙ ap (of_kind kind) (sym item.1)) leads.kept.0
       ]
 
       one_pinned : (kind : Kind) (x : Segment) → IsKept held_now kind x → HasPinOf held_now held_more (segment_key kind x)
       one_pinned kind x is = elim (kept_held s h kind x is) [
         | inl was ↦
-            next_pin held_now (item_kind s.node) (item_of s.node s.queue) item_kept pins (segment_key kind x)
+            next_pin held_now (item_kind (turn_node s)) (item_of (turn_node s) s.queue) item_kept pins (segment_key kind x)
             (pin_still h held_now pins (segment_key kind x) (λ k y. kept_still s h k y answers.Held) (gives.pinned kind x was))
         | inr now ↦
             let item = one_item s kind x now in
-            last_pin held_now (item_kind s.node) (item_of s.node s.queue) item_kept pins (segment_key kind x)
-            (ap (λ (k : Kind). segment_key k (item_of s.node s.queue)) (sym item.0) ∙ ap (segment_key kind) (sym item.1))
+            last_pin held_now (item_kind (turn_node s)) (item_of (turn_node s) s.queue) item_kept pins (segment_key kind x)
+            (ap (λ (k : Kind). segment_key k (item_of (turn_node s) s.queue)) (sym item.0) ∙ ap (segment_key kind) (sym item.1))
       ]
 
       one_only : (key : List ℕ) (pin : Pin) → finite.get held_more key ≡ Some pin → HasKeptKey held_now key
-      one_only key pin found = elim (pin_added pins (segment_key (item_kind s.node) (item_of s.node s.queue)) (pin_by (item_kind s.node) (item_of s.node s.queue)) key pin found) [
-        | inl same ↦ (item_kind s.node, item_of s.node s.queue, item_kept, same)
+      one_only key pin found = elim (pin_added pins (segment_key (item_kind (turn_node s)) (item_of (turn_node s) s.queue)) (pin_by (item_kind (turn_node s)) (item_of (turn_node s) s.queue)) key pin found) [
+        | inl same ↦ (item_kind (turn_node s), item_of (turn_node s) s.queue, item_kept, same)
         | inr was ↦ key_still h held_now key (λ k y. kept_still s h k y answers.Held) (gives.only key pin was)
       ]
 

@@ -38,6 +38,7 @@ use Rattle.ingest_session.specs.Due.{due_in, open_of}
 use Rattle.ingest_session.specs.Facts.{IsKept}
 use Rattle.ingest_session.specs.History.{History}
 use Rattle.ingest_session.specs.Moving.{IsOffered}
+use Rattle.ingest_session.specs.Told.{IsSettled}
 use Rattle.ingest_session.specs.State.{SessionState}
 use Rattle.plain_machine.specs.Content.{ClashesWith, HasTwins, SameStore}
 use Rattle.plain_machine.specs.Machine.{Machine}
@@ -88,10 +89,10 @@ module _ (S : List ℕ → Type 0) (distinct : HasNoCollisions S) (m : Machine) 
 
   -- ---- a claim
 
-  module _ (seg : KindSegment) (offered : IsOffered s seg) (due : due_in s ≡ Claim) where
+  module _ (seg : KindSegment) (offered : IsOffered s seg) (settled : IsSettled s) (due : due_in s ≡ Claim) where
     claim_unpinned : (key : List ℕ) (more : PinMap) → part_of old.parts actor ≡ core_parts.Writing more → first_unpinned seg more ≡ Some key → (file : List ℕ) → MayBe w file → HasTwins file key
     claim_unpinned key more writing unpinned file may =
-        claim_twins S distinct file h pins (λ kind x is. kept_piece m actor w gives.is_writer s h gives.has gives.given_is gives.ended_is kind x is file may) data_among gives.pinned s gives.has due seg offered.is key
+        claim_twins S distinct file h pins (λ kind x is. kept_piece m actor w gives.is_writer s h gives.has gives.given_is gives.ended_is kind x is file may) data_among gives.pinned s gives.has settled due seg offered.is key
         (subst (λ (p : PinMap). first_unpinned seg p ≡ Some key) (pins_same more writing) unpinned)
 
     abbrev IsClaimCause : Refusal → Type 0

@@ -205,7 +205,7 @@ module _ (C : Type 0) (state : C → CoreState) (among : ByteSet) (distinct : Ha
       let n_is : n ≡ record m { faults = (state new).disk.faults } = ap (λ (l : List ℕ). let x : Machine = record m { content = l; faults = (state new).disk.faults } in x) same in
       let faults = subst (λ (k : ℕ). CountsFault (ending_of (blames refusal)) k (state new).disk.faults) at.faults_are (refused_faults (state old) (state new) (asked.Claim seg) refusal effect) in
       refused_by S m sessions actor below (state old) (state new) at gives.w t gives.h gives.pins gives.at settled refusal (asked.Claim seg) asks.1 leads stays row.1 Claim due asks.3
-      (claim_refused S distinct m sessions actor (state old) (state new) at cut gives.w t gives.h gives.pins gives.at seg asks.2 due n n_is refusal faults row.0
+      (claim_refused S distinct m sessions actor (state old) (state new) at cut gives.w t gives.h gives.pins gives.at seg asks.2 settled due n n_is refusal faults row.0
       (is_harmless C state among distinct m sessions old new at.running (f Claim asks) (file_step Claim asks) refusal refl))
 
   module _ (kind : Kind) (due : due_in t ≡ Seal kind) (asks : Asks actor (Seal kind) t (Err refusal) (state old) (state new)) where

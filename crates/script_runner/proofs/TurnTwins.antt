@@ -17,8 +17,10 @@ use Rattle.ingest_session.specs.Due.{due_in, open_of}
 use Rattle.ingest_session.specs.Facts.{IsKept, IsKeptChild}
 use Rattle.ingest_session.specs.History.{History, HasHistory}
 use Rattle.ingest_session.specs.Moving.{IsItem}
-use Rattle.ingest_session.specs.State.{SessionState}
+use Rattle.ingest_session.specs.State.{SessionState, turn_node}
+use Rattle.ingest_session.specs.Told.{IsSettled}
 use Rattle.ingest_session.proofs.Facts.{children_come_first, open_nodes_have_children}
+use Rattle.ingest_session.proofs.Waiting.{claimed_turn}
 use Rattle.plain_machine.specs.Content.{HasTwins}
 use Rattle.script_runner.specs.Follows.{HasPinOf}
 use Rattle.script_runner.proofs.TurnKept.{node_piece, of_kind}
@@ -110,9 +112,9 @@ module _ (S : List ℕ → Type 0) (distinct : HasNoCollisions S) (file : List �
       item_children None [] seg is each = absurd is
       item_children None (x ∷ xs) seg is each = subst (λ (y : KindSegment). AllByRecursion (IsKeptChild h) (children_of y)) (sym is) tt
 
-      pub claim_twins : due_in s ≡ Claim → (seg : KindSegment) → IsItem s.node s.queue seg → (key : List ℕ) → first_not_in pins (children_of seg) ≡ Some key → HasTwins file key
-      claim_twins due seg is key unpinned =
-          unpinned_twins (children_of seg) key (item_children s.node s.queue seg is (λ n node_is. children_come_first s h n has node_is due)) unpinned
+      pub claim_twins : IsSettled s → due_in s ≡ Claim → (seg : KindSegment) → IsItem (turn_node s) s.queue seg → (key : List ℕ) → first_not_in pins (children_of seg) ≡ Some key → HasTwins file key
+      claim_twins settled due seg is key unpinned =
+          unpinned_twins (children_of seg) key (item_children (turn_node s) s.queue seg is (λ n node_is. children_come_first s h n has (sym (claimed_turn s settled due) ∙ node_is) due)) unpinned
 
       none_below : (xs : List Segment) → AllByRecursion (λ x. AllByRecursion (IsKeptChild h) (children_by Leaf x)) xs
       none_below [] = tt

@@ -1,5 +1,5 @@
 -- Where nothing is due after the end of a file, all of it is held, and its root is right.
-use Rattle.std.proofs.Common.{◌≡◌, ◌∙◌, ◌<◌, ◌≤◌, ℕ, true, List, length, Some, refl, sym, ap, subst}
+use Rattle.std.proofs.Common.{◌≡◌, ◌∙◌, ◌<◌, ◌≤◌, ℕ, true, List, [], ◌++◌, length, Some, refl, sym, ap, subst}
 use Rattle.std.proofs.lemmas.List.{take_all}
 use Rattle.std.specs.List.{AllByRecursion}
 use Rattle.disk_format.specs.declared.numbers.TheConstants.{MOST_FILE}
@@ -35,7 +35,7 @@ use Rattle.plain_machine.specs.Machine.{Machine, Part, Idle, Writing, Finished, 
 use Rattle.plain_machine.specs.Turns.{Writer, IsWriter, IsDue}
 use Rattle.script_runner.specs.Sessions.{Sessions, session_of}
 use Rattle.script_runner.proofs.TurnHolds.{held_here, piece_level}
-use Rattle.script_runner.proofs.TurnIdle.{settled_idle}
+use Rattle.script_runner.proofs.TurnIdle.{idle, idle_due, idle_has, settled_idle}
 use Rattle.script_runner.proofs.TurnParts.{Giving, gives_paused}
 use Rattle.session_turns.proofs.TurnRuns.{paused_still}
 use Rattle.script_runner.proofs.TurnRunning.{RunsAt}
@@ -110,14 +110,14 @@ module _ (S : List ℕ → Type 0) (m : Machine) (sessions : Sessions) (actor : 
         (
           g.is_writer,
           record {
-            session = s;
-            history = gives.h;
-            has = g.has;
+            session = idle s;
+            history = record gives.h { placed = gives.h.placed ++ [] };
+            has = idle_has s (waiting.session_of s gives.h g.has) nothing gives.h g.has;
             given_is = g.given_is;
             answers_are = g.answers_are;
             ended_is = g.ended_is;
             settled = settled_idle s (waiting.session_of s gives.h g.has) nothing;
-            due_is = nothing;
+            due_is = idle_due s (waiting.session_of s gives.h g.has) nothing;
           },
         ),
       )

@@ -10,7 +10,7 @@ use Rattle.ingest_session.specs.declared.due.Due.{Due}
 use Rattle.ingest_session.specs.declared.due.Due.TheVariants.{Claim, Seal, Nothing}
 use Rattle.ingest_session.specs.Due.{due_in, item_kind}
 use Rattle.ingest_session.specs.Items.{fits}
-use Rattle.ingest_session.specs.State.{SessionState}
+use Rattle.ingest_session.specs.State.{SessionState, turn_node}
 use Rattle.ingest_session.specs.Told.{absent_item, sealed_by, added_item, emptied, placed_item, told_by, with_open}
 
 -- whether the file has ended, and how many bytes were taken, are as before
@@ -32,8 +32,8 @@ opened : (kind : Kind) (filled : Contents) (s : SessionState) → Stays s (with_
 opened Leaf filled s = record { ended = refl; count = refl }
 opened Tree filled s = record { ended = refl; count = refl }
 
-absent : (s : SessionState) (fit : Bool) → Stays s (if fit then placed_item s.node (added_item s) else record s { waits = true })
-absent s true = after s (added_item s) (placed_item s.node (added_item s)) (opened (item_kind s.node) _ s) (placed s.node (added_item s))
+absent : (s : SessionState) (fit : Bool) → Stays s (if fit then placed_item (turn_node s) (added_item s) else record s { waits = true })
+absent s true = after s (added_item s) (placed_item (turn_node s) (added_item s)) (opened (item_kind (turn_node s)) _ s) (placed (turn_node s) (added_item s))
 absent s false = record { ended = refl; count = refl }
 
 sealed : (s : SessionState) (kind : Kind) (waits : Bool) → Stays s (if waits then absent_item (record (emptied kind s) { waits = false }) else emptied kind s)
@@ -49,7 +49,7 @@ by_seal Claim s = stays s
 by_seal Nothing s = stays s
 
 pub told : (answer : Answer) (s : SessionState) → Stays s (told_by answer s)
-told answers.Held s = placed s.node s
+told answers.Held s = placed (turn_node s) s
 told answers.Absent s = absent s (fits s)
 told (answers.Sealed id) s = by_seal (due_in s) s
 told answer s = stays s

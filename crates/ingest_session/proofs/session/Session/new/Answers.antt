@@ -5,7 +5,8 @@ use Rattle.ingest_session.proofs.session.Session.new.Goals as goal
 
 pub invariant_of-session : goal.invariant_of-session
 invariant_of-session c =
-    new_is_session _ _ _ _ _ c.in_ok-new.ensures.empty c.in_ok-new-2.ensures c.in_ok-new-3.ensures c.in_ok-new-4.ensures c.in_ok-new-5.ensures
+    new_is_session _ _ _ _ _ _ c.in_ok-new.ensures.empty c.in_ok-new-2.ensures c.in_ok-new-3.ensures c.in_ok-new-4.ensures c.in_ok-new-5.ensures
+    c.in_ok-new-6.ensures
 
 pub returns-clause-begun : goal.returns-clause-begun
 returns-clause-begun c = record {
@@ -14,8 +15,8 @@ returns-clause-begun c = record {
   cut = c.in_ok-new.ensures.so_far;
   queue = c.in_ok-new-2.ensures;
   ahead = refl;
-  node = refl;
-  built = c.in_ok-new-3.ensures;
+  line = c.in_ok-new-3.ensures;
+  built = c.in_ok-new-4.ensures;
   top = refl;
   leaves = search rules;
   nodes = search rules;

@@ -1,5 +1,6 @@
 use Rattle.std.proofs.Common.{◌≡◌, true, IsSome, rules}
-use Rattle.ingest_session.specs.Due.{needs_no_step}
+use Rattle.ingest_session.specs.Due.{needs_no_step, turn_in}
+use Rattle.ingest_session.specs.State.{turn_node}
 use Rattle.ingest_session.specs.Settling.{Stays, Then, Spelled, PlacedNode}
 use Rattle.ingest_session.proofs.Settled.{settles_by}
 use Rattle.ingest_session.proofs.session.Session.pass_node.Goals as goal
@@ -15,8 +16,9 @@ returns-then-not-item_is_there-clause-settles c =
 pub returns-clause-settles : goal.returns-clause-settles
 returns-clause-settles c =
     let there : needs_no_step c.spell.new.self ≡ true = search rules in
-    let some : IsSome c.spell.new.self.node = search rules in
+    let some : IsSome (turn_node c.spell.new.self) = search rules in
+    let right : c.spell.new.self.turn ≡ turn_in c.spell.new.self = search rules in
     Then c.args.self.now c.spell.new.self c.place_node.new.self
     (settles_by c.sound.ensures (Spelled c.args.self.now c.spell.new.self c.in_ok-spell.ensures.ok))
     c.sound-2.ensures
-    (PlacedNode c.spell.new.self c.place_node.new.self there some c.place_node.ensures.placed)
+    (PlacedNode c.spell.new.self c.place_node.new.self there right some c.place_node.ensures.placed)

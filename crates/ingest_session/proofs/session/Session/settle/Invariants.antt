@@ -1,4 +1,5 @@
-use Rattle.std.proofs.Common.{◌≡◌, false, length}
+use Rattle.std.proofs.Common.{◌≡◌, false}
+use Rattle.ingest_session.specs.Work.{to_do}
 use Rattle.ingest_session.specs.Settling.{Settles, seen}
 use Rattle.ingest_session.proofs.session.Session.settle.Given as goal
 
@@ -10,4 +11,4 @@ invariant-loop l = record {
 }
 
 abbrev pub decreases-loop : goal.decreases-loop
-decreases-loop l = length l.self.queue
+decreases-loop l = to_do l.self

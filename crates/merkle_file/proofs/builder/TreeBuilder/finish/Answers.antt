@@ -3,7 +3,7 @@ use Rattle.std.specs.Global.{Vec}
 use Rattle.merkle_file.specs.Node.{Contents}
 use Rattle.merkle_file.specs.declared.node.Child.{Child}
 use Rattle.disk_format.specs.declared.numbers.TheConstants.{MOST_LEVEL}
-use Rattle.merkle_file.specs.Building.{Progress, Holds}
+use Rattle.merkle_file.specs.Building.{Progress, Holds, levels_left}
 use Rattle.merkle_file.specs.Steps.{close}
 use Rattle.merkle_file.specs.Rows.{items_of}
 use Rattle.merkle_file.proofs.Placing.{length-items}
@@ -35,10 +35,12 @@ pub returns-clause-added : goal.returns-clause-added
 returns-clause-added c =
     let finished : List Contents = c.self.inside.finished.items in
     let same : length finished ≡ length c.args.self.now.finished = ap (λ (b : Progress). length b.finished) c.self.view_is in
+    let rows : levels_left (items_of c.self.inside.rows.items) ≡ levels_left c.args.self.now.rows = ap (λ (b : Progress). levels_left b.rows) c.self.view_is in
     omega (
       arith,
       same,
-      added_closed (items_of c.self.inside.rows.items) finished c.append.new.self.items c.self.invariant.levels
+      rows,
+      added_closed (items_of c.self.inside.rows.items) finished c.append.new.self.items
           (c.in_ok-append.ensures.items
           ∙ ap (λ (ns : List Contents). finished ++ ns)
           (c.in_ok-closed.ensures.nodes ∙ ap (λ (rs : List (Vec Child)). (close 0 [] (items_of rs)).nodes) c.deref.ensures.value)),

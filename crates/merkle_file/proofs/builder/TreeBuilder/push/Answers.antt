@@ -48,9 +48,12 @@ pub returns-clause-added : goal.returns-clause-added
 returns-clause-added c =
     let finished : List Contents = c.self.inside.finished.items in
     let same : length finished ≡ length c.args.self.now.finished = ap (λ (b : Progress). length b.finished) c.self.view_is in
+    let len : length c.place_leaf.new.rows ≡ c.self.inside.rows.len = omega (arith, c.place_leaf.auto.rows, c.deref_mut.ensures.len) in
+    let whole = take_at c.place_leaf.new.rows (drop (length c.place_leaf.new.rows) c.self.inside.rows.items) c.self.inside.rows.len len in
     omega (
       arith,
       same,
-      added_placed c.args.child (items_of c.self.inside.rows.items) finished c.place_leaf.new.finished.items c.self.invariant.levels
+      added_placed c.args.child (items_of c.self.inside.rows.items) _ finished c.place_leaf.new.finished.items c.self.invariant.levels
+          (ap items_of whole ∙ c.in_ok-place_leaf.ensures.rows ∙ ap (λ (rs : List (Vec Child)). (place 0 c.args.child (items_of rs)).rows) c.deref_mut.ensures.value)
           (c.in_ok-place_leaf.ensures.nodes ∙ ap (λ (rs : List (Vec Child)). finished ++ (place 0 c.args.child (items_of rs)).nodes) c.deref_mut.ensures.value),
     )

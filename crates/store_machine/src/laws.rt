@@ -1,0 +1,18 @@
+//! Laws of runs of the plain store.
+ghost use Rattle.store_machine.specs.Forgetting.{RunsAreForgotten, StepsAreForgotten};
+ghost use Rattle.store_machine.specs.Ingests.{IngestsByMap, IngestsThrough};
+
+/// A step of the machine of files is one of the machine of roots, once all but the roots of its files is forgotten; and so is a run of
+/// steps. So what holds of the machine of roots, on any disk, holds of that of files. The function does nothing.
+pub fn runs_are_forgotten()
+    ensures steps { StepsAreForgotten }
+    ensures runs { RunsAreForgotten }
+{}
+
+/// After the lines of an `ingest`, and whatever they were refused by, the names that may be found are those of before, or these with the
+/// file that was given under its name, and so it is at each moment of their steps; where the last line was done they are the latter, the
+/// name is good, and the file is no longer than one may be. The function does nothing.
+pub fn an_ingest_puts_its_file()
+    ensures ended { IngestsByMap }
+    ensures through { IngestsThrough }
+{}

@@ -1,5 +1,5 @@
 -- A step of the machine of files is one of the machine of roots, once all but the roots is forgotten.
-use Rattle.std.proofs.Common.{◌≡◌, inl, inr, ◌≤◌, ◌<◌, ◌-◌, ◌^◌, ℕ, zero, suc, true, List, [], ◌∷◌, ◌++◌, length, map, replicate, slice_index_or, slice_get, slice_set, is_some, Option, Some, None, option_map, Result, Ok, Err, refl, sym, ◌∙◌, ap, subst}
+use Rattle.std.proofs.Common.{◌≡◌, inl, inr, ◌≤◌, ◌<◌, ◌-◌, ◌^◌, ℕ, zero, suc, true, false, List, [], ◌∷◌, ◌++◌, length, map, replicate, Contains, slice_index_or, slice_get, slice_set, is_some, Option, Some, None, option_map, Result, Ok, Err, refl, sym, ◌∙◌, ap, subst}
 use Rattle.std.specs.FinMap as finite
 use Rattle.actor_parts.specs.declared.actor.TheConstants.{ACTORS}
 use Rattle.actor_parts.specs.PinMap.{PinMap}
@@ -20,19 +20,20 @@ use Rattle.refusals.specs.declared.refusal.Refusal.TheVariants as refusals
 use Rattle.gc_select.specs.declared.liveness.ContainerLiveness.{ContainerLiveness}
 use Rattle.gc_select.specs.Selecting.{ids_of}
 use Rattle.store_model.specs.Image.{Store}
-use Rattle.store_model.specs.Slots.{free_slots, last_id}
+use Rattle.store_model.specs.Slots.{free_slots, last_id, newest}
+use Rattle.store_model.specs.Freeing.{with_freed}
 use Rattle.store_model.specs.Steps.{CanRise, CanSeal, FlushContainer, with_change, with_sealed}
 use Rattle.store_model.specs.Trees.{root_of}
 use Rattle.store_machine.specs.Asked.{Asked}
 use Rattle.store_machine.specs.Asked as asked
-use Rattle.store_machine.specs.Collecting.{Begins, Chooses, Copies, Ends, Flushes, Goes, GoesOn, IsCollecting, IsRecordOf, JustGoes, Makes, Marks, Records, Releases, Went, ids_before, last_by, marking, marks_of, next_of, no_sweep, phase_in, sources_in}
+use Rattle.store_machine.specs.Collecting.{Begins, Chooses, Copies, Ends, Flushes, Goes, GoesOn, IsCollecting, IsRecordOf, JustGoes, Makes, Marks, Records, Releases, Went, ids_before, last_by, marking, marks_of, next_of, no_sweep, phase_in, sources_in, swept_by}
 use Rattle.store_machine.specs.Done.{Done}
 use Rattle.store_machine.specs.Done as done
 use Rattle.store_machine.specs.Forgetting.{Forgets, Rests, SameNow, SamePart, SameParts, SameState, RunsAreForgotten, StepsAreForgotten, asked_of, forget_collection}
-use Rattle.store_machine.specs.Legal.{Answers, ByState, Claims, Commits, Deletes, Does, GivesBytes, GivesUp, HasName, HasNumbers, HasRoom, HasSlot, IsAtEnd, IsAtRightPart, IsUnkept, Keeps, LacksNumbers, MayCommit, OpensValue, Refuses, RefusesClaim, RefusesCommit, RefusesDelete, RefusesGcStep, RefusesOn, RefusesRead, RefusesSeal, Seals, LegalBy, counted, taken_by, with_name, without_name}
+use Rattle.store_machine.specs.Legal.{Answers, ByState, Claims, Commits, Deletes, Does, GivesBytes, GivesUp, HasName, HasNumbers, HasRoom, HasSlot, IsAtEnd, IsAtRightPart, IsLacked, IsUnkept, HoldsValue, MayBreak, broken_by, Keeps, LacksNumbers, MayCommit, OpensValue, Refuses, RefusesClaim, RefusesCommit, RefusesDelete, RefusesGcStep, RefusesOn, RefusesRead, RefusesSeal, Seals, LegalBy, counted, taken_by, with_name, without_name}
 use Rattle.store_machine.specs.Machine.{Collection, Found, Machine, Sweeping, Part, Idle, Writing, Reading, RunState, Running, Stopped, all_idle, keeping, kind_of, one_more, part_in, put_at}
-use Rattle.store_machine.specs.Needs.{forgotten_beside, keys_kept, keys_of, values_read, with_pins}
-use Rattle.store_machine.specs.Opening.{MayBeFound, MayRefuseOpening, Opens, Reopens, still_stopped}
+use Rattle.store_machine.specs.Needs.{HasLength, forgotten_beside, keys_kept, keys_of, values_read, with_pins}
+use Rattle.store_machine.specs.Opening.{MayBeFound, MayRefuseOpening, Opens, Reopens, GivesBackSome, Stands, freeing}
 use Rattle.store_machine.specs.Values.{IsStuck, of_files, of_roots, top_of}
 use Rattle.store_machine.proofs.SameNames.{gone_same, knows_same, len_same, listing_same, none_same, put_same, some_same, values_same}
 use Rattle.store_machine.proofs.Walks.{ends_both, more_both, next_leaf, start_both}
@@ -174,6 +175,9 @@ module _ (m : F) (r : G) (same : Forgets m r) where
   on_store : (P : Store → Type 0) → P m.store → P r.store
   on_store P holds = subst P (sym same.store) holds
 
+  on_forgotten : (P : List (List ℕ) → Type 0) → P m.forgotten → P r.forgotten
+  on_forgotten P holds = subst P (sym same.forgotten) holds
+
   runs : (phase : Phase) → IsCollecting phase m.store m.collection → IsCollecting phase r.store r.collection
   runs phase is = on_store (λ (s : Store). IsCollecting phase s r.collection)
       (subst (IsCollecting phase m.store) (sym same.collection) (collecting phase m.store m.collection is))
@@ -195,6 +199,7 @@ module _ (m : F) (r : G) (same : Forgets m r) where
     store = same.store;
     last_id = same.last_id;
     forgotten = same.forgotten;
+    swept = same.swept;
     collection = same.collection;
     acknowledged = same.acknowledged;
     state = same.state;
@@ -224,13 +229,19 @@ module _ (m : F) (r : G) (same : Forgets m r) where
       let part : PinMap = finite.insert c.may.pins (segment_key seg.kind seg.segment) (pin_of seg) in
       let t : G = record (put_at r a (Writing part)) { collection = keeping keys r.collection } in
       goes (λ t. Claims of_roots a seg r t) n (record (put_at m a (Writing part)) { collection = keeping keys m.collection }) t c.others
-      (record { may = keeps_same a _ seg.kind c.may; held = λ told. absurd told; others = refl })
+      (record {
+        may = keeps_same a _ seg.kind c.may;
+        held = λ indexed. (on_store (λ (s : Store). HasLength s seg) (c.held (inl tt)).0, on_forgotten (λ fs. ¬ (Contains fs (segment_key seg.kind seg.segment))) (c.held (inl tt)).1);
+        same = λ known. absurd known;
+        others = refl;
+      })
       (record {
         now = same.now;
         parts = set_at m.parts r.parts a (Writing part) (Writing part) same.parts refl;
         store = same.store;
         last_id = same.last_id;
         forgotten = same.forgotten;
+        swept = same.swept;
         collection = kept_now keys;
         acknowledged = same.acknowledged;
         state = same.state;
@@ -255,6 +266,7 @@ module _ (m : F) (r : G) (same : Forgets m r) where
         store = ap (with_sealed id filled.kind filled.segments) same.store;
         last_id = refl;
         forgotten = ap (forgotten_beside keys) same.forgotten;
+        swept = same.swept;
         collection = kept_now keys;
         acknowledged = same.acknowledged;
         state = same.state;
@@ -296,6 +308,7 @@ module _ (m : F) (r : G) (same : Forgets m r) where
         store = ap (with_change name (Put (root_of file))) same.store;
         last_id = same.last_id;
         forgotten = same.forgotten;
+        swept = same.swept;
         collection = same.collection;
         acknowledged = ap one_more same.acknowledged;
         state = same.state;
@@ -313,6 +326,7 @@ module _ (m : F) (r : G) (same : Forgets m r) where
         store = ap (with_change name Gone) same.store;
         last_id = same.last_id;
         forgotten = same.forgotten;
+        swept = same.swept;
         collection = same.collection;
         acknowledged = ap one_more same.acknowledged;
         state = same.state;
@@ -390,6 +404,7 @@ module _ (m : F) (r : G) (same : Forgets m r) where
         store = same.store;
         last_id = same.last_id;
         forgotten = same.forgotten;
+        swept = same.swept;
         collection = ap Some (started_same percent snapshot values_are);
         acknowledged = same.acknowledged;
         state = same.state;
@@ -422,14 +437,18 @@ module _ (m : F) (r : G) (same : Forgets m r) where
   chooses_same c w (stage, all, next, just) = (stage, on_store (λ (s : Store). ids_of c.recorded ≡ ids_before c.snapshot s.held) all,
       on_store (λ (s : Store). w.stage ≡ Sweeping (next_of s.held (sources_in c) no_sweep) no_sweep) next, just_goes c w just)
 
+  more_left : (filled now after : List (List ℕ)) → ((more gone : List (List ℕ)) × (now ≡ filled ++ more) × (after ≡ m.forgotten ++ gone))
+      → (more gone : List (List ℕ)) × (now ≡ filled ++ more) × (after ≡ r.forgotten ++ gone)
+  more_left filled now after (more, gone, filled_is, gone_is) = (more, gone, filled_is, gone_is ∙ ap (λ (fs : List (List ℕ)). fs ++ gone) (sym same.forgotten))
+
   copies_same : (c : Collection (List ℕ)) (w : Went) → Copies of_files c m w → Copies of_roots (forget_collection c) r w
-  copies_same c w (s, t, next, stage, after, recorded, changes, left, ready, over, inl (source, entry, next_is, inl ends)) =
-      (s, t, next, stage, after, recorded, changes, left, ready, (λ known. absurd known), inl (source, entry, on_store (λ (x : Store). next ≡ next_of x.held (sources_in c) t) next_is, inl ends))
-  copies_same c w (s, t, next, stage, after, recorded, changes, left, ready, over, inl (source, entry, next_is, inr (inl ends))) =
-      (s, t, next, stage, after, recorded, changes, left, ready, (λ known. absurd known), inl (source, entry, on_store (λ (x : Store). next ≡ next_of x.held (sources_in c) t) next_is, inr (inl ends)))
-  copies_same c w (s, t, next, stage, after, recorded, changes, left, ready, over, inl (source, entry, next_is, inr (inr ends))) = absurd (ends.0 tt)
-  copies_same c w (s, t, next, stage, after, recorded, changes, left, ready, over, inr stops) =
-      (s, t, next, stage, after, recorded, changes, left, ready, (λ known. absurd known), inr stops)
+  copies_same c w (s, t, next, stage, after, recorded, changes, left, ready, more, over, inl (source, entry, next_is, inl ends)) =
+      (s, t, next, stage, after, recorded, changes, left, ready, more_left s.filled t.filled w.forgotten more, (λ known. absurd known), inl (source, entry, on_store (λ (x : Store). next ≡ next_of x.held (sources_in c) t) next_is, inl ends))
+  copies_same c w (s, t, next, stage, after, recorded, changes, left, ready, more, over, inl (source, entry, next_is, inr (inl ends))) =
+      (s, t, next, stage, after, recorded, changes, left, ready, more_left s.filled t.filled w.forgotten more, (λ known. absurd known), inl (source, entry, on_store (λ (x : Store). next ≡ next_of x.held (sources_in c) t) next_is, inr (inl ends)))
+  copies_same c w (s, t, next, stage, after, recorded, changes, left, ready, more, over, inl (source, entry, next_is, inr (inr ends))) = absurd (ends.0 tt)
+  copies_same c w (s, t, next, stage, after, recorded, changes, left, ready, more, over, inr stops) =
+      (s, t, next, stage, after, recorded, changes, left, ready, more_left s.filled t.filled w.forgotten more, (λ known. absurd known), inr stops)
 
   flushes_same : (c : Collection (List ℕ)) (w : Went) → Flushes of_files c m w → Flushes of_roots (forget_collection c) r w
   flushes_same c w (s, t, kind, segments, stage, changes, keys, t_is, next, recorded, forgotten, known) =
@@ -457,6 +476,7 @@ module _ (m : F) (r : G) (same : Forgets m r) where
         store = n.store;
         last_id = last_by w.changes r.last_id;
         forgotten = w.forgotten;
+        swept = swept_by phase r.swept;
         collection = Some (record (forget_collection g.c) { stage = w.stage; recorded = w.recorded; changes = g.c.changes ++ w.changes });
       } in
       goes (λ t. GoesOn of_roots phase r t) n
@@ -464,6 +484,7 @@ module _ (m : F) (r : G) (same : Forgets m r) where
         store = n.store;
         last_id = last_by w.changes m.last_id;
         forgotten = w.forgotten;
+        swept = swept_by phase m.swept;
         collection = Some (record g.c { stage = w.stage; recorded = w.recorded; changes = g.c.changes ++ w.changes });
       }) t g.others
       (record {
@@ -481,6 +502,7 @@ module _ (m : F) (r : G) (same : Forgets m r) where
         store = refl;
         last_id = ap (last_by w.changes) same.last_id;
         forgotten = refl;
+        swept = ap (swept_by phase) same.swept;
         collection = refl;
         acknowledged = same.acknowledged;
         state = same.state;
@@ -496,10 +518,15 @@ module _ (m : F) (r : G) (same : Forgets m r) where
         store = same.store;
         last_id = same.last_id;
         forgotten = same.forgotten;
+        swept = same.swept;
         collection = refl;
         acknowledged = same.acknowledged;
         state = same.state;
       })
+
+  lacks_same : (key : List ℕ) → IsLacked m.store m.forgotten key → IsLacked r.store r.forgotten key
+  lacks_same key (inl none) = inl (on_store (λ (s : Store). newest 0 s.held key ≡ None) none)
+  lacks_same key (inr gone) = inr (on_forgotten (λ fs. Contains fs key) gone)
 
   -- ---- every step that is done
 
@@ -508,7 +535,7 @@ module _ (m : F) (r : G) (same : Forgets m r) where
       goes (λ t. Does of_roots a asked.Begin done.Begun r t) n (put_at m a (Writing finite.empty)) (put_at r a (Writing finite.empty)) others (idle a is, refl) (put a (Writing finite.empty) (Writing finite.empty) refl)
   done_same a (asked.Claim seg) done.Held n does = claimed a seg n does
   done_same a (asked.Claim seg) done.Absent n (keeps, told, others) =
-      stays (λ t. Does of_roots a (asked.Claim seg) done.Absent r t) n others (keeps_same a _ seg.kind keeps, (λ e. absurd e), refl)
+      stays (λ t. Does of_roots a (asked.Claim seg) done.Absent r t) n others (keeps_same a _ seg.kind keeps, (λ indexed. lacks_same (segment_key seg.kind seg.segment) (told (inl tt))), refl)
   done_same a (asked.Seal filled) (done.Sealed id) n does = sealed a filled id n does
   done_same a (asked.Commit name file) (done.Committed sequence) n does = committed a name file sequence n does
   done_same a asked.Abort done.Aborted n does = given_up a kinds.Writing n does
@@ -532,13 +559,15 @@ module _ (m : F) (r : G) (same : Forgets m r) where
   unkept_same : (a : ℕ) (unkept : PinMap → Option (List ℕ)) (key : List ℕ) → IsUnkept of_files a unkept key m → IsUnkept of_roots a unkept key r
   unkept_same a unkept key (pins, is, first) = (pins, writing a pins is, first)
 
-  stop : (P : G → Type 0) (n : F) (other : Option (Found (List ℕ))) (found : Option (Found Root)) → n ≡ record m { state = Stopped other } → SameState (Stopped other) (Stopped found) → P (record r { state = Stopped found }) → Left P n
-  stop P n other found is one holds = goes P n (record m { state = Stopped other }) (record r { state = Stopped found }) is holds (record {
+  stop : (P : G → Type 0) (n : F) (other : Option (Found (List ℕ))) (found : Option (Found Root)) (stores others : List Store) → n ≡ record m { state = Stopped other stores }
+      → SameState (Stopped other stores) (Stopped found others) → P (record r { state = Stopped found others }) → Left P n
+  stop P n other found stores others is one holds = goes P n (record m { state = Stopped other stores }) (record r { state = Stopped found others }) is holds (record {
     now = same.now;
     parts = same.parts;
     store = same.store;
     last_id = same.last_id;
     forgotten = same.forgotten;
+    swept = same.swept;
     collection = same.collection;
     acknowledged = same.acknowledged;
     state = one;
@@ -553,9 +582,10 @@ module _ (m : F) (r : G) (same : Forgets m r) where
   unclaimed : (a : ℕ) (seg : KindSegment) (refusal : Refusal) (n : F) → RefusesClaim of_files a seg refusal m n → Left (λ t. RefusesClaim of_roots a seg refusal r t) n
   unclaimed a seg (refusals.Unpinned key) n (is, others) = stays (λ t. RefusesClaim of_roots a seg (refusals.Unpinned key) r t) n others (unkept_same a _ key is, refl)
   unclaimed a seg refusals.Memory n others = stays (λ t. RefusesClaim of_roots a seg refusals.Memory r t) n others refl
-  unclaimed a seg refusals.DiskRead n others = stays (λ t. RefusesClaim of_roots a seg refusals.DiskRead r t) n others refl
-  unclaimed a seg (refusals.Clash key at) n (told, others) = stays (λ t. RefusesClaim of_roots a seg (refusals.Clash key at) r t) n others ((λ e. absurd e), refl)
-  unclaimed a seg (refusals.Corrupt slot offset count want got) n (untold, others) = absurd (untold tt)
+  unclaimed a seg refusals.DiskRead n (keeps, others) = stays (λ t. RefusesClaim of_roots a seg refusals.DiskRead r t) n others (keeps_same a _ seg.kind keeps, refl)
+  unclaimed a seg (refusals.Clash key at) n (keeps, known, others) =
+      stays (λ t. RefusesClaim of_roots a seg (refusals.Clash key at) r t) n others (keeps_same a _ seg.kind keeps, (λ e. absurd e), refl)
+  unclaimed a seg (refusals.Corrupt slot offset count want got) n (keeps, (unknown, others)) = absurd (unknown tt)
   unclaimed a seg refusal n refuses = absurd refuses
 
   unsealed : (a : ℕ) (filled : Contents) (refusal : Refusal) (n : F) → RefusesSeal of_files a filled refusal m n → Left (λ t. RefusesSeal of_roots a filled refusal r t) n
@@ -565,13 +595,16 @@ module _ (m : F) (r : G) (same : Forgets m r) where
       stays (λ t. RefusesSeal of_roots a filled (refusals.Full free) r t) n others (keeps_same a _ filled.kind keeps, on_store (λ s. free ≡ free_slots s.held) is, few, refl)
   unsealed a filled refusals.Numbers n (slot, none, others) =
       stays (λ t. RefusesSeal of_roots a filled refusals.Numbers r t) n others (slot_same a filled slot, on_id (λ id. LAST_ID ≤ id) none, refl)
-  unsealed a filled refusals.DiskRead n (slot, id, others) =
-      stays (λ t. RefusesSeal of_roots a filled refusals.DiskRead r t) n others (slot_same a filled slot, on_id (λ id. id < LAST_ID) id, refl)
-  unsealed a filled (refusals.Clash key at) n (slot, id, others, told) =
-      stays (λ t. RefusesSeal of_roots a filled (refusals.Clash key at) r t) n others (slot_same a filled slot, on_id (λ id. id < LAST_ID) id, refl, λ e. absurd e)
-  unsealed a filled (refusals.Corrupt slot offset count want got) n (untold, others) = absurd (untold tt)
-  unsealed a filled refusals.DiskWrite n (slot, id, others) =
-      stop (λ t. RefusesSeal of_roots a filled refusals.DiskWrite r t) n None None others tt (slot_same a filled slot, on_id (λ id. id < LAST_ID) id, refl)
+  unsealed a filled refusals.DiskRead n ((slot, id), others) =
+      stays (λ t. RefusesSeal of_roots a filled refusals.DiskRead r t) n others ((slot_same a filled slot, on_id (λ id. id < LAST_ID) id), refl)
+  unsealed a filled (refusals.Clash key at) n ((slot, id), known, others) =
+      stays (λ t. RefusesSeal of_roots a filled (refusals.Clash key at) r t) n others ((slot_same a filled slot, on_id (λ id. id < LAST_ID) id), (λ e. absurd e), refl)
+  unsealed a filled (refusals.Corrupt at offset count want got) n (slot, (unknown, others)) = absurd (unknown tt)
+  unsealed a filled refusals.DiskWrite n ((slot, id), others) =
+      stop (λ t. RefusesSeal of_roots a filled refusals.DiskWrite r t) n None None (with_sealed (suc m.last_id) filled.kind filled.segments m.store ∷ [])
+      (with_sealed (suc r.last_id) filled.kind filled.segments r.store ∷ []) others
+      (λ i. with_sealed (suc (same.last_id i)) filled.kind filled.segments (same.store i) ∷ [])
+      ((slot_same a filled slot, on_id (λ id. id < LAST_ID) id), refl)
   unsealed a filled refusal n refuses = absurd refuses
 
   uncommitted : (a : ℕ) (name file : List ℕ) (refusal : Refusal) (n : F) → RefusesCommit of_files a name file refusal m n → Left (λ t. RefusesCommit of_roots a name (root_of file) refusal r t) n
@@ -584,9 +617,11 @@ module _ (m : F) (r : G) (same : Forgets m r) where
       stays (λ t. RefusesCommit of_roots a name (root_of file) (refusals.Unpinned key) r t) n others (named, rooms name room, is, (pins, writing a pins was, unkept), refl)
   uncommitted a name file refusals.Numbers n (may, lacks, others) =
       stays (λ t. RefusesCommit of_roots a name (root_of file) refusals.Numbers r t) n others (may_commit a name file may, no_numbers lacks, refl)
-  uncommitted a name file refusals.DiskWrite n (may, has, right, others) =
-      stop (λ t. RefusesCommit of_roots a name (root_of file) refusals.DiskWrite r t) n (Some (with_name of_files name file m.now)) (Some (with_name of_roots name (root_of file) r.now)) others
-      (put_same m.now r.now same.now name file right) (may_commit a name file may, numbers has, tt, refl)
+  uncommitted a name file refusals.DiskWrite n (may, has, right, whole, others) =
+      stop (λ t. RefusesCommit of_roots a name (root_of file) refusals.DiskWrite r t) n (Some (with_name of_files name file m.now)) (Some (with_name of_roots name (root_of file) r.now))
+      (broken_by of_files name (Put (root_of file)) m.store) (broken_by of_roots name (Put (root_of file)) r.store) others
+      (put_same m.now r.now same.now name file right, ap (broken_by of_files name (Put (root_of file))) same.store)
+      (may_commit a name file may, numbers has, tt, (λ key needs. absurd needs), refl)
   uncommitted a name file refusal n refuses = absurd refuses
 
   undeleted : (name : List ℕ) (refusal : Refusal) (n : F) → RefusesDelete of_files name refusal m n → Left (λ t. RefusesDelete of_roots name refusal r t) n
@@ -595,8 +630,9 @@ module _ (m : F) (r : G) (same : Forgets m r) where
   undeleted name refusals.NoFile n (named, none, others) = stays (λ t. RefusesDelete of_roots name refusals.NoFile r t) n others (named, none_same m.now r.now same.now name none, refl)
   undeleted name refusals.Numbers n (named, there, lacks, others) = stays (λ t. RefusesDelete of_roots name refusals.Numbers r t) n others (named, knows name there, no_numbers lacks, refl)
   undeleted name refusals.DiskWrite n (named, there, has, others) =
-      stop (λ t. RefusesDelete of_roots name refusals.DiskWrite r t) n (Some (without_name of_files name m.now)) (Some (without_name of_roots name r.now)) others
-      (gone_same m.now r.now same.now name) (named, knows name there, numbers has, refl)
+      stop (λ t. RefusesDelete of_roots name refusals.DiskWrite r t) n (Some (without_name of_files name m.now)) (Some (without_name of_roots name r.now))
+      (broken_by of_files name Gone m.store) (broken_by of_roots name Gone r.store) others
+      (gone_same m.now r.now same.now name, ap (broken_by of_files name Gone) same.store) (named, knows name there, numbers has, refl)
   undeleted name refusal n refuses = absurd refuses
 
   unread : (a : ℕ) (refusal : Refusal) (n : F) → RefusesRead of_files a refusal m n → Left (λ t. RefusesRead of_roots a refusal r t) n
@@ -618,14 +654,22 @@ module _ (m : F) (r : G) (same : Forgets m r) where
   uncollected refusals.DiskRead n (inl is, others) = stays (λ t. RefusesGcStep of_roots refusals.DiskRead r t) n others (inl (runs phases.Mark is), refl)
   uncollected refusals.DiskRead n (inr (inl is), others) = stays (λ t. RefusesGcStep of_roots refusals.DiskRead r t) n others (inr (inl (runs phases.Filter is)), refl)
   uncollected refusals.DiskRead n (inr (inr (inl is)), others) = stays (λ t. RefusesGcStep of_roots refusals.DiskRead r t) n others (inr (inr (inl (runs phases.Copy is))), refl)
-  uncollected refusals.DiskRead n (inr (inr (inr is)), others) = stays (λ t. RefusesGcStep of_roots refusals.DiskRead r t) n others (inr (inr (inr (runs phases.Flush is))), refl)
-  uncollected refusals.DiskWrite n (inl is, others) = stop (λ t. RefusesGcStep of_roots refusals.DiskWrite r t) n None None others tt (inl (runs phases.Copy is), refl)
-  uncollected refusals.DiskWrite n (inr (inl is), others) =
-      stop (λ t. RefusesGcStep of_roots refusals.DiskWrite r t) n None None others tt (inr (inl (runs phases.Flush is.0, on_id (λ id. id < LAST_ID) is.1)), refl)
-  uncollected refusals.DiskWrite n (inr (inr is), others) = stop (λ t. RefusesGcStep of_roots refusals.DiskWrite r t) n None None others tt (inr (inr (runs phases.Release is)), refl)
-  uncollected (refusals.Corrupt slot offset count want got) n (some, (untold, others)) = absurd (untold tt)
-  uncollected (refusals.Missing key) n (some, (untold, others)) = absurd (untold tt)
-  uncollected (refusals.Damaged at why) n (some, (untold, others)) = absurd (untold tt)
+  uncollected refusals.DiskRead n (inr (inr (inr is)), others) =
+      stays (λ t. RefusesGcStep of_roots refusals.DiskRead r t) n others (inr (inr (inr (runs phases.Flush is.0, on_id (λ id. id < LAST_ID) is.1))), refl)
+  uncollected refusals.DiskWrite n (stores, inl (is, none), others) =
+      stop (λ t. RefusesGcStep of_roots refusals.DiskWrite r t) n None None stores stores others refl (stores, inl (runs phases.Copy is, none), refl)
+  uncollected refusals.DiskWrite n (stores, inr (inl (is, left, (kind, segments, broken))), others) =
+      let now = with_sealed (suc r.last_id) kind segments r.store ∷ [] in
+      stop (λ t. RefusesGcStep of_roots refusals.DiskWrite r t) n None None stores now others
+      ((λ i. with_sealed (suc (same.last_id i)) kind segments (same.store i) ∷ []) ∙ sym broken)
+      (now, inr (inl (runs phases.Flush is, on_id (λ id. id < LAST_ID) left, (kind, segments, refl))), refl)
+  uncollected refusals.DiskWrite n (stores, inr (inr (is, (slot, broken))), others) =
+      let now = with_freed slot r.store ∷ [] in
+      stop (λ t. RefusesGcStep of_roots refusals.DiskWrite r t) n None None stores now others
+      ((λ i. with_freed slot (same.store i) ∷ []) ∙ sym broken) (now, inr (inr (runs phases.Release is, (slot, refl))), refl)
+  uncollected (refusals.Corrupt slot offset count want got) n (is, (unknown, others)) = absurd (unknown tt)
+  uncollected (refusals.Missing key) n (is, (unknown, others)) = absurd (unknown tt)
+  uncollected (refusals.Damaged at why) n (is, (unknown, others)) = absurd (unknown tt)
   uncollected refusal n refuses = absurd refuses
 
   refused_on : (a : ℕ) (step : Asked (List ℕ)) (refusal : Refusal) (n : F) → RefusesOn of_files a step refusal m n → Left (λ t. RefusesOn of_roots a (asked_of step) refusal r t) n
@@ -678,21 +722,21 @@ module _ (m : F) (r : G) (same : Forgets m r) where
 
   state_same : (s : RunState (List ℕ)) (u : RunState Root) → SameState s u → (a : ℕ) (step : Asked (List ℕ)) (told : Result Done Refusal) (n : F) → ByState of_files s a step told m n → Left (λ t. ByState of_roots u a (asked_of step) told r t) n
   state_same Running Running one a step told n by = answered_same a step told n by
-  state_same Running (Stopped other) one a step told n by = absurd one
-  state_same (Stopped None) Running one a step told n by = absurd one
-  state_same (Stopped (Some found)) Running one a step told n by = absurd one
-  state_same (Stopped found) (Stopped other) one a step told n (is, others) =
-      stays (λ t. ByState of_roots (Stopped other) a (asked_of step) told r t) n others (is ∙ ap (λ (k : ℕ). Err (refusals.Stopped k)) (sym same.acknowledged), refl)
+  state_same Running (Stopped other stores) one a step told n by = absurd one
+  state_same (Stopped None stores) Running one a step told n by = absurd one
+  state_same (Stopped (Some found) stores) Running one a step told n by = absurd one
+  state_same (Stopped found stores) (Stopped other now) one a step told n (is, others) =
+      stays (λ t. ByState of_roots (Stopped other now) a (asked_of step) told r t) n others (is ∙ ap (λ (k : ℕ). Err (refusals.Stopped k)) (sym same.acknowledged), refl)
 
   -- ---- an opening
 
   found_same : (s : RunState (List ℕ)) (u : RunState Root) (found : Found (List ℕ)) → SameState s u → MayBeFound of_files s m.now found → (other : Found Root) × SameNow found other
   found_same Running u found one is = (r.now, subst (λ (x : Found (List ℕ)). SameNow x r.now) (sym is) same.now)
-  found_same (Stopped None) u found one is = (r.now, subst (λ (x : Found (List ℕ)). SameNow x r.now) (sym is) same.now)
-  found_same (Stopped (Some next)) u found one (inl is) = (r.now, subst (λ (x : Found (List ℕ)). SameNow x r.now) (sym is) same.now)
-  found_same (Stopped (Some next)) Running found one (inr is) = absurd one
-  found_same (Stopped (Some next)) (Stopped None) found one (inr is) = absurd one
-  found_same (Stopped (Some next)) (Stopped (Some other)) found one (inr is) = (other, subst (λ (x : Found (List ℕ)). SameNow x other) (sym is) one)
+  found_same (Stopped None stores) u found one is = (r.now, subst (λ (x : Found (List ℕ)). SameNow x r.now) (sym is) same.now)
+  found_same (Stopped (Some next) stores) u found one (inl is) = (r.now, subst (λ (x : Found (List ℕ)). SameNow x r.now) (sym is) same.now)
+  found_same (Stopped (Some next) stores) Running found one (inr is) = absurd one
+  found_same (Stopped (Some next) stores) (Stopped None now) found one (inr is) = absurd one
+  found_same (Stopped (Some next) stores) (Stopped (Some other) now) found one (inr is) = (other, subst (λ (x : Found (List ℕ)). SameNow x other) (sym is) one.0)
 
   opened_again : (files : ℕ) (n : F) → Opens of_files files m n → Left (λ t. Opens of_roots files r t) n
   opened_again files n o =
@@ -703,6 +747,7 @@ module _ (m : F) (r : G) (same : Forgets m r) where
         store = n.store;
         last_id = last_id n.store.held;
         forgotten = [];
+        swept = false;
         collection = None;
         acknowledged = 0;
         state = Running;
@@ -713,6 +758,7 @@ module _ (m : F) (r : G) (same : Forgets m r) where
         store = n.store;
         last_id = last_id n.store.held;
         forgotten = [];
+        swept = false;
         collection = None;
         acknowledged = 0;
         state = Running;
@@ -728,14 +774,17 @@ module _ (m : F) (r : G) (same : Forgets m r) where
         reserve = o.reserve;
         others = refl;
       })
-      (record { now = found.1; parts = all_same ACTORS; store = refl; last_id = refl; forgotten = refl; collection = refl; acknowledged = refl; state = tt })
+      (record { now = found.1; parts = all_same ACTORS; store = refl; last_id = refl; forgotten = refl; swept = refl; collection = refl; acknowledged = refl; state = tt })
 
-  still_same : (s : RunState (List ℕ)) (u : RunState Root) → SameState s u → SameState (still_stopped of_files s) (still_stopped of_roots u)
-  still_same Running Running one = tt
-  still_same Running (Stopped other) one = absurd one
-  still_same (Stopped None) Running one = absurd one
-  still_same (Stopped (Some found)) Running one = absurd one
-  still_same (Stopped found) (Stopped other) one = one
+  still_same : (stores : List Store) (s : RunState (List ℕ)) (u : RunState Root) → SameState s u → SameState (freeing of_files stores s) (freeing of_roots stores u)
+  still_same stores Running Running one = refl
+  still_same stores Running (Stopped other now) one = absurd one
+  still_same stores (Stopped None before) Running one = absurd one
+  still_same stores (Stopped (Some found) before) Running one = absurd one
+  still_same stores (Stopped None before) (Stopped None now) one = ap (λ (ss : List Store). ss ++ stores) one
+  still_same stores (Stopped None before) (Stopped (Some other) now) one = absurd one
+  still_same stores (Stopped (Some found) before) (Stopped None now) one = absurd one
+  still_same stores (Stopped (Some found) before) (Stopped (Some other) now) one = (one.0, ap (λ (ss : List Store). ss ++ stores) one.1)
 
   refuse_same : (refusal : Refusal) → MayRefuseOpening of_files refusal → MayRefuseOpening of_roots refusal
   refuse_same refusals.Memory may = tt
@@ -754,17 +803,19 @@ module _ (m : F) (r : G) (same : Forgets m r) where
   reopened (Ok (done.Reopened files)) n opens = opened_again files n opens
   reopened (Ok answer) n opens = absurd opens
   reopened (Err refusal) n (may, inl others) = stays (λ t. Reopens of_roots (Err refusal) r t) n others (refuse_same refusal may, inl refl)
-  reopened (Err refusal) n (may, inr others) =
-      goes (λ t. Reopens of_roots (Err refusal) r t) n (record m { state = still_stopped of_files m.state }) (record r { state = still_stopped of_roots r.state }) others (refuse_same refusal may, inr refl)
+  reopened (Err refusal) n (may, inr (stores, others, known)) =
+      goes (λ t. Reopens of_roots (Err refusal) r t) n (record m { state = freeing of_files stores m.state }) (record r { state = freeing of_roots stores r.state }) others
+      (refuse_same refusal may, inr (stores, refl, λ e. absurd e))
       (record {
         now = same.now;
         parts = same.parts;
         store = same.store;
         last_id = same.last_id;
         forgotten = same.forgotten;
+        swept = same.swept;
         collection = same.collection;
         acknowledged = same.acknowledged;
-        state = still_same m.state r.state same.state;
+        state = still_same stores m.state r.state same.state;
       })
 
   -- ---- a step

@@ -12,7 +12,7 @@ use Rattle.store_machine.specs.Done.{Done}
 use Rattle.store_machine.specs.Ingests.{IngestsThrough}
 use Rattle.store_machine.specs.Lines.{Commits, Line, Pushes, Session, TurnsStop, reply_of, step_of}
 use Rattle.store_machine.specs.Machine.{Found, Running}
-use Rattle.store_machine.specs.Promise.{desk}
+use Rattle.store_machine.specs.Commands.{desk}
 use Rattle.store_machine.specs.Values.{of_files}
 use Rattle.store_machine.proofs.Ingesting.{D, Gives, Stage, Went, begin_went, commit_put, opened_went, pushes, reply_by, run_one}
 use Rattle.store_machine.proofs.Passing.{AllOk, Good, IsFine, fine_of, ok_good, passes, turns_ok}

@@ -8,6 +8,7 @@ use Rattle.script_lines.specs.Grammar.{LineValue, pushed_bytes}
 use Rattle.script_lines.specs.Grammar as lines
 use Rattle.script_lines.specs.ReplyValue.{ReplyValue}
 use Rattle.script_lines.specs.ReplyValue as replies
+use Rattle.store_model.specs.Image.{Store}
 use Rattle.store_machine.specs.Asked.{Asked}
 use Rattle.store_machine.specs.Asked as asked
 use Rattle.store_machine.specs.Commands.{AllFollow, Follows, Ingest, IsDone, IsPush, Lines, Replied, given_after, given_by}
@@ -17,11 +18,11 @@ use Rattle.store_machine.specs.Ingests.{Ingested, IngestsByMap}
 use Rattle.store_machine.specs.Legal.{Answers, ByState, Does, Legal, Refuses, RefusesCommit, with_name}
 use Rattle.store_machine.specs.Lines.{Acts, Commits, Desk, Finishes, Line, Pushes, Session, TurnsStop, all_none, new_session, reply_of, session_of, step_of, unless_refused, with_session}
 use Rattle.store_machine.specs.Machine.{Found, RunState, Running, Stopped}
-use Rattle.store_machine.specs.Opening.{MayBeFound, Reopens, still_stopped}
-use Rattle.store_machine.specs.Promise.{desk}
+use Rattle.store_machine.specs.Opening.{MayBeFound, Reopens, freeing}
+use Rattle.store_machine.specs.Commands.{desk}
 use Rattle.store_machine.specs.Runs.{Run}
 use Rattle.store_machine.specs.Values.{of_files}
-use Rattle.store_machine.proofs.Quiet.{F, Goes, Quiet, Step, due_is_quiet, quiet_of, step_quiet, turns_go}
+use Rattle.store_machine.proofs.Quiet.{IsSure, running_sure, F, Goes, Quiet, Step, due_is_quiet, quiet_of, step_quiet, turns_go}
 
 abbrev pub D : Type 0
 D = Desk (List ℕ) (List (List ℕ))
@@ -59,7 +60,7 @@ Stage now reply given d = Unit {0}
 
 -- it was a quiet line, and the next stage was reached, unless it was refused
 pub record Went (now : Found (List ℕ)) (reply : ReplyValue) (given : List ℕ) (e : D) : Type 0 where
-  pub quiet : (e.machine.now ≡ now) × ((e.machine.state ≡ Running) ⊎ (e.machine.state ≡ Stopped None))
+  pub quiet : (e.machine.now ≡ now) × IsSure e.machine.state
   pub stage : Stage now reply given e
   pub undone : (name : List ℕ) → IsDone (Ingest name) reply → ⊥
 
@@ -113,7 +114,7 @@ module _ (now : Found (List ℕ)) (d e : D) (ss : List Step) (run : Run of_files
             let after : Session = record t { given = t.given ++ bytes } in
             let sessions_are : e.sessions ≡ slice_set d.sessions 0 (Some after) = sessions ∙ ap (λ (r : ReplyValue). slice_set d.sessions 0 (Some (unless_refused r after t))) reply_is in
             record {
-              quiet = (turned.goes.now ∙ ready.same, inl turned.goes.state);
+              quiet = (turned.goes.now ∙ ready.same, running_sure e.machine.state turned.goes.state);
               stage = subst (λ (r : ReplyValue). Stage now r given_now e) (sym reply_is) (
                 record { same = turned.goes.now ∙ ready.same; runs = turned.goes.state; some = subst (λ (l : List (Option Session)). 0 < length l) (sym sessions_are) (length_set d.sessions (Some after) ready.some) },
                 record {
@@ -146,7 +147,7 @@ module _ (now : Found (List ℕ)) (d e : D) (ss : List Step) (run : Run of_files
       let after : Session = record s { ended = true } in
       let sessions_are : e.sessions ≡ slice_set d.sessions 0 (Some after) = sessions ∙ ap (λ (r : ReplyValue). slice_set d.sessions 0 (Some (unless_refused r after s))) is in
       record {
-        quiet = (goes.now ∙ ready.same, inl goes.state);
+        quiet = (goes.now ∙ ready.same, running_sure e.machine.state goes.state);
         stage = subst (λ (r : ReplyValue). Stage now r given e) (sym is) (
           record { same = goes.now ∙ ready.same; runs = goes.state; some = subst (λ (l : List (Option Session)). 0 < length l) (sym sessions_are) (length_set d.sessions (Some after) ready.some) },
           record {
@@ -175,7 +176,7 @@ module _ (now : Found (List ℕ)) (d e : D) (ss : List Step) (run : Run of_files
           let runs : e.machine.state ≡ Running = ap (λ (x : F). x.state) others ∙ ready.runs in
           let sessions_are : e.sessions ≡ slice_set d.sessions 0 (Some new_session) = sessions ∙ ap (λ (r : ReplyValue). slice_set d.sessions 0 (unless_refused r (Some new_session) (session_of of_files d 0))) reply_is in
           record {
-            quiet = (own, inl runs);
+            quiet = (own, running_sure e.machine.state runs);
             stage = subst (λ (r : ReplyValue). Stage now r (given_after 0 (lines.Begin 0) r given) e) (sym reply_is) (
               record { same = own; runs = runs; some = subst (λ (l : List (Option Session)). 0 < length l) (sym sessions_are) (length_set d.sessions (Some new_session) ready.some) },
               record { session = new_session; is = ap (λ (l : List (Option Session)). slice_index_or l 0 None) sessions_are ∙ index_set d.sessions (Some new_session) ready.some; given_is = refl; ended_is = refl },
@@ -203,11 +204,10 @@ module _ (now : Found (List ℕ)) (d e : D) (ss : List Step) (run : Run of_files
     done = λ done. absurd (subst (IsDone (Ingest name)) is done);
   }
     where
-      by : (st : RunState (List ℕ)) → (st ≡ Running) ⊎ (st ≡ Stopped None) → (x : Found (List ℕ)) → MayBeFound of_files st e.machine.now x → x ≡ e.machine.now
+      by : (st : RunState (List ℕ)) → IsSure st → (x : Found (List ℕ)) → MayBeFound of_files st e.machine.now x → x ≡ e.machine.now
       by Running is x may = may
-      by (Stopped None) is x may = may
-      by (Stopped (Some other)) (inl is) x may = absurd (let wrong : Stopped (Some other) ≡ Running = is in cc)
-      by (Stopped (Some other)) (inr is) x may = absurd (let wrong : Stopped (Some other) ≡ Stopped None = is in cc)
+      by (Stopped None stores) is x may = may
+      by (Stopped (Some other) stores) is x may = absurd is
 
   stopped_quiet : (a : ℕ) (s t : Session) (reply : ReplyValue) → TurnsStop of_files a s reply ss t → (refusal : Refusal) × (reply ≡ replies.Refused refusal) × Quiet d.machine e.machine
   stopped_quiet a s t reply (made, turns, (refusal, reply_is, inl (memory, is))) =
@@ -232,10 +232,10 @@ module _ (now : Found (List ℕ)) (d e : D) (ss : List Step) (run : Run of_files
     put_refused refusal is quiet = quiet_put name given reply refusal is (record { now = quiet.now ∙ goes.now; state = quiet.state })
 
     at_rest : (refusal : Refusal) → reply ≡ replies.Refused refusal → e.machine ≡ mid → Put name given reply
-    at_rest refusal is others = put_refused refusal is (record { now = ap (λ (x : F). x.now) others; state = inl (ap (λ (x : F). x.state) others ∙ goes.state) })
+    at_rest refusal is others = put_refused refusal is (record { now = ap (λ (x : F). x.now) others; state = running_sure e.machine.state (ap (λ (x : F). x.state) others ∙ goes.state) })
 
-    in_doubt : (refusal : Refusal) → reply ≡ replies.Refused refusal → e.machine ≡ record mid { state = Stopped (Some (with_name of_files name file mid.now)) } → Put name given reply
-    in_doubt refusal is others = record {
+    in_doubt : (refusal : Refusal) → reply ≡ replies.Refused refusal → (stores : List Store) → e.machine ≡ record mid { state = Stopped (Some (with_name of_files name file mid.now)) stores } → Put name given reply
+    in_doubt refusal is stores others = record {
       found = λ x may. by x (subst (λ (m : F). MayBeFound of_files m.state m.now x) others may);
       last = λ line follows. subst (λ (r : ReplyValue). Follows (Ingest name) r line) is follows;
       done = λ done. absurd (subst (IsDone (Ingest name)) is done);
@@ -251,7 +251,7 @@ module _ (now : Found (List ℕ)) (d e : D) (ss : List Step) (run : Run of_files
     commit_refused refusals.TooMany is (good, none, many, others) = at_rest refusals.TooMany is others
     commit_refused (refusals.Unpinned key) is (good, room, key_is, pins, others) = at_rest (refusals.Unpinned key) is others
     commit_refused refusals.Numbers is (may, lacks, others) = at_rest refusals.Numbers is others
-    commit_refused refusals.DiskWrite is (may, has, right, others) = in_doubt refusals.DiskWrite is others
+    commit_refused refusals.DiskWrite is (may, has, right, whole, others) = in_doubt refusals.DiskWrite is _ others
     commit_refused refusal is refuses = absurd refuses
 
     refused_put : (refusal : Refusal) → reply ≡ replies.Refused refusal → Refuses of_files 0 (asked.Commit name file) refusal mid e.machine → Put name given reply
@@ -334,11 +334,10 @@ module _ (name : List ℕ) (now : Found (List ℕ)) where
     done = λ end. absurd (let wrong : None ≡ Some end.0 = end.1 in cc);
   }
     where
-      by : (st : RunState (List ℕ)) → (st ≡ Running) ⊎ (st ≡ Stopped None) → (x : Found (List ℕ)) → MayBeFound of_files st d.machine.now x → x ≡ d.machine.now
+      by : (st : RunState (List ℕ)) → IsSure st → (x : Found (List ℕ)) → MayBeFound of_files st d.machine.now x → x ≡ d.machine.now
       by Running is x may = may
-      by (Stopped None) is x may = may
-      by (Stopped (Some other)) (inl is) x may = absurd (let wrong : Stopped (Some other) ≡ Running = is in cc)
-      by (Stopped (Some other)) (inr is) x may = absurd (let wrong : Stopped (Some other) ≡ Stopped None = is in cc)
+      by (Stopped None stores) is x may = may
+      by (Stopped (Some other) stores) is x may = absurd is
 
   -- what a line does, by the reply before it
   abbrev pub Next : Replied → List ℕ → D → D → List Step → Type 0
@@ -396,16 +395,16 @@ module _ (name : List ℕ) (now : Found (List ℕ)) where
 pub opened_went : (m : F) (mid : D) (ss : List Step) (reply : ReplyValue) (told : Result Done Refusal) → m.state ≡ Running → reply ≡ reply_of 0 told → Reopens of_files told m mid.machine
     → mid.sessions ≡ unless_refused reply (all_none (desk m).sessions) (desk m).sessions → Went m.now reply [] mid
 opened_went m mid ss reply (Err refusal) runs is (may, inl others) sessions =
-    refused_went m.now refusal reply [] (desk m) mid is refl (record { now = ap (λ (x : F). x.now) others; state = inl (ap (λ (x : F). x.state) others ∙ runs) })
-opened_went m mid ss reply (Err refusal) runs is (may, inr others) sessions =
-    refused_went m.now refusal reply [] (desk m) mid is refl (record { now = ap (λ (x : F). x.now) others; state = inr (ap (λ (x : F). x.state) others ∙ ap (still_stopped of_files) runs) })
+    refused_went m.now refusal reply [] (desk m) mid is refl (record { now = ap (λ (x : F). x.now) others; state = running_sure mid.machine.state (ap (λ (x : F). x.state) others ∙ runs) })
+opened_went m mid ss reply (Err refusal) runs is (may, inr (stores, others, known)) sessions =
+    refused_went m.now refusal reply [] (desk m) mid is refl (record { now = ap (λ (x : F). x.now) others; state = subst IsSure (sym (ap (λ (x : F). x.state) others ∙ ap (freeing of_files stores) runs)) tt })
 opened_went m mid ss reply (Ok (done.Reopened files)) runs is opens sessions =
     let found : opens.found ≡ m.now = subst (λ (st : RunState (List ℕ)). MayBeFound of_files st m.now opens.found) runs (opens.may tt) in
     let now_is : mid.machine.now ≡ m.now = ap (λ (x : F). x.now) opens.others ∙ found in
     let state_is : mid.machine.state ≡ Running = ap (λ (x : F). x.state) opens.others in
     let sessions_are : mid.sessions ≡ all_none (desk m).sessions = sessions ∙ ap (λ (r : ReplyValue). unless_refused r (all_none (desk m).sessions) (desk m).sessions) is in
     record {
-      quiet = (now_is, inl state_is);
+      quiet = (now_is, running_sure mid.machine.state state_is);
       stage = subst (λ (r : ReplyValue). Stage m.now r [] mid) (sym is) (record { same = now_is; runs = state_is; some = subst (λ (l : List (Option Session)). 0 < length l) (sym sessions_are) (omega arith) });
       undone = λ name done. subst (IsDone (Ingest name)) is done;
     }

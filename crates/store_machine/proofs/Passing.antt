@@ -1,5 +1,5 @@
 -- What a crash may find at any moment of an `ingest`: the steps that its lines make are quiet, but for one commit at their end.
-use Rattle.std.proofs.Common.{◌≡◌, ◌⊎◌, inl, inr, ℕ, List, [], ◌∷◌, ◌++◌, Some, None, Result, Ok, Err, ◌∙◌, ap, subst}
+use Rattle.std.proofs.Common.{◌≡◌, ◌⊎◌, inl, inr, ℕ, List, [], ◌∷◌, ◌++◌, Some, None, Result, Ok, Err, ◌∙◌, ap, subst, sym}
 use Rattle.actor_parts.specs.declared.step.Answer.{Answer}
 use Rattle.refusals.specs.declared.refusal.Refusal.{Refusal}
 use Rattle.refusals.specs.declared.refusal.Refusal.TheVariants as refusals
@@ -10,10 +10,10 @@ use Rattle.store_machine.specs.Done as done
 use Rattle.store_machine.specs.Legal.{Answers, ByState, Legal, RefusesCommit, with_name}
 use Rattle.store_machine.specs.Lines.{AreTurns, Session, answer_of}
 use Rattle.store_machine.specs.Machine.{Found, RunState, Running, Stopped}
-use Rattle.store_machine.specs.Opening.{MayBeFound, Reopens, still_stopped}
+use Rattle.store_machine.specs.Opening.{MayBeFound, Reopens, freeing}
 use Rattle.store_machine.specs.Runs.{IsPassedFrom, Run}
 use Rattle.store_machine.specs.Values.{of_files}
-use Rattle.store_machine.proofs.Quiet.{F, Goes, IsQuiet, Quiet, Step, due_is_quiet, step_done, step_quiet}
+use Rattle.store_machine.proofs.Quiet.{IsSure, running_sure, F, Goes, IsQuiet, Quiet, Step, due_is_quiet, step_done, step_quiet}
 
 -- ---- lists of steps
 
@@ -67,11 +67,10 @@ module _ (name given : List ℕ) (now : Found (List ℕ)) where
   abbrev pub Either : Found (List ℕ) → Type 0
   Either x = (x ≡ now) ⊎ (x ≡ with_name of_files name given now)
 
-  by_state : (m : F) → m.now ≡ now → (st : RunState (List ℕ)) → (st ≡ Running) ⊎ (st ≡ Stopped None) → (x : Found (List ℕ)) → MayBeFound of_files st m.now x → Either x
-  by_state m same Running is x may = inl (may ∙ same)
-  by_state m same (Stopped None) is x may = inl (may ∙ same)
-  by_state m same (Stopped (Some other)) (inl is) x may = absurd (let wrong : Stopped (Some other) ≡ Running = is in cc)
-  by_state m same (Stopped (Some other)) (inr is) x may = absurd (let wrong : Stopped (Some other) ≡ Stopped None = is in cc)
+  by_state : (m : F) → m.now ≡ now → (st : RunState (List ℕ)) → IsSure st → (x : Found (List ℕ)) → MayBeFound of_files st m.now x → Either x
+  by_state m same Running sure x may = inl (may ∙ same)
+  by_state m same (Stopped None stores) sure x may = inl (may ∙ same)
+  by_state m same (Stopped (Some other) stores) sure x may = absurd sure
 
   quiet_found : (m n : F) → m.now ≡ now → Quiet m n → (x : Found (List ℕ)) → MayBeFound of_files n.state n.now x → Either x
   quiet_found m n same quiet x may = by_state n (quiet.now ∙ same) n.state quiet.state x may
@@ -80,11 +79,12 @@ module _ (name given : List ℕ) (now : Found (List ℕ)) where
   reopen_quiet : (told : Result Done Refusal) (m n : F) → m.state ≡ Running → Reopens of_files told m n → Quiet m n
   reopen_quiet (Ok (done.Reopened files)) m n runs o = record {
     now = ap (λ (x : F). x.now) o.others ∙ subst (λ (st : RunState (List ℕ)). MayBeFound of_files st m.now o.found) runs (o.may tt);
-    state = inl (ap (λ (x : F). x.state) o.others);
+    state = running_sure n.state (ap (λ (x : F). x.state) o.others);
   }
   reopen_quiet (Ok answer) m n runs o = absurd o
-  reopen_quiet (Err refusal) m n runs (may, inl is) = record { now = ap (λ (x : F). x.now) is; state = inl (ap (λ (x : F). x.state) is ∙ runs) }
-  reopen_quiet (Err refusal) m n runs (may, inr is) = record { now = ap (λ (x : F). x.now) is; state = inr (ap (λ (x : F). x.state) is ∙ ap (still_stopped of_files) runs) }
+  reopen_quiet (Err refusal) m n runs (may, inl is) = record { now = ap (λ (x : F). x.now) is; state = running_sure n.state (ap (λ (x : F). x.state) is ∙ runs) }
+  reopen_quiet (Err refusal) m n runs (may, inr (stores, is, known)) =
+      record { now = ap (λ (x : F). x.now) is; state = subst IsSure (sym (ap (λ (x : F). x.state) is ∙ ap (freeing of_files stores) runs)) tt }
 
   reopen_goes : (answer : Done) (m n : F) → m.state ≡ Running → Reopens of_files (Ok answer) m n → Goes m n
   reopen_goes (done.Reopened files) m n runs o = record {
@@ -110,7 +110,7 @@ module _ (name given : List ℕ) (now : Found (List ℕ)) where
 
   -- the commit
   still : (m n : F) → m.now ≡ now → m.state ≡ Running → n ≡ m → (x : Found (List ℕ)) → MayBeFound of_files n.state n.now x → Either x
-  still m n same runs is x may = quiet_found m n same (record { now = ap (λ (y : F). y.now) is; state = inl (ap (λ (y : F). y.state) is ∙ runs) }) x may
+  still m n same runs is x may = quiet_found m n same (record { now = ap (λ (y : F). y.now) is; state = running_sure n.state (ap (λ (y : F). y.state) is ∙ runs) }) x may
 
   put_is : (m : F) → m.now ≡ now → with_name of_files name given m.now ≡ with_name of_files name given now
   put_is m same = ap (λ (y : Found (List ℕ)). with_name of_files name given y) same
@@ -121,7 +121,7 @@ module _ (name given : List ℕ) (now : Found (List ℕ)) where
   unput a refusals.TooMany m n same runs (good, none, many, others) = still m n same runs others
   unput a (refusals.Unpinned key) m n same runs (good, room, key_is, pins, others) = still m n same runs others
   unput a refusals.Numbers m n same runs (may, lacks, others) = still m n same runs others
-  unput a refusals.DiskWrite m n same runs (may, has, right, others) =
+  unput a refusals.DiskWrite m n same runs (may, has, right, whole, others) =
       λ x found. in_doubt x (subst (λ (y : F). MayBeFound of_files y.state y.now x) others found)
     where
       in_doubt : (x : Found (List ℕ)) → (x ≡ m.now) ⊎ (x ≡ with_name of_files name given m.now) → Either x
@@ -145,10 +145,10 @@ module _ (name given : List ℕ) (now : Found (List ℕ)) where
 
   -- at each moment of a run of such steps
   pub passes : (first : ℕ) (xs : List Step) (m n : F) (run : Run of_files xs m n) → Good name given xs → m.now ≡ now → m.state ≡ Running → (x : Found (List ℕ)) → IsPassedFrom of_files first xs m n run x → Either x
-  passes first [] m n run good same runs x (later, may) = by_state m same m.state (inl runs) x may
-  passes first (s ∷ []) m n run good same runs x (inl (later, may)) = by_state m same m.state (inl runs) x may
+  passes first [] m n run good same runs x (later, may) = by_state m same m.state (running_sure m.state runs) x may
+  passes first (s ∷ []) m n run good same runs x (inl (later, may)) = by_state m same m.state (running_sure m.state runs) x may
   passes first (s ∷ []) m n run good same runs x (inr (later, may)) = last_found s m run.0 same runs good run.1.0 x may
-  passes first (s ∷ t ∷ more) m n run good same runs x (inl (later, may)) = by_state m same m.state (inl runs) x may
+  passes first (s ∷ t ∷ more) m n run good same runs x (inl (later, may)) = by_state m same m.state (running_sure m.state runs) x may
   passes first (s ∷ t ∷ more) m n run good same runs x (inr passed) =
       let goes = fine_goes s.actor s.asked s.answer m run.0 good.0 good.1 runs run.1.0 in
       passes first (t ∷ more) run.0 n run.1.1 good.2 (goes.now ∙ same) goes.state x passed

@@ -1,9 +1,10 @@
 -- Steps that change no name, and turns.
-use Rattle.std.proofs.Common.{◌≡◌, ◌⊎◌, inl, inr, ℕ, List, [], ◌∷◌, ◌++◌, Some, None, Result, Ok, Err, refl, ◌∙◌, ap, subst}
+use Rattle.std.proofs.Common.{◌≡◌, ◌⊎◌, inl, inr, ℕ, List, [], ◌∷◌, ◌++◌, Some, None, Result, Ok, Err, refl, sym, ◌∙◌, ap, subst}
 use Rattle.actor_parts.specs.declared.step.Answer.{Answer}
 use Rattle.ingest_session.specs.declared.due.Due.TheVariants as dues
 use Rattle.refusals.specs.declared.refusal.Refusal.{Refusal}
 use Rattle.refusals.specs.declared.refusal.Refusal.TheVariants as refusals
+use Rattle.store_model.specs.Image.{Store}
 use Rattle.store_machine.specs.Asked.{Asked}
 use Rattle.store_machine.specs.Asked as asked
 use Rattle.store_machine.specs.Done.{Done}
@@ -26,10 +27,19 @@ IsQuiet (asked.Claim seg) = Unit {0}
 IsQuiet (asked.Seal filled) = Unit {0}
 IsQuiet step = ⊥
 
--- names stay, and it runs, or is stopped with no command in doubt
+-- it runs, or is stopped with no command in doubt
+abbrev pub IsSure : RunState (List ℕ) → Type 0
+IsSure Running = Unit {0}
+IsSure (Stopped None stores) = Unit {0}
+IsSure (Stopped (Some other) stores) = ⊥
+
+pub running_sure : (state : RunState (List ℕ)) → state ≡ Running → IsSure state
+running_sure state is = subst IsSure (sym is) tt
+
+-- names stay, and so it is
 pub record Quiet (m n : F) : Type 0 where
   pub now : n.now ≡ m.now
-  pub state : (n.state ≡ Running) ⊎ (n.state ≡ Stopped None)
+  pub state : IsSure n.state
 
 -- names stay, and it runs
 pub record Goes (m n : F) : Type 0 where
@@ -37,7 +47,7 @@ pub record Goes (m n : F) : Type 0 where
   pub state : n.state ≡ Running
 
 pub quiet_of : (m n : F) → Goes m n → Quiet m n
-quiet_of m n goes = record { now = goes.now; state = inl goes.state }
+quiet_of m n goes = record { now = goes.now; state = running_sure n.state goes.state }
 
 stays : (m n : F) → m.state ≡ Running → n ≡ m → Goes m n
 stays m n runs is = record { now = ap (λ (x : F). x.now) is; state = ap (λ (x : F). x.state) is ∙ runs }
@@ -57,15 +67,15 @@ does_go a step answer m n quiet runs does = absurd quiet
 rests : (m n : F) → m.state ≡ Running → n ≡ m → Quiet m n
 rests m n runs is = quiet_of m n (stays m n runs is)
 
-stops : (m n : F) → n ≡ record m { state = Stopped None } → Quiet m n
-stops m n is = record { now = ap (λ (x : F). x.now) is; state = inr (ap (λ (x : F). x.state) is) }
+stops : (stores : List Store) (m n : F) → n ≡ record m { state = Stopped None stores } → Quiet m n
+stops stores m n is = record { now = ap (λ (x : F). x.now) is; state = subst IsSure (sym (ap (λ (x : F). x.state) is)) tt }
 
 claim_rests : (a : ℕ) (seg : _) (refusal : Refusal) (m n : F) → m.state ≡ Running → RefusesClaim of_files a seg refusal m n → Quiet m n
 claim_rests a seg (refusals.Unpinned key) m n runs (is, others) = rests m n runs others
 claim_rests a seg refusals.Memory m n runs others = rests m n runs others
-claim_rests a seg refusals.DiskRead m n runs others = rests m n runs others
-claim_rests a seg (refusals.Clash key at) m n runs (told, others) = rests m n runs others
-claim_rests a seg (refusals.Corrupt slot offset count want got) m n runs (untold, others) = rests m n runs others
+claim_rests a seg refusals.DiskRead m n runs (keeps, others) = rests m n runs others
+claim_rests a seg (refusals.Clash key at) m n runs (keeps, known, others) = rests m n runs others
+claim_rests a seg (refusals.Corrupt slot offset count want got) m n runs (keeps, (unknown, others)) = rests m n runs others
 claim_rests a seg refusal m n runs refuses = absurd refuses
 
 seal_rests : (a : ℕ) (filled : _) (refusal : Refusal) (m n : F) → m.state ≡ Running → RefusesSeal of_files a filled refusal m n → Quiet m n
@@ -73,10 +83,10 @@ seal_rests a filled refusals.Memory m n runs others = rests m n runs others
 seal_rests a filled (refusals.Unpinned key) m n runs (is, others) = rests m n runs others
 seal_rests a filled (refusals.Full free) m n runs (keeps, is, few, others) = rests m n runs others
 seal_rests a filled refusals.Numbers m n runs (slot, none, others) = rests m n runs others
-seal_rests a filled refusals.DiskRead m n runs (slot, id, others) = rests m n runs others
-seal_rests a filled (refusals.Clash key at) m n runs (slot, id, others, told) = rests m n runs others
-seal_rests a filled (refusals.Corrupt slot offset count want got) m n runs (untold, others) = rests m n runs others
-seal_rests a filled refusals.DiskWrite m n runs (slot, id, others) = stops m n others
+seal_rests a filled refusals.DiskRead m n runs (slot, others) = rests m n runs others
+seal_rests a filled (refusals.Clash key at) m n runs (slot, known, others) = rests m n runs others
+seal_rests a filled (refusals.Corrupt at offset count want got) m n runs (slot, (unknown, others)) = rests m n runs others
+seal_rests a filled refusals.DiskWrite m n runs (slot, others) = stops _ m n others
 seal_rests a filled refusal m n runs refuses = absurd refuses
 
 on_rests : (a : ℕ) (step : Asked (List ℕ)) (refusal : Refusal) (m n : F) → IsQuiet step → m.state ≡ Running → RefusesOn of_files a step refusal m n → Quiet m n

@@ -1,6 +1,6 @@
 -- The steps of a collection (docs/MODEL.md, 'Collection'). By `v.Known` what they say of containers is said only where the disk tells its
 -- content.
-use Rattle.std.specs.Prelude.{◌≡◌, ◌≢◌, ◌⊎◌, ℕ, suc, zero, ◌+◌, ◌*◌, ◌==◌, ◌<◌, ◌≤◌, Bool, false, List, [], ◌∷◌, ◌++◌, get_or, length, nat_lt, if◌then◌else◌, slice_get, drop, take, Contains, Option, Some, None}
+use Rattle.std.specs.Prelude.{◌≡◌, ◌≢◌, ◌⊎◌, ℕ, suc, zero, ◌+◌, ◌*◌, ◌==◌, ◌<◌, ◌≤◌, Bool, true, false, List, [], ◌∷◌, ◌++◌, get_or, length, nat_lt, if◌then◌else◌, slice_get, drop, take, Contains, Option, Some, None}
 use Rattle.std.specs.FinMap as finite
 use Rattle.std.specs.List.{AllByRecursion}
 use Rattle.base_model.specs.Bytes.{byte_at}
@@ -117,6 +117,11 @@ abbrev pub Makes : List StoreChange → Store → Store → Type 0
 Makes [] s t = t ≡ s
 Makes (change ∷ more) s t = CanChange change s × Makes more (changed change s) t
 
+-- from the first copying step on
+abbrev pub swept_by : Phase → Bool → Bool
+swept_by Copy swept = true
+swept_by phase swept = swept
+
 abbrev pub last_by : List StoreChange → ℕ → ℕ
 last_by (FlushContainer id kind segments ∷ more) last = id
 last_by changes last = last
@@ -157,7 +162,8 @@ module _ {V R : Type 0} (v : Values V R) where
       ⊎ (IndexHas store g.forgotten (entry_key kind e) (place_of slot e) × ((¬ (NeededSince v c (entry_key kind e))
       × (after ≡ record g { forgotten = g.forgotten ++ entry_key kind e ∷ [] }))
       ⊎ (NeededSince v c (entry_key kind e) × (((Contains g.filled (entry_key kind e)) × (after ≡ g))
-      ⊎ (¬ (Contains g.filled (entry_key kind e)) × (after ≡ record g { filled = g.filled ++ entry_key kind e ∷ [] }))))))
+      ⊎ (¬ (Contains g.filled (entry_key kind e)) × ¬ (HasNoRoom store.held g.filled e.length)
+      × (after ≡ record g { filled = g.filled ++ entry_key kind e ∷ [] }))))))
 
   abbrev pub TakesAll : Collection V → Store → (slot : ℕ) (kind : Kind) → List Entry → Gathered → Gathered → Type 0
   TakesAll c store slot kind [] g after = after ≡ g
@@ -223,6 +229,7 @@ module _ {V R : Type 0} (v : Values V R) where
   abbrev pub Copies : Collection V → Machine V R → Went → Type 0
   Copies c m w = (s t : Sweep) × (next : Phase) × (c.stage ≡ Sweeping Copy s) × (w.stage ≡ Sweeping next t)
       × (w.recorded ≡ c.recorded) × (w.changes ≡ []) × (s.source < length (sources_in c)) × (s.ready ≡ [])
+      × ((more gone : List (List ℕ)) × (t.filled ≡ s.filled ++ more) × (w.forgotten ≡ m.forgotten ++ gone))
       × (v.Known → GoesOver c m.store s t m.forgotten w.forgotten)
       × (((t.source ≡ suc s.source) × (t.entry ≡ 0) × (next ≡ next_of m.store.held (sources_in c) t)
       × (((length s.filled < length t.filled) × (t.waiting ≡ s.waiting ++ get_or (sources_in c) s.source 0 ∷ []) × (t.ready ≡ []))
@@ -284,6 +291,7 @@ module _ {V R : Type 0} (v : Values V R) where
       store = n.store;
       last_id = last_by went.changes m.last_id;
       forgotten = went.forgotten;
+      swept = swept_by phase m.swept;
       collection = Some (record c { stage = went.stage; recorded = went.recorded; changes = c.changes ++ went.changes });
     }
 

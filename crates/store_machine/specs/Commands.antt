@@ -1,5 +1,6 @@
 -- Commands as lines of a script: which line comes after which reply, and what is printed (docs/FORMAT.md, 'Commands').
-use Rattle.std.specs.Prelude.{◌≡◌, ◌⊎◌, ◌==◌, if◌then◌else◌, ℕ, Bool, true, false, List as ListOf, [], ◌∷◌, ◌++◌, take}
+use Rattle.std.specs.Prelude.{◌≡◌, ◌⊎◌, ◌==◌, if◌then◌else◌, ℕ, Bool, true, false, List as ListOf, [], ◌∷◌, ◌++◌, replicate, take, Option, Some, None}
+use Rattle.actor_parts.specs.declared.actor.TheConstants.{ACTORS}
 use Rattle.std.proofs.Common.{ap, subst, sym}
 use Rattle.reply_text.specs.Text.{deleted_line, listing_text, stored_line}
 use Rattle.script_lines.specs.Grammar.{LineValue, pushed_bytes}
@@ -72,6 +73,21 @@ IsDone List (replies.Listed files) = Unit {0}
 IsDone (Collect percent) (replies.Collected freed copied) = Unit {0}
 IsDone Run reply = Unit {0}
 IsDone command reply = ⊥
+
+-- ---- how it ended
+
+abbrev pub last_of : ListOf Replied → Option Replied
+last_of [] = None
+last_of (one ∷ []) = Some one
+last_of (one ∷ next ∷ more) = last_of (next ∷ more)
+
+-- its last line was this one, and was replied to so
+abbrev pub EndsWith : (Replied → Type 0) → ListOf Replied → Type 0
+EndsWith P rs = (one : Replied) × (last_of rs ≡ Some one) × P one
+
+-- no actor gives a file yet
+abbrev pub desk : {V R : Type 0} → Machine V R → Desk V R
+desk m = record { machine = m; sessions = replicate ACTORS None }
 
 -- ---- what an actor gave
 

@@ -73,8 +73,8 @@ forget_collection c = record {
 
 abbrev pub SameState : RunState (List ℕ) → RunState Root → Type 0
 SameState Running Running = Unit {0}
-SameState (Stopped None) (Stopped None) = Unit {0}
-SameState (Stopped (Some found)) (Stopped (Some other)) = SameNow found other
+SameState (Stopped None stores) (Stopped None others) = others ≡ stores
+SameState (Stopped (Some found) stores) (Stopped (Some other) others) = SameNow found other × (others ≡ stores)
 SameState state other = ⊥
 
 -- ---- the machine
@@ -85,6 +85,7 @@ pub record Forgets (m : Machine (List ℕ) (List (List ℕ))) (r : Machine Root 
   pub store : r.store ≡ m.store
   pub last_id : r.last_id ≡ m.last_id
   pub forgotten : r.forgotten ≡ m.forgotten
+  pub swept : r.swept ≡ m.swept
   pub collection : r.collection ≡ option_map forget_collection m.collection
   pub acknowledged : r.acknowledged ≡ m.acknowledged
   pub state : SameState m.state r.state

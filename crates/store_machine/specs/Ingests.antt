@@ -2,12 +2,11 @@
 use Rattle.std.specs.Prelude.{◌≡◌, ◌⊎◌, ◌≤◌, ℕ, List, [], length}
 use Rattle.disk_format.specs.Cells.{IsName}
 use Rattle.disk_format.specs.declared.numbers.TheConstants.{MOST_FILE}
-use Rattle.store_machine.specs.Commands.{AreLinesOf, Ingest, IsDone, Lines, Replied, given_by, run_of}
+use Rattle.store_machine.specs.Commands.{AreLinesOf, EndsWith, Ingest, IsDone, Lines, Replied, desk, given_by, run_of}
 use Rattle.store_machine.specs.Legal.{with_name}
 use Rattle.store_machine.specs.Lines.{Desk}
 use Rattle.store_machine.specs.Machine.{Found, Machine, Running, Stepped}
 use Rattle.store_machine.specs.Opening.{MayBeFound}
-use Rattle.store_machine.specs.Promise.{EndsWith, desk}
 use Rattle.store_machine.specs.Runs.{IsPassedFrom}
 use Rattle.store_machine.specs.Values.{of_files}
 

@@ -1,5 +1,5 @@
 -- What a step may answer, and what it leaves: one relation, for any values (docs/MODEL.md, 'The plain machine').
-use Rattle.std.specs.Prelude.{◌≡◌, ◌≢◌, ◌⊎◌, ℕ, suc, ◌-◌, ◌^◌, ◌<◌, ◌≤◌, true, List, [], ◌∷◌, length, map, is_some, slice_get, Contains, Option, Some, None, Result, Ok, Err}
+use Rattle.std.specs.Prelude.{◌≡◌, ◌≢◌, ◌⊎◌, ℕ, suc, ◌-◌, ◌^◌, ◌<◌, ◌≤◌, true, false, List, [], ◌∷◌, length, map, is_some, slice_get, take, Contains, Option, Some, None, Result, Ok, Err}
 use Rattle.std.specs.FinMap as finite
 use Rattle.std.specs.List.{AllByRecursion}
 use Rattle.sha2.specs.Sha256.{sha256}
@@ -7,8 +7,8 @@ use Rattle.actor_parts.specs.PinMap.{PinMap, has_pin}
 use Rattle.actor_parts.specs.Segments.{first_unpinned, pin_of}
 use Rattle.container_meta.specs.declared.kind.Kind.{Kind}
 use Rattle.container_meta.specs.declared.kind.Kind.TheVariants.{Tree}
-use Rattle.container_meta.specs.Segments.{Contents, KindSegment, segment_key}
-use Rattle.disk_format.specs.Cells.{IsName, Root}
+use Rattle.container_meta.specs.Segments.{Contents, KindSegment, Segment, segment_key}
+use Rattle.disk_format.specs.Cells.{Change, IsName, Root}
 use Rattle.disk_format.specs.Cells.Change.{Put, Delete as Gone}
 use Rattle.disk_format.specs.Layout.{half_cells}
 use Rattle.disk_format.specs.declared.numbers.TheConstants.{LAST_ID, MOST_NAMES, RESERVE}
@@ -25,14 +25,15 @@ use Rattle.store_model.specs.Image.{Store}
 use Rattle.store_model.specs.Indexing.{bytes_in_slots, entries_in}
 use Rattle.store_model.specs.Refusals.{root_key}
 use Rattle.store_model.specs.Slots.{Copy, free_slots, newest}
-use Rattle.store_model.specs.Steps.{CanRise, CanSeal, with_change, with_sealed}
+use Rattle.store_model.specs.Freeing.{with_freed}
+use Rattle.store_model.specs.Steps.{CanRise, CanSeal, with_change, with_checkpoint, with_other, with_sealed}
 use Rattle.store_machine.specs.Collecting.{Begins, Ends, GoesOn, IsCollecting}
 use Rattle.store_machine.specs.Asked.{Asked}
 use Rattle.store_machine.specs.Asked as asked
 use Rattle.store_machine.specs.Done.{Done}
 use Rattle.store_machine.specs.Done as done
 use Rattle.store_machine.specs.Machine.{Found, Machine, Idle, Writing, Reading, RunState, Running, Stopped, Stepped, keeping, kind_of, one_more, part_in, put_at, stopped}
-use Rattle.store_machine.specs.Needs.{HasCopy, HoldsKey, first_unkept, forgotten_beside, keys_of, with_pins}
+use Rattle.store_machine.specs.Needs.{HasCopy, HasLength, HoldsKey, first_unkept, forgotten_beside, keys_of, with_pins}
 use Rattle.store_machine.specs.Opening.{Reopens}
 use Rattle.store_machine.specs.Values.{Values}
 
@@ -58,20 +59,26 @@ DifferBy (Byte place mine other) offered held =
     (length offered ≡ length held) × (place < length offered) × (range 0 place offered ≡ range 0 place held)
     × (byte_at place offered ≡ mine) × (byte_at place held ≡ other) × (mine ≢ other)
 
--- the newest copy of a node's key is as long as other bytes of its digest
-pub record IsClash (store : Store) (seg : KindSegment) (key : List ℕ) (at : Difference) : Type 0 where
+-- the copy that the index has of a node's key is as long as other bytes of its digest
+pub record IsClash (store : Store) (forgotten : List (List ℕ)) (seg : KindSegment) (key : List ℕ) (at : Difference) : Type 0 where
   pub kind : seg.kind ≡ Tree
   pub key_is : key ≡ segment_key seg.kind seg.segment
   pub copy : Copy
   pub copy_is : newest 0 store.held key ≡ Some copy
+  pub there : ¬ (Contains forgotten key)
   pub held : List ℕ
   pub long : length held ≡ copy.place.length
   pub digest : sha256 held ≡ sha256 seg.segment.bytes
   pub differ : DifferBy at seg.segment.bytes held
 
--- the copy of a segment's key, if there is one, has its level and its length
-abbrev pub Fits : Store → KindSegment → Type 0
-Fits store seg = (newest 0 store.held (segment_key seg.kind seg.segment) ≡ None) ⊎ HasCopy store seg
+-- no container has the key, or it was forgotten: the index lacks it
+abbrev pub IsLacked : Store → (forgotten : List (List ℕ)) → List ℕ → Type 0
+IsLacked store forgotten key = (newest 0 store.held key ≡ None) ⊎ Contains forgotten key
+
+-- the copy that the index has of a segment's key, if there is one, has its level and its length
+abbrev pub Fits : Store → (forgotten : List (List ℕ)) → Kind → Segment → Type 0
+Fits store forgotten kind s =
+    IsLacked store forgotten (segment_key kind s) ⊎ HasCopy store (record { kind = kind; segment = s })
 
 -- ---- names and numbers
 
@@ -107,9 +114,9 @@ module _ {V R : Type 0} (v : Values V R) where
   abbrev pub without_name : List ℕ → Found V → Found V
   without_name name now = record { names = finite.remove now.names name; last = suc now.last }
 
-  -- no container has the key, or it was forgotten
-  abbrev pub IsAbsent : Machine V R → List ℕ → Type 0
-  IsAbsent m key = (newest 0 m.store.held key ≡ None) ⊎ Contains m.forgotten key
+  -- the index is that of the containers, but for what was forgotten
+  abbrev pub IsIndexed : Machine V R → Type 0
+  IsIndexed m = v.Known ⊎ (m.swept ≡ false)
 
   -- what each name lists
   abbrev pub listing : Found V → List NamedRoot
@@ -125,14 +132,15 @@ module _ {V R : Type 0} (v : Values V R) where
 
   pub record Claims (actor : ℕ) (seg : KindSegment) (m n : Machine V R) : Type 0 where
     pub may : Keeps actor seg.kind (first_unpinned seg) m
-    pub held : v.Known → HasCopy m.store seg × ¬ (Contains m.forgotten (segment_key seg.kind seg.segment))
+    pub held : IsIndexed m → HasLength m.store seg × ¬ (Contains m.forgotten (segment_key seg.kind seg.segment))
+    pub same : v.Known → HasCopy m.store seg
     pub others : n ≡ record (put_at m actor (Writing (finite.insert may.pins (segment_key seg.kind seg.segment) (pin_of seg)))) {
       collection = keeping (segment_key seg.kind seg.segment ∷ []) m.collection;
     }
 
   pub record Seals (actor : ℕ) (filled : Contents) (id : ℕ) (m n : Machine V R) : Type 0 where
     pub may : Keeps actor filled.kind (first_unkept filled.kind filled.segments) m
-    pub fits : v.Known → AllByRecursion (λ s. Fits m.store (record { kind = filled.kind; segment = s })) filled.segments
+    pub fits : v.Known → AllByRecursion (Fits m.store m.forgotten filled.kind) filled.segments
     pub id_is : id ≡ suc m.last_id
     pub can : CanSeal id filled.kind filled.segments m.store
     pub others : n ≡ record (put_at m actor (Writing (with_pins filled.kind filled.segments may.pins))) {
@@ -150,10 +158,14 @@ module _ {V R : Type 0} (v : Values V R) where
     pub room : HasRoom name m
     pub kept : IsKept pins (v.root value)
 
+  -- the index has each of its keys
+  abbrev pub HoldsValue : V → Machine V R → Type 0
+  HoldsValue value m = (key : List ℕ) → v.Needs value key → HoldsKey m.store key × ¬ (Contains m.forgotten key)
+
   pub record Commits (actor : ℕ) (name : List ℕ) (value : V) (sequence : ℕ) (m n : Machine V R) : Type 0 where
     pub may : MayCommit actor name value m
     pub right : v.IsValue value
-    pub whole : (key : List ℕ) → v.Needs value key → HoldsKey m.store key × ¬ (Contains m.forgotten key)
+    pub whole : HoldsValue value m
     pub numbers : HasNumbers m
     pub sequence_is : sequence ≡ suc m.now.last
     pub others : n ≡ record (put_at m actor Idle) {
@@ -192,7 +204,7 @@ module _ {V R : Type 0} (v : Values V R) where
   Does a asked.Begin done.Begun m n = (part_in m a ≡ Idle) × (n ≡ put_at m a (Writing finite.empty))
   Does a (asked.Claim seg) done.Held m n = Claims a seg m n
   Does a (asked.Claim seg) done.Absent m n =
-      Keeps a seg.kind (first_unpinned seg) m × (v.Known → IsAbsent m (segment_key seg.kind seg.segment)) × (n ≡ m)
+      Keeps a seg.kind (first_unpinned seg) m × (IsIndexed m → IsLacked m.store m.forgotten (segment_key seg.kind seg.segment)) × (n ≡ m)
   Does a (asked.Seal filled) (done.Sealed id) m n = Seals a filled id m n
   Does a (asked.Commit name value) (done.Committed sequence) m n = Commits a name value sequence m n
   Does a asked.Abort done.Aborted m n = GivesUp a kinds.Writing m n
@@ -211,9 +223,13 @@ module _ {V R : Type 0} (v : Values V R) where
 
   -- ---- a step that is refused
 
-  -- it stops, and may be found as it is or so
-  abbrev pub Stops : Option (Found V) → Machine V R → Machine V R → Type 0
-  Stops other m n = n ≡ stopped other m
+  -- it stops, and may be found as it is or so, by the store that it has or one of these
+  abbrev pub Stops : Option (Found V) → List Store → Machine V R → Machine V R → Type 0
+  Stops other stores m n = n ≡ stopped other stores m
+
+  -- a record broke off: before it a checkpoint may have come, in which the other selector is closed first
+  abbrev pub broken_by : List ℕ → Change → Store → List Store
+  broken_by name change store = with_change name change store ∷ with_other false store ∷ with_checkpoint store ∷ []
 
   -- what is said of it only where the disk tells its content; and what never comes there
   abbrev pub OnlyUnknown : Machine V R → Machine V R → Type 0
@@ -222,16 +238,28 @@ module _ {V R : Type 0} (v : Values V R) where
   abbrev pub IsUnkept : ℕ → (PinMap → Option (List ℕ)) → List ℕ → Machine V R → Type 0
   IsUnkept actor unkept key m = (pins : PinMap) × (part_in m actor ≡ Writing pins) × (unkept pins ≡ Some key)
 
+  abbrev pub KeepsChildren : ℕ → KindSegment → Machine V R → Type 0
+  KeepsChildren a seg m = Keeps a seg.kind (first_unpinned seg) m
+
   abbrev pub RefusesClaim : ℕ → KindSegment → Refusal → Machine V R → Machine V R → Type 0
   RefusesClaim a seg (Unpinned key) m n = IsUnkept a (first_unpinned seg) key m × (n ≡ m)
   RefusesClaim a seg Memory m n = n ≡ m
-  RefusesClaim a seg DiskRead m n = n ≡ m
-  RefusesClaim a seg (Clash key at) m n = (v.Known → IsClash m.store seg key at) × (n ≡ m)
-  RefusesClaim a seg (Corrupt slot offset count want got) m n = OnlyUnknown m n
+  RefusesClaim a seg DiskRead m n = KeepsChildren a seg m × (n ≡ m)
+  RefusesClaim a seg (Clash key at) m n = KeepsChildren a seg m × (v.Known → IsClash m.store m.forgotten seg key at) × (n ≡ m)
+  RefusesClaim a seg (Corrupt slot offset count want got) m n = KeepsChildren a seg m × OnlyUnknown m n
   RefusesClaim a seg refusal m n = ⊥
 
   abbrev pub HasSlot : ℕ → Contents → Machine V R → Type 0
   HasSlot a filled m = Keeps a filled.kind (first_unkept filled.kind filled.segments) m × (RESERVE < free_slots m.store.held)
+
+  abbrev pub HasSlotAndId : ℕ → Contents → Machine V R → Type 0
+  HasSlotAndId a filled m = HasSlot a filled m × (m.last_id < LAST_ID)
+
+  -- the first of the segments that does not fit what is held is another node of its digest
+  abbrev pub IsFirstClash : Contents → List ℕ → Difference → Machine V R → Type 0
+  IsFirstClash filled key at m = (i : ℕ) × (x : _) × (slice_get filled.segments i ≡ Some x)
+      × AllByRecursion (Fits m.store m.forgotten filled.kind) (take i filled.segments)
+      × IsClash m.store m.forgotten (record { kind = filled.kind; segment = x }) key at
 
   abbrev pub RefusesSeal : ℕ → Contents → Refusal → Machine V R → Machine V R → Type 0
   RefusesSeal a filled Memory m n = n ≡ m
@@ -239,11 +267,11 @@ module _ {V R : Type 0} (v : Values V R) where
   RefusesSeal a filled (Full free) m n =
       Keeps a filled.kind (first_unkept filled.kind filled.segments) m × (free ≡ free_slots m.store.held) × (free ≤ RESERVE) × (n ≡ m)
   RefusesSeal a filled Numbers m n = HasSlot a filled m × (LAST_ID ≤ m.last_id) × (n ≡ m)
-  RefusesSeal a filled DiskRead m n = HasSlot a filled m × (m.last_id < LAST_ID) × (n ≡ m)
-  RefusesSeal a filled (Clash key at) m n = HasSlot a filled m × (m.last_id < LAST_ID) × (n ≡ m) × (v.Known → (i : ℕ) × (x : _)
-      × (slice_get filled.segments i ≡ Some x) × IsClash m.store (record { kind = filled.kind; segment = x }) key at)
-  RefusesSeal a filled (Corrupt slot offset count want got) m n = OnlyUnknown m n
-  RefusesSeal a filled DiskWrite m n = HasSlot a filled m × (m.last_id < LAST_ID) × Stops None m n
+  RefusesSeal a filled DiskRead m n = HasSlotAndId a filled m × (n ≡ m)
+  RefusesSeal a filled (Clash key at) m n = HasSlotAndId a filled m × (v.Known → IsFirstClash filled key at m) × (n ≡ m)
+  RefusesSeal a filled (Corrupt slot offset count want got) m n = HasSlotAndId a filled m × OnlyUnknown m n
+  RefusesSeal a filled DiskWrite m n = HasSlotAndId a filled m
+      × Stops None (with_sealed (suc m.last_id) filled.kind filled.segments m.store ∷ []) m n
   RefusesSeal a filled refusal m n = ⊥
 
   abbrev pub RefusesCommit : ℕ → List ℕ → V → Refusal → Machine V R → Machine V R → Type 0
@@ -254,7 +282,8 @@ module _ {V R : Type 0} (v : Values V R) where
   RefusesCommit a name value (Unpinned key) m n = IsName name × HasRoom name m × (key ≡ root_key (v.root value))
       × ((pins : PinMap) × (part_in m a ≡ Writing pins) × ¬ (IsKept pins (v.root value))) × (n ≡ m)
   RefusesCommit a name value Numbers m n = MayCommit a name value m × LacksNumbers m × (n ≡ m)
-  RefusesCommit a name value DiskWrite m n = MayCommit a name value m × HasNumbers m × v.IsValue value × Stops (Some (with_name name value m.now)) m n
+  RefusesCommit a name value DiskWrite m n = MayCommit a name value m × HasNumbers m × v.IsValue value × HoldsValue value m
+      × Stops (Some (with_name name value m.now)) (broken_by name (Put (v.root value)) m.store) m n
   RefusesCommit a name value refusal m n = ⊥
 
   abbrev pub RefusesDelete : List ℕ → Refusal → Machine V R → Machine V R → Type 0
@@ -262,24 +291,34 @@ module _ {V R : Type 0} (v : Values V R) where
   RefusesDelete name BadName m n = ¬ (IsName name) × (n ≡ m)
   RefusesDelete name NoFile m n = IsName name × (finite.get m.now.names name ≡ None) × (n ≡ m)
   RefusesDelete name Numbers m n = IsName name × HasName name m × LacksNumbers m × (n ≡ m)
-  RefusesDelete name DiskWrite m n = IsName name × HasName name m × HasNumbers m × Stops (Some (without_name name m.now)) m n
+  RefusesDelete name DiskWrite m n = IsName name × HasName name m × HasNumbers m
+      × Stops (Some (without_name name m.now)) (broken_by name Gone m.store) m n
   RefusesDelete name refusal m n = ⊥
 
   abbrev pub RefusesRead : ℕ → Refusal → Machine V R → Machine V R → Type 0
   RefusesRead a refusal m n = (value : V) × (rest after : R) × (part_in m a ≡ Reading value rest) × v.Stays rest refusal after
       × (n ≡ put_at m a (Reading value after))
 
+  -- a step of a collection that writes may break off: a flush, so that its container may be there; a release; or a copying step, by its change
+  -- of an index that lies on the disk
+  abbrev pub MayBreak : Machine V R → List Store → Type 0
+  MayBreak m stores = (IsCollecting phases.Copy m.store m.collection × (stores ≡ []))
+      ⊎ (IsCollecting phases.Flush m.store m.collection × (m.last_id < LAST_ID)
+      × ((kind : Kind) × (segments : List Segment) × (stores ≡ with_sealed (suc m.last_id) kind segments m.store ∷ [])))
+      ⊎ (IsCollecting phases.Release m.store m.collection × ((slot : ℕ) × (stores ≡ with_freed slot m.store ∷ [])))
+
   abbrev pub RefusesGcStep : Refusal → Machine V R → Machine V R → Type 0
   RefusesGcStep NotCollecting m n = (m.collection ≡ None) × (n ≡ m)
   RefusesGcStep Memory m n = (is_some m.collection ≡ true) × (n ≡ m)
   RefusesGcStep Numbers m n = IsCollecting phases.Flush m.store m.collection × (LAST_ID ≤ m.last_id) × (n ≡ m)
   RefusesGcStep DiskRead m n = (IsCollecting phases.Mark m.store m.collection ⊎ IsCollecting phases.Filter m.store m.collection
-      ⊎ IsCollecting phases.Copy m.store m.collection ⊎ IsCollecting phases.Flush m.store m.collection) × (n ≡ m)
-  RefusesGcStep DiskWrite m n = (IsCollecting phases.Copy m.store m.collection
-      ⊎ (IsCollecting phases.Flush m.store m.collection × (m.last_id < LAST_ID)) ⊎ IsCollecting phases.Release m.store m.collection) × Stops None m n
-  RefusesGcStep (Corrupt slot offset count want got) m n = (is_some m.collection ≡ true) × OnlyUnknown m n
-  RefusesGcStep (Missing key) m n = (is_some m.collection ≡ true) × OnlyUnknown m n
-  RefusesGcStep (Damaged at why) m n = (is_some m.collection ≡ true) × OnlyUnknown m n
+      ⊎ IsCollecting phases.Copy m.store m.collection ⊎ (IsCollecting phases.Flush m.store m.collection × (m.last_id < LAST_ID))) × (n ≡ m)
+  RefusesGcStep DiskWrite m n = (stores : List Store) × MayBreak m stores × Stops None stores m n
+  RefusesGcStep (Corrupt slot offset count want got) m n =
+      (IsCollecting phases.Mark m.store m.collection ⊎ IsCollecting phases.Copy m.store m.collection) × OnlyUnknown m n
+  RefusesGcStep (Missing key) m n = IsCollecting phases.Mark m.store m.collection × OnlyUnknown m n
+  RefusesGcStep (Damaged at why) m n = (IsCollecting phases.Mark m.store m.collection ⊎ IsCollecting phases.Filter m.store m.collection
+      ⊎ IsCollecting phases.Copy m.store m.collection) × OnlyUnknown m n
   RefusesGcStep refusal m n = ⊥
 
   -- Memory is free, where the step takes any, and comes whatever the actor is at. A call of the disk that failed is told by its count of
@@ -321,7 +360,7 @@ module _ {V R : Type 0} (v : Values V R) where
 
   abbrev pub ByState : RunState V → ℕ → Asked V → Result Done Refusal → Machine V R → Machine V R → Type 0
   ByState Running a step answer m n = Answers a step answer m n
-  ByState (Stopped other) a step answer m n = (answer ≡ Err (IsStopped m.acknowledged)) × (n ≡ m)
+  ByState (Stopped other stores) a step answer m n = (answer ≡ Err (IsStopped m.acknowledged)) × (n ≡ m)
 
   abbrev pub LegalBy : Asked V → ℕ → Result Done Refusal → Machine V R → Machine V R → Type 0
   LegalBy asked.Reopen a answer m n = Reopens v answer m n

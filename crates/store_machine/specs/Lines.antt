@@ -153,10 +153,13 @@ module _ {V R : Type 0} (v : Values V R) where
   abbrev pub Ends : ℕ → List (Stepped V) → Asked V → ReplyValue → List (Stepped V) → Type 0
   Ends a made step reply ss = (told : Result Done Refusal) × (ss ≡ made ++ step_of a step told ∷ []) × (reply ≡ reply_of a told)
 
-  -- the turns were made, and the next one was refused, or there was no memory
+  -- after these turns the next one was refused, or there was no memory
+  abbrev pub StopsAfter : ℕ → List (Stepped V) → Session → ReplyValue → List (Stepped V) → Type 0
+  StopsAfter a made t reply ss = (refusal : Refusal) × (reply ≡ replies.Refused refusal)
+      × (((refusal ≡ Memory) × (ss ≡ made)) ⊎ ((step : Asked V) × IsDueStep t step × Ends a made step reply ss))
+
   abbrev pub TurnsStop : ℕ → Session → ReplyValue → List (Stepped V) → Session → Type 0
-  TurnsStop a s reply ss t = (made : List (Stepped V)) × AreTurns a made s t × ((refusal : Refusal) × (reply ≡ replies.Refused refusal)
-      × (((refusal ≡ Memory) × (ss ≡ made)) ⊎ ((step : Asked V) × IsDueStep t step × Ends a made step reply ss)))
+  TurnsStop a s reply ss t = (made : List (Stepped V)) × AreTurns a made s t × StopsAfter a made t reply ss
 
   -- more segments wait, of what was given, than a push leaves
   abbrev pub IsCrowded : Session → Type 0
@@ -188,7 +191,8 @@ module _ {V R : Type 0} (v : Values V R) where
   abbrev pub Turns : ℕ → ReplyValue → List (Stepped V) → Desk V R → Desk V R → Type 0
   Turns a reply ss d e = (s t : Session) × Moves a s (Some t) d e
       × (((step : Asked V) × (told : Result Done Refusal) × (ss ≡ step_of a step told ∷ []) × AreTurns a ss s t × (reply ≡ reply_of a told))
-      ⊎ ((ss ≡ []) × (t ≡ s) × NothingIsDue s × (reply ≡ replies.Turn a turns.Idle)) ⊎ TurnsStop a s reply ss t)
+      ⊎ ((ss ≡ []) × (t ≡ s) × NothingIsDue s × (reply ≡ replies.Turn a turns.Idle))
+      ⊎ ((t ≡ s) × StopsAfter a [] s reply ss))
 
   -- all turns that are due are made, and then the name is given what was given
   abbrev pub Commits : ℕ → List ℕ → ReplyValue → List (Stepped V) → Desk V R → Desk V R → Type 0
@@ -234,7 +238,7 @@ module _ {V R : Type 0} (v : Values V R) where
 
   -- it is barred before a step is made: the store is stopped, or the actor is at something else than the line takes
   abbrev pub Bars : LineValue → Desk V R → Refusal → Type 0
-  Bars line d (IsStopped at) = ((other : _) × (d.machine.state ≡ Stopped other)) × (at ≡ d.machine.acknowledged)
+  Bars line d (IsStopped at) = ((other : _) × (stores : _) × (d.machine.state ≡ Stopped other stores)) × (at ≡ d.machine.acknowledged)
   Bars line d (WrongPart kind) =
       (d.machine.state ≡ Running) × ((a : ℕ) × (actor_of line ≡ Some a) × (kind ≡ kind_at d a) × (takes line kind ≡ false))
   Bars line d refusal = ⊥

@@ -1,5 +1,5 @@
 -- The plain machine: what a store is to those who make steps of it. V is what a name has, R what is to come of it (Values.antt).
-use Rattle.std.specs.Prelude.{ℕ, ◌+◌, ◌-◌, ◌^◌, List, ◌++◌, min, replicate, slice_index_or, slice_set, Option, Some, None, Result}
+use Rattle.std.specs.Prelude.{ℕ, ◌+◌, ◌-◌, ◌^◌, Bool, List, ◌++◌, min, replicate, slice_index_or, slice_set, Option, Some, None, Result}
 use Rattle.std.specs.FinMap as finite
 use Rattle.std.specs.Ordering.{nat_cmp}
 use Rattle.std.specs.Cmp.Lexicographic.{slice_cmp}
@@ -78,11 +78,11 @@ pub record Found (V : Type 0) : Type 0 where
   pub names : Names V
   pub last : ℕ
 
--- It runs; or it is to be opened, at first, and once a write or a sync failed. What is found then is what it has or, after a commit or a
--- delete, perhaps this.
+-- It runs; or a write or a sync failed, and it is to be opened again. What is found then is what it has or, after a commit or a delete,
+-- perhaps this; and the store that stands is the one that it has, or one of these.
 pub data RunState (V : Type 0) : Type 0 where
   Running : RunState V
-  Stopped : (other : Option (Found V)) → RunState V
+  Stopped : (other : Option (Found V)) (stores : List Store) → RunState V
 
 pub record Machine (V R : Type 0) : Type 0 where
   pub now : Found V
@@ -93,6 +93,8 @@ pub record Machine (V R : Type 0) : Type 0 where
   pub last_id : ℕ
   -- the keys that the index lacks though containers had them when they left it: collections found nothing that needs them
   pub forgotten : List (List ℕ)
+  -- a collection has copied since the opening: on a disk that tells nothing the index may be another than that of the containers from then on
+  pub swept : Bool
   pub collection : Option (Collection V)
   -- how many commands were acknowledged since the opening
   pub acknowledged : ℕ
@@ -109,9 +111,9 @@ module _ {V R : Type 0} where
   abbrev pub all_idle : List (Part V R)
   all_idle = replicate ACTORS Idle
 
-  -- it stops, and may be found to be this
-  abbrev pub stopped : Option (Found V) → Machine V R → Machine V R
-  stopped other m = record m { state = Stopped other }
+  -- it stops, and may be found to be this, by one of these stores
+  abbrev pub stopped : Option (Found V) → List Store → Machine V R → Machine V R
+  stopped other stores m = record m { state = Stopped other stores }
 
 -- one more, but for the last number
 abbrev pub one_more : ℕ → ℕ

@@ -52,6 +52,11 @@ pub record HasCopy (store : Store) (seg : KindSegment) : Type 0 where
   pub level_is : copy.place.level ≡ seg.segment.level
   pub length_is : copy.place.length ≡ length seg.segment.bytes
 
+-- it has its length
+abbrev pub HasLength : Store → KindSegment → Type 0
+HasLength store seg =
+    (copy : Copy) × (newest 0 store.held (segment_key seg.kind seg.segment) ≡ Some copy) × (copy.place.length ≡ length seg.segment.bytes)
+
 -- some container has the key
 abbrev pub HoldsKey : Store → List ℕ → Type 0
 HoldsKey store key = (copy : Copy) × (newest 0 store.held key ≡ Some copy)

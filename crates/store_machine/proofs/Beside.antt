@@ -39,7 +39,7 @@ module _ {V R : Type 0} where
   pub record GoesBeside (s : Stepped V) (c : Collection V) (m n : Machine V R) : Type 0 where
     pub keys : List (List ℕ)
     pub runs : n.collection ≡ Some (record c { keys = keys })
-    pub containers : ((n.store.held ≡ m.store.held) × (n.last_id ≡ m.last_id))
+    pub containers : ((n.store.held ≡ m.store.held) × (n.last_id ≡ m.last_id) × ((h : HeaderValue) → ¬ (IsSealOf s h)))
         ⊎ ((h : HeaderValue) × IsSealOf s h × (RESERVE < free_slots m.store.held) × (h.id ≡ suc m.last_id)
         × (n.store.held ≡ with_slot (first_free m.store.held) h m.store.held) × (n.last_id ≡ suc m.last_id))
 
@@ -131,19 +131,30 @@ module _ {V R : Type 0} where
 
     -- ---- done
 
-    beside_same : (s : Stepped V) (c : Collection V) (m n : Machine V R) → m.collection ≡ Some c → SameStore m n → GoesBeside s c m n
-    beside_same s c m n ran same = record { keys = c.keys; runs = same.collection ∙ ran; containers = inl (same.held, same.last) }
+    beside_same : (s : Stepped V) (c : Collection V) (m n : Machine V R) → m.collection ≡ Some c → SameStore m n → ((h : HeaderValue) → ¬ (IsSealOf s h)) → GoesBeside s c m n
+    beside_same s c m n ran same none = record { keys = c.keys; runs = same.collection ∙ ran; containers = inl (same.held, same.last, none) }
+
+    -- what is no seal
+    abbrev IsSeal : Asked V → Type 0
+    IsSeal (asked.Seal filled) = Unit {0}
+    IsSeal what = ⊥
+
+    no_seal : (s : Stepped V) → (IsSeal s.asked → ⊥) → (h : HeaderValue) → ¬ (IsSealOf s h)
+    no_seal s other h is = other (subst IsSeal (sym is.asked_is) tt)
+
+    refused_none : (s : Stepped V) (refusal : Refusal) → s.answer ≡ Err refusal → (h : HeaderValue) → ¬ (IsSealOf s h)
+    refused_none s refusal is h seal = absurd (let wrong : Ok (done.Sealed seal.id) ≡ Err refusal = sym seal.answer_is ∙ is in cc)
 
     abbrev step : ℕ → Asked V → Done → Stepped V
     step a what answer = record { actor = a; asked = what; answer = Ok answer }
 
     -- it is this machine, whose collection is the one that ran, but for the keys, and whose containers are those that were there
     kept : (s : Stepped V) (c : Collection V) (m n k : Machine V R) (keys : List (List ℕ)) → n ≡ k → k.collection ≡ Some (record c { keys = keys })
-        → k.store.held ≡ m.store.held → k.last_id ≡ m.last_id → GoesBeside s c m n
-    kept s c m n k keys is runs held last = record {
+        → k.store.held ≡ m.store.held → k.last_id ≡ m.last_id → (IsSeal s.asked → ⊥) → GoesBeside s c m n
+    kept s c m n k keys is runs held last other = record {
       keys = keys;
       runs = ap (λ (x : Machine V R). x.collection) is ∙ runs;
-      containers = inl (ap (λ (x : Machine V R). x.store.held) is ∙ held, ap (λ (x : Machine V R). x.last_id) is ∙ last);
+      containers = inl (ap (λ (x : Machine V R). x.store.held) is ∙ held, ap (λ (x : Machine V R). x.last_id) is ∙ last, no_seal s other);
     }
 
     claimed : (a : ℕ) (seg : KindSegment) (c : Collection V) (m n : Machine V R) → m.collection ≡ Some c → Claims v a seg m n
@@ -152,46 +163,52 @@ module _ {V R : Type 0} where
         let keys = segment_key seg.kind seg.segment ∷ [] in
         kept (step a (asked.Claim seg) done.Held) c m n (record (put_at m a (Writing (finite.insert does.may.pins (segment_key seg.kind seg.segment) (pin_of seg)))) {
           collection = keeping keys m.collection;
-        }) (c.keys ++ keys) does.others (ap (keeping keys) ran) refl refl
+        }) (c.keys ++ keys) does.others (ap (keeping keys) ran) refl refl (λ none. none)
 
     sealed : (a : ℕ) (filled : Contents) (id : ℕ) (c : Collection V) (m n : Machine V R) → m.collection ≡ Some c → Seals v a filled id m n
         → GoesBeside (step a (asked.Seal filled) (done.Sealed id)) c m n
     sealed a filled id c m n ran does = record {
       keys = c.keys ++ keys_of filled.kind filled.segments;
       runs = ap (λ (x : Machine V R). x.collection) does.others ∙ ap (keeping (keys_of filled.kind filled.segments)) ran;
-      containers = inr (header_of id filled.kind filled.segments, record { filled = filled; id = id; asked_is = refl; answer_is = refl; header_is = refl },
-          does.can.slot, does.id_is, ap (λ (x : Machine V R). x.store.held) does.others, ap (λ (x : Machine V R). x.last_id) does.others ∙ does.id_is);
+      containers = inr (
+        header_of id filled.kind filled.segments,
+        record { filled = filled; id = id; asked_is = refl; answer_is = refl; header_is = refl },
+        does.can.slot,
+        does.id_is,
+        ap (λ (x : Machine V R). x.store.held) does.others,
+        ap (λ (x : Machine V R). x.last_id) does.others ∙ does.id_is,
+      );
     }
 
     pub done_beside : (a : ℕ) (what : Asked V) (answer : Done) (c : Collection V) (m n : Machine V R) → m.collection ≡ Some c
         → what ≢ asked.GcStep → Does v a what answer m n → GoesBeside (step a what answer) c m n
-    done_beside a asked.Begin done.Begun c m n ran not (is, others) = kept _ c m n (put_at m a (Writing finite.empty)) c.keys others ran refl refl
+    done_beside a asked.Begin done.Begun c m n ran not (is, others) = kept _ c m n (put_at m a (Writing finite.empty)) c.keys others ran refl refl (λ none. none)
     done_beside a (asked.Claim seg) done.Held c m n ran not does = claimed a seg c m n ran does
-    done_beside a (asked.Claim seg) done.Absent c m n ran not (keeps, known, others) = beside_same _ c m n ran (same_of m n others)
+    done_beside a (asked.Claim seg) done.Absent c m n ran not (keeps, known, others) = beside_same _ c m n ran (same_of m n others) (no_seal _ (λ none. none))
     done_beside a (asked.Seal filled) (done.Sealed id) c m n ran not does = sealed a filled id c m n ran does
     done_beside a (asked.Commit name value) (done.Committed sequence) c m n ran not does =
         kept _ c m n (record (put_at m a Idle) {
           now = with_name v name value m.now;
           store = with_change name (Put (v.root value)) m.store;
           acknowledged = one_more m.acknowledged;
-        }) c.keys does.others ran refl refl
-    done_beside a asked.Abort done.Aborted c m n ran not (is, others) = kept _ c m n (put_at m a Idle) c.keys others ran refl refl
+        }) c.keys does.others ran refl refl (λ none. none)
+    done_beside a asked.Abort done.Aborted c m n ran not (is, others) = kept _ c m n (put_at m a Idle) c.keys others ran refl refl (λ none. none)
     done_beside a (asked.OpenRead name) (done.Opened count) c m n ran not (named, idle, (value, rest, found, starts, count_is, others)) =
-        kept _ c m n (put_at m a (Reading value rest)) c.keys others ran refl refl
+        kept _ c m n (put_at m a (Reading value rest)) c.keys others ran refl refl (λ none. none)
     done_beside a asked.ReadNext (done.Bytes bytes) c m n ran not (value, rest, after, was, gives, others) =
-        kept _ c m n (put_at m a (Reading value after)) c.keys others ran refl refl
-    done_beside a asked.ReadNext done.End c m n ran not (value, rest, was, ends, others) = beside_same _ c m n ran (same_of m n others)
-    done_beside a asked.EndRead done.Dropped c m n ran not (is, others) = kept _ c m n (put_at m a Idle) c.keys others ran refl refl
+        kept _ c m n (put_at m a (Reading value after)) c.keys others ran refl refl (λ none. none)
+    done_beside a asked.ReadNext done.End c m n ran not (value, rest, was, ends, others) = beside_same _ c m n ran (same_of m n others) (no_seal _ (λ none. none))
+    done_beside a asked.EndRead done.Dropped c m n ran not (is, others) = kept _ c m n (put_at m a Idle) c.keys others ran refl refl (λ none. none)
     done_beside a (asked.Delete name) (done.Deleted sequence) c m n ran not does =
         kept _ c m n (record m {
           now = without_name v name m.now;
           store = with_change name Gone m.store;
           acknowledged = one_more m.acknowledged;
-        }) c.keys does.others ran refl refl
-    done_beside a asked.ListNames (done.Listed files) c m n ran not (is, others) = beside_same _ c m n ran (same_of m n others)
+        }) c.keys does.others ran refl refl (λ none. none)
+    done_beside a asked.ListNames (done.Listed files) c m n ran not (is, others) = beside_same _ c m n ran (same_of m n others) (no_seal _ (λ none. none))
     done_beside a (asked.GcStart percent) (done.Started snapshot) c m n ran not (none, is, others) = absurd (let wrong : None ≡ Some c = sym none ∙ ran in cc)
     done_beside a asked.GcStep answer c m n ran not does = absurd (not refl)
-    done_beside a asked.Stat (done.Counted files segments bytes used free) c m n ran not (is, others) = beside_same _ c m n ran (same_of m n others)
+    done_beside a asked.Stat (done.Counted files segments bytes used free) c m n ran not (is, others) = beside_same _ c m n ran (same_of m n others) (no_seal _ (λ none. none))
     done_beside a what answer c m n ran not does = absurd does
 
     -- ---- a step that is none of the collection
@@ -201,12 +218,12 @@ module _ {V R : Type 0} where
     by_answer s c m n ran not (Ok answer) is does =
         subst (λ (t : Result Done Refusal). GoesBeside (record { actor = s.actor; asked = s.asked; answer = t }) c m n) (sym is)
         (done_beside s.actor s.asked answer c m n ran not does)
-    by_answer s c m n ran not (Err refusal) is refuses = beside_same s c m n ran (refused_keeps s.actor s.asked refusal m n refuses)
+    by_answer s c m n ran not (Err refusal) is refuses = beside_same s c m n ran (refused_keeps s.actor s.asked refusal m n refuses) (refused_none s refusal is)
 
     by_state : (s : Stepped V) (c : Collection V) (m n : Machine V R) → m.collection ≡ Some c → s.asked ≢ asked.GcStep
         → (state : RunState V) → ByState v state s.actor s.asked s.answer m n → GoesBeside s c m n
     by_state s c m n ran not Running answers = by_answer s c m n ran not s.answer refl answers
-    by_state s c m n ran not (Stopped other stores) (told, is) = beside_same s c m n ran (same_of m n is)
+    by_state s c m n ran not (Stopped other stores) (told, is) = beside_same s c m n ran (same_of m n is) (refused_none s _ told)
 
     legal_by : (what : Asked V) (a : ℕ) (told : Result Done Refusal) (m n : Machine V R) → what ≢ asked.Reopen → LegalBy v what a told m n
         → ByState v m.state a what told m n
@@ -228,4 +245,3 @@ module _ {V R : Type 0} where
         → SameStore m n ⊎ ((answer : Done) × (s.answer ≡ Ok answer) × Does v s.actor asked.GcStep answer m n)
     step_state s m n (Stopped other stores) is (told, others) = inl (same_of m n others)
     step_state s m n Running is answers = gc_answer s.actor s.answer m n (subst (λ (what : Asked V). Answers v s.actor what s.answer m n) is answers)
-

@@ -30,10 +30,10 @@ use Rattle.store_machine.specs.Collecting.{Begins, Chooses, Copies, Ends, Flushe
 use Rattle.store_machine.specs.Done.{Done}
 use Rattle.store_machine.specs.Done as done
 use Rattle.store_machine.specs.Forgetting.{Forgets, Rests, SameNow, SamePart, SameParts, SameState, RunsAreForgotten, StepsAreForgotten, asked_of, forget_collection}
-use Rattle.store_machine.specs.Legal.{Answers, ByState, Claims, Commits, Deletes, Does, GivesBytes, GivesUp, HasName, HasNumbers, HasRoom, HasSlot, IsAtEnd, IsAtRightPart, IsLacked, IsUnkept, HoldsValue, MayBreak, broken_by, Keeps, LacksNumbers, MayCommit, OpensValue, Refuses, RefusesClaim, RefusesCommit, RefusesDelete, RefusesGcStep, RefusesOn, RefusesRead, RefusesSeal, Seals, LegalBy, counted, taken_by, with_name, without_name}
+use Rattle.store_machine.specs.Legal.{Answers, ByState, Claims, Commits, Deletes, Does, GivesBytes, GivesUp, HasName, HasNumbers, HasRoom, HasSlot, IsAtEnd, IsAtRightPart, IsLacked, IsUnkept, broken_by, Keeps, LacksNumbers, MayCommit, OpensValue, Refuses, RefusesClaim, RefusesCommit, RefusesDelete, RefusesGcStep, RefusesOn, RefusesRead, RefusesSeal, Seals, LegalBy, counted, taken_by, with_name, without_name}
 use Rattle.store_machine.specs.Machine.{Collection, Found, Machine, Sweeping, Part, Idle, Writing, Reading, RunState, Running, Stopped, all_idle, keeping, kind_of, one_more, part_in, put_at}
 use Rattle.store_machine.specs.Needs.{HasLength, forgotten_beside, keys_kept, keys_of, values_read, with_pins}
-use Rattle.store_machine.specs.Opening.{MayBeFound, MayRefuseOpening, Opens, Reopens, GivesBackSome, Stands, freeing}
+use Rattle.store_machine.specs.Opening.{MayBeFound, MayRefuseOpening, Opens, Reopens, freeing}
 use Rattle.store_machine.specs.Values.{IsStuck, of_files, of_roots, top_of}
 use Rattle.store_machine.proofs.SameNames.{gone_same, knows_same, len_same, listing_same, none_same, put_same, some_same, values_same}
 use Rattle.store_machine.proofs.Walks.{ends_both, more_both, next_leaf, start_both}
@@ -429,13 +429,24 @@ module _ (m : F) (r : G) (same : Forgets m r) where
   marks_same c w (left, stage, next, just) = (left, stage, next, just_goes c w just)
 
   records_same : (c : Collection (List ℕ)) (w : Went) → Records of_files c m w → Records of_roots (forget_collection c) r w
-  records_same c w (one, stage, next, recorded, changes, forgotten, (rest, order), is) =
-      (one, stage, next, recorded, changes, forgotten ∙ sym same.forgotten,
-      (rest, on_store (λ (s : Store). ids_before c.snapshot s.held ≡ ids_of w.recorded ++ rest) order), record_same c one is)
+  records_same c w (one, stage, next, recorded, changes, forgotten, (rest, order), is) = (
+    one,
+    stage,
+    next,
+    recorded,
+    changes,
+    forgotten ∙ sym same.forgotten,
+    (rest, on_store (λ (s : Store). ids_before c.snapshot s.held ≡ ids_of w.recorded ++ rest) order),
+    record_same c one is,
+  )
 
   chooses_same : (c : Collection (List ℕ)) (w : Went) → Chooses of_files c m w → Chooses of_roots (forget_collection c) r w
-  chooses_same c w (stage, all, next, just) = (stage, on_store (λ (s : Store). ids_of c.recorded ≡ ids_before c.snapshot s.held) all,
-      on_store (λ (s : Store). w.stage ≡ Sweeping (next_of s.held (sources_in c) no_sweep) no_sweep) next, just_goes c w just)
+  chooses_same c w (stage, all, next, just) = (
+    stage,
+    on_store (λ (s : Store). ids_of c.recorded ≡ ids_before c.snapshot s.held) all,
+    on_store (λ (s : Store). w.stage ≡ Sweeping (next_of s.held (sources_in c) no_sweep) no_sweep) next,
+    just_goes c w just,
+  )
 
   more_left : (filled now after : List (List ℕ)) → ((more gone : List (List ℕ)) × (now ≡ filled ++ more) × (after ≡ m.forgotten ++ gone))
       → (more gone : List (List ℕ)) × (now ≡ filled ++ more) × (after ≡ r.forgotten ++ gone)
@@ -451,14 +462,38 @@ module _ (m : F) (r : G) (same : Forgets m r) where
       (s, t, next, stage, after, recorded, changes, left, ready, more_left s.filled t.filled w.forgotten more, (λ known. absurd known), inr stops)
 
   flushes_same : (c : Collection (List ℕ)) (w : Went) → Flushes of_files c m w → Flushes of_roots (forget_collection c) r w
-  flushes_same c w (s, t, kind, segments, stage, changes, keys, t_is, next, recorded, forgotten, known) =
-      (s, t, kind, segments, stage, changes ∙ ap (λ (id : ℕ). FlushContainer (suc id) kind segments ∷ []) (sym same.last_id), keys, t_is,
-      on_store (λ (x : Store). w.stage ≡ Sweeping (next_of x.held (sources_in c) t) t) next, recorded, forgotten ∙ sym same.forgotten, λ e. absurd e)
+  flushes_same c w (s, t, kind, segments, stage, changes, keys, t_is, next, recorded, forgotten, known) = (
+    s,
+    t,
+    kind,
+    segments,
+    stage,
+    changes ∙ ap (λ (id : ℕ). FlushContainer (suc id) kind segments ∷ []) (sym same.last_id),
+    keys,
+    t_is,
+    on_store (λ (x : Store). w.stage ≡ Sweeping (next_of x.held (sources_in c) t) t) next,
+    recorded,
+    forgotten ∙ sym same.forgotten,
+    λ e. absurd e,
+  )
 
   releases_same : (c : Collection (List ℕ)) (w : Went) → Releases of_files c m w → Releases of_roots (forget_collection c) r w
-  releases_same c w (s, t, id, slot, rest, stage, ready, changes, (header, there, id_is), t_is, next, recorded, forgotten, known) =
-      (s, t, id, slot, rest, stage, ready, changes, (header, on_store (λ (x : Store). slice_get x.held slot ≡ Some (Some header)) there, id_is), t_is,
-      on_store (λ (x : Store). w.stage ≡ Sweeping (next_of x.held (sources_in c) t) t) next, recorded, forgotten ∙ sym same.forgotten, λ e. absurd e)
+  releases_same c w (s, t, id, slot, rest, stage, ready, changes, (header, there, id_is), t_is, next, recorded, forgotten, known) = (
+    s,
+    t,
+    id,
+    slot,
+    rest,
+    stage,
+    ready,
+    changes,
+    (header, on_store (λ (x : Store). slice_get x.held slot ≡ Some (Some header)) there, id_is),
+    t_is,
+    on_store (λ (x : Store). w.stage ≡ Sweeping (next_of x.held (sources_in c) t) t) next,
+    recorded,
+    forgotten ∙ sym same.forgotten,
+    λ e. absurd e,
+  )
 
   goes_same : (phase : Phase) (c : Collection (List ℕ)) (w : Went) → Goes of_files phase c m w → Goes of_roots phase (forget_collection c) r w
   goes_same phases.Mark c w is = marks_same c w is

@@ -1,5 +1,5 @@
 -- Steps that change no name, and turns.
-use Rattle.std.proofs.Common.{◌≡◌, ◌⊎◌, inl, inr, ℕ, List, [], ◌∷◌, ◌++◌, Some, None, Result, Ok, Err, refl, sym, ◌∙◌, ap, subst}
+use Rattle.std.proofs.Common.{◌≡◌, ℕ, List, [], ◌∷◌, ◌++◌, Some, None, Result, Ok, Err, refl, sym, ◌∙◌, ap, subst}
 use Rattle.actor_parts.specs.declared.step.Answer.{Answer}
 use Rattle.ingest_session.specs.declared.due.Due.TheVariants as dues
 use Rattle.refusals.specs.declared.refusal.Refusal.{Refusal}

@@ -1,17 +1,13 @@
 -- What holds of a collection that runs, since it began, whatever steps came between.
-use Rattle.std.proofs.Common.{◌≡◌, ◌≢◌, ◌⊎◌, ◌↔◌, ◌<◌, ◌≤◌, ◌+◌, inl, inr, ⊎_elim, ℕ, zero, suc, true, false, nat_lt, List, [], ◌∷◌, ◌++◌, get_or, length, slice_get, take, Contains, Option, Some, None, Result, Ok, Err, refl, sym, ◌∙◌, ap, subst, arith, if◌then◌else◌}
+use Rattle.std.proofs.Common.{◌≡◌, ◌≢◌, ◌⊎◌, ◌↔◌, ◌<◌, ◌≤◌, inl, inr, ⊎_elim, ℕ, zero, suc, List, [], ◌∷◌, ◌++◌, length, slice_get, Contains, Option, Some, None, refl, sym, ◌∙◌, ap, subst, arith}
 use Rattle.std.proofs.lemmas.Bool.{cases_eq}
-use Rattle.std.proofs.lemmas.List.Elements.{Contains-append_cases, Contains-append_left, Contains-append_right, Contains-push, Contains-push_cases}
-use Rattle.container_meta.specs.Spelling.{HeaderValue, header_of}
-use Rattle.disk_format.specs.declared.numbers.TheConstants.{RESERVE}
-use Rattle.refusals.specs.declared.refusal.Phase.{Phase}
-use Rattle.refusals.specs.declared.refusal.Phase.TheVariants as phases
-use Rattle.store_model.specs.Image.{Store}
+use Rattle.std.proofs.lemmas.List.Elements.{Contains-append_left, Contains-push, Contains-push_cases}
+use Rattle.container_meta.specs.Spelling.{HeaderValue}
 use Rattle.store_model.specs.Slots.{first_free, free_slots, with_slot, without_slot}
 use Rattle.store_model.proofs.Free.{first_closed, some_free}
 use Rattle.store_model.proofs.Freed.{there_before, other_there}
-use Rattle.store_machine.specs.Collected.{EachOnce, HasContainer, HasIds}
-use Rattle.store_machine.specs.Machine.{Collection, Machine, Stage, Marking, Recording, Sweeping, Sweep}
+use Rattle.store_machine.specs.Collected.{HasContainer, HasIds}
+use Rattle.store_machine.specs.Machine.{Machine}
 
 -- ---- containers of slots
 
@@ -63,6 +59,7 @@ module _ {V R : Type 0} where
         from_by : (slot : ℕ) (h : HeaderValue) → HasContainer m.store slot h ⊎ S h → HasContainer m.store slot h ⊎ T h
         from_by slot h (inl was) = inl was
         from_by slot h (inr is) = inr ((words h).0 is)
+
         stay_by : (slot : ℕ) (h : HeaderValue) → ((slot : ℕ) (h : HeaderValue) → HasContainer k.store slot h → HasContainer n.store slot h)
             → HasContainer k.store slot h ⊎ Contains gone h.id → HasContainer n.store slot h ⊎ Contains gone h.id
         stay_by slot h on (inl has) = inl (on slot h has)
@@ -84,51 +81,65 @@ module _ {V R : Type 0} where
       where
         free : ℕ
         free = first_free k.store.held
+
         within : free < length k.store.held
         within = some_free k.store.held some
+
         -- what a slot has
         at_slot : (slot : ℕ) (g : HeaderValue) → HasContainer n.store slot g → ((slot ≡ free) × (g ≡ h)) ⊎ ((slot ≢ free) × HasContainer k.store slot g)
         at_slot slot g has =
             let now : slice_get (with_slot free h k.store.held) slot ≡ Some (Some g) = subst (λ (cs : List (Option HeaderValue)). slice_get cs slot ≡ Some (Some g)) held has in
             ⊎_elim
-            (λ same. inl (same, (let one : Some (Some h) ≡ Some (Some g) = sym (put_there free h k.store.held within)
-                ∙ subst (λ (s : ℕ). slice_get (with_slot free h k.store.held) s ≡ Some (Some g)) same now in cc)))
+            (λ same. inl (
+              same,
+              (let one : Some (Some h) ≡ Some (Some g) = sym (put_there free h k.store.held within)
+                  ∙ subst (λ (s : ℕ). slice_get (with_slot free h k.store.held) s ≡ Some (Some g)) same now in cc),
+            ))
             (λ other. inr (other, sym (others_there free slot h k.store.held (λ is. other (sym is))) ∙ now))
             (cases_eq slot free)
+
         kept : (slot : ℕ) (g : HeaderValue) → HasContainer k.store slot g → HasContainer n.store slot g
         kept slot g has =
             let closed : slice_get k.store.held free ≡ Some None = first_closed k.store.held within in
             let other : free ≢ slot = λ same. (let wrong : Some None ≡ Some (Some g) = sym closed ∙ subst (λ (s : ℕ). slice_get k.store.held s ≡ Some (Some g)) (sym same) has in absurd cc) in
             subst (λ (cs : List (Option HeaderValue)). slice_get cs slot ≡ Some (Some g)) (sym held) (others_there free slot h k.store.held other ∙ has)
+
         new_there : HasContainer n.store free h
         new_there = subst (λ (cs : List (Option HeaderValue)). slice_get cs free ≡ Some (Some h)) (sym held) (put_there free h k.store.held within)
+
         from_by : (slot : ℕ) (g : HeaderValue) → HasContainer n.store slot g → HasContainer m.store slot g ⊎ T g
         from_by slot g has = by (at_slot slot g has)
           where
             before : HasContainer m.store slot g ⊎ S g → HasContainer m.store slot g ⊎ T g
             before (inl was) = inl was
             before (inr is) = inr ((words g).1 (inl is))
+
             by : ((slot ≡ free) × (g ≡ h)) ⊎ ((slot ≢ free) × HasContainer k.store slot g) → HasContainer m.store slot g ⊎ T g
             by (inl one) = inr ((words g).1 (inr one.1))
             by (inr was) = before (since.from slot g was.1)
+
         late_by : (g : HeaderValue) → S g ⊎ (g ≡ h) → m.last_id < g.id
         late_by g (inl is) = since.late g is
         late_by g (inr is) = omega (arith, since.last, id_is, ap (λ (x : HeaderValue). x.id) is)
+
         given_by : (slot : ℕ) (g : HeaderValue) → HasContainer n.store slot g → g.id ≤ n.last_id
         given_by slot g has = by (at_slot slot g has)
           where
             by : ((slot ≡ free) × (g ≡ h)) ⊎ ((slot ≢ free) × HasContainer k.store slot g) → g.id ≤ n.last_id
             by (inl one) = omega (arith, last, id_is, ap (λ (x : HeaderValue). x.id) one.1)
             by (inr was) = omega (arith, last, since.given_out slot g was.1)
+
         stay_by : (slot : ℕ) (g : HeaderValue) → HasContainer k.store slot g ⊎ Contains gone g.id → HasContainer n.store slot g ⊎ Contains gone g.id
         stay_by slot g (inl has) = inl (kept slot g has)
         stay_by slot g (inr is) = inr is
+
         none_by : (slot : ℕ) (g : HeaderValue) → Contains gone g.id → HasContainer n.store slot g → ⊥
         none_by slot g gone_is has = by (at_slot slot g has)
           where
             by : ((slot ≡ free) × (g ≡ h)) ⊎ ((slot ≢ free) × HasContainer k.store slot g) → ⊥
             by (inl one) = absurd (omega (arith, since.below g.id gone_is, since.last, id_is, ap (λ (x : HeaderValue). x.id) one.1))
             by (inr was) = since.none slot g was.1 gone_is
+
         there_by : (g : HeaderValue) → S g ⊎ (g ≡ h) → (slot : ℕ) × HasContainer n.store slot g
         there_by g (inl is) = let one = since.there g is in (one.0, kept one.0 g one.1)
         there_by g (inr is) = (free, subst (λ (x : HeaderValue). HasContainer n.store free x) (sym is) new_there)
@@ -149,20 +160,25 @@ module _ {V R : Type 0} where
       where
         before : (other : ℕ) (g : HeaderValue) → HasContainer n.store other g → (slot ≢ other) × HasContainer k.store other g
         before other g now = there_before slot other g k.store.held (subst (λ (cs : List (Option HeaderValue)). slice_get cs other ≡ Some (Some g)) held now)
+
         kept : (other : ℕ) (g : HeaderValue) → slot ≢ other → HasContainer k.store other g → HasContainer n.store other g
         kept other g differ was = subst (λ (cs : List (Option HeaderValue)). slice_get cs other ≡ Some (Some g)) (sym held) (other_there slot other k.store.held differ ∙ was)
+
         same_one : (other : ℕ) (g : HeaderValue) → slot ≡ other → HasContainer k.store other g → g ≡ h
         same_one other g same was =
             let both : Some (Some h) ≡ Some (Some g) = sym has ∙ subst (λ (s : ℕ). slice_get k.store.held s ≡ Some (Some g)) (sym same) was in cc
+
         from_by : (other : ℕ) (g : HeaderValue) → HasContainer m.store other g ⊎ S g → HasContainer m.store other g ⊎ T g
         from_by other g (inl was) = inl was
         from_by other g (inr is) = inr ((words g).0 is)
+
         stay_by : (other : ℕ) (g : HeaderValue) → HasContainer k.store other g ⊎ Contains gone g.id → HasContainer n.store other g ⊎ Contains (gone ++ id ∷ []) g.id
         stay_by other g (inr is) = inr (Contains-append_left gone (id ∷ []) g.id is)
         stay_by other g (inl was) = ⊎_elim
             (λ same. inr (subst (Contains (gone ++ id ∷ [])) (sym (ap (λ (x : HeaderValue). x.id) (same_one other g same was) ∙ id_is)) (Contains-push gone id)))
             (λ differ. inl (kept other g differ was))
             (cases_eq slot other)
+
         -- it was there before
         was_there : (other : ℕ) (g : HeaderValue) → HasContainer k.store other g → g.id ≤ m.last_id → HasContainer m.store other g
         was_there other g now few = by (since.from other g now)
@@ -170,14 +186,17 @@ module _ {V R : Type 0} where
             by : HasContainer m.store other g ⊎ S g → HasContainer m.store other g
             by (inl was) = was
             by (inr is) = absurd (omega (arith, few, since.late g is))
+
         none_by : (other : ℕ) (g : HeaderValue) → HasContainer n.store other g → Contains gone g.id ⊎ (id ≡ g.id) → ⊥
         none_by other g now (inl is) = since.none other g (before other g now).1 is
         none_by other g now (inr is) =
             let b = before other g now in
             b.0 (ids.differ slot other h g (was_there slot h has (omega (arith, id_is, old))) (was_there other g b.1 (omega (arith, is, old))) (id_is ∙ is))
+
         below_by : (x : ℕ) → Contains gone x ⊎ (id ≡ x) → x ≤ m.last_id
         below_by x (inl is) = since.below x is
         below_by x (inr is) = omega (arith, is, old)
+
         there_by : (g : HeaderValue) → S g → (other : ℕ) × HasContainer n.store other g
         there_by g is =
             let one = since.there g is in

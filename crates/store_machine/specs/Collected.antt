@@ -1,12 +1,11 @@
 -- What a collection has done at its end, whatever steps came between (docs/MODEL.md, 'Collection').
-use Rattle.std.specs.Prelude.{◌≡◌, ◌≢◌, ◌⊎◌, ◌↔◌, ℕ, ◌≤◌, List, [], ◌∷◌, length, slice_get, Contains, Option, Some, Ok}
+use Rattle.std.specs.Prelude.{◌≡◌, ◌≢◌, ◌⊎◌, ◌↔◌, ℕ, ◌≤◌, List, [], ◌∷◌, length, slice_get, Contains, Some, Ok}
 use Rattle.container_meta.specs.Segments.{Contents}
 use Rattle.container_meta.specs.Spelling.{HeaderValue, header_of}
 use Rattle.gc_select.specs.Selecting.{selected}
 use Rattle.refusals.specs.declared.refusal.Phase.{Phase}
 use Rattle.refusals.specs.declared.refusal.Phase.TheVariants.{Copy}
 use Rattle.store_model.specs.Image.{Store}
-use Rattle.store_model.specs.Slots.{last_id}
 use Rattle.store_model.specs.Steps.{FlushContainer, StoreChange}
 use Rattle.store_machine.specs.Asked as asked
 use Rattle.store_machine.specs.Collecting.{keys_written, sources_in}

@@ -1,6 +1,8 @@
 //! Laws of runs of the plain store.
+ghost use Rattle.store_machine.specs.Collected.{CollectsWhatItSelected};
 ghost use Rattle.store_machine.specs.Forgetting.{RunsAreForgotten, StepsAreForgotten};
 ghost use Rattle.store_machine.specs.Ingests.{IngestsByMap, IngestsThrough};
+ghost use Rattle.store_machine.specs.Values.{of_files};
 
 /// A step of the machine of files is one of the machine of roots, once all but the roots of its files is forgotten; and so is a run of
 /// steps. So what holds of the machine of roots, on any disk, holds of that of files. The function does nothing.
@@ -15,4 +17,11 @@ pub fn runs_are_forgotten()
 pub fn an_ingest_puts_its_file()
     ensures ended { IngestsByMap }
     ensures through { IngestsThrough }
+{}
+
+/// A collection that comes to its end, whatever steps of others came between: none of the containers that it selected is left, each other
+/// one is where it was, and so is each that was sealed or written since, and no other; and what it wrote are just the keys that its copying
+/// steps took, each once. The function does nothing.
+pub fn a_collection_does_what_it_selected()
+    ensures { CollectsWhatItSelected of_files }
 {}

@@ -12,7 +12,8 @@ use Rattle.container_meta.specs.declared.kind.Kind.TheVariants.{Leaf, Tree}
 use Rattle.gc_select.specs.Rising.{rising}
 use Rattle.gc_select.specs.Selecting.{AreSources, IsSelectedId, ids_of, is_selected, of_kind, selected, sources_of}
 use Rattle.gc_select.proofs.RisingOnce.{rising_moves, rising_order}
-use Rattle.gc_select.proofs.Selected.{sources_moved, which_ids}
+use Rattle.gc_select.proofs.Chosen.{ids_many}
+pub use Rattle.gc_select.proofs.Chosen.{chosen_which, sources_many}
 use Rattle.store_state.specs.declared.slot_table.SlotTable.{SlotTable}
 use Rattle.gc_sweep.specs.declared.sweep.Sweep.{Sweep as SweepValue}
 use Rattle.gc_sweep.specs.Beginning.{Begins}
@@ -30,10 +31,6 @@ filter_fewer test (x ∷ xs) = by_test (test x) (filter_fewer test xs)
     by_test : (b : Bool) → length (filter test xs) ≤ length xs → length (if b then x ∷ filter test xs else filter test xs) ≤ length (x ∷ xs)
     by_test true rest = omega (arith, rest)
     by_test false rest = omega (arith, rest)
-
-ids_many : (xs : List ContainerLiveness) → length (ids_of xs) ≡ length xs
-ids_many [] = refl
-ids_many (x ∷ xs) = ap suc (ids_many xs)
 
 module _ (t : SlotTable) (c : Collection) (sources : List ℕ) (recorded : IsRecordedTo t c (length t.ids.items)) where
   pub whole : ids_of c.liveness ≡ old_ids c.snapshot t.ids.items
@@ -76,32 +73,6 @@ module _ (t : SlotTable) (c : Collection) (sources : List ℕ) (recorded : IsRec
 
   pub once : IsDistinct nat_eq (old_ids c.snapshot t.ids.items) → (IsDistinct nat_eq (ids_of c.liveness) → IsDistinct nat_eq sources) → IsDistinct nat_eq sources
   once differ apart = apart (subst (IsDistinct nat_eq) (sym whole) differ)
-
--- the containers that are selected, in their order, are sources
-are_sources : (containers : List ContainerLiveness) → AreSources containers (sources_of containers)
-unfolding sources_of
-are_sources containers = record {
-  data_ids = rising (ids_of (of_kind Leaf containers));
-  tree_ids = rising (ids_of (of_kind Tree containers));
-  data_first = refl;
-  all_data = rising_moves (ids_of (of_kind Leaf containers));
-  all_trees = rising_moves (ids_of (of_kind Tree containers));
-  data_rising = rising_order (ids_of (of_kind Leaf containers));
-  trees_rising = rising_order (ids_of (of_kind Tree containers));
-}
-
--- there are as many as containers
-pub sources_many : (containers : List ContainerLiveness) → length (sources_of containers) ≡ length containers
-sources_many containers =
-    let moved : IsPermutation (ids_of containers) (sources_of containers) = sources_moved containers (sources_of containers) (are_sources containers) in
-    omega (arith, length_permutation (ids_of containers) (sources_of containers) moved, ids_many containers)
-
--- an id is a source's just where that of a container that is selected is it
-pub chosen_which : (snapshot percent : ℕ) (containers : List ContainerLiveness) (sources : List ℕ) → sources ≡ sources_of (selected snapshot percent containers)
-    → (id : ℕ) → Contains sources id ↔ IsSelectedId snapshot percent containers id
-chosen_which snapshot percent containers sources are =
-    let chosen = selected snapshot percent containers in
-    which_ids snapshot percent containers sources (subst (IsPermutation (ids_of chosen)) (sym are) (sources_moved chosen (sources_of chosen) (are_sources chosen)))
 
 -- what is so of the sources that are chosen
 pub record AreChosen (c : Collection) (sources : List ℕ) : Type 0 where

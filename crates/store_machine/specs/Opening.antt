@@ -1,0 +1,79 @@
+-- An opening of a store: at first, and whenever it is asked for.
+use Rattle.std.specs.Prelude.{◌≡◌, ◌⊎◌, ℕ, ◌<◌, ◌≤◌, false, List, [], ◌∷◌, ◌++◌, Contains, Some, None, Result, Ok, Err}
+use Rattle.std.specs.List.{AllByRecursion}
+use Rattle.std.specs.FinMap as finite
+use Rattle.disk_format.specs.declared.numbers.TheConstants.{RESERVE}
+use Rattle.refusals.specs.declared.refusal.Refusal.{Refusal}
+use Rattle.refusals.specs.declared.refusal.Refusal.TheVariants.{Memory, Full, DiskRead, DiskWrite, Corrupt, Missing, Damaged, NotAStore, Version, WrongSize}
+use Rattle.store_model.specs.Freeing.{FreesTo, with_all_freed}
+use Rattle.store_model.specs.Image.{Store}
+use Rattle.store_model.specs.Slots.{free_slots, last_id}
+use Rattle.store_machine.specs.Done.{Done}
+use Rattle.store_machine.specs.Done as done
+use Rattle.store_machine.specs.Machine.{Found, Machine, RunState, Running, Stopped, all_idle}
+use Rattle.store_machine.specs.Needs.{NamesNeed}
+use Rattle.store_machine.specs.Values.{Values}
+
+module _ {V R : Type 0} (v : Values V R) where
+  abbrev pub MayBeFound : RunState V → Found V → Found V → Type 0
+  MayBeFound Running now found = found ≡ now
+  MayBeFound (Stopped None stores) now found = found ≡ now
+  MayBeFound (Stopped (Some other) stores) now found = (found ≡ now) ⊎ (found ≡ other)
+
+  -- which store stands: the one that it has; where a write had failed, perhaps another
+  abbrev pub Stands : RunState V → Store → Store → Type 0
+  Stands Running store before = before ≡ store
+  Stands (Stopped other stores) store before = Contains (store ∷ stores) before
+
+  -- All actors end. The store is what it was, where no write had failed; where fewer than two slots are closed, containers that nothing needs
+  -- are given back, the one of the least id first, until two are, or no such is left.
+  pub record Opens (files : ℕ) (m n : Machine V R) : Type 0 where
+    pub found : Found V
+    pub may : v.Known → MayBeFound m.state m.now found
+    pub files_are : files ≡ finite.len found.names
+    pub before : Store
+    pub same : v.Known → Stands m.state m.store before
+    pub freed : List ℕ
+    pub frees : v.Known → FreesTo (NamesNeed v found) freed before n.store
+    pub reserve : RESERVE ≤ free_slots n.store.held
+    pub others : n ≡ record {
+      now = found;
+      parts = all_idle;
+      store = n.store;
+      last_id = last_id n.store.held;
+      forgotten = [];
+      swept = false;
+      collection = None;
+      acknowledged = 0;
+      state = Running;
+    }
+
+  -- it is stopped, in the middle of giving containers back
+  abbrev pub freeing : List Store → RunState V → RunState V
+  freeing stores Running = Stopped None stores
+  freeing stores (Stopped other before) = Stopped other (before ++ stores)
+
+  -- what it may be refused by; containers may have been given back before, and then it is stopped
+  abbrev pub MayRefuseOpening : Refusal → Type 0
+  MayRefuseOpening Memory = Unit {0}
+  MayRefuseOpening DiskRead = Unit {0}
+  MayRefuseOpening DiskWrite = Unit {0}
+  MayRefuseOpening (Full free) = ¬ v.Known
+  MayRefuseOpening (NotAStore gate magic) = ¬ v.Known
+  MayRefuseOpening (Version number) = ¬ v.Known
+  MayRefuseOpening (Damaged at why) = ¬ v.Known
+  MayRefuseOpening (WrongSize want got) = ¬ v.Known
+  MayRefuseOpening (Corrupt slot offset count want got) = ¬ v.Known
+  MayRefuseOpening (Missing key) = ¬ v.Known
+  MayRefuseOpening refusal = ⊥
+
+  -- containers that nothing needs were given back, so that the store is one of these, and then it was refused
+  abbrev pub GivesBackSome : Machine V R → Machine V R → Type 0
+  GivesBackSome m n = (stores : List Store) × (n ≡ record m { state = freeing stores m.state })
+      × (v.Known → AllByRecursion (λ t. (before : Store) × Stands m.state m.store before × (free_slots before.held < RESERVE)
+      × ((freed : List ℕ) × (t ≡ with_all_freed freed before))) stores)
+
+  abbrev pub Reopens : Result Done Refusal → Machine V R → Machine V R → Type 0
+  Reopens (Ok (done.Reopened files)) m n = Opens files m n
+  Reopens (Ok answer) m n = ⊥
+  Reopens (Err refusal) m n = MayRefuseOpening refusal × ((n ≡ m) ⊎ GivesBackSome m n)

@@ -1,0 +1,27 @@
+//! Laws of runs of the plain store.
+ghost use Rattle.store_machine.specs.Collected.{CollectsWhatItSelected};
+ghost use Rattle.store_machine.specs.Forgetting.{RunsAreForgotten, StepsAreForgotten};
+ghost use Rattle.store_machine.specs.Ingests.{IngestsByMap, IngestsThrough};
+ghost use Rattle.store_machine.specs.Values.{of_files};
+
+/// A step of the machine of files is one of the machine of roots, once all but the roots of its files is forgotten; and so is a run of
+/// steps. So what holds of the machine of roots, on any disk, holds of that of files. The function does nothing.
+pub fn runs_are_forgotten()
+    ensures steps { StepsAreForgotten }
+    ensures runs { RunsAreForgotten }
+{}
+
+/// After the lines of an `ingest`, and whatever they were refused by, the names that may be found are those of before, or these with the
+/// file that was given under its name, and so it is at each moment of their steps; where the last line was done they are the latter, the
+/// name is good, and the file is no longer than one may be. The function does nothing.
+pub fn an_ingest_puts_its_file()
+    ensures ended { IngestsByMap }
+    ensures through { IngestsThrough }
+{}
+
+/// A collection that comes to its end, whatever steps of others came between: none of the containers that it selected is left, each other
+/// one is where it was, and so is each that was sealed or written since, and no other; and what it wrote are just the keys that its copying
+/// steps took, each once. The function does nothing.
+pub fn a_collection_does_what_it_selected()
+    ensures { CollectsWhatItSelected of_files }
+{}

@@ -56,14 +56,27 @@ def collect(program, image, percent):
 
 
 def containers(image, slots):
-    """The containers of an image: of each its id, its kind (0 data, 1 tree) and its bytes of segments or nodes."""
+    """The containers of an image: of each its id, its kind (0 data, 1 tree), its bytes of segments or nodes, and its slot."""
     found = []
     with open(image, "rb") as disk:
         for slot in range(slots):
             disk.seek(FILES.FIRST_SLOT + FILES.SLOT * slot)
             head = disk.read(24)
             if head[0] == 0xC5:
-                found.append((int.from_bytes(head[8:16], "big"), head[16], int.from_bytes(head[20:24], "big")))
+                found.append((int.from_bytes(head[8:16], "big"), head[16], int.from_bytes(head[20:24], "big"), slot))
+    return found
+
+
+def lengths_of(image, slots):
+    """The lengths of the segments in the containers of data, in the order in which they were stored."""
+    found = []
+    with open(image, "rb") as disk:
+        for _id, kind, _held, slot in sorted(containers(image, slots)):
+            if kind == 0:
+                disk.seek(FILES.FIRST_SLOT + FILES.SLOT * slot)
+                head = disk.read(512 + 48 * 1024)
+                count = int.from_bytes(head[18:20], "big")
+                found.extend(int.from_bytes(head[512 + 48 * it + 36 : 512 + 48 * it + 40], "big") for it in range(count))
     return found
 
 

@@ -94,3 +94,8 @@ def needs_program(parser, given):
     given.program = os.path.realpath(given.program)
     if not os.access(given.program, os.X_OK):
         parser.error(f"there is no program {given.program}: ./ddfs builds it at its first call")
+
+
+def slots_for(first, new, nights):
+    """N by the formula of README.md, 'How large': of a first night's bytes, a night's new bytes, and how many nights are kept."""
+    return -(-(first + nights * new) * 5 // (4 * 200_000)) + 3 * nights + 2

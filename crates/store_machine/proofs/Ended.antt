@@ -97,7 +97,8 @@ module _ {V R : Type 0} (v : Values V R) (known : v.Known) (m : Machine V R) (id
     gc_step gc between legal = by (step_state v s k n k.state gc (by_state gc legal))
       where
         by_state : s.asked ≡ asked.GcStep → Legal v s k n → ByState v k.state s.actor s.asked s.answer k n
-        by_state is legal = subst (λ (what : Asked V). ByState v k.state s.actor what s.answer k n) (sym is) (subst (λ (what : Asked V). LegalBy v what s.actor s.answer k n) is legal)
+        by_state is legal =
+            subst (λ (what : Asked V). ByState v k.state s.actor what s.answer k n) (sym is) (subst (λ (what : Asked V). LegalBy v what s.actor s.answer k n) is legal)
 
         of_done : (answer : Done) → s.answer ≡ Ok answer → Does v s.actor asked.GcStep answer k n → Next s k n S T
         of_done (done.Did phase) is does = goes_on gc phase does
@@ -150,7 +151,8 @@ module _ {V R : Type 0} (v : Values V R) (known : v.Known) (m : Machine V R) (id
 -- ---- its beginning and its end
 
 module _ {V R : Type 0} (v : Values V R) where
-  started : (s : Stepped V) (percent snapshot : ℕ) (old m : Machine V R) → s.asked ≡ asked.GcStart percent → s.answer ≡ Ok (done.Started snapshot) → Legal v s old m → Begins v percent snapshot old m
+  started : (s : Stepped V) (percent snapshot : ℕ) (old m : Machine V R) → s.asked ≡ asked.GcStart percent → s.answer ≡ Ok (done.Started snapshot) → Legal v s old m
+      → Begins v percent snapshot old m
   started s percent snapshot old m asked_is answer_is legal =
       by old.state (subst (λ (told : Result Done Refusal). ByState v old.state s.actor (asked.GcStart percent) told old m) answer_is
       (subst (λ (what : Asked V). LegalBy v what s.actor s.answer old m) asked_is legal))

@@ -96,7 +96,8 @@ writing_same (Writing own) (Writing others) pins same is =
 writing_same (Writing own) (Reading root tops) pins same is = absurd same
 writing_same (Reading file rest) q pins same is = absurd (let wrong : Reading file rest ≡ Writing pins = is in cc)
 
-reading_same : (p : FilePart) (q : RootPart) (file : List ℕ) (rest : List (List ℕ)) → SamePart p q → p ≡ Reading file rest → (tops : List Top) × (q ≡ Reading (root_of file) tops) × Rests rest tops
+reading_same : (p : FilePart) (q : RootPart) (file : List ℕ) (rest : List (List ℕ)) → SamePart p q → p ≡ Reading file rest
+    → (tops : List Top) × (q ≡ Reading (root_of file) tops) × Rests rest tops
 reading_same Idle q file rest same is = absurd (let wrong : Idle ≡ Reading file rest = is in cc)
 reading_same (Writing own) q file rest same is = absurd (let wrong : Writing own ≡ Reading file rest = is in cc)
 reading_same (Reading own left) Idle file rest same is = absurd same
@@ -231,7 +232,8 @@ module _ (m : F) (r : G) (same : Forgets m r) where
       goes (λ t. Claims of_roots a seg r t) n (record (put_at m a (Writing part)) { collection = keeping keys m.collection }) t c.others
       (record {
         may = keeps_same a _ seg.kind c.may;
-        held = λ indexed. (on_store (λ (s : Store). HasLength s seg) (c.held (inl tt)).0, on_forgotten (λ fs. ¬ (Contains fs (segment_key seg.kind seg.segment))) (c.held (inl tt)).1);
+        held =
+            λ indexed. (on_store (λ (s : Store). HasLength s seg) (c.held (inl tt)).0, on_forgotten (λ fs. ¬ (Contains fs (segment_key seg.kind seg.segment))) (c.held (inl tt)).1);
         same = λ known. absurd known;
         others = refl;
       })
@@ -251,7 +253,8 @@ module _ (m : F) (r : G) (same : Forgets m r) where
   sealed a filled id n c =
       let keys = keys_of filled.kind filled.segments in
       let part : PinMap = with_pins filled.kind filled.segments c.may.pins in
-      let t : G = record (put_at r a (Writing part)) { store = with_sealed id filled.kind filled.segments r.store; last_id = id; forgotten = forgotten_beside keys r.forgotten; collection = keeping keys r.collection } in
+      let t : G =
+      record (put_at r a (Writing part)) { store = with_sealed id filled.kind filled.segments r.store; last_id = id; forgotten = forgotten_beside keys r.forgotten; collection = keeping keys r.collection } in
       goes (λ t. Seals of_roots a filled id r t) n (record (put_at m a (Writing part)) { store = with_sealed id filled.kind filled.segments m.store; last_id = id; forgotten = forgotten_beside keys m.forgotten; collection = keeping keys m.collection }) t c.others
       (record {
         may = keeps_same a _ filled.kind c.may;
@@ -291,7 +294,8 @@ module _ (m : F) (r : G) (same : Forgets m r) where
 
   committed : (a : ℕ) (name file : List ℕ) (sequence : ℕ) (n : F) → Commits of_files a name file sequence m n → Left (λ t. Commits of_roots a name (root_of file) sequence r t) n
   committed a name file sequence n c =
-      let t : G = record (put_at r a Idle) { now = with_name of_roots name (root_of file) r.now; store = with_change name (Put (root_of file)) r.store; acknowledged = one_more r.acknowledged } in
+      let t : G =
+      record (put_at r a Idle) { now = with_name of_roots name (root_of file) r.now; store = with_change name (Put (root_of file)) r.store; acknowledged = one_more r.acknowledged } in
       goes (λ t. Commits of_roots a name (root_of file) sequence r t) n
       (record (put_at m a Idle) { now = with_name of_files name file m.now; store = with_change name (Put (root_of file)) m.store; acknowledged = one_more m.acknowledged }) t c.others
       (record {
@@ -394,7 +398,8 @@ module _ (m : F) (r : G) (same : Forgets m r) where
   begun : (percent snapshot : ℕ) (n : F) → Begins of_files percent snapshot m n → Left (λ t. Begins of_roots percent snapshot r t) n
   begun percent snapshot n (none, is, others) =
       let values_are : finite.values r.now.names ++ values_read r.parts ≡ map root_of (finite.values m.now.names ++ values_read m.parts) =
-      ap (λ (vs : List Root). vs ++ values_read r.parts) (values_same m.now r.now same.now) ∙ ap (λ (vs : List Root). map root_of (finite.values m.now.names) ++ vs) (read_same m.parts r.parts same.parts)
+      ap (λ (vs : List Root). vs ++ values_read r.parts) (values_same m.now r.now same.now)
+      ∙ ap (λ (vs : List Root). map root_of (finite.values m.now.names) ++ vs) (read_same m.parts r.parts same.parts)
       ∙ sym (map_two (finite.values m.now.names) (values_read m.parts)) in
       goes (λ t. Begins of_roots percent snapshot r t) n (record m { collection = Some (started percent snapshot) }) (record r { collection = Some (root_started percent snapshot) }) others
       (none_runs none, is ∙ ap suc (sym same.last_id), refl)
@@ -642,7 +647,8 @@ module _ (m : F) (r : G) (same : Forgets m r) where
       ((slot_same a filled slot, on_id (λ id. id < LAST_ID) id), refl)
   unsealed a filled refusal n refuses = absurd refuses
 
-  uncommitted : (a : ℕ) (name file : List ℕ) (refusal : Refusal) (n : F) → RefusesCommit of_files a name file refusal m n → Left (λ t. RefusesCommit of_roots a name (root_of file) refusal r t) n
+  uncommitted : (a : ℕ) (name file : List ℕ) (refusal : Refusal) (n : F) → RefusesCommit of_files a name file refusal m n
+      → Left (λ t. RefusesCommit of_roots a name (root_of file) refusal r t) n
   uncommitted a name file refusals.Memory n others = stays (λ t. RefusesCommit of_roots a name (root_of file) refusals.Memory r t) n others refl
   uncommitted a name file refusals.BadName n (bad, others) = stays (λ t. RefusesCommit of_roots a name (root_of file) refusals.BadName r t) n others (bad, refl)
   uncommitted a name file refusals.TooMany n (named, none, many, others) =
@@ -662,8 +668,10 @@ module _ (m : F) (r : G) (same : Forgets m r) where
   undeleted : (name : List ℕ) (refusal : Refusal) (n : F) → RefusesDelete of_files name refusal m n → Left (λ t. RefusesDelete of_roots name refusal r t) n
   undeleted name refusals.Memory n others = stays (λ t. RefusesDelete of_roots name refusals.Memory r t) n others refl
   undeleted name refusals.BadName n (bad, others) = stays (λ t. RefusesDelete of_roots name refusals.BadName r t) n others (bad, refl)
-  undeleted name refusals.NoFile n (named, none, others) = stays (λ t. RefusesDelete of_roots name refusals.NoFile r t) n others (named, none_same m.now r.now same.now name none, refl)
-  undeleted name refusals.Numbers n (named, there, lacks, others) = stays (λ t. RefusesDelete of_roots name refusals.Numbers r t) n others (named, knows name there, no_numbers lacks, refl)
+  undeleted name refusals.NoFile n (named, none, others) =
+      stays (λ t. RefusesDelete of_roots name refusals.NoFile r t) n others (named, none_same m.now r.now same.now name none, refl)
+  undeleted name refusals.Numbers n (named, there, lacks, others) =
+      stays (λ t. RefusesDelete of_roots name refusals.Numbers r t) n others (named, knows name there, no_numbers lacks, refl)
   undeleted name refusals.DiskWrite n (named, there, has, others) =
       stop (λ t. RefusesDelete of_roots name refusals.DiskWrite r t) n (Some (without_name of_files name m.now)) (Some (without_name of_roots name r.now))
       (broken_by of_files name Gone m.store) (broken_by of_roots name Gone r.store) others
@@ -685,7 +693,8 @@ module _ (m : F) (r : G) (same : Forgets m r) where
   uncollected : (refusal : Refusal) (n : F) → RefusesGcStep of_files refusal m n → Left (λ t. RefusesGcStep of_roots refusal r t) n
   uncollected refusals.NotCollecting n (none, others) = stays (λ t. RefusesGcStep of_roots refusals.NotCollecting r t) n others (none_runs none, refl)
   uncollected refusals.Memory n (some, others) = stays (λ t. RefusesGcStep of_roots refusals.Memory r t) n others (some_runs some, refl)
-  uncollected refusals.Numbers n (is, none, others) = stays (λ t. RefusesGcStep of_roots refusals.Numbers r t) n others (runs phases.Flush is, on_id (λ id. LAST_ID ≤ id) none, refl)
+  uncollected refusals.Numbers n (is, none, others) =
+      stays (λ t. RefusesGcStep of_roots refusals.Numbers r t) n others (runs phases.Flush is, on_id (λ id. LAST_ID ≤ id) none, refl)
   uncollected refusals.DiskRead n (inl is, others) = stays (λ t. RefusesGcStep of_roots refusals.DiskRead r t) n others (inl (runs phases.Mark is), refl)
   uncollected refusals.DiskRead n (inr (inl is), others) = stays (λ t. RefusesGcStep of_roots refusals.DiskRead r t) n others (inr (inl (runs phases.Filter is)), refl)
   uncollected refusals.DiskRead n (inr (inr (inl is)), others) = stays (λ t. RefusesGcStep of_roots refusals.DiskRead r t) n others (inr (inr (inl (runs phases.Copy is))), refl)
@@ -707,7 +716,8 @@ module _ (m : F) (r : G) (same : Forgets m r) where
   uncollected (refusals.Damaged at why) n (is, (unknown, others)) = absurd (unknown tt)
   uncollected refusal n refuses = absurd refuses
 
-  refused_on : (a : ℕ) (step : Asked (List ℕ)) (refusal : Refusal) (n : F) → RefusesOn of_files a step refusal m n → Left (λ t. RefusesOn of_roots a (asked_of step) refusal r t) n
+  refused_on : (a : ℕ) (step : Asked (List ℕ)) (refusal : Refusal) (n : F) → RefusesOn of_files a step refusal m n
+      → Left (λ t. RefusesOn of_roots a (asked_of step) refusal r t) n
   refused_on a (asked.Claim seg) refusal n refuses = unclaimed a seg refusal n refuses
   refused_on a (asked.Seal filled) refusal n refuses = unsealed a filled refusal n refuses
   refused_on a (asked.Commit name file) refusal n refuses = uncommitted a name file refusal n refuses
@@ -718,7 +728,8 @@ module _ (m : F) (r : G) (same : Forgets m r) where
   refused_on a asked.ReadNext refusal n refuses = unread a refusal n refuses
   refused_on a (asked.Delete name) refusal n refuses = undeleted name refusal n refuses
   refused_on a asked.ListNames refusals.Memory n others = stays (λ t. RefusesOn of_roots a asked.ListNames refusals.Memory r t) n others refl
-  refused_on a (asked.GcStart percent) refusals.Memory n (none, others) = stays (λ t. RefusesOn of_roots a (asked.GcStart percent) refusals.Memory r t) n others (none_runs none, refl)
+  refused_on a (asked.GcStart percent) refusals.Memory n (none, others) =
+      stays (λ t. RefusesOn of_roots a (asked.GcStart percent) refusals.Memory r t) n others (none_runs none, refl)
   refused_on a (asked.GcStart percent) (refusals.Missing key) n (none, (unknown, others)) = absurd (unknown tt)
   refused_on a (asked.GcStart percent) (refusals.Damaged at why) n (none, (unknown, others)) = absurd (unknown tt)
   refused_on a (asked.GcStart percent) (refusals.Collecting phase) n (is, others) =
@@ -751,11 +762,13 @@ module _ (m : F) (r : G) (same : Forgets m r) where
   refused_same a step refusals.Memory n on = refused_on a step refusals.Memory n on
   refused_same a step refusal n (right, on) = let left = refused_on a step refusal n on in (left.0, (right_part a step right, left.1), left.2)
 
-  answered_same : (a : ℕ) (step : Asked (List ℕ)) (told : Result Done Refusal) (n : F) → Answers of_files a step told m n → Left (λ t. Answers of_roots a (asked_of step) told r t) n
+  answered_same : (a : ℕ) (step : Asked (List ℕ)) (told : Result Done Refusal) (n : F) → Answers of_files a step told m n
+      → Left (λ t. Answers of_roots a (asked_of step) told r t) n
   answered_same a step (Ok answer) n does = done_same a step answer n does
   answered_same a step (Err refusal) n refuses = refused_same a step refusal n refuses
 
-  state_same : (s : RunState (List ℕ)) (u : RunState Root) → SameState s u → (a : ℕ) (step : Asked (List ℕ)) (told : Result Done Refusal) (n : F) → ByState of_files s a step told m n → Left (λ t. ByState of_roots u a (asked_of step) told r t) n
+  state_same : (s : RunState (List ℕ)) (u : RunState Root) → SameState s u → (a : ℕ) (step : Asked (List ℕ)) (told : Result Done Refusal) (n : F)
+      → ByState of_files s a step told m n → Left (λ t. ByState of_roots u a (asked_of step) told r t) n
   state_same Running Running one a step told n by = answered_same a step told n by
   state_same Running (Stopped other stores) one a step told n by = absurd one
   state_same (Stopped None stores) Running one a step told n by = absurd one
@@ -765,7 +778,8 @@ module _ (m : F) (r : G) (same : Forgets m r) where
 
   -- ---- an opening
 
-  found_same : (s : RunState (List ℕ)) (u : RunState Root) (found : Found (List ℕ)) → SameState s u → MayBeFound of_files s m.now found → (other : Found Root) × SameNow found other
+  found_same : (s : RunState (List ℕ)) (u : RunState Root) (found : Found (List ℕ)) → SameState s u → MayBeFound of_files s m.now found
+      → (other : Found Root) × SameNow found other
   found_same Running u found one is = (r.now, subst (λ (x : Found (List ℕ)). SameNow x r.now) (sym is) same.now)
   found_same (Stopped None stores) u found one is = (r.now, subst (λ (x : Found (List ℕ)). SameNow x r.now) (sym is) same.now)
   found_same (Stopped (Some next) stores) u found one (inl is) = (r.now, subst (λ (x : Found (List ℕ)). SameNow x r.now) (sym is) same.now)

@@ -34,7 +34,8 @@ no_steps : (name given : List ℕ) (reply : ReplyValue) (ss : List Step) → ss 
 no_steps name given reply ss none = inl (subst AllOk (sym none) tt)
 
 -- one step that puts no name
-one_step : (name given : List ℕ) (reply : ReplyValue) (a : ℕ) (step : Asked (List ℕ)) (told : Result Done Refusal) (ss : List Step) → IsFine step → ss ≡ step_of of_files a step told ∷ [] → reply ≡ reply_of a told → Fit name given reply ss
+one_step : (name given : List ℕ) (reply : ReplyValue) (a : ℕ) (step : Asked (List ℕ)) (told : Result Done Refusal) (ss : List Step) → IsFine step
+    → ss ≡ step_of of_files a step told ∷ [] → reply ≡ reply_of a told → Fit name given reply ss
 one_step name given reply a step (Ok answer) ss fine is by = inl (subst AllOk (sym is) (fine, tt, tt))
 one_step name given reply a step (Err refusal) ss fine is by = inr (subst (Good name given) (sym is) (inl fine), none_after name reply refusal by)
 
@@ -78,12 +79,15 @@ finish_fit : (name given : List ℕ) (reply : ReplyValue) (ss : List Step) (d e 
 finish_fit name given reply ss d e (run, inl (admits, (s, moves, none, how))) = no_steps name given reply ss none
 finish_fit name given reply ss d e (run, inr (refusal, bars, is, none, sessions)) = no_steps name given reply ss none
 
-commit_line_good : (name given : List ℕ) (reply : ReplyValue) (ss : List Step) (d e : D) → Gives given true d → Line of_files (lines.Commit 0 name) reply ss d e → Good name given ss
+commit_line_good : (name given : List ℕ) (reply : ReplyValue) (ss : List Step) (d e : D) → Gives given true d → Line of_files (lines.Commit 0 name) reply ss d e
+    → Good name given ss
 commit_line_good name given reply ss d e gives (run, inl (admits, acts)) = commit_good name given reply ss d e gives acts
 commit_line_good name given reply ss d e gives (run, inr (refusal, bars, is, none, sessions)) = subst (Good name given) (sym none) tt
 
-either_fit : (name given : List ℕ) (line : LineValue) (reply : ReplyValue) (ss : List Step) (d e : D) → IsPush line ⊎ (line ≡ lines.Finish 0) → Line of_files line reply ss d e → Fit name given reply ss
-either_fit name given (lines.Push a digits) reply ss d e (inl is) line = push_line_fit name given digits reply ss d e (subst (λ (x : ℕ). Line of_files (lines.Push x digits) reply ss d e) is line)
+either_fit : (name given : List ℕ) (line : LineValue) (reply : ReplyValue) (ss : List Step) (d e : D) → IsPush line ⊎ (line ≡ lines.Finish 0) → Line of_files line reply ss d e
+    → Fit name given reply ss
+either_fit name given (lines.Push a digits) reply ss d e (inl is) line =
+    push_line_fit name given digits reply ss d e (subst (λ (x : ℕ). Line of_files (lines.Push x digits) reply ss d e) is line)
 either_fit name given line reply ss d e (inr is) made = finish_fit name given reply ss d e (subst (λ (l : LineValue). Line of_files l reply ss d e) is made)
 either_fit name given line reply ss d e (inl is) made = absurd is
 
@@ -97,7 +101,8 @@ module _ (name : List ℕ) (now : Found (List ℕ)) where
   Does one given last d mid ss = (Went now one.reply (given_after 0 one.line one.reply given) mid × Fit name last one.reply ss)
       ⊎ ((given_after 0 one.line one.reply given ≡ given) × Good name given ss × ((line : LineValue) → Follows (Ingest name) one.reply line → ⊥))
 
-  does : (reply : ReplyValue) (one : Replied) (given last : List ℕ) (d mid : D) (ss : List Step) → Stage now reply given d → Follows (Ingest name) reply one.line → Line of_files one.line one.reply ss d mid → Does one given last d mid ss
+  does : (reply : ReplyValue) (one : Replied) (given last : List ℕ) (d mid : D) (ss : List Step) → Stage now reply given d → Follows (Ingest name) reply one.line
+      → Line of_files one.line one.reply ss d mid → Does one given last d mid ss
   does (replies.Opened files) one given last d mid ss ready is line =
       let made : Line of_files (lines.Begin 0) one.reply ss d mid = subst (λ (l : LineValue). Line of_files l one.reply ss d mid) is line in
       inl (subst (λ (l : LineValue). Went now one.reply (given_after 0 l one.reply given) mid) (sym is) (begin_went now d mid ss one.reply given ready made), begin_fit name last one.reply ss d mid made)
@@ -112,24 +117,28 @@ module _ (name : List ℕ) (now : Found (List ℕ)) where
   does reply one given last d mid ss stage follows line = absurd follows
 
   -- no line comes after one
-  none_left : (given : List ℕ) (first later : List Step) (one : Replied) (more : List Replied) (mid e : D) → Good name given first → ((line : LineValue) → Follows (Ingest name) one.reply line → ⊥) → AllFollow (Ingest name) one more
+  none_left : (given : List ℕ) (first later : List Step) (one : Replied) (more : List Replied) (mid e : D) → Good name given first
+      → ((line : LineValue) → Follows (Ingest name) one.reply line → ⊥) → AllFollow (Ingest name) one more
       → Lines of_files more later mid e → Good name given (first ++ later)
   none_left given first later one [] mid e good none follow (is, same) =
       subst (λ (ys : List Step). Good name given (first ++ ys)) (sym is) (subst (Good name given) (sym (append_none first)) good)
   none_left given first later one (x ∷ xs) mid e good none (ends, follows, rest) ran = absurd (none x.line follows)
 
   -- the given file stays where no line is left
-  given_stays : (given : List ℕ) (one : Replied) (more : List Replied) → ((line : LineValue) → Follows (Ingest name) one.reply line → ⊥) → AllFollow (Ingest name) one more → given_after 0 one.line one.reply given ≡ given → given_by 0 given (one ∷ more) ≡ given
+  given_stays : (given : List ℕ) (one : Replied) (more : List Replied) → ((line : LineValue) → Follows (Ingest name) one.reply line → ⊥) → AllFollow (Ingest name) one more
+      → given_after 0 one.line one.reply given ≡ given → given_by 0 given (one ∷ more) ≡ given
   given_stays given one [] none follow same = same
   given_stays given one (x ∷ xs) none (ends, follows, rest) same = absurd (none x.line follows)
 
-  pub good_all : (rs : List Replied) (prev : Replied) (given : List ℕ) (d e : D) (ss : List Step) → Went now prev.reply given d → AllFollow (Ingest name) prev rs → Lines of_files rs ss d e → Good name (given_by 0 given rs) ss
+  pub good_all : (rs : List Replied) (prev : Replied) (given : List ℕ) (d e : D) (ss : List Step) → Went now prev.reply given d → AllFollow (Ingest name) prev rs
+      → Lines of_files rs ss d e → Good name (given_by 0 given rs) ss
   good_all [] prev given d e ss went follow (none, is) = subst (Good name given) (sym none) tt
   good_all (one ∷ more) prev given d e ss went (ends, follows, rest) (first, later, mid, is, line, ran) =
       subst (Good name (given_by 0 given (one ∷ more))) (sym is) (by (does prev.reply one given (given_by 0 given (one ∷ more)) d mid first went.stage follows line)
       (λ w. good_all more one (given_after 0 one.line one.reply given) mid e later w rest ran))
     where
-      by : Does one given (given_by 0 given (one ∷ more)) d mid first → (Went now one.reply (given_after 0 one.line one.reply given) mid → Good name (given_by 0 given (one ∷ more)) later)
+      by : Does one given (given_by 0 given (one ∷ more)) d mid first
+          → (Went now one.reply (given_after 0 one.line one.reply given) mid → Good name (given_by 0 given (one ∷ more)) later)
           → Good name (given_by 0 given (one ∷ more)) (first ++ later)
       by (inl (w, inl ok)) on = ok_good name (given_by 0 given (one ∷ more)) first later ok (on w)
       by (inl (w, inr fit)) on = none_left (given_by 0 given (one ∷ more)) first later one more mid e fit.0 fit.1 rest ran
@@ -137,7 +146,8 @@ module _ (name : List ℕ) (now : Found (List ℕ)) where
           subst (λ (g : List ℕ). Good name g (first ++ later)) (sym (given_stays given one more none rest same)) (none_left given first later one more mid e good none rest ran)
 
 -- all lines, the opening with them
-pub all_good : (name : List ℕ) (rs : List Replied) (ss : List Step) (m : F) (e : D) → m.state ≡ Running → AreLinesOf (Ingest name) rs → Lines of_files rs ss (desk m) e → Good name (given_by 0 [] rs) ss
+pub all_good : (name : List ℕ) (rs : List Replied) (ss : List Step) (m : F) (e : D) → m.state ≡ Running → AreLinesOf (Ingest name) rs → Lines of_files rs ss (desk m) e
+    → Good name (given_by 0 [] rs) ss
 all_good name [] ss m e runs lines_are (none, is) = subst (Good name []) (sym none) tt
 all_good name (one ∷ more) ss m e runs (first, follow) (made, later, mid, is, line, ran) =
     let opened : Line of_files lines.Reopen one.reply made (desk m) mid = subst (λ (l : LineValue). Line of_files l one.reply made (desk m) mid) first line in
@@ -151,7 +161,8 @@ all_good name (one ∷ more) ss m e runs (first, follow) (made, later, mid, is, 
     let fit : Fit name (given_by 0 [] more) one.reply made = one_step name (given_by 0 [] more) one.reply a asked.Reopen told made tt step_is opened.1.0.1.2 in
     subst (λ (g : List ℕ). Good name (given_by 0 g more) ss) (sym given_is) (subst (Good name (given_by 0 [] more)) (sym is) (by mid e made later ran follow rest fit))
   where
-    by : (mid e : D) (made later : List Step) → Lines of_files more later mid e → AllFollow (Ingest name) one more → Good name (given_by 0 [] more) later → Fit name (given_by 0 [] more) one.reply made → Good name (given_by 0 [] more) (made ++ later)
+    by : (mid e : D) (made later : List Step) → Lines of_files more later mid e → AllFollow (Ingest name) one more → Good name (given_by 0 [] more) later
+        → Fit name (given_by 0 [] more) one.reply made → Good name (given_by 0 [] more) (made ++ later)
     by mid e made later ran follow rest (inl ok) = ok_good name (given_by 0 [] more) made later ok rest
     by mid e made later ran follow rest (inr fit) = none_left name m.now (given_by 0 [] more) made later one more mid e fit.0 fit.1 follow ran
 

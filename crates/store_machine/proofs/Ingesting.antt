@@ -64,11 +64,14 @@ pub record Went (now : Found (List ℕ)) (reply : ReplyValue) (given : List ℕ)
   pub stage : Stage now reply given e
   pub undone : (name : List ℕ) → IsDone (Ingest name) reply → ⊥
 
-refused_went : (now : Found (List ℕ)) (refusal : Refusal) (reply : ReplyValue) (given : List ℕ) (d e : D) → reply ≡ replies.Refused refusal → d.machine.now ≡ now → Quiet d.machine e.machine → Went now reply given e
-refused_went now refusal reply given d e is same quiet = record { quiet = (quiet.now ∙ same, quiet.state); stage = subst (λ (r : ReplyValue). Stage now r given e) (sym is) tt; undone = λ name done. subst (IsDone (Ingest name)) is done }
+refused_went : (now : Found (List ℕ)) (refusal : Refusal) (reply : ReplyValue) (given : List ℕ) (d e : D) → reply ≡ replies.Refused refusal → d.machine.now ≡ now
+    → Quiet d.machine e.machine → Went now reply given e
+refused_went now refusal reply given d e is same quiet =
+    record { quiet = (quiet.now ∙ same, quiet.state); stage = subst (λ (r : ReplyValue). Stage now r given e) (sym is) tt; undone = λ name done. subst (IsDone (Ingest name)) is done }
 
 none_made : (d e : D) (ss : List Step) → d.machine.state ≡ Running → ss ≡ [] → Run of_files ss d.machine e.machine → Goes d.machine e.machine
-none_made d e ss runs is run = let same = subst (λ (xs : List Step). Run of_files xs d.machine e.machine) is run in record { now = ap (λ (x : F). x.now) same; state = ap (λ (x : F). x.state) same ∙ runs }
+none_made d e ss runs is run =
+    let same = subst (λ (xs : List Step). Run of_files xs d.machine e.machine) is run in record { now = ap (λ (x : F). x.now) same; state = ap (λ (x : F). x.state) same ∙ runs }
 
 -- ---- sessions
 
@@ -112,7 +115,8 @@ module _ (now : Found (List ℕ)) (d e : D) (ss : List Step) (run : Run of_files
             let turned = turns_go 0 ss s t d.machine e.machine ready.runs turns run in
             let own : s ≡ gives.session = same_session s gives.session (sym was ∙ gives.is) in
             let after : Session = record t { given = t.given ++ bytes } in
-            let sessions_are : e.sessions ≡ slice_set d.sessions 0 (Some after) = sessions ∙ ap (λ (r : ReplyValue). slice_set d.sessions 0 (Some (unless_refused r after t))) reply_is in
+            let sessions_are : e.sessions ≡ slice_set d.sessions 0 (Some after) =
+            sessions ∙ ap (λ (r : ReplyValue). slice_set d.sessions 0 (Some (unless_refused r after t))) reply_is in
             record {
               quiet = (turned.goes.now ∙ ready.same, running_sure e.machine.state turned.goes.state);
               stage = subst (λ (r : ReplyValue). Stage now r given_now e) (sym reply_is) (
@@ -128,7 +132,8 @@ module _ (now : Found (List ℕ)) (d e : D) (ss : List Step) (run : Run of_files
             },
       )
 
-  push_line : (digits given : List ℕ) (reply : ReplyValue) → Gives given false d → Pushes of_files 0 (pushed_bytes digits) reply ss d e → Went now reply (given_after 0 (lines.Push 0 digits) reply given) e
+  push_line : (digits given : List ℕ) (reply : ReplyValue) → Gives given false d → Pushes of_files 0 (pushed_bytes digits) reply ss d e
+      → Went now reply (given_after 0 (lines.Push 0 digits) reply given) e
   push_line digits given reply gives pushes = by (pushed_went (pushed_bytes digits) given reply gives pushes)
     where
       by : ((count : ℕ) × (reply ≡ replies.Pushed 0 count) × ((given_now : List ℕ) → given_now ≡ given ++ pushed_bytes digits → Went now reply given_now e)) ⊎ ((given_now : List ℕ) → Went now reply given_now e)
@@ -170,11 +175,13 @@ module _ (now : Found (List ℕ)) (d e : D) (ss : List Step) (run : Run of_files
       (run_one (step_of of_files 0 asked.Begin (Ok answer)) ss d.machine e.machine is run))
     where
       begun_ok : (answer : Done) (reply : ReplyValue) → e.sessions ≡ with_session of_files 0 (unless_refused reply (Some new_session) (session_of of_files d 0)) d
-          → reply ≡ reply_of 0 (Ok answer) → (given : List ℕ) → Does of_files 0 asked.Begin answer d.machine e.machine → Went now reply (given_after 0 (lines.Begin 0) reply given) e
+          → reply ≡ reply_of 0 (Ok answer) → (given : List ℕ) → Does of_files 0 asked.Begin answer d.machine e.machine
+          → Went now reply (given_after 0 (lines.Begin 0) reply given) e
       begun_ok done.Begun reply sessions reply_is given (idle, others) =
           let own : e.machine.now ≡ now = ap (λ (x : F). x.now) others ∙ ready.same in
           let runs : e.machine.state ≡ Running = ap (λ (x : F). x.state) others ∙ ready.runs in
-          let sessions_are : e.sessions ≡ slice_set d.sessions 0 (Some new_session) = sessions ∙ ap (λ (r : ReplyValue). slice_set d.sessions 0 (unless_refused r (Some new_session) (session_of of_files d 0))) reply_is in
+          let sessions_are : e.sessions ≡ slice_set d.sessions 0 (Some new_session) =
+          sessions ∙ ap (λ (r : ReplyValue). slice_set d.sessions 0 (unless_refused r (Some new_session) (session_of of_files d 0))) reply_is in
           record {
             quiet = (own, running_sure e.machine.state runs);
             stage = subst (λ (r : ReplyValue). Stage now r (given_after 0 (lines.Begin 0) r given) e) (sym reply_is) (
@@ -209,7 +216,8 @@ module _ (now : Found (List ℕ)) (d e : D) (ss : List Step) (run : Run of_files
       by (Stopped None stores) is x may = may
       by (Stopped (Some other) stores) is x may = absurd is
 
-  stopped_quiet : (a : ℕ) (s t : Session) (reply : ReplyValue) → TurnsStop of_files a s reply ss t → (refusal : Refusal) × (reply ≡ replies.Refused refusal) × Quiet d.machine e.machine
+  stopped_quiet : (a : ℕ) (s t : Session) (reply : ReplyValue) → TurnsStop of_files a s reply ss t
+      → (refusal : Refusal) × (reply ≡ replies.Refused refusal) × Quiet d.machine e.machine
   stopped_quiet a s t reply (made, turns, (refusal, reply_is, inl (memory, is))) =
       let turned = turns_go a made s t d.machine e.machine ready.runs turns (subst (λ (xs : List Step). Run of_files xs d.machine e.machine) is run) in
       (refusal, reply_is, quiet_of d.machine e.machine turned.goes)
@@ -232,9 +240,11 @@ module _ (now : Found (List ℕ)) (d e : D) (ss : List Step) (run : Run of_files
     put_refused refusal is quiet = quiet_put name given reply refusal is (record { now = quiet.now ∙ goes.now; state = quiet.state })
 
     at_rest : (refusal : Refusal) → reply ≡ replies.Refused refusal → e.machine ≡ mid → Put name given reply
-    at_rest refusal is others = put_refused refusal is (record { now = ap (λ (x : F). x.now) others; state = running_sure e.machine.state (ap (λ (x : F). x.state) others ∙ goes.state) })
+    at_rest refusal is others =
+        put_refused refusal is (record { now = ap (λ (x : F). x.now) others; state = running_sure e.machine.state (ap (λ (x : F). x.state) others ∙ goes.state) })
 
-    in_doubt : (refusal : Refusal) → reply ≡ replies.Refused refusal → (stores : List Store) → e.machine ≡ record mid { state = Stopped (Some (with_name of_files name file mid.now)) stores } → Put name given reply
+    in_doubt : (refusal : Refusal) → reply ≡ replies.Refused refusal → (stores : List Store)
+        → e.machine ≡ record mid { state = Stopped (Some (with_name of_files name file mid.now)) stores } → Put name given reply
     in_doubt refusal is stores others = record {
       found = λ x may. by x (subst (λ (m : F). MayBeFound of_files m.state m.now x) others may);
       last = λ line follows. subst (λ (r : ReplyValue). Follows (Ingest name) r line) is follows;
@@ -295,28 +305,37 @@ plain lines.Reopen reply ss d e is other = absurd (other refl)
 plain line reply ss d e (run, inl (admits, acts)) other = (run, inl acts)
 plain line reply ss d e (run, inr (refusal, bars, reply_is, none, sessions)) other = (run, inr (refusal, reply_is, none))
 
-barred : (now : Found (List ℕ)) (d e : D) (ss : List Step) (reply : ReplyValue) (given : List ℕ) (refusal : Refusal) → Run of_files ss d.machine e.machine → Ready now d → reply ≡ replies.Refused refusal → ss ≡ [] → Went now reply given e
-barred now d e ss reply given refusal run ready is none = refused_went now refusal reply given d e is ready.same (quiet_of d.machine e.machine (none_made d e ss ready.runs none run))
+barred : (now : Found (List ℕ)) (d e : D) (ss : List Step) (reply : ReplyValue) (given : List ℕ) (refusal : Refusal) → Run of_files ss d.machine e.machine → Ready now d
+    → reply ≡ replies.Refused refusal → ss ≡ [] → Went now reply given e
+barred now d e ss reply given refusal run ready is none =
+    refused_went now refusal reply given d e is ready.same (quiet_of d.machine e.machine (none_made d e ss ready.runs none run))
 
-pub begin_went : (now : Found (List ℕ)) (d e : D) (ss : List Step) (reply : ReplyValue) (given : List ℕ) → Ready now d → Line of_files (lines.Begin 0) reply ss d e → Went now reply (given_after 0 (lines.Begin 0) reply given) e
+pub begin_went : (now : Found (List ℕ)) (d e : D) (ss : List Step) (reply : ReplyValue) (given : List ℕ) → Ready now d → Line of_files (lines.Begin 0) reply ss d e
+    → Went now reply (given_after 0 (lines.Begin 0) reply given) e
 begin_went now d e ss reply given ready (run, inl (admits, acts)) = begin_line now d e ss run ready given reply acts
-begin_went now d e ss reply given ready (run, inr (refusal, bars, is, none, sessions)) = barred now d e ss reply (given_after 0 (lines.Begin 0) reply given) refusal run ready is none
+begin_went now d e ss reply given ready (run, inr (refusal, bars, is, none, sessions)) =
+    barred now d e ss reply (given_after 0 (lines.Begin 0) reply given) refusal run ready is none
 
-push_went : (now : Found (List ℕ)) (d e : D) (ss : List Step) (reply : ReplyValue) (digits given : List ℕ) → Ready now d → Gives given false d → Line of_files (lines.Push 0 digits) reply ss d e → Went now reply (given_after 0 (lines.Push 0 digits) reply given) e
+push_went : (now : Found (List ℕ)) (d e : D) (ss : List Step) (reply : ReplyValue) (digits given : List ℕ) → Ready now d → Gives given false d
+    → Line of_files (lines.Push 0 digits) reply ss d e → Went now reply (given_after 0 (lines.Push 0 digits) reply given) e
 push_went now d e ss reply digits given ready gives (run, inl (admits, acts)) = push_line now d e ss run ready digits given reply gives acts
-push_went now d e ss reply digits given ready gives (run, inr (refusal, bars, is, none, sessions)) = barred now d e ss reply (given_after 0 (lines.Push 0 digits) reply given) refusal run ready is none
+push_went now d e ss reply digits given ready gives (run, inr (refusal, bars, is, none, sessions)) =
+    barred now d e ss reply (given_after 0 (lines.Push 0 digits) reply given) refusal run ready is none
 
-finish_went : (now : Found (List ℕ)) (d e : D) (ss : List Step) (reply : ReplyValue) (given : List ℕ) → Ready now d → Gives given false d → Line of_files (lines.Finish 0) reply ss d e → Went now reply given e
+finish_went : (now : Found (List ℕ)) (d e : D) (ss : List Step) (reply : ReplyValue) (given : List ℕ) → Ready now d → Gives given false d
+    → Line of_files (lines.Finish 0) reply ss d e → Went now reply given e
 finish_went now d e ss reply given ready gives (run, inl (admits, acts)) = finish_line now d e ss run ready given reply gives acts
 finish_went now d e ss reply given ready gives (run, inr (refusal, bars, is, none, sessions)) = barred now d e ss reply given refusal run ready is none
 
-pub commit_put : (now : Found (List ℕ)) (d e : D) (ss : List Step) (reply : ReplyValue) (name given : List ℕ) → (ready : Ready now d) → Gives given true d → (line : Line of_files (lines.Commit 0 name) reply ss d e) → Put now d e ss line.0 ready name given reply
+pub commit_put : (now : Found (List ℕ)) (d e : D) (ss : List Step) (reply : ReplyValue) (name given : List ℕ) → (ready : Ready now d) → Gives given true d
+    → (line : Line of_files (lines.Commit 0 name) reply ss d e) → Put now d e ss line.0 ready name given reply
 commit_put now d e ss reply name given ready gives (run, inl (admits, acts)) = commit_line now d e ss run ready name given reply gives acts
 commit_put now d e ss reply name given ready gives (run, inr (refusal, bars, is, none, sessions)) =
     quiet_put now d e ss run ready name given reply refusal is (quiet_of d.machine e.machine (none_made d e ss ready.runs none run))
 
 -- a push, or the end
-pub pushes : (now : Found (List ℕ)) (line : LineValue) (reply : ReplyValue) (ss : List Step) (d e : D) (given : List ℕ) → Ready now d → Gives given false d → IsPush line ⊎ (line ≡ lines.Finish 0) → Line of_files line reply ss d e → Went now reply (given_after 0 line reply given) e
+pub pushes : (now : Found (List ℕ)) (line : LineValue) (reply : ReplyValue) (ss : List Step) (d e : D) (given : List ℕ) → Ready now d → Gives given false d
+    → IsPush line ⊎ (line ≡ lines.Finish 0) → Line of_files line reply ss d e → Went now reply (given_after 0 line reply given) e
 pushes now (lines.Push a digits) reply ss d e given ready gives (inl is) line =
     subst (λ (l : LineValue). Went now reply (given_after 0 l reply given) e) (ap (λ (x : ℕ). lines.Push x digits) (sym is))
     (push_went now d e ss reply digits given ready gives (subst (λ (x : ℕ). Line of_files (lines.Push x digits) reply ss d e) is line))
@@ -344,7 +363,8 @@ module _ (name : List ℕ) (now : Found (List ℕ)) where
   Next one given d mid ss = Went now one.reply (given_after 0 one.line one.reply given) mid ⊎ ((given_after 0 one.line one.reply given ≡ given)
       × ((run : Run of_files ss d.machine mid.machine) × (ready : Ready now d) × Put now d mid ss run ready name given one.reply))
 
-  pub next : (reply : ReplyValue) (one : Replied) (given : List ℕ) (d mid : D) (ss : List Step) → Stage now reply given d → Follows (Ingest name) reply one.line → Line of_files one.line one.reply ss d mid → Next one given d mid ss
+  pub next : (reply : ReplyValue) (one : Replied) (given : List ℕ) (d mid : D) (ss : List Step) → Stage now reply given d → Follows (Ingest name) reply one.line
+      → Line of_files one.line one.reply ss d mid → Next one given d mid ss
   next (replies.Opened files) one given d mid ss ready is line =
       inl (subst (λ (l : LineValue). Went now one.reply (given_after 0 l one.reply given) mid) (sym is) (begin_went now d mid ss one.reply given ready (subst (λ (l : LineValue). Line of_files l one.reply ss d mid) is line)))
   next (replies.Begun a) one given d mid ss stage follows line = inl (pushes now one.line one.reply ss d mid given stage.0 stage.1 follows line)
@@ -355,7 +375,8 @@ module _ (name : List ℕ) (now : Found (List ℕ)) where
   next reply one given d mid ss stage follows line = absurd follows
 
   -- no line comes after one that put the name, or was refused
-  last_one : (given : List ℕ) (one : Replied) (more : List Replied) (d mid e : D) (ss later : List Step) (run : Run of_files ss d.machine mid.machine) (ready : Ready now d) → Put now d mid ss run ready name given one.reply
+  last_one : (given : List ℕ) (one : Replied) (more : List Replied) (d mid e : D) (ss later : List Step) (run : Run of_files ss d.machine mid.machine) (ready : Ready now d)
+      → Put now d mid ss run ready name given one.reply
       → AllFollow (Ingest name) one more → Lines of_files more later mid e → (more ≡ []) × End given (one ∷ []) e.machine
   last_one given one [] d mid e ss later run ready put follow (none, is) = (
     refl,
@@ -372,18 +393,21 @@ module _ (name : List ℕ) (now : Found (List ℕ)) where
 
   -- what is so of the lines that are left is so of all, where the first was not done
   all_of : (given : List ℕ) (one : Replied) (more : List Replied) (n : F) → (IsDone (Ingest name) one.reply → ⊥) → End given more n → End given (one ∷ more) n
-  all_of given one [] n undone end = record { found = end.found; done = λ d. absurd (undone (subst (λ (x : Replied). IsDone (Ingest name) x.reply) (sym (one_of one d.0 d.1)) d.2)) }
+  all_of given one [] n undone end =
+      record { found = end.found; done = λ d. absurd (undone (subst (λ (x : Replied). IsDone (Ingest name) x.reply) (sym (one_of one d.0 d.1)) d.2)) }
     where
       one_of : (a b : Replied) → Some a ≡ Some b → a ≡ b
       one_of a b e = cc
   all_of given one (x ∷ xs) n undone end = record { found = end.found; done = end.done }
 
-  all : (rs : List Replied) (prev : Replied) (given : List ℕ) (d e : D) (ss : List Step) → Went now prev.reply given d → AllFollow (Ingest name) prev rs → Lines of_files rs ss d e → End (given_by 0 given rs) rs e.machine
+  all : (rs : List Replied) (prev : Replied) (given : List ℕ) (d e : D) (ss : List Step) → Went now prev.reply given d → AllFollow (Ingest name) prev rs
+      → Lines of_files rs ss d e → End (given_by 0 given rs) rs e.machine
   all [] prev given d e ss went follow ran = no_more given prev d e ss went ran
   all (one ∷ more) prev given d e ss went (ends, follows, rest) (first, later, mid, is, line, ran) =
       by (next prev.reply one given d mid first went.stage follows line) (λ w. all more one (given_after 0 one.line one.reply given) mid e later w rest ran)
     where
-      by : Next one given d mid first → (Went now one.reply (given_after 0 one.line one.reply given) mid → End (given_by 0 (given_after 0 one.line one.reply given) more) more e.machine)
+      by : Next one given d mid first
+          → (Went now one.reply (given_after 0 one.line one.reply given) mid → End (given_by 0 (given_after 0 one.line one.reply given) more) more e.machine)
           → End (given_by 0 given (one ∷ more)) (one ∷ more) e.machine
       by (inl w) on = all_of (given_by 0 given (one ∷ more)) one more e.machine (w.undone name) (on w)
       by (inr (same, (run, ready, put))) on =
@@ -392,7 +416,8 @@ module _ (name : List ℕ) (now : Found (List ℕ)) where
 
 -- ---- the opening
 
-pub opened_went : (m : F) (mid : D) (ss : List Step) (reply : ReplyValue) (told : Result Done Refusal) → m.state ≡ Running → reply ≡ reply_of 0 told → Reopens of_files told m mid.machine
+pub opened_went : (m : F) (mid : D) (ss : List Step) (reply : ReplyValue) (told : Result Done Refusal) → m.state ≡ Running → reply ≡ reply_of 0 told
+    → Reopens of_files told m mid.machine
     → mid.sessions ≡ unless_refused reply (all_none (desk m).sessions) (desk m).sessions → Went m.now reply [] mid
 opened_went m mid ss reply (Err refusal) runs is (may, inl others) sessions =
     refused_went m.now refusal reply [] (desk m) mid is refl (record { now = ap (λ (x : F). x.now) others; state = running_sure mid.machine.state (ap (λ (x : F). x.state) others ∙ runs) })
@@ -405,7 +430,8 @@ opened_went m mid ss reply (Ok (done.Reopened files)) runs is opens sessions =
     let sessions_are : mid.sessions ≡ all_none (desk m).sessions = sessions ∙ ap (λ (r : ReplyValue). unless_refused r (all_none (desk m).sessions) (desk m).sessions) is in
     record {
       quiet = (now_is, running_sure mid.machine.state state_is);
-      stage = subst (λ (r : ReplyValue). Stage m.now r [] mid) (sym is) (record { same = now_is; runs = state_is; some = subst (λ (l : List (Option Session)). 0 < length l) (sym sessions_are) (omega arith) });
+      stage =
+          subst (λ (r : ReplyValue). Stage m.now r [] mid) (sym is) (record { same = now_is; runs = state_is; some = subst (λ (l : List (Option Session)). 0 < length l) (sym sessions_are) (omega arith) });
       undone = λ name done. subst (IsDone (Ingest name)) is done;
     }
 opened_went m mid ss reply (Ok answer) runs is opens sessions = absurd opens

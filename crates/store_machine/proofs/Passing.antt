@@ -93,14 +93,16 @@ module _ (name given : List ℕ) (now : Found (List ℕ)) where
   }
   reopen_goes answer m n runs o = absurd o
 
-  fine_quiet : (a : ℕ) (step : Asked (List ℕ)) (told : Result Done Refusal) (m n : F) → IsFine step → m.state ≡ Running → Legal of_files (record { actor = a; asked = step; answer = told }) m n → Quiet m n
+  fine_quiet : (a : ℕ) (step : Asked (List ℕ)) (told : Result Done Refusal) (m n : F) → IsFine step → m.state ≡ Running
+      → Legal of_files (record { actor = a; asked = step; answer = told }) m n → Quiet m n
   fine_quiet a asked.Begin told m n fine runs legal = step_quiet a asked.Begin told m n tt runs legal
   fine_quiet a (asked.Claim seg) told m n fine runs legal = step_quiet a (asked.Claim seg) told m n tt runs legal
   fine_quiet a (asked.Seal filled) told m n fine runs legal = step_quiet a (asked.Seal filled) told m n tt runs legal
   fine_quiet a asked.Reopen told m n fine runs legal = reopen_quiet told m n runs legal
   fine_quiet a step told m n fine runs legal = absurd fine
 
-  fine_goes : (a : ℕ) (step : Asked (List ℕ)) (told : Result Done Refusal) (m n : F) → IsFine step → IsTold told → m.state ≡ Running → Legal of_files (record { actor = a; asked = step; answer = told }) m n → Goes m n
+  fine_goes : (a : ℕ) (step : Asked (List ℕ)) (told : Result Done Refusal) (m n : F) → IsFine step → IsTold told → m.state ≡ Running
+      → Legal of_files (record { actor = a; asked = step; answer = told }) m n → Goes m n
   fine_goes a asked.Begin (Ok answer) m n fine ok runs legal = step_done a asked.Begin answer m n tt runs legal
   fine_goes a (asked.Claim seg) (Ok answer) m n fine ok runs legal = step_done a (asked.Claim seg) answer m n tt runs legal
   fine_goes a (asked.Seal filled) (Ok answer) m n fine ok runs legal = step_done a (asked.Seal filled) answer m n tt runs legal
@@ -115,7 +117,8 @@ module _ (name given : List ℕ) (now : Found (List ℕ)) where
   put_is : (m : F) → m.now ≡ now → with_name of_files name given m.now ≡ with_name of_files name given now
   put_is m same = ap (λ (y : Found (List ℕ)). with_name of_files name given y) same
 
-  unput : (a : ℕ) (refusal : Refusal) (m n : F) → m.now ≡ now → m.state ≡ Running → RefusesCommit of_files a name given refusal m n → (x : Found (List ℕ)) → MayBeFound of_files n.state n.now x → Either x
+  unput : (a : ℕ) (refusal : Refusal) (m n : F) → m.now ≡ now → m.state ≡ Running → RefusesCommit of_files a name given refusal m n → (x : Found (List ℕ))
+      → MayBeFound of_files n.state n.now x → Either x
   unput a refusals.Memory m n same runs others = still m n same runs others
   unput a refusals.BadName m n same runs (bad, others) = still m n same runs others
   unput a refusals.TooMany m n same runs (good, none, many, others) = still m n same runs others
@@ -129,7 +132,8 @@ module _ (name given : List ℕ) (now : Found (List ℕ)) where
       in_doubt x (inr is) = inr (is ∙ put_is m same)
   unput a refusal m n same runs refuses = absurd refuses
 
-  commit_found : (a : ℕ) (told : Result Done Refusal) (m n : F) → m.now ≡ now → m.state ≡ Running → Answers of_files a (asked.Commit name given) told m n → (x : Found (List ℕ)) → MayBeFound of_files n.state n.now x → Either x
+  commit_found : (a : ℕ) (told : Result Done Refusal) (m n : F) → m.now ≡ now → m.state ≡ Running → Answers of_files a (asked.Commit name given) told m n
+      → (x : Found (List ℕ)) → MayBeFound of_files n.state n.now x → Either x
   commit_found a (Ok (done.Committed sequence)) m n same runs does x may =
       inr (subst (λ (st : RunState (List ℕ)). MayBeFound of_files st n.now x) (ap (λ (y : F). y.state) does.others ∙ runs) may ∙ ap (λ (y : F). y.now) does.others ∙ put_is m same)
   commit_found a (Ok answer) m n same runs does x may = absurd does
@@ -137,14 +141,16 @@ module _ (name given : List ℕ) (now : Found (List ℕ)) where
   commit_found a (Err refusals.Memory) m n same runs on x found = unput a refusals.Memory m n same runs on x found
   commit_found a (Err refusal) m n same runs (right, on) x found = unput a refusal m n same runs on x found
 
-  last_found : (s : Step) (m n : F) → m.now ≡ now → m.state ≡ Running → IsFine s.asked ⊎ (s.asked ≡ asked.Commit name given) → Legal of_files s m n → (x : Found (List ℕ)) → MayBeFound of_files n.state n.now x → Either x
+  last_found : (s : Step) (m n : F) → m.now ≡ now → m.state ≡ Running → IsFine s.asked ⊎ (s.asked ≡ asked.Commit name given) → Legal of_files s m n → (x : Found (List ℕ))
+      → MayBeFound of_files n.state n.now x → Either x
   last_found s m n same runs (inl fine) legal = quiet_found m n same (fine_quiet s.actor s.asked s.answer m n fine runs legal)
   last_found s m n same runs (inr is) legal =
       commit_found s.actor s.answer m n same runs (subst (λ (st : RunState (List ℕ)). ByState of_files st s.actor (asked.Commit name given) s.answer m n) runs
       (subst (λ (step : Asked (List ℕ)). Legal of_files (record { actor = s.actor; asked = step; answer = s.answer }) m n) is legal))
 
   -- at each moment of a run of such steps
-  pub passes : (first : ℕ) (xs : List Step) (m n : F) (run : Run of_files xs m n) → Good name given xs → m.now ≡ now → m.state ≡ Running → (x : Found (List ℕ)) → IsPassedFrom of_files first xs m n run x → Either x
+  pub passes : (first : ℕ) (xs : List Step) (m n : F) (run : Run of_files xs m n) → Good name given xs → m.now ≡ now → m.state ≡ Running → (x : Found (List ℕ))
+      → IsPassedFrom of_files first xs m n run x → Either x
   passes first [] m n run good same runs x (later, may) = by_state m same m.state (running_sure m.state runs) x may
   passes first (s ∷ []) m n run good same runs x (inl (later, may)) = by_state m same m.state (running_sure m.state runs) x may
   passes first (s ∷ []) m n run good same runs x (inr (later, may)) = last_found s m run.0 same runs good run.1.0 x may

@@ -102,23 +102,27 @@ refused_rests a step refusal m n quiet runs (right, on) = on_rests a step refusa
 
 -- ---- a step of a machine that runs
 
-answers : (a : ℕ) (step : Asked (List ℕ)) (told : Result Done Refusal) (m n : F) → IsQuiet step → m.state ≡ Running → ByState of_files m.state a step told m n → Answers of_files a step told m n
+answers : (a : ℕ) (step : Asked (List ℕ)) (told : Result Done Refusal) (m n : F) → IsQuiet step → m.state ≡ Running → ByState of_files m.state a step told m n
+    → Answers of_files a step told m n
 answers a step told m n quiet runs by = subst (λ (s : RunState (List ℕ)). ByState of_files s a step told m n) runs by
 
-by_of : (a : ℕ) (step : Asked (List ℕ)) (told : Result Done Refusal) (m n : F) → IsQuiet step → Legal of_files (record { actor = a; asked = step; answer = told }) m n → ByState of_files m.state a step told m n
+by_of : (a : ℕ) (step : Asked (List ℕ)) (told : Result Done Refusal) (m n : F) → IsQuiet step → Legal of_files (record { actor = a; asked = step; answer = told }) m n
+    → ByState of_files m.state a step told m n
 by_of a asked.Begin told m n quiet legal = legal
 by_of a (asked.Claim seg) told m n quiet legal = legal
 by_of a (asked.Seal filled) told m n quiet legal = legal
 by_of a step told m n quiet legal = absurd quiet
 
-pub step_done : (a : ℕ) (step : Asked (List ℕ)) (answer : Done) (m n : F) → IsQuiet step → m.state ≡ Running → Legal of_files (record { actor = a; asked = step; answer = Ok answer }) m n → Goes m n
+pub step_done : (a : ℕ) (step : Asked (List ℕ)) (answer : Done) (m n : F) → IsQuiet step → m.state ≡ Running
+    → Legal of_files (record { actor = a; asked = step; answer = Ok answer }) m n → Goes m n
 step_done a step answer m n quiet runs legal = does_go a step answer m n quiet runs (answers a step (Ok answer) m n quiet runs (by_of a step (Ok answer) m n quiet legal))
 
 quiet_by : (a : ℕ) (step : Asked (List ℕ)) (told : Result Done Refusal) (m n : F) → IsQuiet step → m.state ≡ Running → Answers of_files a step told m n → Quiet m n
 quiet_by a step (Ok answer) m n quiet runs does = quiet_of m n (does_go a step answer m n quiet runs does)
 quiet_by a step (Err refusal) m n quiet runs refuses = refused_rests a step refusal m n quiet runs refuses
 
-pub step_quiet : (a : ℕ) (step : Asked (List ℕ)) (told : Result Done Refusal) (m n : F) → IsQuiet step → m.state ≡ Running → Legal of_files (record { actor = a; asked = step; answer = told }) m n → Quiet m n
+pub step_quiet : (a : ℕ) (step : Asked (List ℕ)) (told : Result Done Refusal) (m n : F) → IsQuiet step → m.state ≡ Running
+    → Legal of_files (record { actor = a; asked = step; answer = told }) m n → Quiet m n
 step_quiet a step told m n quiet runs legal = quiet_by a step told m n quiet runs (answers a step told m n quiet runs (by_of a step told m n quiet legal))
 
 -- ---- turns
@@ -148,6 +152,7 @@ pub turns_go : (a : ℕ) (xs : List Step) (s t : Session) (m n : F) → m.state 
 turns_go a [] s t m n runs is run = record { goes = stays m n runs run; given = ap (λ (x : Session). x.given) is; ended = ap (λ (x : Session). x.ended) is }
 turns_go a (x ∷ xs) s t m n runs (actor, due, (answer, told, more)) (mid, (legal, run)) =
     let d = told_ok x.answer answer told in
-    let one : Goes m mid = step_done x.actor x.asked d.0 m mid (due_is_quiet s x.asked due) runs (subst (λ (r : Result Done Refusal). Legal of_files (record { actor = x.actor; asked = x.asked; answer = r }) m mid) d.1 legal) in
+    let one : Goes m mid =
+    step_done x.actor x.asked d.0 m mid (due_is_quiet s x.asked due) runs (subst (λ (r : Result Done Refusal). Legal of_files (record { actor = x.actor; asked = x.asked; answer = r }) m mid) d.1 legal) in
     let rest = turns_go a xs (record s { answers = s.answers ++ answer ∷ [] }) t mid n one.state more run in
     record { goes = record { now = rest.goes.now ∙ one.now; state = rest.goes.state }; given = rest.given; ended = rest.ended }

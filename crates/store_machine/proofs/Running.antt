@@ -153,7 +153,8 @@ module _ {V R : Type 0} where
     holds = same_since m k n (λ h. S h ⊎ IsWrittenBy c.changes h) (λ h. S' h ⊎ IsWrittenBy c.changes h) since.gone since.holds (ap (λ (s : Store). s.held) store) last
         (same_words S S' (IsWrittenBy c.changes) words);
     freed = since.freed;
-    keys = λ key. flip (keys key) (subst (λ (filled : List (List ℕ)). T key ↔ (Contains (keys_written c.changes) key ⊎ Contains filled key)) (none ∙ sym none_now) (since.keys key));
+    keys =
+        λ key. flip (keys key) (subst (λ (filled : List (List ℕ)). T key ↔ (Contains (keys_written c.changes) key ⊎ Contains filled key)) (none ∙ sym none_now) (since.keys key));
     once = since.once;
     filled_once = subst EachOnce (sym none_now) tt;
     stage = at;
@@ -269,7 +270,9 @@ module _ {V R : Type 0} where
 
       pub copied : SweepsSince (sources_in c) since.gone next t → Since m n (record c { stage = w.stage; recorded = w.recorded }) S' T'
       copied at = record {
-        ran = ran_so w.stage w.recorded changes refl refl ∙ ap (λ (ch : List StoreChange). Some (record c { stage = w.stage; recorded = w.recorded; changes = ch })) (no_more c.changes);
+        ran =
+            ran_so w.stage w.recorded changes refl refl
+            ∙ ap (λ (ch : List StoreChange). Some (record c { stage = w.stage; recorded = w.recorded; changes = ch })) (no_more c.changes);
         snapshot_is = since.snapshot_is;
         gone = since.gone;
         holds = let made = none_made changes in
@@ -380,10 +383,14 @@ module _ {V R : Type 0} where
           holds = one_since m k n (λ g. S g ⊎ IsWrittenBy c.changes g) (λ g. S' g ⊎ IsWrittenBy (c.changes ++ w.changes) g) since.gone since.holds h
               (omega (arith, made.0.slot)) refl (ap (λ (x : Store). x.held) made.1) (steps.last ∙ ap (λ (ch : List StoreChange). last_by ch k.last_id) changes)
               (λ g. subst (λ (ch : List StoreChange). (S' g ⊎ IsWrittenBy (c.changes ++ ch) g) ↔ ((S g ⊎ IsWrittenBy c.changes g) ⊎ (g ≡ h))) (sym changes) (one_more_by g));
-          freed = ap (λ (ch : List StoreChange). freed_in (c.changes ++ ch)) changes ∙ freed_more c.changes (FlushContainer (suc k.last_id) kind segments ∷ []) ∙ plus_none (freed_in c.changes) ∙ since.freed;
-          keys = λ key. keys_by s key written next t_is (subst (λ (st : Stage). T key ↔ (Contains (keys_written c.changes) key ⊎ Contains (filled_at st) key)) was (since.keys key))
+          freed =
+              ap (λ (ch : List StoreChange). freed_in (c.changes ++ ch)) changes ∙ freed_more c.changes (FlushContainer (suc k.last_id) kind segments ∷ [])
+              ∙ plus_none (freed_in c.changes) ∙ since.freed;
+          keys =
+              λ key. keys_by s key written next t_is (subst (λ (st : Stage). T key ↔ (Contains (keys_written c.changes) key ⊎ Contains (filled_at st) key)) was (since.keys key))
               (none_taken (λ copying. subst IsCopying was copying) key);
-          once = subst EachOnce (sym written) (once_both (keys_written c.changes) s.filled since.once (subst (λ (st : Stage). EachOnce (filled_at st)) was since.filled_once) apart);
+          once =
+              subst EachOnce (sym written) (once_both (keys_written c.changes) s.filled since.once (subst (λ (st : Stage). EachOnce (filled_at st)) was since.filled_once) apart);
           filled_once = subst (λ (st : Stage). EachOnce (filled_at st)) (sym next) (subst (λ (x : Sweep). EachOnce x.filled) (sym t_is) tt);
           stage = subst (λ (st : Stage). AtStage after since.gone st) (sym next)
               (subst (λ (rs : List ContainerLiveness). SweepsSince (sources_in (record after { recorded = rs })) since.gone (next_of k.store.held (sources_in c) t) t) (sym recorded) (swept_now s t t_is so));
@@ -403,11 +410,13 @@ module _ {V R : Type 0} where
             more : IsWrittenBy (c.changes ++ FlushContainer (suc k.last_id) kind segments ∷ []) g ↔ (IsWrittenBy c.changes g ⊎ ((g ≡ header_of (suc k.last_id) kind segments) ⊎ ⊥))
             more = by_more c.changes (FlushContainer (suc k.last_id) kind segments ∷ []) g
 
-            to : S' g ⊎ IsWrittenBy (c.changes ++ FlushContainer (suc k.last_id) kind segments ∷ []) g → (S g ⊎ IsWrittenBy c.changes g) ⊎ (g ≡ header_of (suc k.last_id) kind segments)
+            to : S' g ⊎ IsWrittenBy (c.changes ++ FlushContainer (suc k.last_id) kind segments ∷ []) g
+                → (S g ⊎ IsWrittenBy c.changes g) ⊎ (g ≡ header_of (suc k.last_id) kind segments)
             to (inl one) = inl (inl ((words g).1 one))
             to (inr one) = ⊎_elim (λ old. inl (inr old)) (λ new. ⊎_elim (λ same. inr same) (λ none. absurd none) new) (more.0 one)
 
-            from : (S g ⊎ IsWrittenBy c.changes g) ⊎ (g ≡ header_of (suc k.last_id) kind segments) → S' g ⊎ IsWrittenBy (c.changes ++ FlushContainer (suc k.last_id) kind segments ∷ []) g
+            from : (S g ⊎ IsWrittenBy c.changes g) ⊎ (g ≡ header_of (suc k.last_id) kind segments)
+                → S' g ⊎ IsWrittenBy (c.changes ++ FlushContainer (suc k.last_id) kind segments ∷ []) g
             from (inl (inl one)) = inl ((words g).0 one)
             from (inl (inr one)) = inr (more.1 (inl one))
             from (inr same) = inr (more.1 (inr (inl same)))
@@ -434,7 +443,8 @@ module _ {V R : Type 0} where
         swept_now s t t_is so = subst (λ (x : Sweep). SweepsSince (sources_in c) since.gone (next_of k.store.held (sources_in c) x) x) (sym t_is) (record {
           before = so.before;
           counted = omega (arith, so.counted, ap length (so.flushes refl));
-          into = λ i few. ⊎_elim (λ a. inl a) (λ b. inr (inr (⊎_elim (λ one. one) (λ one. absurd (none_in _ (subst (λ (ids : List ℕ). Contains ids (get_or (sources_in c) i 0)) (so.flushes refl) one))) b))) (so.into i few);
+          into =
+              λ i few. ⊎_elim (λ a. inl a) (λ b. inr (inr (⊎_elim (λ one. one) (λ one. absurd (none_in _ (subst (λ (ids : List ℕ). Contains ids (get_or (sources_in c) i 0)) (so.flushes refl) one))) b))) (so.into i few);
           from = λ id one. so.from id (⊎_elim (λ a. inl a) (λ b. ⊎_elim (λ none. absurd (none_in id none)) (λ ready. inr (inl ready)) b) one);
           waits = λ none. refl;
           flushes = λ flush. none_ready k.store.held (sources_in c) s.source s.waiting [] flush;
@@ -456,7 +466,8 @@ module _ {V R : Type 0} where
           holds = less_since m k n (λ g. S g ⊎ IsWrittenBy c.changes g) (λ g. S' g ⊎ IsWrittenBy (c.changes ++ w.changes) g) since.gone since.holds slot id header ids there id_is
               (old_source id source) (ap (λ (x : Store). x.held) made.1) (steps.last ∙ ap (λ (ch : List StoreChange). last_by ch k.last_id) changes)
               (λ g. subst (λ (ch : List StoreChange). (S g ⊎ IsWrittenBy c.changes g) ↔ (S' g ⊎ IsWrittenBy (c.changes ++ ch) g)) (sym changes) (same_written g slot));
-          freed = omega (arith, ap (λ (ch : List StoreChange). freed_in (c.changes ++ ch)) changes, freed_more c.changes (FreeContainer slot ∷ []), since.freed, length_push since.gone id);
+          freed =
+              omega (arith, ap (λ (ch : List StoreChange). freed_in (c.changes ++ ch)) changes, freed_more c.changes (FreeContainer slot ∷ []), since.freed, length_push since.gone id);
           keys = λ key. subst (λ (ks : List (List ℕ)). T' key ↔ (Contains ks key ⊎ Contains (filled_at w.stage) key)) (sym written)
               (subst (λ (ks : List (List ℕ)). T' key ↔ (Contains (keys_written c.changes) key ⊎ Contains ks key)) (sym filled)
               (flip (none_taken (λ copying. subst IsCopying was copying) key) (since.keys key)));

@@ -70,7 +70,8 @@ module _ (files : Found (List ℕ)) (roots : Found Root) (same : SameNow files r
   pub len_same : finite.len roots.names ≡ finite.len files.names
   len_same = len_changed (List ℕ) Root root_of files.names roots.names same.get_is
 
-  list_map : (es : List (List ℕ × List ℕ)) → map (λ (e : List ℕ × Root). let n : NamedRoot = record { name = e.0; root = e.1 } in n) (rooted es) ≡ map (λ (e : List ℕ × List ℕ). record { name = e.0; root = root_of e.1 }) es
+  list_map : (es : List (List ℕ × List ℕ))
+      → map (λ (e : List ℕ × Root). let n : NamedRoot = record { name = e.0; root = e.1 } in n) (rooted es) ≡ map (λ (e : List ℕ × List ℕ). record { name = e.0; root = root_of e.1 }) es
   list_map [] = refl
   list_map (e ∷ es) = ap (λ (ns : List NamedRoot). record { name = e.0; root = root_of e.1 } ∷ ns) (list_map es)
 
@@ -103,7 +104,8 @@ module _ (files : Found (List ℕ)) (roots : Found Root) (same : SameNow files r
   get_put true file o = refl
   get_put false file o = refl
 
-  few_put : (b : Bool) (file other : List ℕ) (o : Option (List ℕ)) → length file ≤ MOST_FILE → (o ≡ Some other → length other ≤ MOST_FILE) → cond b (Some file) o ≡ Some other → length other ≤ MOST_FILE
+  few_put : (b : Bool) (file other : List ℕ) (o : Option (List ℕ)) → length file ≤ MOST_FILE → (o ≡ Some other → length other ≤ MOST_FILE) → cond b (Some file) o ≡ Some other
+      → length other ≤ MOST_FILE
   few_put true file other o few rest is = subst (λ (bytes : List ℕ). length bytes ≤ MOST_FILE) (some_is file other is) few
     where
       some_is : (a b : List ℕ) → Some a ≡ Some b → a ≡ b
@@ -114,7 +116,8 @@ module _ (files : Found (List ℕ)) (roots : Found Root) (same : SameNow files r
   put_same name file few = record {
     get_is = λ q. finite.get-insert nat_list_cmp_total roots.names name (root_of file) q ∙ ap (cond (eq_by_cmp order q name) (Some (root_of file))) (same.get_is q)
         ∙ get_put (eq_by_cmp order q name) file (finite.get files.names q) ∙ ap (option_map root_of) (sym (finite.get-insert nat_list_cmp_total files.names name file q));
-    few = λ q other is. few_put (eq_by_cmp order q name) file other (finite.get files.names q) few (same.few q other) (sym (finite.get-insert nat_list_cmp_total files.names name file q) ∙ is);
+    few =
+        λ q other is. few_put (eq_by_cmp order q name) file other (finite.get files.names q) few (same.few q other) (sym (finite.get-insert nat_list_cmp_total files.names name file q) ∙ is);
     last_is = ap suc same.last_is;
   }
 
@@ -130,6 +133,7 @@ module _ (files : Found (List ℕ)) (roots : Found Root) (same : SameNow files r
   gone_same name = record {
     get_is = λ q. finite.get-remove nat_list_cmp_total roots.names name q ∙ ap (cond (eq_by_cmp order q name) None) (same.get_is q)
         ∙ get_gone (eq_by_cmp order q name) (finite.get files.names q) ∙ ap (option_map root_of) (sym (finite.get-remove nat_list_cmp_total files.names name q));
-    few = λ q other is. few_gone (eq_by_cmp order q name) other (finite.get files.names q) (same.few q other) (sym (finite.get-remove nat_list_cmp_total files.names name q) ∙ is);
+    few =
+        λ q other is. few_gone (eq_by_cmp order q name) other (finite.get files.names q) (same.few q other) (sym (finite.get-remove nat_list_cmp_total files.names name q) ∙ is);
     last_is = ap suc same.last_is;
   }

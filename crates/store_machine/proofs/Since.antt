@@ -101,7 +101,8 @@ module _ {V R : Type 0} where
         kept : (slot : ℕ) (g : HeaderValue) → HasContainer k.store slot g → HasContainer n.store slot g
         kept slot g has =
             let closed : slice_get k.store.held free ≡ Some None = first_closed k.store.held within in
-            let other : free ≢ slot = λ same. (let wrong : Some None ≡ Some (Some g) = sym closed ∙ subst (λ (s : ℕ). slice_get k.store.held s ≡ Some (Some g)) (sym same) has in absurd cc) in
+            let other : free ≢ slot =
+            λ same. (let wrong : Some None ≡ Some (Some g) = sym closed ∙ subst (λ (s : ℕ). slice_get k.store.held s ≡ Some (Some g)) (sym same) has in absurd cc) in
             subst (λ (cs : List (Option HeaderValue)). slice_get cs slot ≡ Some (Some g)) (sym held) (others_there free slot h k.store.held other ∙ has)
 
         new_there : HasContainer n.store free h
@@ -200,5 +201,6 @@ module _ {V R : Type 0} where
         there_by : (g : HeaderValue) → S g → (other : ℕ) × HasContainer n.store other g
         there_by g is =
             let one = since.there g is in
-            let differ : slot ≢ one.0 = λ same. (let g_is = same_one one.0 g same one.1 in absurd (omega (arith, since.late g is, ap (λ (x : HeaderValue). x.id) g_is, id_is, old))) in
+            let differ : slot ≢ one.0 =
+            λ same. (let g_is = same_one one.0 g same one.1 in absurd (omega (arith, since.late g is, ap (λ (x : HeaderValue). x.id) g_is, id_is, old))) in
             (one.0, kept one.0 g differ one.1)

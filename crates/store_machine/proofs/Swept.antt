@@ -150,7 +150,8 @@ ends_by held sources source [] (key ∷ keys) is = absurd (by (nat_lt source (le
     by false c wrong = absurd (let no : phases.Flush ≡ phases.End = wrong in cc)
 
 -- what is ready is given back first
-pub none_ready : (held : List (Option HeaderValue)) (sources : List ℕ) (source : ℕ) (ready : List ℕ) (filled : List (List ℕ)) → next_by held sources source ready filled ≡ phases.Flush
+pub none_ready : (held : List (Option HeaderValue)) (sources : List ℕ) (source : ℕ) (ready : List ℕ) (filled : List (List ℕ))
+    → next_by held sources source ready filled ≡ phases.Flush
     → ready ≡ []
 none_ready held sources source [] filled is = refl
 none_ready held sources source (id ∷ ids) filled is = absurd (let wrong : phases.Release ≡ phases.Flush = is in cc)

@@ -34,7 +34,8 @@ right_any n right =
     (record { lowest = right.above; greatest = right.level; least = omega arith; most = right.total })).1
 
 -- a node that comes first is next, by its spelling
-node_next : (level : ℕ) (ts : Trees (List ℕ)) (tops : List Top) → IsNode (contents_of level ts) → IsNodeNext (root_of of_segment (Node level ts) ∷ tops) (spelling (contents_of level ts))
+node_next : (level : ℕ) (ts : Trees (List ℕ)) (tops : List Top) → IsNode (contents_of level ts)
+    → IsNodeNext (root_of of_segment (Node level ts) ∷ tops) (spelling (contents_of level ts))
 node_next level ts tops right =
     let n : Contents = contents_of level ts in
     let top : Top = root_of of_segment (Node level ts) in
@@ -86,7 +87,8 @@ mutual
       let law = walk_law before new bytes level ts others (Ok tt) (λ m right named e. (refl, ap contents_in e ∙ right_any m right)) refl ahead refl in
       through before level ts others ahead new refl law.2 (lead_below ts others new law.1 ahead.each.0.0.some)
 
-  lead_below : (ts : Trees (List ℕ)) (others : List (Tree (List ℕ))) (before : List Top) → Ahead before (list_of ts ++ others) → 1 ≤ length (children_of of_segment ts) → Leads before (list_of ts ++ others)
+  lead_below : (ts : Trees (List ℕ)) (others : List (Tree (List ℕ))) (before : List Top) → Ahead before (list_of ts ++ others) → 1 ≤ length (children_of of_segment ts)
+      → Leads before (list_of ts ++ others)
   lead_below NoTree others before ahead some = absurd (omega (arith, some))
   lead_below (Then t ts) others before ahead some = lead_tree t (list_of ts ++ others) before ahead
 
@@ -122,7 +124,8 @@ none_left (t ∷ others) tops ahead is = absurd (let leads = lead_tree t others 
 pub ends_both : (tops : List Top) → Rests [] tops → tops ≡ []
 ends_both tops rests = none_left rests.trees tops rests.ahead rests.segments
 
-some_left : (ts : List (Tree (List ℕ))) (tops : List Top) → Ahead tops ts → (bytes : List ℕ) (rest : List (List ℕ)) → bytes ∷ rest ≡ segments_in ts → (t : Top) × ((more : List Top) × (tops ≡ t ∷ more))
+some_left : (ts : List (Tree (List ℕ))) (tops : List Top) → Ahead tops ts → (bytes : List ℕ) (rest : List (List ℕ)) → bytes ∷ rest ≡ segments_in ts
+    → (t : Top) × ((more : List Top) × (tops ≡ t ∷ more))
 some_left [] tops ahead bytes rest is = absurd (let wrong : bytes ∷ rest ≡ [] = is in cc)
 some_left (t ∷ others) tops ahead bytes rest is = (root_of of_segment t, (map (root_of of_segment) others, ahead.tops))
 
@@ -131,7 +134,8 @@ more_both bytes rest tops rests = some_left rests.trees tops rests.ahead bytes r
 
 -- ---- where a file begins
 
-start_by : (t : Top) (no_bytes flat : Bool) → (t.length == 0) ≡ no_bytes → (t.level == 0) ≡ flat → 1 ≤ t.length + t.level → (if no_bytes then (if flat then [] else t ∷ []) else t ∷ []) ≡ t ∷ []
+start_by : (t : Top) (no_bytes flat : Bool) → (t.length == 0) ≡ no_bytes → (t.level == 0) ≡ flat → 1 ≤ t.length + t.level
+    → (if no_bytes then (if flat then [] else t ∷ []) else t ∷ []) ≡ t ∷ []
 start_by t true true none low some = absurd (omega (arith, eqb-true t.length 0 none, eqb-true t.level 0 low, some))
 start_by t true false none low some = refl
 start_by t false flat none low some = refl

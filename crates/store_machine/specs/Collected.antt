@@ -82,7 +82,8 @@ module _ {V R : Type 0} where
       pub c : Collection V
       pub ran : k.collection ≡ Some c
       pub gone : (slot : ℕ) (h : HeaderValue) → HasContainer n.store slot h → ¬ (Contains (sources_in c) h.id)
-      pub stay : (slot : ℕ) (h : HeaderValue) → HasContainer m.store slot h → ¬ (Contains (sources_in c) h.id) → HasContainer n.store slot h
+      pub stay : (slot : ℕ) (h : HeaderValue) → HasContainer m.store slot h → ¬ (Contains (sources_in c) h.id)
+          → HasContainer n.store slot h
       pub sealed : (h : HeaderValue) → IsSealedBy ss h → (slot : ℕ) × HasContainer n.store slot h
       pub written : (h : HeaderValue) → IsWrittenBy c.changes h → (slot : ℕ) × HasContainer n.store slot h
       pub no_other : (slot : ℕ) (h : HeaderValue) → HasContainer n.store slot h
@@ -94,7 +95,9 @@ module _ {V R : Type 0} where
 
     -- A collection that comes to its end has done this.
     abbrev pub CollectsWhatItSelected : Type 0
-    CollectsWhatItSelected = v.Known → (percent snapshot freed copied : ℕ) (first last : Stepped V) (ss : List (Stepped V)) (m k n : Machine V R)
-        → (old : Machine V R) → HasIds old.store old.last_id → first.asked ≡ asked.GcStart percent → first.answer ≡ Ok (done.Started snapshot)
+    CollectsWhatItSelected =
+        v.Known → (percent snapshot freed copied : ℕ) (first last : Stepped V) (ss : List (Stepped V)) (m k n : Machine V R)
+        → (old : Machine V R) → HasIds old.store old.last_id → first.asked ≡ asked.GcStart percent
+        → first.answer ≡ Ok (done.Started snapshot)
         → Legal v first old m → (run : Run v ss m k) → AreBetween ss → last.asked ≡ asked.GcStep
         → last.answer ≡ Ok (done.Collected freed copied) → Legal v last k n → Collected freed copied ss m k n run

@@ -167,7 +167,8 @@ module _ {V R : Type 0} (v : Values V R) where
 
   abbrev pub TakesAll : Collection V → Store → (slot : ℕ) (kind : Kind) → List Entry → Gathered → Gathered → Type 0
   TakesAll c store slot kind [] g after = after ≡ g
-  TakesAll c store slot kind (e ∷ es) g after = (mid : Gathered) × TakesOne c store slot kind e g mid × TakesAll c store slot kind es mid after
+  TakesAll c store slot kind (e ∷ es) g after =
+      (mid : Gathered) × TakesOne c store slot kind e g mid × TakesAll c store slot kind es mid after
 
   -- the entry does not fit: the copy of a key that was needed, for which there is no room
   pub record DoesNotFit (c : Collection V) (store : Store) (slot : ℕ) (kind : Kind) (e : Entry) (g : Gathered) : Type 0 where

@@ -57,7 +57,8 @@ ends line reply = false
 
 abbrev pub AllFollow : Command → Replied → ListOf Replied → Type 0
 AllFollow command last [] = Unit {0}
-AllFollow command last (one ∷ more) = (ends last.line last.reply ≡ false) × Follows command last.reply one.line × AllFollow command one more
+AllFollow command last (one ∷ more) =
+    (ends last.line last.reply ≡ false) × Follows command last.reply one.line × AllFollow command one more
 
 -- The lines of a command: it opens the store first.
 abbrev pub AreLinesOf : Command → ListOf Replied → Type 0
@@ -136,7 +137,8 @@ module _ {V R : Type 0} (v : Values V R) where
 
   -- the run of the steps that lines made
   abbrev pub run_of : (rs : ListOf Replied) (ss : ListOf (Stepped V)) (d e : Desk V R) → Lines rs ss d e → Steps v ss d.machine e.machine
-  run_of [] ss d e ran = subst (λ (xs : ListOf (Stepped V)). Steps v xs d.machine e.machine) (sym ran.0) (ap (λ (x : Desk V R). x.machine) ran.1)
+  run_of [] ss d e ran =
+      subst (λ (xs : ListOf (Stepped V)). Steps v xs d.machine e.machine) (sym ran.0) (ap (λ (x : Desk V R). x.machine) ran.1)
   run_of (one ∷ more) ss d e ran =
       subst (λ (xs : ListOf (Stepped V)). Steps v xs d.machine e.machine) (sym ran.3)
       (run_on ran.0 ran.1 d.machine ran.2.machine e.machine ran.4.0 (run_of more ran.1 ran.2 e ran.5))

@@ -92,9 +92,11 @@ pub record Forgets (m : Machine (List ℕ) (List (List ℕ))) (r : Machine Root 
 
 -- A step of the one is a step of the other, and so is a run.
 abbrev pub StepsAreForgotten : Type 0
-StepsAreForgotten = (s : Stepped (List ℕ)) (m n : Machine (List ℕ) (List (List ℕ))) (r : Machine Root (List Top)) → Forgets m r → Legal of_files s m n
+StepsAreForgotten =
+    (s : Stepped (List ℕ)) (m n : Machine (List ℕ) (List (List ℕ))) (r : Machine Root (List Top)) → Forgets m r → Legal of_files s m n
     → (t : Machine Root (List Top)) × (Legal of_roots (forget_step s) r t × Forgets n t)
 
 abbrev pub RunsAreForgotten : Type 0
-RunsAreForgotten = (ss : List (Stepped (List ℕ))) (m n : Machine (List ℕ) (List (List ℕ))) (r : Machine Root (List Top)) → Forgets m r → Run of_files ss m n
+RunsAreForgotten =
+    (ss : List (Stepped (List ℕ))) (m n : Machine (List ℕ) (List (List ℕ))) (r : Machine Root (List Top)) → Forgets m r → Run of_files ss m n
     → (t : Machine Root (List Top)) × (Run of_roots (map forget_step ss) r t × Forgets n t)

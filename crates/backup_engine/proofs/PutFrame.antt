@@ -127,12 +127,12 @@ module _ (first : Store) (base : List ℕ) (t : Store) (old new : CoreState) (on
       abbrev Changes : List ℕ → List ℕ → Type 0
       Changes = ChangesBytes old.tables name (Put root) given
 
-      has : HasJournal first base
-      has = has_journal first base right
+      base_has : HasJournal first base
+      base_has = has_journal first base right
 
       names_next : (d c : List ℕ) → KeepsSlots slots base d → Changes d c
           → StandsStill HasJournal first c ⊎ ((r : Root) × HasJournal (with_change name (Put r) first) c)
-      names_next d c keeps_there changes = elim (changes.journal t on.represents.names_are (has_on given keeps has) (has_on d keeps_there has)) [
+      names_next d c keeps_there changes = elim (changes.journal t on.represents.names_are (has_on given keeps base_has) (has_on d keeps_there base_has)) [
         | inl still ↦ inl (still_first first t held.free.rest_is c still)
         | inr put ↦ inr (root, change_first first t held.free.rest_is name (Put root) c put)
       ]

@@ -251,7 +251,7 @@ module _ (percent : ℕ) (v w : DiskView) (source : SourceView) (sink : SinkView
 
   flush_cause : (tells : (places : PlaceMap) × (old.known ≡ Some places)) → (LAST_ID ≤ old.tables.held.last_id → IsUnwritten holds.store) → (refusal : Refusal) → IsFlushStepRefusal old.tables old.known refusal → IsCausedBy refusal
   flush_cause tells none Memory cause = tt
-  flush_cause tells none Numbers cause = inr (holds, inr (inr (inr (refl, none cause))))
+  flush_cause tells none Numbers cause = inr (holds, inr (inr (inr (inl (refl, none cause)))))
   flush_cause tells none DiskRead cause = tt
   flush_cause tells none DiskWrite cause = tt
   flush_cause tells none (Damaged at why) cause = absurd (untold tells cause.1)

@@ -1,7 +1,9 @@
 -- What a `collect` keeps, whatever the disk holds.
 use Rattle.std.proofs.Common.{◌≡◌, inr, ◌+◌, ◌≤◌, ℕ, List, [], length, Option, None, Some, Result, Ok, Err, refl, sym, ◌∙◌, ap, subst, arith}
+use Rattle.actor_parts.specs.declared.part.Part.{Part}
 use Rattle.actor_parts.specs.declared.step.Answer.{Answer}
 use Rattle.actor_parts.specs.declared.step.Answer.TheVariants as answers
+use Rattle.actor_parts.specs.Parts.{part_of}
 use Rattle.actor_parts.specs.StepValue as asked
 use Rattle.container_meta.specs.Places.{PlaceMap}
 use Rattle.dd_disk.specs.Ending.{CountsFault, Done, ending, ending_of}
@@ -14,13 +16,17 @@ use Rattle.disk_format.specs.Layout.{size_of}
 use Rattle.disk_format.specs.declared.numbers.TheConstants.{LAST_ID}
 use Rattle.gc_steps.specs.declared.collection.Collection.{Collection}
 use Rattle.gc_steps.specs.UnderWay.{HasStage}
+use Rattle.gc_steps.specs.Roots.{keys_of_names, roots_of}
+use Rattle.gc_steps.specs.Starting.{StopsAt}
+use Rattle.gc_steps.proofs.RootKeys.{names_alone}
 use Rattle.refusals.specs.declared.refusal.Phase.{Phase}
 use Rattle.refusals.specs.declared.refusal.Refusal.{Refusal}
 use Rattle.refusals.specs.declared.refusal.Refusal.TheVariants as refusals
 use Rattle.reply_text.specs.declared.ending.Ending as reply
 use Rattle.reply_text.specs.declared.ending.Ending.TheVariants.{Sink, Refused}
 use Rattle.script_runner.specs.Acts.{Collects, Starts, Sweeps}
-use Rattle.store_model.specs.Image.{Encodes, Store}
+use Rattle.script_runner.proofs.LinesReopen.{idle_part}
+use Rattle.store_model.specs.Image.{Encodes, Store, names_of}
 use Rattle.store_model.specs.Slots.{last_id}
 use Rattle.store_model.proofs.Free.{as_many as as_many_ids}
 use Rattle.store_state.specs.Refused.{blames}
@@ -75,10 +81,26 @@ module _ (C : Type 0) (state : C → CoreState) (v w : DiskView) (old new : C) (
     abbrev unbegun : Rests (Err refusal) (state old) (state new)
     unbegun = (started (Err refusal) new start.0 start.1).made.effect
 
+    -- no actor is at anything, so it stopped at the root of a name
+    names_only : roots_of (state old).tables.names (state old).parts ≡ keys_of_names (names_of store)
+    names_only =
+        names_alone (state old).tables.names (state old).parts (λ actor below. ap (λ (parts : List Part). part_of parts actor) called.opened.parts_are ∙ idle_part actor below)
+        ∙ ap keys_of_names called.opened.represents.names_are.names_are
+
+    unrooted : (r : Refusal) → StopsAt (state old).known (state old).known (roots_of (state old).tables.names (state old).parts) r → StopsAt (Some index) (Some index) (keys_of_names (names_of store)) r
+    unrooted r stops =
+        subst (λ (known : Option PlaceMap). StopsAt known known (keys_of_names (names_of store)) r) called.opened.told.1
+        (subst (λ roots. StopsAt (state old).known (state old).known roots r) names_only stops)
+
     not_begun_cause : (r : Refusal) → StartRow percent (Err r) (state old) (state new) → (source : SourceView) (sink : SinkView) → IsCaused (Collect percent) [] v w source source sink sink (Some (Refused r))
     not_begun_cause refusals.Memory row source sink = tt
     not_begun_cause (refusals.Collecting phase) row source sink = absurd (let wrong : None ≡ Some row.0.0 = sym called.opened.collection_is ∙ row.0.1.0 in cc)
-    not_begun_cause r row source sink = absurd row
+    not_begun_cause refusals.DiskRead row source sink = tt
+    not_begun_cause refusals.DiskWrite row source sink = tt
+    not_begun_cause r row source sink = inr (
+      holds C state v w old new called (later_on (state old).disk (state new).disk w unbegun.disk.only.later called.last.only.later),
+      inr (inr (inr (inr (record { index = index; index_is = called.opened.whole index called.opened.told.1; stops = unrooted r row.cause })))),
+    )
 
     pub unbegun_any : (source : SourceView) (sink : SinkView) → OnAnyDisk (Collect percent) [] (Some (Refused refusal)) v w source source sink sink
     unbegun_any source sink = record {

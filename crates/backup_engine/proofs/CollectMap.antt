@@ -53,6 +53,7 @@ use Rattle.store_core.proofs.AnySteps.{any_step}
 use Rattle.store_core.proofs.CoreRuns.{running_step}
 use Rattle.store_core.proofs.Crashes.{leaves_on_the_way}
 use Rattle.store_core.proofs.Damage.{never_damaged}
+use Rattle.store_core.proofs.Unbegun.{unbegun_memory}
 use Rattle.store_core.proofs.GcSteps.{end_reads}
 use Rattle.store_core.proofs.Leading.{Leads}
 use Rattle.store_core.specs.Bounds as bounds
@@ -139,10 +140,13 @@ both_told R a b was now is also both_are = subst (λ (o : Option (List ℕ)). Bo
 module _ (C : Type 0) (state : C → CoreState) (v w : DiskView) (old new : C) (called : Called C state v w old new) (percent : ℕ) where
   -- ---- none was begun
 
-  unbegun_answer : (S : List ℕ → Type 0) (m : Stored) (image : List ℕ) → w.content ≡ Some image → IsOf S m image → (r : Refusal) → StartRow percent (Err r) (state old) (state new) → EndsBy (Collect percent) [] m w.content (Some (Refused r))
-  unbegun_answer S m image told is refusals.Memory row = left_with S m image w.content (λ store. Unit {0}) told is tt
-  unbegun_answer S m image told is (refusals.Collecting phase) row = absurd (let wrong : None ≡ Some row.0.0 = sym called.opened.collection_is ∙ row.0.1.0 in cc)
-  unbegun_answer S m image told is r row = absurd row
+  unbegun_answer : (S : List ℕ → Type 0) (m : Stored) (image : List ℕ) → v.content ≡ Some image → w.content ≡ Some image → IsOf S m image → (r : Refusal) → StartRow percent (Err r) (state old) (state new) → EndsBy (Collect percent) [] m w.content (Some (Refused r))
+  unbegun_answer S m image was told is refusals.Memory row = left_with S m image w.content (λ store. Unit {0}) told is tt
+  unbegun_answer S m image was told is (refusals.Collecting phase) row = absurd (let wrong : None ≡ Some row.0.0 = sym called.opened.collection_is ∙ row.0.1.0 in cc)
+  unbegun_answer S m image was told is r row =
+      let at : StartsAt S m image (state old) = starts C state v w old new called S m image was is in
+      subst (λ (x : Refusal). EndsBy (Collect percent) [] m w.content (Some (Refused x))) (sym (unbegun_memory S at.store m (state old) (state new) at.is_at r row))
+      (left_with S m image w.content (λ store. Unit {0}) told is tt)
 
   pub unbegun_map : (refusal : Refusal) → Starts C state percent (Err refusal) old new → (sink : SinkView) → KeepsEachMap (Collect percent) [] (Some (Refused refusal)) v w sink sink
   unbegun_map refusal start sink =
@@ -151,7 +155,7 @@ module _ (C : Type 0) (state : C → CoreState) (v w : DiskView) (old new : C) (
       let reads = all_reads C state v w old new called steps.made.effect.disk.only in
       reads_map (Collect percent) [] (Refused refusal) v w sink sink reads (not_sink refusal)
       (λ image known among m distinct right is. record {
-        by_map = unbegun_answer (IsIn among) m image (reads.content_is ∙ known) is refusal steps.made.row;
+        by_map = unbegun_answer (IsIn among) m image known (reads.content_is ∙ known) is refusal steps.made.row;
         wrote = wrote_nothing (Collect percent) [] m (Refused refusal) sink (not_sink refusal);
       })
     where

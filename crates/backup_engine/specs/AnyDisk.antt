@@ -30,7 +30,9 @@ use Rattle.gc_enumerate.specs.Live.{LiveKeys}
 use Rattle.gc_enumerate.specs.Scanning.{IsScanFault}
 use Rattle.gc_enumerate.specs.declared.fault.ScanFault.{ScanFault}
 use Rattle.gc_steps.specs.Marking.{scan_for}
+use Rattle.gc_steps.specs.Roots.{keys_of_names}
 use Rattle.gc_steps.specs.Scanning.{step_refusal}
+use Rattle.gc_steps.specs.Starting.{StopsAt}
 use Rattle.merkle_file.specs.declared.top.Top.{Top}
 use Rattle.merkle_file.specs.Node.{Contents, node_digest, spelling}
 use Rattle.merkle_file.specs.Walk.{start_of}
@@ -213,6 +215,12 @@ pub record IsUnwritten (store : Store) : Type 0 where
   pub earlier : FreesUpTo (last_id store.held) changes store
   pub few : written_in changes < length store.held
 
+-- None began: the root of a name is the first, by the names' bytes, that the index of the store lacks, or has at another level.
+pub record IsUnrooted (store : Store) (refusal : Refusal) : Type 0 where
+  pub index : PlaceMap
+  pub index_is : IsIndexOf store.held index
+  pub stops : StopsAt (Some index) (Some index) (keys_of_names (names_of store)) refusal
+
 -- Why a collection of the store that the disk holds went no further. The index, while it marks, is that of the store.
 abbrev pub IsUncollected : {disk disk_now : DiskView} → Holds disk disk_now → Refusal → Type 0
 IsUncollected {disk} {disk_now} holds refusal =
@@ -220,6 +228,7 @@ IsUncollected {disk} {disk_now} holds refusal =
     ⊎ ((index : PlaceMap) × (IsIndexOf holds.store.held index × IsUnmarked index disk disk_now refusal))
     ⊎ IsUncopied disk disk_now refusal
     ⊎ ((refusal ≡ Numbers) × IsUnwritten holds.store)
+    ⊎ IsUnrooted holds.store refusal
 
 -- ---- causes
 

@@ -25,7 +25,7 @@ use Rattle.refusals.specs.declared.refusal.Refusal.{Refusal}
 use Rattle.refusals.specs.declared.refusal.Refusal.TheVariants.{Memory}
 use Rattle.store_model.specs.Refusals.{root_key}
 use Rattle.gc_steps.specs.declared.roots.RootKey.{RootKey}
-use Rattle.gc_steps.specs.Roots.{HasRootKey, IsListedKey, IsNumberKey, IsPartKey, IsRoot, Marks, key_at, keys_as_pinned, keys_of_first, keys_of_listed, keys_of_number, keys_of_part, keys_of_pin, keys_of_root, roots_of}
+use Rattle.gc_steps.specs.Roots.{HasRootKey, IsListedKey, IsNumberKey, IsPartKey, IsRoot, Marks, key_at, keys_as_pinned, keys_of_first, keys_of_listed, keys_of_names, keys_of_number, keys_of_part, keys_of_pin, keys_of_root, roots_of}
 use Rattle.gc_steps.specs.Starting.{AreFound, IsFound, IsStartRefusal, IsUnfound, StopsAt}
 use Rattle.gc_steps.proofs.Marked.{OfFirst, contains_first, contains_head, contains_more, contains_next, contains_none, keys_there, marks_as, marks_more}
 
@@ -193,6 +193,22 @@ roots_have names parts key = (
     | inr actor ↦ inr ((first_have parts ACTORS key).1 (actor.0, (actor.1.0, actor.1)))
   ]),
 )
+
+-- where no actor is at anything those of names are all
+none_at : (parts : List Part) (actor : ℕ) → (actor < ACTORS → part_of parts actor ≡ Idle) → keys_of_number parts actor ≡ []
+none_at parts actor idle = by_number (nat_lt actor ACTORS) refl
+  where
+    by_number : (b : Bool) → nat_lt actor ACTORS ≡ b → (if b then keys_of_part (part_of parts actor) else []) ≡ []
+    by_number true is = ap keys_of_part (idle (ltb-true actor ACTORS is))
+    by_number false is = refl
+
+none_held : (parts : List Part) (count : ℕ) → ((actor : ℕ) → actor < ACTORS → part_of parts actor ≡ Idle) → keys_of_first parts count ≡ []
+unfolding keys_of_first
+none_held parts zero idle = refl
+none_held parts (suc count) idle = ap (λ (ks : List RootKey). ks ++ keys_of_number parts count) (none_held parts count idle) ∙ none_at parts count (idle count)
+
+pub names_alone : (names : NameMap) (parts : List Part) → ((actor : ℕ) → actor < ACTORS → part_of parts actor ≡ Idle) → roots_of names parts ≡ keys_of_names names
+names_alone names parts idle = ap (λ (ks : List RootKey). keys_of_names names ++ ks) (none_held parts ACTORS idle) ∙ append-nil (keys_of_names names)
 
 -- so what is live at first is the roots
 pub roots_live : (live : LiveKeys) (names : NameMap) (parts : List Part) (roots : List RootKey) → roots ≡ roots_of names parts

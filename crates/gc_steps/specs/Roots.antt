@@ -77,8 +77,11 @@ keys_of_first parts zero = []
 keys_of_first parts (suc count) = keys_of_first parts count ++ keys_of_number parts count
 
 -- All of them: names by their bytes, then actors by number, and the pins of an actor by key.
+abbrev pub keys_of_names : NameMap → List RootKey
+keys_of_names names = flat_map keys_of_listed (listing_of names)
+
 abbrev pub roots_of : NameMap → List Part → List RootKey
-roots_of names parts = flat_map keys_of_listed (listing_of names) ++ keys_of_first parts ACTORS
+roots_of names parts = keys_of_names names ++ keys_of_first parts ACTORS
 
 abbrev pub key_at : RootKey → List ℕ
 key_at root = root.key

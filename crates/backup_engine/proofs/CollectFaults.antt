@@ -44,17 +44,17 @@ module _ (old old_now new new_now : DiskView) (each : (P : List ℕ → Type 0) 
   bad_header_so store (Damaged at why) (slot, (at_is, inr other)) = (
     slot,
     (
-        at_is,
-        inr (record {
-          changes = other.changes;
-          sweeps = other.sweeps;
-          wanted = other.wanted;
-          stands = other.stands;
-          header = other.header;
-          right = other.right;
-          shown = each _ other.shown;
-          first = other.first;
-        }),
+      at_is,
+      inr (record {
+        changes = other.changes;
+        sweeps = other.sweeps;
+        wanted = other.wanted;
+        stands = other.stands;
+        header = other.header;
+        right = other.right;
+        shown = each _ other.shown;
+        first = other.first;
+      }),
     ),
   )
   bad_header_so store refusal is = absurd is

@@ -1,6 +1,6 @@
 -- Another header that was read than the store has in a slot, as the collection left it.
-use Rattle.std.proofs.Common.{◌≡◌, ◌≢◌, ◌<◌, ℕ, Bool, true, false, List, length, get_or, Some, Err, refl, sym, ◌∙◌, subst}
-use Rattle.std.specs.Prelude.{◌&&◌, slice_get}
+use Rattle.std.proofs.Common.{◌≡◌, ◌≢◌, ℕ, Bool, true, false, List, get_or, Some, Err, refl, sym, ◌∙◌, subst}
+use Rattle.std.specs.Prelude.{◌&&◌}
 use Rattle.base_model.specs.Checks.{passes}
 use Rattle.container_meta.specs.Spelling.{HeaderValue}
 use Rattle.copy_forward.specs.Headers.{IsOtherHeader, header_checks}

@@ -16,6 +16,7 @@ mod stage;
 mod streams;
 mod text;
 mod transcript;
+mod turned;
 mod words;
 
 use std::process::ExitCode;

@@ -2,6 +2,7 @@
 use crate::cells::{change, seal};
 use crate::chain::answers_of;
 use crate::text::Text;
+use crate::turned::TurnedDisk;
 use crate::words::{Fault, add_piece, bytes_of, number, numbers_of, words_of};
 use dd_disk::{Asked, BlindDisk, FileDisk, Fill, MemDisk};
 use std::alloc::Global;
@@ -106,14 +107,19 @@ impl Stage {
 
     // The image that was saved last under a name.
     fn load(&mut self, name: &str) -> Result<(), Fault> {
+        let image = self.saved(name)?;
+        self.show(image);
+        Ok(())
+    }
+
+    fn saved(&self, name: &str) -> Result<Vec<u8>, Fault> {
         let mut found = None;
         for saved in &self.saved {
             if saved.name.as_str() == name {
                 found = Some(saved.bytes.clone()?);
             }
         }
-        self.show(found.ok_or(Fault::Place)?);
-        Ok(())
+        found.ok_or(Fault::Place)
     }
 
     /// What a chain answers over the disk, or over another that is made of it for this chain alone.
@@ -148,10 +154,35 @@ impl Stage {
                 let bytes = self.disk.bytes().to_vec(alloc)?;
                 answers_of(rt, &mut BlindDisk::new(bytes, lies_of(alloc, lies)?), chain)
             }
+            ["turn", call, name] => self.after_turn(rt, number(call)?, name, chain),
             ["crash", call] => self.after_stops(rt, number(call)?, chain),
             ["file", length, size] => over_file(rt, number(length)?, number(size)?, chain),
             _ => Err(Fault::Line),
         }
+    }
+
+    // What a chain answers over the disk that is an image that was saved from a call on, and whether it is that image then.
+    fn after_turn(
+        &self,
+        rt: &HostRuntime,
+        call: u64,
+        name: &str,
+        chain: &str,
+    ) -> Result<String, Fault> {
+        let alloc = rt.alloc();
+        let image = self.saved(name)?;
+        let bytes = self.disk.bytes().to_vec(alloc)?;
+        let mut disk = TurnedDisk::new(bytes, image.clone()?, call);
+        let answers = answers_of(rt, &mut disk, chain)?;
+        let mut text = Text::new(alloc);
+        text.add(answers.as_str());
+        text.add(if disk.has(&image) {
+            " ; as "
+        } else {
+            " ; not as "
+        });
+        text.add(name);
+        Ok(text.whole()?)
     }
 
     // The bytes of the disk, with `OFFSET=BYTES` put over the cell or header at a place.

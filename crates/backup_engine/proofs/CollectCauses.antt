@@ -1,5 +1,5 @@
 -- Why a step of a collection is refused, of the whole call: by what reads returned since it began.
-use Rattle.std.proofs.Common.{◌≡◌, inl, inr, ◌+◌, ◌<◌, ◌≤◌, ℕ, zero, suc, List, [], ◌∷◌, ◌++◌, drop, length, Option, None, Some, refl, sym, ◌∙◌, subst, arith}
+use Rattle.std.proofs.Common.{◌≡◌, ◌≢◌, inl, inr, ◌+◌, ◌<◌, ◌≤◌, ℕ, zero, suc, List, [], ◌∷◌, ◌++◌, drop, get_or, length, Option, None, Some, refl, sym, ◌∙◌, subst, arith}
 use Rattle.std.specs.Prelude.{Contains}
 use Rattle.std.specs.List.{AllByRecursion}
 use Rattle.std.proofs.lemmas.List.Elements.{Contains-append_right, Contains-get_or}
@@ -13,7 +13,7 @@ use Rattle.container_meta.specs.Places.{PlaceMap}
 use Rattle.container_meta.specs.Segments.{Contents}
 use Rattle.container_meta.specs.Spelling.{Follow, HeaderValue, IsHeader, bytes_of}
 use Rattle.copy_forward.specs.Copying.{IsCopyRefusal}
-use Rattle.copy_forward.specs.Entries.{IsHeaderRefusal}
+use Rattle.copy_forward.specs.Headers.{IsHeaderRefusal}
 use Rattle.copy_forward.specs.Planning.{IsOneRefusal, IsPlanRefusal, IsStuck, Planned, Source, planned, source_of}
 use Rattle.dd_disk.specs.Ending.{Done, Ending, Reads}
 use Rattle.dd_disk.specs.Shows.{Part, Shows}
@@ -29,6 +29,7 @@ use Rattle.gc_steps.specs.Filtering.{IsRecordRefusal}
 use Rattle.gc_steps.specs.Marking.{StopsScan, scan_for}
 use Rattle.gc_steps.specs.Scanning.{ShowsAt}
 use Rattle.gc_steps.specs.Stepping.{IsStepRefusal, Moment, Touches}
+use Rattle.gc_steps.specs.UnderWay.{HasStage}
 use Rattle.gc_steps.specs.declared.collection.Stage.{Stage}
 use Rattle.gc_steps.specs.declared.collection.Stage.TheVariants.{Mark, Filter, Select, Sweep as SweepStage}
 use Rattle.gc_sweep.specs.declared.sweep.Next.{Next}
@@ -48,6 +49,7 @@ use Rattle.backup_engine.specs.AnyDisk.{Holds, IsCaused, IsUnmarked, IsUnwritten
 use Rattle.backup_engine.specs.Line.{Collect}
 use Rattle.backup_engine.proofs.CollectFaults.{fault_wider}
 use Rattle.backup_engine.proofs.CollectSteps.{IsMarking, both_from}
+use Rattle.backup_engine.proofs.OtherHeaders.{CameTo, copied_some, marked_some, other_header, recorded_some}
 use Rattle.backup_engine.proofs.SweptSlots.{all-more}
 
 -- ---- entries
@@ -104,12 +106,22 @@ module _ (percent : ℕ) (v w : DiskView) (source : SourceView) (sink : SinkView
   since_reads : new.content ≡ old.disk.content → (P : List ℕ → Type 0) → Shows old.disk new P → ShownSince v w P
   since_reads same P shown = since P (λ image told. shown_content old.disk new P image shown (sym same ∙ (sym last.only.content_is ∙ told))) shown
 
-  header_cause : new.content ≡ old.disk.content → (slot : ℕ) (refusal : Refusal) → IsHeaderRefusal old.disk new slot refusal → IsCausedBy refusal
-  header_cause same slot Memory cause = tt
-  header_cause same slot DiskRead cause = tt
-  header_cause same slot (Damaged at why) (at_is, damage) =
-      inr (holds, inl (slot, (at_is, record { bytes = damage.bytes; first = damage.first; are_found = since_reads same (λ image. header_bytes slot image ≡ damage.bytes) damage.are_found })))
-  header_cause same slot refusal cause = absurd cause
+  -- what the store came to, by the tables of the step
+  abbrev Came : Type 0
+  Came = CameTo holds.store old.tables.held
+
+  -- the slot has a container, by them
+  abbrev HasSome : ℕ → Type 0
+  HasSome slot = get_or old.tables.held.ids.items slot 0 ≢ 0
+
+  header_cause : Came → new.content ≡ old.disk.content → (slot : ℕ) → HasSome slot → (refusal : Refusal) → IsHeaderRefusal old.tables.held old.disk new slot refusal → IsCausedBy refusal
+  header_cause came same slot some Memory cause = tt
+  header_cause came same slot some DiskRead cause = tt
+  header_cause came same slot some (Damaged at why) (at_is, inl damage) =
+      inr (holds, inl (slot, (at_is, inl (record { bytes = damage.bytes; first = damage.first; are_found = since_reads same (λ image. header_bytes slot image ≡ damage.bytes) damage.are_found }))))
+  header_cause came same slot some (Damaged at why) (at_is, inr other) =
+      inr (holds, inl (slot, (at_is, inr (other_header holds.store old.tables.held v w old.disk new slot why came some (λ h. since_reads same (λ image. HoldsSlot image slot (Some h))) other))))
+  header_cause came same slot some refusal cause = absurd cause
 
   by_marks : (index : PlaceMap) → IsIndexOf holds.store.held index → (refusal : Refusal) → IsUnmarked index v w refusal → IsCausedBy refusal
   by_marks index all Memory unmarked = tt
@@ -118,7 +130,7 @@ module _ (percent : ℕ) (v w : DiskView) (source : SourceView) (sink : SinkView
   by_marks index all refusal unmarked = inr (holds, inr (inl (index, (all, unmarked))))
 
   mark_cause : new.content ≡ old.disk.content → (index : PlaceMap) → IsIndexOf holds.store.held index → old.known ≡ Some index → (level slot : ℕ) (refusal : Refusal)
-      → StopsScan old.known old.disk new level slot old.collection.live refusal → IsCausedBy refusal
+      → StopsScan old.tables.held old.known old.disk new level slot old.collection.live refusal → IsCausedBy refusal
   mark_cause same index all known level slot refusal stops =
       by_marks index all refusal (record {
         slot = slot;
@@ -138,12 +150,13 @@ module _ (percent : ℕ) (v w : DiskView) (source : SourceView) (sink : SinkView
   untold : (tells : (places : PlaceMap) × (old.known ≡ Some places)) → old.known ≡ None → ⊥
   untold tells none = let wrong : Some tells.0 ≡ None = sym tells.1 ∙ none in cc
 
-  record_cause : (tells : (places : PlaceMap) × (old.known ≡ Some places)) → new.content ≡ old.disk.content → (slot : ℕ) (refusal : Refusal) → IsRecordRefusal old.known old.disk new slot refusal → IsCausedBy refusal
-  record_cause tells same slot Memory cause = tt
-  record_cause tells same slot DiskRead cause = tt
-  record_cause tells same slot (Damaged at why) (inl cause) = header_cause same slot (Damaged at why) cause
-  record_cause tells same slot (Damaged at why) (inr none) = absurd (untold tells none)
-  record_cause tells same slot refusal cause = absurd cause
+  record_cause : (tells : (places : PlaceMap) × (old.known ≡ Some places)) → Came → new.content ≡ old.disk.content → (slot : ℕ) → HasSome slot → (refusal : Refusal)
+      → IsRecordRefusal old.tables.held old.known old.disk new slot refusal → IsCausedBy refusal
+  record_cause tells came same slot some Memory cause = tt
+  record_cause tells came same slot some DiskRead cause = tt
+  record_cause tells came same slot some (Damaged at why) (inl cause) = header_cause came same slot some (Damaged at why) cause
+  record_cause tells came same slot some (Damaged at why) (inr none) = absurd (untold tells none)
+  record_cause tells came same slot some refusal cause = absurd cause
 
   -- ---- a source, whose slot lies before the end of the slots, where the content stays
 
@@ -159,16 +172,21 @@ module _ (percent : ℕ) (v w : DiskView) (source : SourceView) (sink : SinkView
     since_header : (bytes : List ℕ) → Shows old.disk new (λ image. header_bytes slot image ≡ bytes) → ShownSince v w (λ image. header_bytes slot image ≡ bytes)
     since_header bytes = since_before (λ image. header_bytes slot image ≡ bytes) (λ was image same is. same.before (slot_at slot) 49664 (omega (arith, below)) ∙ is)
 
-    source_header : (refusal : Refusal) → IsHeaderRefusal old.disk new slot refusal → IsCausedBy refusal
-    source_header Memory cause = tt
-    source_header DiskRead cause = tt
-    source_header (Damaged at why) (at_is, damage) =
-        inr (holds, inl (slot, (at_is, record { bytes = damage.bytes; first = damage.first; are_found = since_header damage.bytes damage.are_found })))
-    source_header refusal cause = absurd cause
+    since_held : (h : HeaderValue) → Shows old.disk new (λ image. HoldsSlot image slot (Some h)) → ShownSince v w (λ image. HoldsSlot image slot (Some h))
+    since_held h = since_before (λ image. HoldsSlot image slot (Some h)) (λ was image same is. (is.0, same.before (slot_at slot) 49664 (omega (arith, below)) ∙ is.1))
+
+    source_header : Came → HasSome slot → (refusal : Refusal) → IsHeaderRefusal old.tables.held old.disk new slot refusal → IsCausedBy refusal
+    source_header came some Memory cause = tt
+    source_header came some DiskRead cause = tt
+    source_header came some (Damaged at why) (at_is, inl damage) =
+        inr (holds, inl (slot, (at_is, inl (record { bytes = damage.bytes; first = damage.first; are_found = since_header damage.bytes damage.are_found }))))
+    source_header came some (Damaged at why) (at_is, inr other) =
+        inr (holds, inl (slot, (at_is, inr (other_header holds.store old.tables.held v w old.disk new slot why came some since_held other))))
+    source_header came some refusal cause = absurd cause
 
     module _ (h : HeaderValue) (shown : Shows old.disk new (λ image. HoldsSlot image slot (Some h))) (e : Entry) (one_of : Contains h.entries e) where
       there : ShownSince v w (λ image. HoldsSlot image slot (Some h))
-      there = since_before (λ image. HoldsSlot image slot (Some h)) (λ was image same is. (is.0, same.before (slot_at slot) 49664 (omega (arith, below)) ∙ is.1)) shown
+      there = since_held h shown
 
       -- what an entry names lies in the slot
       found_since : (at count : ℕ) (got : List ℕ) → at ≡ data_at slot + e.offset → count ≡ e.length → WereFound (Shows old.disk new) at count got → WereFound (ShownSince v w) at count got
@@ -205,9 +223,9 @@ module _ (percent : ℕ) (v w : DiskView) (source : SourceView) (sink : SinkView
           )
       one_cause s buffer refusal known same cause = absurd cause.1.1
 
-    source_cause : (live : LiveKeys) (from : ℕ) (buffer : Contents) (refusal : Refusal) → IsCopyRefusal old.known live slot from buffer old.disk new refusal → IsCausedBy refusal
-    source_cause live from buffer refusal (inl (inl header)) = source_header refusal header
-    source_cause live from buffer refusal (inl (inr (h, shown, kind, few, plan))) = by_plan refusal plan
+    source_cause : Came → HasSome slot → (live : LiveKeys) (from : ℕ) (buffer : Contents) (refusal : Refusal) → IsCopyRefusal old.tables.held old.known live slot from buffer old.disk new refusal → IsCausedBy refusal
+    source_cause came some live from buffer refusal (inl (inl header)) = source_header came some refusal header
+    source_cause came some live from buffer refusal (inl (inr (h, tabled, shown, kind, few, plan))) = by_plan refusal plan
       where
         s : Source
         s = source_of old.known live slot h.kind
@@ -220,15 +238,16 @@ module _ (percent : ℕ) (v w : DiskView) (source : SourceView) (sink : SinkView
         by_plan : (r : Refusal) → IsPlanRefusal (source_of old.known live slot h.kind) (Shows old.disk new) (drop from h.entries) (planned buffer []) r → IsCausedBy r
         by_plan Memory is = tt
         by_plan r is = stuck r is
-    source_cause live from buffer DiskWrite (inr remove) = tt
-    source_cause live from buffer (Damaged at why) (inr none) = absurd (untold tells none)
-    source_cause live from buffer refusal (inr remove) = absurd remove
+    source_cause came some live from buffer DiskWrite (inr remove) = tt
+    source_cause came some live from buffer (Damaged at why) (inr none) = absurd (untold tells none)
+    source_cause came some live from buffer refusal (inr remove) = absurd remove
 
-  copy_cause : (tells : (places : PlaceMap) × (old.known ≡ Some places)) (slots : ℕ) → length old.tables.held.ids.items ≡ slots → Both (SameBefore (slot_at slots)) old.disk.content new.content → (source entry : ℕ) (refusal : Refusal)
+  copy_cause : Came → HasStage old.tables.held old.collection SweepStage → (tells : (places : PlaceMap) × (old.known ≡ Some places)) (slots : ℕ) → length old.tables.held.ids.items ≡ slots → Both (SameBefore (slot_at slots)) old.disk.content new.content → (source entry : ℕ) → old.collection.sweep.next ≡ Copy source entry → (refusal : Refusal)
       → IsCopyStepRefusal old.tables.held old.collection.live old.known old.disk new source entry old.collection.sweep refusal → IsCausedBy refusal
-  copy_cause tells slots many moved source entry Memory cause = tt
-  copy_cause tells slots many moved source entry refusal none =
-      source_cause tells slots none.slot (omega (arith, none.is_source.within, many)) moved old.collection.live entry none.filling refusal none.cause
+  copy_cause came has tells slots many moved source entry next_is Memory cause = tt
+  copy_cause came has tells slots many moved source entry next_is refusal none =
+      source_cause tells slots none.slot (omega (arith, none.is_source.within, many)) moved came
+      (copied_some old.tables.held old.collection source entry none.slot has next_is none.is_source.id_is) old.collection.live entry none.filling refusal none.cause
 
   flush_cause : (tells : (places : PlaceMap) × (old.known ≡ Some places)) → (LAST_ID ≤ old.tables.held.last_id → IsUnwritten holds.store) → (refusal : Refusal) → IsFlushStepRefusal old.tables old.known refusal → IsCausedBy refusal
   flush_cause tells none Memory cause = tt
@@ -246,13 +265,13 @@ module _ (percent : ℕ) (v w : DiskView) (source : SourceView) (sink : SinkView
 
   -- by the stage
   pub stage_cause : (slots : ℕ) → old.disk.size ≡ size_of slots → length old.tables.held.ids.items ≡ slots → (index : PlaceMap) → IsIndexOf holds.store.held index → (tells : (places : PlaceMap) × (old.known ≡ Some places))
-      → (LAST_ID ≤ old.tables.held.last_id → IsUnwritten holds.store) → (stage : Stage) (next : Next) → (IsMarking stage → old.known ≡ Some index)
+      → (LAST_ID ≤ old.tables.held.last_id → IsUnwritten holds.store) → Came → (stage : Stage) (next : Next) → HasStage old.tables.held old.collection stage → old.collection.sweep.next ≡ next → (IsMarking stage → old.known ≡ Some index)
       → (e : Ending) → Touches stage next old.collection.sweep old.tables e old.disk new → (refusal : Refusal) → IsStepRefusal stage next old new refusal → IsCausedBy refusal
-  stage_cause slots sized many index all tells none (Mark level slot) next marks e touches refusal (inl cause) = header_cause touches.only.content_is slot refusal cause
-  stage_cause slots sized many index all tells none (Mark level slot) next marks e touches refusal (inr stops) = mark_cause touches.only.content_is index all (marks tt) level slot refusal stops
-  stage_cause slots sized many index all tells none (Filter slot) next marks e touches refusal cause = record_cause tells touches.only.content_is slot refusal cause
-  stage_cause slots sized many index all tells none Select next marks e touches refusal cause = by_memory refusal cause
-  stage_cause slots sized many index all tells none SweepStage (Copy source entry) marks e touches refusal cause = copy_cause tells slots many (touches slots sized).content_is source entry refusal cause
-  stage_cause slots sized many index all tells none SweepStage (Flush source entry) marks e touches refusal cause = flush_cause tells none refusal cause
-  stage_cause slots sized many index all tells none SweepStage (Release source entry) marks e touches refusal cause = by_write refusal cause
-  stage_cause slots sized many index all tells none SweepStage End marks e touches refusal cause = absurd cause
+  stage_cause slots sized many index all tells none came (Mark level slot) next has next_is marks e touches refusal (inl cause) = header_cause came touches.only.content_is slot (marked_some old.tables.held old.collection level slot has) refusal cause
+  stage_cause slots sized many index all tells none came (Mark level slot) next has next_is marks e touches refusal (inr stops) = mark_cause touches.only.content_is index all (marks tt) level slot refusal stops
+  stage_cause slots sized many index all tells none came (Filter slot) next has next_is marks e touches refusal cause = record_cause tells came touches.only.content_is slot (recorded_some old.tables.held old.collection slot has) refusal cause
+  stage_cause slots sized many index all tells none came Select next has next_is marks e touches refusal cause = by_memory refusal cause
+  stage_cause slots sized many index all tells none came SweepStage (Copy source entry) has next_is marks e touches refusal cause = copy_cause came has tells slots many (touches slots sized).content_is source entry next_is refusal cause
+  stage_cause slots sized many index all tells none came SweepStage (Flush source entry) has next_is marks e touches refusal cause = flush_cause tells none refusal cause
+  stage_cause slots sized many index all tells none came SweepStage (Release source entry) has next_is marks e touches refusal cause = by_write refusal cause
+  stage_cause slots sized many index all tells none came SweepStage End has next_is marks e touches refusal cause = absurd cause

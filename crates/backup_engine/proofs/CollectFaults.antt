@@ -1,5 +1,5 @@
 -- Why a collection goes no further, where what one thing shows another shows.
-use Rattle.std.proofs.Common.{◌≡◌, ℕ, List}
+use Rattle.std.proofs.Common.{◌≡◌, inl, inr, ℕ, List}
 use Rattle.container_meta.specs.declared.entry.Entry.{Entry}
 use Rattle.container_meta.specs.declared.place.Place.{Place}
 use Rattle.container_meta.specs.Places.{PlaceMap}
@@ -11,6 +11,7 @@ use Rattle.gc_enumerate.specs.declared.fault.ScanFault.TheVariants as faults
 use Rattle.gc_enumerate.proofs.Scans.{entry_fault_wider, finds_wider}
 use Rattle.refusals.specs.declared.refusal.Refusal.{Refusal}
 use Rattle.refusals.specs.declared.refusal.Refusal.TheVariants.{Damaged}
+use Rattle.store_model.specs.Image.{Store}
 use Rattle.store_model.specs.Slots.{place_of}
 use Rattle.store_model.specs.Trees.{bytes_at}
 use Rattle.backup_engine.specs.AnyDisk.{HasBadHeader, IsUncopied, IsUnmarked, ShownSince, ShownThere}
@@ -37,10 +38,26 @@ module _ (s : Scan) (showed showed' : Place → List ℕ → Type 0) (wider : (p
   fault_wider entries (faults.Damaged at why) cause = stuck_wider entries (faults.Damaged at why) cause
 
 module _ (old old_now new new_now : DiskView) (each : (P : List ℕ → Type 0) → ShownSince old old_now P → ShownSince new new_now P) where
-  pub bad_header_so : (refusal : Refusal) → HasBadHeader old old_now refusal → HasBadHeader new new_now refusal
-  bad_header_so (Damaged at why) (slot, (at_is, damage)) =
-      (slot, (at_is, record { bytes = damage.bytes; first = damage.first; are_found = each _ damage.are_found }))
-  bad_header_so refusal is = absurd is
+  pub bad_header_so : (store : Store) (refusal : Refusal) → HasBadHeader store old old_now refusal → HasBadHeader store new new_now refusal
+  bad_header_so store (Damaged at why) (slot, (at_is, inl damage)) =
+      (slot, (at_is, inl (record { bytes = damage.bytes; first = damage.first; are_found = each _ damage.are_found })))
+  bad_header_so store (Damaged at why) (slot, (at_is, inr other)) = (
+    slot,
+    (
+      at_is,
+      inr (record {
+        changes = other.changes;
+        sweeps = other.sweeps;
+        wanted = other.wanted;
+        stands = other.stands;
+        header = other.header;
+        right = other.right;
+        shown = each _ other.shown;
+        first = other.first;
+      }),
+    ),
+  )
+  bad_header_so store refusal is = absurd is
 
   pub unmarked_so : (index : PlaceMap) (refusal : Refusal) → IsUnmarked index old old_now refusal → IsUnmarked index new new_now refusal
   unmarked_so index refusal is = record {

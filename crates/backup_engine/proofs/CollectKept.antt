@@ -15,6 +15,7 @@ use Rattle.dd_io.specs.Flow.{SourceView, SinkView}
 use Rattle.disk_format.specs.Layout.{size_of}
 use Rattle.disk_format.specs.declared.numbers.TheConstants.{LAST_ID}
 use Rattle.gc_steps.specs.declared.collection.Collection.{Collection}
+use Rattle.gc_steps.specs.UnderWay.{HasStage}
 use Rattle.gc_steps.specs.Roots.{keys_of_names, roots_of}
 use Rattle.gc_steps.specs.Starting.{StopsAt}
 use Rattle.gc_steps.proofs.RootKeys.{names_alone}
@@ -48,7 +49,8 @@ use Rattle.backup_engine.proofs.Called.{Called, settled}
 use Rattle.backup_engine.proofs.CollectCauses.{stage_cause}
 use Rattle.backup_engine.proofs.CollectFrame.{IsBut, all_leave, but_here, step_leaves}
 use Rattle.backup_engine.proofs.NewContainers.{none_new}
-use Rattle.backup_engine.proofs.CollectSteps.{CollectedSoFar, IsMarking, all_steps, collection_later, ended, few_so, gc_event, none_counted, reads_settled, same_collection}
+use Rattle.backup_engine.proofs.CollectSteps.{CollectedSoFar, IsMarking, all_steps, collection_later, ended, few_so, gc_event, none_counted, reads_settled, same_collection, under_way}
+use Rattle.backup_engine.proofs.OtherHeaders.{CameTo}
 use Rattle.backup_engine.proofs.SweptBytes.{IsFramed, framed_reads, same_slots}
 use Rattle.backup_engine.proofs.SweptSlots.{no_slots}
 use Rattle.backup_engine.proofs.FirstActor.{represents_still}
@@ -335,6 +337,9 @@ module _ (C : Type 0) (state : C → CoreState) (v w : DiskView) (old new : C) (
       unwritten : LAST_ID ≤ at.tables.held.last_id → IsUnwritten store
       unwritten none = record { changes = so_far.changes; sweeps = record { each = so_far.each; after = so_far.after; chain = so_far.chain }; ids = no_id none; earlier = so_far.frees_old; few = few_so store index v sized C state sweeps.1.0 so_far called.opened.valid.many }
 
+      came_to : CameTo store at.tables.held
+      came_to = record { changes = so_far.changes; sweeps = record { each = so_far.each; after = so_far.after; chain = so_far.chain }; slots = so_far.represents.slots_hold }
+
       slots_many : length at.tables.held.ids.items ≡ store.slots
       slots_many = omega (arith, ap (λ (ids : List ℕ). length ids) so_far.represents.slots_hold.ids_are, as_many_ids so_far.after.held, so_far.valid.many, so_far.slots_are)
 
@@ -343,7 +348,7 @@ module _ (C : Type 0) (state : C → CoreState) (v w : DiskView) (old new : C) (
           let c = made.before in
           let so_is = same_collection so_far.collection c at.collection so_far.runs made.ran in
           stage_cause percent v w source sink (ends_holds err sweeps) (at_moment at c) (state new).disk so_far.later (ends err sweeps).made.effect.later called.last store.slots (so_far.later.size_is ∙ sized) slots_many
-          index (called.opened.whole index called.opened.told.1) so_far.tells unwritten c.stage c.sweep.next (λ marks. so_far.marks (subst (λ (x : Collection). IsMarking x.stage) (sym so_is) marks))
+          index (called.opened.whole index called.opened.told.1) so_far.tells unwritten came_to c.stage c.sweep.next (subst (λ (x : Collection). HasStage at.tables.held x x.stage) so_is (under_way store index v sized C state sweeps.1.0 so_far).stage_is) refl (λ marks. so_far.marks (subst (λ (x : Collection). IsMarking x.stage) (sym so_is) marks))
           (ending blames err) (subst (λ (o : Option Collection). TouchesBy o err at (state new).disk) made.ran touches) r made.cause
 
       cause_of : (r : Refusal) → GcRow (Err r) at (state new) → TouchesBy at.collection err at (state new).disk → (source : SourceView) (sink : SinkView)

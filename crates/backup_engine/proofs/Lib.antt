@@ -51,6 +51,7 @@ pub mod NotOpened
 pub mod Numbers
 pub mod OneLine
 pub mod Opens
+pub mod OtherHeaders
 pub mod PutCauses
 pub mod PutChanges
 pub mod PutEnds

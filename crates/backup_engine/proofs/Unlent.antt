@@ -265,7 +265,7 @@ module _ (loans loans_now : List ℕ) (v w : DiskView) where
     shown_since P is = record { parts = is.parts; returned = is.returned; known = is.known; shows = is.shows }
 
     uncollected : (is : Holds lent lent_now) (refusal : Refusal) → IsUncollected is refusal → IsUncollected (holds is) refusal
-    uncollected is refusal (inl bad) = inl (bad_header_so lent lent_now v w shown_since refusal bad)
+    uncollected is refusal (inl bad) = inl (bad_header_so lent lent_now v w shown_since is.store refusal bad)
     uncollected is refusal (inr (inl (index, (all, unmarked)))) = inr (inl (index, (all, unmarked_so lent lent_now v w shown_since index refusal unmarked)))
     uncollected is refusal (inr (inr (inl uncopied))) = inr (inr (inl (uncopied_so lent lent_now v w shown_since refusal uncopied)))
     uncollected is refusal (inr (inr (inr none))) = inr (inr (inr none))

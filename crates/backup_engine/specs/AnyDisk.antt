@@ -1,10 +1,11 @@
 -- What the top call promises over any disk, also one that tells nothing, or lies (docs/MODEL.md, 'The promise').
-use Rattle.std.specs.Prelude.{◌≡◌, ◌≢◌, ◌⊎◌, ℕ, ◌+◌, ◌<◌, ◌≤◌, List, [], length, Contains, sum_by, is_some, Option, None, Some}
+use Rattle.std.specs.Prelude.{◌≡◌, ◌≢◌, ◌⊎◌, ℕ, ◌+◌, ◌<◌, ◌≤◌, List, [], length, Contains, sum_by, is_some, slice_get, Option, None, Some, Err}
 use Rattle.std.specs.FinMap as finite
 use Rattle.std.specs.List.{AllByRecursion, concat}
 use Rattle.base_model.specs.Bytes.{byte_at}
 use Rattle.base_model.specs.Fault.{Rose}
 use Rattle.base_model.specs.Known.{Known, KnownWith, Appended}
+use Rattle.base_model.specs.Checks.{passes}
 use Rattle.container_log.specs.Faults.{IsDamage}
 use Rattle.container_log.specs.Parts.{header_bytes}
 use Rattle.disk_format.specs.declared.numbers.TheConstants.{FORMAT_GATE, LAST_ID, RESERVE}
@@ -23,6 +24,8 @@ use Rattle.container_meta.specs.Spelling.{HeaderValue, IsHeader}
 use Rattle.container_meta.specs.declared.kind.Kind.TheVariants.{Tree}
 use Rattle.container_meta.specs.declared.entry.Entry.{Entry}
 use Rattle.container_meta.specs.declared.place.Place.{Place}
+use Rattle.copy_forward.specs.Headers.{header_checks}
+use Rattle.disk_format.specs.declared.why.Why.{Why}
 use Rattle.gc_enumerate.specs.Live.{LiveKeys}
 use Rattle.gc_enumerate.specs.Scanning.{IsScanFault}
 use Rattle.gc_enumerate.specs.declared.fault.ScanFault.{ScanFault}
@@ -47,6 +50,7 @@ use Rattle.store_model.specs.Trees.{bytes_at, node_key, root_of}
 use Rattle.store_state.specs.Comparing.{IsCopyRefusal, IsNodeRefusal}
 use Rattle.store_state.specs.Refused.{blames}
 use Rattle.store_state.specs.Settled.{IsSettled}
+use Rattle.store_state.specs.Tables.{count_of}
 use Rattle.recovery.specs.Opening.{IsOpenRefusal}
 use Rattle.recovery.specs.Formatting.{IsFormatRefusal}
 use Rattle.read_steps.specs.Opening.{HasRoot, top_of}
@@ -160,11 +164,25 @@ pub record ShownSince (disk disk_now : DiskView) (P : List ℕ → Type 0) : Typ
 abbrev pub ShownThere : DiskView → DiskView → Place → List ℕ → Type 0
 ShownThere disk disk_now place bytes = ShownSince disk disk_now (λ image. bytes_at place image ≡ bytes)
 
--- in the place of a container's header is what breaks its form
-abbrev pub HasBadHeader : DiskView → DiskView → Refusal → Type 0
-HasBadHeader disk disk_now (Damaged at why) =
-    (slot : ℕ) × ((at ≡ slot_at slot) × IsDamage (λ bytes. ShownSince disk disk_now (λ image. header_bytes slot image ≡ bytes)) why)
-HasBadHeader disk disk_now refusal = ⊥
+-- In the place of the header of a container, which the store has there as the collection left it, is another one: this is the first of its
+-- id, its kind, the count of its entries and the length of its data that differs, or else its digest.
+pub record HasOtherHeader (store : Store) (disk disk_now : DiskView) (slot : ℕ) (why : Why) : Type 0 where
+  pub changes : List StoreChange
+  pub sweeps : SweepsTo store changes
+  pub wanted : HeaderValue
+  pub stands : slice_get sweeps.after.held slot ≡ Some (Some wanted)
+  pub header : HeaderValue
+  pub right : IsHeader header
+  pub shown : ShownSince disk disk_now (λ image. HoldsSlot image slot (Some header))
+  pub first : passes (header_checks wanted.id (count_of (Some wanted)) header) ≡ Err why
+
+-- in the place of a container's header is what breaks its form, or another header
+abbrev pub HasBadHeader : Store → DiskView → DiskView → Refusal → Type 0
+HasBadHeader store disk disk_now (Damaged at why) =
+    (slot : ℕ) × ((at ≡ slot_at slot)
+    × (IsDamage (λ bytes. ShownSince disk disk_now (λ image. header_bytes slot image ≡ bytes)) why
+    ⊎ HasOtherHeader store disk disk_now slot why))
+HasBadHeader store disk disk_now refusal = ⊥
 
 -- Marking stopped in a container, by one of its entries: what is there is not the node of its digest, or no node, or the index has no
 -- place for a child of it.
@@ -206,7 +224,7 @@ pub record IsUnrooted (store : Store) (refusal : Refusal) : Type 0 where
 -- Why a collection of the store that the disk holds went no further. The index, while it marks, is that of the store.
 abbrev pub IsUncollected : {disk disk_now : DiskView} → Holds disk disk_now → Refusal → Type 0
 IsUncollected {disk} {disk_now} holds refusal =
-    HasBadHeader disk disk_now refusal
+    HasBadHeader holds.store disk disk_now refusal
     ⊎ ((index : PlaceMap) × (IsIndexOf holds.store.held index × IsUnmarked index disk disk_now refusal))
     ⊎ IsUncopied disk disk_now refusal
     ⊎ ((refusal ≡ Numbers) × IsUnwritten holds.store)

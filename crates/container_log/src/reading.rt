@@ -5,7 +5,7 @@ ghost use Rattle.disk_format.specs.declared.numbers.TheConstants.{HEADER_BYTES, 
 ghost use Rattle.disk_format.specs.Layout.{slot_at, data_at};
 ghost use Rattle.dd_disk.specs.Ending.{ending, Reads, UnlessFailed};
 ghost use Rattle.dd_disk.specs.Shows.{Shows};
-ghost use Rattle.container_meta.specs.Spelling.{HeaderValue, IsHeader, IsSpelled, view, with_entries, header_spelling};
+ghost use Rattle.container_meta.specs.Spelling.{HeaderValue, IsHeader, IsSpelled, view, with_entries, header_digest, header_spelling};
 ghost use Rattle.store_model.specs.Slots.{HoldsSlot};
 ghost use Rattle.container_log.specs.declared.fault.LogFault.TheVariants.{Corrupt, DiskRead};
 ghost use Rattle.container_log.specs.Faults.{blames, fails, OrMemory, why_of as named_by, IsDecodeFault, IsHeaderFault, IsSegmentFault};
@@ -107,6 +107,7 @@ fn header_into(at: u64, bytes: &[u8], entries: &mut Vec<Entry>) -> Result<Header
     requires length { length bytes.now ≡ HEADER_BYTES }
     requires room { MOST_ENTRIES ≤ vec_capacity entries.old }
     ensures found { IfOk result (λ h. IsSpelled (with_entries h entries.new.items) bytes.now) }
+    ensures digest { IfOk result (λ h. h.digest ≡ header_digest (with_entries h entries.new.items)) }
     ensures only { (h : HeaderValue) → IsHeader h → bytes.now ≡ header_spelling h
         → UnlessFailed fails (λ header. with_entries header entries.new.items ≡ h) result }
     ensures room { vec_capacity entries.old ≤ vec_capacity entries.new }
@@ -127,6 +128,7 @@ fn header_into(at: u64, bytes: &[u8], entries: &mut Vec<Entry>) -> Result<Header
 pub(crate) fn header_in(alloc: Global, at: u64, bytes: &[u8]) -> Result<Meta, LogFault>
     requires { length bytes.now ≡ HEADER_BYTES }
     ensures found { IfOk result (λ m. IsSpelled (view m) bytes.now) }
+    ensures digest { IfOk result (λ m. m.digest ≡ header_digest (view m)) }
     ensures only { (h : HeaderValue) → IsHeader h → bytes.now ≡ header_spelling h → UnlessFailed fails (λ m. view m ≡ h) result }
     ensures fault { IfErr result (OrMemory (IsDecodeFault bytes.now at)) }
 {
@@ -176,6 +178,7 @@ pub fn read_meta_into<D: Disk>(
     requires length { length raw.old ≡ HEADER_BYTES }
     requires room { MOST_ENTRIES ≤ vec_capacity entries.old }
     ensures right { IfOk result (λ h. IsHeader (with_entries h entries.new.items)) }
+    ensures digest { IfOk result (λ h. h.digest ≡ header_digest (with_entries h entries.new.items)) }
     ensures shown { IfOk result (λ h. Shows (D.view disk.old) (D.view disk.new) (λ image.
         HoldsSlot image slot (Some (with_entries h entries.new.items)))) }
     // The header that the slot holds is answered, unless the disk fails.
@@ -195,6 +198,7 @@ pub fn read_meta_into<D: Disk>(
 pub fn read_meta<D: Disk>(alloc: Global, disk: &mut D, slot: u32) -> Result<Meta, LogFault>
     requires { slot_at slot + SLOT_BYTES ≤ (D.view disk.old).size }
     ensures right { IfOk result (λ m. IsHeader (view m)) }
+    ensures digest { IfOk result (λ m. m.digest ≡ header_digest (view m)) }
     ensures shown { IfOk result (λ m. Shows (D.view disk.old) (D.view disk.new) (λ image. HoldsSlot image slot (Some (view m)))) }
     // The header that the slot holds is answered, unless memory or the disk fails.
     ensures only { Shows (D.view disk.old) (D.view disk.new) (λ image.

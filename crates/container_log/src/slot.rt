@@ -5,7 +5,7 @@ ghost use Rattle.disk_format.specs.declared.numbers.TheConstants.{CONTAINER_GATE
 ghost use Rattle.disk_format.specs.Layout.{slot_at};
 ghost use Rattle.dd_disk.specs.Ending.{ending, Reads, UnlessFailed};
 ghost use Rattle.dd_disk.specs.Shows.{Shows};
-ghost use Rattle.container_meta.specs.Spelling.{HeaderValue, IsHeader, view};
+ghost use Rattle.container_meta.specs.Spelling.{HeaderValue, IsHeader, header_digest, view};
 ghost use Rattle.store_model.specs.Slots.{HoldsSlot};
 ghost use Rattle.container_log.specs.declared.fault.LogFault.TheVariants.{DiskRead};
 ghost use Rattle.container_log.specs.Faults.{blames, fails, OrMemory, IsHeaderFault};
@@ -52,6 +52,7 @@ fn read_rest<D: Disk>(disk: &mut D, slot: u32, bytes: &mut [u8]) -> Result<(), L
 fn read_open<D: Disk>(alloc: Global, disk: &mut D, slot: u32) -> Result<Meta, LogFault>
     requires { slot_at slot + SLOT_BYTES ≤ (D.view disk.old).size }
     ensures right { IfOk result (λ m. IsHeader (view m)) }
+    ensures digest { IfOk result (λ m. m.digest ≡ header_digest (view m)) }
     ensures shown { IfOk result (λ m. Shows (D.view disk.old) (D.view disk.new) (λ image.
         byte_at (slot_at slot) image ≡ CONTAINER_GATE → HoldsSlot image slot (Some (view m)))) }
     ensures only { Shows (D.view disk.old) (D.view disk.new) (λ image. byte_at (slot_at slot) image ≡ CONTAINER_GATE →
@@ -72,6 +73,7 @@ fn read_open<D: Disk>(alloc: Global, disk: &mut D, slot: u32) -> Result<Meta, Lo
 pub fn read_slot<D: Disk>(alloc: Global, disk: &mut D, slot: u32) -> Result<Option<Meta>, LogFault>
     requires { slot_at slot + SLOT_BYTES ≤ (D.view disk.old).size }
     ensures right { IfOk result (λ held. IfSome held (λ m. IsHeader (view m))) }
+    ensures digest { IfOk result (λ held. IfSome held (λ m. m.digest ≡ header_digest (view m))) }
     ensures shown { IfOk result (λ held. Shows (D.view disk.old) (D.view disk.new)
         (λ image. HoldsSlot image slot (option_map view held))) }
     // What the slot holds is answered, unless memory or the disk fails.

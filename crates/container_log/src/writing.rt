@@ -1,5 +1,5 @@
 //! Containers written to their slots, and slots made free.
-ghost use Rattle.std.specs.Prelude.{◌≡◌, ◌∷◌, ◌+◌, ◌≤◌, [], true, length, OnOk, IfErr};
+ghost use Rattle.std.specs.Prelude.{◌≡◌, ◌∷◌, ◌+◌, ◌≤◌, [], true, length, OnOk, IfOk, IfErr};
 ghost use Rattle.base_model.specs.Known.{Known, KnownWith};
 ghost use Rattle.disk_format.specs.declared.numbers.TheConstants.{SLOT_BYTES};
 ghost use Rattle.disk_format.specs.Layout.{slot_at};
@@ -7,7 +7,7 @@ ghost use Rattle.dd_disk.specs.Ending.{ending};
 ghost use Rattle.dd_disk.specs.Gated.{TornFrom};
 ghost use Rattle.dd_disk.specs.Writes.{Puts, Writes};
 ghost use Rattle.container_meta.specs.Format.{is_id};
-ghost use Rattle.container_meta.specs.Spelling.{container_spelling};
+ghost use Rattle.container_meta.specs.Spelling.{container_spelling, header_digest, header_of};
 ghost use Rattle.container_log.specs.declared.fault.LogFault.TheVariants.{DiskWrite};
 ghost use Rattle.container_log.specs.Faults.{blames};
 ghost use Rattle.container_log.specs.Writing.{Seals, IsSealed, Frees, IsFreed};
@@ -31,8 +31,8 @@ fn write_container<D: Disk>(disk: &mut D, slot: u32, bytes: &[u8]) -> Result<(),
     }
 }
 
-/// Writes a container under an id to a slot of the disk. `image` is a buffer of `disk_format::SLOT_BYTES` bytes for its
-/// spelling, which it holds then, also where the write fails.
+/// Writes a container under an id to a slot of the disk, and gives the digest of its header. `image` is a buffer of
+/// `disk_format::SLOT_BYTES` bytes for its spelling, which it holds then, also where the write fails.
 ///
 /// The gate is written once the bytes after it are on the disk. The one error is `LogFault::DiskWrite`.
 pub fn seal<D: Disk>(
@@ -41,20 +41,22 @@ pub fn seal<D: Disk>(
     id: u64,
     filled: &OpenContainer,
     image: &mut [u8],
-) -> Result<(), LogFault>
+) -> Result<[u8; 32], LogFault>
     requires place { slot_at slot + SLOT_BYTES ≤ (D.view disk.old).size }
     requires there { 1 ≤ length filled.now.segments }
     requires id { is_id id ≡ true }
     requires image { length image.old ≡ SLOT_BYTES }
     ensures image { image.new ≡ container_spelling id filled.now.kind filled.now.segments }
+    ensures digest { IfOk result (λ digest. digest ≡ header_digest (header_of id filled.now.kind filled.now.segments)) }
     ensures whole { OnOk result (Known (D.view disk.old).content (λ given. KnownWith (D.view disk.new).content
         (Puts (slot_at slot) image.new given))) }
     ensures writes { Writes (Seals slot id filled.now.kind filled.now.segments) (IsSealed slot id filled.now.kind filled.now.segments)
         (ending blames result) (D.view disk.old) (D.view disk.new) }
     ensures fault { IfErr result (λ fault. fault ≡ DiskWrite) }
 {
-    filled.encode(id, image);
-    write_container(disk, slot, image)
+    let digest = filled.encode(id, image);
+    write_container(disk, slot, image)?;
+    Ok(digest)
 }
 
 /// Closes a slot of the disk: writes 0 over its gate. The one error is `LogFault::DiskWrite`.

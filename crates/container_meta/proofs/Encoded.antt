@@ -4,13 +4,14 @@ use Rattle.base_model.specs.Bytes.{zeros}
 use Rattle.std.specs.Prelude.{nat_le, ◌==◌}
 use Rattle.std.proofs.lemmas.Bool.{le-leb, leb-true, eqb-true}
 use Rattle.std.proofs.lemmas.List.{take_at}
+use Rattle.sha2.specs.Sha256.{sha256}
 use Rattle.disk_format.specs.declared.numbers.TheConstants.{DATA_BYTES, MOST_ENTRIES, MOST_SEGMENT, MOST_CHILDREN}
 use Rattle.container_meta.specs.declared.kind.Kind.{Kind}
 use Rattle.container_meta.specs.declared.kind.Kind.TheVariants.{Leaf, Tree}
 use Rattle.container_meta.specs.declared.entry.Entry.{Entry}
 use Rattle.container_meta.specs.Format.{kind_byte, kind_of, is_id, is_within, is_length, child_count}
 use Rattle.container_meta.specs.Segments.{Segment, bytes_in, entries_from, segments_in}
-use Rattle.container_meta.specs.Spelling.{bytes_of, Follow, IsHeader, entries_spelling, fields_spelling, front_spelling, header_of, container_spelling}
+use Rattle.container_meta.specs.Spelling.{bytes_of, Follow, IsHeader, entries_spelling, fields_spelling, front_spelling, header_digest, header_of, container_spelling}
 use Rattle.base_model.proofs.Checks.{both, both_true}
 use Rattle.container_meta.proofs.Parts.{length-entries_spelling}
 use Rattle.container_meta.proofs.Packing.{bytes_of-cons, data-segments_in, bytes_in-segments_in}
@@ -43,6 +44,23 @@ container_written id kind es bytes front entries rest part exact whole allowed w
     ∙ ap (λ (l : List Entry). spelled_with id kind l (length bytes) bytes) exact
     ∙ ap (λ (n : ℕ). spelled_with id kind (entries_from 0 ss) n bytes) (sym (bytes_in-segments_in es bytes whole))
     ∙ ap (λ (l : List ℕ). spelled_with id kind (entries_from 0 ss) (bytes_in ss) l) (sym (data-segments_in es bytes whole))
+
+-- the digest of its header is that of the same fields and entries
+pub digest_written : (id : ℕ) (kind : Kind) (es : List Entry) (bytes digest entries : List ℕ)
+    → es ≡ entries_from 0 (segments_in es bytes) → bytes_of es ≡ length bytes → Follow kind [] es
+    → entries ≡ entries_spelling es ++ zeros (49152 - 48 * length es)
+    → digest ≡ sha256 (fields_spelling id kind (length es) (length bytes) ++ take (48 * length es) entries)
+    → digest ≡ header_digest (header_of id kind (segments_in es bytes))
+unfolding header_digest
+digest_written id kind es bytes digest entries exact whole allowed wrote is =
+    let k : ℕ = 49152 - 48 * length es in
+    let ss : List Segment = segments_in es bytes in
+    let long : length (entries_spelling es) ≡ 48 * length es = length-entries_spelling kind [] es allowed in
+    let part_is : take (48 * length es) entries ≡ entries_spelling es = ap (take (48 * length es)) wrote ∙ take_at (entries_spelling es) (zeros k) (48 * length es) long in
+    let hashed = λ (l : List Entry) (n : ℕ). sha256 (fields_spelling id kind (length l) n ++ entries_spelling l) in
+    is ∙ ap (λ (l : List ℕ). sha256 (fields_spelling id kind (length es) (length bytes) ++ l)) part_is
+    ∙ ap (λ (l : List Entry). hashed l (length bytes)) exact
+    ∙ ap (λ (n : ℕ). hashed (entries_from 0 ss) n) (sym (bytes_in-segments_in es bytes whole))
 
 -- ---- its header
 

@@ -11,3 +11,4 @@ pub mod Cut
 pub mod Encoded
 pub mod Stored
 pub mod KeyEntries
+pub mod Digests

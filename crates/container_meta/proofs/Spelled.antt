@@ -47,5 +47,11 @@ front_written fields entries digest out new digested begun h =
     let inner : take 23 (drop 1 out) ≡ fields = sym (drop-take 1 23 out) ∙ ap (drop 1) begun in
     h ∙ ap (λ (l : List ℕ). (l ++ digest) ++ zeros 456) begun ∙ ap (λ (l : List ℕ). ((CONTAINER_GATE ∷ fields) ++ l) ++ zeros 456) (digested ∙ ap (λ (l : List ℕ). sha256 (l ++ entries)) inner)
 
+-- the digest is taken of the fields that stand after the gate
+pub fields_hashed : (fields entries out digest : List ℕ) → digest ≡ sha256 (take 23 (drop 1 out) ++ entries) → take 24 out ≡ CONTAINER_GATE ∷ fields → digest ≡ sha256 (fields ++ entries)
+fields_hashed fields entries out digest digested begun =
+    let inner : take 23 (drop 1 out) ≡ fields = sym (drop-take 1 23 out) ∙ ap (drop 1) begun in
+    digested ∙ ap (λ (l : List ℕ). sha256 (l ++ entries)) inner
+
 pub bytes_of-push : (es : List Entry) (e : Entry) → bytes_of (es ++ e ∷ []) ≡ bytes_of es + e.length
 bytes_of-push es e = omega (arith, sum_by-append (λ (x : Entry). x.length) es (e ∷ []))

@@ -50,6 +50,11 @@ header_spelling h =
     let entries = entries_spelling h.entries in
     front_spelling fields entries ++ entries ++ zeros (49152 - 48 * length h.entries)
 
+-- the digest that a header has: of its bytes 1 to 23 followed by those of the entries
+unfoldable pub header_digest : HeaderValue → List ℕ
+header_digest h =
+    sha256 (fields_spelling h.id h.kind (length h.entries) h.data_length ++ entries_spelling h.entries)
+
 -- how many bytes of data entries speak of
 abbrev pub bytes_of : List Entry → ℕ
 bytes_of entries = sum_by (λ e. e.length) entries

@@ -73,7 +73,7 @@ impl OpenContainer {
     ghost use Rattle.base_model.specs.Bytes.{range};
     ghost use Rattle.container_meta.specs.Format.{is_id};
     ghost use Rattle.container_meta.specs.Segments.{CanAdd, StandFrom, entries_from, segment_at, has_key, has_room as room_for, has_segment, is_segment};
-    ghost use Rattle.container_meta.specs.Spelling.{IsHeader, header_of, header_spelling, container_spelling};
+    ghost use Rattle.container_meta.specs.Spelling.{IsHeader, header_of, header_digest, header_spelling, container_spelling};
 
     /// An empty container, with all the memory that it will need. It fails for want of memory alone.
     pub fn new(alloc: Global, kind: Kind) -> Result<OpenContainer, AllocError>
@@ -195,13 +195,14 @@ impl OpenContainer {
         self.bytes.clear();
     }
 
-    /// Writes the container under an id, as the `disk_format::SLOT_BYTES` bytes of a slot. It holds a segment at least,
-    /// and the id is 1 to `disk_format::LAST_ID`.
-    pub fn encode(&self, id: u64, image: &mut [u8])
+    /// Writes the container under an id, as the `disk_format::SLOT_BYTES` bytes of a slot, and gives the digest of its
+    /// header. It holds a segment at least, and the id is 1 to `disk_format::LAST_ID`.
+    pub fn encode(&self, id: u64, image: &mut [u8]) -> [u8; 32]
         requires there { 1 ≤ length self.now.segments }
         requires id { is_id id ≡ true }
         requires image { length image.old ≡ SLOT_BYTES }
         ensures image { image.new ≡ container_spelling id self.now.kind self.now.segments }
+        ensures digest { result ≡ header_digest (header_of id self.now.kind self.now.segments) }
         // Each segment stands where its entry says.
         ensures stored { StandFrom 0 self.now.segments image.new }
         ensures header { IsHeader (header_of id self.now.kind self.now.segments) }
@@ -216,7 +217,8 @@ impl OpenContainer {
             count: self.entries.len() as u16,
             data_length: self.bytes.len() as u32,
         };
-        put_front(front, &fields, &entries[..48 * self.entries.len()]);
+        let digest = put_front(front, &fields, &entries[..48 * self.entries.len()]);
         put_data(data, &self.bytes);
+        digest
     }
 }

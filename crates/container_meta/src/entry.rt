@@ -28,6 +28,8 @@ pub struct Header {
     pub kind: Kind,
     /// How many bytes its segments have together, from 1 to `disk_format::DATA_BYTES`.
     pub data_length: u32,
+    /// The SHA-256 of its fields and its entries, as it says it.
+    pub digest: [u8; 32],
 }
 
 /// A container's header and entries.
@@ -39,6 +41,8 @@ pub struct Meta {
     pub kind: Kind,
     /// How many bytes its segments have together, from 1 to `disk_format::DATA_BYTES`.
     pub data_length: u32,
+    /// The SHA-256 of its fields and its entries, as it says it.
+    pub digest: [u8; 32],
     /// From 1 to `disk_format::MOST_ENTRIES` of them, in the order of their offsets, each with a digest of its own.
     pub entries: Vec<Entry>,
 }

@@ -3,9 +3,10 @@
 ghost use Rattle.std.specs.Prelude.{◌≡◌, ℕ, ◌+◌, ◌*◌, ◌-◌, ◌^◌, ◌<◌, ◌≤◌, [], length, vec_capacity, IfOk, Ok};
 ghost use Rattle.std.specs.Int.{w32};
 ghost use Rattle.base_model.specs.Checks.{checked, passes};
+ghost use Rattle.base_model.specs.Bytes.{range};
 ghost use Rattle.base_model.specs.Numbers.{number_at};
 ghost use Rattle.container_meta.specs.declared.fault.MetaFault.TheVariants.{Field};
-ghost use Rattle.container_meta.specs.Spelling.{HeaderValue, IsHeader, IsSpelled, view, with_entries, header_spelling, bytes_of};
+ghost use Rattle.container_meta.specs.Spelling.{HeaderValue, IsHeader, IsSpelled, view, with_entries, header_digest, header_spelling, bytes_of};
 ghost use Rattle.container_meta.specs.Reading.{Gives, filled, decoded, count_at, kind_at as kind_in, opening_checks, digest_checks};
 ghost use Rattle.container_meta.specs.Reading.{field_checks, end_checks, next_read, entries_at, header_at, is_end};
 ghost use Rattle.container_meta.specs.Reading.{zeros_in_front as zeros_before, zeros_end as end_of_zeros};
@@ -226,6 +227,7 @@ fn header_into(bytes: &[u8], entries: &mut Vec<Entry>) -> Result<Header, MetaFau
     requires length { length bytes.now ≡ HEADER_BYTES }
     requires room { MOST_ENTRIES ≤ vec_capacity entries.old }
     ensures value { decoded result entries.new.items ≡ header_at bytes.now }
+    ensures stored { IfOk result (λ h. h.digest ≡ range 24 32 bytes.now) }
     ensures capacity { vec_capacity entries.old ≤ vec_capacity entries.new }
 {
     entries.clear();
@@ -239,6 +241,7 @@ fn header_into(bytes: &[u8], entries: &mut Vec<Entry>) -> Result<Header, MetaFau
         id: u64_at(bytes, 8),
         kind,
         data_length,
+        digest: digest_at(bytes, 24),
     })
 }
 
@@ -253,6 +256,7 @@ pub fn decode_into(bytes: &[u8], entries: &mut Vec<Entry>) -> Result<Header, Met
     requires room { MOST_ENTRIES ≤ vec_capacity entries.old }
     // What is read is a header, and is spelled so.
     ensures found { IfOk result (λ h. IsSpelled (with_entries h entries.new.items) bytes.now) }
+    ensures digest { IfOk result (λ h. h.digest ≡ header_digest (with_entries h entries.new.items)) }
     // What is spelled so is read.
     ensures only { (h : HeaderValue) → IsHeader h → bytes.now ≡ header_spelling h → decoded result entries.new.items ≡ Ok h }
     // Which fault it is.
@@ -269,6 +273,7 @@ pub fn decode(alloc: Global, bytes: &[u8]) -> Result<Meta, MetaFault>
     requires { length bytes.now ≡ HEADER_BYTES }
     // What is read is a header, and is spelled so.
     ensures found { IfOk result (λ m. IsSpelled (view m) bytes.now) }
+    ensures digest { IfOk result (λ m. m.digest ≡ header_digest (view m)) }
     // What is spelled so is read, unless memory runs out.
     ensures only { (h : HeaderValue) → IsHeader h → bytes.now ≡ header_spelling h → Gives view result (Ok h) }
     // Which fault it is.
@@ -276,10 +281,12 @@ pub fn decode(alloc: Global, bytes: &[u8]) -> Result<Meta, MetaFault>
 {
     let mut entries = Vec::with_capacity(alloc, MOST_ENTRIES)?;
     let header = decode_into(bytes, &mut entries)?;
+    let digest = header.digest;
     Ok(Meta {
         id: header.id,
         kind: header.kind,
         data_length: header.data_length,
+        digest,
         entries,
     })
 }

@@ -3,6 +3,7 @@
 ghost use Rattle.std.specs.Prelude.{◌≡◌, ◌+◌, ◌*◌, ◌-◌, ◌≤◌, ◌∷◌, ◌++◌, length, take};
 ghost use Rattle.std.specs.Int.{w16, w32, w64, to_be_bytes};
 ghost use Rattle.base_model.specs.Bytes.{zeros};
+ghost use Rattle.sha2.specs.Sha256.{sha256};
 ghost use Rattle.container_meta.specs.Spelling.{HeaderValue, entry_spelling, entries_spelling, fields_spelling, front_spelling};
 
 use crate::MAGIC;
@@ -74,11 +75,13 @@ fn put_fields(out: &mut [u8], fields: &Fields)
     put(out, 20, &fields.data_length.to_be_bytes());
 }
 
-/// Writes the bytes before the entries, which stand spelled in `entries`.
-pub(crate) fn put_front(out: &mut [u8], fields: &Fields, entries: &[u8])
+/// Writes the bytes before the entries, which stand spelled in `entries`, and gives the digest that is among them.
+pub(crate) fn put_front(out: &mut [u8], fields: &Fields, entries: &[u8]) -> [u8; 32]
     requires { length out.old ≡ 512 }
-    ensures { out.new ≡ front_spelling
+    ensures front { out.new ≡ front_spelling
         (fields_spelling fields.now.id fields.now.kind fields.now.count fields.now.data_length) entries.now }
+    ensures digest { result ≡ sha256
+        (fields_spelling fields.now.id fields.now.kind fields.now.count fields.now.data_length ++ entries.now) }
 {
     put_fields(out, fields);
     let mut hasher = Sha256::new();
@@ -87,6 +90,7 @@ pub(crate) fn put_front(out: &mut [u8], fields: &Fields, entries: &[u8])
     let digest = hasher.finalize();
     put(out, 24, &digest);
     put_zeros(out, 56, 456);
+    digest
 }
 
 /// Writes the data of the segments, and zeros after it.

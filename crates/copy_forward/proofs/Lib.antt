@@ -4,3 +4,5 @@ pub mod Planned
 pub mod Refilled
 pub mod Removed
 pub mod Sourced
+pub mod Summed
+pub mod Tabled

@@ -1,10 +1,11 @@
 -- How what is planned of one entry after the other is put together.
-use Rattle.std.proofs.Common.{◌≡◌, inl, inr, ℕ, suc, ◌+◌, ◌≤◌, Bool, true, false, List, [], ◌∷◌, ◌++◌, length, drop, take, zero, refl, sym, ap, subst, ◌∙◌, arith, length-append}
+use Rattle.std.proofs.Common.{◌≡◌, inl, inr, ℕ, suc, ◌+◌, ◌<◌, ◌≤◌, Bool, true, false, List, [], ◌∷◌, ◌++◌, length, drop, get_or, take, zero, refl, sym, ap, subst, ◌∙◌, arith, length-append}
 use Rattle.std.specs.List.{AllByRecursion, sum_by}
 use Rattle.std.specs.Prelude.{nat_le, nat_lt}
 use Rattle.std.proofs.lemmas.Bool.{le-leb, leb-true, lt-ltb}
 use Rattle.std.proofs.lemmas.List.Sums.{sum_by-append, sum_by-cons, sum_by_push}
-use Rattle.std.proofs.lemmas.List.{length-drop, take-append-drop}
+use Rattle.std.proofs.Math.Seq.{drop-cons}
+use Rattle.std.proofs.lemmas.List.{append-nil, length-drop, length-take-le, take-append-drop, take_all, take_more}
 use Rattle.base_model.proofs.Checks.{both, both_true}
 use Rattle.disk_format.specs.declared.numbers.TheConstants.{DATA_BYTES, MOST_ENTRIES}
 use Rattle.container_meta.specs.declared.entry.Entry.{Entry}
@@ -101,30 +102,76 @@ module _ (S T : (List ℕ → Type 0) → Type 0) (wider : (P : List ℕ → Typ
   plan_refused_wider s es before Memory cause = tt
   plan_refused_wider s es before refusal cause = stuck_wider s es before refusal cause
 
--- ---- one entry and others
+-- ---- one entry after the other
 
-pub takes_none : (s : Source) (S : (List ℕ → Type 0) → Type 0) (all : List Entry) (before : Planned) → all ≡ [] → Takes s S all before before 0
-takes_none s S all before is = subst (λ (es : List Entry). Takes s S es before before 0) (sym is) (refl, refl)
+-- Each of these entries was planned, the first of them first.
+abbrev pub TakesAll : Source → ((List ℕ → Type 0) → Type 0) → List Entry → Planned → Planned → Type 0
+TakesAll s S [] before after = after ≡ before
+TakesAll s S (e ∷ es) before after = (mid : Planned) × (TakesOne s S e before mid × TakesAll s S es mid after)
 
-pub stops_here : (s : Source) (S : (List ℕ → Type 0) → Type 0) (e : Entry) (es all : List Entry) (before after : Planned) → all ≡ e ∷ es → IsFull s e before.buffer → after ≡ before → Takes s S all before after 0
-stops_here s S e es all before after is full same = subst (λ (xs : List Entry). Takes s S xs before after 0) (sym is) (inl (full, same, refl))
+-- by other reads
+all_wider : (S T : (List ℕ → Type 0) → Type 0) → ((P : List ℕ → Type 0) → S P → T P) → (s : Source) (es : List Entry) (before after : Planned) → TakesAll s S es before after → TakesAll s T es before after
+all_wider S T wider s [] before after same = same
+all_wider S T wider s (e ∷ es) before after (mid, (one, others)) = (mid, (one_wider S T wider s e before mid one, all_wider S T wider s es mid after others))
 
-pub stuck_here : (s : Source) (S : (List ℕ → Type 0) → Type 0) (e : Entry) (es all : List Entry) (before : Planned) → all ≡ e ∷ es → (refusal : Refusal) → IsOneRefusal s S e before.buffer refusal
-    → IsStuck s S all before refusal
-stuck_here s S e es all before is refusal cause = subst (λ (xs : List Entry). IsStuck s S xs before refusal) (sym is) (inl cause)
+module _ (s : Source) (S : (List ℕ → Type 0) → Type 0) where
+  takes_push : (es : List Entry) (e : Entry) (before mid after : Planned) → TakesAll s S es before mid → TakesOne s S e mid after → TakesAll s S (es ++ e ∷ []) before after
+  takes_push [] e before mid after same one = (after, (subst (λ (p : Planned). TakesOne s S e p after) same one, refl))
+  takes_push (x ∷ xs) e before mid after (next, (first, others)) one = (next, (first, takes_push xs e next mid after others one))
 
+  -- and then the others
+  takes_then : (xs es : List Entry) (before mid after : Planned) (count : ℕ) → TakesAll s S xs before mid → Takes s S es mid after count → Takes s S (xs ++ es) before after (length xs + count)
+  takes_then [] es before mid after count same takes =
+      let none : count ≡ 0 + count = omega arith in
+      subst (λ (n : ℕ). Takes s S es before after n) none (subst (λ (p : Planned). Takes s S es p after count) same takes)
+  takes_then (x ∷ xs) es before mid after count (next, (first, others)) takes =
+      inr (next, (length xs + count, (omega arith, first, takes_then xs es next mid after count others takes)))
+
+  stuck_then : (xs es : List Entry) (before mid : Planned) (refusal : Refusal) → TakesAll s S xs before mid → IsStuck s S es mid refusal → IsStuck s S (xs ++ es) before refusal
+  stuck_then [] es before mid refusal same stuck = subst (λ (p : Planned). IsStuck s S es p refusal) same stuck
+  stuck_then (x ∷ xs) es before mid refusal (next, (first, others)) stuck = inr (next, (first, stuck_then xs es next mid refusal others stuck))
+
+-- before the first of them
+pub none_taken : (s : Source) (S : (List ℕ → Type 0) → Type 0) (es : List Entry) (p : Planned) → es ≡ [] → TakesAll s S es p p
+none_taken s S es p none = subst (λ (xs : List Entry). TakesAll s S xs p p) (sym none) refl
+
+split_at : (es : List Entry) (i : ℕ) (d : Entry) → i < length es → es ≡ take i es ++ get_or es i d ∷ drop (suc i) es
+split_at es i d within = sym (take-append-drop i es) ∙ ap (λ (xs : List Entry). take i es ++ xs) (drop-cons es i d within)
+
+-- at an entry, where those before it were planned by what reads showed until then
 module _ (s next : Source) (same : next ≡ s) (S R T : (List ℕ → Type 0) → Type 0) (first : (P : List ℕ → Type 0) → S P → T P) (others : (P : List ℕ → Type 0) → R P → T P)
-    (e : Entry) (es all : List Entry) (all_is : all ≡ e ∷ es) (before mid : Planned) (one : TakesOne s S e before mid) where
-  pub takes_more : (after : Planned) (rest : ℕ) → Takes next R es mid after rest → Takes s T all before after (1 + rest)
-  takes_more after rest takes =
-      let on = takes_wider R T others s es mid after rest (subst (λ (x : Source). Takes x R es mid after rest) same takes) in
-      let count : 1 + rest ≡ suc rest = omega arith in
-      subst (λ (xs : List Entry). Takes s T xs before after (1 + rest)) (sym all_is) (inr (mid, (rest, (count, one_wider S T first s e before mid one, on))))
+    (es : List Entry) (i : ℕ) (d : Entry) (within : i < length es) (before mid : Planned) (so_far : TakesAll s S (take i es) before mid) where
+  earlier : TakesAll s T (take i es) before mid
+  earlier = all_wider S T first s (take i es) before mid so_far
 
-  pub stuck_more : (refusal : Refusal) → IsStuck next R es mid refusal → IsStuck s T all before refusal
-  stuck_more refusal stuck =
-      let on = stuck_wider R T others s es mid refusal (subst (λ (x : Source). IsStuck x R es mid refusal) same stuck) in
-      subst (λ (xs : List Entry). IsStuck s T xs before refusal) (sym all_is) (inr (mid, (one_wider S T first s e before mid one, on)))
+  pub takes_more : (after : Planned) → TakesOne next R (get_or es i d) mid after → TakesAll s T (take (i + 1) es) before after
+  takes_more after one =
+      subst (λ (xs : List Entry). TakesAll s T xs before after) (sym (take_more es i d within))
+      (takes_push s T (take i es) (get_or es i d) before mid after earlier (one_wider R T others s (get_or es i d) mid after (subst (λ (x : Source). TakesOne x R (get_or es i d) mid after) same one)))
+
+  pub stops_there : (after : Planned) (count : ℕ) → count ≡ i → IsFull next (get_or es i d) mid.buffer → after ≡ mid → Takes s T es before after count
+  stops_there after count count_is full stays =
+      let full_is : IsFull s (get_or es i d) mid.buffer = subst (λ (x : Source). IsFull x (get_or es i d) mid.buffer) same full in
+      let all = takes_then s T (take i es) (get_or es i d ∷ drop (suc i) es) before mid after 0 earlier (inl (full_is, stays, refl)) in
+      let many : length (take i es) + 0 ≡ count = omega (arith, count_is, length-take-le i es (omega (arith, within))) in
+      subst (λ (xs : List Entry). Takes s T xs before after count) (sym (split_at es i d within))
+      (subst (λ (n : ℕ). Takes s T (take i es ++ get_or es i d ∷ drop (suc i) es) before after n) many all)
+
+  pub stuck_there : (refusal : Refusal) → IsOneRefusal next R (get_or es i d) mid.buffer refusal → IsStuck s T es before refusal
+  stuck_there refusal cause =
+      let on : IsOneRefusal s T (get_or es i d) mid.buffer refusal = one_refusal_wider R T others s (get_or es i d) mid.buffer refusal (subst (λ (x : Source). IsOneRefusal x R (get_or es i d) mid.buffer refusal) same cause) in
+      subst (λ (xs : List Entry). IsStuck s T xs before refusal) (sym (split_at es i d within))
+      (stuck_then s T (take i es) (get_or es i d ∷ drop (suc i) es) before mid refusal earlier (inl on))
+
+-- after the last of them
+pub takes_whole : (s : Source) (S : (List ℕ → Type 0) → Type 0) (es : List Entry) (n count : ℕ) (before after : Planned) → length es ≤ n → n ≤ length es → count ≡ n → TakesAll s S (take n es) before after
+    → Takes s S es before after count
+takes_whole s S es n count before after past few is all =
+    let whole : TakesAll s S es before after = subst (λ (xs : List Entry). TakesAll s S xs before after) (take_all n es past) all in
+    let then = takes_then s S es [] before after after 0 whole (refl, refl) in
+    let many : length es + 0 ≡ count = omega (arith, past, few, is) in
+    subst (λ (xs : List Entry). Takes s S xs before after count) (append-nil es)
+    (subst (λ (k : ℕ). Takes s S (es ++ []) before after k) many then)
 
 -- ---- what follows of a plan
 

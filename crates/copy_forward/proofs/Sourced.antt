@@ -15,12 +15,14 @@ use Rattle.refusals.specs.declared.refusal.Refusal.{Refusal}
 use Rattle.segment_index.specs.Changes.{Changes, SameBefore}
 use Rattle.store_model.specs.Slots.{HoldsSlot}
 use Rattle.store_state.proofs.Changed.{changes_on, size_on}
+use Rattle.store_state.specs.declared.slot_table.SlotTable.{SlotTable}
 use Rattle.copy_forward.specs.declared.plan.Plan.{Plan}
 use Rattle.copy_forward.specs.Copying.{IsSourceRefusal, PlansBy, PlansSource}
+use Rattle.copy_forward.specs.Headers.{IsTabled}
 use Rattle.copy_forward.specs.Planning.{IsPlan, IsPlanRefusal, Source, planned, source_of}
 use Rattle.copy_forward.proofs.Planned.{plan_refused_wider, plan_wider}
 
-module _ (known mid_known : Option PlaceMap) (live : LiveKeys) (slot from : ℕ) (h : HeaderValue) (buffer : Contents) (old mid new : DiskView)
+module _ (t : SlotTable) (known mid_known : Option PlaceMap) (live : LiveKeys) (slot from : ℕ) (h : HeaderValue) (buffer : Contents) (old mid new : DiskView)
     (same : mid_known ≡ known) (shown : Shows old mid (λ image. HoldsSlot image slot (Some h))) (reads : OnlyReads old mid) (later : IsLater mid new) where
   abbrev source : Source
   source = source_of known live slot h.kind
@@ -28,11 +30,12 @@ module _ (known mid_known : Option PlaceMap) (live : LiveKeys) (slot from : ℕ)
   header_shown : Shows old new (λ image. HoldsSlot image slot (Some h))
   header_shown = until old mid new shown reads.later.clock_is later
 
-  pub plans_after : (plan : Plan) → IsHeader h → h.kind ≡ buffer.kind → IsPlan (source_of mid_known live slot h.kind) (Shows mid new) h.entries from buffer plan
-      → PlansSource known live slot from buffer old new (Some plan)
-  plans_after plan right kind is = record {
+  pub plans_after : (plan : Plan) → IsHeader h → IsTabled t slot h → h.kind ≡ buffer.kind → IsPlan (source_of mid_known live slot h.kind) (Shows mid new) h.entries from buffer plan
+      → PlansSource t known live slot from buffer old new (Some plan)
+  plans_after plan right tabled kind is = record {
     header = h;
     right = right;
+    tabled = tabled;
     shown = header_shown;
     plans = (
       kind,
@@ -41,10 +44,11 @@ module _ (known mid_known : Option PlaceMap) (live : LiveKeys) (slot from : ℕ)
     );
   }
 
-  pub unplanned_after : (refusal : Refusal) → h.kind ≡ buffer.kind → from ≤ length h.entries → IsPlanRefusal (source_of mid_known live slot h.kind) (Shows mid new) (drop from h.entries) (planned buffer []) refusal
-      → IsSourceRefusal known live slot from buffer old new refusal
-  unplanned_after refusal kind few is = inr (
+  pub unplanned_after : (refusal : Refusal) → IsTabled t slot h → h.kind ≡ buffer.kind → from ≤ length h.entries → IsPlanRefusal (source_of mid_known live slot h.kind) (Shows mid new) (drop from h.entries) (planned buffer []) refusal
+      → IsSourceRefusal t known live slot from buffer old new refusal
+  unplanned_after refusal tabled kind few is = inr (
     h,
+    tabled,
     header_shown,
     kind,
     few,
@@ -53,11 +57,12 @@ module _ (known mid_known : Option PlaceMap) (live : LiveKeys) (slot from : ℕ)
   )
 
 -- what was planned is so by what more reads show
-pub plans_until : (known : Option PlaceMap) (live : LiveKeys) (slot from : ℕ) (buffer : Contents) (old mid new : DiskView) (found : Option Plan) → OnlyReads old mid → IsLater mid new
-    → PlansSource known live slot from buffer old mid found → PlansSource known live slot from buffer old new found
-plans_until known live slot from buffer old mid new found reads later is = record {
+pub plans_until : (t : SlotTable) (known : Option PlaceMap) (live : LiveKeys) (slot from : ℕ) (buffer : Contents) (old mid new : DiskView) (found : Option Plan) → OnlyReads old mid → IsLater mid new
+    → PlansSource t known live slot from buffer old mid found → PlansSource t known live slot from buffer old new found
+plans_until t known live slot from buffer old mid new found reads later is = record {
   header = is.header;
   right = is.right;
+  tabled = is.tabled;
   shown = until old mid new is.shown reads.later.clock_is later;
   plans = by_found found is.plans;
 }

@@ -1,14 +1,10 @@
 -- Which entries of a container are live, and the copies that the index has (docs/MODEL.md, 'Collection').
 use Rattle.std.specs.Prelude.{◌≡◌, ◌⊎◌, ℕ, ◌+◌, ◌==◌, ◌&&◌, Bool, true, false, List, [], ◌∷◌, Option, None, Some}
 use Rattle.std.specs.FinMap as finite
-use Rattle.container_log.specs.Faults.{IsDamage}
-use Rattle.container_log.specs.Parts.{header_bytes, ReadAs}
 use Rattle.container_meta.specs.declared.entry.Entry.{Entry}
 use Rattle.container_meta.specs.declared.kind.Kind.{Kind}
 use Rattle.container_meta.specs.declared.place.Place.{Place}
 use Rattle.container_meta.specs.Places.{PlaceMap}
-use Rattle.dd_disk.specs.View.{DiskView}
-use Rattle.disk_format.specs.Layout.{slot_at}
 use Rattle.gc_enumerate.specs.Live.{LiveKeys, IsLiveAt}
 use Rattle.refusals.specs.declared.refusal.Refusal.{Refusal}
 use Rattle.refusals.specs.declared.refusal.Refusal.TheVariants.{Memory, DiskRead, DiskWrite, Damaged}
@@ -56,13 +52,6 @@ without_keys [] index = index
 without_keys (k ∷ ks) index = without_keys ks (finite.remove index k)
 
 -- ---- why they are not told
-
--- why a header is not given: no memory; a read that failed; or what was found in its place is none, by its first fault
-abbrev pub IsHeaderRefusal : DiskView → DiskView → ℕ → Refusal → Type 0
-IsHeaderRefusal old new slot Memory = Unit {0}
-IsHeaderRefusal old new slot DiskRead = Unit {0}
-IsHeaderRefusal old new slot (Damaged at why) = (at ≡ slot_at slot) × IsDamage (ReadAs old new (header_bytes slot)) why
-IsHeaderRefusal old new slot refusal = ⊥
 
 -- why the index does not tell which entries are copies: a read that failed, or damage, where its map isn't known
 abbrev pub IsLookUpRefusal : Option PlaceMap → Refusal → Type 0

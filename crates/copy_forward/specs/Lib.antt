@@ -1,4 +1,5 @@
 pub mod Copying
 pub mod Entries
 pub mod Flushing
+pub mod Headers
 pub mod Planning

@@ -1,49 +1,22 @@
 //! Which entries of a container are live, and the copies that the index has.
 ghost use Rattle.std.specs.Prelude.{◌≡◌, ◌↔◌, ◌+◌, ◌<◌, ◌≤◌, ◌^◌, [], ◌∷◌, ◌++◌, ℕ, List, None, Some, Ok, Err, true, false, length, IsTrue, IfOk, IfErr, OnOk};
-ghost use Rattle.container_log.specs.Parts.{header_bytes, ReadAs};
-ghost use Rattle.container_meta.specs.Spelling.{HeaderValue, IsHeader, bytes_of, view};
-ghost use Rattle.dd_disk.specs.Ending.{ending, Reads, UnlessFailed};
-ghost use Rattle.dd_disk.specs.Shows.{Shows};
+ghost use Rattle.container_meta.specs.Spelling.{bytes_of};
+ghost use Rattle.dd_disk.specs.Ending.{ending, Reads};
 ghost use Rattle.disk_format.specs.Layout.{size_of, slot_at};
-ghost use Rattle.disk_format.specs.declared.numbers.TheConstants.{SLOT_BYTES};
 ghost use Rattle.segment_index.specs.Changes.{Changes};
 ghost use Rattle.segment_index.specs.Places.{KnownMap, IsPlace};
-ghost use Rattle.store_model.specs.Slots.{HoldsSlot, place_of};
+ghost use Rattle.store_model.specs.Slots.{place_of};
 ghost use Rattle.store_state.specs.Indexing.{Stays};
-ghost use Rattle.store_state.specs.Refused.{blames, fails};
+ghost use Rattle.store_state.specs.Refused.{blames};
 ghost use Rattle.copy_forward.specs.Entries.{is_place, is_copy as is_copy_in, without_keys, IsLiveCopy, SumsLive};
-ghost use Rattle.copy_forward.specs.Entries.{IsHeaderRefusal, IsLookUpRefusal, IsRemoveRefusal};
+ghost use Rattle.copy_forward.specs.Entries.{IsLookUpRefusal, IsRemoveRefusal};
 
-use container_log::{LogFault, read_meta};
-use container_meta::{Entry, Key, Kind, Meta, Place, key_of};
+use container_meta::{Entry, Key, Kind, Place, key_of};
 use dd_disk::Disk;
 use gc_enumerate::Live;
 use refusals::Refusal;
 use segment_index::Index;
-use std::alloc::Global;
 use store_state::{find, remove_key};
-
-/// The header and entries of the container in a slot.
-pub fn read_header<D: Disk>(alloc: Global, disk: &mut D, slot: u32) -> Result<Meta, Refusal>
-    requires { slot_at slot + SLOT_BYTES ≤ (D.view disk.old).size }
-    ensures right { IfOk result (λ m. IsHeader (view m)) }
-    ensures shown { IfOk result (λ m. Shows (D.view disk.old) (D.view disk.new) (λ image. HoldsSlot image slot (Some (view m)))) }
-    // The header that the slot holds is answered, unless memory or the disk fails.
-    ensures only { Shows (D.view disk.old) (D.view disk.new) (λ image. (h : HeaderValue) → HoldsSlot image slot (Some h)
-        → UnlessFailed fails (λ m. view m ≡ h) result) }
-    ensures refused { IfErr result (IsHeaderRefusal (D.view disk.old) (D.view disk.new) slot) }
-    ensures reads { Reads (ending blames result) (D.view disk.old) (D.view disk.new) }
-{
-    match read_meta(alloc, disk, slot) {
-        Ok(meta) => Ok(meta),
-        Err(LogFault::Memory) => Err(Refusal::Memory),
-        Err(LogFault::DiskRead) => Err(Refusal::DiskRead),
-        Err(LogFault::Damaged { at, why }) => Err(Refusal::Damaged { at, why }),
-        // Nothing is written, and no segment is read.
-        Err(LogFault::DiskWrite) => unreachable!(),
-        Err(LogFault::Corrupt { .. }) => unreachable!(),
-    }
-}
 
 /// Whether two places are one.
 pub fn same_place(a: &Place, b: &Place) -> bool
@@ -127,16 +100,13 @@ pub fn live_bytes<D: Disk, X: Index>(
     ensures reads { Reads (ending blames result) (D.view disk.old) (D.view disk.new) }
     ensures served { X.serves index.new (D.view disk.new).size }
 {
-    let Some((entry, rest)) = entries.split_first() else {
-        return Ok(0);
-    };
-    let counts = is_live_copy(disk, index, live, slot, kind, entry)?;
-    let sum = live_bytes(disk, index, live, slot, kind, rest)?;
-    if counts {
-        Ok(entry.length + sum)
-    } else {
-        Ok(sum)
+    let mut sum = 0;
+    for entry in entries {
+        if is_live_copy(disk, index, live, slot, kind, entry)? {
+            sum += entry.length;
+        }
     }
+    Ok(sum)
 }
 
 /// Takes keys out of the index, the first of them first. It takes no memory. After `DiskWrite`, and after `Damaged`, some may
@@ -155,9 +125,8 @@ pub(crate) fn remove_keys<D: Disk, X: Index>(
         → Changes (slot_at slots) (ending blames result) (D.view disk.old) (D.view disk.new) }
     ensures served { X.serves index.new (D.view disk.new).size }
 {
-    let Some((key, rest)) = keys.split_first() else {
-        return Ok(());
-    };
-    remove_key(disk, index, key)?;
-    remove_keys(disk, index, rest)
+    for key in keys {
+        remove_key(disk, index, key)?;
+    }
+    Ok(())
 }

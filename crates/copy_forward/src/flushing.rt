@@ -42,12 +42,11 @@ fn add_places<D: Disk, X: Index>(
     ensures reads { Reads (ending blames result) (D.view disk.old) (D.view disk.new) }
     ensures served { X.serves index.new (D.view disk.new).size }
 {
-    let Some((entry, rest)) = entries.split_first() else {
-        return Ok(());
-    };
-    let place = find(disk, index, &key_of(kind, &entry.digest))?;
-    places.push(place)?;
-    add_places(disk, index, kind, rest, places)
+    for entry in entries {
+        let place = find(disk, index, &key_of(kind, &entry.digest))?;
+        places.push(place)?;
+    }
+    Ok(())
 }
 
 // The places that the index has for the keys of a container's segments.

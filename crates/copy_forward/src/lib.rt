@@ -6,10 +6,12 @@ mod again;
 mod copying;
 mod entries;
 mod flushing;
+mod header;
 mod plan;
 mod planning;
 
 pub use copying::{copy_entries, same_kind};
-pub use entries::{live_bytes, read_header, same_place};
+pub use entries::{live_bytes, same_place};
 pub use flushing::flush;
+pub use header::read_header;
 pub use plan::Plan;

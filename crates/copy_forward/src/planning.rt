@@ -152,18 +152,16 @@ fn plan_rest<D: Disk, X: Index>(
     ensures reads { Reads (ending blames result) (D.view disk.old) (D.view disk.new) }
     ensures served { X.serves index.new (D.view disk.new).size }
 {
-    let Some((entry, rest)) = entries.split_first() else {
-        return Ok(0);
-    };
-    if !plan_one(
-        alloc, disk, index, live, slot, kind, entry, buffer, dead, buf,
-    )? {
-        return Ok(0);
+    let mut count = 0;
+    for entry in entries {
+        if !plan_one(
+            alloc, disk, index, live, slot, kind, entry, buffer, dead, buf,
+        )? {
+            return Ok(count);
+        }
+        count += 1;
     }
-    let count = plan_rest(
-        alloc, disk, index, live, slot, kind, rest, buffer, dead, buf,
-    )?;
-    Ok(1 + count)
+    Ok(count)
 }
 
 // The entries of a container from the one of a number on.

@@ -41,12 +41,14 @@ use Rattle.store_model.proofs.Copies.{copy_digest}
 use Rattle.store_model.proofs.Freed.{slot_held}
 use Rattle.store_model.proofs.HeldSlots.{IsNodeEntry, have_levels, newest_so, nodes_so}
 use Rattle.store_model.proofs.Lookups.{finds}
-use Rattle.store_state.specs.Tables.{Represents}
+use Rattle.store_state.specs.Tables.{Represents, RepresentsSlots}
+use Rattle.store_state.specs.declared.slot_table.SlotTable.{SlotTable}
 use Rattle.store_state.specs.declared.tables.Tables.{Tables}
 use Rattle.gc_steps.specs.declared.collection.Collection.{Collection}
 use Rattle.gc_steps.specs.declared.collection.Stage.{Stage}
 use Rattle.gc_steps.specs.declared.collection.Stage.TheVariants as stages
-use Rattle.copy_forward.specs.Entries.{IsHeaderRefusal}
+use Rattle.copy_forward.specs.Headers.{IsHeaderDamage, IsHeaderRefusal, IsTabled}
+use Rattle.copy_forward.proofs.Tabled.{never_other}
 use Rattle.gc_sweep.specs.declared.sweep.Next.{Next}
 use Rattle.gc_sweep.specs.declared.sweep.Next.TheVariants as nexts
 use Rattle.gc_sweep.specs.Flushing.{IsFlushStepRefusal}
@@ -154,21 +156,27 @@ module _ (index : PlaceMap) (store : Store) (files : Files) (image : List ℕ) (
       let bad = damage.first.first in
       absurd (let both = sym good ∙ bad in cc)
 
-  header_clean : (slot : ℕ) (refusal : Refusal) → HasHeader store.held slot → IsHeaderRefusal old new slot refusal → IsClean refusal
-  header_clean slot (Corrupt at offset count want got) has is = is
-  header_clean slot (Missing key) has is = is
-  header_clean slot (Damaged at why) has is = header_right slot why has is.1
-  header_clean slot (Clash key at) has is = is
-  header_clean slot refusal has is = tt
+  -- and is the one of the tables
+  header_same : (t : SlotTable) (slot : ℕ) (why : Why) → RepresentsSlots store.held t → HasHeader store.held slot → IsHeaderDamage t old new slot why → ⊥
+  header_same t slot why slots has (inl damage) = header_right slot why has damage
+  header_same t slot why slots has (inr other) =
+      never_other store.held t slot has.header image old new why slots has.there (slot_held slot store.held (Some has.header) image holds.right.slots_are has.there) content other
+
+  header_clean : (t : SlotTable) (slot : ℕ) (refusal : Refusal) → RepresentsSlots store.held t → HasHeader store.held slot → IsHeaderRefusal t old new slot refusal → IsClean refusal
+  header_clean t slot (Corrupt at offset count want got) slots has is = is
+  header_clean t slot (Missing key) slots has is = is
+  header_clean t slot (Damaged at why) slots has is = header_same t slot why slots has is.1
+  header_clean t slot (Clash key at) slots has is = is
+  header_clean t slot refusal slots has is = tt
 
   -- so a container is recorded
-  record_clean : (slot : ℕ) (refusal : Refusal) → HasHeader store.held slot → IsRecordRefusal (Some index) old new slot refusal → IsClean refusal
-  record_clean slot (Corrupt at offset count want got) has is = is
-  record_clean slot (Missing key) has is = is
-  record_clean slot (Damaged at why) has (inl header) = header_right slot why has header.1
-  record_clean slot (Damaged at why) has (inr unknown) = map_known unknown
-  record_clean slot (Clash key at) has is = is
-  record_clean slot refusal has is = tt
+  record_clean : (t : SlotTable) (slot : ℕ) (refusal : Refusal) → RepresentsSlots store.held t → HasHeader store.held slot → IsRecordRefusal t (Some index) old new slot refusal → IsClean refusal
+  record_clean t slot (Corrupt at offset count want got) slots has is = is
+  record_clean t slot (Missing key) slots has is = is
+  record_clean t slot (Damaged at why) slots has (inl header) = header_same t slot why slots has header.1
+  record_clean t slot (Damaged at why) slots has (inr unknown) = map_known unknown
+  record_clean t slot (Clash key at) slots has is = is
+  record_clean t slot refusal slots has is = tt
 
   -- ---- an entry that is to be scanned
 
@@ -199,15 +207,15 @@ module _ (index : PlaceMap) (store : Store) (files : Files) (image : List ℕ) (
         faultless level bad.bytes why (subst (IsNodeOf level) read (subst (λ (l : ℕ). IsNodeOf l (bytes_at found.0.place image)) level_is so.so)) bad.wrong_is
 
   module _ (parts : List Part) (t : Tables) (level slot : ℕ) (before : Collection) (represents : Represents store (Some index) t) (closed : MarksAreClosed index store parts image before) (some : 1 ≤ level) where
-    fault_clean : (h : HeaderValue) (fault : ScanFault) → IsHeader h → Shows old new (λ i. HoldsSlot i slot (Some h)) → IsEntriesFault (Some index) old new slot level h before.live fault
+    fault_clean : (h : HeaderValue) (fault : ScanFault) → IsHeader h → IsTabled t.held slot h → Shows old new (λ i. HoldsSlot i slot (Some h)) → IsEntriesFault (Some index) old new slot level h before.live fault
         → IsClean (step_refusal fault)
-    fault_clean h faults.Memory right shown cause = tt
-    fault_clean h faults.DiskRead right shown cause = tt
-    fault_clean h (faults.Missing key) right shown cause =
+    fault_clean h faults.Memory right tabled shown cause = tt
+    fault_clean h faults.DiskRead right tabled shown cause = tt
+    fault_clean h (faults.Missing key) right tabled shown cause =
         absurd (never_missing index store files parts image t old new level slot before key holds represents content closed
-        (inr (record { header = h; right = right; shown = shown; fault = faults.Missing key; refusal_is = refl; cause = cause })))
-    fault_clean h (faults.Corrupt at offset count want got) right shown stuck = entry_right level slot h before stuck.at at offset count want got stuck.cause.0 stuck.cause.1
-    fault_clean h (faults.Damaged at why) right shown stuck = by_cause stuck.cause
+        (inr (record { header = h; right = right; tabled = tabled; shown = shown; fault = faults.Missing key; refusal_is = refl; cause = cause })))
+    fault_clean h (faults.Corrupt at offset count want got) right tabled shown stuck = entry_right level slot h before stuck.at at offset count want got stuck.cause.0 stuck.cause.1
+    fault_clean h (faults.Damaged at why) right tabled shown stuck = by_cause stuck.cause
       where
         within : Contains h.entries stuck.at
         within = subst (λ (es : List Entry). Contains es stuck.at) (sym stuck.entries_are) (between stuck.before stuck.at stuck.after)
@@ -223,9 +231,9 @@ module _ (index : PlaceMap) (store : Store) (files : Files) (image : List ℕ) (
         by_cause (inr (inr child)) =
             not_misplaced index store files parts image holds partial old new content level slot before closed h stuck.at child.0 at why right within child.1.0 child.1.1 child.1.2
 
-    mark_clean : (refusal : Refusal) → HasHeader store.held slot → IsMarkRefusal (Some index) old new level slot before.live refusal → IsClean refusal
-    mark_clean refusal has (inl header) = header_clean slot refusal has header
-    mark_clean refusal has (inr stops) = subst IsClean (sym stops.refusal_is) (fault_clean stops.header stops.fault stops.right stops.shown stops.cause)
+    mark_clean : (refusal : Refusal) → HasHeader store.held slot → IsMarkRefusal t.held (Some index) old new level slot before.live refusal → IsClean refusal
+    mark_clean refusal has (inl header) = header_clean t.held slot refusal represents.slots_hold has header
+    mark_clean refusal has (inr stops) = subst IsClean (sym stops.refusal_is) (fault_clean stops.header stops.fault stops.right stops.tabled stops.shown stops.cause)
 
   -- ---- each stage
 
@@ -240,11 +248,11 @@ module _ (index : PlaceMap) (store : Store) (files : Files) (image : List ℕ) (
     by_stage (stages.Mark level slot) next refusal at has closed is =
         let was = first_true (is_old_slot c.snapshot t.held slot) _ has.2.1 in
         mark_clean parts t level slot c represents closed has.0 refusal (old_has slot _ refl was) is
-    by_stage (stages.Filter slot) next refusal at has closed is = record_clean slot refusal (old_has slot _ refl has.0.1) is
+    by_stage (stages.Filter slot) next refusal at has closed is = record_clean t.held slot refusal represents.slots_hold (old_has slot _ refl has.0.1) is
     by_stage stages.Select next refusal at has closed is = subst IsClean (sym is) tt
     by_stage stages.Sweep (nexts.Copy source entry) refusal at has closed is =
         failure_clean refusal
-        (copying_fails index store.held image holds.right.slots_are holds.copies partial old new content t.held c.live c.snapshot source entry c.sweep represents.slots_hold has at refusal is)
+        (copying_fails index store.held image holds.right.slots_are holds.copies partial t.held represents.slots_hold old new content c.live c.snapshot source entry c.sweep has at refusal is)
     by_stage stages.Sweep (nexts.Flush source entry) refusal at has closed is = flush_clean index t refusal is
     by_stage stages.Sweep (nexts.Release source entry) refusal at has closed is = subst IsClean (sym is) tt
     by_stage stages.Sweep nexts.End refusal at has closed is = absurd is

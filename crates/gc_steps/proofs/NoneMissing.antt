@@ -21,6 +21,7 @@ use Rattle.store_model.specs.Standing.{IsStoreOf}
 use Rattle.store_model.specs.Trees.{node_key}
 use Rattle.store_model.proofs.HeldSlots.{have_levels}
 use Rattle.store_state.specs.Tables.{Represents}
+use Rattle.store_state.specs.declared.slot_table.SlotTable.{SlotTable}
 use Rattle.store_state.specs.declared.tables.Tables.{Tables}
 use Rattle.gc_steps.specs.declared.collection.Collection.{Collection}
 use Rattle.gc_steps.specs.Marking.{IsMarkRefusal, IsEntriesFault, scan_for}
@@ -79,13 +80,13 @@ module _ (index : PlaceMap) (store : Store) (files : Files) (parts : List Part) 
   not_stopped key h (faults.Missing k) is right cause = not_stuck h k right cause
 
   -- no scan is refused by a child that the index lacks
-  none_missing : (key : List ℕ) → IsMarkRefusal (Some index) old new level slot before.live (Missing key) → ⊥
-  none_missing key (inl header) = absurd header
-  none_missing key (inr stops) = not_stopped key stops.header stops.fault stops.refusal_is stops.right stops.cause
+  none_missing : (t : SlotTable) (key : List ℕ) → IsMarkRefusal t (Some index) old new level slot before.live (Missing key) → ⊥
+  none_missing t key (inl header) = absurd header
+  none_missing t key (inr stops) = not_stopped key stops.header stops.fault stops.refusal_is stops.right stops.cause
 
 -- No scan is refused by `Missing`, by what `mark_container` says, on a disk whose content stands for the files by the store.
 pub never_missing : (index : PlaceMap) (store : Store) (files : Files) (parts : List Part) (image : List ℕ) (t : Tables) (old new : DiskView) (level slot : ℕ) (before : Collection) (key : List ℕ)
     → IsStoreOf store files image → Represents store (Some index) t → old.content ≡ Some image → MarksAreClosed index store parts image before
-    → IsMarkRefusal (Some index) old new level slot before.live (Missing key) → ⊥
+    → IsMarkRefusal t.held (Some index) old new level slot before.live (Missing key) → ⊥
 never_missing index store files parts image t old new level slot before key holds represents content closed =
-    none_missing index store files parts image holds (represents.index_is_newest index refl) old new content level slot before closed key
+    none_missing index store files parts image holds (represents.index_is_newest index refl) old new content level slot before closed t.held key

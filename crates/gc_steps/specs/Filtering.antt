@@ -2,8 +2,6 @@
 use Rattle.std.specs.Prelude.{◌≡◌, ◌⊎◌, ◌↔◌, ℕ, ◌+◌, [], ◌∷◌, ◌++◌, get_or, slice_get, Option, None, Some, Contains, nat_eq}
 use Rattle.std.specs.List.{IsDistinct}
 use Rattle.std.specs.List.Sorted.{IsPermutation}
-use Rattle.container_log.specs.Faults.{IsDamage}
-use Rattle.container_log.specs.Parts.{header_bytes, ReadAs}
 use Rattle.container_meta.specs.declared.kind.Kind.TheVariants.{Leaf}
 use Rattle.container_meta.specs.Places.{PlaceMap}
 use Rattle.container_meta.specs.Spelling.{HeaderValue, IsHeader}
@@ -18,6 +16,7 @@ use Rattle.store_state.specs.declared.slot_table.SlotCount.{SlotCount}
 use Rattle.store_state.specs.declared.slot_table.SlotTable.{SlotTable}
 use Rattle.gc_steps.specs.declared.collection.Collection.{Collection}
 use Rattle.copy_forward.specs.Entries.{SumsLive}
+use Rattle.copy_forward.specs.Headers.{IsHeaderDamage, IsTabled}
 use Rattle.refusals.specs.declared.refusal.Refusal.{Refusal}
 use Rattle.refusals.specs.declared.refusal.Refusal.TheVariants.{Memory, DiskRead, Damaged}
 use Rattle.gc_sweep.specs.Beginning.{Begins}
@@ -33,10 +32,11 @@ abbrev pub recorded : SlotTable → ℕ → ℕ → ContainerLiveness
 recorded t slot live = recorded_by (get_or t.ids.items slot 0) (slice_get t.counts.items slot) live
 
 -- The container of a slot is recorded, with the bytes of those entries that are live and the copies that the index has, as reads showed its
--- header. What it is else is said by the table.
+-- header, which is that of the table. What it is else is said by the table.
 pub record Records (t : SlotTable) (known : Option PlaceMap) (old new : DiskView) (slot : ℕ) (before after : Collection) : Type 0 where
   pub header : HeaderValue
   pub right : IsHeader header
+  pub tabled : IsTabled t slot header
   pub shown : Shows old new (λ image. HoldsSlot image slot (Some header))
   pub live : ℕ
   pub live_is : KnownMap known (λ index. SumsLive index before.live header.kind slot header.entries live)
@@ -45,13 +45,13 @@ pub record Records (t : SlotTable) (known : Option PlaceMap) (old new : DiskView
     stage = filter_from before.snapshot t (slot + 1);
   }
 
--- why it is not recorded: no memory; a read that failed; a header that breaks the format; or damage of the index, whose map is not known then
-abbrev pub IsRecordRefusal : Option PlaceMap → DiskView → DiskView → ℕ → Refusal → Type 0
-IsRecordRefusal known old new slot Memory = Unit {0}
-IsRecordRefusal known old new slot DiskRead = Unit {0}
-IsRecordRefusal known old new slot (Damaged at why) =
-    ((at ≡ slot_at slot) × IsDamage (ReadAs old new (header_bytes slot)) why) ⊎ (known ≡ None)
-IsRecordRefusal known old new slot refusal = ⊥
+-- why it is not recorded: no memory; a read that failed; a header that breaks the format, or is another than that of the table; or damage
+-- of the index, whose map is not known then
+abbrev pub IsRecordRefusal : SlotTable → Option PlaceMap → DiskView → DiskView → ℕ → Refusal → Type 0
+IsRecordRefusal t known old new slot Memory = Unit {0}
+IsRecordRefusal t known old new slot DiskRead = Unit {0}
+IsRecordRefusal t known old new slot (Damaged at why) = ((at ≡ slot_at slot) × IsHeaderDamage t old new slot why) ⊎ (known ≡ None)
+IsRecordRefusal t known old new slot refusal = ⊥
 
 -- The sources are chosen: just the containers that are selected, each as often as it was recorded, so each once where each was recorded once;
 -- data before trees, and by rising id. There is one such list. And a sweep of them begins.

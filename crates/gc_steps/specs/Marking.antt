@@ -13,7 +13,7 @@ use Rattle.refusals.specs.declared.refusal.Refusal.TheVariants.{Memory}
 use Rattle.store_model.specs.Slots.{HoldsSlot}
 use Rattle.store_state.specs.declared.slot_table.SlotTable.{SlotTable}
 use Rattle.gc_steps.specs.declared.collection.Collection.{Collection}
-use Rattle.copy_forward.specs.Entries.{IsHeaderRefusal}
+use Rattle.copy_forward.specs.Headers.{IsHeaderRefusal, IsTabled}
 use Rattle.gc_steps.specs.Scanning.{ShowsAt, step_refusal}
 use Rattle.gc_steps.specs.Stages.{mark_from}
 
@@ -35,27 +35,29 @@ abbrev pub IsEntriesFault : Option PlaceMap → DiskView → DiskView → ℕ �
 IsEntriesFault known old new slot level h live fault =
     IsScanFault (scan_for known live slot level h) (ShowsAt old new) (λ at why. known ≡ None) h.entries fault
 
--- A container was scanned, as reads showed its header and its nodes of the level; the next one comes.
+-- A container was scanned, as reads showed its header, which is that of the table, and its nodes of the level; the next one comes.
 pub record Scans (t : SlotTable) (known : Option PlaceMap) (old new : DiskView) (level slot : ℕ) (before after : Collection) : Type 0 where
   pub header : HeaderValue
   pub right : IsHeader header
+  pub tabled : IsTabled t slot header
   pub shown : Shows old new (λ image. HoldsSlot image slot (Some header))
   pub scanned : ScansEntries known old new slot level header before.live after.live
   pub collection_is : after ≡ record before { live = after.live; stage = mark_from before.snapshot t level (slot + 1) }
 
--- It was not, by an entry of it, as reads showed its header.
-pub record StopsScan (known : Option PlaceMap) (old new : DiskView) (level slot : ℕ) (live : LiveKeys) (refusal : Refusal) : Type 0 where
+-- It was not, by an entry of it, as reads showed its header, which is that of the table.
+pub record StopsScan (t : SlotTable) (known : Option PlaceMap) (old new : DiskView) (level slot : ℕ) (live : LiveKeys) (refusal : Refusal) : Type 0 where
   pub header : HeaderValue
   pub right : IsHeader header
+  pub tabled : IsTabled t slot header
   pub shown : Shows old new (λ image. HoldsSlot image slot (Some header))
   pub fault : ScanFault
   pub refusal_is : refusal ≡ step_refusal fault
   pub cause : IsEntriesFault known old new slot level header live fault
 
 -- why not: its header was not given, or an entry stopped the scan
-abbrev pub IsMarkRefusal : Option PlaceMap → DiskView → DiskView → ℕ → ℕ → LiveKeys → Refusal → Type 0
-IsMarkRefusal known old new level slot live refusal =
-    IsHeaderRefusal old new slot refusal ⊎ StopsScan known old new level slot live refusal
+abbrev pub IsMarkRefusal : SlotTable → Option PlaceMap → DiskView → DiskView → ℕ → ℕ → LiveKeys → Refusal → Type 0
+IsMarkRefusal t known old new level slot live refusal =
+    IsHeaderRefusal t old new slot refusal ⊎ StopsScan t known old new level slot live refusal
 
 -- Where memory ran out some of the children may be live.
 pub record MarksOnly (known : Option PlaceMap) (old new : DiskView) (level slot : ℕ) (before after : Collection) : Type 0 where

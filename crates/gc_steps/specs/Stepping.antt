@@ -103,8 +103,9 @@ TablesAfter stage next old new = new.tables ≡ old.tables
 
 -- why it is refused; at the end it is not
 abbrev pub IsStepRefusal : Stage → Next → Moment → DiskView → Refusal → Type 0
-IsStepRefusal (Mark level slot) next old new refusal = IsMarkRefusal old.known old.disk new level slot old.collection.live refusal
-IsStepRefusal (Filter slot) next old new refusal = IsRecordRefusal old.known old.disk new slot refusal
+IsStepRefusal (Mark level slot) next old new refusal =
+    IsMarkRefusal old.tables.held old.known old.disk new level slot old.collection.live refusal
+IsStepRefusal (Filter slot) next old new refusal = IsRecordRefusal old.tables.held old.known old.disk new slot refusal
 IsStepRefusal Select next old new refusal = refusal ≡ Memory
 IsStepRefusal Sweep (Copy source entry) old new refusal =
     IsCopyStepRefusal old.tables.held old.collection.live old.known old.disk new source entry old.collection.sweep refusal

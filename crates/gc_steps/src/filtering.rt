@@ -36,8 +36,8 @@ fn recorded(held: &SlotTable, slot: u32, live: u32) -> ContainerLiveness
 
 /// Records the container of a slot: how many of its bytes are live, and how many it has.
 ///
-/// Refusals: `Memory`; `DiskRead`; `Damaged` for a header that breaks the format, or for the index's own bytes. They leave the
-/// collection as it was.
+/// Refusals: `Memory`; `DiskRead`; `Damaged` for a header that breaks the format, for another one than that of the tables, or for the
+/// index's own bytes. They leave the collection as it was.
 pub(crate) fn record_container<D: Disk, X: Index>(
     alloc: Global,
     disk: &mut D,
@@ -54,13 +54,13 @@ pub(crate) fn record_container<D: Disk, X: Index>(
         slot collection.old collection.new) }
     ensures under_way { IsUnderWay tables.now.held collection.new }
     ensures unchanged { OnErr result (collection.new ≡ collection.old) }
-    ensures refused { IfErr result (IsRecordRefusal (X.places index.old (D.view disk.old).content) (D.view disk.old) (D.view disk.new)
-        slot) }
+    ensures refused { IfErr result (IsRecordRefusal tables.now.held (X.places index.old (D.view disk.old).content) (D.view disk.old)
+        (D.view disk.new) slot) }
     ensures map { X.places index.new (D.view disk.new).content ≡ X.places index.old (D.view disk.old).content }
     ensures reads { Reads (ending blames result) (D.view disk.old) (D.view disk.new) }
     ensures served { X.serves index.new (D.view disk.new).size }
 {
-    let meta = read_header(alloc, disk, slot)?;
+    let meta = read_header(alloc, disk, &tables.held, slot)?;
     let live = live_bytes(
         disk,
         index,

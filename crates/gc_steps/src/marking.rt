@@ -60,9 +60,9 @@ fn scan_lent<D: Disk, X: Index>(
 /// Scans the container in a slot for its nodes of a level, from 1 to 6 (docs/MODEL.md, 'Collection'); the stage is then what comes
 /// after it. `slot` counts from 0. `buf` has room for a segment, and may hold anything then.
 ///
-/// Refusals: `Memory`; `DiskRead`; `Damaged` for a header or a node that breaks the format, or for the index's own bytes; `Corrupt`
-/// for a node whose bytes have another digest; `Missing` for a child that the index lacks. They leave the collection as it was, but
-/// that after `Memory` some of the children may be live.
+/// Refusals: `Memory`; `DiskRead`; `Damaged` for a header or a node that breaks the format, for another header than that of the
+/// tables, or for the index's own bytes; `Corrupt` for a node whose bytes have another digest; `Missing` for a child that the index
+/// lacks. They leave the collection as it was, but that after `Memory` some of the children may be live.
 pub(crate) fn mark_container<D: Disk, X: Index>(
     alloc: Global,
     disk: &mut D,
@@ -83,14 +83,14 @@ pub(crate) fn mark_container<D: Disk, X: Index>(
     ensures kept { IfErr result (KeepsMarks (X.places index.old (D.view disk.old).content) (D.view disk.old) (D.view disk.new) level slot
         collection.old collection.new) }
     ensures under_way { IsUnderWay tables.now.held collection.new }
-    ensures refused { IfErr result (IsMarkRefusal (X.places index.old (D.view disk.old).content) (D.view disk.old)
+    ensures refused { IfErr result (IsMarkRefusal tables.now.held (X.places index.old (D.view disk.old).content) (D.view disk.old)
         (D.view disk.new) level slot collection.old.live) }
     ensures map { X.places index.new (D.view disk.new).content ≡ X.places index.old (D.view disk.old).content }
     ensures reads { Reads (ending blames result) (D.view disk.old) (D.view disk.new) }
     ensures served { X.serves index.new (D.view disk.new).size }
     ensures size { length buf.new ≡ length buf.old }
 {
-    let meta = read_header(alloc, disk, slot)?;
+    let meta = read_header(alloc, disk, &tables.held, slot)?;
     match scan_lent(
         alloc,
         disk,

@@ -14,9 +14,11 @@ use Rattle.container_meta.specs.Segments.{Contents}
 use Rattle.container_meta.specs.Spelling.{HeaderValue}
 use Rattle.container_meta.proofs.Again.{header_again}
 use Rattle.copy_forward.specs.Copying.{IsCopyRefusal, IsSourceRefusal}
-use Rattle.copy_forward.specs.Entries.{IsHeaderRefusal, IsRemoveRefusal}
+use Rattle.copy_forward.specs.Entries.{IsRemoveRefusal}
+use Rattle.copy_forward.specs.Headers.{IsHeaderRefusal}
 use Rattle.copy_forward.specs.Flushing.{IsFlushRefusal}
 use Rattle.copy_forward.specs.Planning.{IsOneRefusal, IsPlanRefusal, IsStuck, Planned, Source, planned, source_of}
+use Rattle.copy_forward.proofs.Tabled.{never_other}
 use Rattle.dd_disk.specs.Shows.{Shows}
 use Rattle.dd_disk.specs.View.{DiskView}
 use Rattle.dd_disk.proofs.Shows.{shown_content}
@@ -48,8 +50,8 @@ IsFailure DiskRead = Unit {0}
 IsFailure DiskWrite = Unit {0}
 IsFailure refusal = ⊥
 
-module _ (index : PlaceMap) (held : List (Option HeaderValue)) (image : List ℕ) (stand : HoldSlots 0 held image) (copies : AreCopies 0 held image) (partial : IsPartialIndexOf held index) (old new : DiskView)
-    (content : old.content ≡ Some image) where
+module _ (index : PlaceMap) (held : List (Option HeaderValue)) (image : List ℕ) (stand : HoldSlots 0 held image) (copies : AreCopies 0 held image) (partial : IsPartialIndexOf held index) (t : SlotTable)
+    (slots : RepresentsSlots held t) (old new : DiskView) (content : old.content ≡ Some image) where
   -- the header of a slot that has a container keeps the format
   header_right : (slot : ℕ) (h : HeaderValue) (why : Why) → slice_get held slot ≡ Some (Some h) → IsDamage (ReadAs old new (header_bytes slot)) why → ⊥
   header_right slot h why there damage =
@@ -59,10 +61,12 @@ module _ (index : PlaceMap) (held : List (Option HeaderValue)) (image : List ℕ
       let bad = damage.first.first in
       absurd (let both = sym good ∙ bad in cc)
 
-  header_fails : (slot : ℕ) (h : HeaderValue) → slice_get held slot ≡ Some (Some h) → (refusal : Refusal) → IsHeaderRefusal old new slot refusal → IsFailure refusal
+  header_fails : (slot : ℕ) (h : HeaderValue) → slice_get held slot ≡ Some (Some h) → (refusal : Refusal) → IsHeaderRefusal t old new slot refusal → IsFailure refusal
   header_fails slot h there Memory is = tt
   header_fails slot h there DiskRead is = tt
-  header_fails slot h there (Damaged at why) is = header_right slot h why there is.1
+  header_fails slot h there (Damaged at why) (at_is, inl damage) = header_right slot h why there damage
+  header_fails slot h there (Damaged at why) (at_is, inr other) =
+      never_other held t slot h image old new why slots there (slot_held slot held (Some h) image stand there) content other
   header_fails slot h there _ is = absurd is
 
   module _ (live : LiveKeys) (slot : ℕ) (kind : Kind) where
@@ -100,20 +104,20 @@ module _ (index : PlaceMap) (held : List (Option HeaderValue)) (image : List ℕ
   remove_fails _ cause = absurd cause
 
   -- a container that stands is looked at
-  source_fails : (live : LiveKeys) (slot from : ℕ) (h : HeaderValue) (buffer : Contents) (refusal : Refusal) → slice_get held slot ≡ Some (Some h) → IsSourceRefusal (Some index) live slot from buffer old new refusal
+  source_fails : (live : LiveKeys) (slot from : ℕ) (h : HeaderValue) (buffer : Contents) (refusal : Refusal) → slice_get held slot ≡ Some (Some h) → IsSourceRefusal t (Some index) live slot from buffer old new refusal
       → IsFailure refusal
   source_fails live slot from h buffer refusal there (inl header) = header_fails slot h there refusal header
-  source_fails live slot from h buffer refusal there (inr (g, shown, kind, few, plan)) = plan_fails live slot g.kind (drop from g.entries) (planned buffer []) refusal plan
+  source_fails live slot from h buffer refusal there (inr (g, tabled, shown, kind, few, plan)) = plan_fails live slot g.kind (drop from g.entries) (planned buffer []) refusal plan
 
-  copy_fails : (live : LiveKeys) (slot from : ℕ) (h : HeaderValue) (buffer : Contents) (refusal : Refusal) → slice_get held slot ≡ Some (Some h) → IsCopyRefusal (Some index) live slot from buffer old new refusal
+  copy_fails : (live : LiveKeys) (slot from : ℕ) (h : HeaderValue) (buffer : Contents) (refusal : Refusal) → slice_get held slot ≡ Some (Some h) → IsCopyRefusal t (Some index) live slot from buffer old new refusal
       → IsFailure refusal
   copy_fails live slot from h buffer refusal there (inl cause) = source_fails live slot from h buffer refusal there cause
   copy_fails live slot from h buffer refusal there (inr cause) = remove_fails refusal cause
 
   -- and so is a source
-  pub copying_fails : (t : SlotTable) (live : LiveKeys) (snapshot source entry : ℕ) (s : Sweep) → RepresentsSlots held t → IsSweeping t snapshot s → s.next ≡ CopyNext source entry → (refusal : Refusal)
+  pub copying_fails : (live : LiveKeys) (snapshot source entry : ℕ) (s : Sweep) → IsSweeping t snapshot s → s.next ≡ CopyNext source entry → (refusal : Refusal)
       → IsCopyStepRefusal t live (Some index) old new source entry s refusal → IsFailure refusal
-  copying_fails t live snapshot source entry s slots under stage refusal cause = by_refusal refusal cause
+  copying_fails live snapshot source entry s under stage refusal cause = by_refusal refusal cause
     where
       nothing : (r : Refusal) → CopiesNothing t live (Some index) old new source entry s r → IsFailure r
       nothing r none =

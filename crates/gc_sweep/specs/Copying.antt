@@ -39,7 +39,7 @@ pub record GoesOn (before after : Sweep) : Type 0 where
   pub sources_are : after.sources ≡ before.sources
   pub freed_is : after.freed ≡ before.freed
 
--- What was found of a source: nothing of the header of before, and it is left alone; or a plan.
+-- What was found of a source: a header by which nothing is planned, and it is left alone; or a plan.
 abbrev pub TakesBy : SlotTable → ℕ → ℕ → Option Plan → Sweep → Sweep → Type 0
 TakesBy t slot source None before after =
     (after.buffer ≡ before.buffer) × (after.waiting.items ≡ before.waiting.items) × (after.ready.items ≡ [])
@@ -62,7 +62,7 @@ pub record CopiesSource (t : SlotTable) (live : LiveKeys) (known after_known : O
   pub filling : Contents
   pub is_source : IsSource t source before slot kind filling
   pub found : Option Plan
-  pub plans : PlansSource known live slot entry filling old new found
+  pub plans : PlansSource t known live slot entry filling old new found
   pub forgets : Forgets known after_known found
   pub takes : TakesBy t slot source found before after
   pub others : GoesOn before after
@@ -74,7 +74,7 @@ pub record CopiesNothing (t : SlotTable) (live : LiveKeys) (known : Option Place
   pub kind : Kind
   pub filling : Contents
   pub is_source : IsSource t source before slot kind filling
-  pub cause : IsCopyRefusal known live slot entry filling old new refusal
+  pub cause : IsCopyRefusal t known live slot entry filling old new refusal
 
 abbrev pub IsCopyStepRefusal : SlotTable → LiveKeys → Option PlaceMap → DiskView → DiskView → ℕ → ℕ → Sweep → Refusal → Type 0
 IsCopyStepRefusal t live known old new source entry before Memory = Unit {0}

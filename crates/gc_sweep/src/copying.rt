@@ -41,6 +41,7 @@ fn with_slot(alloc: Global, slots: &[u32], slot: u32) -> Result<Vec<u32>, AllocE
 fn fill<D: Disk, X: Index>(
     alloc: Global,
     disk: &mut D,
+    held: &SlotTable,
     index: &mut X,
     live: &Live,
     slot: u32,
@@ -51,13 +52,17 @@ fn fill<D: Disk, X: Index>(
 ) -> Result<Option<Plan>, Refusal>
     requires serves { X.serves index.old (D.view disk.old).size }
     requires place { slot_at slot + SLOT_BYTES ≤ (D.view disk.old).size }
+    requires ids { slot < length held.now.ids.items }
+    requires counts { slot < length held.now.counts.items }
     requires slots { IsOfSlots (D.view disk.old).size }
     requires buf { MOST_SEGMENT ≤ length buf.old }
     ensures ok { IfOk result (λ found. (filling : Contents) × IsFilling buffer.now kind filling
-        × PlansSource (X.places index.old (D.view disk.old).content) live.now slot entry filling (D.view disk.old) (D.view disk.new) found) }
+        × PlansSource held.now (X.places index.old (D.view disk.old).content) live.now slot entry filling (D.view disk.old)
+        (D.view disk.new) found) }
     ensures map { IfOk result (Forgets (X.places index.old (D.view disk.old).content) (X.places index.new (D.view disk.new).content)) }
     ensures refused { IfErr result (λ refusal. (refusal ≡ Memory) ⊎ ((filling : Contents) × IsFilling buffer.now kind filling
-        × IsCopyRefusal (X.places index.old (D.view disk.old).content) live.now slot entry filling (D.view disk.old) (D.view disk.new) refusal)) }
+        × IsCopyRefusal held.now (X.places index.old (D.view disk.old).content) live.now slot entry filling (D.view disk.old)
+        (D.view disk.new) refusal)) }
     ensures kept { IfErr result (MapStays (X.places index.old (D.view disk.old).content) (X.places index.new (D.view disk.new).content)) }
     ensures size { length buf.new ≡ length buf.old }
     ensures changes { (slots : ℕ) → (D.view disk.old).size ≡ size_of slots
@@ -66,9 +71,9 @@ fn fill<D: Disk, X: Index>(
 {
     if buffer.is_empty() {
         let empty = OpenContainer::new(alloc, kind)?;
-        return copy_entries(alloc, disk, index, live, slot, entry, &empty, buf);
+        return copy_entries(alloc, disk, held, index, live, slot, entry, &empty, buf);
     }
-    copy_entries(alloc, disk, index, live, slot, entry, buffer, buf)
+    copy_entries(alloc, disk, held, index, live, slot, entry, buffer, buf)
 }
 
 // Takes it into a sweep what was found of a source in a slot; `waiting` and `ready` are the lists with that slot.
@@ -157,6 +162,7 @@ pub fn copy_source<D: Disk, X: Index>(
     let found = fill(
         alloc,
         disk,
+        &tables.held,
         index,
         live,
         slot,

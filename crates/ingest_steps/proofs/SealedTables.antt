@@ -23,7 +23,7 @@ use Rattle.container_meta.specs.declared.kind.Kind.{Kind}
 use Rattle.container_meta.specs.declared.kind.Kind.TheVariants.{Leaf, Tree}
 use Rattle.container_meta.specs.Places.{PlaceMap}
 use Rattle.container_meta.specs.Segments.{Segment, Contents, bytes_in, entries_from, segment_key}
-use Rattle.container_meta.specs.Spelling.{HeaderValue, IsHeader, header_of}
+use Rattle.container_meta.specs.Spelling.{HeaderValue, IsHeader, header_digest, header_of}
 use Rattle.segment_index.specs.Places.{KnownMap}
 use Rattle.segment_index.specs.Changes.{SameBefore, SameFrom, Changes}
 use Rattle.journal_cells.specs.Journal.{JournalValue, IsTold}
@@ -71,6 +71,12 @@ last_of d es ss is some =
     ∙ ap (λ (n : ℕ). (get_or (entries_from 0 ss) (n - 1) d).offset + (get_or (entries_from 0 ss) (n - 1) d).length) (length-of_entries 0 ss)
     ∙ last_entry d 0 ss some
     ∙ omega arith
+
+-- what is counted of a container is what its header says
+pub same_count : (h : HeaderValue) (kind : Kind) (entries bytes : ℕ) (digest : List ℕ)
+    → h.kind ≡ kind → length h.entries ≡ entries → h.data_length ≡ bytes → header_digest h ≡ digest
+    → count_of (Some h) ≡ record { kind = kind; entries = entries; bytes = bytes; digest = digest }
+same_count h kind entries bytes digest same many long hashed = cc
 
 -- ---- the tables
 

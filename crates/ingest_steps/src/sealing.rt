@@ -12,7 +12,7 @@ ghost use Rattle.refusals.specs.declared.refusal.Refusal.TheVariants.{Memory, Di
 ghost use Rattle.store_state.specs.Refused.{blames};
 ghost use Rattle.container_meta.specs.Places.{PlaceMap};
 ghost use Rattle.container_meta.specs.Segments.{bytes_in, entries_from};
-ghost use Rattle.container_meta.specs.Spelling.{IsHeader, header_of};
+ghost use Rattle.container_meta.specs.Spelling.{IsHeader, header_digest, header_of};
 ghost use Rattle.segment_index.specs.Places.{KnownMap};
 ghost use Rattle.store_state.specs.Indexing.{IsChangeRefusal, AreHad};
 ghost use Rattle.store_state.specs.Settled.{Steps};
@@ -25,7 +25,7 @@ use dd_disk::Disk;
 use disk_format::{LAST_ID, RESERVE, SLOT_BYTES};
 use refusals::Refusal;
 use segment_index::Index;
-use store_state::{Tables, put_entries};
+use store_state::{SlotCount, Tables, put_entries};
 
 /// The free slot of least number, if one more container may be sealed: `Full` where two slots or fewer are free, then
 /// `Numbers` where the last id was given out.
@@ -47,31 +47,32 @@ pub fn slot_for(tables: &Tables) -> Result<u32, Refusal>
     }
 }
 
-// Writes a container into a slot.
+// Writes a container into a slot, and gives the digest of its header.
 fn write_container<D: Disk>(
     disk: &mut D,
     slot: u32,
     id: u64,
     filled: &OpenContainer,
     image: &mut [u8],
-) -> Result<(), Refusal>
+) -> Result<[u8; 32], Refusal>
     requires place { slot_at slot + SLOT_BYTES ≤ (D.view disk.old).size }
     requires there { 1 ≤ length filled.now.segments }
     requires id { is_id id ≡ true }
     requires image { length image.old ≡ SLOT_BYTES }
+    ensures digest { IfOk result (λ digest. digest ≡ header_digest (header_of id filled.now.kind filled.now.segments)) }
     ensures writes { Writes (Seals slot id filled.now.kind filled.now.segments) (IsSealed slot id filled.now.kind filled.now.segments)
         (ending blames result) (D.view disk.old) (D.view disk.new) }
     ensures same { OnOk result (Known (D.view disk.old).content (λ given. KnownWith (D.view disk.new).content (SameButSlot slot given))) }
     ensures refused { IfErr result (λ refusal. refusal ≡ DiskWrite) }
 {
     match seal(disk, slot, id, filled, image) {
-        Ok(()) => Ok(()),
+        Ok(digest) => Ok(digest),
         Err(_) => Err(Refusal::DiskWrite),
     }
 }
 
-/// Writes a container under the next id to the closed slot of least number. `image` is a buffer of `disk_format::SLOT_BYTES`
-/// bytes. The one refusal is `DiskWrite`.
+/// Writes a container under the next id to the closed slot of least number, and gives the digest of its header. `image` is a buffer
+/// of `disk_format::SLOT_BYTES` bytes. The one refusal is `DiskWrite`.
 pub fn seal_container<D: Disk>(
     disk: &mut D,
     tables: &Tables,
@@ -79,12 +80,13 @@ pub fn seal_container<D: Disk>(
     id: u64,
     filled: &OpenContainer,
     image: &mut [u8],
-) -> Result<(), Refusal>
+) -> Result<[u8; 32], Refusal>
     requires state { (known : _) × Runs (D.view disk.old).size known tables.now }
     requires slot { (spares : _) × HasSlotBeside spares tables.now slot }
     requires id { id ≡ tables.now.held.last_id + 1 }
     requires there { 1 ≤ length filled.now.segments }
     requires image { length image.old ≡ SLOT_BYTES }
+    ensures digest { IfOk result (λ digest. digest ≡ header_digest (header_of id filled.now.kind filled.now.segments)) }
     ensures refused { IfErr result (λ refusal. refusal ≡ DiskWrite) }
     ensures durable { OnOk result (IsDurable (D.view disk.new)) }
     ensures disk { Acts (ending blames result) (D.view disk.old) (D.view disk.new) }
@@ -107,18 +109,30 @@ fn data_bytes(filled: &OpenContainer) -> u32
 }
 
 // Takes a container that was written into the tables.
-fn take_sealed(tables: &mut Tables, slot: u32, id: u64, filled: &OpenContainer, bytes: u32)
+fn take_sealed(
+    tables: &mut Tables,
+    slot: u32,
+    id: u64,
+    filled: &OpenContainer,
+    bytes: u32,
+    digest: [u8; 32],
+)
     requires state { (size : _) × (known : _) × Runs size known tables.old }
     requires slot { (spares : _) × HasSlotBeside spares tables.old slot }
     requires id { id ≡ tables.old.held.last_id + 1 }
     requires bytes { bytes ≡ bytes_in filled.now.segments }
+    requires digest { digest ≡ header_digest (header_of id filled.now.kind filled.now.segments) }
     requires right { IsHeader (header_of id filled.now.kind filled.now.segments) }
     ensures { (spares size : ℕ) (known : Option PlaceMap) → HasSlotBeside spares tables.old slot
         → HasWritten spares tables.old size known slot filled.now tables.new id }
 {
-    tables
-        .held
-        .take_container(slot, id, filled.kind(), filled.len() as u32, bytes);
+    let count = SlotCount {
+        kind: filled.kind(),
+        entries: filled.len() as u32,
+        bytes,
+        digest,
+    };
+    tables.held.take_container(slot, id, count);
 }
 
 /// Puts the places of a container's segments into the index, and writes it under the next id, which is answered, to the closed
@@ -159,8 +173,8 @@ pub fn seal_indexed<D: Disk, X: Index>(
     let id = next_id(tables);
     let bytes = data_bytes(filled);
     put_entries(disk, index, slot, filled, before)?;
-    seal_container(disk, tables, slot, id, filled, image)?;
-    take_sealed(tables, slot, id, filled, bytes);
+    let digest = seal_container(disk, tables, slot, id, filled, image)?;
+    take_sealed(tables, slot, id, filled, bytes, digest);
     Ok(id)
 }
 

@@ -3,7 +3,7 @@ ghost use Rattle.std.specs.Prelude.{◌≡◌, ◌+◌, ◌≤◌, List, Option,
 ghost use Rattle.disk_format.specs.Layout.{IsSlotCount, size_of, slot_at};
 ghost use Rattle.dd_disk.specs.Ending.{ending, Reads, UnlessFailed};
 ghost use Rattle.dd_disk.specs.Shows.{Shows};
-ghost use Rattle.container_meta.specs.Spelling.{HeaderValue, IsHeader, view};
+ghost use Rattle.container_meta.specs.Spelling.{HeaderValue, IsHeader, header_digest, view};
 ghost use Rattle.store_model.specs.Slots.{HoldsSlot, HoldSlots, DifferentIds};
 ghost use Rattle.store_state.specs.Containers.{RepresentsContainers};
 ghost use Rattle.store_state.specs.Refused.{blames, fails};
@@ -21,6 +21,7 @@ use store_state::Containers;
 fn read_one<D: Disk>(alloc: Global, disk: &mut D, slot: u32) -> Result<Option<Meta>, Refusal>
     requires { slot_at slot + SLOT_BYTES ≤ (D.view disk.old).size }
     ensures right { IfOk result (λ held. IfSome held (λ m. IsHeader (view m))) }
+    ensures digest { IfOk result (λ held. IfSome held (λ m. m.digest ≡ header_digest (view m))) }
     ensures shown { IfOk result (λ held. Shows (D.view disk.old) (D.view disk.new)
         (λ image. HoldsSlot image slot (option_map view held))) }
     ensures only { IfErr result (λ refusal. Shows (D.view disk.old) (D.view disk.new) (λ image. (held : Option HeaderValue)
@@ -48,6 +49,7 @@ fn read_next<D: Disk>(
 ) -> Result<Option<Meta>, Refusal>
     requires { slot_at slot + SLOT_BYTES ≤ (D.view disk.old).size }
     ensures right { IfOk result (λ held. IfSome held (λ m. IsHeader (view m))) }
+    ensures digest { IfOk result (λ held. IfSome held (λ m. m.digest ≡ header_digest (view m))) }
     ensures follows { IfOk result (λ held. (before : List (Option HeaderValue)) → RepresentsContainers before tables.now
         → MayFollow before (option_map view held)) }
     ensures shown { IfOk result (λ held. Shows (D.view disk.old) (D.view disk.new)

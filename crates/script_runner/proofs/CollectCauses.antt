@@ -5,7 +5,7 @@ use Rattle.dd_disk.specs.View.{DiskView}
 use Rattle.disk_format.specs.declared.numbers.TheConstants.{LAST_ID}
 use Rattle.gc_enumerate.specs.declared.fault.ScanFault.{ScanFault}
 use Rattle.gc_enumerate.specs.declared.fault.ScanFault.TheVariants as faults
-use Rattle.copy_forward.specs.Entries.{IsHeaderRefusal}
+use Rattle.copy_forward.specs.Headers.{IsHeaderRefusal}
 use Rattle.gc_steps.specs.Scanning.{step_refusal}
 use Rattle.gc_steps.specs.Stepping.{IsStepRefusal, Moment, answer_at, phase_at}
 use Rattle.gc_steps.specs.declared.collection.Stage.{Stage}
@@ -17,6 +17,7 @@ use Rattle.gc_sweep.specs.Flushing.{IsFlushStepRefusal}
 use Rattle.refusals.specs.declared.refusal.Phase.{Phase}
 use Rattle.refusals.specs.declared.refusal.Refusal.{Refusal}
 use Rattle.refusals.specs.declared.refusal.Refusal.TheVariants as refusals
+use Rattle.store_state.specs.declared.slot_table.SlotTable.{SlotTable}
 use Rattle.store_state.specs.declared.tables.Tables.{Tables}
 use Rattle.store_core.specs.Sound.{IsHarmless}
 use Rattle.script_runner.proofs.CopyRefused.{IsCopyCause, copying_cause}
@@ -56,11 +57,11 @@ scan_cause (faults.Damaged at why) refusal is harmless = absurd (subst (IsHarmle
 scan_cause (faults.Corrupt at offset count want got) refusal is harmless = absurd (subst (IsHarmless ⊥) is harmless)
 scan_cause (faults.Missing key) refusal is harmless = absurd (subst (IsHarmless ⊥) is harmless)
 
-header_cause : (old new : DiskView) (slot : ℕ) (refusal : Refusal) → IsHeaderRefusal old new slot refusal → IsHarmless ⊥ refusal → IsReadCause refusal
-header_cause old new slot refusals.Memory cause harmless = tt
-header_cause old new slot refusals.DiskRead cause harmless = tt
-header_cause old new slot (refusals.Damaged at why) cause harmless = absurd harmless
-header_cause old new slot refusal cause harmless = absurd cause
+header_cause : (t : SlotTable) (old new : DiskView) (slot : ℕ) (refusal : Refusal) → IsHeaderRefusal t old new slot refusal → IsHarmless ⊥ refusal → IsReadCause refusal
+header_cause t old new slot refusals.Memory cause harmless = tt
+header_cause t old new slot refusals.DiskRead cause harmless = tt
+header_cause t old new slot (refusals.Damaged at why) cause harmless = absurd harmless
+header_cause t old new slot refusal cause harmless = absurd cause
 
 copy_cause : (source entry : ℕ) (t : Tables) (refusal : Refusal) → IsCopyCause refusal → IsHarmless ⊥ refusal → IsCauseAt Sweep (Copy source entry) t refusal
 copy_cause source entry t refusals.Memory cause harmless = tt
@@ -86,12 +87,12 @@ module _ (old : Moment) (new : DiskView) where
   filter_cause slot next refusal cause harmless = absurd cause
 
   pub cause_at : (stage : Stage) (next : Next) (refusal : Refusal) → IsStepRefusal stage next old new refusal → IsHarmless ⊥ refusal → IsCauseAt stage next old.tables refusal
-  cause_at (Mark level slot) next refusal (inl cause) harmless = header_cause old.disk new slot refusal cause harmless
+  cause_at (Mark level slot) next refusal (inl cause) harmless = header_cause old.tables.held old.disk new slot refusal cause harmless
   cause_at (Mark level slot) next refusal (inr stops) harmless = scan_cause stops.fault refusal stops.refusal_is harmless
   cause_at (Filter slot) next refusal cause harmless = filter_cause slot next refusal cause harmless
   cause_at Select next refusal cause harmless = subst IsReadCause (sym cause) tt
   cause_at Sweep (Copy source entry) refusal cause harmless =
-      copy_cause source entry old.tables refusal (copying_cause old.known old.disk new old.tables.held old.collection.live source entry old.collection.sweep refusal cause) harmless
+      copy_cause source entry old.tables refusal (copying_cause old.tables.held old.known old.disk new old.collection.live source entry old.collection.sweep refusal cause) harmless
   cause_at Sweep (Flush source entry) refusal cause harmless = flush_cause source entry old.tables old.known refusal cause harmless
   cause_at Sweep (Release source entry) refusal cause harmless = cause
   cause_at Sweep End refusal cause harmless = absurd cause

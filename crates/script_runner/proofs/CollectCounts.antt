@@ -107,7 +107,7 @@ module _ (old new : Moment) (freed copied : ℕ) where
       sweeping 0 0 (ap (λ (c : Collection). c.stage) steps.1 ∙ is) (omega (arith, copies.others.freed_is, counted.0)) (omega (arith, many, counted.1))
     where
       planned_by : (found : Option Plan) (copies : CopiesSource old.tables.held before.live old.known new.known old.disk new.disk source entry before.sweep after.sweep)
-          → PlansSource old.known before.live copies.slot entry copies.filling old.disk new.disk found → (plan : Plan) → found ≡ Some plan → length plan.buffer.segments ≡ length copies.filling.segments + plan.copied
+          → PlansSource old.tables.held old.known before.live copies.slot entry copies.filling old.disk new.disk found → (plan : Plan) → found ≡ Some plan → length plan.buffer.segments ≡ length copies.filling.segments + plan.copied
       planned_by None copies plans plan is = absurd (let wrong : None ≡ Some plan = is in cc)
       planned_by (Some found) copies plans plan is =
           let same : found ≡ plan = (let both : Some found ≡ Some plan = is in cc) in

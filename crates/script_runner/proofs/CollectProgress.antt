@@ -122,7 +122,7 @@ module _ (old new : CoreState) (before after : Collection) (reads_same : ReadsSa
 
   module _ (source entry : ℕ) (is : before.stage ≡ stages.Sweep) (next_is : before.sweep.next ≡ Copy source entry)
       (copies : CopiesSource old.tables.held before.live old.known new.known old.disk new.disk source entry before.sweep after.sweep) where
-    by_found : (found : Option Plan) → PlansSource old.known before.live copies.slot entry copies.filling old.disk new.disk found → TakesBy old.tables.held copies.slot source found before.sweep after.sweep
+    by_found : (found : Option Plan) → PlansSource old.tables.held old.known before.live copies.slot entry copies.filling old.disk new.disk found → TakesBy old.tables.held copies.slot source found before.sweep after.sweep
         → Copied (is_filled before.sweep.buffer) after.sweep
     by_found None plans takes = absurd (reads_same source entry is next_is copies plans.header plans.shown plans.plans)
     by_found (Some plan) plans takes =

@@ -4,7 +4,8 @@ use Rattle.container_meta.specs.declared.entry.Entry.{Entry}
 use Rattle.container_meta.specs.Places.{PlaceMap}
 use Rattle.container_meta.specs.Segments.{Contents}
 use Rattle.copy_forward.specs.Copying.{IsCopyRefusal, IsSourceRefusal}
-use Rattle.copy_forward.specs.Entries.{IsHeaderRefusal, IsRemoveRefusal}
+use Rattle.copy_forward.specs.Entries.{IsRemoveRefusal}
+use Rattle.copy_forward.specs.Headers.{IsHeaderRefusal}
 use Rattle.copy_forward.specs.Planning.{IsOneRefusal, IsPlanRefusal, IsStuck, Planned, Source, planned, source_of}
 use Rattle.dd_disk.specs.Shows.{Shows}
 use Rattle.dd_disk.specs.View.{DiskView}
@@ -24,8 +25,8 @@ IsCopyCause (Corrupt slot offset count want got) = Unit {0}
 IsCopyCause (Damaged at why) = Unit {0}
 IsCopyCause refusal = ⊥
 
-module _ (known : Option PlaceMap) (old new : DiskView) where
-  header_cause : (slot : ℕ) (refusal : Refusal) → IsHeaderRefusal old new slot refusal → IsCopyCause refusal
+module _ (t : SlotTable) (known : Option PlaceMap) (old new : DiskView) where
+  header_cause : (slot : ℕ) (refusal : Refusal) → IsHeaderRefusal t old new slot refusal → IsCopyCause refusal
   header_cause slot Memory cause = tt
   header_cause slot DiskRead cause = tt
   header_cause slot (Damaged at why) cause = tt
@@ -53,15 +54,15 @@ module _ (known : Option PlaceMap) (old new : DiskView) where
   remove_cause (Damaged at why) cause = tt
   remove_cause refusal cause = absurd cause
 
-  source_cause : (live : LiveKeys) (slot from : ℕ) (buffer : Contents) (refusal : Refusal) → IsSourceRefusal known live slot from buffer old new refusal → IsCopyCause refusal
+  source_cause : (live : LiveKeys) (slot from : ℕ) (buffer : Contents) (refusal : Refusal) → IsSourceRefusal t known live slot from buffer old new refusal → IsCopyCause refusal
   source_cause live slot from buffer refusal (inl header) = header_cause slot refusal header
-  source_cause live slot from buffer refusal (inr (h, shown, kind, few, plan)) = plan_cause (source_of known live slot h.kind) (drop from h.entries) (planned buffer []) refusal plan
+  source_cause live slot from buffer refusal (inr (h, tabled, shown, kind, few, plan)) = plan_cause (source_of known live slot h.kind) (drop from h.entries) (planned buffer []) refusal plan
 
-  any_cause : (live : LiveKeys) (slot from : ℕ) (buffer : Contents) (refusal : Refusal) → IsCopyRefusal known live slot from buffer old new refusal → IsCopyCause refusal
+  any_cause : (live : LiveKeys) (slot from : ℕ) (buffer : Contents) (refusal : Refusal) → IsCopyRefusal t known live slot from buffer old new refusal → IsCopyCause refusal
   any_cause live slot from buffer refusal (inl cause) = source_cause live slot from buffer refusal cause
   any_cause live slot from buffer refusal (inr cause) = remove_cause refusal cause
 
-  module _ (t : SlotTable) (live : LiveKeys) (source entry : ℕ) (s : Sweep) where
+  module _ (live : LiveKeys) (source entry : ℕ) (s : Sweep) where
     nothing_cause : (refusal : Refusal) → CopiesNothing t live known old new source entry s refusal → IsCopyCause refusal
     nothing_cause refusal none = any_cause live none.slot entry none.filling refusal none.cause
 

@@ -3,7 +3,7 @@ use Rattle.std.proofs.Common.{◌≡◌, ◌≤◌, ◌+◌, ◌-◌, ◌*◌, �
 use Rattle.std.specs.Prelude.{◌&&◌, if◌then◌else◌, slice_get}
 use Rattle.container_meta.specs.declared.kind.Kind.{Kind}
 use Rattle.container_meta.specs.declared.kind.Kind.TheVariants.{Leaf, Tree}
-use Rattle.container_meta.specs.Spelling.{HeaderValue}
+use Rattle.container_meta.specs.Spelling.{HeaderValue, header_digest}
 use Rattle.store_model.specs.Slots.{ids_of}
 use Rattle.store_state.specs.Tables.{RepresentsSlots, count_of}
 use Rattle.store_state.specs.declared.slot_table.SlotCount.{SlotCount}
@@ -88,9 +88,9 @@ first_false : (a b : Bool) → a ≡ false → bit (a && b) ≤ 0
 first_false true b is = absurd cc
 first_false false b is = omega arith
 
-tree_bit : (kind : Kind) (entries bytes : ℕ) → bit (is_tree (Some (record { kind = kind; entries = entries; bytes = bytes }))) ≤ one_tree kind
-tree_bit Leaf entries bytes = omega arith
-tree_bit Tree entries bytes = omega arith
+tree_bit : (kind : Kind) (entries bytes : ℕ) (digest : List ℕ) → bit (is_tree (Some (record { kind = kind; entries = entries; bytes = bytes; digest = digest }))) ≤ one_tree kind
+tree_bit Leaf entries bytes digest = omega arith
+tree_bit Tree entries bytes digest = omega arith
 
 module _ (snapshot : ℕ) (held : List (Option HeaderValue)) (t : SlotTable) (is : RepresentsSlots held t) where
   many : length t.ids.items - 0 ≡ length held
@@ -118,7 +118,7 @@ module _ (snapshot : ℕ) (held : List (Option HeaderValue)) (t : SlotTable) (is
         arith,
         both_least (is_old_slot snapshot t (0 + i)) (is_tree (slice_get t.counts.items (0 + i))),
         ap (λ (o : Option SlotCount). bit (is_tree o)) found,
-        tree_bit h.kind (length h.entries) h.data_length,
+        tree_bit h.kind (length h.entries) h.data_length (header_digest h),
       )
 
   pub trees_most : trees_from snapshot t 0 ≤ trees_in held

@@ -8,7 +8,7 @@ use Rattle.actor_parts.specs.StepValue as asked
 use Rattle.dd_disk.specs.View.{DiskView}
 use Rattle.gc_enumerate.specs.declared.fault.ScanFault.{ScanFault}
 use Rattle.gc_enumerate.specs.declared.fault.ScanFault.TheVariants as faults
-use Rattle.copy_forward.specs.Entries.{IsHeaderRefusal}
+use Rattle.copy_forward.specs.Headers.{IsHeaderRefusal}
 use Rattle.gc_steps.specs.Scanning.{step_refusal}
 use Rattle.gc_steps.specs.Stepping.{IsStepRefusal, Moment, TablesAfter}
 use Rattle.gc_steps.specs.declared.collection.Collection.{Collection}
@@ -25,6 +25,7 @@ use Rattle.script_lines.specs.Grammar as lines
 use Rattle.script_lines.specs.ReplyValue as replies
 use Rattle.script_lines.specs.ReplyValue.{ReplyValue}
 use Rattle.store_state.specs.declared.tables.Tables.{Tables}
+use Rattle.store_state.specs.declared.slot_table.SlotTable.{SlotTable}
 use Rattle.store_core.specs.Collecting.{GcRow, StartRow, at_moment}
 use Rattle.store_core.specs.Core.{CoreStep, Steps, StopsAfter}
 use Rattle.store_core.specs.State.{CoreState, Event, IsRunning}
@@ -40,11 +41,11 @@ use Rattle.script_runner.proofs.NamedSteps.{IsTold, Quiet, SameNames, Stands, do
 
 -- ---- what a step may be refused by
 
-of_header : (old new : DiskView) (slot : ℕ) (refusal : Refusal) → IsHeaderRefusal old new slot refusal → IsOfCollection refusal
-of_header old new slot refusals.Memory cause = tt
-of_header old new slot refusals.DiskRead cause = tt
-of_header old new slot (refusals.Damaged at_byte why) cause = tt
-of_header old new slot refusal cause = absurd cause
+of_header : (t : SlotTable) (old new : DiskView) (slot : ℕ) (refusal : Refusal) → IsHeaderRefusal t old new slot refusal → IsOfCollection refusal
+of_header t old new slot refusals.Memory cause = tt
+of_header t old new slot refusals.DiskRead cause = tt
+of_header t old new slot (refusals.Damaged at_byte why) cause = tt
+of_header t old new slot refusal cause = absurd cause
 
 of_scan : (fault : ScanFault) (refusal : Refusal) → refusal ≡ step_refusal fault → IsOfCollection refusal
 of_scan faults.Memory refusal is = subst IsOfCollection (sym is) tt
@@ -70,7 +71,7 @@ of_flush t known (refusals.Damaged at_byte why) cause = tt
 of_flush t known refusal cause = absurd cause.1
 
 of_stage : (old : Moment) (new : DiskView) (stage : Stage) (next : Next) (refusal : Refusal) → IsStepRefusal stage next old new refusal → IsOfCollection refusal
-of_stage old new (Mark level slot) next refusal (inl cause) = of_header old.disk new slot refusal cause
+of_stage old new (Mark level slot) next refusal (inl cause) = of_header old.tables.held old.disk new slot refusal cause
 of_stage old new (Mark level slot) next refusal (inr stopped) = of_scan stopped.fault refusal stopped.refusal_is
 of_stage old new (Filter slot) next refusals.Memory cause = tt
 of_stage old new (Filter slot) next refusals.DiskRead cause = tt
@@ -78,7 +79,7 @@ of_stage old new (Filter slot) next (refusals.Damaged at_byte why) cause = tt
 of_stage old new (Filter slot) next refusal cause = absurd cause
 of_stage old new Select next refusal cause = subst IsOfCollection (sym cause) tt
 of_stage old new Sweep (Copy source entry) refusal cause =
-    of_copy refusal (copying_cause old.known old.disk new old.tables.held old.collection.live source entry old.collection.sweep refusal cause)
+    of_copy refusal (copying_cause old.tables.held old.known old.disk new old.collection.live source entry old.collection.sweep refusal cause)
 of_stage old new Sweep (Flush source entry) refusal cause = of_flush old.tables old.known refusal cause
 of_stage old new Sweep (Release source entry) refusal cause = subst IsOfCollection (sym cause) tt
 of_stage old new Sweep End refusal cause = absurd cause

@@ -89,7 +89,7 @@ counts_copied : (t : SlotTable) (live : LiveKeys) (known after_known : Option Pl
     → CopiesSource t live known after_known old new source entry before after → CountsOn [] before after
 counts_copied t live known after_known old new source entry before after copies = by_found copies.found copies.plans copies.takes
   where
-    by_found : (found : Option Plan) → PlansSource known live copies.slot entry copies.filling old new found → TakesBy t copies.slot source found before after → CountsOn [] before after
+    by_found : (found : Option Plan) → PlansSource t known live copies.slot entry copies.filling old new found → TakesBy t copies.slot source found before after → CountsOn [] before after
     by_found None plans takes = record { freed_on = omega (arith, copies.others.freed_is); copied_on = omega (arith, takes.3, ap (λ (c : Contents). length c.segments) takes.0) }
     by_found (Some plan) plans takes = record {
       freed_on = omega (arith, copies.others.freed_is);

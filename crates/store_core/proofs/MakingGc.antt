@@ -33,6 +33,7 @@ use Rattle.gc_steps.specs.StepsToCome.{Nears, steps_to_come}
 use Rattle.gc_steps.specs.UnderWay.{HasRoom, IsUnderWay}
 use Rattle.store_state.specs.Refused.{blames}
 use Rattle.store_state.specs.declared.tables.Tables.{Tables}
+use Rattle.store_state.specs.declared.slot_table.SlotTable.{SlotTable}
 use Rattle.store_core.specs.Collecting.{GcRow, IsNotMade, TouchesBy, at_moment}
 use Rattle.store_core.specs.Core.{Made}
 use Rattle.store_core.specs.State.{CoreState, IsUnderWayIn}
@@ -73,25 +74,25 @@ stop_runs (faults.Corrupt slot offset count want got) is = let wrong = is in cc
 stop_runs (faults.Missing key) is = let wrong = is in cc
 stop_runs faults.Memory is = let wrong = is in cc
 
-mark_runs : (known : Option PlaceMap) (old new : DiskView) (level slot : ℕ) (live : LiveKeys) → IsMarkRefusal known old new level slot live refusals.NotCollecting → ⊥
-mark_runs known old new level slot live (inl none) = none
-mark_runs known old new level slot live (inr stops) = stop_runs stops.fault stops.refusal_is
+mark_runs : (t : SlotTable) (known : Option PlaceMap) (old new : DiskView) (level slot : ℕ) (live : LiveKeys) → IsMarkRefusal t known old new level slot live refusals.NotCollecting → ⊥
+mark_runs t known old new level slot live (inl none) = none
+mark_runs t known old new level slot live (inr stops) = stop_runs stops.fault stops.refusal_is
 
 stuck_runs : (s : Source) (shown : (List ℕ → Type 0) → Type 0) (es : List Entry) (before : Planned) → IsStuck s shown es before refusals.NotCollecting → ⊥
 stuck_runs s shown [] before is = is
 stuck_runs s shown (e ∷ es) before (inl one) = one.1.1
 stuck_runs s shown (e ∷ es) before (inr more) = stuck_runs s shown es more.0 more.1.1
 
-copy_runs : (known : Option PlaceMap) (live : LiveKeys) (slot from : ℕ) (buffer : Contents) (old new : DiskView) → IsCopyRefusal known live slot from buffer old new refusals.NotCollecting → ⊥
-copy_runs known live slot from buffer old new (inl (inl header)) = header
-copy_runs known live slot from buffer old new (inl (inr (h, shown, kind, within, stuck))) = stuck_runs (source_of known live slot h.kind) (Shows old new) (drop from h.entries) (planned buffer []) stuck
-copy_runs known live slot from buffer old new (inr remove) = remove
+copy_runs : (t : SlotTable) (known : Option PlaceMap) (live : LiveKeys) (slot from : ℕ) (buffer : Contents) (old new : DiskView) → IsCopyRefusal t known live slot from buffer old new refusals.NotCollecting → ⊥
+copy_runs t known live slot from buffer old new (inl (inl header)) = header
+copy_runs t known live slot from buffer old new (inl (inr (h, tabled, shown, kind, within, stuck))) = stuck_runs (source_of known live slot h.kind) (Shows old new) (drop from h.entries) (planned buffer []) stuck
+copy_runs t known live slot from buffer old new (inr remove) = remove
 
 runs_still : (stage : Stage) (next : Next) (old : Moment) (new : DiskView) → IsStepRefusal stage next old new refusals.NotCollecting → ⊥
-runs_still (Mark level slot) next old new is = mark_runs old.known old.disk new level slot old.collection.live is
+runs_still (Mark level slot) next old new is = mark_runs old.tables.held old.known old.disk new level slot old.collection.live is
 runs_still (Filter slot) next old new is = is
 runs_still Select next old new is = let wrong = is in cc
-runs_still Sweep (Copy source entry) old new is = copy_runs old.known old.collection.live is.slot entry is.filling old.disk new is.cause
+runs_still Sweep (Copy source entry) old new is = copy_runs old.tables.held old.known old.collection.live is.slot entry is.filling old.disk new is.cause
 runs_still Sweep (Flush source entry) old new is = is.1
 runs_still Sweep (Release source entry) old new is = let wrong = is in cc
 runs_still Sweep End old new is = is

@@ -1,6 +1,6 @@
 -- Places put into an index, and taken back.
 use Rattle.std.proofs.Common.{◌≡◌, ℕ, suc, ◌+◌, ◌≤◌, Bool, true, false, cond, List, [], ◌∷◌, ◌++◌, length, Option, Some, None, Result, Ok, Err, refl, sym, ◌∙◌, ap, subst, arith}
-use Rattle.std.specs.Prelude.{IsSome, IfSome, is_some, ◌||◌, nat_le}
+use Rattle.std.specs.Prelude.{IsSome, is_some, ◌||◌, nat_le}
 use Rattle.std.proofs.lemmas.Bool.{leb-true, eqb-true}
 use Rattle.base_model.proofs.Checks.{both}
 use Rattle.container_meta.specs.declared.kind.Kind.TheVariants as kinds
@@ -31,7 +31,7 @@ use Rattle.store_model.specs.Slots.{place_of}
 use Rattle.store_model.proofs.Indexing.{tied}
 use Rattle.refusals.specs.declared.refusal.Refusal.{Refusal}
 use Rattle.refusals.specs.declared.refusal.Refusal.TheVariants.{Memory, DiskWrite, Damaged}
-use Rattle.store_state.specs.Indexing.{IsChangeRefusal, IsOfSlots, ArePart, HaveHad, AreHad, Stays, with_had}
+use Rattle.store_state.specs.Indexing.{IsChangeRefusal, ArePart, with_had}
 
 same_bytes : (a b : List ℕ) → bytes_eq a b ≡ true → a ≡ b
 same_bytes a b = (bytes_eq-Decides a b).0
@@ -43,7 +43,7 @@ got_put m key place =
     finite.get-insert nat_list_cmp_total m key place key
     ∙ ap (λ (b : Bool). cond b (Some place) (finite.get m key)) (tied key key ∙ (bytes_eq-Decides key key).1 refl)
 
-got_other : (m : PlaceMap) (key other : List ℕ) (place : Place) → bytes_eq key other ≡ false → finite.get (finite.insert m key place) other ≡ finite.get m other
+pub got_other : (m : PlaceMap) (key other : List ℕ) (place : Place) → bytes_eq key other ≡ false → finite.get (finite.insert m key place) other ≡ finite.get m other
 got_other m key other place differ =
     finite.get-insert nat_list_cmp_total m key place other
     ∙ ap (λ (b : Bool). cond b (Some place) (finite.get m other)) (tied other key ∙ differ)
@@ -92,14 +92,6 @@ later_differ kind before e es follow =
     ∙ ap (λ (b : Bool). has_digest before e.digest || (b || false)) ((bytes_eq-Decides e.digest e.digest).1 refl)
     ∙ or-true (has_digest before e.digest))
 
--- so what others had they have still
-pub had_still : (m : PlaceMap) (kind : Kind) (one : Entry) (place : Place) (es : List Entry) (places : List (Option Place)) → AllByRecursion (λ x. bytes_eq (entry_key kind one) (entry_key kind x) ≡ false) es → HaveHad m kind es places
-    → HaveHad (finite.insert m (entry_key kind one) place) kind es places
-had_still m kind one place [] places differ had = tt
-had_still m kind one place (e ∷ es) [] differ had = had
-had_still m kind one place (e ∷ es) (p ∷ ps) differ had =
-    (had.0 ∙ sym (got_other m (entry_key kind one) (entry_key kind e) place differ.0), had_still m kind one place es ps differ.1 had.1)
-
 -- ---- what is known of the map
 
 pub same_map : (a b : PlaceMap) → Some a ≡ Some b → a ≡ b
@@ -120,11 +112,6 @@ lacked known key there absent = unknown known (λ m is. none (finite.get m key) 
     none : (o : Option Place) → IsSome o → o ≡ None → ⊥
     none o some is = absurd (let not_there : false ≡ true = sym (ap is_some is) ∙ some in cc)
 
--- What follows of a map that is known now from what was known of the one before.
-pub known_on : (P : PlaceMap → Type 0) (old new : Option PlaceMap) (f : PlaceMap → PlaceMap) → Stays old new → KnownMap old (λ m. new ≡ Some (f m)) → KnownMap old (λ m. P (f m)) → KnownMap new P
-known_on P None new f none is each = λ n there. absurd (let wrong : None ≡ Some n = sym (none refl) ∙ there in cc)
-known_on P (Some m) new f none is each = known_is P new (f m) (is m refl) (each m refl)
-
 -- ---- why a change was refused
 
 pub refusal_on : (old new : Option PlaceMap) → (new ≡ None → old ≡ None) → (refusal : Refusal) → IsChangeRefusal new refusal → IsChangeRefusal old refusal
@@ -136,55 +123,6 @@ refusal_on old new before refusal has = absurd has
 pub none_before : (old new : Option PlaceMap) (f : PlaceMap → PlaceMap) → KnownMap old (λ m. new ≡ Some (f m)) → new ≡ None → old ≡ None
 none_before None new f is none = refl
 none_before (Some m) new f is none = absurd (let wrong : None ≡ Some (f m) = sym none ∙ is m refl in cc)
-
--- ---- the first entry is put, and then the rest
-
-module _ (size next_size slot : ℕ) (kind : Kind) (key : List ℕ) (place : Place) (e : Entry) (es all : List Entry) (old next : Option PlaceMap) (cases : all ≡ e ∷ es) (same_size : next_size ≡ size) (key_is : key ≡ entry_key kind e) (put : KnownMap old (λ m. next ≡ Some (finite.insert m key place))) (stays : Stays old next) where
-  pub rest_part : ArePart size slot kind all → ArePart next_size slot kind es
-  rest_part part =
-      let follow : Follow kind part.before (e ∷ es) = subst (λ (l : List Entry). Follow kind part.before l) cases part.follow in
-      let places : AllByRecursion (λ x. IsPlace size (place_of slot x)) (e ∷ es) = subst (λ (l : List Entry). AllByRecursion (λ x. IsPlace size (place_of slot x)) l) cases part.places in
-      record { before = part.before ++ e ∷ []; follow = follow.1; places = subst (λ (n : ℕ). AllByRecursion (λ x. IsPlace n (place_of slot x)) es) (sym same_size) places.1 }
-
-  pub rest_slots : IsOfSlots size → IsOfSlots next_size
-  rest_slots of_slots = record { slots = of_slots.slots; size_is = same_size ∙ of_slots.size_is }
-
-  had_all : (had : Option Place) (hads places : List (Option Place)) → places ≡ had ∷ hads → AreHad size old kind all places → KnownMap old (λ m. HaveHad m kind (e ∷ es) (had ∷ hads))
-  had_all had hads places is had_is m known = subst (λ (l : List Entry). HaveHad m kind l (had ∷ hads)) cases (subst (λ (l : List (Option Place)). HaveHad m kind all l) is (had_is.had m known))
-
-  lie_all : (had : Option Place) (hads places : List (Option Place)) → places ≡ had ∷ hads → AreHad size old kind all places → AllByRecursion (λ h. IfSome h (IsPlace size)) (had ∷ hads)
-  lie_all had hads places is had_is = subst (λ (l : List (Option Place)). AllByRecursion (λ h. IfSome h (IsPlace size)) l) is had_is.lie
-
-  pub rest_had : (had : Option Place) (hads places : List (Option Place)) → places ≡ had ∷ hads → ArePart size slot kind all → AreHad size old kind all places → AreHad next_size next kind es hads
-  rest_had had hads places is part had_is =
-      let follow : Follow kind part.before (e ∷ es) = subst (λ (l : List Entry). Follow kind part.before l) cases part.follow in
-      let still = λ (m : PlaceMap) (known : old ≡ Some m). had_still m kind e place es hads (later_differ kind part.before e es follow) (had_all had hads places is had_is m known).1 in
-      record {
-        many = omega (arith, had_is.many, ap length cases, ap length is);
-        lie = subst (λ (n : ℕ). AllByRecursion (λ h. IfSome h (IsPlace n)) hads) (sym same_size) (lie_all had hads places is had_is).1;
-        had = known_on (λ n. HaveHad n kind es hads) old next (λ m. finite.insert m key place) stays put (λ m known. subst (λ (k : List ℕ). HaveHad (finite.insert m k place) kind es hads) (sym key_is) (still m known));
-      }
-
-  -- what is given back where memory runs out among the rest
-  module _ (end : Option PlaceMap) (end_size : ℕ) (same : end ≡ next) (end_same : end_size ≡ next_size) where
-    pub back_place : (had : Option Place) (hads places : List (Option Place)) → places ≡ had ∷ hads → AreHad size old kind all places → IfSome had (IsPlace end_size)
-    back_place had hads places is had_is = subst (λ (n : ℕ). IfSome had (IsPlace n)) (sym (end_same ∙ same_size)) (lie_all had hads places is had_is).0
-
-    pub back_there : KnownMap end (λ n. IsSome (finite.get n key))
-    back_there n there =
-        known_on (λ x. IsSome (finite.get x key)) old next (λ m. finite.insert m key place) stays put
-        (λ m known. subst IsSome (sym (got_put m key place)) refl) n (sym same ∙ there)
-
-    pub restored : (last : Option PlaceMap) (had : Option Place) (hads places : List (Option Place)) → places ≡ had ∷ hads → AreHad size old kind all places
-        → KnownMap end (λ n. last ≡ Some (with_had had key n)) → Stays end last → last ≡ old
-    restored last had hads places is had_is back back_stays = by_old old refl
-      where
-        by_old : (o : Option PlaceMap) → old ≡ o → last ≡ old
-        by_old None none = back_stays (same ∙ stays none) ∙ sym none
-        by_old (Some m) known =
-            back (finite.insert m key place) (same ∙ put m known)
-            ∙ ap Some (given_back m key place had ((had_all had hads places is had_is m known).0 ∙ ap (finite.get m) (sym key_is)))
-            ∙ sym known
 
 -- ---- a whole container
 

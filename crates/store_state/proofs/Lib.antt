@@ -5,5 +5,6 @@ pub mod Few
 pub mod Indexed
 mod Newest
 pub mod Parts
+pub mod PutBack
 pub mod Serving
 pub mod Taken

@@ -1,7 +1,6 @@
 -- The table of slots, once a container is in one of them.
-use Rattle.std.proofs.Common.{◌≡◌, ℕ, zero, suc, ◌≤◌, List, [], ◌∷◌, length, map, max, set, Option, Some, None, refl, ap, arith}
+use Rattle.std.proofs.Common.{◌≡◌, ℕ, zero, suc, ◌≤◌, List, [], ◌∷◌, map, max, set, Option, Some, None, refl, ap, arith}
 use Rattle.container_meta.specs.Spelling.{HeaderValue}
-use Rattle.container_meta.specs.declared.kind.Kind.{Kind}
 use Rattle.store_model.specs.Slots.{ids_of, last_id, with_slot, without_slot}
 use Rattle.store_state.specs.declared.slot_table.SlotCount.{SlotCount}
 use Rattle.store_state.specs.Tables.{count_of}
@@ -24,10 +23,6 @@ last_with zero h (None ∷ cs) = omega arith
 last_with zero h (Some g ∷ cs) = omega arith
 last_with (suc slot) h (None ∷ cs) = last_with slot h cs
 last_with (suc slot) h (Some g ∷ cs) = omega (arith, last_with slot h cs)
-
-pub same_count : (h : HeaderValue) (kind : Kind) (entries bytes : ℕ) → h.kind ≡ kind → length h.entries ≡ entries → h.data_length ≡ bytes
-    → (let c : SlotCount = record { kind = kind; entries = entries; bytes = bytes } in c) ≡ count_of (Some h)
-same_count h kind entries bytes same many long = cc
 
 -- ---- a slot that is closed
 

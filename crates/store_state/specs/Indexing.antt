@@ -1,5 +1,5 @@
 -- What is looked up in an index, and put into it (docs/MODEL.md, 'The running store').
-use Rattle.std.specs.Prelude.{◌≡◌, ℕ, List, [], ◌∷◌, length, Option, Some, None, IfSome}
+use Rattle.std.specs.Prelude.{◌≡◌, ℕ, List, [], ◌∷◌, length, take, drop, Option, Some, None, IfSome}
 use Rattle.std.specs.FinMap as finite
 use Rattle.std.specs.List.{AllByRecursion}
 use Rattle.disk_format.specs.declared.why.Why.{Why}
@@ -10,7 +10,7 @@ use Rattle.container_meta.specs.declared.place.Place.{Place}
 use Rattle.container_meta.specs.Places.{PlaceMap}
 use Rattle.container_meta.specs.Spelling.{Follow}
 use Rattle.segment_index.specs.Places.{KnownMap, IsPlace}
-use Rattle.store_model.specs.Indexing.{entry_key}
+use Rattle.store_model.specs.Indexing.{entry_key, with_entries}
 use Rattle.store_model.specs.Slots.{place_of}
 use Rattle.refusals.specs.declared.refusal.Refusal.{Refusal}
 use Rattle.refusals.specs.declared.refusal.Refusal.TheVariants.{Memory, DiskRead, DiskWrite, Damaged}
@@ -59,3 +59,24 @@ with_had None key m = finite.remove m key
 -- a map that isn't known stays so
 abbrev pub Stays : Option PlaceMap → Option PlaceMap → Type 0
 Stays old new = old ≡ None → new ≡ None
+
+-- ---- entries that are put, and taken back
+
+-- the map with the place of one entry more
+abbrev pub with_entry : Kind → ℕ → List Entry → ℕ → PlaceMap → PlaceMap
+with_entry kind slot entries at m = with_entries kind slot (take 1 (drop at entries)) m
+
+-- The places of the first entries, so many, were put into a map that has these places of all entries' keys.
+pub record PutOver (kind : Kind) (entries : List Entry) (hads : List (Option Place)) (count : ℕ) (before after : PlaceMap) : Type 0 where
+  pub slot : ℕ
+  pub first : List Entry
+  pub follow : Follow kind first entries
+  pub had : HaveHad before kind entries hads
+  pub is : after ≡ with_entries kind slot (take count entries) before
+
+abbrev pub IsPutOver : Kind → List Entry → List (Option Place) → ℕ → PlaceMap → Type 0
+IsPutOver kind entries hads count after = (before : PlaceMap) × PutOver kind entries hads count before after
+
+-- they are taken back
+abbrev pub TakesBack : Kind → List Entry → List (Option Place) → ℕ → Option PlaceMap → Option PlaceMap → Type 0
+TakesBack kind entries hads count old new = (before after : PlaceMap) → PutOver kind entries hads count before after → old ≡ Some after → new ≡ Some before

@@ -1,8 +1,9 @@
 -- Which store the tables of a running store represent (docs/MODEL.md, 'The running store').
 use Rattle.std.specs.Prelude.{◌≡◌, ℕ, ◌<◌, ◌≤◌, List, length, map, slice_get, Option, Some, None}
+use Rattle.base_model.specs.Bytes.{zeros}
 use Rattle.container_meta.specs.declared.kind.Kind.TheVariants.{Leaf}
 use Rattle.container_meta.specs.Places.{PlaceMap}
-use Rattle.container_meta.specs.Spelling.{HeaderValue}
+use Rattle.container_meta.specs.Spelling.{HeaderValue, header_digest}
 use Rattle.journal_cells.specs.Journal.{IsTold}
 use Rattle.segment_index.specs.Places.{KnownMap}
 use Rattle.store_model.specs.Image.{Store, IsValidFor}
@@ -11,10 +12,10 @@ use Rattle.store_state.specs.declared.slot_table.SlotCount.{SlotCount}
 use Rattle.store_state.specs.declared.slot_table.SlotTable.{SlotTable}
 use Rattle.store_state.specs.declared.tables.Tables.{Tables}
 
--- of which kind a slot's segments are, and how much it holds
+-- what a slot's header says beside the id: of which kind its segments are, how much it holds, and its digest
 abbrev pub count_of : Option HeaderValue → SlotCount
-count_of None = record { kind = Leaf; entries = 0; bytes = 0 }
-count_of (Some h) = record { kind = h.kind; entries = length h.entries; bytes = h.data_length }
+count_of None = record { kind = Leaf; entries = 0; bytes = 0; digest = zeros 32 }
+count_of (Some h) = record { kind = h.kind; entries = length h.entries; bytes = h.data_length; digest = header_digest h }
 
 -- the table is that of these slots; its last id is the greatest that was ever given out
 pub record RepresentsSlots (held : List (Option HeaderValue)) (table : SlotTable) : Type 0 where

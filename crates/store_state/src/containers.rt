@@ -2,7 +2,7 @@
 ghost use Rattle.std.specs.Prelude.{◌≡◌, ◌∷◌, ◌++◌, [], List, Option, None, Some, length, not, false};
 ghost use Rattle.std.specs.Prelude.{◌≤◌, IsTrue, option_map, OnOk, IfSome};
 ghost use Rattle.disk_format.specs.declared.numbers.TheConstants.{MOST_SLOTS as MANY};
-ghost use Rattle.container_meta.specs.Spelling.{HeaderValue, IsHeader, view, has_digest};
+ghost use Rattle.container_meta.specs.Spelling.{HeaderValue, IsHeader, header_digest, view, has_digest};
 ghost use Rattle.container_meta.specs.declared.entry.Entry.{Entry as EntryValue};
 ghost use Rattle.store_model.specs.Slots.{AreHeaders, IsUnusedId, place_of, free_slots};
 ghost use Rattle.store_state.specs.Containers.{RepresentsContainers, ArePart, is_newer};
@@ -20,7 +20,7 @@ pub struct Containers {
     pub index: StoreIndex,
     /// The id of the container in each slot, 0 where the slot is closed.
     pub ids: Vec<u64>,
-    /// How much each holds.
+    /// What each holds.
     pub counts: Vec<SlotCount>,
     /// The greatest of the ids, 0 where there is none.
     pub last_id: u64,
@@ -37,15 +37,18 @@ pub(crate) fn place_in(slot: u32, entry: &Entry) -> Place
     }
 }
 
-// How much a container holds.
+// What a container holds.
 fn count_in(meta: &Meta) -> SlotCount
-    requires { IsHeader (view meta.now) }
+    requires right { IsHeader (view meta.now) }
+    requires digest { meta.now.digest ≡ header_digest (view meta.now) }
     ensures { result ≡ count_of (Some (view meta.now)) }
 {
+    let digest = meta.digest;
     SlotCount {
         kind: meta.kind,
         entries: meta.entries.len() as u32,
         bytes: meta.data_length,
+        digest,
     }
 }
 
@@ -112,7 +115,8 @@ impl Containers {
 
     /// Takes one more slot, which has a container; `slot` is its number.
     pub fn add(&mut self, slot: u32, meta: &Meta) -> Result<(), AllocError>
-        requires { IsHeader (view meta.now) }
+        requires right { IsHeader (view meta.now) }
+        requires digest { meta.now.digest ≡ header_digest (view meta.now) }
         ensures { OnOk result ((held : List (Option HeaderValue)) → slot ≡ length held → RepresentsContainers held self.old
             → RepresentsContainers (held ++ Some (view meta.now) ∷ []) self.new) }
     {
@@ -145,7 +149,8 @@ impl Containers {
 
     /// Takes what the next slot holds; `slot` is its number.
     pub fn take(&mut self, slot: u32, held: &Option<Meta>) -> Result<(), AllocError>
-        requires { IfSome held.now (λ m. IsHeader (view m)) }
+        requires right { IfSome held.now (λ m. IsHeader (view m)) }
+        requires digest { IfSome held.now (λ m. m.digest ≡ header_digest (view m)) }
         ensures { OnOk result ((before : List (Option HeaderValue)) → slot ≡ length before → RepresentsContainers before self.old
             → RepresentsContainers (before ++ option_map view held.now ∷ []) self.new) }
     {

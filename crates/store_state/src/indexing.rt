@@ -1,7 +1,8 @@
 //! What the index of a running store answers, and what is put into it.
-ghost use Rattle.std.specs.Prelude.{◌≡◌, ◌+◌, ◌≤◌, ℕ, None, Some, Err, length};
+ghost use Rattle.std.specs.Prelude.{◌≡◌, ◌+◌, ◌<◌, ◌≤◌, ℕ, None, Some, Err, length};
 ghost use Rattle.std.specs.Prelude.{IsSome, IsTrue, IsFalse, OnOk, OnErr, IfOk, IfErr, IfSome};
 ghost use Rattle.std.specs.FinMap as finite;
+ghost use Rattle.std.specs.List.{AllByRecursion};
 ghost use Rattle.dd_disk.specs.Ending.{ending, Reads};
 ghost use Rattle.dd_disk.specs.Shows.{Shows};
 ghost use Rattle.disk_format.specs.Layout.{size_of, slot_at};
@@ -14,6 +15,7 @@ ghost use Rattle.store_model.specs.Slots.{place_of};
 ghost use Rattle.store_state.specs.Refused.{blames};
 ghost use Rattle.store_state.specs.Settled.{KeepsWhatCounts};
 ghost use Rattle.store_state.specs.Indexing.{IsFindRefusal, IsChangeRefusal, IsOfSlots, ArePart, AreHad, Stays, with_had};
+ghost use Rattle.store_state.specs.Indexing.{IsPutOver, TakesBack, with_entry};
 
 use crate::containers::place_in;
 use container_meta::{Entry, Key, Kind, OpenContainer, Place, key_of};
@@ -145,6 +147,73 @@ fn ran_out(ended: &Result<(), Refusal>) -> bool
     matches!(ended, Err(Refusal::Memory))
 }
 
+// Gives the keys of the first entries, so many, which have places that were put, those that they had before, or none: the last of
+// them first.
+fn take_back<D: Disk, X: Index>(
+    disk: &mut D,
+    index: &mut X,
+    kind: Kind,
+    entries: &[Entry],
+    before: &[Option<Place>],
+    count: usize,
+) -> Result<(), Refusal>
+    requires serves { X.serves index.old (D.view disk.old).size }
+    requires many { (count ≤ length entries.now) × (length before.now ≡ length entries.now) }
+    requires lie { AllByRecursion (λ had. IfSome had (IsPlace (D.view disk.old).size)) before.now }
+    requires put { KnownMap (X.places index.old (D.view disk.old).content) (IsPutOver kind entries.now before.now count) }
+    ensures ok { OnOk result (TakesBack kind entries.now before.now count (X.places index.old (D.view disk.old).content)
+        (X.places index.new (D.view disk.new).content)) }
+    ensures unknown { OnOk result (Stays (X.places index.old (D.view disk.old).content) (X.places index.new (D.view disk.new).content)) }
+    ensures memory { result ≡ Err Memory → (X.places index.old (D.view disk.old).content ≡ None)
+        × (X.places index.new (D.view disk.new).content ≡ None) }
+    ensures refused { IfErr result (IsChangeRefusal (X.places index.old (D.view disk.old).content)) }
+    ensures changes { (slots : ℕ) → (D.view disk.old).size ≡ size_of slots
+        → Changes (slot_at slots) (ending blames result) (D.view disk.old) (D.view disk.new) }
+    ensures served { X.serves index.new (D.view disk.new).size }
+{
+    let mut left = count;
+    while left > 0 {
+        left -= 1;
+        give_back(disk, index, &key_in(kind, &entries[left]), &before[left])?;
+    }
+    Ok(())
+}
+
+// Puts the place of an entry, where those of the entries before it were put. Where memory runs out, these are taken back.
+fn put_next<D: Disk, X: Index>(
+    disk: &mut D,
+    index: &mut X,
+    slot: u32,
+    kind: Kind,
+    entries: &[Entry],
+    before: &[Option<Place>],
+    at: usize,
+) -> Result<(), Refusal>
+    requires serves { X.serves index.old (D.view disk.old).size }
+    requires within { at < length entries.now }
+    requires places { AllByRecursion (λ e. IsPlace (D.view disk.old).size (place_of slot e)) entries.now }
+    requires many { length before.now ≡ length entries.now }
+    requires lie { AllByRecursion (λ had. IfSome had (IsPlace (D.view disk.old).size)) before.now }
+    requires put { KnownMap (X.places index.old (D.view disk.old).content) (IsPutOver kind entries.now before.now at) }
+    ensures ok { OnOk result (KnownMap (X.places index.old (D.view disk.old).content) (λ m. X.places index.new (D.view disk.new).content
+        ≡ Some (with_entry kind slot entries.now at m))) }
+    ensures unknown { OnOk result (Stays (X.places index.old (D.view disk.old).content) (X.places index.new (D.view disk.new).content)) }
+    ensures memory { result ≡ Err Memory → TakesBack kind entries.now before.now at (X.places index.old (D.view disk.old).content)
+        (X.places index.new (D.view disk.new).content)
+        × Stays (X.places index.old (D.view disk.old).content) (X.places index.new (D.view disk.new).content) }
+    ensures refused { IfErr result (IsChangeRefusal (X.places index.old (D.view disk.old).content)) }
+    ensures changes { (slots : ℕ) → (D.view disk.old).size ≡ size_of slots
+        → Changes (slot_at slots) (ending blames result) (D.view disk.old) (D.view disk.new) }
+    ensures served { X.serves index.new (D.view disk.new).size }
+{
+    let entry = &entries[at];
+    let ended = put(disk, index, &key_in(kind, entry), place_in(slot, entry));
+    if ran_out(&ended) {
+        take_back(disk, index, kind, entries, before, at)?;
+    }
+    ended
+}
+
 // Puts the places of entries, the first of them first. Where memory runs out, those that were put are taken back, the
 // last of them first.
 fn put_from<D: Disk, X: Index>(
@@ -168,21 +237,10 @@ fn put_from<D: Disk, X: Index>(
         → Changes (slot_at slots) (ending blames result) (D.view disk.old) (D.view disk.new) }
     ensures served { X.serves index.new (D.view disk.new).size }
 {
-    let Some((entry, rest)) = entries.split_first() else {
-        return Ok(());
-    };
-    let Some((had, had_rest)) = before.split_first() else {
-        // There are as many as entries.
-        unreachable!()
-    };
-    let key = key_in(kind, entry);
-    put(disk, index, &key, place_in(slot, entry))?;
-    let ended = put_from(disk, index, slot, kind, rest, had_rest);
-    if !ran_out(&ended) {
-        return ended;
+    for at in 0..entries.len() {
+        put_next(disk, index, slot, kind, entries, before, at)?;
     }
-    give_back(disk, index, &key, had)?;
-    Err(Refusal::Memory)
+    Ok(())
 }
 
 /// Puts the place of each segment of a container under its key, the first of them first: it stands in this slot.

@@ -1,5 +1,5 @@
 //! What each slot of a running store holds, as far as steps go by it.
-ghost use Rattle.std.specs.Prelude.{◌≡◌, ◌<◌, ◌≤◌, ◌==◌, List, Option, None, length, max, count_by, position, IfSome};
+ghost use Rattle.std.specs.Prelude.{◌≡◌, ◌<◌, ◌≤◌, ◌==◌, List, Option, None, Some, length, max, count_by, position, IfSome};
 ghost use Rattle.disk_format.specs.declared.numbers.TheConstants.{MOST_SLOTS as MANY};
 ghost use Rattle.container_meta.specs.Spelling.{HeaderValue};
 ghost use Rattle.store_model.specs.Slots.{AreHeaders, free_slots, ids_of, with_slot, without_slot};
@@ -7,7 +7,7 @@ ghost use Rattle.store_state.specs.Tables.{RepresentsSlots, IsFirstFree, count_o
 
 use container_meta::Kind;
 
-/// How much the container in a slot holds: nothing, where the slot is closed.
+/// What the container in a slot holds, as its header says: nothing, where the slot is closed.
 #[derive(Clone, Copy)]
 pub struct SlotCount {
     /// The kind of its segments; data, where the slot is closed.
@@ -16,6 +16,8 @@ pub struct SlotCount {
     pub entries: u32,
     /// How many bytes they have together.
     pub bytes: u32,
+    /// The digest of the header; zeros, where the slot is closed.
+    pub digest: [u8; 32],
 }
 
 /// What each slot holds.
@@ -23,7 +25,7 @@ pub struct SlotCount {
 pub struct SlotTable {
     /// The id of the container in each slot, 0 where the slot is closed.
     pub ids: Vec<u64>,
-    /// How much each holds.
+    /// What each holds.
     pub counts: Vec<SlotCount>,
     /// The greatest id that a container has or had since the opening, 0 where there is none.
     pub last_id: u64,
@@ -33,10 +35,12 @@ pub struct SlotTable {
 pub(crate) fn closed() -> SlotCount
     ensures { result ≡ count_of None }
 {
+    let digest = [0u8; 32];
     SlotCount {
         kind: Kind::Leaf,
         entries: 0,
         bytes: 0,
+        digest,
     }
 }
 
@@ -77,21 +81,16 @@ impl SlotTable {
         Some(slot as u32)
     }
 
-    /// Takes a container that was written to a slot. It takes no memory.
-    pub fn take_container(&mut self, slot: u32, id: u64, kind: Kind, entries: u32, bytes: u32)
+    /// Takes a container that was written to a slot: its id, and what its header says. It takes no memory.
+    pub fn take_container(&mut self, slot: u32, id: u64, count: SlotCount)
         requires slot { slot < length self.old.ids.items }
         requires counts { length self.old.counts.items ≡ length self.old.ids.items }
-        ensures holds { (held : List (Option HeaderValue)) (h : HeaderValue) → h.id ≡ id → h.kind ≡ kind
-            → length h.entries ≡ entries → h.data_length ≡ bytes
+        ensures holds { (held : List (Option HeaderValue)) (h : HeaderValue) → h.id ≡ id → count_of (Some h) ≡ count
             → RepresentsSlots held self.old → RepresentsSlots (with_slot slot h held) self.new }
         ensures last { self.new.last_id ≡ max self.old.last_id id }
     {
         self.ids[slot as usize] = id;
-        self.counts[slot as usize] = SlotCount {
-            kind,
-            entries,
-            bytes,
-        };
+        self.counts[slot as usize] = count;
         self.last_id = self.last_id.max(id);
     }
 

@@ -1,5 +1,6 @@
 use Rattle.std.proofs.Common.{◌∙◌, arith}
 use Rattle.container_meta.proofs.Found.{is_found}
+use Rattle.container_meta.proofs.Digests.{digest_read}
 use Rattle.container_meta.proofs.Again.{header_again}
 use Rattle.container_meta.proofs.reading.decode_into.Goals as goal
 
@@ -8,3 +9,6 @@ returns-clause-found c = is_found c.args.bytes.now c.header_into.result c.header
 
 pub returns-clause-only : goal.returns-clause-only
 returns-clause-only c = λ h allowed is. c.header_into.ensures.value ∙ header_again c.args.bytes.now h c.requires.length allowed is
+
+pub returns-clause-digest : goal.returns-clause-digest
+returns-clause-digest c = digest_read c.args.bytes.now c.header_into.new.entries.items c.header_into.result (returns-clause-found c) c.header_into.ensures.stored

@@ -9,8 +9,14 @@ use Rattle.gc_steps.specs.declared.collection.Stage.TheVariants.{Filter}
 use Rattle.gc_steps.proofs.UnderWay.{at_stage, recorded_on}
 use Rattle.gc_steps.proofs.filtering.record_container.Goals as goal
 
-pub read_header-requires : goal.read_header-requires
-read_header-requires g c = slot_fits (g.D.Disk.view c.args.disk.now).size c.requires.runs.0 c.args.tables.now c.args.slot c.requires.runs.1 (at_stage c.args.tables.now.held c.args.collection.now (Filter c.args.slot) c.requires.under_way c.requires.stage).0.0
+pub read_header-requires-clause-place : goal.read_header-requires-clause-place
+read_header-requires-clause-place g c = slot_fits (g.D.Disk.view c.args.disk.now).size c.requires.runs.0 c.args.tables.now c.args.slot c.requires.runs.1 (at_stage c.args.tables.now.held c.args.collection.now (Filter c.args.slot) c.requires.under_way c.requires.stage).0.0
+
+pub read_header-requires-clause-counts : goal.read_header-requires-clause-counts
+read_header-requires-clause-counts g c = omega (arith, columns (g.D.Disk.view c.args.disk.now).size c.requires.runs.0 c.args.tables.now c.requires.runs.1, (at_stage c.args.tables.now.held c.args.collection.now (Filter c.args.slot) c.requires.under_way c.requires.stage).0.0)
+
+pub read_header-requires-clause-ids : goal.read_header-requires-clause-ids
+read_header-requires-clause-ids g c = (at_stage c.args.tables.now.held c.args.collection.now (Filter c.args.slot) c.requires.under_way c.requires.stage).0.0
 
 pub recorded-requires-clause-counts : goal.recorded-requires-clause-counts
 recorded-requires-clause-counts g c = omega (arith, columns (g.D.Disk.view c.args.disk.now).size c.requires.runs.0 c.args.tables.now c.requires.runs.1, (at_stage c.args.tables.now.held c.args.collection.now (Filter c.args.slot) c.requires.under_way c.requires.stage).0.0)
@@ -32,6 +38,7 @@ returns-clause-ok g c =
     record {
       header = view meta;
       right = c.in_ok-meta.ensures.right;
+      tabled = c.in_ok-meta.ensures.tabled;
       shown = until old mid new c.in_ok-meta.ensures.shown first.only.later.clock_is c.in_ok-live.ensures.reads.only.later;
       live = c.in_ok-live.live;
       live_is = λ m known.

@@ -9,8 +9,14 @@ use Rattle.gc_steps.specs.declared.collection.Stage.TheVariants.{Mark}
 use Rattle.gc_steps.proofs.UnderWay.{at_stage, marked}
 use Rattle.gc_steps.proofs.marking.mark_container.Goals as goal
 
-pub read_header-requires : goal.read_header-requires
-read_header-requires g c = slot_fits (g.D.Disk.view c.args.disk.now).size c.requires.runs.0 c.args.tables.now c.args.slot c.requires.runs.1 (at_stage c.args.tables.now.held c.args.collection.now (Mark c.args.level c.args.slot) c.requires.under_way c.requires.stage).2.0
+pub read_header-requires-clause-place : goal.read_header-requires-clause-place
+read_header-requires-clause-place g c = slot_fits (g.D.Disk.view c.args.disk.now).size c.requires.runs.0 c.args.tables.now c.args.slot c.requires.runs.1 (at_stage c.args.tables.now.held c.args.collection.now (Mark c.args.level c.args.slot) c.requires.under_way c.requires.stage).2.0
+
+pub read_header-requires-clause-counts : goal.read_header-requires-clause-counts
+read_header-requires-clause-counts g c = omega (arith, columns (g.D.Disk.view c.args.disk.now).size c.requires.runs.0 c.args.tables.now c.requires.runs.1, (at_stage c.args.tables.now.held c.args.collection.now (Mark c.args.level c.args.slot) c.requires.under_way c.requires.stage).2.0)
+
+pub read_header-requires-clause-ids : goal.read_header-requires-clause-ids
+read_header-requires-clause-ids g c = (at_stage c.args.tables.now.held c.args.collection.now (Mark c.args.level c.args.slot) c.requires.under_way c.requires.stage).2.0
 
 pub overflow_add-slot : goal.overflow_add-slot
 overflow_add-slot g c = omega (arith, few_slots (g.D.Disk.view c.args.disk.now).size c.requires.runs.0 c.args.tables.now c.requires.runs.1, (at_stage c.args.tables.now.held c.args.collection.now (Mark c.args.level c.args.slot) c.requires.under_way c.requires.stage).2.0)
@@ -34,6 +40,7 @@ returns-in-Ok-clause-ok g c =
     record {
       header = header;
       right = c.in_ok-meta.ensures.right;
+      tabled = c.in_ok-meta.ensures.tabled;
       shown = until old mid new c.in_ok-meta.ensures.shown reads.later.clock_is c.in-Ok.ensures.only.later;
       scanned = entries_since (places old.content) (places mid.content) old mid new reads (ap places reads.content_is) c.args.slot c.args.level header now.live c.scan_lent.new.live c.in-Ok.ensures.marks;
       collection_is = ap (λ (s : Stage). (let after : Collection = record now { live = c.scan_lent.new.live; stage = s } in after)) c.mark_from-collection.ensures;
@@ -68,6 +75,7 @@ returns-clause-refused g c =
     inr (record {
       header = header;
       right = c.in_ok-meta.ensures.right;
+      tabled = c.in_ok-meta.ensures.tabled;
       shown = until old mid new c.in_ok-meta.ensures.shown reads.later.clock_is c.in-Err.ensures.only.later;
       fault = c.in-Err.fault;
       refusal_is = c.refusal_of.ensures;

@@ -77,3 +77,7 @@ returns-clause-under_way g c = λ snapshot under.
       takes = c.take_found.ensures.taken;
       others = c.take_found.ensures.others;
     })
+
+pub fill-requires-clause-counts : goal.fill-requires-clause-counts
+fill-requires-clause-counts g c =
+    omega (arith, columns (g.D.Disk.view c.args.disk.now).size c.requires.runs.0 c.args.tables.now c.requires.runs.1, c.slot_of-slot.ensures.within)

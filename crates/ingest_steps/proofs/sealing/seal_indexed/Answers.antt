@@ -48,30 +48,30 @@ seal_container-requires-clause-state g c =
     let changes = c.in_ok-put_entries.ensures.changes t.slots (slots_on_disk old.size None t c.requires.state) in
     (None, subst (λ (n : ℕ). Runs n None t) (sym changes.later.size_is) c.requires.state)
 
-pub returns-in_err-seal_container-clause-disk : goal.returns-in_err-seal_container-clause-disk
-returns-in_err-seal_container-clause-disk g c =
+pub returns-in_err-digest-clause-disk : goal.returns-in_err-digest-clause-disk
+returns-in_err-digest-clause-disk g c =
     let old = g.D.Disk.view c.args.disk.now in
     let mid = g.D.Disk.view c.put_entries.new.disk in
     let new = g.D.Disk.view c.seal_container.new.disk in
     let t = c.args.tables.now in
-    let e = c.in_err-seal_container.field-0.0 in
+    let e = c.in_err-digest.field-0.0 in
     let changes = c.in_ok-put_entries.ensures.changes t.slots (slots_on_disk old.size None t c.requires.state) in
-    passed (λ x. Steps t.slots x old new) blames c.from_residual-in_err-seal_container.result e c.from_residual-in_err-seal_container.ensures.1
-    (steps_broken t.slots old mid new e c.in_err-seal_container.ensures.refused changes c.in_err-seal_container.ensures.disk)
+    passed (λ x. Steps t.slots x old new) blames c.from_residual-in_err-digest.result e c.from_residual-in_err-digest.ensures.1
+    (steps_broken t.slots old mid new e c.in_err-digest.ensures.refused changes c.in_err-digest.ensures.disk)
 
-pub returns-in_err-seal_container-clause-moves : goal.returns-in_err-seal_container-clause-moves
-returns-in_err-seal_container-clause-moves g c =
+pub returns-in_err-digest-clause-moves : goal.returns-in_err-digest-clause-moves
+returns-in_err-digest-clause-moves g c =
     let old = g.D.Disk.view c.args.disk.now in
     let mid = g.D.Disk.view c.put_entries.new.disk in
     let new = g.D.Disk.view c.seal_container.new.disk in
     let t = c.args.tables.now in
-    let e = c.in_err-seal_container.field-0.0 in
+    let e = c.in_err-digest.field-0.0 in
     let id = t.held.last_id + 1 in
     let changes = c.in_ok-put_entries.ensures.changes t.slots (slots_on_disk old.size None t c.requires.state) in
-    passed (λ x. SealsIndexed t id c.args.filled.now x old new) blames c.from_residual-in_err-seal_container.result e c.from_residual-in_err-seal_container.ensures.1
+    passed (λ x. SealsIndexed t id c.args.filled.now x old new) blames c.from_residual-in_err-digest.result e c.from_residual-in_err-digest.ensures.1
     (seals_on t id c.args.filled.now (ending_of (blames e)) old mid new changes
-    (subst (λ (i : ℕ). SealsContainer t i c.args.filled.now (ending_of (blames e)) mid new) c.next_id-id.ensures.next c.in_err-seal_container.ensures.moves)
-    c.args.slot c.requires.slot.1 c.in_err-seal_container.ensures.disk.later c.in_err-seal_container.ensures.frame)
+    (subst (λ (i : ℕ). SealsContainer t i c.args.filled.now (ending_of (blames e)) mid new) c.next_id-id.ensures.next c.in_err-digest.ensures.moves)
+    c.args.slot c.requires.slot.1 c.in_err-digest.ensures.disk.later c.in_err-digest.ensures.frame)
 
 pub returns-clause-map : goal.returns-clause-map
 returns-clause-map g c =
@@ -85,7 +85,7 @@ returns-clause-map g c =
     let changes = c.in_ok-put_entries.ensures.changes t.slots (slots_on_disk old.size None t c.requires.state) in
     record {
       told = λ given content m known_is. map_on places (g.X.Index.owned_from index) (g.met.X.Index.places_stay index) (g.X.Index.serves index) (g.met.X.Index.owns_no_slot index) old.size None t c.args.slot c.requires.slot.1 c.requires.state
-          old mid new changes refl given content c.in_ok-put_entries.ensures.served c.in_ok-seal_container.ensures.same
+          old mid new changes refl given content c.in_ok-put_entries.ensures.served c.in_ok-digest.ensures.same
           ∙ c.in_ok-put_entries.ensures.ok m known_is;
       untold = λ none m known_is.
           let content = g.X.Index.places c.args.index.now in
@@ -99,7 +99,7 @@ returns-clause-disk g c =
     let new = g.D.Disk.view c.seal_container.new.disk in
     let t = c.args.tables.now in
     let changes = c.in_ok-put_entries.ensures.changes t.slots (slots_on_disk old.size None t c.requires.state) in
-    steps_on t.slots old mid new changes c.in_ok-seal_container.ensures.disk c.in_ok-seal_container.ensures.durable
+    steps_on t.slots old mid new changes c.in_ok-digest.ensures.disk c.in_ok-digest.ensures.durable
 
 pub returns-clause-moves : goal.returns-clause-moves
 returns-clause-moves g c =
@@ -109,5 +109,5 @@ returns-clause-moves g c =
     let t = c.args.tables.now in
     let changes = c.in_ok-put_entries.ensures.changes t.slots (slots_on_disk old.size None t c.requires.state) in
     seals_on t (t.held.last_id + 1) c.args.filled.now Done old mid new changes
-    (subst (λ (i : ℕ). SealsContainer t i c.args.filled.now Done mid new) c.next_id-id.ensures.next c.in_ok-seal_container.ensures.moves)
-    c.args.slot c.requires.slot.1 c.in_ok-seal_container.ensures.disk.later c.in_ok-seal_container.ensures.frame
+    (subst (λ (i : ℕ). SealsContainer t i c.args.filled.now Done mid new) c.next_id-id.ensures.next c.in_ok-digest.ensures.moves)
+    c.args.slot c.requires.slot.1 c.in_ok-digest.ensures.disk.later c.in_ok-digest.ensures.frame

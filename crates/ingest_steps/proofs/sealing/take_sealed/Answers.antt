@@ -1,11 +1,11 @@
 use Rattle.std.proofs.Common.{refl, sym, ◌∙◌, arith}
 use Rattle.container_meta.specs.Spelling.{header_of}
 use Rattle.store_model.proofs.IndexSize.{entries_within}
-use Rattle.ingest_steps.proofs.SealedTables.{length-of_entries, slot_in_table, counts_many, has_sealed}
+use Rattle.ingest_steps.proofs.SealedTables.{length-of_entries, slot_in_table, counts_many, same_count, has_sealed}
 use Rattle.ingest_steps.proofs.sealing.take_sealed.Goals as goal
 
-pub overflow_cast-len : goal.overflow_cast-len
-overflow_cast-len c =
+pub overflow_cast-count : goal.overflow_cast-count
+overflow_cast-count c =
     let filled = c.args.filled.now in
     omega (arith, entries_within (header_of c.args.id filled.kind filled.segments) c.requires.right, length-of_entries 0 filled.segments, c.len.ensures)
 
@@ -20,4 +20,4 @@ returns c = λ spares size known has.
     let filled = c.args.filled.now in
     has_sealed c.args.tables.now _ c.args.slot c.args.id filled has c.requires.id c.requires.right
     (omega (arith, c.take_container.ensures.last, c.requires.id)) refl refl refl
-    (λ held. c.take_container.ensures.holds held (header_of c.args.id filled.kind filled.segments) refl (sym c.kind.ensures) (length-of_entries 0 filled.segments ∙ sym c.len.ensures) (sym c.requires.bytes)) size known
+    (λ held. c.take_container.ensures.holds held (header_of c.args.id filled.kind filled.segments) refl (same_count (header_of c.args.id filled.kind filled.segments) c.kind.result c.len.result c.args.bytes c.args.digest (sym c.kind.ensures) (length-of_entries 0 filled.segments ∙ sym c.len.ensures) (sym c.requires.bytes) (sym c.requires.digest))) size known

@@ -2,8 +2,9 @@
 //! file held.
 //!
 //! A session cuts the bytes into segments, which wait in a queue, builds the tree over them, and fills a container of
-//! segments and one of nodes. `due` says which step is next, a claim or a seal; `told` takes what the store answered. After
-//! `finish`, where nothing is due, `ready` has the root of the file.
+//! segments and one of nodes. Finished nodes wait in line while children of theirs lie in an open container, so that it fills.
+//! `due` says which step is next, a claim or a seal; `told` takes what the store answered. After `finish`, where nothing is due,
+//! `ready` has the root of the file.
 //!
 //! Proved: which step is due, what each answer makes of the session, and what each call is refused by. After calls in any
 //! order, and for all answers that the steps can have: what is claimed and sealed are pieces of the file, children before

@@ -1,0 +1,206 @@
+-- A step of a core is one of the machine of roots.
+use Rattle.container_meta.specs.Places.{PlaceMap}
+use Rattle.container_meta.specs.Segments.{KindSegment}
+use Rattle.read_steps.specs.Counting.{counts_of}
+use Rattle.std.proofs.Common.{◌≡◌, ℕ, List, [], ◌∷◌, Option, Some, None, Result, Ok, Err, refl, sym, ◌∙◌, ap, subst}
+use Rattle.disk_format.specs.Cells.{Root}
+use Rattle.merkle_file.specs.declared.top.Top.{Top}
+use Rattle.actor_parts.specs.declared.step.Answer.{Answer}
+use Rattle.actor_parts.specs.declared.step.Answer.TheVariants as answers
+use Rattle.actor_parts.specs.StepValue as steps
+use Rattle.actor_parts.specs.StepValue.{StepValue}
+use Rattle.refusals.specs.declared.refusal.Refusal.{Refusal}
+use Rattle.refusals.specs.declared.refusal.Refusal.TheVariants as refusals
+use Rattle.store_core.specs.declared.stop.Stop.{Stop}
+use Rattle.store_core.specs.Core.{ClaimRow, ListRow, StatRow, AbortRow, AnswersStopped, BeginRow, EndRow, Made, OpenRow, ReadRow, Steps, StepsOr, StopsAfter, counted}
+use Rattle.store_core.specs.State.{CoreState, Event}
+use Rattle.store_machine.specs.Asked.{Asked}
+use Rattle.store_machine.specs.Asked as asked
+use Rattle.store_machine.specs.Done.{Done}
+use Rattle.store_machine.specs.Legal.{Answers, ByState, LegalBy}
+use Rattle.store_machine.specs.Machine.{RunState, Running, Stopped}
+use Rattle.store_machine.specs.Values.{IsStuck, of_roots}
+use Rattle.core_machine.specs.Refines.{CoreRefines, IsMachine, SameParts, SameStop, asked_by, answered_by}
+use Rattle.store_model.specs.Image.{IsValidFor}
+use Rattle.store_state.specs.Tables.{Represents}
+use Rattle.core_machine.proofs.Rows.{M, abort_row, begin_row, claim_row, commit_row, list_row, stat_row, delete_row, end_row, open_row, read_row, stays_so}
+
+no_write : (after : List Top) → IsStuck after refusals.DiskWrite → ⊥
+no_write [] stuck = stuck
+no_write (t ∷ ts) stuck = stuck
+
+-- ---- steps that count nothing and stop nothing
+
+module _ (c d : CoreState) where
+  abbrev Quiet : StepValue → Result Answer Refusal → Type 0
+  Quiet step answer = StopsAfter step answer c.acknowledged d.stop → d.acknowledged ≡ counted answer c.acknowledged → (d.stop ≡ None) × (d.acknowledged ≡ c.acknowledged)
+
+  begin_quiet : (a : ℕ) (answer : Result Answer Refusal) → BeginRow a answer c d → Quiet steps.Begin answer
+  begin_quiet a (Ok answers.Begun) row stop count = (stop, count)
+  begin_quiet a (Err (refusals.WrongPart kind)) row stop count = (stop, count)
+  begin_quiet a (Err refusal) row stop count = absurd row.0
+  begin_quiet a (Ok answer) row stop count = absurd row
+
+  abort_quiet : (a : ℕ) (answer : Result Answer Refusal) → AbortRow a answer c d → Quiet steps.Abort answer
+  abort_quiet a (Ok answers.Aborted) row stop count = (stop, count)
+  abort_quiet a (Err (refusals.WrongPart kind)) row stop count = (stop, count)
+  abort_quiet a (Err refusal) row stop count = absurd row.0
+  abort_quiet a (Ok answer) row stop count = absurd row
+
+  end_quiet : (a : ℕ) (answer : Result Answer Refusal) → EndRow a answer c d → Quiet steps.EndRead answer
+  end_quiet a (Ok answers.Dropped) row stop count = (stop, count)
+  end_quiet a (Err (refusals.WrongPart kind)) row stop count = (stop, count)
+  end_quiet a (Err refusal) row stop count = absurd row
+  end_quiet a (Ok answer) row stop count = absurd row
+
+  open_quiet : (name : List ℕ) (a : ℕ) (answer : Result Answer Refusal) → OpenRow name a answer c d → Quiet (steps.OpenRead name) answer
+  open_quiet name a (Ok (answers.Opened count)) row stop same = (stop, same)
+  open_quiet name a (Err refusals.Memory) row stop same = (stop, same)
+  open_quiet name a (Err (refusals.WrongPart kind)) row stop same = (stop, same)
+  open_quiet name a (Err refusals.BadName) row stop same = (stop, same)
+  open_quiet name a (Err refusals.NoFile) row stop same = (stop, same)
+  open_quiet name a (Err refusal) row stop same = absurd row.0.1
+  open_quiet name a (Ok answer) row stop same = absurd row
+
+  read_quiet : (a : ℕ) (answer : Result Answer Refusal) (buf : List ℕ) → ReadRow a answer buf c d → Quiet steps.ReadNext answer
+  read_quiet a (Ok (answers.Bytes count)) buf row stop same = (stop, same)
+  read_quiet a (Ok answers.End) buf row stop same = (stop, same)
+  read_quiet a (Err refusals.DiskWrite) buf row stop same =
+      absurd (no_write row.cause.rest (stays_so c.known c.breaks c.disk d.disk row.cause.was row.cause.rest refusals.DiskWrite row.cause.refused).1)
+  read_quiet a (Err refusal) buf row stop same = (stop, same)
+  read_quiet a (Ok answer) buf row stop same = absurd row
+
+  claim_quiet : ((places : PlaceMap) × (c.known ≡ Some places)) → (seg : KindSegment) (a : ℕ) (answer : Result Answer Refusal) → ClaimRow seg a answer c d
+      → Quiet (steps.Claim seg) answer
+  claim_quiet told seg a (Ok answers.Held) row stop count = (stop, count)
+  claim_quiet told seg a (Ok answers.Absent) row stop count = (stop, count)
+  claim_quiet told seg a (Err refusals.DiskWrite) row stop count = absurd row.0.1.refused.2
+  claim_quiet told seg a (Err refusal) row stop count = (stop, count)
+  claim_quiet told seg a (Ok answer) row stop count = absurd row
+
+  list_quiet : (answer : Result Answer Refusal) → ListRow answer c d → Quiet steps.ListNames answer
+  list_quiet (Ok (answers.Listed files)) row stop count = (stop, count)
+  list_quiet (Err refusals.Memory) row stop count = (stop, count)
+  list_quiet (Ok answer) row stop count = absurd row
+  list_quiet (Err refusal) row stop count = absurd row
+
+  stat_quiet : {m : M} → IsMachine m c → (answer : Result Answer Refusal) → StatRow answer c d → Quiet steps.Stat answer
+  stat_quiet {m} at (Ok answer) row stop count =
+      let is : answer ≡ counts_of m.store = row.0.store_has m.store at.represents at.valid at.free in
+      (subst (λ (x : Answer). StopsAfter steps.Stat (Ok x) c.acknowledged d.stop) is stop, subst (λ (x : Answer). d.acknowledged ≡ counted (Ok x) c.acknowledged) is count)
+  stat_quiet at (Err refusal) row stop count = absurd row
+
+-- ---- a core that runs
+
+some_is : (a b : Asked Root) → Some a ≡ Some b → a ≡ b
+some_is a b is = cc
+
+module _ (c d : CoreState) (m : M) (at : IsMachine m c) (runs : m.state ≡ Running) (a : ℕ) (buf : List ℕ) where
+  abbrev Left : Result Answer Refusal → Asked Root → Type 0
+  Left answer step = (n : M) × Answers of_roots a step (answered_by answer buf) m n × IsMachine n d
+
+  made_by : (s : StepValue) (step : Asked Root) (answer : Result Answer Refusal) → asked_by s ≡ Some step → Made s a answer buf c d → StopsAfter s answer c.acknowledged d.stop
+      → d.acknowledged ≡ counted answer c.acknowledged → Left answer step
+  made_by steps.Begin step answer is made stop count =
+      let quiet = begin_quiet c d a answer made.row stop count in
+      subst (Left answer) (some_is asked.Begin step is) (begin_row c m at runs d a answer buf made.row (record { tables = made.effect.tables.tables_are; size = made.effect.disk.only.later.size_is; count = quiet.1; index = made.effect.tables.index_is; stop = quiet.0 }))
+  made_by steps.Abort step answer is made stop count =
+      let quiet = abort_quiet c d a answer made.row stop count in
+      subst (Left answer) (some_is asked.Abort step is) (abort_row c m at runs d a answer buf made.row (record { tables = made.effect.tables.tables_are; size = made.effect.disk.only.later.size_is; count = quiet.1; index = made.effect.tables.index_is; stop = quiet.0 }))
+  made_by (steps.OpenRead name) step answer is made stop count =
+      let quiet = open_quiet c d name a answer made.row stop count in
+      subst (Left answer) (some_is (asked.OpenRead name) step is) (open_row c m at runs d name a answer buf made.row (record { tables = made.effect.tables.tables_are; size = made.effect.disk.only.later.size_is; count = quiet.1; index = made.effect.tables.index_is; stop = quiet.0 }))
+  made_by steps.ReadNext step answer is made stop count =
+      let quiet = read_quiet c d a answer buf made.row stop count in
+      subst (Left answer) (some_is asked.ReadNext step is) (read_row c m at runs d a answer buf made.row (record { tables = made.effect.tables.tables_are; size = made.effect.disk.only.later.size_is; count = quiet.1; index = made.effect.tables.index_is; stop = quiet.0 }))
+  made_by steps.EndRead step answer is made stop count =
+      let quiet = end_quiet c d a answer made.row stop count in
+      subst (Left answer) (some_is asked.EndRead step is) (end_row c m at runs d a answer buf made.row (record { tables = made.effect.tables.tables_are; size = made.effect.disk.only.later.size_is; count = quiet.1; index = made.effect.tables.index_is; stop = quiet.0 }))
+  made_by (steps.Delete name) step answer is made stop count =
+      subst (Left answer) (some_is (asked.Delete name) step is) (delete_row c m at runs d name a answer buf made.row made.effect stop count)
+  made_by (steps.Commit name root) step answer is made stop count =
+      subst (Left answer) (some_is (asked.Commit name root) step is) (commit_row c m at runs d name root a answer buf made.row made.effect stop count)
+  made_by (steps.Claim seg) step answer is made stop count =
+      let quiet = claim_quiet c d (at.places, at.known) seg a answer made.row stop count in
+      subst (Left answer) (some_is (asked.Claim seg) step is) (claim_row c m at runs d seg a answer buf made.row (record { tables = made.effect.tables.tables_are; size = made.effect.disk.only.later.size_is; count = quiet.1; index = made.effect.tables.index_is; stop = quiet.0 }))
+  made_by steps.ListNames step answer is made stop count =
+      let quiet = list_quiet c d answer made.row stop count in
+      subst (Left answer) (some_is asked.ListNames step is) (list_row c m at runs d a answer buf made.row (record { tables = made.effect.tables.tables_are; size = made.effect.disk.only.later.size_is; count = quiet.1; index = made.effect.tables.index_is; stop = quiet.0 }))
+  made_by steps.Stat step answer is made stop count =
+      let quiet = stat_quiet c d at answer made.row stop count in
+      subst (Left answer) (some_is asked.Stat step is) (stat_row c m at runs d a answer buf made.row (record { tables = made.effect.tables.tables_are; size = made.effect.disk.only.later.size_is; count = quiet.1; index = made.effect.tables.index_is; stop = quiet.0 }))
+  made_by s step answer is made stop count = absurd (let wrong : None ≡ Some step = is in cc)
+
+-- none of these is an opening
+by_state : (s : StepValue) (step : Asked Root) (a : ℕ) (told : Result Done Refusal) (m n : M) → asked_by s ≡ Some step → ByState of_roots m.state a step told m n
+    → LegalBy of_roots step a told m n
+by_state s asked.Begin a told m n is by = by
+by_state s (asked.Claim seg) a told m n is by = by
+by_state s (asked.Seal filled) a told m n is by = by
+by_state s (asked.Commit name root) a told m n is by = by
+by_state s asked.Abort a told m n is by = by
+by_state s (asked.OpenRead name) a told m n is by = by
+by_state s asked.ReadNext a told m n is by = by
+by_state s asked.EndRead a told m n is by = by
+by_state s (asked.Delete name) a told m n is by = by
+by_state s asked.ListNames a told m n is by = by
+by_state s (asked.GcStart percent) a told m n is by = by
+by_state s asked.GcStep a told m n is by = by
+by_state s asked.Stat a told m n is by = by
+by_state s asked.Reopen a told m n is by = absurd (no_opening s is)
+  where
+    no_opening : (s : StepValue) → asked_by s ≡ Some asked.Reopen → ⊥
+    no_opening steps.Begin is = absurd (let wrong : asked.Begin ≡ asked.Reopen = some_is asked.Begin asked.Reopen is in cc)
+    no_opening steps.Abort is = absurd (let wrong : asked.Abort ≡ asked.Reopen = some_is asked.Abort asked.Reopen is in cc)
+    no_opening (steps.OpenRead name) is = absurd (let wrong : asked.OpenRead name ≡ asked.Reopen = some_is (asked.OpenRead name) asked.Reopen is in cc)
+    no_opening steps.ReadNext is = absurd (let wrong : asked.ReadNext ≡ asked.Reopen = some_is asked.ReadNext asked.Reopen is in cc)
+    no_opening steps.EndRead is = absurd (let wrong : asked.EndRead ≡ asked.Reopen = some_is asked.EndRead asked.Reopen is in cc)
+    no_opening (steps.Delete name) is = absurd (let wrong : asked.Delete name ≡ asked.Reopen = some_is (asked.Delete name) asked.Reopen is in cc)
+    no_opening (steps.Claim seg) is = absurd (let wrong : asked.Claim seg ≡ asked.Reopen = some_is (asked.Claim seg) asked.Reopen is in cc)
+    no_opening (steps.Commit name root) is = absurd (let wrong : asked.Commit name root ≡ asked.Reopen = some_is (asked.Commit name root) asked.Reopen is in cc)
+    no_opening steps.ListNames is = absurd (let wrong : asked.ListNames ≡ asked.Reopen = some_is asked.ListNames asked.Reopen is in cc)
+    no_opening steps.Stat is = absurd (let wrong : asked.Stat ≡ asked.Reopen = some_is asked.Stat asked.Reopen is in cc)
+    no_opening s is = absurd (let wrong : None ≡ Some asked.Reopen = is in cc)
+
+module _ (e : Event) (step : Asked Root) (old new : CoreState) (m : M) (is : asked_by e.step ≡ Some step) (at : IsMachine m old) where
+  abbrev End : Type 0
+  End = (n : M) × (ByState of_roots m.state e.actor step (answered_by e.answer e.buf) m n × IsMachine n new)
+
+  -- one that is stopped refuses, and nothing changes
+  refuses : (other : _) (stores : _) (stop : Stop) → m.state ≡ Stopped other stores → stop.at ≡ m.acknowledged → AnswersStopped stop.at e old new → End
+  refuses other stores stop state count answers = (
+    m,
+    (
+      subst (λ (s : RunState Root). ByState of_roots s e.actor step (answered_by e.answer e.buf) m m) (sym state)
+          (ap (λ (r : Result Answer Refusal). answered_by r e.buf) answers.answer_is ∙ ap (λ (k : ℕ). Err (refusals.Stopped k)) count, refl),
+      record {
+        represents = subst (λ (t : _). Represents m.store None t) (sym answers.same.tables_are) at.represents;
+        valid = subst (λ (s : ℕ). IsValidFor s m.store) (sym answers.same.disk.only.later.size_is) at.valid;
+        free = at.free;
+        names = at.names;
+        last = at.last;
+        parts = subst (SameParts m.parts) (sym answers.same.parts_are) at.parts;
+        acknowledged = at.acknowledged ∙ sym answers.same.counted;
+        places = at.places;
+        known = answers.same.index_is ∙ at.known;
+        index = at.index;
+        state = subst (SameStop m.acknowledged m.state) (sym answers.same.stop_is) at.state;
+      },
+    ),
+  )
+
+  steps_so : m.state ≡ Running → Steps e old new → End
+  steps_so runs s =
+      let left = made_by old new m at runs e.actor e.buf e.step step e.answer is s.made s.stops s.counted_is in
+      (left.0, (subst (λ (st : RunState Root). ByState of_roots st e.actor step (answered_by e.answer e.buf) m left.0) (sym runs) left.1, left.2))
+
+  by : (st : RunState Root) (stop : Option Stop) → m.state ≡ st → SameStop m.acknowledged st stop → StepsOr stop e old new → End
+  by Running None state same made = steps_so state made
+  by Running (Some stop) state same made = absurd same
+  by (Stopped other stores) None state same made = absurd same
+  by (Stopped other stores) (Some stop) state same made = refuses other stores stop state same made
+
+pub core_refines : (C : Type 0) (state : C → CoreState) → CoreRefines C state
+core_refines C state e step old new m is at made =
+    let end = by e step (state old) (state new) m is at m.state (state old).stop refl at.state made in
+    (end.0, (by_state e.step step e.actor (answered_by e.answer e.buf) m end.0 is end.1.0, end.1.1))

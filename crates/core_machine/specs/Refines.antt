@@ -1,0 +1,99 @@
+-- A core, on any disk, as the machine of roots: what is so between them, for the steps that change no container.
+use Rattle.std.specs.Prelude.{◌≡◌, ℕ, false, List, [], ◌∷◌, take, Option, Some, None, option_map, Result, Ok, Err}
+use Rattle.std.specs.FinMap as finite
+use Rattle.container_meta.specs.Places.{PlaceMap}
+use Rattle.disk_format.specs.Cells.{Root}
+use Rattle.merkle_file.specs.declared.top.Top.{Top}
+use Rattle.namespace.specs.declared.record.Named.{Named}
+use Rattle.actor_parts.specs.declared.part.Part as core_part
+use Rattle.actor_parts.specs.declared.part.Part.TheVariants as core
+use Rattle.actor_parts.specs.declared.step.Answer.{Answer}
+use Rattle.actor_parts.specs.declared.step.Answer.TheVariants as answers
+use Rattle.actor_parts.specs.StepValue as steps
+use Rattle.actor_parts.specs.StepValue.{StepValue}
+use Rattle.refusals.specs.declared.refusal.Refusal.{Refusal}
+use Rattle.store_model.specs.Image.{IsValidFor, last_sequence, names_of}
+use Rattle.store_model.specs.Slots.{HasFree, IsIndexOf}
+use Rattle.store_state.specs.Tables.{Represents}
+use Rattle.store_core.specs.declared.stop.Stop.{Stop}
+use Rattle.store_core.specs.Core.{CoreStep}
+use Rattle.store_core.specs.State.{CoreState, Event}
+use Rattle.store_machine.specs.Asked.{Asked}
+use Rattle.store_machine.specs.Asked as asked
+use Rattle.store_machine.specs.Done.{Done}
+use Rattle.store_machine.specs.Done as done
+use Rattle.store_machine.specs.Legal.{Legal}
+use Rattle.store_machine.specs.Machine.{Machine, Part, Idle, Writing, Reading, RunState, Running, Stopped}
+use Rattle.store_machine.specs.Values.{of_roots}
+
+abbrev pub SamePart : Part Root (List Top) → core_part.Part → Type 0
+SamePart Idle core.Idle = Unit {0}
+SamePart (Writing pins) (core.Writing others) = others ≡ pins
+SamePart (Reading root rest) (core.Reading reader) = (reader.root ≡ root) × (reader.cursor ≡ rest)
+SamePart part other = ⊥
+
+abbrev pub SameParts : List (Part Root (List Top)) → List core_part.Part → Type 0
+SameParts [] [] = Unit {0}
+SameParts (p ∷ ps) (q ∷ qs) = SamePart p q × SameParts ps qs
+SameParts ps qs = ⊥
+
+abbrev pub SameStop : ℕ → RunState Root → Option Stop → Type 0
+SameStop count Running None = Unit {0}
+SameStop count (Stopped other stores) (Some stop) = stop.at ≡ count
+SameStop count state stop = ⊥
+
+-- The tables are those of the machine's store, whatever the index has; names have the roots that its records name.
+pub record IsMachine (m : Machine Root (List Top)) (c : CoreState) : Type 0 where
+  pub represents : Represents m.store None c.tables
+  pub valid : IsValidFor c.disk.size m.store
+  pub free : HasFree m.store.held
+  pub names : (name : List ℕ) → finite.get m.now.names name ≡ option_map (λ (n : Named). n.root) (finite.get (names_of m.store) name)
+  pub last : m.now.last ≡ last_sequence m.store
+  pub parts : SameParts m.parts c.parts
+  pub acknowledged : m.acknowledged ≡ c.acknowledged
+  -- The map of the index is known, whatever it says; as long as no collection copied since the opening, nothing is forgotten, and it has the
+  -- newest copies.
+  pub places : PlaceMap
+  pub known : c.known ≡ Some places
+  pub index : m.swept ≡ false → (m.forgotten ≡ []) × IsIndexOf m.store.held places
+  pub state : SameStop m.acknowledged m.state c.stop
+
+-- ---- steps and answers
+
+abbrev pub asked_by : StepValue → Option (Asked Root)
+asked_by steps.Begin = Some asked.Begin
+asked_by steps.Abort = Some asked.Abort
+asked_by (steps.OpenRead name) = Some (asked.OpenRead name)
+asked_by steps.ReadNext = Some asked.ReadNext
+asked_by steps.EndRead = Some asked.EndRead
+asked_by (steps.Delete name) = Some (asked.Delete name)
+asked_by (steps.Claim seg) = Some (asked.Claim seg)
+asked_by (steps.Commit name root) = Some (asked.Commit name root)
+asked_by steps.ListNames = Some asked.ListNames
+asked_by steps.Stat = Some asked.Stat
+asked_by step = None
+
+abbrev pub answered_by : Result Answer Refusal → List ℕ → Result Done Refusal
+answered_by (Ok answers.Begun) buf = Ok done.Begun
+answered_by (Ok answers.Held) buf = Ok done.Held
+answered_by (Ok answers.Absent) buf = Ok done.Absent
+answered_by (Ok (answers.Sealed id)) buf = Ok (done.Sealed id)
+answered_by (Ok (answers.Committed sequence)) buf = Ok (done.Committed sequence)
+answered_by (Ok answers.Aborted) buf = Ok done.Aborted
+answered_by (Ok (answers.Opened count)) buf = Ok (done.Opened count)
+answered_by (Ok (answers.Bytes count)) buf = Ok (done.Bytes (take count buf))
+answered_by (Ok answers.End) buf = Ok done.End
+answered_by (Ok answers.Dropped) buf = Ok done.Dropped
+answered_by (Ok (answers.Deleted sequence)) buf = Ok (done.Deleted sequence)
+answered_by (Ok (answers.Listed files)) buf = Ok (done.Listed files)
+answered_by (Ok (answers.Started snapshot)) buf = Ok (done.Started snapshot)
+answered_by (Ok (answers.Did phase)) buf = Ok (done.Did phase)
+answered_by (Ok (answers.Done freed copied)) buf = Ok (done.Collected freed copied)
+answered_by (Ok (answers.Stat files segments bytes used free)) buf = Ok (done.Counted files segments bytes used free)
+answered_by (Err refusal) buf = Err refusal
+
+-- All steps but seals and those of a collection: with no premise on the disk, what the core does is what the machine may do.
+abbrev pub CoreRefines : (C : Type 0) → (C → CoreState) → Type 0
+CoreRefines C state = (e : Event) (step : Asked Root) (old new : C) (m : Machine Root (List Top)) → asked_by e.step ≡ Some step → IsMachine m (state old)
+    → CoreStep (state old) e (state new)
+    → (n : Machine Root (List Top)) × (Legal of_roots (record { actor = e.actor; asked = step; answer = answered_by e.answer e.buf }) m n × IsMachine n (state new))

@@ -39,4 +39,3 @@ pub chosen_which : (snapshot percent : ℕ) (containers : List ContainerLiveness
 chosen_which snapshot percent containers sources are =
     let chosen = selected snapshot percent containers in
     which_ids snapshot percent containers sources (subst (IsPermutation (ids_of chosen)) (sym are) (sources_moved chosen (sources_of chosen) (are_sources chosen)))
-

@@ -93,6 +93,14 @@ impl Cursor {
         open_next(&mut self.stack, bytes)
     }
 
+    /// Passes the tree that comes first whole: a segment, or a node with all that is below it.
+    pub fn skip(&mut self)
+        ensures rest { self.new ≡ drop 1 self.old }
+        ensures tree { (t : Tree (List ℕ)) (others : List (Tree (List ℕ))) → Ahead self.old (t ∷ others) → Ahead self.new others }
+    {
+        let _ = self.stack.pop();
+    }
+
     /// Passes the segment that is wanted, where one is.
     pub fn pass(&mut self)
         requires { IsLeafNext self.old }

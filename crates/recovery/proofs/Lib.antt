@@ -2,6 +2,7 @@ mod Blank
 mod Formatted
 mod Giving
 mod Marks
+mod Named
 mod Opens
 mod Pushed
 mod Reading
@@ -9,3 +10,4 @@ mod Rooms
 mod Spare
 mod Steps
 mod Storing
+pub mod Walked

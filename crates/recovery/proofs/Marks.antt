@@ -1,10 +1,13 @@
 -- Marks, as the trees of names are walked.
-use Rattle.std.proofs.Common.{◌≡◌, ◌⊎◌, inl, inr, ℕ, zero, suc, ◌+◌, ◌<◌, ◌≤◌, Bool, true, false, List, [], ◌∷◌, ◌++◌, length, map, take, drop, get_or, slice_set, Option, Some, None, Result, Ok, IsTrue, refl, sym, ◌∙◌, ap, subst, arith}
+use Rattle.std.proofs.Common.{◌≡◌, ◌⊎◌, inl, inr, ℕ, zero, suc, ◌+◌, ◌*◌, ◌<◌, ◌≤◌, Bool, true, false, List, [], ◌∷◌, ◌++◌, length, map, take, drop, get_or, slice_set, Option, Some, None, Result, Ok, IsTrue, refl, sym, ◌∙◌, ap, subst, arith}
+use Rattle.std.specs.Cmp.Lexicographic.{slice_cmp}
 use Rattle.std.specs.FinMap as finite
 use Rattle.std.specs.List.{Contains}
+use Rattle.std.specs.Ordering.{nat_cmp}
 use Rattle.std.proofs.lemmas.Bool.Decides.{eqb_tells}
-use Rattle.std.proofs.lemmas.List.{append-nil, append_assoc, drop_more, get_or-set_other, get_or-set_same, length-map, map-append, take-append-drop, take_more}
-use Rattle.std.proofs.lemmas.List.Elements.{Contains-append_left, Contains-push, Contains-push_cases}
+use Rattle.std.proofs.lemmas.List.{append-nil, append_assoc, drop_more, get_or-set_other, get_or-set_same, length-map, length-set, map-append, take-append-drop, take_more}
+use Rattle.std.proofs.lemmas.List.Elements.{Contains-append_cases, Contains-append_left, Contains-push, Contains-push_cases}
+use Rattle.std.proofs.lemmas.List.Sums.{sum_by-cons}
 use Rattle.container_meta.specs.declared.place.Place.{Place}
 use Rattle.container_meta.specs.Places.{PlaceMap}
 use Rattle.container_meta.specs.Spelling.{HeaderValue}
@@ -13,21 +16,25 @@ use Rattle.dd_disk.specs.View.{DiskView, OnlyReads}
 use Rattle.dd_disk.proofs.Ended.{reads_none, reads_on}
 use Rattle.disk_format.specs.Layout.{size_of}
 use Rattle.merkle_file.specs.declared.top.Top.{Top}
-use Rattle.merkle_file.specs.Tree.{Tree}
+use Rattle.merkle_file.specs.Tree.{of_segment, root_of}
 use Rattle.merkle_file.specs.Walk.{start_of}
 use Rattle.namespace.specs.declared.listing.ListedName.{ListedName}
 use Rattle.namespace.specs.Listing.{NamedRoot, listed_value}
 use Rattle.refusals.specs.declared.refusal.Refusal.{Refusal}
-use Rattle.refusals.specs.declared.refusal.Refusal.TheVariants.{DiskRead}
+use Rattle.refusals.specs.declared.refusal.Refusal.TheVariants.{Memory}
+use Rattle.segment_index.specs.Places.{IsPlace}
 use Rattle.store_model.specs.Collisions.{ByteSet}
 use Rattle.store_model.proofs.Copies.{some_same}
 use Rattle.store_state.specs.Refused.{fails}
 use Rattle.read_steps.specs.Opening.{top_of}
-use Rattle.read_steps.specs.Visiting.{HasPlace, IsVisitRefusal, VisitsPlaced, VisitsRoots, VisitsTo}
-use Rattle.read_steps.specs.Walking.{HeldAhead, IsIndexed, WasRead, top_key}
+use Rattle.read_steps.specs.Visiting.{HasPlace, IsVisitRefusal, Visits, VisitsPlaced, VisitsRoots, VisitsTo, steps_ahead}
+use Rattle.read_steps.specs.Walking.{IsIndexed, WasRead, top_key}
 use Rattle.read_steps.proofs.Visited.{roots_more, roots_wider, visits_more, visits_wider}
 use Rattle.read_steps.proofs.Walks.{placed_since, read_since, read_until, visit_since}
-use Rattle.recovery.specs.Marking.{IsMarked, AddsMarks, MarksTo, MarksAll, IsStuckOn, IsStuckAmong, IsTreeRefusal, IsMarkRefusal, IsHeld, AllHeld, WhereHeld, IsMarking, IsMarkingAll}
+use Rattle.recovery.specs.Marking.{AreMarked, AreWalked, IsMarked, AddsMarks, MarksTo, MarksAll, IsStuckOn, IsStuckAmong, IsTreeRefusal, IsMarkRefusal, IsHeld, AllHeld, IsWalked, IsWalking, IsWalkRefusal, WhereHeld, IsMarkingAll, TakesStep, TakesSteps, Walks, WalkState, ahead_of, walk_state}
+use Rattle.recovery.specs.Passed.{HasNode, IsSized, NodeSet, NotesNext, WasNoted, node_key}
+use Rattle.recovery.proofs.Named.{among_more}
+use Rattle.recovery.proofs.Walked.{NotBelow, beside, complete, head_is, tail_is, visited_left}
 
 -- ---- marks
 
@@ -84,16 +91,7 @@ adds_none index used before is = subst (λ (tops : List Top). IsMarked index top
 
 -- ---- the walk of a tree
 
--- nothing was visited yet
-pub marking_none : (index : PlaceMap) (v : DiskView) (ahead : List Top) (used : List Bool) → IsMarking index index v v ahead ahead used used
-marking_none index v ahead used = record {
-  marks = record { visited = []; way = refl; adds = adds_none index used };
-  index_is = refl;
-  reads = reads_none v;
-  held = λ counts held image indexed is. is;
-}
-
-indexed_on : (first i : PlaceMap) (old mid : DiskView) (counts : ByteSet) (held : List (Option HeaderValue)) (image : List ℕ) → i ≡ first → OnlyReads old mid → IsIndexed counts held (Some first) old.content image
+pub indexed_on : (first i : PlaceMap) (old mid : DiskView) (counts : ByteSet) (held : List (Option HeaderValue)) (image : List ℕ) → i ≡ first → OnlyReads old mid → IsIndexed counts held (Some first) old.content image
     → IsIndexed counts held (Some i) mid.content image
 indexed_on first i old mid counts held image is reads indexed = record {
   told = reads.content_is ∙ indexed.told;
@@ -123,39 +121,15 @@ module _ (first i : PlaceMap) (old mid new : DiskView) (is : i ≡ first) (befor
   cause_since : (ahead : List Top) (refusal : Refusal) → IsVisitRefusal (Some i) (λ at why image. ⊥) mid new ahead refusal → IsVisitRefusal (Some first) (λ at why image. ⊥) old new ahead refusal
   cause_since = visit_since (Some first) old mid new (Some i) (ap Some is) (λ at why image. ⊥) (λ at why image. ⊥) (λ at why bytes broken. broken) before
 
-  marks_until : (start ahead : List Top) (used marked : List Bool) → MarksTo first old mid start ahead used marked → MarksTo first old new start ahead used marked
-  marks_until start ahead used marked marks = record { visited = marks.visited; way = way_until start marks.visited ahead marks.way; adds = marks.adds }
-
-  -- a walk can't go on
-  pub stuck_there : (start ahead : List Top) (used marked : List Bool) (refusal : Refusal) → MarksTo first old mid start ahead used marked
-      → IsVisitRefusal (Some i) (λ at why image. ⊥) mid new ahead refusal → IsStuckOn first old new start refusal
-  stuck_there start ahead used marked refusal marks cause = record {
-    visited = marks.visited;
-    ahead = ahead;
-    way = way_until start marks.visited ahead marks.way;
-    cause = cause_since ahead refusal cause;
-  }
-
-  -- one key more
-  one_more : (start ahead then : List Top) (used marked : List Bool) (place : Place) → MarksTo first old mid start ahead used marked → VisitsPlaced (Some i) mid new ahead then place
-      → place.slot < length marked → MarksTo first old new start then used (slice_set marked place.slot true)
-  one_more start ahead then used marked place marks visits within = record {
-    visited = marks.visited ++ visits.0 ∷ [];
-    way = visits_more (WasRead (Some first) old new) placed start marks.visited ahead (visits.0 ∷ []) then (way_until start marks.visited ahead marks.way)
-        (way_since ahead (visits.0 ∷ []) then (then, (visits.1.0, refl)));
-    adds = adds_more first marks.visited (visits.0 ∷ []) used marked (slice_set marked place.slot true) marks.adds
-        (λ tops are. marked_one first tops marked visits.0 place (visits.1.1 first (ap Some is)) within are);
-  }
-
   -- ---- all trees
 
   -- one tree more
-  tree_more : (roots : List NamedRoot) (n : NamedRoot) (used mid_marks marked : List Bool) → MarksAll first old mid roots used mid_marks
-      → MarksTo i mid new (start_of (top_of n.root)) [] mid_marks marked → MarksAll first old new (roots ++ n ∷ []) used marked
+  pub tree_more : (roots : List NamedRoot) (n : NamedRoot) (used mid_marks marked : List Bool) → MarksAll first old mid roots used mid_marks
+      → MarksTo first old new (start_of (top_of n.root)) [] mid_marks marked → MarksAll first old new (roots ++ n ∷ []) used marked
   tree_more roots n used mid_marks marked marks tree = record {
     visited = marks.visited ++ tree.visited;
-    visits = roots_more (WasRead (Some first) old new) placed roots marks.visited n tree.visited (roots_until roots marks.visited marks.visits) (way_since (start_of (top_of n.root)) tree.visited [] tree.way);
-    adds = adds_more first marks.visited tree.visited used mid_marks marked marks.adds (subst (λ (m : PlaceMap). AddsMarks m tree.visited mid_marks marked) is tree.adds);
+    visits = roots_more (WasRead (Some first) old new) placed roots marks.visited n tree.visited (roots_until roots marks.visited marks.visits) tree.way;
+    adds = adds_more first marks.visited tree.visited used mid_marks marked marks.adds tree.adds;
   }
 
   stuck_since : (start : List Top) (refusal : Refusal) → IsStuckOn i mid new start refusal → IsStuckOn first old new start refusal
@@ -167,7 +141,7 @@ module _ (first i : PlaceMap) (old mid new : DiskView) (is : i ≡ first) (befor
   }
 
   pub tree_refused : (roots rest all : List NamedRoot) (n : NamedRoot) (used marked : List Bool) (refusal : Refusal) → all ≡ roots ++ n ∷ rest → MarksAll first old mid roots used marked
-      → IsTreeRefusal i mid new (start_of (top_of n.root)) refusal → IsMarkRefusal first old new all refusal
+      → IsTreeRefusal first old new (start_of (top_of n.root)) refusal → IsMarkRefusal first old new all refusal
   tree_refused roots rest all n used marked refusal are marks (inl memory) = inl memory
   tree_refused roots rest all n used marked refusal are marks (inr stuck) = inr (record {
     before = roots;
@@ -176,7 +150,7 @@ module _ (first i : PlaceMap) (old mid new : DiskView) (is : i ≡ first) (befor
     roots_are = are;
     visited = marks.visited;
     visits = roots_until roots marks.visited marks.visits;
-    stuck = stuck_since (start_of (top_of n.root)) refusal stuck;
+    stuck = stuck;
   })
 
   pub among_since : (roots : List NamedRoot) (refusal : Refusal) → IsStuckAmong i mid new roots refusal → IsStuckAmong first old new roots refusal
@@ -195,41 +169,308 @@ module _ (first i : PlaceMap) (old mid new : DiskView) (is : i ≡ first) (befor
 pub slot_within : (slot count size : ℕ) → size_of (slot + 1) ≤ size → size ≡ size_of count → slot < count
 slot_within slot count size right is = omega (arith, right, is)
 
--- one visit more
-pub marking_more : (first i j : PlaceMap) (old mid new : DiskView) (start ahead then : List Top) (used marked : List Bool) (place : Place)
-    → IsMarking first i old mid start ahead used marked → old.size ≡ size_of (length marked) → VisitsPlaced (Some i) mid new ahead then place → Some j ≡ Some i → Reads Done mid new
-    → ((counts : ByteSet) (held : List (Option HeaderValue)) (image : List ℕ) (ts : List (Tree (List ℕ))) → IsIndexed counts held (Some i) mid.content image → HeldAhead counts held image ahead ts → IsHeld counts held image then)
-    → IsMarking first j old new start then used (slice_set marked place.slot true)
-marking_more first i j old mid new start ahead then used marked place marking size visits same reads held_then =
-    let within = slot_within place.slot (length marked) mid.size visits.1.2.slot_is (marking.reads.only.later.size_is ∙ size) in
-    record {
-      marks = one_more first i old mid new marking.index_is marking.reads.only reads.only start ahead then used marked place marking.marks visits within;
-      index_is = some_same j i same ∙ marking.index_is;
-      reads = reads_on Done old mid new marking.reads reads;
-      held = λ counts held image indexed is.
-          let before = marking.held counts held image indexed is in
-          held_then counts held image before.0 (indexed_on first i old mid counts held image marking.index_is marking.reads.only indexed) before.1;
+-- ---- steps
+
+abbrev told : Bool → Result Bool Refusal
+told more = Ok more
+
+pub steps_push : (index : PlaceMap) (old new : DiskView) (n : ℕ) (a b c : WalkState) → TakesSteps index old new n a b → TakesStep index old new b c → TakesSteps index old new (suc n) a c
+steps_push index old new zero a b c same step = (c, (subst (λ (s : WalkState). TakesStep index old new s c) same step, refl))
+steps_push index old new (suc n) a b c (mid, (first, others)) step = (mid, (first, steps_push index old new n mid b c others step))
+
+module _ (first i : PlaceMap) (old mid new : DiskView) (is : i ≡ first) (before : OnlyReads old mid) (after : OnlyReads mid new) where
+  -- by more reads, before or after
+  visits_since : (ahead then_ahead : List Top) (place : Place) → VisitsPlaced (Some i) mid new ahead then_ahead place → VisitsPlaced (Some first) old new ahead then_ahead place
+  visits_since ahead then_ahead place visits =
+      let way = way_since first i old mid new is before after ahead (visits.0 ∷ []) then_ahead (then_ahead, (visits.1.0, refl)) in (
+        visits.0,
+        (
+          subst (λ (l : List Top). Visits (WasRead (Some first) old new) (HasPlace (Some first)) ahead visits.0 l) (sym way.1.1) way.1.0,
+          (λ m known. visits.1.1 m (ap Some is ∙ known)),
+          subst (λ (n : ℕ). IsPlace n place) before.later.size_is visits.1.2,
+        ),
+      )
+
+  visits_until : (ahead then_ahead : List Top) (place : Place) → VisitsPlaced (Some first) old mid ahead then_ahead place → VisitsPlaced (Some first) old new ahead then_ahead place
+  visits_until ahead then_ahead place visits =
+      let way = way_until first i old mid new is before after ahead (visits.0 ∷ []) then_ahead (then_ahead, (visits.1.0, refl)) in (
+        visits.0,
+        (
+          subst (λ (l : List Top). Visits (WasRead (Some first) old new) (HasPlace (Some first)) ahead visits.0 l) (sym way.1.1) way.1.0,
+          visits.1.1,
+          visits.1.2,
+        ),
+      )
+
+  pub step_since : (a b : WalkState) → TakesStep i mid new a b → TakesStep first old new a b
+  step_since a b (inl passed) = inl passed
+  step_since a b (inr visited) = inr (visited.0, (visited.1.0, (visits_since a.ahead b.ahead visited.1.0 visited.1.1.0, visited.1.1.1)))
+
+  step_until : (a b : WalkState) → TakesStep first old mid a b → TakesStep first old new a b
+  step_until a b (inl passed) = inl passed
+  step_until a b (inr visited) = inr (visited.0, (visited.1.0, (visits_until a.ahead b.ahead visited.1.0 visited.1.1.0, visited.1.1.1)))
+
+  pub steps_until : (n : ℕ) (a b : WalkState) → TakesSteps first old mid n a b → TakesSteps first old new n a b
+  steps_until zero a b same = same
+  steps_until (suc n) a b (c, (one, others)) = (c, (step_until a c one, steps_until n c b others))
+
+  pub steps_since : (n : ℕ) (a b : WalkState) → TakesSteps i mid new n a b → TakesSteps first old new n a b
+  steps_since zero a b same = same
+  steps_since (suc n) a b (c, (one, others)) = (c, (step_since a c one, steps_since n c b others))
+
+  -- one step more
+  pub walks_more : (a b c : WalkState) → Walks first old mid a b → TakesStep i mid new b c → Walks first old new a c
+  walks_more a b c walks step = record {
+    count = suc walks.count;
+    steps = steps_push first old new walks.count a b c (steps_until walks.count a b walks.steps) (step_since b c step);
+  }
+
+  -- or none
+  pub walks_until : (a b : WalkState) → Walks first old mid a b → Walks first old new a b
+  walks_until a b walks = record { count = walks.count; steps = steps_until walks.count a b walks.steps }
+
+  pub walks_next : (more : Bool) (a : WalkState) (ahead ahead_now : List Top) (nodes nodes_now : NodeSet) (used used_now : List Bool) → Walks first old mid a (walk_state ahead nodes used)
+      → (told more ≡ told true → TakesStep i mid new (walk_state ahead nodes used) (walk_state ahead_now nodes_now used_now))
+      → (told more ≡ told false → (ahead ≡ []) × (nodes_now ≡ nodes) × (used_now ≡ used)) → Walks first old new a (walk_state (ahead_of more ahead_now) nodes_now used_now)
+  walks_next true a ahead ahead_now nodes nodes_now used used_now walks step end =
+      walks_more a (walk_state ahead nodes used) (walk_state ahead_now nodes_now used_now) walks (step refl)
+  walks_next false a ahead ahead_now nodes nodes_now used used_now walks step end =
+      let none = end refl in
+      walks_until a (walk_state [] nodes_now used_now) (
+      subst (λ (u : List Bool). Walks first old mid a (walk_state [] nodes_now u)) (sym none.2)
+      (subst (λ (s : NodeSet). Walks first old mid a (walk_state [] s used)) (sym none.1) (subst (λ (l : List Top). Walks first old mid a (walk_state l nodes used)) none.0 walks)))
+
+  pub walk_stops : (a b : WalkState) (refusal : Refusal) → Walks first old mid a b → (refusal ≡ Memory) ⊎ IsVisitRefusal (Some i) (λ at why image. ⊥) mid new b.ahead refusal
+      → IsWalkRefusal first old new a refusal
+  walk_stops a b refusal walks (inl memory) = inl memory
+  walk_stops a b refusal walks (inr cause) = inr (record { at = b; walks = walks_until a b walks; cause = cause_since first i old mid new is before after b.ahead refusal cause })
+
+-- ---- what a walk comes to
+
+module _ (index : PlaceMap) (old new : DiskView) (start : List Top) (initial : List Bool) where
+  abbrev To : List Top → List Top → List Top → Type 0
+  To = VisitsTo (WasRead (Some index) old new) (HasPlace (Some index))
+
+  -- before its first step
+  pub walking_none : (nodes : NodeSet) → AreWalked index old new initial nodes → IsWalking index old new start initial (walk_state start nodes initial)
+  walking_none nodes walked = record {
+    marks = record { visited = []; way = refl; adds = adds_none index initial };
+    are_marked = λ key place is. absurd (let none : Contains [] key = is in omega (arith, none.1));
+    noted = λ t sized has. inl (walked t sized has);
+  }
+
+  -- what was walked stays so, as more slots are marked
+  walked_on : (used marked : List Bool) (t : Top) → ((slot : ℕ) → get_or used slot false ≡ true → get_or marked slot false ≡ true) → IsWalked index old new used t → IsWalked index old new marked t
+  walked_on used marked t stays walked = record {
+    visited = walked.visited;
+    way = walked.way;
+    marked = λ key place is there. stays place.slot (walked.marked key place is there);
+  }
+
+  -- a visit
+  module _ (ahead then_ahead : List Top) (nodes nodes_now : NodeSet) (used : List Bool) (place : Place) (walking : IsWalking index old new start initial (walk_state ahead nodes used))
+      (notes : NotesNext ahead nodes nodes_now) (visits : VisitsPlaced (Some index) old new ahead then_ahead place) (within : place.slot < length used) where
+    abbrev marked : List Bool
+    marked = slice_set used place.slot true
+
+    abbrev t : Top
+    t = visits.0
+
+    abbrev was : List Top
+    was = walking.marks.visited
+
+    stays : (slot : ℕ) → get_or used slot false ≡ true → get_or marked slot false ≡ true
+    stays slot is = set_stays used place.slot slot within is
+
+    marked_now : AreMarked index (was ++ t ∷ []) marked
+    marked_now key p is there =
+        elim (Contains-push_cases (map top_key was) (top_key t) key (subst (λ (keys : List (List ℕ)). Contains keys key) (pushed was t) is)) [
+          | inl earlier ↦ stays p.slot (walking.are_marked key p earlier there)
+          | inr here ↦
+              let same : place ≡ p = some_same place p (sym (visits.1.1 index refl) ∙ ap (finite.get index) here ∙ there) in
+              subst (λ (q : Place). get_or marked q.slot false ≡ true) same (get_or-set_same used place.slot true false within)
+        ]
+
+    abbrev Came : Top → Type 0
+    Came u = IsWalked index old new marked u ⊎ ((1 ≤ u.level) × Contains (was ++ t ∷ []) u)
+
+    noted_earlier : (u : Top) → IsSized u → HasNode nodes u → Came u
+    noted_earlier u sized has = elim (walking.noted u sized has) [
+      | inl walked ↦ inl (walked_on used marked u stays walked)
+      | inr came ↦ inr (came.0, Contains-append_left was (t ∷ []) u came.1)
+    ]
+
+    noted_by : (others all : List Top) → all ≡ t ∷ others → NotesNext all nodes nodes_now → (u : Top) → IsSized u → HasNode nodes_now u → Came u
+    noted_by others [] is none u sized has = absurd (let wrong : [] ≡ t ∷ others = is in cc)
+    noted_by others (x ∷ xs) is (inl leaf) u sized has = noted_earlier u sized (subst (λ (s : NodeSet). HasNode s u) leaf.1 has)
+    noted_by others (x ∷ xs) is (inr node) u sized has =
+        let same : x ≡ t = head_is x t xs others is in
+        elim (among_more nodes x u node.1 sized (subst (λ (s : NodeSet). HasNode s u) node.3 has)) [
+          | inl here ↦
+              inr (
+                subst (λ (y : Top). 1 ≤ y.level) here node.0,
+                subst (λ (y : Top). Contains (was ++ t ∷ []) y) (sym same ∙ here) (Contains-push was t),
+              )
+          | inr earlier ↦ noted_earlier u sized earlier
+        ]
+
+    walking_visited : IsWalking index old new start initial (walk_state then_ahead nodes_now marked)
+    walking_visited = record {
+      marks = record {
+        visited = was ++ t ∷ [];
+        way = visits_more (WasRead (Some index) old new) (HasPlace (Some index)) start was ahead (t ∷ []) then_ahead walking.marks.way (then_ahead, (visits.1.0, refl));
+        adds = adds_more index was (t ∷ []) initial used marked walking.marks.adds (λ tops are. marked_one index tops used t place (visits.1.1 index refl) within are);
+      };
+      are_marked = marked_now;
+      noted = noted_by visits.1.0.0 ahead visits.1.0.1.0 notes;
     }
 
--- nothing is left
-pub none_left : (result : Result (Option Place) Refusal) (got : Option Place) → result ≡ Ok got → ((place : Place) → got ≡ Some place → ⊥) → result ≡ Ok None
-none_left result None is none = is
-none_left result (Some place) is none = absurd (none place refl)
+  -- a node that was come to before
+  module _ (nodes : NodeSet) (used : List Bool) where
+    from_complete : (visited ahead : List Top) (t : Top) → To start visited ahead → AreMarked index visited used → Contains visited t → 1 ≤ t.level → NotBelow t.level ahead → IsWalked index old new used t
+    from_complete visited ahead t way are has some high =
+        let whole = complete (WasRead (Some index) old new) (HasPlace (Some index)) visited start ahead t way has some high in
+        record { visited = whole.inside; way = whole.way; marked = λ key place is. are key place (whole.among key is) }
 
-pub marks_done : (first i : PlaceMap) (old mid new : DiskView) (start ahead : List Top) (used marked : List Bool) → IsMarking first i old mid start ahead used marked → OnlyReads mid new → ahead ≡ []
-    → MarksTo first old new start [] used marked
-marks_done first i old mid new start ahead used marked marking reads done =
-    subst (λ (tops : List Top). MarksTo first old new start tops used marked) done (marks_until first i old mid new marking.index_is marking.reads.only reads start ahead used marked marking.marks)
+    walked_there : (u : Top) (us : List Top) → (walking : IsWalking index old new start initial (walk_state (u ∷ us) nodes used)) → WasNoted nodes (u ∷ us) → IsWalked index old new used u
+    walked_there u us walking was = elim (walking.noted u was.1 was.2) [
+      | inl walked ↦ walked
+      | inr came ↦ from_complete walking.marks.visited (u ∷ us) u walking.marks.way walking.are_marked came.1 came.0 (omega arith)
+    ]
+
+    marked_both : (visited more : List Top) → AreMarked index visited used → AreMarked index more used → AreMarked index (visited ++ more) used
+    marked_both visited more one other key place is there =
+        elim (Contains-append_cases (map top_key visited) (map top_key more) key (subst (λ (ks : List (List ℕ)). Contains ks key) (map-append top_key visited more) is)) [
+          | inl earlier ↦ one key place earlier there
+          | inr later ↦ other key place later there
+        ]
+
+    adds_passed : (visited more : List Top) → AddsMarks index visited initial used → AreMarked index more used → AddsMarks index (visited ++ more) initial used
+    adds_passed visited more adds are before is =
+        let was = adds before is in
+        subst (λ (tops : List Top). IsMarked index tops used) (append_assoc before visited more) (record {
+          all = marked_both (before ++ visited) more was.all are;
+          only = λ slot set. let needed = was.only slot set in (needed.0, (needed.1.0, (visited_left (before ++ visited) more needed.0 needed.1.1.0, needed.1.1.1, needed.1.1.2)));
+        })
+
+    passed_by : (u : Top) (us : List Top) → IsWalking index old new start initial (walk_state (u ∷ us) nodes used) → WasNoted nodes (u ∷ us) → IsWalking index old new start initial (walk_state us nodes used)
+    passed_by u us walking was =
+        let walked = walked_there u us walking was in
+        record {
+          marks = record {
+            visited = walking.marks.visited ++ walked.visited;
+            way = visits_more (WasRead (Some index) old new) (HasPlace (Some index)) start walking.marks.visited (u ∷ us) walked.visited us walking.marks.way
+                (beside (WasRead (Some index) old new) (HasPlace (Some index)) (u ∷ []) us walked.visited [] walked.way);
+            adds = adds_passed walking.marks.visited walked.visited walking.marks.adds walked.marked;
+          };
+          are_marked = marked_both walking.marks.visited walked.visited walking.are_marked walked.marked;
+          noted = λ t sized has. elim (walking.noted t sized has) [
+            | inl whole ↦ inl whole
+            | inr came ↦ inr (came.0, Contains-append_left walking.marks.visited walked.visited t came.1)
+          ];
+        }
+
+    walking_past : (ahead : List Top) → IsWalking index old new start initial (walk_state ahead nodes used) → WasNoted nodes ahead → IsWalking index old new start initial (walk_state (drop 1 ahead) nodes used)
+    walking_past [] walking was = absurd was
+    walking_past (u ∷ us) walking was = passed_by u us walking was
+
+    -- at its end
+    pub all_walked : (walking : IsWalking index old new start initial (walk_state [] nodes used)) → AreWalked index old new used nodes
+    all_walked walking t sized has = elim (walking.noted t sized has) [
+      | inl walked ↦ walked
+      | inr came ↦ from_complete walking.marks.visited [] t walking.marks.way walking.are_marked came.1 came.0 tt
+    ]
+
+  -- step by step, where the disk has as many slots as there are marks
+  walking_step : (a b : WalkState) → old.size ≡ size_of (length a.used) → IsWalking index old new start initial a → TakesStep index old new a b → IsWalking index old new start initial b × (length b.used ≡ length a.used)
+  walking_step a b size walking (inl passed) =
+      (subst (IsWalking index old new start initial) (sym passed.1) (walking_past a.nodes a.used a.ahead walking passed.0), ap (λ (s : WalkState). length s.used) passed.1)
+  walking_step a b size walking (inr visited) =
+      let place : Place = visited.1.0 in
+      let within = slot_within place.slot (length a.used) old.size visited.1.1.0.1.2.slot_is size in
+      let next = walking_visited a.ahead b.ahead a.nodes b.nodes a.used place walking visited.0 visited.1.1.0 within in (
+        subst (λ (used : List Bool). IsWalking index old new start initial (walk_state b.ahead b.nodes used)) (sym visited.1.1.1) next,
+        ap length visited.1.1.1 ∙ length-set a.used place.slot true,
+      )
+
+  pub walking_steps : (n : ℕ) (a b : WalkState) → old.size ≡ size_of (length a.used) → IsWalking index old new start initial a → TakesSteps index old new n a b → IsWalking index old new start initial b
+  walking_steps zero a b size walking same = subst (IsWalking index old new start initial) (sym same) walking
+  walking_steps (suc n) a b size walking (c, (one, others)) =
+      let next = walking_step a c size walking one in
+      walking_steps n c b (size ∙ ap size_of (sym next.1)) next.0 others
+
+-- ---- trees that are held
+
+-- they are to come beside one that is passed
+pub held_past : (counts : ByteSet) (held : List (Option HeaderValue)) (image : List ℕ) (nodes : NodeSet) (ahead : List Top) → WasNoted nodes ahead → IsHeld counts held image ahead → IsHeld counts held image (drop 1 ahead)
+held_past counts held image nodes [] was is = absurd was
+held_past counts held image nodes (u ∷ us) was ([], is) = absurd (let wrong : u ∷ us ≡ [] = is.trees.tops in cc)
+held_past counts held image nodes (u ∷ us) was (t ∷ ts, is) =
+    (ts, record { trees = record { tops = tail_is u (root_of of_segment t) us (map (root_of of_segment) ts) is.trees.tops; each = is.trees.each.1 }; each = is.each.1 })
+
+-- fewer steps are ahead then
+pub falls_past : (nodes : NodeSet) (ahead : List Top) → WasNoted nodes ahead → steps_ahead (drop 1 ahead) < steps_ahead ahead
+falls_past nodes [] was = absurd was
+falls_past nodes (u ∷ us) was = omega (arith, sum_by-cons (λ (t : Top). t.length * (t.level + 1) + 1) u us)
+
+-- ---- all trees
+
+-- what was walked stays so
+module _ (first i : PlaceMap) (old mid new : DiskView) (is : i ≡ first) (before : OnlyReads old mid) (after : OnlyReads mid new) where
+  walked_until : (used : List Bool) (nodes : NodeSet) → AreWalked first old mid used nodes → AreWalked first old new used nodes
+  walked_until used nodes walked t sized has =
+      let was = walked t sized has in
+      record { visited = was.visited; way = way_until first i old mid new is before after (t ∷ []) was.visited [] was.way; marked = was.marked }
+
+  -- a tree, from where the walk of it begins, as far as steps lead
+  pub walking_to : (start : List Top) (nodes : NodeSet) (used : List Bool) (b : WalkState) → old.size ≡ size_of (length used) → AreWalked first old mid used nodes
+      → Walks i mid new (walk_state start nodes used) b → IsWalking first old new start used b
+  walking_to start nodes used b size walked walks =
+      walking_steps first old new start used walks.count (walk_state start nodes used) b size (walking_none first old new start used nodes (walked_until used nodes walked))
+      (steps_since first i old mid new is before after walks.count (walk_state start nodes used) b walks.steps)
+
+  pub tree_stuck : (start : List Top) (nodes : NodeSet) (used : List Bool) (refusal : Refusal) → old.size ≡ size_of (length used) → AreWalked first old mid used nodes
+      → IsWalkRefusal i mid new (walk_state start nodes used) refusal → IsTreeRefusal first old new start refusal
+  tree_stuck start nodes used refusal size walked (inl memory) = inl memory
+  tree_stuck start nodes used refusal size walked (inr stops) =
+      let walking = walking_to start nodes used stops.at size walked stops.walks in
+      inr (record {
+        visited = walking.marks.visited;
+        ahead = stops.at.ahead;
+        way = walking.marks.way;
+        cause = cause_since first i old mid new is before after stops.at.ahead refusal stops.cause;
+      })
+
+-- none was walked yet
+pub marking_none : (index : PlaceMap) (v : DiskView) (roots : List NamedRoot) (nodes : NodeSet) (used : List Bool) → roots ≡ [] → nodes ≡ finite.empty → IsMarkingAll index index v v roots nodes used used
+marking_none index v roots nodes used none empty = record {
+  marks = record {
+    visited = [];
+    visits = subst (λ (ns : List NamedRoot). VisitsRoots (WasRead (Some index) v v) (HasPlace (Some index)) ns []) (sym none) refl;
+    adds = adds_none index used;
+  };
+  walked = λ u sized has. absurd (no_node u (subst (λ (s : NodeSet). HasNode s u) empty has));
+  index_is = refl;
+  reads = reads_none v;
+}
+  where
+    no_node : (u : Top) → HasNode finite.empty u → ⊥
+    no_node u has = let wrong : None ≡ Some tt = sym (finite.get-empty (slice_cmp nat_cmp) (node_key u)) ∙ has in cc
 
 -- one tree more
-pub marking_all_more : (first i j : PlaceMap) (old mid new : DiskView) (roots more : List NamedRoot) (n : NamedRoot) (used mid_marks marked : List Bool) → IsMarkingAll first i old mid roots used mid_marks
-    → more ≡ roots ++ n ∷ [] → MarksTo i mid new (start_of (top_of n.root)) [] mid_marks marked → j ≡ i → Reads Done mid new → IsMarkingAll first j old new more used marked
-marking_all_more first i j old mid new roots more n used mid_marks marked marking are tree same reads = record {
-  marks = subst (λ (all : List NamedRoot). MarksAll first old new all used marked) (sym are)
-      (tree_more first i old mid new marking.index_is marking.reads.only reads.only roots n used mid_marks marked marking.marks tree);
-  index_is = same ∙ marking.index_is;
-  reads = reads_on Done old mid new marking.reads reads;
-}
+pub marking_all_more : (first i j : PlaceMap) (old mid new : DiskView) (roots more : List NamedRoot) (n : NamedRoot) (nodes nodes_now : NodeSet) (used mid_marks marked : List Bool)
+    → IsMarkingAll first i old mid roots nodes used mid_marks → more ≡ roots ++ n ∷ [] → old.size ≡ size_of (length mid_marks)
+    → Walks i mid new (walk_state (start_of (top_of n.root)) nodes mid_marks) (walk_state [] nodes_now marked) → j ≡ i → Reads Done mid new → IsMarkingAll first j old new more nodes_now used marked
+marking_all_more first i j old mid new roots more n nodes nodes_now used mid_marks marked marking are size walks same reads =
+    let start = start_of (top_of n.root) in
+    let walking = walking_to first i old mid new marking.index_is marking.reads.only reads.only start nodes mid_marks (walk_state [] nodes_now marked) size marking.walked walks in
+    record {
+      marks = subst (λ (all : List NamedRoot). MarksAll first old new all used marked) (sym are)
+          (tree_more first i old mid new marking.index_is marking.reads.only reads.only roots n used mid_marks marked marking.marks walking.marks);
+      walked = all_walked first old new start mid_marks nodes_now marked walking;
+      index_is = same ∙ marking.index_is;
+      reads = reads_on Done old mid new marking.reads reads;
+    }
 
 -- ---- names that are listed
 
@@ -264,10 +505,6 @@ module _ (files : List ListedName) (k : ℕ) (file : ListedName) (within : k < l
   pub file_held : (counts : ByteSet) (held : List (Option HeaderValue)) (image : List ℕ) → AllHeld counts held image roots_in → IsHeld counts held image (start_of (top_of file.root))
   file_held counts held image all =
       subst (λ (n : NamedRoot). IsHeld counts held image (start_of (top_of n.root))) file_at (held_at counts held image roots_in k (listed_value file) within_roots all)
-
--- a read that failed says nothing of the disk
-pub unread_fails : (refusal : Refusal) → refusal ≡ DiskRead → IsTrue (fails refusal)
-unread_fails refusal is = subst (λ (r : Refusal). IsTrue (fails r)) (sym is) refl
 
 -- a tree whose walk failed is one of all
 pub tree_failed : (first i : PlaceMap) (old mid : DiskView) (files : List ListedName) (k : ℕ) (file : ListedName) (refusal : Refusal) → k < length files → file ≡ get_or files k file → i ≡ first → OnlyReads old mid

@@ -2,5 +2,6 @@ pub mod Formatting
 pub mod Making
 pub mod Marking
 pub mod Opening
+pub mod Passed
 pub mod Room
 pub mod Slots

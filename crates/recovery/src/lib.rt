@@ -8,6 +8,7 @@ mod formatting;
 mod freeing;
 mod marking;
 mod opening;
+mod passed;
 mod room;
 mod slots;
 mod unopened;

@@ -1,8 +1,11 @@
-use Rattle.std.proofs.Common.{map, take, drop, ◌+◌}
+use Rattle.std.proofs.Common.{map, take, drop, ◌+◌, ap, sym, refl, ◌∙◌}
 use Rattle.base_model.proofs.Outcome.{passed_on}
+use Rattle.disk_format.specs.Layout.{size_of}
+use Rattle.merkle_file.specs.Walk.{start_of}
 use Rattle.namespace.specs.declared.listing.ListedName.{ListedName}
 use Rattle.namespace.specs.Listing.{listed_value}
-use Rattle.recovery.proofs.Marks.{file_among, file_taken, marking_all_more, tree_failed, tree_refused}
+use Rattle.read_steps.specs.Opening.{top_of}
+use Rattle.recovery.proofs.Marks.{file_among, file_taken, marking_all_more, tree_failed, tree_refused, tree_stuck, marking_none}
 use Rattle.recovery.proofs.marking.mark_all.Goals as goal
 
 pub returns-in_err-mark_tree-clause-refused : goal.returns-in_err-mark_tree-clause-refused
@@ -15,7 +18,9 @@ returns-in_err-mark_tree-clause-refused g c =
     passed_on c.from_residual.result _ c.in_err-mark_tree.field-0.0 c.from_residual.ensures.1
     (tree_refused c.args.index.now c.loop-file.index (view c.args.disk.now) (view c.loop-file.disk) (view c.mark_tree.new.disk) so_far.index_is so_far.reads.only c.in_err-mark_tree.ensures.reads.only
     (take k (map listed_value files)) (drop (k + 1) (map listed_value files)) (map listed_value files) (listed_value file) c.args.used.now c.loop-file.used c.in_err-mark_tree.field-0.0
-    (file_among files k file c.loop-file-test.true c.file-item.is) so_far.marks c.in_err-mark_tree.ensures.refused)
+    (file_among files k file c.loop-file-test.true c.file-item.is) so_far.marks
+    (tree_stuck c.args.index.now c.loop-file.index (view c.args.disk.now) (view c.loop-file.disk) (view c.mark_tree.new.disk) so_far.index_is so_far.reads.only c.in_err-mark_tree.ensures.reads.only
+    (start_of (top_of file.root)) c.loop-file.passed c.loop-file.used c.in_err-mark_tree.field-0.0 (c.requires.slots ∙ ap size_of (sym c.loop-file.auto.used)) so_far.walked c.in_err-mark_tree.ensures.refused))
 
 pub returns-in_err-mark_tree-clause-failed : goal.returns-in_err-mark_tree-clause-failed
 returns-in_err-mark_tree-clause-failed g c =
@@ -32,5 +37,9 @@ loop-file-preserved g c =
     let files = c.args.files.now in
     let k = c.loop-file.file-index in
     marking_all_more c.args.index.now c.loop-file.index c.mark_tree.new.index (view c.args.disk.now) (view c.loop-file.disk) (view c.mark_tree.new.disk) (take k (map listed_value files))
-    (take (k + 1) (map listed_value files)) (listed_value c.file-item.result) c.args.used.now c.loop-file.used c.mark_tree.new.used so_far
-    (file_taken files k c.file-item.result c.loop-file-test.true c.file-item.is) c.in_ok-mark_tree.ensures.marks c.mark_tree.ensures.index c.in_ok-mark_tree.ensures.reads
+    (take (k + 1) (map listed_value files)) (listed_value c.file-item.result) c.loop-file.passed c.mark_tree.new.passed c.args.used.now c.loop-file.used c.mark_tree.new.used so_far
+    (file_taken files k c.file-item.result c.loop-file-test.true c.file-item.is) (c.requires.slots ∙ ap size_of (sym c.loop-file.auto.used)) c.in_ok-mark_tree.ensures.walks c.mark_tree.ensures.index c.in_ok-mark_tree.ensures.reads
+
+pub loop-file-init : goal.loop-file-init
+loop-file-init g c =
+    marking_none c.args.index.now (g.D.Disk.view c.args.disk.now) (take 0 (map listed_value c.args.files.now)) c.new-passed.result c.args.used.now refl c.new-passed.ensures

@@ -1,11 +1,22 @@
-use Rattle.recovery.specs.Marking.{IsMarking}
+use Rattle.std.proofs.Common.{◌≡◌, ◌+◌}
+use Rattle.std.specs.Prelude.{if◌then◌else◌}
+use Rattle.dd_disk.specs.Ending.{Done, Reads}
 use Rattle.read_steps.specs.Visiting.{steps_ahead}
+use Rattle.recovery.specs.Marking.{IsHeld, Walks, WhereHeld, ahead_of, walk_state}
 use Rattle.recovery.proofs.marking.mark_rest.Given as goal
 
-abbrev pub invariant-loop-place : goal.invariant-loop-place
-invariant-loop-place g l =
+abbrev pub invariant-loop-more : goal.invariant-loop-more
+invariant-loop-more g l =
     let view = g.D.Disk.view in
-    IsMarking l.fn.index l.index (view l.fn.disk) (view l.disk) l.fn.cursor l.cursor l.fn.used l.used
+    let old = view l.fn.disk in
+    let now = view l.disk in
+    record {
+      walks : Walks l.fn.index old now (walk_state l.fn.cursor l.fn.passed l.fn.used) (walk_state (ahead_of l.more l.cursor) l.passed l.used);
+      index_is : l.index ≡ l.fn.index;
+      reads : Reads Done old now;
+      held : WhereHeld l.fn.index old.content (λ counts held image. IsHeld counts held image l.fn.cursor)
+          (λ counts held image. IsHeld counts held image l.cursor);
+    }
 
-abbrev pub decreases-loop-place : goal.decreases-loop-place
-decreases-loop-place g l = steps_ahead l.cursor
+abbrev pub decreases-loop-more : goal.decreases-loop-more
+decreases-loop-more g l = if l.more then steps_ahead l.cursor + 1 else 0

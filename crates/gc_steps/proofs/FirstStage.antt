@@ -128,6 +128,35 @@ not_none id some = by_test (id == 0) refl
     by_test false is = refl
     by_test true is = absurd (omega (arith, eqb-true id 0 is, some))
 
+-- a container of nodes that is there
+pub tree_of : (held : List (Option HeaderValue)) (slot : ℕ) (h : HeaderValue) → slot < length held → slice_get held slot ≡ Some (Some h) → IsHeader h → h.kind ≡ Tree → HasTree held slot h.id
+tree_of held slot h within there right kind = record {
+  within = within;
+  id_is = id_there held slot h there;
+  some = leb-true 1 h.id (first_true (nat_le 1 h.id) _ right.id);
+  tree_is = ap is_tree (count_there held slot h there) ∙ ap (λ (k : Kind). kind_byte k == 1) kind;
+}
+
+-- one that came before the collection is gone over
+pub tree_slot : (held : List (Option HeaderValue)) (t : SlotTable) (snapshot : ℕ) → RepresentsSlots held t → (slot id : ℕ) → id < snapshot → HasTree held slot id → is_tree_slot snapshot t slot ≡ true
+tree_slot held t snapshot slots slot id old is =
+    both (is_old_slot snapshot t slot) (is_tree (slice_get t.counts.items slot))
+    (ap (λ (n : ℕ). not (n == 0) && nat_lt n snapshot) (ap (λ (ids : List ℕ). get_or ids slot 0) slots.ids_are ∙ is.id_is)
+    ∙ both (not (id == 0)) (nat_lt id snapshot) (not_none id is.some) (lt-ltb id snapshot old))
+    (ap (λ (counts : List SlotCount). is_tree (slice_get counts slot)) slots.counts_are ∙ is.tree_is)
+
+not_scanned : (level slot first : ℕ) → level ≤ MOST_LEVEL → first ≤ slot → WasScanned (Mark MOST_LEVEL first) level slot → ⊥
+not_scanned level slot first low later (inl high) = omega (arith, low, high)
+not_scanned level slot first low later (inr here) = omega (arith, later, here.1)
+
+-- as a collection begins none was scanned for any level
+pub not_first : (t : SlotTable) (snapshot slot : ℕ) → slot < length t.ids.items → is_tree_slot snapshot t slot ≡ true → (level : ℕ) → level ≤ MOST_LEVEL
+    → WasScanned (mark_level snapshot t MOST_LEVEL) level slot → ⊥
+not_first t snapshot slot within is_tree level low scanned =
+    let first = first_there (is_tree_slot snapshot t) 0 (length t.ids.items - 0) slot (omega arith) (omega (arith, within)) is_tree in
+    let is : mark_level snapshot t MOST_LEVEL ≡ Mark MOST_LEVEL first.slot = ap (mark_at snapshot t MOST_LEVEL) first.first in
+    not_scanned level slot first.slot low first.no_later (subst (λ (s : Stage). WasScanned s level slot) is scanned)
+
 module _ (held : List (Option HeaderValue)) (image : List ℕ) (t : SlotTable) (snapshot : ℕ) (holds : HoldSlots 0 held image) (slots : RepresentsSlots held t) where
   -- a container that came before the collection
   pub old_there : (slot : ℕ) (h : HeaderValue) → slice_get held slot ≡ Some (Some h) → h.id < snapshot → is_old_slot snapshot t slot ≡ true
@@ -138,26 +167,13 @@ module _ (held : List (Option HeaderValue)) (image : List ℕ) (t : SlotTable) (
       ∙ both (not (h.id == 0)) (nat_lt h.id snapshot) (not_none h.id some) (lt-ltb h.id snapshot old)
 
   pub tree_there : (slot id : ℕ) → id < snapshot → HasTree held slot id → is_tree_slot snapshot t slot ≡ true
-  tree_there slot id old is =
-      both (is_old_slot snapshot t slot) (is_tree (slice_get t.counts.items slot))
-      (ap (λ (n : ℕ). not (n == 0) && nat_lt n snapshot) (ap (λ (ids : List ℕ). get_or ids slot 0) slots.ids_are ∙ is.id_is)
-      ∙ both (not (id == 0)) (nat_lt id snapshot) (not_none id is.some) (lt-ltb id snapshot old))
-      (ap (λ (counts : List SlotCount). is_tree (slice_get counts slot)) slots.counts_are ∙ is.tree_is)
-
-  first_no_later : (slot id : ℕ) → id < snapshot → HasTree held slot id → IsFirst (is_tree_slot snapshot t) 0 (length t.ids.items - 0) slot
-  first_no_later slot id old is =
-      let within : slot < length t.ids.items = omega (arith, is.within, ap length slots.ids_are, as_many held) in
-      first_there (is_tree_slot snapshot t) 0 (length t.ids.items - 0) slot (omega arith) (omega (arith, within)) (tree_there slot id old is)
-
-  not_scanned : (level slot first : ℕ) → level ≤ MOST_LEVEL → first ≤ slot → WasScanned (Mark MOST_LEVEL first) level slot → ⊥
-  not_scanned level slot first low later (inl high) = omega (arith, low, high)
-  not_scanned level slot first low later (inr here) = omega (arith, later, here.1)
+  tree_there slot id old is = tree_slot held t snapshot slots slot id old is
 
   -- no node that is held was passed
   pub none_passed : last_id held < snapshot → (c : Collection) → c.snapshot ≡ snapshot → c.stage ≡ mark_level snapshot t MOST_LEVEL → (n : Contents) (copy : Copy) → HoldsNode held image n copy → IsPassed c n.level copy → ⊥
   none_passed above c snapshot_is stage_is n copy node (inr new) = omega (arith, newest_id 0 held (node_key n) copy node.copy_is, above, snapshot_is, new)
   none_passed above c snapshot_is stage_is n copy node (inl scanned) =
       let old : copy.id < snapshot = omega (arith, newest_id 0 held (node_key n) copy node.copy_is, above) in
-      let first = first_no_later copy.place.slot copy.id old (node_there held image n copy holds node.copy_is) in
-      let is : c.stage ≡ Mark MOST_LEVEL first.slot = stage_is ∙ ap (mark_at snapshot t MOST_LEVEL) first.first in
-      not_scanned n.level copy.place.slot first.slot node.right.level first.no_later (subst (λ (s : Stage). WasScanned s n.level copy.place.slot) is scanned)
+      let tree = node_there held image n copy holds node.copy_is in
+      let within : copy.place.slot < length t.ids.items = omega (arith, tree.within, ap length slots.ids_are, as_many held) in
+      not_first t snapshot copy.place.slot within (tree_there copy.place.slot copy.id old tree) n.level node.right.level (subst (λ (s : Stage). WasScanned s n.level copy.place.slot) stage_is scanned)

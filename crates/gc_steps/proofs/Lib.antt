@@ -1,3 +1,4 @@
+pub mod AllFound
 pub mod Carried
 pub mod ChildTrees
 pub mod Chosen

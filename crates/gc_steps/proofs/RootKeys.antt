@@ -210,6 +210,15 @@ none_held parts (suc count) idle = ap (λ (ks : List RootKey). ks ++ keys_of_num
 pub names_alone : (names : NameMap) (parts : List Part) → ((actor : ℕ) → actor < ACTORS → part_of parts actor ≡ Idle) → roots_of names parts ≡ keys_of_names names
 names_alone names parts idle = ap (λ (ks : List RootKey). keys_of_names names ++ ks) (none_held parts ACTORS idle) ∙ append-nil (keys_of_names names)
 
+map_has : (f : RootKey → List ℕ) (roots : List RootKey) (r : RootKey) → Contains roots r → Contains (map f roots) (f r)
+map_has f [] r (k, below, is) = absurd (omega (arith, below))
+map_has f (x ∷ xs) r (zero, below, is) = (zero, omega arith, ap f is)
+map_has f (x ∷ xs) r (suc k, below, is) = let rest = map_has f xs r (k, omega (arith, below), is) in (suc rest.0, omega (arith, rest.1), rest.2)
+
+-- each that is listed is one
+pub root_live : (names : NameMap) (parts : List Part) (r : RootKey) → Contains (roots_of names parts) r → IsRoot names parts r.key
+root_live names parts r among = (roots_have names parts r.key).0 (map_has key_at (roots_of names parts) r among)
+
 -- so what is live at first is the roots
 pub roots_live : (live : LiveKeys) (names : NameMap) (parts : List Part) (roots : List RootKey) → roots ≡ roots_of names parts
     → ((key : List ℕ) (place : Place) → IsLiveAt live key place ↔ Contains (map key_at roots) key) → (key : List ℕ) (place : Place) → IsLiveAt live key place ↔ IsRoot names parts key

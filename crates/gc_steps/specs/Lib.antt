@@ -1,5 +1,6 @@
 pub mod FewSources
 pub mod Filtering
+pub mod Finding
 pub mod Fresh
 pub mod Laws
 pub mod LiveTrees

@@ -48,6 +48,10 @@ IsRoot names parts key = IsNameKey names key ⊎ IsActorKey parts key
 
 -- ---- in the order in which they are looked up, each with the level that is said of its segment where it is named
 
+-- a list of them
+abbrev pub RootKeys : Type 0
+RootKeys = List RootKey
+
 -- the root of a file, if it has a key
 abbrev pub keys_of_root : Root → List RootKey
 keys_of_root root = if root.length == 0 then [] else record { key = root_key root; level = root.level } ∷ []

@@ -10,6 +10,7 @@ pub mod CoreRuns
 pub mod Counted
 pub mod Crashes
 pub mod Damage
+pub mod FindingKeys
 pub mod Finished
 pub mod FinishedStores
 pub mod Flushed

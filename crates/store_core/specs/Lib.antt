@@ -2,6 +2,7 @@ pub mod Bounds
 pub mod Chosen
 pub mod Collecting
 pub mod Core
+pub mod Finding
 pub mod Finished
 pub mod Frame
 pub mod Keeping

@@ -1,6 +1,7 @@
 //! Laws of steps of a core, one after the other (docs/MODEL.md, 'The core').
 ghost use Rattle.store_core.specs.Bounds.{BoundsSteps};
 ghost use Rattle.store_core.specs.Chosen.{CollectsByNeed};
+ghost use Rattle.store_core.specs.Finding.{FindsKeys};
 ghost use Rattle.store_core.specs.Finished.{CollectsInAll, LeavesJustNeeded};
 ghost use Rattle.store_core.specs.Frame.{AddsAlone, ContainersStay, ReserveStays, WrittenStays};
 ghost use Rattle.store_core.specs.Keeping.{KeepsSegments, StaysHeld, StaysSettled};
@@ -28,6 +29,13 @@ pub fn a_core_runs_on<C: HasState>()
 /// The function does nothing.
 pub fn a_core_bounds_collections<C: HasState>()
     ensures { BoundsSteps C C.state }
+{}
+
+/// Whatever the disk of a core holds, of one whose tables and index are those of a store: a collection that has marked, with no steps of
+/// others between, found each key of the trees of all names, readers and pins in the index, where no header but the store's was shown in a
+/// slot with its digest. Before that it frees and copies nothing. The function does nothing.
+pub fn a_core_finds_all_keys<C: HasState>()
+    ensures { FindsKeys C C.state }
 {}
 
 /// Over data without collisions, of a core that began at a store: steps of a collection alone give back just containers that the files

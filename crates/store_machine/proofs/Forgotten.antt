@@ -1,5 +1,5 @@
 -- A step of the machine of files is one of the machine of roots, once all but the roots is forgotten.
-use Rattle.std.proofs.Common.{◌≡◌, inl, inr, ◌≤◌, ◌<◌, ◌-◌, ◌^◌, ℕ, zero, suc, true, false, List, [], ◌∷◌, ◌++◌, length, map, replicate, Contains, slice_index_or, slice_get, slice_set, is_some, Option, Some, None, option_map, Result, Ok, Err, refl, sym, ◌∙◌, ap, subst}
+use Rattle.std.proofs.Common.{◌≡◌, inl, inr, ◌≤◌, ◌<◌, ◌-◌, ◌^◌, ℕ, suc, true, false, List, [], ◌∷◌, ◌++◌, length, map, Contains, slice_get, is_some, Option, Some, None, option_map, Result, Ok, Err, refl, sym, ◌∙◌, ap, subst}
 use Rattle.std.specs.FinMap as finite
 use Rattle.actor_parts.specs.declared.actor.TheConstants.{ACTORS}
 use Rattle.actor_parts.specs.PinMap.{PinMap}
@@ -29,131 +29,15 @@ use Rattle.store_machine.specs.Asked as asked
 use Rattle.store_machine.specs.Collecting.{Begins, Chooses, Copies, Ends, Flushes, Goes, GoesOn, IsCollecting, IsRecordOf, JustGoes, Makes, Marks, Records, Releases, Went, ids_before, last_by, marking, marks_of, next_of, no_sweep, phase_in, sources_in, swept_by}
 use Rattle.store_machine.specs.Done.{Done}
 use Rattle.store_machine.specs.Done as done
-use Rattle.store_machine.specs.Forgetting.{Forgets, Rests, SameNow, SamePart, SameParts, SameState, RunsAreForgotten, StepsAreForgotten, asked_of, forget_collection}
+use Rattle.store_machine.specs.Forgetting.{Forgets, Rests, SameNow, SamePart, SameState, RunsAreForgotten, StepsAreForgotten, asked_of, forget_collection}
 use Rattle.store_machine.specs.Legal.{Answers, ByState, Claims, Commits, Deletes, Does, GivesBytes, GivesUp, HasName, HasNumbers, HasRoom, HasSlot, IsAtEnd, IsAtRightPart, IsLacked, IsUnkept, broken_by, Keeps, LacksNumbers, MayCommit, OpensValue, Refuses, RefusesClaim, RefusesCommit, RefusesDelete, RefusesGcStep, RefusesOn, RefusesRead, RefusesSeal, Seals, LegalBy, counted, taken_by, with_name, without_name}
-use Rattle.store_machine.specs.Machine.{Collection, Found, Machine, Sweeping, Part, Idle, Writing, Reading, RunState, Running, Stopped, all_idle, keeping, kind_of, one_more, part_in, put_at}
+use Rattle.store_machine.specs.Machine.{Collection, Found, Sweeping, Idle, Writing, Reading, RunState, Running, Stopped, all_idle, keeping, kind_of, one_more, part_in, put_at}
 use Rattle.store_machine.specs.Needs.{HasLength, forgotten_beside, keys_kept, keys_of, values_read, with_pins}
 use Rattle.store_machine.specs.Opening.{MayBeFound, MayRefuseOpening, Opens, Reopens, freeing}
 use Rattle.store_machine.specs.Values.{IsStuck, of_files, of_roots, top_of}
+use Rattle.store_machine.proofs.Parts.{F, G, FilePart, RootPart, part_at, set_at, all_same, kind_same, idle_same, writing_same, reading_same, kept_map, keys_same, read_same, map_two, collecting, some_left}
 use Rattle.store_machine.proofs.SameNames.{gone_same, knows_same, len_same, listing_same, none_same, put_same, some_same, values_same}
 use Rattle.store_machine.proofs.Walks.{ends_both, more_both, next_leaf, start_both}
-
-abbrev F : Type 0
-F = Machine (List ℕ) (List (List ℕ))
-
-abbrev G : Type 0
-G = Machine Root (List Top)
-
-abbrev FilePart : Type 0
-FilePart = Part (List ℕ) (List (List ℕ))
-
-abbrev RootPart : Type 0
-RootPart = Part Root (List Top)
-
--- ---- parts
-
-part_at : (ps : List FilePart) (qs : List RootPart) (i : ℕ) → SameParts ps qs → SamePart (slice_index_or ps i Idle) (slice_index_or qs i Idle)
-part_at [] [] i same = tt
-part_at [] (q ∷ qs) i same = absurd same
-part_at (p ∷ ps) [] i same = absurd same
-part_at (p ∷ ps) (q ∷ qs) zero same = same.0
-part_at (p ∷ ps) (q ∷ qs) (suc i) same = part_at ps qs i same.1
-
-set_at : (ps : List FilePart) (qs : List RootPart) (i : ℕ) (p : FilePart) (q : RootPart) → SameParts ps qs → SamePart p q → SameParts (slice_set ps i p) (slice_set qs i q)
-set_at [] [] i p q same one = tt
-set_at [] (y ∷ qs) i p q same one = absurd same
-set_at (x ∷ ps) [] i p q same one = absurd same
-set_at (x ∷ ps) (y ∷ qs) zero p q same one = (one, same.1)
-set_at (x ∷ ps) (y ∷ qs) (suc i) p q same one = (same.0, set_at ps qs i p q same.1 one)
-
-all_same : (n : ℕ) → SameParts (replicate n Idle) (replicate n Idle)
-all_same zero = tt
-all_same (suc n) = (tt, all_same n)
-
-kind_same : (p : FilePart) (q : RootPart) → SamePart p q → kind_of q ≡ kind_of p
-kind_same Idle Idle same = refl
-kind_same Idle (Writing pins) same = absurd same
-kind_same Idle (Reading root tops) same = absurd same
-kind_same (Writing pins) Idle same = absurd same
-kind_same (Writing pins) (Writing others) same = refl
-kind_same (Writing pins) (Reading root tops) same = absurd same
-kind_same (Reading file rest) Idle same = absurd same
-kind_same (Reading file rest) (Writing pins) same = absurd same
-kind_same (Reading file rest) (Reading root tops) same = refl
-
-idle_same : (p : FilePart) (q : RootPart) → SamePart p q → p ≡ Idle → q ≡ Idle
-idle_same Idle Idle same is = refl
-idle_same Idle (Writing pins) same is = absurd same
-idle_same Idle (Reading root tops) same is = absurd same
-idle_same (Writing pins) q same is = absurd (let wrong : Writing pins ≡ Idle = is in cc)
-idle_same (Reading file rest) q same is = absurd (let wrong : Reading file rest ≡ Idle = is in cc)
-
-writing_same : (p : FilePart) (q : RootPart) (pins : PinMap) → SamePart p q → p ≡ Writing pins → q ≡ Writing pins
-writing_same Idle q pins same is = absurd (let wrong : Idle ≡ Writing pins = is in cc)
-writing_same (Writing own) Idle pins same is = absurd same
-writing_same (Writing own) (Writing others) pins same is =
-    let own_is : own ≡ pins = cc in ap Writing (same ∙ own_is)
-writing_same (Writing own) (Reading root tops) pins same is = absurd same
-writing_same (Reading file rest) q pins same is = absurd (let wrong : Reading file rest ≡ Writing pins = is in cc)
-
-reading_same : (p : FilePart) (q : RootPart) (file : List ℕ) (rest : List (List ℕ)) → SamePart p q → p ≡ Reading file rest
-    → (tops : List Top) × (q ≡ Reading (root_of file) tops) × Rests rest tops
-reading_same Idle q file rest same is = absurd (let wrong : Idle ≡ Reading file rest = is in cc)
-reading_same (Writing own) q file rest same is = absurd (let wrong : Writing own ≡ Reading file rest = is in cc)
-reading_same (Reading own left) Idle file rest same is = absurd same
-reading_same (Reading own left) (Writing pins) file rest same is = absurd same
-reading_same (Reading own left) (Reading root tops) file rest same is =
-    let own_is : own ≡ file = cc in
-    let left_is : left ≡ rest = cc in
-    (tops, ap (λ (x : Root). Reading x tops) (same.0 ∙ ap root_of own_is), subst (λ (l : List (List ℕ)). Rests l tops) left_is same.1)
-
--- ---- the collection
-
-kept_map : (keys : List (List ℕ)) (o : Option (Collection (List ℕ))) → keeping keys (option_map forget_collection o) ≡ option_map forget_collection (keeping keys o)
-kept_map keys None = refl
-kept_map keys (Some c) = refl
-
-keys_same : (ps : List FilePart) (qs : List RootPart) → SameParts ps qs → keys_kept qs ≡ keys_kept ps
-keys_same [] [] same = refl
-keys_same [] (q ∷ qs) same = absurd same
-keys_same (p ∷ ps) [] same = absurd same
-keys_same (Idle ∷ ps) (Idle ∷ qs) same = keys_same ps qs same.1
-keys_same (Idle ∷ ps) (Writing pins ∷ qs) same = absurd same.0
-keys_same (Idle ∷ ps) (Reading root tops ∷ qs) same = absurd same.0
-keys_same (Writing pins ∷ ps) (Idle ∷ qs) same = absurd same.0
-keys_same (Writing pins ∷ ps) (Writing others ∷ qs) same =
-    ap (λ (p : PinMap). finite.keys p ++ keys_kept qs) same.0 ∙ ap (λ (ks : List (List ℕ)). finite.keys pins ++ ks) (keys_same ps qs same.1)
-keys_same (Writing pins ∷ ps) (Reading root tops ∷ qs) same = absurd same.0
-keys_same (Reading file rest ∷ ps) (Idle ∷ qs) same = absurd same.0
-keys_same (Reading file rest ∷ ps) (Writing pins ∷ qs) same = absurd same.0
-keys_same (Reading file rest ∷ ps) (Reading root tops ∷ qs) same = keys_same ps qs same.1
-
-read_same : (ps : List FilePart) (qs : List RootPart) → SameParts ps qs → values_read qs ≡ map root_of (values_read ps)
-read_same [] [] same = refl
-read_same [] (q ∷ qs) same = absurd same
-read_same (p ∷ ps) [] same = absurd same
-read_same (Idle ∷ ps) (Idle ∷ qs) same = read_same ps qs same.1
-read_same (Idle ∷ ps) (Writing pins ∷ qs) same = absurd same.0
-read_same (Idle ∷ ps) (Reading root tops ∷ qs) same = absurd same.0
-read_same (Writing pins ∷ ps) (Idle ∷ qs) same = absurd same.0
-read_same (Writing pins ∷ ps) (Writing others ∷ qs) same = read_same ps qs same.1
-read_same (Writing pins ∷ ps) (Reading root tops ∷ qs) same = absurd same.0
-read_same (Reading file rest ∷ ps) (Idle ∷ qs) same = absurd same.0
-read_same (Reading file rest ∷ ps) (Writing pins ∷ qs) same = absurd same.0
-read_same (Reading file rest ∷ ps) (Reading root tops ∷ qs) same =
-    ap (λ (x : Root). x ∷ values_read qs) same.0.0 ∙ ap (λ (xs : List Root). root_of file ∷ xs) (read_same ps qs same.1)
-
-map_two : (xs ys : List (List ℕ)) → map root_of (xs ++ ys) ≡ map root_of xs ++ map root_of ys
-map_two [] ys = refl
-map_two (x ∷ xs) ys = ap (λ (rs : List Root). root_of x ∷ rs) (map_two xs ys)
-
-collecting : (phase : Phase) (store : Store) (o : Option (Collection (List ℕ))) → IsCollecting phase store o → IsCollecting phase store (option_map forget_collection o)
-collecting phase store None is = absurd is
-collecting phase store (Some c) is = is
-
-some_left : (o : Option (Collection (List ℕ))) → is_some o ≡ true → is_some (option_map forget_collection o) ≡ true
-some_left None is = is
-some_left (Some c) is = is
 
 module _ (m : F) (r : G) (same : Forgets m r) where
   -- ---- where it is said of one, it is of the other

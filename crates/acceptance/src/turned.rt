@@ -13,6 +13,14 @@ pub(crate) struct TurnedDisk {
     moment: u64,
 }
 
+// Puts bytes at a place.
+fn put(bytes: &mut Vec<u8>, at: usize, from: &[u8])
+    requires { at + length from.now ≤ length bytes.old.items }
+    ensures { length bytes.new.items ≡ length bytes.old.items }
+{
+    bytes[at..at + from.len()].copy_from_slice(from);
+}
+
 impl TurnedDisk {
     /// Where the other image has another size, it is never given.
     pub(crate) fn new(bytes: Vec<u8>, other: Vec<u8>, turn: u64) -> TurnedDisk {
@@ -33,6 +41,7 @@ impl TurnedDisk {
     fn count_call(&mut self)
         ensures size { length self.new.bytes.items ≡ length self.old.bytes.items }
         ensures time { self.new.moment ≡ min (self.old.moment + 1) (2 ^ 64 - 1) }
+        ensures later { self.old.moment ≤ self.new.moment }
     {
         self.moment = self.moment.saturating_add(1);
         if self.moment == self.turn && self.other.len() == self.bytes.len() {
@@ -59,8 +68,7 @@ impl Disk for TurnedDisk {
 
     fn write(&mut self, at: u64, from: &[u8]) -> Result<(), DiskFault> {
         self.count_call();
-        let place = at as usize;
-        self.bytes[place..place + from.len()].copy_from_slice(from);
+        put(&mut self.bytes, at as usize, from);
         Ok(())
     }
 

@@ -1,5 +1,5 @@
 -- What a `collect` keeps, whatever the disk holds.
-use Rattle.std.proofs.Common.{◌≡◌, inr, ◌+◌, ◌≤◌, ℕ, List, [], length, Option, None, Some, Result, Ok, Err, refl, sym, ◌∙◌, ap, subst, arith}
+use Rattle.std.proofs.Common.{◌≡◌, inr, ◌+◌, ◌≤◌, ℕ, List, [], ◌∷◌, length, Option, None, Some, Result, Ok, Err, refl, sym, ◌∙◌, ap, subst, arith}
 use Rattle.actor_parts.specs.declared.part.Part.{Part}
 use Rattle.actor_parts.specs.declared.step.Answer.{Answer}
 use Rattle.actor_parts.specs.declared.step.Answer.TheVariants as answers
@@ -9,13 +9,14 @@ use Rattle.container_meta.specs.Places.{PlaceMap}
 use Rattle.dd_disk.specs.Ending.{CountsFault, Done, ending, ending_of}
 use Rattle.dd_disk.specs.View.{CrashLeaves, DiskView, IsLater, OnlyReads}
 use Rattle.dd_disk.proofs.Ended.{counts_on}
-use Rattle.dd_disk.proofs.Later.{later_on, leaves_on, reads_leave}
-use Rattle.dd_disk.proofs.Shows.{shown_content}
+use Rattle.dd_disk.proofs.Later.{later_on, leaves_on, reads_leave, reads_on}
+use Rattle.dd_disk.proofs.Shows.{shown_content, since, until}
 use Rattle.dd_io.specs.Flow.{SourceView, SinkView}
 use Rattle.disk_format.specs.Layout.{size_of}
 use Rattle.disk_format.specs.declared.numbers.TheConstants.{LAST_ID}
 use Rattle.gc_steps.specs.declared.collection.Collection.{Collection}
 use Rattle.gc_steps.specs.UnderWay.{HasStage}
+use Rattle.gc_steps.specs.Finding.{FindsAll, HasMarkedAll, HeadersAreApart}
 use Rattle.gc_steps.specs.Roots.{keys_of_names, roots_of}
 use Rattle.gc_steps.specs.Starting.{StopsAt}
 use Rattle.gc_steps.proofs.RootKeys.{names_alone}
@@ -24,7 +25,7 @@ use Rattle.refusals.specs.declared.refusal.Refusal.{Refusal}
 use Rattle.refusals.specs.declared.refusal.Refusal.TheVariants as refusals
 use Rattle.reply_text.specs.declared.ending.Ending as reply
 use Rattle.reply_text.specs.declared.ending.Ending.TheVariants.{Sink, Refused}
-use Rattle.script_runner.specs.Acts.{Collects, Starts, Sweeps}
+use Rattle.script_runner.specs.Acts.{CollectionRun, Collects, Starts, Sweeps}
 use Rattle.script_runner.proofs.LinesReopen.{idle_part}
 use Rattle.store_model.specs.Image.{Encodes, Store, names_of}
 use Rattle.store_model.specs.Slots.{last_id}
@@ -34,6 +35,9 @@ use Rattle.store_state.specs.Settled.{IsSettled}
 use Rattle.store_state.specs.declared.tables.Tables.{Tables}
 use Rattle.store_core.specs.Collecting.{Begins, GcRow, HasEnded, IsNotMade, StartRow, TouchesBy, at_moment}
 use Rattle.store_core.specs.Core.{CoreStep, Rests, Steps}
+use Rattle.store_core.specs.Finding.{AreItsSteps}
+use Rattle.store_core.specs.Runs.{CoreRun}
+use Rattle.store_core.proofs.FindingKeys.{finds_keys}
 use Rattle.store_core.specs.State.{CoreState, Event}
 use Rattle.store_core.specs.Releases.{copied_in, freed_in}
 use Rattle.store_core.proofs.CoreRuns.{running_step}
@@ -62,6 +66,18 @@ use Rattle.backup_engine.proofs.WholeCall.{all_counted, all_reads, leaves_more, 
 abbrev pub start_event : ℕ → Result Answer Refusal → List ℕ → Event
 start_event percent answer buf = record { actor = 0; step = asked.GcStart percent; answer = answer; buf = buf }
 
+-- the steps of a collection, one after the other
+record OwnRun (C : Type 0) (state : C → CoreState) (mid last : C) : Type 0 where
+  events : List Event
+  run : CoreRun C state events mid last
+  its : AreItsSteps events
+
+own_run : (C : Type 0) (state : C → CoreState) (phases : List Phase) (mid last : C) → CollectionRun C state phases mid last → OwnRun C state mid last
+own_run C state [] mid last run = record { events = []; run = run; its = tt }
+own_run C state (phase ∷ phases) mid last run =
+    let rest = own_run C state phases run.0 last run.1.1 in
+    record { events = gc_event (Ok (answers.Did phase)) run.1.0.0 ∷ rest.events; run = (run.0, (run.1.0.1, rest.run)); its = (refl, rest.its) }
+
 module _ (C : Type 0) (state : C → CoreState) (v w : DiskView) (old new : C) (called : Called C state v w old new) (percent : ℕ) where
   abbrev pub store : Store
   store = called.opened.store
@@ -75,17 +91,17 @@ module _ (C : Type 0) (state : C → CoreState) (v w : DiskView) (old new : C) (
   started : (answer : Result Answer Refusal) (mid : C) (buf : List ℕ) → CoreStep (state old) (start_event percent answer buf) (state mid) → Steps (start_event percent answer buf) (state old) (state mid)
   started answer mid buf step = running_step (state old) (state mid) (start_event percent answer buf) called.opened.stop_is step
 
+  -- no actor is at anything, so the roots are those of names
+  names_only : roots_of (state old).tables.names (state old).parts ≡ keys_of_names (names_of store)
+  names_only =
+      names_alone (state old).tables.names (state old).parts (λ actor below. ap (λ (parts : List Part). part_of parts actor) called.opened.parts_are ∙ idle_part actor below)
+      ∙ ap keys_of_names called.opened.represents.names_are.names_are
+
   -- ---- none was begun
 
   module _ (refusal : Refusal) (start : Starts C state percent (Err refusal) old new) where
     abbrev unbegun : Rests (Err refusal) (state old) (state new)
     unbegun = (started (Err refusal) new start.0 start.1).made.effect
-
-    -- no actor is at anything, so it stopped at the root of a name
-    names_only : roots_of (state old).tables.names (state old).parts ≡ keys_of_names (names_of store)
-    names_only =
-        names_alone (state old).tables.names (state old).parts (λ actor below. ap (λ (parts : List Part). part_of parts actor) called.opened.parts_are ∙ idle_part actor below)
-        ∙ ap keys_of_names called.opened.represents.names_are.names_are
 
     unrooted : (r : Refusal) → StopsAt (state old).known (state old).known (roots_of (state old).tables.names (state old).parts) r → StopsAt (Some index) (Some index) (keys_of_names (names_of store)) r
     unrooted r stops =
@@ -251,6 +267,23 @@ module _ (C : Type 0) (state : C → CoreState) (v w : DiskView) (old new : C) (
       pub as_many : HasEnded freed copied (state sweeps.1.0) (state new) × (freed ≡ freed_in so_done.changes) × (copied ≡ copied_in so_done.changes)
       as_many = ended store index v sized C state freed copied sweeps.1.0 new so_done sweeps.1.1.1
 
+      -- before the last step it had marked, so it had found all keys
+      abbrev own : OwnRun C state mid sweeps.1.0
+      own = own_run C state sweeps.0 mid sweeps.1.0 sweeps.1.1.0
+
+      apart_since : HeadersAreApart store.held v w → HeadersAreApart store.held (state mid).disk (state sweeps.1.0).disk
+      apart_since apart = λ slot h g there shown digest.
+          let read : OnlyReads v (state mid).disk = reads_on v (state old).disk (state mid).disk called.first.only rested.disk.only in
+          let later : IsLater (state sweeps.1.0).disk w = later_on (state sweeps.1.0).disk (state new).disk w (ends done sweeps).made.effect.later called.last.only.later in
+          apart slot h g there (until v (state sweeps.1.0).disk w (since v (state mid).disk (state sweeps.1.0).disk read shown) so_done.later.clock_is later) digest
+
+      all_found : HeadersAreApart store.held v w → FindsAll index (keys_of_names (names_of store))
+      all_found apart =
+          subst (λ roots. FindsAll index roots) names_only
+          (finds_keys C state 0 percent snapshot start.0 own.events store index old mid sweeps.1.0 as_many.0.before called.running called.opened.stop_is
+          (record { headers = called.opened.valid.headers; represents = called.opened.represents; known_is = called.opened.told.1 }) start.1 own.run own.its (apart_since apart) as_many.0.ran
+          (subst HasMarkedAll (sym as_many.0.at_end.0) tt))
+
       swept : HasSwept freed copied v w
       swept = record {
         holds = ends_holds done sweeps;
@@ -258,6 +291,9 @@ module _ (C : Type 0) (state : C → CoreState) (v w : DiskView) (old new : C) (
         sweeps = record { each = so_done.each; after = so_done.after; chain = so_done.chain };
         freed_are = as_many.1;
         copied_are = as_many.2;
+        index = index;
+        index_is = called.opened.whole index called.opened.told.1;
+        found = all_found;
       }
 
       -- the last step only read

@@ -256,7 +256,16 @@ module _ (loans loans_now : List ℕ) (v w : DiskView) where
     list_wrote (Some ending) is = is
 
     swept_so : (freed copied : ℕ) → HasSwept freed copied lent lent_now → HasSwept freed copied v w
-    swept_so freed copied is = record { holds = holds is.holds; changes = is.changes; sweeps = is.sweeps; freed_are = is.freed_are; copied_are = is.copied_are }
+    swept_so freed copied is = record {
+      holds = holds is.holds;
+      changes = is.changes;
+      sweeps = is.sweeps;
+      freed_are = is.freed_are;
+      copied_are = is.copied_are;
+      index = is.index;
+      index_is = is.index_is;
+      found = λ apart. is.found (λ slot h g there shown digest. apart slot h g there (on _ shown) digest);
+    }
 
     says_swept : (ending : Option Ending) → SaysSwept ending lent lent_now sink sink_now → SaysSwept ending v w sink sink_now
     says_swept ending is = (is.0, is.1, (swept_so is.0 is.1 is.2.0, is.2.1))

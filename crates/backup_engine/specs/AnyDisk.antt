@@ -30,6 +30,7 @@ use Rattle.gc_enumerate.specs.Live.{LiveKeys}
 use Rattle.gc_enumerate.specs.Scanning.{IsScanFault}
 use Rattle.gc_enumerate.specs.declared.fault.ScanFault.{ScanFault}
 use Rattle.gc_steps.specs.Marking.{scan_for}
+use Rattle.gc_steps.specs.Finding.{FindsAll, HeadersAreApart}
 use Rattle.gc_steps.specs.Roots.{keys_of_names}
 use Rattle.gc_steps.specs.Scanning.{step_refusal}
 use Rattle.gc_steps.specs.Starting.{StopsAt}
@@ -145,13 +146,17 @@ pub record SweepsTo (store : Store) (changes : List StoreChange) : Type 0 where
   pub after : Store
   pub chain : ChangesTo changes store after
 
--- So many containers were given back, and so many segments copied.
+-- So many containers were given back, and so many segments copied. Before that each key of the trees of all names was found in the index of
+-- the store, where no header but the store's was shown in a slot with its digest.
 pub record HasSwept (freed copied : ℕ) (disk disk_now : DiskView) : Type 0 where
   pub holds : Holds disk disk_now
   pub changes : List StoreChange
   pub sweeps : SweepsTo holds.store changes
   pub freed_are : freed ≡ freed_in changes
   pub copied_are : copied ≡ copied_in changes
+  pub index : PlaceMap
+  pub index_is : IsIndexOf holds.store.held index
+  pub found : HeadersAreApart holds.store.held disk disk_now → FindsAll index (keys_of_names (names_of holds.store))
 
 -- Reads since a moment returned parts by which each image of the disk's size that has them has P; where the disk tells its content
 -- now, the content has P.

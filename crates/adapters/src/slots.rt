@@ -14,8 +14,8 @@ static ABC: [u8; 32] = [
     0xb0, 0x03, 0x61, 0xa3, 0x96, 0x17, 0x7a, 0x9c, 0xb4, 0x10, 0xff, 0x61, 0xf2, 0x00, 0x15, 0xad,
 ];
 
-/// Seals a container of `abc` with the id 7 into slot 1.
-fn seal_abc<D: Disk>(alloc: Global, disk: &mut D) -> Result<Result<(), LogFault>, Fail> {
+/// Seals a container of `abc` with the id 7 into slot 1, and gives the digest of its header.
+fn seal_abc<D: Disk>(alloc: Global, disk: &mut D) -> Result<Result<[u8; 32], LogFault>, Fail> {
     let seg = Seg::leaf(alloc, b"abc")?;
     let mut container = OpenContainer::new(alloc, Kind::Leaf)?;
     if matches!(container.try_add(&seg), Fit::NoRoom) || container.is_empty() {

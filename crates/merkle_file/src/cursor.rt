@@ -108,6 +108,6 @@ impl Cursor {
         ensures tree { (segment : List ℕ) (others : List (Tree (List ℕ))) →
             Ahead self.old (tree.Leaf segment ∷ others) → Ahead self.new others }
     {
-        let _ = self.stack.pop();
+        self.skip();
     }
 }

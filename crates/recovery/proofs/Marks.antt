@@ -31,7 +31,7 @@ use Rattle.read_steps.specs.Visiting.{HasPlace, IsVisitRefusal, Visits, VisitsPl
 use Rattle.read_steps.specs.Walking.{IsIndexed, WasRead, top_key}
 use Rattle.read_steps.proofs.Visited.{roots_more, roots_wider, visits_more, visits_wider}
 use Rattle.read_steps.proofs.Walks.{placed_since, read_since, read_until, visit_since}
-use Rattle.recovery.specs.Marking.{AreMarked, AreWalked, IsMarked, AddsMarks, MarksTo, MarksAll, IsStuckOn, IsStuckAmong, IsTreeRefusal, IsMarkRefusal, IsHeld, AllHeld, IsWalked, IsWalking, IsWalkRefusal, WhereHeld, IsMarkingAll, TakesStep, TakesSteps, Walks, WalkState, ahead_of, walk_state}
+use Rattle.recovery.specs.Marking.{AreMarked, AreWalked, IsMarked, AddsMarks, MarksTo, MarksAll, IsStuckOn, IsStuckAmong, IsTreeRefusal, IsMarkRefusal, IsHeld, AllHeld, IsWalked, IsWalking, IsWalkRefusal, WhereHeld, IsMarkingAll, TakesStep, TakesSteps, Walks, WalksRoots, WalkState, ahead_of, walk_state}
 use Rattle.recovery.specs.Passed.{HasNode, IsSized, NodeSet, NotesNext, WasNoted, node_key}
 use Rattle.recovery.proofs.Named.{among_more}
 use Rattle.recovery.proofs.Walked.{NotBelow, beside, complete, head_is, tail_is, visited_left}
@@ -415,6 +415,12 @@ falls_past nodes (u ∷ us) was = omega (arith, sum_by-cons (λ (t : Top). t.len
 
 -- ---- all trees
 
+roots_push : (index : PlaceMap) (old new : DiskView) (roots : List NamedRoot) (n : NamedRoot) (a b c : WalkState) → WalksRoots index old new roots a b → Walks index old new (record b { ahead = start_of (top_of n.root) }) c
+    → c.ahead ≡ [] → WalksRoots index old new (roots ++ n ∷ []) a c
+roots_push index old new [] n a b c same walks none =
+    (c, (subst (λ (s : WalkState). Walks index old new (record s { ahead = start_of (top_of n.root) }) c) same walks, none, refl))
+roots_push index old new (m ∷ ms) n a b c (mid, (one, end, others)) walks none = (mid, (one, end, roots_push index old new ms n mid b c others walks none))
+
 -- what was walked stays so
 module _ (first i : PlaceMap) (old mid new : DiskView) (is : i ≡ first) (before : OnlyReads old mid) (after : OnlyReads mid new) where
   walked_until : (used : List Bool) (nodes : NodeSet) → AreWalked first old mid used nodes → AreWalked first old new used nodes
@@ -428,6 +434,19 @@ module _ (first i : PlaceMap) (old mid new : DiskView) (is : i ≡ first) (befor
   walking_to start nodes used b size walked walks =
       walking_steps first old new start used walks.count (walk_state start nodes used) b size (walking_none first old new start used nodes (walked_until used nodes walked))
       (steps_since first i old mid new is before after walks.count (walk_state start nodes used) b walks.steps)
+
+  walks_roots_until : (roots : List NamedRoot) (a b : WalkState) → WalksRoots first old mid roots a b → WalksRoots first old new roots a b
+  walks_roots_until [] a b same = same
+  walks_roots_until (n ∷ ns) a b (c, (one, none, others)) =
+      (c, (walks_until first i old mid new is before after (record a { ahead = start_of (top_of n.root) }) c one, none, walks_roots_until ns c b others))
+
+  pub walks_roots_more : (roots : List NamedRoot) (n : NamedRoot) (a : WalkState) (nodes then_nodes : NodeSet) (used then_used : List Bool) → WalksRoots first old mid roots a (walk_state [] nodes used)
+      → Walks i mid new (walk_state (start_of (top_of n.root)) nodes used) (walk_state [] then_nodes then_used) → WalksRoots first old new (roots ++ n ∷ []) a (walk_state [] then_nodes then_used)
+  walks_roots_more roots n a nodes then_nodes used then_used walks tree =
+      roots_push first old new roots n a (walk_state [] nodes used) (walk_state [] then_nodes then_used) (walks_roots_until roots a (walk_state [] nodes used) walks) (record {
+        count = tree.count;
+        steps = steps_since first i old mid new is before after tree.count (walk_state (start_of (top_of n.root)) nodes used) (walk_state [] then_nodes then_used) tree.steps;
+      }) refl
 
   pub tree_stuck : (start : List Top) (nodes : NodeSet) (used : List Bool) (refusal : Refusal) → old.size ≡ size_of (length used) → AreWalked first old mid used nodes
       → IsWalkRefusal i mid new (walk_state start nodes used) refusal → IsTreeRefusal first old new start refusal
@@ -450,6 +469,8 @@ marking_none index v roots nodes used none empty = record {
     adds = adds_none index used;
   };
   walked = λ u sized has. absurd (no_node u (subst (λ (s : NodeSet). HasNode s u) empty has));
+  walks = subst (λ (ns : List NamedRoot). WalksRoots index v v ns (walk_state [] finite.empty used) (walk_state [] nodes used)) (sym none)
+      (ap (λ (s : NodeSet). walk_state [] s used) empty);
   index_is = refl;
   reads = reads_none v;
 }
@@ -468,6 +489,8 @@ marking_all_more first i j old mid new roots more n nodes nodes_now used mid_mar
       marks = subst (λ (all : List NamedRoot). MarksAll first old new all used marked) (sym are)
           (tree_more first i old mid new marking.index_is marking.reads.only reads.only roots n used mid_marks marked marking.marks walking.marks);
       walked = all_walked first old new start mid_marks nodes_now marked walking;
+      walks = subst (λ (all : List NamedRoot). WalksRoots first old new all (walk_state [] finite.empty used) (walk_state [] nodes_now marked)) (sym are)
+          (walks_roots_more first i old mid new marking.index_is marking.reads.only reads.only roots n (walk_state [] finite.empty used) nodes nodes_now mid_marks marked marking.walks walks);
       index_is = same ∙ marking.index_is;
       reads = reads_on Done old mid new marking.reads reads;
     }

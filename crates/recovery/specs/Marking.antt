@@ -77,6 +77,17 @@ pub record Walks (index : PlaceMap) (old new : DiskView) (before after : WalkSta
   pub count : ℕ
   pub steps : TakesSteps index old new count before after
 
+-- the trees of these roots, one after the other: from where it is at the first of them to where it is after the last
+abbrev pub WalksRoots : PlaceMap → DiskView → DiskView → List NamedRoot → WalkState → WalkState → Type 0
+WalksRoots index old new [] before after = after ≡ before
+WalksRoots index old new (n ∷ ns) before after =
+    (mid : WalkState) × (Walks index old new (record before { ahead = start_of (top_of n.root) }) mid × (mid.ahead ≡ []) × WalksRoots index old new ns mid after)
+
+-- All of these were, and no node was come to before: so each is read once, by its level, its length and its digest.
+pub record WalksOnce (index : PlaceMap) (old new : DiskView) (roots : List NamedRoot) (used marked : List Bool) : Type 0 where
+  pub nodes : NodeSet
+  pub walks : WalksRoots index old new roots (walk_state [] finite.empty used) (walk_state [] nodes marked)
+
 -- ---- what stops it
 
 -- the walk of a tree can't go on
@@ -161,6 +172,7 @@ pub record IsMarkingAll (first index : PlaceMap) (old new : DiskView) (roots : L
     (used marked : List Bool) : Type 0 where
   pub marks : MarksAll first old new roots used marked
   pub walked : AreWalked first old new marked nodes
+  pub walks : WalksRoots first old new roots (walk_state [] finite.empty used) (walk_state [] nodes marked)
   pub index_is : index ≡ first
   pub reads : Reads Done old new
 

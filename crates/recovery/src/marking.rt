@@ -10,7 +10,7 @@ ghost use Rattle.read_steps.specs.Opening.{top_of};
 ghost use Rattle.read_steps.specs.Visiting.{IsVisitRefusal, steps_ahead};
 ghost use Rattle.refusals.specs.declared.refusal.Refusal.TheVariants.{Memory};
 ghost use Rattle.store_state.specs.Refused.{blames, fails};
-ghost use Rattle.recovery.specs.Marking.{AllHeld, IsHeld, IsMarkRefusal, IsWalkRefusal, MarksAll, TakesStep, Walks, WhereHeld, walk_state};
+ghost use Rattle.recovery.specs.Marking.{AllHeld, IsHeld, IsMarkRefusal, IsWalkRefusal, MarksAll, TakesStep, Walks, WalksOnce, WhereHeld, walk_state};
 ghost use Rattle.recovery.specs.Passed.{WasNoted};
 
 use crate::passed::Passed;
@@ -138,6 +138,7 @@ pub(crate) fn mark_all<D: Disk>(
     requires room { LONGEST ≤ length buf.old }
     requires slots { (D.view disk.old).size ≡ size_of (length used.old) }
     ensures marks { OnOk result (MarksAll index.old (D.view disk.old) (D.view disk.new) (map listed_value files.now) used.old used.new) }
+    ensures once { OnOk result (WalksOnce index.old (D.view disk.old) (D.view disk.new) (map listed_value files.now) used.old used.new) }
     ensures refused { IfErr result (IsMarkRefusal index.old (D.view disk.old) (D.view disk.new) (map listed_value files.now)) }
     ensures failed { IfErr result (λ refusal. WhereHeld index.old (D.view disk.old).content
         (λ counts held image. AllHeld counts held image (map listed_value files.now)) (λ _ _ _. IsTrue (fails refusal))) }

@@ -1,10 +1,13 @@
-use Rattle.std.proofs.Common.{map, take, drop, ◌+◌, ap, sym, refl, ◌∙◌}
+use Rattle.std.proofs.Common.{List, [], map, take, drop, ◌+◌, ap, subst, sym, refl, ◌∙◌, arith}
+use Rattle.std.specs.FinMap as finite
+use Rattle.std.proofs.lemmas.List.{length-map, take_all}
 use Rattle.base_model.proofs.Outcome.{passed_on}
 use Rattle.disk_format.specs.Layout.{size_of}
 use Rattle.merkle_file.specs.Walk.{start_of}
 use Rattle.namespace.specs.declared.listing.ListedName.{ListedName}
-use Rattle.namespace.specs.Listing.{listed_value}
+use Rattle.namespace.specs.Listing.{NamedRoot, listed_value}
 use Rattle.read_steps.specs.Opening.{top_of}
+use Rattle.recovery.specs.Marking.{WalksRoots, walk_state}
 use Rattle.recovery.proofs.Marks.{file_among, file_taken, marking_all_more, tree_failed, tree_refused, tree_stuck, marking_none}
 use Rattle.recovery.proofs.marking.mark_all.Goals as goal
 
@@ -43,3 +46,13 @@ loop-file-preserved g c =
 pub loop-file-init : goal.loop-file-init
 loop-file-init g c =
     marking_none c.args.index.now (g.D.Disk.view c.args.disk.now) (take 0 (map listed_value c.args.files.now)) c.new-passed.result c.args.used.now refl c.new-passed.ensures
+
+pub returns-clause-once : goal.returns-clause-once
+returns-clause-once g c =
+    let view = g.D.Disk.view in
+    let files = c.args.files.now in
+    record {
+      nodes = c.loop-file.passed;
+      walks = subst (λ (roots : List NamedRoot). WalksRoots c.args.index.now (view c.args.disk.now) (view c.loop-file.disk) roots (walk_state [] finite.empty c.args.used.now) (walk_state [] c.loop-file.passed c.loop-file.used))
+          (take_all c.loop-file.file-index (map listed_value files) (omega (arith, c.loop-file-test.false, length-map files listed_value))) c.loop-file.invariant.walks;
+    }

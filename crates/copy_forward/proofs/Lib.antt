@@ -6,3 +6,4 @@ pub mod Removed
 pub mod Sourced
 pub mod Summed
 pub mod Tabled
+pub mod SameHeaders

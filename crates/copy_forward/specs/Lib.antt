@@ -1,3 +1,4 @@
+pub mod Collisions
 pub mod Copying
 pub mod Entries
 pub mod Flushing

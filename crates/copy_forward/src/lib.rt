@@ -7,6 +7,7 @@ mod copying;
 mod entries;
 mod flushing;
 mod header;
+mod laws;
 mod plan;
 mod planning;
 
@@ -14,4 +15,5 @@ pub use copying::{copy_entries, same_kind};
 pub use entries::{live_bytes, same_place};
 pub use flushing::flush;
 pub use header::read_header;
+pub use laws::a_header_of_the_tables_is_the_stores;
 pub use plan::Plan;

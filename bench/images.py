@@ -96,6 +96,7 @@ def needs_program(parser, given):
         parser.error(f"there is no program {given.program}: ./ddfs builds it at its first call")
 
 
-def slots_for(first, new, nights):
-    """N by the formula of README.md, 'How large': of a first night's bytes, a night's new bytes, and how many nights are kept."""
-    return -(-(first + nights * new) * 5 // (4 * 200_000)) + 3 * nights + 2
+def slots_for(first, new, kept):
+    """N by the formula of README.md, 'How large', for 80 percent: of the bytes of a first night, the new bytes of a later one, and how many
+    nights are kept, all of them by days."""
+    return (first + kept * new) // 170_000 + (kept + 1) * (first // 24_000_000 + 3) + 3 * first // (2 * new) + 4

@@ -20,10 +20,13 @@ use Rattle.store_machine.specs.Done.{Done}
 use Rattle.store_machine.specs.Legal.{Answers, ByState, LegalBy}
 use Rattle.store_machine.specs.Machine.{RunState, Running, Stopped}
 use Rattle.store_machine.specs.Values.{IsStuck, of_roots}
-use Rattle.core_machine.specs.Refines.{CoreRefines, IsMachine, SameParts, SameStop, asked_by, answered_by}
+use Rattle.store_state.specs.declared.tables.Tables.{Tables}
+use Rattle.store_core.specs.Collecting.{Collects, IsKeptKey}
+use Rattle.core_machine.specs.Collections.{SameCollection}
+use Rattle.core_machine.specs.Refines.{CoreRefines, HasIndex, IsMachine, SameParts, SameStop, asked_by, answered_by}
 use Rattle.store_model.specs.Image.{IsValidFor}
 use Rattle.store_state.specs.Tables.{Represents}
-use Rattle.core_machine.proofs.Rows.{M, abort_row, begin_row, claim_row, commit_row, list_row, stat_row, delete_row, end_row, open_row, read_row, stays_so}
+use Rattle.core_machine.proofs.Rows.{M, abort_row, begin_row, claim_row, commit_row, list_row, stat_row, delete_row, end_row, left_by, open_row, read_row, same_at, same_marks, stays_so}
 
 no_write : (after : List Top) → IsStuck after refusals.DiskWrite → ⊥
 no_write [] stuck = stuck
@@ -96,40 +99,52 @@ some_is : (a b : Asked Root) → Some a ≡ Some b → a ≡ b
 some_is a b is = cc
 
 module _ (c d : CoreState) (m : M) (at : IsMachine m c) (runs : m.state ≡ Running) (a : ℕ) (buf : List ℕ) where
+  own : HasIndex m.swept m.forgotten m.store.held c.known
+  own = at.index runs
+
   abbrev Left : Result Answer Refusal → Asked Root → Type 0
   Left answer step = (n : M) × Answers of_roots a step (answered_by answer buf) m n × IsMachine n d
 
-  made_by : (s : StepValue) (step : Asked Root) (answer : Result Answer Refusal) → asked_by s ≡ Some step → Made s a answer buf c d → StopsAfter s answer c.acknowledged d.stop
+  made_by : (s : StepValue) (step : Asked Root) (answer : Result Answer Refusal) → asked_by s ≡ Some step → Made s a answer buf c d → Collects s answer c d → StopsAfter s answer c.acknowledged d.stop
       → d.acknowledged ≡ counted answer c.acknowledged → Left answer step
-  made_by steps.Begin step answer is made stop count =
+  made_by steps.Begin step answer is made collects stop count =
       let quiet = begin_quiet c d a answer made.row stop count in
-      subst (Left answer) (some_is asked.Begin step is) (begin_row c m at runs d a answer buf made.row (record { tables = made.effect.tables.tables_are; size = made.effect.disk.only.later.size_is; count = quiet.1; index = made.effect.tables.index_is; stop = quiet.0 }))
-  made_by steps.Abort step answer is made stop count =
+      subst (Left answer) (some_is asked.Begin step is) (begin_row c m at runs d a answer buf made.row
+          (left_by c m at runs d made.effect.tables made.effect.disk.only.later.size_is quiet.1 (same_at c m at runs d collects) quiet.0))
+  made_by steps.Abort step answer is made collects stop count =
       let quiet = abort_quiet c d a answer made.row stop count in
-      subst (Left answer) (some_is asked.Abort step is) (abort_row c m at runs d a answer buf made.row (record { tables = made.effect.tables.tables_are; size = made.effect.disk.only.later.size_is; count = quiet.1; index = made.effect.tables.index_is; stop = quiet.0 }))
-  made_by (steps.OpenRead name) step answer is made stop count =
+      subst (Left answer) (some_is asked.Abort step is) (abort_row c m at runs d a answer buf made.row
+          (left_by c m at runs d made.effect.tables made.effect.disk.only.later.size_is quiet.1 (same_at c m at runs d collects) quiet.0))
+  made_by (steps.OpenRead name) step answer is made collects stop count =
       let quiet = open_quiet c d name a answer made.row stop count in
-      subst (Left answer) (some_is (asked.OpenRead name) step is) (open_row c m at runs d name a answer buf made.row (record { tables = made.effect.tables.tables_are; size = made.effect.disk.only.later.size_is; count = quiet.1; index = made.effect.tables.index_is; stop = quiet.0 }))
-  made_by steps.ReadNext step answer is made stop count =
+      subst (Left answer) (some_is (asked.OpenRead name) step is) (open_row c m at runs d name a answer buf made.row
+          (left_by c m at runs d made.effect.tables made.effect.disk.only.later.size_is quiet.1 (same_at c m at runs d collects) quiet.0))
+  made_by steps.ReadNext step answer is made collects stop count =
       let quiet = read_quiet c d a answer buf made.row stop count in
-      subst (Left answer) (some_is asked.ReadNext step is) (read_row c m at runs d a answer buf made.row (record { tables = made.effect.tables.tables_are; size = made.effect.disk.only.later.size_is; count = quiet.1; index = made.effect.tables.index_is; stop = quiet.0 }))
-  made_by steps.EndRead step answer is made stop count =
+      subst (Left answer) (some_is asked.ReadNext step is) (read_row c m at runs d a answer buf made.row
+          (left_by c m at runs d made.effect.tables made.effect.disk.only.later.size_is quiet.1 (same_at c m at runs d collects) quiet.0))
+  made_by steps.EndRead step answer is made collects stop count =
       let quiet = end_quiet c d a answer made.row stop count in
-      subst (Left answer) (some_is asked.EndRead step is) (end_row c m at runs d a answer buf made.row (record { tables = made.effect.tables.tables_are; size = made.effect.disk.only.later.size_is; count = quiet.1; index = made.effect.tables.index_is; stop = quiet.0 }))
-  made_by (steps.Delete name) step answer is made stop count =
-      subst (Left answer) (some_is (asked.Delete name) step is) (delete_row c m at runs d name a answer buf made.row made.effect stop count)
-  made_by (steps.Commit name root) step answer is made stop count =
-      subst (Left answer) (some_is (asked.Commit name root) step is) (commit_row c m at runs d name root a answer buf made.row made.effect stop count)
-  made_by (steps.Claim seg) step answer is made stop count =
-      let quiet = claim_quiet c d (at.places, at.known) seg a answer made.row stop count in
-      subst (Left answer) (some_is (asked.Claim seg) step is) (claim_row c m at runs d seg a answer buf made.row (record { tables = made.effect.tables.tables_are; size = made.effect.disk.only.later.size_is; count = quiet.1; index = made.effect.tables.index_is; stop = quiet.0 }))
-  made_by steps.ListNames step answer is made stop count =
+      subst (Left answer) (some_is asked.EndRead step is) (end_row c m at runs d a answer buf made.row
+          (left_by c m at runs d made.effect.tables made.effect.disk.only.later.size_is quiet.1 (same_at c m at runs d collects) quiet.0))
+  made_by (steps.Delete name) step answer is made collects stop count =
+      subst (Left answer) (some_is (asked.Delete name) step is) (delete_row c m at runs d name a answer buf made.row made.effect collects stop count)
+  made_by (steps.Commit name root) step answer is made collects stop count =
+      subst (Left answer) (some_is (asked.Commit name root) step is) (commit_row c m at runs d name root a answer buf made.row made.effect collects stop count)
+  made_by (steps.Claim seg) step answer is made collects stop count =
+      let quiet = claim_quiet c d (own.places, own.known_is) seg a answer made.row stop count in
+      subst (Left answer) (some_is (asked.Claim seg) step is) (claim_row c m at runs d seg a answer buf made.row
+          (left_by c m at runs d made.effect.tables made.effect.disk.only.later.size_is quiet.1
+          (same_marks (IsKeptKey (steps.Claim seg) answer) c.tables.held m.swept m.collection c.collection d.collection collects at.collection) quiet.0))
+  made_by steps.ListNames step answer is made collects stop count =
       let quiet = list_quiet c d answer made.row stop count in
-      subst (Left answer) (some_is asked.ListNames step is) (list_row c m at runs d a answer buf made.row (record { tables = made.effect.tables.tables_are; size = made.effect.disk.only.later.size_is; count = quiet.1; index = made.effect.tables.index_is; stop = quiet.0 }))
-  made_by steps.Stat step answer is made stop count =
+      subst (Left answer) (some_is asked.ListNames step is) (list_row c m at runs d a answer buf made.row
+          (left_by c m at runs d made.effect.tables made.effect.disk.only.later.size_is quiet.1 (same_at c m at runs d collects) quiet.0))
+  made_by steps.Stat step answer is made collects stop count =
       let quiet = stat_quiet c d at answer made.row stop count in
-      subst (Left answer) (some_is asked.Stat step is) (stat_row c m at runs d a answer buf made.row (record { tables = made.effect.tables.tables_are; size = made.effect.disk.only.later.size_is; count = quiet.1; index = made.effect.tables.index_is; stop = quiet.0 }))
-  made_by s step answer is made stop count = absurd (let wrong : None ≡ Some step = is in cc)
+      subst (Left answer) (some_is asked.Stat step is) (stat_row c m at runs d a answer buf made.row
+          (left_by c m at runs d made.effect.tables made.effect.disk.only.later.size_is quiet.1 (same_at c m at runs d collects) quiet.0))
+  made_by s step answer is made collects stop count = absurd (let wrong : None ≡ Some step = is in cc)
 
 -- none of these is an opening
 by_state : (s : StepValue) (step : Asked Root) (a : ℕ) (told : Result Done Refusal) (m n : M) → asked_by s ≡ Some step → ByState of_roots m.state a step told m n
@@ -179,11 +194,12 @@ module _ (e : Event) (step : Asked Root) (old new : CoreState) (m : M) (is : ask
         free = at.free;
         names = at.names;
         last = at.last;
+        last_id = at.last_id ∙ ap (λ (t : Tables). t.held.last_id) (sym answers.same.tables_are);
         parts = subst (SameParts m.parts) (sym answers.same.parts_are) at.parts;
         acknowledged = at.acknowledged ∙ sym answers.same.counted;
-        places = at.places;
-        known = answers.same.index_is ∙ at.known;
-        index = at.index;
+        index = λ running. absurd (let wrong : Stopped other stores ≡ Running = sym state ∙ running in cc);
+        collection = subst (λ (t : Tables). SameCollection t.held m.swept m.collection new.collection) (sym answers.same.tables_are)
+            (subst (SameCollection old.tables.held m.swept m.collection) (sym answers.same.collection_is) at.collection);
         state = subst (SameStop m.acknowledged m.state) (sym answers.same.stop_is) at.state;
       },
     ),
@@ -191,7 +207,7 @@ module _ (e : Event) (step : Asked Root) (old new : CoreState) (m : M) (is : ask
 
   steps_so : m.state ≡ Running → Steps e old new → End
   steps_so runs s =
-      let left = made_by old new m at runs e.actor e.buf e.step step e.answer is s.made s.stops s.counted_is in
+      let left = made_by old new m at runs e.actor e.buf e.step step e.answer is s.made s.collects s.stops s.counted_is in
       (left.0, (subst (λ (st : RunState Root). ByState of_roots st e.actor step (answered_by e.answer e.buf) m left.0) (sym runs) left.1, left.2))
 
   by : (st : RunState Root) (stop : Option Stop) → m.state ≡ st → SameStop m.acknowledged st stop → StepsOr stop e old new → End
@@ -201,6 +217,6 @@ module _ (e : Event) (step : Asked Root) (old new : CoreState) (m : M) (is : ask
   by (Stopped other stores) (Some stop) state same made = refuses other stores stop state same made
 
 pub core_refines : (C : Type 0) (state : C → CoreState) → CoreRefines C state
-core_refines C state e step old new m is at made =
+core_refines C state e step old new m is up at made =
     let end = by e step (state old) (state new) m is at m.state (state old).stop refl at.state made in
     (end.0, (by_state e.step step e.actor (answered_by e.answer e.buf) m end.0 is end.1.0, end.1.1))

@@ -35,7 +35,13 @@ use Rattle.store_model.specs.Slots.{Copy as KeyCopy, newest}
 use Rattle.store_machine.specs.Needs.{HasLength}
 use Rattle.store_model.specs.Image.{Store, last_sequence, IsValidFor, names_of}
 use Rattle.store_state.specs.Tables.{Represents}
-use Rattle.store_core.specs.Core.{AbortRow, BeginRow, ClaimRow, CommitRow, ListRow, StatRow, DeleteRow, EndRow, IsAtOther, NamesOne, OpenRow, ReadRow, StopsAfter, counted}
+use Rattle.store_state.specs.declared.slot_table.SlotTable.{SlotTable}
+use Rattle.store_state.specs.declared.tables.Tables.{Tables}
+use Rattle.gc_steps.specs.declared.collection.Collection.{Collection as CoreCollection}
+use Rattle.store_core.specs.Collecting.{MarksIn}
+use Rattle.container_meta.specs.Spelling.{HeaderValue}
+use Rattle.core_machine.specs.Collections.{SameCollection}
+use Rattle.store_core.specs.Core.{AbortRow, BeginRow, ClaimRow, CommitRow, KeepsTables, ListRow, StatRow, DeleteRow, EndRow, IsAtOther, NamesOne, OpenRow, ReadRow, StopsAfter, counted}
 use Rattle.actor_parts.specs.StepValue as steps
 use Rattle.ingest_steps.specs.Naming as naming
 use Rattle.store_model.proofs.NameChanges.{last_changed, names_after_change}
@@ -53,9 +59,9 @@ use Rattle.store_machine.specs.Asked as asked
 use Rattle.store_machine.specs.Done.{Done}
 use Rattle.store_machine.specs.Legal.{Answers, Keeps, listing, counted as counted_of, HasName, HasRoom, IsKept, MayCommit, with_name, HasNumbers, IsAtRightPart, IsIndexed, IsLacked, LacksNumbers, broken_by, RefusesRead, taken_by, without_name}
 use Rattle.std.proofs.lemmas.List.{set-get_or}
-use Rattle.store_machine.specs.Machine.{Found, Machine, Part, Idle, Writing, Reading, RunState, Running, Stopped, keeping, kind_of, one_more, part_in, put_at}
+use Rattle.store_machine.specs.Machine.{Collection, Found, Machine, Part, Idle, Writing, Reading, RunState, Running, Stopped, keeping, kind_of, one_more, part_in, put_at}
 use Rattle.store_machine.specs.Values.{GivesLeaf, IsStuck, Opens, Walked, of_roots}
-use Rattle.core_machine.specs.Refines.{IsMachine, SamePart, SameParts, SameStop, answered_by}
+use Rattle.core_machine.specs.Refines.{HasIndex, IsMachine, SamePart, SameParts, SameStop, answered_by}
 
 -- ---- what a walk shows
 
@@ -155,6 +161,27 @@ not_idle core.Idle differs is = differs refl
 not_idle (core.Writing pins) differs is = absurd (let wrong : kinds.Writing ≡ kinds.Idle = is in cc)
 not_idle (core.Reading reader) differs is = absurd (let wrong : kinds.Reading ≡ kinds.Idle = is in cc)
 
+-- ---- collections
+
+-- what is needed or live doesn't matter
+pub kept_same : (keys : List (List ℕ)) (t : SlotTable) (swept : Bool) (a : Option (Collection Root)) (b : Option CoreCollection) → SameCollection t swept a b
+    → SameCollection t swept (keeping keys a) b
+kept_same keys t swept None None same = tt
+kept_same keys t swept None (Some k) same = absurd same
+kept_same keys t swept (Some c) None same = absurd same
+kept_same keys t swept (Some c) (Some k) same =
+    record { percent_is = same.percent_is; snapshot_is = same.snapshot_is; recorded_is = same.recorded_is; stage_is = same.stage_is }
+
+pub same_marks : (P : List ℕ → Type 0) (t : SlotTable) (swept : Bool) (a : Option (Collection Root)) (b after : Option CoreCollection) → MarksIn P b after
+    → SameCollection t swept a b → SameCollection t swept a after
+same_marks P t swept None None after marks same = subst (SameCollection t swept None) (sym marks) tt
+same_marks P t swept (Some c) None after marks same = absurd same
+same_marks P t swept None (Some k) after marks same = absurd same
+same_marks P t swept (Some c) (Some k) after (live, (is, marks)) same = subst (SameCollection t swept (Some c)) (sym is) so
+  where
+    so : SameCollection t swept (Some c) (Some (record k { live = live }))
+    so = record { percent_is = same.percent_is; snapshot_is = same.snapshot_is; recorded_is = same.recorded_is; stage_is = same.stage_is }
+
 -- ---- the core and its machine
 
 module _ (c : CoreState) (m : M) (at : IsMachine m c) where
@@ -171,20 +198,25 @@ module _ (c : CoreState) (m : M) (at : IsMachine m c) where
   names_so : (P : NameMap → Type 0) → P c.tables.names → P (names_of m.store)
   names_so P is = subst P at.represents.names_are.names_are is
 
-  -- tables, disk's size and count as before, and the parts of these: it is the machine with these parts
-  goes_on : (d : CoreState) (parts : List RootPart) → d.tables ≡ c.tables → d.disk.size ≡ c.disk.size → SameParts parts d.parts → d.acknowledged ≡ c.acknowledged
-      → d.known ≡ c.known → m.state ≡ Running → d.stop ≡ None → IsMachine (record m { parts = parts }) d
-  goes_on d parts tables size same count index runs stop = record {
+  same_index : {swept : Bool} {forgotten : List (List ℕ)} {held : List (Option HeaderValue)} {known : Option PlaceMap} → known ≡ c.known
+      → HasIndex swept forgotten held c.known → HasIndex swept forgotten held known
+  same_index is has = record { places = has.places; known_is = is ∙ has.known_is; newest = has.newest }
+
+  -- tables, disk's size and count as before, and the parts of these: it is the machine with these parts and this collection
+  goes_on : (d : CoreState) (parts : List RootPart) (k : Option (Collection Root)) → d.tables ≡ c.tables → d.disk.size ≡ c.disk.size → SameParts parts d.parts
+      → d.acknowledged ≡ c.acknowledged → d.known ≡ c.known → SameCollection c.tables.held m.swept k d.collection → m.state ≡ Running → d.stop ≡ None
+      → IsMachine (record m { parts = parts; collection = k }) d
+  goes_on d parts k tables size same count index collects runs stop = record {
     represents = subst (Represents m.store None) (sym tables) at.represents;
     valid = subst (λ (s : ℕ). IsValidFor s m.store) (sym size) at.valid;
     free = at.free;
     names = at.names;
     last = at.last;
+    last_id = at.last_id ∙ ap (λ (t : Tables). t.held.last_id) (sym tables);
     parts = same;
     acknowledged = at.acknowledged ∙ sym count;
-    places = at.places;
-    known = index ∙ at.known;
-    index = at.index;
+    index = λ running. same_index index (at.index running);
+    collection = subst (λ (t : Tables). SameCollection t.held m.swept k d.collection) (sym tables) collects;
     state = subst (λ (s : RunState Root). SameStop m.acknowledged s d.stop) (sym runs) (subst (SameStop m.acknowledged Running) (sym stop) tt);
   }
 
@@ -200,10 +232,20 @@ module _ (c : CoreState) (m : M) (at : IsMachine m c) where
       pub size : d.disk.size ≡ c.disk.size
       pub count : d.acknowledged ≡ c.acknowledged
       pub index : d.known ≡ c.known
+      pub collects : SameCollection c.tables.held m.swept m.collection d.collection
       pub stop : d.stop ≡ None
 
+    -- the collection is what it was
+    pub same_at : d.collection ≡ c.collection → SameCollection c.tables.held m.swept m.collection d.collection
+    same_at same = subst (SameCollection c.tables.held m.swept m.collection) (sym same) at.collection
+
+    pub left_by : KeepsTables c d → d.disk.size ≡ c.disk.size → d.acknowledged ≡ c.acknowledged → SameCollection c.tables.held m.swept m.collection d.collection → d.stop ≡ None
+        → Rested
+    left_by kept size count collects stop =
+        record { tables = kept.tables_are; size = size; count = count; index = kept.index_is; collects = collects; stop = stop }
+
     with_parts : Rested → (parts : List RootPart) → SameParts parts d.parts → IsMachine (record m { parts = parts }) d
-    with_parts r parts same = goes_on d parts r.tables r.size same r.count r.index runs r.stop
+    with_parts r parts same = goes_on d parts m.collection r.tables r.size same r.count r.index r.collects runs r.stop
 
     as_it_was : Rested → d.parts ≡ c.parts → IsMachine m d
     as_it_was r same = with_parts r m.parts (subst (SameParts m.parts) (sym same) at.parts)
@@ -332,10 +374,14 @@ module _ (c : CoreState) (m : M) (at : IsMachine m c) where
     lacks_numbers (inl is) = inl (at.last ∙ sym at.represents.names_are.last_is ∙ is)
     lacks_numbers (inr (full, most)) = inr (subst (λ (k : ℕ). half_cells ≤ k) at.represents.names_are.count full, sym at.represents.names_are.generation ∙ most)
 
+    -- slots and collection are what they were
+    still : d.tables.held ≡ c.tables.held → d.collection ≡ c.collection → SameCollection d.tables.held m.swept m.collection d.collection
+    still held same = subst (λ (t : SlotTable). SameCollection t m.swept m.collection d.collection) (sym held) (same_at same)
+
     -- what a delete that was done makes of the tables
     deleted : (name : List ℕ) (sequence : ℕ) (effect : NamesOne name Gone (Ok (answers.Deleted sequence)) c d) → d.parts ≡ c.parts → d.acknowledged ≡ one_more c.acknowledged
-        → d.stop ≡ None → IsMachine (remove name) d
-    deleted name sequence effect same count stop =
+        → d.tables.held ≡ c.tables.held → d.collection ≡ c.collection → d.stop ≡ None → IsMachine (remove name) d
+    deleted name sequence effect same count held collects stop =
         let made = effect.made.alone.store_has m.store at.represents at.valid at.free in
         record {
           represents = made.represents;
@@ -347,11 +393,11 @@ module _ (c : CoreState) (m : M) (at : IsMachine m c) where
               ∙ ap (option_map (λ (n : Named). n.root)) (sym (finite.get-remove nat_list_cmp_total (names_of m.store) name q))
               ∙ ap (λ (ns : NameMap). option_map (λ (n : Named). n.root) (finite.get ns q)) (sym (names_after_change name Gone m.store at.valid.follow));
           last = ap suc at.last ∙ sym (last_changed name Gone m.store at.valid.follow);
+          last_id = at.last_id ∙ ap (λ (t : SlotTable). t.last_id) (sym held);
           parts = subst (SameParts m.parts) (sym same) at.parts;
           acknowledged = ap one_more at.acknowledged ∙ sym count;
-          places = at.places;
-          known = effect.index ∙ at.known;
-          index = at.index;
+          index = λ running. same_index effect.index (at.index running);
+          collection = still held collects;
           state = subst (λ (s : RunState Root). SameStop (one_more m.acknowledged) s d.stop) (sym runs) (subst (SameStop (one_more m.acknowledged) Running) (sym stop) tt);
         }
       where
@@ -360,30 +406,31 @@ module _ (c : CoreState) (m : M) (at : IsMachine m c) where
         gone false o = refl
 
     -- a write failed: nothing of the tables is another, and it is stopped
-    stopped_at : (found : Found Root) (stores : List Store) → d.tables ≡ c.tables → d.disk.size ≡ c.disk.size → d.parts ≡ c.parts → d.acknowledged ≡ c.acknowledged
-        → d.known ≡ c.known → d.stop ≡ Some (record { refusal = refusals.DiskWrite; at = c.acknowledged })
-        → IsMachine (record m { state = Stopped (Some found) stores }) d
-    stopped_at found stores tables size same count index stop = record {
+    pub stopped_at : (found : Option (Found Root)) (stores : List Store) → d.tables ≡ c.tables → d.disk.size ≡ c.disk.size → d.parts ≡ c.parts
+        → d.acknowledged ≡ c.acknowledged → d.collection ≡ c.collection → (refusal : Refusal) → d.stop ≡ Some (record { refusal = refusal; at = c.acknowledged })
+        → IsMachine (record m { state = Stopped found stores }) d
+    stopped_at found stores tables size same count collects refusal stop = record {
       represents = subst (Represents m.store None) (sym tables) at.represents;
       valid = subst (λ (s : ℕ). IsValidFor s m.store) (sym size) at.valid;
       free = at.free;
       names = at.names;
       last = at.last;
+      last_id = at.last_id ∙ ap (λ (t : Tables). t.held.last_id) (sym tables);
       parts = subst (SameParts m.parts) (sym same) at.parts;
       acknowledged = at.acknowledged ∙ sym count;
-      places = at.places;
-      known = index ∙ at.known;
-      index = at.index;
-      state = subst (SameStop m.acknowledged (Stopped (Some found) stores)) (sym stop) (sym at.acknowledged);
+      index = λ running. absurd (let wrong : Stopped found stores ≡ Running = running in cc);
+      collection = still (ap (λ (t : Tables). t.held) tables) collects;
+      state = subst (SameStop m.acknowledged (Stopped found stores)) (sym stop) (sym at.acknowledged);
     }
 
     may_delete : (name : List ℕ) → naming.MayDelete c.tables name → IsName name × HasName of_roots name m
     may_delete name may = (may.named, name_there name may.there)
 
     pub delete_row : (name : List ℕ) (a : ℕ) (answer : Result Answer Refusal) (buf : List ℕ) → DeleteRow name answer c d → NamesOne name Gone answer c d
+        → d.collection ≡ c.collection
         → StopsAfter (steps.Delete name) answer c.acknowledged d.stop → d.acknowledged ≡ counted answer c.acknowledged
         → Left a (asked.Delete name) (answered_by answer buf)
-    delete_row name a (Ok (answers.Deleted sequence)) buf (may, is, same, held) effect stop count =
+    delete_row name a (Ok (answers.Deleted sequence)) buf (may, is, same, held) effect collects stop count =
         let can = (effect.made.alone.store_has m.store at.represents at.valid at.free).can.0 in (
           remove name,
           record {
@@ -393,25 +440,25 @@ module _ (c : CoreState) (m : M) (at : IsMachine m c) where
             sequence_is = is ∙ ap suc (at.represents.names_are.last_is ∙ sym at.last);
             others = refl;
           },
-          deleted name sequence effect same count stop,
+          deleted name sequence effect same count held collects stop,
         )
-    delete_row name a (Err refusals.Memory) buf (cause, same) effect stop count =
-        (m, refl, as_it_was (record { tables = effect.kept.tables_are; size = effect.disk.later.size_is; count = count; index = effect.kept.index_is; stop = stop }) same)
-    delete_row name a (Err refusals.BadName) buf (cause, same) effect stop count =
-        (m, ((λ taken is. absurd (let wrong : None ≡ Some taken = is in cc)), (cause, refl)), as_it_was (record { tables = effect.kept.tables_are; size = effect.disk.later.size_is; count = count; index = effect.kept.index_is; stop = stop }) same)
-    delete_row name a (Err refusals.NoFile) buf (cause, same) effect stop count =
-        (m, ((λ taken is. absurd (let wrong : None ≡ Some taken = is in cc)), (cause.0, no_name name cause.1, refl)), as_it_was (record { tables = effect.kept.tables_are; size = effect.disk.later.size_is; count = count; index = effect.kept.index_is; stop = stop }) same)
-    delete_row name a (Err refusals.Numbers) buf (cause, same) effect stop count =
+    delete_row name a (Err refusals.Memory) buf (cause, same) effect collects stop count =
+        (m, refl, as_it_was (left_by effect.kept effect.disk.later.size_is count (same_at collects) stop) same)
+    delete_row name a (Err refusals.BadName) buf (cause, same) effect collects stop count =
+        (m, ((λ taken is. absurd (let wrong : None ≡ Some taken = is in cc)), (cause, refl)), as_it_was (left_by effect.kept effect.disk.later.size_is count (same_at collects) stop) same)
+    delete_row name a (Err refusals.NoFile) buf (cause, same) effect collects stop count =
+        (m, ((λ taken is. absurd (let wrong : None ≡ Some taken = is in cc)), (cause.0, no_name name cause.1, refl)), as_it_was (left_by effect.kept effect.disk.later.size_is count (same_at collects) stop) same)
+    delete_row name a (Err refusals.Numbers) buf (cause, same) effect collects stop count =
         let may = may_delete name cause.0 in
-        (m, ((λ taken is. absurd (let wrong : None ≡ Some taken = is in cc)), (may.0, may.1, lacks_numbers cause.1, refl)), as_it_was (record { tables = effect.kept.tables_are; size = effect.disk.later.size_is; count = count; index = effect.kept.index_is; stop = stop }) same)
-    delete_row name a (Err refusals.DiskWrite) buf (cause, same) effect stop count =
+        (m, ((λ taken is. absurd (let wrong : None ≡ Some taken = is in cc)), (may.0, may.1, lacks_numbers cause.1, refl)), as_it_was (left_by effect.kept effect.disk.later.size_is count (same_at collects) stop) same)
+    delete_row name a (Err refusals.DiskWrite) buf (cause, same) effect collects stop count =
         let may = may_delete name cause.0 in (
           record m { state = Stopped (Some (without_name of_roots name m.now)) (broken_by of_roots name Gone m.store) },
           ((λ taken is. absurd (let wrong : None ≡ Some taken = is in cc)), (may.0, may.1, has_numbers cause.1, refl)),
-          stopped_at (without_name of_roots name m.now) (broken_by of_roots name Gone m.store) effect.kept.tables_are effect.disk.later.size_is same count effect.kept.index_is stop,
+          stopped_at (Some (without_name of_roots name m.now)) (broken_by of_roots name Gone m.store) effect.kept.tables_are effect.disk.later.size_is same count collects refusals.DiskWrite stop,
         )
-    delete_row name a (Err refusal) buf (cause, same) effect stop count = absurd cause
-    delete_row name a (Ok answer) buf row effect stop count = absurd row
+    delete_row name a (Err refusal) buf (cause, same) effect collects stop count = absurd cause
+    delete_row name a (Ok answer) buf row effect collects stop count = absurd row
 
     -- ---- a list, and counts
 
@@ -451,10 +498,6 @@ module _ (c : CoreState) (m : M) (at : IsMachine m c) where
         by (Writing own) same = ap Writing (sym same)
         by (Reading root rest) same = absurd same
 
-    any_collection : (n : M) (k : _) → IsMachine n d → IsMachine (record n { collection = k }) d
-    any_collection n k is =
-        record { represents = is.represents; valid = is.valid; free = is.free; names = is.names; last = is.last; parts = is.parts; acknowledged = is.acknowledged; places = is.places; known = is.known; index = is.index; state = is.state }
-
     keeps_at : (a : ℕ) (seg : KindSegment) (may : claiming.MayClaim (part_of c.parts a) seg) → Keeps of_roots a seg.kind (first_unpinned seg) m
     keeps_at a seg may = record { pins = may.pins; writing = writing_at a may.pins may.writing; children = may.pinned }
 
@@ -462,7 +505,8 @@ module _ (c : CoreState) (m : M) (at : IsMachine m c) where
     looked_up : (P : Option PlaceValue → Type 0) (key : List ℕ) → KnownMap c.known (λ index. P (finite.get index key)) → m.swept ≡ false
         → P (option_map (λ (x : KeyCopy). x.place) (newest 0 m.store.held key))
     looked_up P key found swept =
-        subst P ((at.index swept).1 key) (found at.places at.known)
+        let own : HasIndex m.swept m.forgotten m.store.held c.known = at.index runs in
+        subst P ((own.newest swept).1 key) (found own.places own.known_is)
 
     copy_of : (o : Option KeyCopy) (place : PlaceValue) → option_map (λ (x : KeyCopy). x.place) o ≡ Some place → (copy : KeyCopy) × (o ≡ Some copy) × (copy.place ≡ place)
     copy_of None place is = absurd (let wrong : None ≡ Some place = is in cc)
@@ -473,7 +517,7 @@ module _ (c : CoreState) (m : M) (at : IsMachine m c) where
     no_copy (Some copy) is = absurd (let wrong : Some copy.place ≡ None = is in cc)
 
     none_forgotten : (key : List ℕ) → m.swept ≡ false → ¬ (Contains m.forgotten key)
-    none_forgotten key swept is = absurd (omega (arith, (subst (λ (keys : List (List ℕ)). Contains keys key) (at.index swept).0 is).1))
+    none_forgotten key swept is = absurd (omega (arith, (subst (λ (keys : List (List ℕ)). Contains keys key) ((at.index runs).newest swept).0 is).1))
 
     held_at : (seg : KindSegment) (place : PlaceValue) → KnownMap c.known (λ index. finite.get index (segment_key seg.kind seg.segment) ≡ Some place)
         → place.length ≡ length seg.segment.bytes → IsIndexed of_roots m → HasLength m.store seg × ¬ (Contains m.forgotten (segment_key seg.kind seg.segment))
@@ -498,7 +542,9 @@ module _ (c : CoreState) (m : M) (at : IsMachine m c) where
         let collection = keeping (segment_key seg.kind seg.segment ∷ []) m.collection in (
           record (put_at m a (Writing pins)) { collection = collection },
           record { may = record { pins = may.pins; writing = writing_at a may.pins may.writing; children = may.pinned }; held = λ indexed. held_at seg is.claimed.looked_up.place is.claimed.looked_up.found is.claimed.looked_up.length_is indexed; same = λ known. absurd known; others = refl },
-          any_collection (put_at m a (Writing pins)) collection (put_part r a (Writing pins) (core.Writing pins) refl is.claimed.parts_are),
+          goes_on d (slice_set m.parts a (Writing pins)) collection r.tables r.size
+              (subst (SameParts (slice_set m.parts a (Writing pins))) (sym is.claimed.parts_are) (set_at m.parts c.parts a (Writing pins) (core.Writing pins) at.parts refl))
+              r.count r.index (kept_same (segment_key seg.kind seg.segment ∷ []) c.tables.held m.swept m.collection d.collection r.collects) runs r.stop,
         )
     claim_row seg a (Ok answers.Absent) buf is r =
         (m, (keeps_at a seg is.claimed.may, (λ indexed. lacked_at seg is.claimed.looked_up indexed), refl), as_it_was r is.claimed.parts_are)
@@ -512,7 +558,7 @@ module _ (c : CoreState) (m : M) (at : IsMachine m c) where
         (m, (right_at a (asked.Claim seg) kinds.Writing refl (ap core_kinds.kind_of may.writing), (keeps_at a seg may, (λ known. absurd known), refl)), as_it_was r same)
     claim_row seg a (Err (refusals.Corrupt slot offset count want got)) buf ((may, cause), same) r =
         (m, (right_at a (asked.Claim seg) kinds.Writing refl (ap core_kinds.kind_of may.writing), (keeps_at a seg may, ((λ known. known), refl))), as_it_was r same)
-    claim_row seg a (Err (refusals.Damaged byte why)) buf ((may, cause), same) r = absurd (let wrong : None ≡ Some at.places = sym cause.0 ∙ at.known in cc)
+    claim_row seg a (Err (refusals.Damaged byte why)) buf ((may, cause), same) r = absurd (let wrong : None ≡ Some (at.index runs).places = sym cause.0 ∙ (at.index runs).known_is in cc)
     claim_row seg a (Err refusal) buf row r = absurd row.0.1.refused.2
     claim_row seg a (Ok answer) buf row r = absurd row
 
@@ -522,8 +568,9 @@ module _ (c : CoreState) (m : M) (at : IsMachine m c) where
     named a name root = record (put_at m a Idle) { now = with_name of_roots name root m.now; store = with_change name (Put root) m.store; acknowledged = one_more m.acknowledged }
 
     committed : (a : ℕ) (name : List ℕ) (root : Root) (sequence : ℕ) (effect : NamesOne name (Put root) (Ok (answers.Committed sequence)) c d)
-        → d.parts ≡ with_part c.parts a core.Idle → d.acknowledged ≡ one_more c.acknowledged → d.stop ≡ None → IsMachine (named a name root) d
-    committed a name root sequence effect parts_are count stop =
+        → d.parts ≡ with_part c.parts a core.Idle → d.acknowledged ≡ one_more c.acknowledged → d.tables.held ≡ c.tables.held → d.collection ≡ c.collection → d.stop ≡ None
+        → IsMachine (named a name root) d
+    committed a name root sequence effect parts_are count held collects stop =
         let made = effect.made.alone.store_has m.store at.represents at.valid at.free in
         record {
           represents = made.represents;
@@ -534,11 +581,11 @@ module _ (c : CoreState) (m : M) (at : IsMachine m c) where
               ∙ ap (option_map (λ (n : Named). n.root)) (sym (finite.get-insert nat_list_cmp_total (names_of m.store) name (record { sequence = suc (last_sequence m.store); root = root }) q))
               ∙ ap (λ (ns : NameMap). option_map (λ (n : Named). n.root) (finite.get ns q)) (sym (names_after_change name (Put root) m.store at.valid.follow));
           last = ap suc at.last ∙ sym (last_changed name (Put root) m.store at.valid.follow);
+          last_id = at.last_id ∙ ap (λ (t : SlotTable). t.last_id) (sym held);
           parts = subst (SameParts (slice_set m.parts a Idle)) (sym parts_are) (set_at m.parts c.parts a Idle core.Idle at.parts tt);
           acknowledged = ap one_more at.acknowledged ∙ sym count;
-          places = at.places;
-          known = effect.index ∙ at.known;
-          index = at.index;
+          index = λ running. same_index effect.index (at.index running);
+          collection = still held collects;
           state = subst (λ (s : RunState Root). SameStop (one_more m.acknowledged) s d.stop) (sym runs) (subst (SameStop (one_more m.acknowledged) Running) (sym stop) tt);
         }
       where
@@ -560,9 +607,9 @@ module _ (c : CoreState) (m : M) (at : IsMachine m c) where
     unkept pins root key is (inr there) = absurd (let wrong : false ≡ true = sym is.unpinned ∙ there in cc)
 
     pub commit_row : (name : List ℕ) (root : Root) (a : ℕ) (answer : Result Answer Refusal) (buf : List ℕ) → CommitRow name root a answer c d
-        → NamesOne name (Put root) answer c d → StopsAfter (steps.Commit name root) answer c.acknowledged d.stop
+        → NamesOne name (Put root) answer c d → d.collection ≡ c.collection → StopsAfter (steps.Commit name root) answer c.acknowledged d.stop
         → d.acknowledged ≡ counted answer c.acknowledged → Left a (asked.Commit name root) (answered_by answer buf)
-    commit_row name root a (Ok (answers.Committed sequence)) buf (may, is, parts_are, held) effect stop count =
+    commit_row name root a (Ok (answers.Committed sequence)) buf (may, is, parts_are, held) effect collects stop count =
         let can = (effect.made.alone.store_has m.store at.represents at.valid at.free).can in (
           named a name root,
           record {
@@ -573,25 +620,25 @@ module _ (c : CoreState) (m : M) (at : IsMachine m c) where
             sequence_is = is ∙ ap suc (at.represents.names_are.last_is ∙ sym at.last);
             others = refl;
           },
-          committed a name root sequence effect parts_are count stop,
+          committed a name root sequence effect parts_are count held collects stop,
         )
-    commit_row name root a (Err refusals.Memory) buf row effect stop count =
-        (m, refl, as_it_was (record { tables = effect.kept.tables_are; size = effect.disk.later.size_is; count = count; index = effect.kept.index_is; stop = stop }) row.1)
-    commit_row name root a (Err refusals.Numbers) buf row effect stop count =
+    commit_row name root a (Err refusals.Memory) buf row effect collects stop count =
+        (m, refl, as_it_was (left_by effect.kept effect.disk.later.size_is count (same_at collects) stop) row.1)
+    commit_row name root a (Err refusals.Numbers) buf row effect collects stop count =
         let may = may_commit a name root row.0.0 in (
           m,
           (right_at a (asked.Commit name root) kinds.Writing refl (ap core_kinds.kind_of row.0.0.writing), (may, lacks_numbers row.0.1, refl)),
-          as_it_was (record { tables = effect.kept.tables_are; size = effect.disk.later.size_is; count = count; index = effect.kept.index_is; stop = stop }) row.1,
+          as_it_was (left_by effect.kept effect.disk.later.size_is count (same_at collects) stop) row.1,
         )
-    commit_row name root a (Err refusals.DiskWrite) buf row effect stop count =
+    commit_row name root a (Err refusals.DiskWrite) buf row effect collects stop count =
         let may = may_commit a name root row.0.0 in (
           record m { state = Stopped (Some (with_name of_roots name root m.now)) (broken_by of_roots name (Put root) m.store) },
           (right_at a (asked.Commit name root) kinds.Writing refl (ap core_kinds.kind_of row.0.0.writing), (may, has_numbers row.0.1, tt, (λ key needs. absurd needs), refl)),
-          stopped_at (with_name of_roots name root m.now) (broken_by of_roots name (Put root) m.store) effect.kept.tables_are effect.disk.later.size_is row.1 count effect.kept.index_is stop,
+          stopped_at (Some (with_name of_roots name root m.now)) (broken_by of_roots name (Put root) m.store) effect.kept.tables_are effect.disk.later.size_is row.1 count collects refusals.DiskWrite stop,
         )
-    commit_row name root a (Err (refusals.WrongPart kind)) buf row effect stop count =
-        wrong a (asked.Commit name root) kind kinds.Writing refl row.0.0 row.0.1 (record { tables = effect.kept.tables_are; size = effect.disk.later.size_is; count = count; index = effect.kept.index_is; stop = stop }) row.1
-    commit_row name root a (Err (refusals.Unpinned key)) buf row effect stop count =
+    commit_row name root a (Err (refusals.WrongPart kind)) buf row effect collects stop count =
+        wrong a (asked.Commit name root) kind kinds.Writing refl row.0.0 row.0.1 (left_by effect.kept effect.disk.later.size_is count (same_at collects) stop) row.1
+    commit_row name root a (Err (refusals.Unpinned key)) buf row effect collects stop count =
         let pins = row.0.0 in
         let is = row.0.1 in
         let may = row.0.2 in
@@ -601,17 +648,17 @@ module _ (c : CoreState) (m : M) (at : IsMachine m c) where
             right_at a (asked.Commit name root) kinds.Writing refl (ap core_kinds.kind_of is),
             (may.named, room_at name may.room, not.key_is, (pins, writing_at a pins is, unkept pins root key not), refl),
           ),
-          as_it_was (record { tables = effect.kept.tables_are; size = effect.disk.later.size_is; count = count; index = effect.kept.index_is; stop = stop }) row.1,
+          as_it_was (left_by effect.kept effect.disk.later.size_is count (same_at collects) stop) row.1,
         )
-    commit_row name root a (Err refusals.BadName) buf row effect stop count =
-        (m, (right_at a (asked.Commit name root) kinds.Writing refl row.0.0, (row.0.1, refl)), as_it_was (record { tables = effect.kept.tables_are; size = effect.disk.later.size_is; count = count; index = effect.kept.index_is; stop = stop }) row.1)
-    commit_row name root a (Err refusals.TooMany) buf row effect stop count = (
+    commit_row name root a (Err refusals.BadName) buf row effect collects stop count =
+        (m, (right_at a (asked.Commit name root) kinds.Writing refl row.0.0, (row.0.1, refl)), as_it_was (left_by effect.kept effect.disk.later.size_is count (same_at collects) stop) row.1)
+    commit_row name root a (Err refusals.TooMany) buf row effect collects stop count = (
       m,
       (
         right_at a (asked.Commit name root) kinds.Writing refl row.0.0,
         (row.0.1.0, no_name name row.0.1.1.0, subst (λ (k : ℕ). MOST_NAMES ≤ k) (sym names_many) (names_so (λ names. MOST_NAMES ≤ finite.len names) row.0.1.1.1), refl),
       ),
-      as_it_was (record { tables = effect.kept.tables_are; size = effect.disk.later.size_is; count = count; index = effect.kept.index_is; stop = stop }) row.1,
+      as_it_was (left_by effect.kept effect.disk.later.size_is count (same_at collects) stop) row.1,
     )
-    commit_row name root a (Err refusal) buf row effect stop count = absurd row.0.1
-    commit_row name root a (Ok answer) buf row effect stop count = absurd row
+    commit_row name root a (Err refusal) buf row effect collects stop count = absurd row.0.1
+    commit_row name root a (Ok answer) buf row effect collects stop count = absurd row

@@ -1,7 +1,8 @@
 -- A core, on any disk, as the machine of roots: what is so between them, for the steps that change no container.
-use Rattle.std.specs.Prelude.{◌≡◌, ℕ, false, List, [], ◌∷◌, take, Option, Some, None, option_map, Result, Ok, Err}
+use Rattle.std.specs.Prelude.{◌≡◌, ℕ, Bool, false, List, [], ◌∷◌, take, Option, Some, None, option_map, Result, Ok, Err}
 use Rattle.std.specs.FinMap as finite
 use Rattle.container_meta.specs.Places.{PlaceMap}
+use Rattle.container_meta.specs.Spelling.{HeaderValue}
 use Rattle.disk_format.specs.Cells.{Root}
 use Rattle.merkle_file.specs.declared.top.Top.{Top}
 use Rattle.namespace.specs.declared.record.Named.{Named}
@@ -17,7 +18,7 @@ use Rattle.store_model.specs.Slots.{HasFree, IsIndexOf}
 use Rattle.store_state.specs.Tables.{Represents}
 use Rattle.store_core.specs.declared.stop.Stop.{Stop}
 use Rattle.store_core.specs.Core.{CoreStep}
-use Rattle.store_core.specs.State.{CoreState, Event}
+use Rattle.store_core.specs.State.{CoreState, Event, IsRunning}
 use Rattle.store_machine.specs.Asked.{Asked}
 use Rattle.store_machine.specs.Asked as asked
 use Rattle.store_machine.specs.Done.{Done}
@@ -25,6 +26,7 @@ use Rattle.store_machine.specs.Done as done
 use Rattle.store_machine.specs.Legal.{Legal}
 use Rattle.store_machine.specs.Machine.{Machine, Part, Idle, Writing, Reading, RunState, Running, Stopped}
 use Rattle.store_machine.specs.Values.{of_roots}
+use Rattle.core_machine.specs.Collections.{SameCollection}
 
 abbrev pub SamePart : Part Root (List Top) → core_part.Part → Type 0
 SamePart Idle core.Idle = Unit {0}
@@ -42,6 +44,13 @@ SameStop count Running None = Unit {0}
 SameStop count (Stopped other stores) (Some stop) = stop.at ≡ count
 SameStop count state stop = ⊥
 
+-- The map of the index is known, whatever it says; as long as no collection copied since the opening, nothing is forgotten, and it has the
+-- newest copies.
+pub record HasIndex (swept : Bool) (forgotten : List (List ℕ)) (held : List (Option HeaderValue)) (known : Option PlaceMap) : Type 0 where
+  pub places : PlaceMap
+  pub known_is : known ≡ Some places
+  pub newest : swept ≡ false → (forgotten ≡ []) × IsIndexOf held places
+
 -- The tables are those of the machine's store, whatever the index has; names have the roots that its records name.
 pub record IsMachine (m : Machine Root (List Top)) (c : CoreState) : Type 0 where
   pub represents : Represents m.store None c.tables
@@ -49,13 +58,12 @@ pub record IsMachine (m : Machine Root (List Top)) (c : CoreState) : Type 0 wher
   pub free : HasFree m.store.held
   pub names : (name : List ℕ) → finite.get m.now.names name ≡ option_map (λ (n : Named). n.root) (finite.get (names_of m.store) name)
   pub last : m.now.last ≡ last_sequence m.store
+  pub last_id : m.last_id ≡ c.tables.held.last_id
   pub parts : SameParts m.parts c.parts
   pub acknowledged : m.acknowledged ≡ c.acknowledged
-  -- The map of the index is known, whatever it says; as long as no collection copied since the opening, nothing is forgotten, and it has the
-  -- newest copies.
-  pub places : PlaceMap
-  pub known : c.known ≡ Some places
-  pub index : m.swept ≡ false → (m.forgotten ≡ []) × IsIndexOf m.store.held places
+  -- A write that failed may have changed the index before.
+  pub index : m.state ≡ Running → HasIndex m.swept m.forgotten m.store.held c.known
+  pub collection : SameCollection c.tables.held m.swept m.collection c.collection
   pub state : SameStop m.acknowledged m.state c.stop
 
 -- ---- steps and answers
@@ -94,6 +102,7 @@ answered_by (Err refusal) buf = Err refusal
 
 -- All steps but seals and those of a collection: with no premise on the disk, what the core does is what the machine may do.
 abbrev pub CoreRefines : (C : Type 0) → (C → CoreState) → Type 0
-CoreRefines C state = (e : Event) (step : Asked Root) (old new : C) (m : Machine Root (List Top)) → asked_by e.step ≡ Some step → IsMachine m (state old)
+CoreRefines C state = (e : Event) (step : Asked Root) (old new : C) (m : Machine Root (List Top)) → asked_by e.step ≡ Some step
+    → IsRunning (state old) → IsMachine m (state old)
     → CoreStep (state old) e (state new)
     → (n : Machine Root (List Top)) × (Legal of_roots (record { actor = e.actor; asked = step; answer = answered_by e.answer e.buf }) m n × IsMachine n (state new))

@@ -1,12 +1,22 @@
-//! A core as the machine of roots, for the steps of actors that change no container, and deletes.
+//! A core as the machine of roots, for the steps of actors that change no container, deletes, and openings.
 #![tactic(auto)]
 
+ghost use Rattle.core_machine.specs.Openings.{OpenedRefines, UnopenedRefines};
 ghost use Rattle.core_machine.specs.Refines.{CoreRefines};
 
+use dd_disk::Disk;
 use store_core::HasState;
 
 /// On any disk, also one that tells nothing, or lies: what a core does by one of these steps, done or refused, the machine of roots may do,
 /// and they fit one another then as before. The function does nothing.
 pub fn a_core_is_the_machine<C: HasState>()
     ensures { CoreRefines C C.state }
+{}
+
+/// On any disk: what has been opened is a machine of roots, which each machine may come to by an opening; and a core that could not be
+/// opened again is the machine that it was, or is stopped, to which the machine may come as well. The function does nothing.
+pub fn an_opening_is_the_machines<D: Disk, C: HasState>()
+    ensures opened { OpenedRefines D D.view C C.state }
+    ensures reopened { OpenedRefines C (λ c. (C.state c).disk) C C.state }
+    ensures unopened { UnopenedRefines C (λ c. (C.state c).disk) C C.state }
 {}

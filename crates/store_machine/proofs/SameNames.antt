@@ -46,6 +46,16 @@ module _ (K X Y : Type 0) (R : K → K → Ordering) (f : X → Y) where
 abbrev pub order : List ℕ → List ℕ → Ordering
 order = slice_cmp nat_cmp
 
+-- the same names, with changed values
+module _ (X Y : Type 0) (f : X → Y) (m : finite.FinMap order X) where
+  pub mapped : finite.FinMap order Y
+  mapped = finite.from_sorted (changed (List ℕ) X Y order f (finite.entries m))
+
+  pub get_mapped : (q : List ℕ) → finite.get mapped q ≡ option_map f (finite.get m q)
+  get_mapped q =
+      finite.get-from_sorted order (changed (List ℕ) X Y order f (finite.entries m)) q (right (List ℕ) X Y order f m)
+      ∙ changed_find (List ℕ) X Y order f q (finite.entries m) ∙ ap (option_map f) (sym (finite.get-entries m q))
+
 -- of maps by names
 module _ (X Y : Type 0) (f : X → Y) (a : finite.FinMap order X) (b : finite.FinMap order Y) (same : (q : List ℕ) → finite.get b q ≡ option_map f (finite.get a q)) where
   pub entries_changed : finite.entries b ≡ changed (List ℕ) X Y order f (finite.entries a)

@@ -1,0 +1,198 @@
+-- What has been opened on any disk is a machine of roots, and what could not be opened is the one that it was, or is stopped.
+use Rattle.std.proofs.Common.{◌≡◌, inl, inr, ℕ, zero, suc, false, List, [], ◌++◌, replicate, Option, Some, None, Ok, refl, sym, ◌∙◌, ap, subst, arith}
+use Rattle.std.specs.FinMap as finite
+use Rattle.actor_parts.specs.declared.actor.TheConstants.{ACTORS}
+use Rattle.actor_parts.specs.declared.part.Part as core_part
+use Rattle.actor_parts.specs.declared.part.Part.TheVariants as core
+use Rattle.container_meta.specs.Places.{PlaceMap}
+use Rattle.disk_format.specs.Cells.{Root}
+use Rattle.dd_disk.specs.Ending.{Reads, ending_of}
+use Rattle.dd_disk.specs.Shows.{Shows}
+use Rattle.dd_disk.specs.View.{DiskView}
+use Rattle.merkle_file.specs.declared.top.Top.{Top}
+use Rattle.namespace.specs.declared.record.Named.{Named}
+use Rattle.recovery.specs.Opening.{IsOpenRefusal}
+use Rattle.recovery.specs.Room.{RoomUnmade}
+use Rattle.refusals.specs.declared.refusal.Refusal.{Refusal}
+use Rattle.refusals.specs.declared.refusal.Refusal.TheVariants as refusals
+use Rattle.store_model.specs.Image.{IsValidFor, Store, last_sequence, names_of}
+use Rattle.store_model.specs.Slots.{IsIndexOf, last_id}
+use Rattle.store_state.specs.Tables.{Represents}
+use Rattle.store_core.specs.Opening.{IsKept, IsNew, IsReadFrom, OpensNone, StopsUnopened, WritesUnread}
+use Rattle.store_core.specs.State.{CoreState, IsRunning}
+use Rattle.store_state.specs.Refused.{blames}
+use Rattle.store_state.specs.declared.tables.Tables.{Tables}
+use Rattle.store_machine.specs.Done as done
+use Rattle.store_machine.specs.Machine.{Found, Machine, Idle, RunState, Running, Stopped, all_idle}
+use Rattle.store_machine.specs.Opening.{MayRefuseOpening, freeing}
+use Rattle.store_machine.specs.Values.{of_roots}
+use Rattle.store_machine.proofs.SameNames.{get_mapped, len_changed, mapped}
+use Rattle.core_machine.specs.Openings.{OpenedRefines, Reopens, UnopenedRefines}
+use Rattle.core_machine.specs.Collections.{SameCollection}
+use Rattle.core_machine.specs.Refines.{IsMachine, SameParts, SameStop}
+
+abbrev M : Type 0
+M = Machine Root (List Top)
+
+all_same : (count : ℕ) → SameParts (replicate count Idle) (replicate count core.Idle)
+all_same zero = tt
+all_same (suc count) = (tt, all_same count)
+
+-- ---- a store that was read
+
+root_in : Named → Root
+root_in n = n.root
+
+found_in : Store → Found Root
+found_in store = record { names = mapped Named Root root_in (names_of store); last = last_sequence store }
+
+-- the machine of a store, at rest
+at_rest : Store → M
+at_rest store = record {
+  now = found_in store;
+  parts = all_idle;
+  store = store;
+  last_id = last_id store.held;
+  forgotten = [];
+  swept = false;
+  collection = None;
+  acknowledged = 0;
+  state = Running;
+}
+
+-- the store that a core has, whatever its index
+unindexed : {store : Store} {known : Option PlaceMap} {c : CoreState} → Represents store known c.tables → Represents store None c.tables
+unindexed r = record { slots_are = r.slots_are; names_are = r.names_are; slots_hold = r.slots_hold; index_is_newest = tt }
+
+module _ (before : DiskView) (c : CoreState) (read : IsReadFrom before c) (runs : IsRunning c) where
+  new : IsNew (Shows before c.disk) before.size c
+  new = read.opened
+
+  is_index : (places : PlaceMap) → c.known ≡ Some places → IsIndexOf new.store.held places
+  is_index places is = new.whole places is
+
+  rests : IsMachine (at_rest new.store) c
+  rests = record {
+    represents = unindexed new.represents;
+    valid = subst (λ (size : ℕ). IsValidFor size new.store) (sym read.reads.only.later.size_is) new.valid;
+    free = omega (arith, new.reserve);
+    names = get_mapped Named Root root_in (names_of new.store);
+    last = refl;
+    last_id = sym new.last_id_is;
+    parts = subst (SameParts all_idle) (sym new.parts_are) (all_same ACTORS);
+    acknowledged = sym new.counted;
+    index = λ _. record { places = new.told.0; known_is = new.told.1; newest = λ _. (refl, is_index new.told.0 new.told.1) };
+    collection = subst (SameCollection c.tables.held false None) (sym new.collection_is) tt;
+    state = subst (SameStop 0 Running) (sym new.stop_is) tt;
+  }
+
+  as_many : finite.len c.tables.names ≡ finite.len (found_in new.store).names
+  as_many =
+      ap finite.len new.represents.names_are.names_are
+      ∙ sym (len_changed Named Root root_in (names_of new.store) (found_in new.store).names (get_mapped Named Root root_in (names_of new.store)))
+
+  comes : (actor : ℕ) (m : M) → Reopens actor (Ok (done.Reopened (finite.len c.tables.names))) m (at_rest new.store)
+  comes actor m = record {
+    found = found_in new.store;
+    may = λ known. absurd known;
+    files_are = as_many;
+    before = new.store;
+    same = λ known. absurd known;
+    freed = [];
+    frees = λ known. absurd known;
+    reserve = new.reserve;
+    others = refl;
+  }
+
+module _ (D : Type 0) (view : D → DiskView) (C : Type 0) (state : C → CoreState) where
+  pub opened_refines : OpenedRefines D view C state
+  opened_refines actor before c (inl read) runs = (at_rest read.opened.store, (rests before (state c) read runs, comes before (state c) read runs actor))
+  opened_refines actor before c (inr (mid, (made, read))) runs =
+      (at_rest read.opened.store, (rests (view mid) (state c) read runs, comes (view mid) (state c) read runs actor))
+
+-- ---- one that was not
+
+by_open : (shown : (List ℕ → Type 0) → Type 0) (size : ℕ) (refusal : Refusal) → IsOpenRefusal shown size refusal → MayRefuseOpening of_roots refusal
+by_open shown size refusals.Memory is = tt
+by_open shown size refusals.DiskRead is = tt
+by_open shown size refusals.DiskWrite is = tt
+by_open shown size (refusals.WrongSize want got) is = λ known. known
+by_open shown size (refusals.NotAStore gate magic) is = λ known. known
+by_open shown size (refusals.Version n) is = λ known. known
+by_open shown size (refusals.Damaged at why) is = λ known. known
+by_open shown size (refusals.Full free) is = λ known. known
+by_open shown size refusal is = absurd is
+
+by_room : (refusal : Refusal) (old new : DiskView) → RoomUnmade refusal old new → MayRefuseOpening of_roots refusal
+by_room refusals.Memory old new un = tt
+by_room refusals.DiskRead old new un = tt
+by_room refusals.DiskWrite old new un = tt
+by_room (refusals.Corrupt slot offset count want got) old new un = λ known. known
+by_room (refusals.Missing key) old new un = λ known. known
+by_room (refusals.Damaged at why) old new un = λ known. known
+by_room refusal old new un = absurd un.cause
+
+module _ (D : Type 0) (view : D → DiskView) where
+  may_refuse : (refusal : Refusal) (old new : DiskView) → OpensNone D view refusal old new → MayRefuseOpening of_roots refusal
+  may_refuse refusal old new (inl (not, full)) = by_open (Shows old new) old.size refusal not.cause
+  may_refuse refusal old new (inr (inl (mid, (made, not)))) = by_open (Shows (view mid) new) (view mid).size refusal not.cause
+  may_refuse refusal old new (inr (inr un)) = by_room refusal old new un
+
+  same_size : (refusal : Refusal) (old new : DiskView) → WritesUnread D view refusal old new → new.size ≡ old.size
+  same_size refusal old new (inl (mid, (made, not))) = not.reads.only.later.size_is ∙ made.later.size_is
+  same_size refusal old new (inr (failed, un)) = un.later.size_is
+
+  -- it is stopped, whatever it was
+  never_runs : (stores : List Store) (state : RunState Root) → freeing of_roots stores state ≡ Running → ⊥
+  never_runs stores Running is = absurd (let wrong : Stopped None stores ≡ Running = is in cc)
+  never_runs stores (Stopped other before) is = absurd (let wrong : Stopped other (before ++ stores) ≡ Running = is in cc)
+
+  stops_so : (count at : ℕ) (stores : List Store) (refusal : Refusal) (state : RunState Root) → at ≡ count
+      → SameStop count (freeing of_roots stores state) (Some (record { refusal = refusal; at = at }))
+  stops_so count at stores refusal Running is = is
+  stops_so count at stores refusal (Stopped other before) is = is
+
+  module _ (refusal : Refusal) (old new : CoreState) (m : M) (at : IsMachine m old) where
+    as_it_was : IsKept old new → Reads (ending_of (blames refusal)) old.disk new.disk → IsMachine m new
+    as_it_was kept reads = record {
+      represents = subst (Represents m.store None) (sym kept.tables_are) at.represents;
+      valid = subst (λ (size : ℕ). IsValidFor size m.store) (sym reads.only.later.size_is) at.valid;
+      free = at.free;
+      names = at.names;
+      last = at.last;
+      last_id = at.last_id ∙ ap (λ (t : Tables). t.held.last_id) (sym kept.tables_are);
+      parts = subst (SameParts m.parts) (sym kept.parts_are) at.parts;
+      acknowledged = at.acknowledged ∙ sym kept.counted;
+      index = λ running. let own = at.index running in record { places = own.places; known_is = kept.index_is ∙ own.known_is; newest = own.newest };
+      collection = subst (λ (t : Tables). SameCollection t.held m.swept m.collection new.collection) (sym kept.tables_are)
+          (subst (SameCollection old.tables.held m.swept m.collection) (sym kept.collection_is) at.collection);
+      state = subst (SameStop m.acknowledged m.state) (sym kept.stop_is) at.state;
+    }
+
+    stopped_so : StopsUnopened D view refusal old new → IsMachine (record m { state = freeing of_roots [] m.state }) new
+    stopped_so stops = record {
+      represents = subst (Represents m.store None) (sym stops.tables_are) at.represents;
+      valid = subst (λ (size : ℕ). IsValidFor size m.store) (sym (same_size refusal old.disk new.disk stops.wrote)) at.valid;
+      free = at.free;
+      names = at.names;
+      last = at.last;
+      last_id = at.last_id ∙ ap (λ (t : Tables). t.held.last_id) (sym stops.tables_are);
+      parts = subst (SameParts m.parts) (sym stops.parts_are) at.parts;
+      acknowledged = at.acknowledged ∙ sym stops.counted;
+      index = λ running. absurd (never_runs [] m.state running);
+      collection = subst (λ (t : Tables). SameCollection t.held m.swept m.collection new.collection) (sym stops.tables_are)
+          (subst (SameCollection old.tables.held m.swept m.collection) (sym stops.collection_is) at.collection);
+      state = subst (SameStop m.acknowledged (freeing of_roots [] m.state)) (sym stops.stop_is) (stops_so m.acknowledged old.acknowledged [] refusal m.state (sym at.acknowledged));
+    }
+
+module _ (D : Type 0) (view : D → DiskView) (C : Type 0) (state : C → CoreState) where
+  pub unopened_refines : UnopenedRefines D view C state
+  unopened_refines actor refusal old new m at none (inl (kept, reads)) =
+      (m, ((may_refuse D view refusal (state old).disk (state new).disk none, inl refl), as_it_was D view refusal (state old) (state new) m at kept reads))
+  unopened_refines actor refusal old new m at none (inr stops) = (
+    record m { state = freeing of_roots [] m.state },
+    (
+      (may_refuse D view refusal (state old).disk (state new).disk none, inr ([], (refl, λ known. absurd known))),
+      stopped_so D view refusal (state old) (state new) m at stops,
+    ),
+  )

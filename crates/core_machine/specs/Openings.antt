@@ -1,0 +1,32 @@
+-- A core that is opened, at first or again, on any disk, as the machine of roots.
+use Rattle.std.specs.Prelude.{◌≡◌, ℕ, List, Result, Ok, Err}
+use Rattle.std.specs.FinMap as finite
+use Rattle.disk_format.specs.Cells.{Root}
+use Rattle.dd_disk.specs.View.{DiskView}
+use Rattle.merkle_file.specs.declared.top.Top.{Top}
+use Rattle.refusals.specs.declared.refusal.Refusal.{Refusal}
+use Rattle.store_core.specs.Opening.{OpensCore, OpensNone, StaysOrStops}
+use Rattle.store_core.specs.State.{CoreState, IsRunning}
+use Rattle.store_machine.specs.Asked as asked
+use Rattle.store_machine.specs.Done.{Done}
+use Rattle.store_machine.specs.Done as done
+use Rattle.store_machine.specs.Legal.{Legal}
+use Rattle.store_machine.specs.Machine.{Machine}
+use Rattle.store_machine.specs.Values.{of_roots}
+use Rattle.core_machine.specs.Refines.{IsMachine}
+
+-- the machine may open the store so
+abbrev pub Reopens : ℕ → Result Done Refusal → Machine Root (List Top) → Machine Root (List Top) → Type 0
+Reopens actor answer m n = Legal of_roots (record { actor = actor; asked = asked.Reopen; answer = answer }) m n
+
+-- What has been opened, over anything that has a disk, is a machine, which each machine may come to by an opening; it has so many names.
+abbrev pub OpenedRefines : (D : Type 0) → (D → DiskView) → (C : Type 0) → (C → CoreState) → Type 0
+OpenedRefines D view C state = (actor : ℕ) (before : DiskView) (new : C) → OpensCore D view before (state new) → IsRunning (state new)
+    → (n : Machine Root (List Top)) × (IsMachine n (state new)
+    × ((m : Machine Root (List Top)) → Reopens actor (Ok (done.Reopened (finite.len (state new).tables.names))) m n))
+
+-- And what could not be opened again is the machine that it was, or is stopped: containers may have been given back.
+abbrev pub UnopenedRefines : (D : Type 0) → (D → DiskView) → (C : Type 0) → (C → CoreState) → Type 0
+UnopenedRefines D view C state = (actor : ℕ) (refusal : Refusal) (old new : C) (m : Machine Root (List Top)) → IsMachine m (state old)
+    → OpensNone D view refusal (state old).disk (state new).disk → StaysOrStops D view refusal (state old) (state new)
+    → (n : Machine Root (List Top)) × (Reopens actor (Err refusal) m n × IsMachine n (state new))

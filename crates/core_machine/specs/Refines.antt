@@ -1,9 +1,10 @@
 -- A core, on any disk, as the machine of roots: what is so between them, for the steps that change no container.
-use Rattle.std.specs.Prelude.{◌≡◌, ℕ, Bool, false, List, [], ◌∷◌, take, Option, Some, None, option_map, Result, Ok, Err}
+use Rattle.std.specs.Prelude.{◌≡◌, ◌≤◌, ℕ, Bool, false, List, [], ◌∷◌, take, Option, Some, None, option_map, Result, Ok, Err}
 use Rattle.std.specs.FinMap as finite
 use Rattle.container_meta.specs.Places.{PlaceMap}
 use Rattle.container_meta.specs.Spelling.{HeaderValue}
 use Rattle.disk_format.specs.Cells.{Root}
+use Rattle.disk_format.specs.declared.numbers.TheConstants.{LAST_ID}
 use Rattle.merkle_file.specs.declared.top.Top.{Top}
 use Rattle.namespace.specs.declared.record.Named.{Named}
 use Rattle.actor_parts.specs.declared.part.Part as core_part
@@ -59,6 +60,7 @@ pub record IsMachine (m : Machine Root (List Top)) (c : CoreState) : Type 0 wher
   pub names : (name : List ℕ) → finite.get m.now.names name ≡ option_map (λ (n : Named). n.root) (finite.get (names_of m.store) name)
   pub last : m.now.last ≡ last_sequence m.store
   pub last_id : m.last_id ≡ c.tables.held.last_id
+  pub last_within : m.last_id ≤ LAST_ID
   pub parts : SameParts m.parts c.parts
   pub acknowledged : m.acknowledged ≡ c.acknowledged
   -- A write that failed may have changed the index before.

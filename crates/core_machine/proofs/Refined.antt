@@ -21,11 +21,12 @@ use Rattle.store_machine.specs.Legal.{Answers, ByState, LegalBy}
 use Rattle.store_machine.specs.Machine.{RunState, Running, Stopped}
 use Rattle.store_machine.specs.Values.{IsStuck, of_roots}
 use Rattle.store_state.specs.declared.tables.Tables.{Tables}
-use Rattle.store_core.specs.Collecting.{Collects, IsKeptKey}
+use Rattle.store_core.specs.Collecting.{Collects, IsKeptKey, StartRow}
 use Rattle.core_machine.specs.Collections.{SameCollection}
 use Rattle.core_machine.specs.Refines.{CoreRefines, HasIndex, IsMachine, SameParts, SameStop, asked_by, answered_by}
 use Rattle.store_model.specs.Image.{IsValidFor}
 use Rattle.store_state.specs.Tables.{Represents}
+use Rattle.core_machine.proofs.Started.{start_row}
 use Rattle.core_machine.proofs.Rows.{M, abort_row, begin_row, claim_row, commit_row, list_row, stat_row, delete_row, end_row, left_by, open_row, read_row, same_at, same_marks, stays_so}
 
 no_write : (after : List Top) → IsStuck after refusals.DiskWrite → ⊥
@@ -80,6 +81,13 @@ module _ (c d : CoreState) where
   claim_quiet told seg a (Err refusals.DiskWrite) row stop count = absurd row.0.1.refused.2
   claim_quiet told seg a (Err refusal) row stop count = (stop, count)
   claim_quiet told seg a (Ok answer) row stop count = absurd row
+
+  start_quiet : (percent : ℕ) (answer : Result Answer Refusal) → StartRow percent answer c d → Quiet (steps.GcStart percent) answer
+  start_quiet percent (Ok (answers.Started snapshot)) row stop count = (stop, count)
+  start_quiet percent (Err (refusals.Collecting phase)) row stop count = (stop, count)
+  start_quiet percent (Err refusals.DiskWrite) row stop count = absurd row.cause.cause
+  start_quiet percent (Err refusal) row stop count = (stop, count)
+  start_quiet percent (Ok answer) row stop count = absurd row
 
   list_quiet : (answer : Result Answer Refusal) → ListRow answer c d → Quiet steps.ListNames answer
   list_quiet (Ok (answers.Listed files)) row stop count = (stop, count)
@@ -144,6 +152,9 @@ module _ (c d : CoreState) (m : M) (at : IsMachine m c) (runs : m.state ≡ Runn
       let quiet = stat_quiet c d at answer made.row stop count in
       subst (Left answer) (some_is asked.Stat step is) (stat_row c m at runs d a answer buf made.row
       (left_by c m at runs d made.effect.tables made.effect.disk.only.later.size_is quiet.1 (same_at c m at runs d collects) quiet.0))
+  made_by (steps.GcStart percent) step answer is made collects stop count =
+      let quiet = start_quiet c d percent answer made.row stop count in
+      subst (Left answer) (some_is (asked.GcStart percent) step is) (start_row c m at runs d percent a answer buf made.row made.effect under quiet.0 quiet.1)
   made_by s step answer is made collects stop count = absurd (let wrong : None ≡ Some step = is in cc)
 
 -- none of these is an opening
@@ -174,6 +185,7 @@ by_state s asked.Reopen a told m n is by = absurd (no_opening s is)
     no_opening (steps.Claim seg) is = absurd (let wrong : asked.Claim seg ≡ asked.Reopen = some_is (asked.Claim seg) asked.Reopen is in cc)
     no_opening (steps.Commit name root) is = absurd (let wrong : asked.Commit name root ≡ asked.Reopen = some_is (asked.Commit name root) asked.Reopen is in cc)
     no_opening steps.ListNames is = absurd (let wrong : asked.ListNames ≡ asked.Reopen = some_is asked.ListNames asked.Reopen is in cc)
+    no_opening (steps.GcStart percent) is = absurd (let wrong : asked.GcStart percent ≡ asked.Reopen = some_is (asked.GcStart percent) asked.Reopen is in cc)
     no_opening steps.Stat is = absurd (let wrong : asked.Stat ≡ asked.Reopen = some_is asked.Stat asked.Reopen is in cc)
     no_opening s is = absurd (let wrong : None ≡ Some asked.Reopen = is in cc)
 

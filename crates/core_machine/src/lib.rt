@@ -1,4 +1,4 @@
-//! A core as the machine of roots, for the steps of actors that change no container, deletes, and openings.
+//! A core as the machine of roots, for the steps of actors that change no container, deletes, a collection's beginning, and openings.
 #![tactic(auto)]
 
 ghost use Rattle.core_machine.specs.Openings.{OpenedRefines, UnopenedRefines};

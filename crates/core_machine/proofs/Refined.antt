@@ -26,6 +26,7 @@ use Rattle.core_machine.specs.Collections.{SameCollection}
 use Rattle.core_machine.specs.Refines.{CoreRefines, HasIndex, IsMachine, SameParts, SameStop, asked_by, answered_by}
 use Rattle.store_model.specs.Image.{IsValidFor}
 use Rattle.store_state.specs.Tables.{Represents}
+use Rattle.core_machine.proofs.Collected.{gc_row}
 use Rattle.core_machine.proofs.Started.{start_row}
 use Rattle.core_machine.proofs.Rows.{M, abort_row, begin_row, claim_row, commit_row, list_row, stat_row, delete_row, end_row, left_by, open_row, read_row, same_at, same_marks, stays_so}
 
@@ -155,6 +156,8 @@ module _ (c d : CoreState) (m : M) (at : IsMachine m c) (runs : m.state ≡ Runn
   made_by (steps.GcStart percent) step answer is made collects stop count =
       let quiet = start_quiet c d percent answer made.row stop count in
       subst (Left answer) (some_is (asked.GcStart percent) step is) (start_row c m at runs d percent a answer buf made.row made.effect under quiet.0 quiet.1)
+  made_by steps.GcStep step answer is made collects stop count =
+      subst (Left answer) (some_is asked.GcStep step is) (gc_row c m at runs d a answer buf made.row made.effect under stop count)
   made_by s step answer is made collects stop count = absurd (let wrong : None ≡ Some step = is in cc)
 
 -- none of these is an opening
@@ -186,6 +189,7 @@ by_state s asked.Reopen a told m n is by = absurd (no_opening s is)
     no_opening (steps.Commit name root) is = absurd (let wrong : asked.Commit name root ≡ asked.Reopen = some_is (asked.Commit name root) asked.Reopen is in cc)
     no_opening steps.ListNames is = absurd (let wrong : asked.ListNames ≡ asked.Reopen = some_is asked.ListNames asked.Reopen is in cc)
     no_opening (steps.GcStart percent) is = absurd (let wrong : asked.GcStart percent ≡ asked.Reopen = some_is (asked.GcStart percent) asked.Reopen is in cc)
+    no_opening steps.GcStep is = absurd (let wrong : asked.GcStep ≡ asked.Reopen = some_is asked.GcStep asked.Reopen is in cc)
     no_opening steps.Stat is = absurd (let wrong : asked.Stat ≡ asked.Reopen = some_is asked.Stat asked.Reopen is in cc)
     no_opening s is = absurd (let wrong : None ≡ Some asked.Reopen = is in cc)
 

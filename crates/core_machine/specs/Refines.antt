@@ -1,4 +1,4 @@
--- A core, on any disk, as the machine of roots: what is so between them, for all steps but seals and those of a collection that runs.
+-- A core, on any disk, as the machine of roots: what is so between them, for all steps but seals.
 use Rattle.std.specs.Prelude.{◌≡◌, ◌≤◌, ℕ, Bool, false, List, [], ◌∷◌, take, Option, Some, None, option_map, Result, Ok, Err}
 use Rattle.std.specs.FinMap as finite
 use Rattle.container_meta.specs.Places.{PlaceMap}
@@ -81,6 +81,7 @@ asked_by (steps.Claim seg) = Some (asked.Claim seg)
 asked_by (steps.Commit name root) = Some (asked.Commit name root)
 asked_by steps.ListNames = Some asked.ListNames
 asked_by (steps.GcStart percent) = Some (asked.GcStart percent)
+asked_by steps.GcStep = Some asked.GcStep
 asked_by steps.Stat = Some asked.Stat
 asked_by step = None
 
@@ -103,7 +104,7 @@ answered_by (Ok (answers.Done freed copied)) buf = Ok (done.Collected freed copi
 answered_by (Ok (answers.Stat files segments bytes used free)) buf = Ok (done.Counted files segments bytes used free)
 answered_by (Err refusal) buf = Err refusal
 
--- All steps but seals and those of a collection that runs: with no premise on the disk, what the core does is what the machine may do.
+-- All steps but seals: with no premise on the disk, what the core does is what the machine may do.
 abbrev pub CoreRefines : (C : Type 0) → (C → CoreState) → Type 0
 CoreRefines C state = (e : Event) (step : Asked Root) (old new : C) (m : Machine Root (List Top)) → asked_by e.step ≡ Some step
     → IsRunning (state old) → IsMachine m (state old)

@@ -1,5 +1,5 @@
 -- A step of a collection, made or refused, or its end, as the machine of roots has it.
-use Rattle.std.proofs.Common.{◌≡◌, ◌++◌, ℕ, Bool, true, false, List, [], Option, Some, None, option_map, Result, Ok, Err, refl, sym, ◌∙◌, ap, subst}
+use Rattle.std.proofs.Common.{◌≡◌, ◌++◌, ℕ, true, false, List, Some, None, option_map, Result, Ok, Err, refl, sym, ◌∙◌, ap, subst}
 use Rattle.std.specs.FinMap as finite
 use Rattle.disk_format.specs.Cells.{Root}
 use Rattle.actor_parts.specs.declared.step.Answer.{Answer}
@@ -7,7 +7,6 @@ use Rattle.actor_parts.specs.declared.step.Answer.TheVariants as answers
 use Rattle.actor_parts.specs.StepValue as steps
 use Rattle.gc_sweep.specs.declared.sweep.Next.{Next}
 use Rattle.gc_sweep.specs.declared.sweep.Next.TheVariants as nexts
-use Rattle.gc_steps.specs.declared.collection.Collection.{Collection as CoreCollection}
 use Rattle.gc_steps.specs.declared.collection.Stage.{Stage as CoreStage}
 use Rattle.gc_steps.specs.declared.collection.Stage.TheVariants as core
 use Rattle.gc_steps.specs.declared.phase.StepDone.TheVariants.{Did, Done}
@@ -33,14 +32,11 @@ use Rattle.store_machine.specs.Values.{of_roots}
 use Rattle.core_machine.specs.Collections.{HasCopied, SameCollection}
 use Rattle.core_machine.specs.Refines.{HasIndex, IsMachine, SameParts, SameStop, answered_by}
 use Rattle.core_machine.proofs.Phases.{Runs, none_runs, one_runs, phase_so}
-use Rattle.core_machine.proofs.Rows.{M, Rested, as_it_was, goes_on, left_by}
+use Rattle.core_machine.proofs.Rows.{M, as_it_was, goes_on}
 use Rattle.core_machine.proofs.Stepped.{choose_step, mark_step, record_step}
-use Rattle.core_machine.proofs.Sweeps.{ends_so, sweeps_so}
+use Rattle.core_machine.proofs.Sweeps.{did_same, ends_so, sweeps_so}
 use Rattle.core_machine.proofs.SweptOn.{Swept, at_sweep, goes_on as swept_on, went_to}
 use Rattle.core_machine.proofs.Unmade.{row_refused}
-
-did_same : (a b : Phase) → Did a ≡ Did b → a ≡ b
-did_same a b is = cc
 
 module _ (c : CoreState) (m : M) (at : IsMachine m c) (runs : m.state ≡ Running) (d : CoreState) (a : ℕ) where
   abbrev t : SlotTable
@@ -54,8 +50,8 @@ module _ (c : CoreState) (m : M) (at : IsMachine m c) (runs : m.state ≡ Runnin
 
   -- ---- a step was made
 
-  module _ (phase : Phase) (g : collecting.GoesOn phase c d) (size : d.disk.size ≡ c.disk.size) (parts : d.parts ≡ c.parts) (count : d.acknowledged ≡ c.acknowledged) (stop : d.stop ≡ None)
-      (under : IsUnderWay t g.before) (r : Runs t m.swept m.collection g.before) where
+  module _ (phase : Phase) (g : collecting.GoesOn phase c d) (size : d.disk.size ≡ c.disk.size) (parts : d.parts ≡ c.parts) (count : d.acknowledged ≡ c.acknowledged)
+      (stop : d.stop ≡ None) (under : IsUnderWay t g.before) (r : Runs t m.swept m.collection g.before) where
     abbrev Goes : Phase → Type 0
     Goes p = (n : M) × GoesOn of_roots p m n × IsMachine n d
 
@@ -88,13 +84,15 @@ module _ (c : CoreState) (m : M) (at : IsMachine m c) (runs : m.state ≡ Runnin
         parts = subst (SameParts m.parts) (sym parts) at.parts;
         acknowledged = at.acknowledged ∙ sym count;
         index = λ running. record { places = tells.0; known_is = tells.1; newest = λ none. absurd (let wrong : true ≡ false = sym copied ∙ none in cc) };
-        collection = subst (SameCollection d.tables.held (swept_by phase m.swept) (Some (record r.c { stage = s.went.stage; recorded = s.went.recorded; changes = r.c.changes ++ s.went.changes })))
-            (sym g.runs) s.run;
+        collection = subst
+            (SameCollection d.tables.held (swept_by phase m.swept)
+            (Some (record r.c { stage = s.went.stage; recorded = s.went.recorded; changes = r.c.changes ++ s.went.changes }))) (sym g.runs) s.run;
         state = subst (λ (s : RunState Root). SameStop m.acknowledged s d.stop) (sym runs) (subst (SameStop m.acknowledged Running) (sym stop) tt);
       }
 
       by_stage : (stage : CoreStage) → g.before.stage ≡ stage → answer_at stage g.before.sweep.next g.before.sweep.freed g.before.sweep.copied ≡ Did phase
-          → StepsTo stage g.before.sweep.next (at_moment c g.before) (at_moment d g.after) → TablesAfter stage g.before.sweep.next (at_moment c g.before) (at_moment d g.after) → Goes phase
+          → StepsTo stage g.before.sweep.next (at_moment c g.before) (at_moment d g.after)
+          → TablesAfter stage g.before.sweep.next (at_moment c g.before) (at_moment d g.after) → Goes phase
       by_stage (core.Mark level slot) is did made tables =
           subst Goes (did_same phases.Mark phase did) (mark_step c m at runs d tables size parts count made.1 stop g.before g.after r under g.runs level slot is made.0)
       by_stage (core.Filter slot) is did made tables =
@@ -118,7 +116,8 @@ module _ (c : CoreState) (m : M) (at : IsMachine m c) (runs : m.state ≡ Runnin
 
   -- ---- each answer
 
-  pub gc_row : (answer : Result Answer Refusal) (buf : List ℕ) → GcRow answer c d → GcEffect answer c d → IsUnderWayIn t c.collection → StopsAfter steps.GcStep answer c.acknowledged d.stop
+  pub gc_row : (answer : Result Answer Refusal) (buf : List ℕ) → GcRow answer c d → GcEffect answer c d → IsUnderWayIn t c.collection
+      → StopsAfter steps.GcStep answer c.acknowledged d.stop
       → d.acknowledged ≡ counted answer c.acknowledged → Left answer buf
   gc_row (Ok (answers.Did phase)) buf (g, parts) effect under stop count =
       let own : HasIndex m.swept m.forgotten m.store.held c.known = at.index runs in
@@ -145,6 +144,7 @@ module _ (c : CoreState) (m : M) (at : IsMachine m c) (runs : m.state ≡ Runnin
         }) parts,
       )
   gc_row (Err refusal) buf (un, parts) effect under stop count =
-      row_refused c m at runs d a effect.later.size_is parts un.tables_are count un.before un.after un.ran (one_runs t m.swept m.collection c.collection un.before at.collection un.ran)
+      row_refused c m at runs d a effect.later.size_is parts un.tables_are count un.before un.after un.ran
+      (one_runs t m.swept m.collection c.collection un.before at.collection un.ran)
       (subst (IsUnderWayIn t) un.ran under) un.runs refusal un.cause un.kept stop
   gc_row (Ok answer) buf row effect under stop count = absurd row

@@ -11,7 +11,6 @@ use Rattle.copy_forward.specs.declared.plan.Plan.{Plan}
 use Rattle.copy_forward.specs.Planning.{IsPlan, Planned, Source, Takes, TakesOne, planned, source_of}
 use Rattle.dd_disk.specs.Shows.{Shows}
 use Rattle.disk_format.specs.Cells.{Root}
-use Rattle.merkle_file.specs.declared.top.Top.{Top}
 use Rattle.refusals.specs.declared.refusal.Phase.{Phase}
 use Rattle.refusals.specs.declared.refusal.Phase.TheVariants as phases
 use Rattle.store_model.specs.Image.{IsValidFor}
@@ -31,14 +30,12 @@ use Rattle.gc_steps.specs.declared.collection.Stage.TheVariants as stages
 use Rattle.gc_steps.specs.Stepping.{Moment, SweepsOn, phase_at}
 use Rattle.gc_steps.specs.UnderWay.{IsUnderWay}
 use Rattle.store_machine.specs.Collecting.{Copies, Went, freed_in, keys_written, next_by, sources_in}
-use Rattle.store_machine.specs.Machine.{Collection, Machine, Sweeping, Sweep}
+use Rattle.store_machine.specs.Machine.{Collection, Sweeping, Sweep}
 use Rattle.store_machine.specs.Values.{of_roots}
 use Rattle.core_machine.specs.Collections.{SameRun, SameSweep, ids_at}
 use Rattle.core_machine.proofs.NextSteps.{has_each, next_so}
 use Rattle.core_machine.proofs.SweptOn.{AtSweep, Swept, at_sweep, copied_so, entry_next, is_sweeping, run_on, source_next}
-
-abbrev M : Type 0
-M = Machine Root (List Top)
+use Rattle.core_machine.proofs.Rows.{M}
 
 -- ---- what is filled
 

@@ -4,7 +4,6 @@ use Rattle.container_meta.specs.declared.kind.Kind.{Kind}
 use Rattle.container_meta.specs.Segments.{Segment, keys_of}
 use Rattle.container_meta.specs.Spelling.{HeaderValue, header_of}
 use Rattle.disk_format.specs.Cells.{Root}
-use Rattle.merkle_file.specs.declared.top.Top.{Top}
 use Rattle.refusals.specs.declared.refusal.Phase.{Phase}
 use Rattle.refusals.specs.declared.refusal.Phase.TheVariants as phases
 use Rattle.store_model.specs.Image.{IsValidFor, Store}
@@ -21,14 +20,12 @@ use Rattle.gc_steps.specs.declared.collection.Stage.TheVariants as stages
 use Rattle.gc_steps.specs.Stepping.{Flushes as CoreFlushes, Moment, phase_at}
 use Rattle.gc_steps.specs.UnderWay.{IsUnderWay}
 use Rattle.store_machine.specs.Collecting.{keys_written, next_of, sources_in}
-use Rattle.store_machine.specs.Machine.{Collection, Machine, Sweeping, Sweep}
+use Rattle.store_machine.specs.Machine.{Collection, Sweeping, Sweep}
 use Rattle.store_machine.proofs.Swept.{freed_more, written_more}
 use Rattle.core_machine.specs.Collections.{HasCopied, SameRun, SameSweep, ids_at}
 use Rattle.core_machine.proofs.CopiedSources.{no_keys}
 use Rattle.core_machine.proofs.SweptOn.{AtSweep, Swept, at_sweep, is_sweeping, next_ready, others_stay, run_on, waiting_stay}
-
-abbrev M : Type 0
-M = Machine Root (List Top)
+use Rattle.core_machine.proofs.Rows.{M}
 
 module _ (m : M) (c : Collection Root) (source entry : ℕ) (old new : Moment) (represents : Represents m.store None old.tables) (valid : IsValidFor old.disk.size m.store)
     (free : HasFree m.store.held) (last : m.last_id ≡ old.tables.held.last_id) (under : IsUnderWay old.tables.held old.collection)

@@ -7,7 +7,6 @@ use Rattle.std.proofs.lemmas.List.{get_or-set_other}
 use Rattle.std.proofs.lemmas.List.Elements.{Contains-append_right}
 use Rattle.container_meta.specs.Segments.{keys_of}
 use Rattle.disk_format.specs.Cells.{Root}
-use Rattle.merkle_file.specs.declared.top.Top.{Top}
 use Rattle.refusals.specs.declared.refusal.Phase.{Phase}
 use Rattle.refusals.specs.declared.refusal.Phase.TheVariants as phases
 use Rattle.store_model.specs.Freeing.{with_freed}
@@ -28,14 +27,12 @@ use Rattle.gc_steps.specs.declared.collection.Stage.TheVariants as stages
 use Rattle.gc_steps.specs.Stepping.{Moment, SweepsOn, phase_at}
 use Rattle.gc_steps.specs.UnderWay.{IsUnderWay}
 use Rattle.store_machine.specs.Collecting.{keys_written, next_by, next_of, sources_in}
-use Rattle.store_machine.specs.Machine.{Collection, Machine, Sweeping, Sweep}
+use Rattle.store_machine.specs.Machine.{Collection, Sweeping, Sweep}
 use Rattle.store_machine.proofs.Swept.{freed_more, written_more}
 use Rattle.core_machine.specs.Collections.{HasCopied, SameRun, SameSweep, ids_at}
 use Rattle.core_machine.proofs.NextSteps.{has_before, next_so}
 use Rattle.core_machine.proofs.SweptOn.{AtSweep, Swept, at_sweep, entry_next, ids_same, is_sweeping, run_on, source_next}
-
-abbrev M : Type 0
-M = Machine Root (List Top)
+use Rattle.core_machine.proofs.Rows.{M}
 
 -- ---- slots that differ
 

@@ -43,7 +43,8 @@ counts_first : (test : ℕ → Bool) (from count end : ℕ) → from + count ≡
 unfolding first_from count_from
 counts_first test from zero end ends = refl
 counts_first test from (suc count) end ends =
-    elim (test from) as (λ b. test from ≡ b → CountsFrom test end (if b then 1 + count_from test (from + 1) count else count_from test (from + 1) count) (if b then Some from else first_from test (from + 1) count)) [
+    let rest = count_from test (from + 1) count in
+    elim (test from) as (λ b. test from ≡ b → CountsFrom test end (if b then 1 + rest else rest) (if b then Some from else first_from test (from + 1) count)) [
       | true ↦ λ passes.
           let left : end - from ≡ suc count = omega (arith, ends) in
           (ap (count_from test from) left ∙ counted test from count passes, omega arith)
@@ -79,8 +80,10 @@ module _ (t : SlotTable) (snapshot : ℕ) where
       by_found None none = left_filter n 0 (is ∙ ap (λ (k : ℕ). suc level * k) none ∙ omega arith)
       by_found (Some slot) many =
           let below : suc level - 1 ≡ level = omega arith in
-          let all : n ≡ trees_from snapshot t 0 + level * trees_from snapshot t 0 = is ∙ once_more level (trees_from snapshot t 0) in
-          (all ∙ ap (λ (k : ℕ). k + level * trees_from snapshot t 0) (sym many.0) ∙ ap (λ (k : ℕ). trees_from snapshot t slot + k * trees_from snapshot t 0) (sym below), omega (arith, all, many.1))
+          let all : n ≡ trees_from snapshot t 0 + level * trees_from snapshot t 0 = is ∙ once_more level (trees_from snapshot t 0) in (
+            all ∙ ap (λ (k : ℕ). k + level * trees_from snapshot t 0) (sym many.0) ∙ ap (λ (k : ℕ). trees_from snapshot t slot + k * trees_from snapshot t 0) (sym below),
+            omega (arith, all, many.1),
+          )
 
   pub left_mark : (level from n : ℕ) → from ≤ length t.ids.items → n ≡ trees_from snapshot t from + (level - 1) * trees_from snapshot t 0
       → Left n (mark_from snapshot t level from)

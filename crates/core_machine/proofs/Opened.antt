@@ -8,7 +8,6 @@ use Rattle.disk_format.specs.Cells.{Root}
 use Rattle.dd_disk.specs.Ending.{Reads, ending_of}
 use Rattle.dd_disk.specs.Shows.{Shows}
 use Rattle.dd_disk.specs.View.{DiskView}
-use Rattle.merkle_file.specs.declared.top.Top.{Top}
 use Rattle.namespace.specs.declared.record.Named.{Named}
 use Rattle.recovery.specs.Opening.{IsOpenRefusal}
 use Rattle.recovery.specs.Room.{RoomUnmade}
@@ -23,16 +22,14 @@ use Rattle.store_core.specs.State.{CoreState, IsRunning}
 use Rattle.store_state.specs.Refused.{blames}
 use Rattle.store_state.specs.declared.tables.Tables.{Tables}
 use Rattle.store_machine.specs.Done as done
-use Rattle.store_machine.specs.Machine.{Found, Machine, Idle, RunState, Running, Stopped, all_idle}
+use Rattle.store_machine.specs.Machine.{Found, Idle, RunState, Running, Stopped, all_idle}
 use Rattle.store_machine.specs.Opening.{MayRefuseOpening, freeing}
 use Rattle.store_machine.specs.Values.{of_roots}
 use Rattle.store_machine.proofs.SameNames.{get_mapped, len_changed, mapped}
 use Rattle.core_machine.specs.Openings.{OpenedRefines, Reopens, UnopenedRefines}
 use Rattle.core_machine.specs.Collections.{SameCollection}
 use Rattle.core_machine.specs.Refines.{IsMachine, SameParts, SameStop}
-
-abbrev M : Type 0
-M = Machine Root (List Top)
+use Rattle.core_machine.proofs.Rows.{M}
 
 all_same : (count : ℕ) → SameParts (replicate count Idle) (replicate count core.Idle)
 all_same zero = tt

@@ -114,7 +114,8 @@ module _ (c d : CoreState) (m : M) (at : IsMachine m c) (runs : m.state ≡ Runn
   abbrev Left : Result Answer Refusal → Asked Root → Type 0
   Left answer step = (n : M) × Answers of_roots a step (answered_by answer buf) m n × IsMachine n d
 
-  made_by : (s : StepValue) (step : Asked Root) (answer : Result Answer Refusal) → asked_by s ≡ Some step → Made s a answer buf c d → Collects s answer c d → StopsAfter s answer c.acknowledged d.stop
+  made_by : (s : StepValue) (step : Asked Root) (answer : Result Answer Refusal) → asked_by s ≡ Some step → Made s a answer buf c d → Collects s answer c d
+      → StopsAfter s answer c.acknowledged d.stop
       → d.acknowledged ≡ counted answer c.acknowledged → Left answer step
   made_by steps.Begin step answer is made collects stop count =
       let quiet = begin_quiet c d a answer made.row stop count in

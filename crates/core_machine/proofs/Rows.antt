@@ -322,8 +322,11 @@ module _ (c : CoreState) (m : M) (at : IsMachine m c) where
 
     stays_read : (a : ℕ) (was rest : List Top) (goes : readers.GoesOn a c.parts d.parts was rest) → Rested → (refusal : Refusal) → Walked was rest × IsStuck rest refusal
         → (n : M) × RefusesRead of_roots a refusal m n × IsMachine n d
-    stays_read a was rest goes r refusal stays =
-        (put_at m a (Reading goes.root rest), (goes.root, was, rest, reads_at a goes.root was goes.part_is, stays, refl), put_part r a (Reading goes.root rest) (readers.reading goes.root rest) (refl, refl) goes.parts_are)
+    stays_read a was rest goes r refusal stays = (
+      put_at m a (Reading goes.root rest),
+      (goes.root, was, rest, reads_at a goes.root was goes.part_is, stays, refl),
+      put_part r a (Reading goes.root rest) (readers.reading goes.root rest) (refl, refl) goes.parts_are,
+    )
 
     pub read_row : (a : ℕ) (answer : Result Answer Refusal) (buf : List ℕ) → ReadRow a answer buf c d → Rested → Left a asked.ReadNext (answered_by answer buf)
     read_row a (Ok (answers.Bytes count)) buf is r =

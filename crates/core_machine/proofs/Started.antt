@@ -97,8 +97,11 @@ module _ (c : CoreState) (m : M) (at : IsMachine m c) (runs : m.state ≡ Runnin
     ),
     as_it_was c m at runs d (left_by c m at runs d rests.tables rests.disk.only.later.size_is count (same_at c m at runs d same) stop) parts,
   )
-  start_row (Err refusals.Memory) buf un rests under stop count =
-      (m, (none_at un.none_ran, refl), as_it_was c m at runs d (left_by c m at runs d rests.tables rests.disk.only.later.size_is count (same_at c m at runs d un.none_runs) stop) un.parts_are)
+  start_row (Err refusals.Memory) buf un rests under stop count = (
+    m,
+    (none_at un.none_ran, refl),
+    as_it_was c m at runs d (left_by c m at runs d rests.tables rests.disk.only.later.size_is count (same_at c m at runs d un.none_runs) stop) un.parts_are,
+  )
   start_row (Err refusals.DiskRead) buf un rests under stop count =
       absurd (let wrong : Some (at.index runs).places ≡ None = sym (at.index runs).known_is ∙ un.cause.cause in cc)
   start_row (Err (refusals.Missing key)) buf un rests under stop count = (

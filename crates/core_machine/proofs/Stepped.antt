@@ -101,9 +101,9 @@ module _ (held : List (Option HeaderValue)) (t : SlotTable) (swept : Bool) (sour
 
 -- ---- the steps
 
-module _ (c : CoreState) (m : M) (at : IsMachine m c) (runs : m.state ≡ Running) (d : CoreState) (tables : d.tables ≡ c.tables) (size : d.disk.size ≡ c.disk.size) (parts : d.parts ≡ c.parts)
-    (count : d.acknowledged ≡ c.acknowledged) (index : d.known ≡ c.known) (stop : d.stop ≡ None) (k after : CoreCollection) (r : Runs c.tables.held m.swept m.collection k)
-    (under : IsUnderWay c.tables.held k) (is_after : d.collection ≡ Some after) where
+module _ (c : CoreState) (m : M) (at : IsMachine m c) (runs : m.state ≡ Running) (d : CoreState) (tables : d.tables ≡ c.tables) (size : d.disk.size ≡ c.disk.size)
+    (parts : d.parts ≡ c.parts) (count : d.acknowledged ≡ c.acknowledged) (index : d.known ≡ c.known) (stop : d.stop ≡ None) (k after : CoreCollection)
+    (r : Runs c.tables.held m.swept m.collection k) (under : IsUnderWay c.tables.held k) (is_after : d.collection ≡ Some after) where
   abbrev t : SlotTable
   t = c.tables.held
 
@@ -144,7 +144,9 @@ module _ (c : CoreState) (m : M) (at : IsMachine m c) (runs : m.state ≡ Runnin
       percent_is = r.same.percent_is;
       snapshot_is = r.same.snapshot_is;
       recorded_is = r.same.recorded_is;
-      stage_is = subst (λ (changes : List StoreChange). SameStage t m.swept (sources_in (gone (marking left) r.c.recorded)) changes k.snapshot k.sweep (marking left) (mark_from k.snapshot t level (slot + 1)))
+      stage_is = subst
+          (λ (changes : List StoreChange).
+          SameStage t m.swept (sources_in (gone (marking left) r.c.recorded)) changes k.snapshot k.sweep (marking left) (mark_from k.snapshot t level (slot + 1)))
           (sym (none_more r.c.changes none))
           (same_marking t k.snapshot m.swept (sources_in (gone (marking left) r.c.recorded)) k.sweep left (mark_from k.snapshot t level (slot + 1))
           (left_mark t k.snapshot level (slot + 1) left (let was = at_stage t k (core.Mark level slot) under is in omega (arith, was.2.0)) (marked_left left many)));
@@ -214,12 +216,14 @@ module _ (c : CoreState) (m : M) (at : IsMachine m c) (runs : m.state ≡ Runnin
     in_turn =
         let came = recorded_to m.store.held t k at.valid.headers slots slot within old (at_stage t k (core.Filter slot) under is).1 in (
           came.0,
-          ap (λ (n : ℕ). ids_before n m.store.held) r.same.snapshot_is ∙ came.1 ∙ ap (λ (rs : List ContainerLiveness). selecting.ids_of rs ++ get_or t.ids.items slot 0 ∷ came.0) (sym r.same.recorded_is)
+          ap (λ (n : ℕ). ids_before n m.store.held) r.same.snapshot_is ∙ came.1
+              ∙ ap (λ (rs : List ContainerLiveness). selecting.ids_of rs ++ get_or t.ids.items slot 0 ∷ came.0) (sym r.same.recorded_is)
               ∙ ap (λ (id : ℕ). selecting.ids_of r.c.recorded ++ id ∷ came.0) (sym (recorded_id_by (get_or t.ids.items slot 0) (slice_get t.counts.items slot) records.live))
               ∙ sym (push_id r.c.recorded one came.0),
         )
 
-    stage_on : (changes : List StoreChange) (sources : List ℕ) (found : Option ℕ) → changes ≡ [] → SameStage t m.swept sources changes k.snapshot k.sweep Recording (filter_at found)
+    stage_on : (changes : List StoreChange) (sources : List ℕ) (found : Option ℕ) → changes ≡ []
+        → SameStage t m.swept sources changes k.snapshot k.sweep Recording (filter_at found)
     stage_on changes sources None none = none
     stage_on changes sources (Some next) none = none
 

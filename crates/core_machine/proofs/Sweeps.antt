@@ -1,7 +1,6 @@
 -- The steps of a core's sweep, and its end, as those of the machine, on any disk.
-use Rattle.std.proofs.Common.{◌≡◌, ℕ, List, [], length, Some, None, refl, ◌∙◌, ap, subst, arith}
+use Rattle.std.proofs.Common.{◌≡◌, ℕ, [], length, Some, None, refl, ◌∙◌, ap, subst, arith}
 use Rattle.disk_format.specs.Cells.{Root}
-use Rattle.merkle_file.specs.declared.top.Top.{Top}
 use Rattle.refusals.specs.declared.refusal.Phase.{Phase}
 use Rattle.refusals.specs.declared.refusal.Phase.TheVariants as phases
 use Rattle.store_model.specs.Image.{IsValidFor}
@@ -18,18 +17,16 @@ use Rattle.gc_steps.specs.declared.phase.StepDone.TheVariants.{Did, Done}
 use Rattle.gc_steps.specs.Stepping.{Moment, StepsTo, TablesAfter, answer_at, answer_of, phase_at}
 use Rattle.gc_steps.specs.UnderWay.{IsUnderWay}
 use Rattle.store_machine.specs.Collecting.{Ends}
-use Rattle.store_machine.specs.Machine.{Collection, Machine, Sweeping}
+use Rattle.store_machine.specs.Machine.{Collection, Sweeping}
 use Rattle.store_machine.specs.Values.{of_roots}
 use Rattle.core_machine.specs.Collections.{SameRun}
 use Rattle.core_machine.proofs.CopiedSources.{copies_so, no_keys}
 use Rattle.core_machine.proofs.FlushedCopies.{flushes_so}
 use Rattle.core_machine.proofs.FreedSources.{releases_so}
 use Rattle.core_machine.proofs.SweptOn.{AtSweep, Swept, at_sweep, is_sweeping}
+use Rattle.core_machine.proofs.Rows.{M}
 
-abbrev M : Type 0
-M = Machine Root (List Top)
-
-did_same : (a b : Phase) → Did a ≡ Did b → a ≡ b
+pub did_same : (a b : Phase) → Did a ≡ Did b → a ≡ b
 did_same a b is = cc
 
 -- ---- a step

@@ -6,7 +6,6 @@ use Rattle.container_meta.specs.Segments.{Contents}
 use Rattle.container_meta.specs.Spelling.{HeaderValue}
 use Rattle.disk_format.specs.Cells.{Root}
 use Rattle.disk_format.specs.declared.numbers.TheConstants.{LAST_ID}
-use Rattle.merkle_file.specs.declared.top.Top.{Top}
 use Rattle.refusals.specs.declared.refusal.Phase.{Phase}
 use Rattle.refusals.specs.declared.refusal.Phase.TheVariants as phases
 use Rattle.store_model.specs.Image.{IsValidFor, Store, last_sequence, names_of}
@@ -27,12 +26,10 @@ use Rattle.gc_steps.specs.declared.collection.Stage.TheVariants as stages
 use Rattle.gc_steps.specs.UnderWay.{IsUnderWay}
 use Rattle.gc_steps.proofs.UnderWay.{at_stage}
 use Rattle.store_machine.specs.Collecting.{Goes, GoesOn, Makes, Went, last_by, next_by, phase_in, sources_in, swept_by}
-use Rattle.store_machine.specs.Machine.{Collection, Machine, Stage, Marking, Recording, Sweeping, Sweep}
+use Rattle.store_machine.specs.Machine.{Collection, Stage, Marking, Recording, Sweeping, Sweep}
 use Rattle.store_machine.specs.Values.{of_roots}
 use Rattle.core_machine.specs.Collections.{HasCopied, SameRun, SameStage, SameSweep, ids_at}
-
-abbrev M : Type 0
-M = Machine Root (List Top)
+use Rattle.core_machine.proofs.Rows.{M}
 
 -- ---- a step that was made
 
@@ -145,7 +142,7 @@ module _ (t : SlotTable) (snapshot : ℕ) (k : CoreSweep) (under : IsSweeping t 
 
   -- slots that wait or are ready keep their ids where no id is lost
   module _ (now : SlotTable) (stay : (w : ℕ) → get_or t.ids.items w 0 ≢ 0 → get_or now.ids.items w 0 ≡ get_or t.ids.items w 0) where
-    all_stay : (slots : List ℕ) → AllByRecursion (IsTaken t k.sources.items (sources_before k k.next)) slots
+    pub all_stay : (slots : List ℕ) → AllByRecursion (IsTaken t k.sources.items (sources_before k k.next)) slots
         → AllByRecursion (λ w. get_or now.ids.items w 0 ≡ get_or t.ids.items w 0) slots
     all_stay [] all = tt
     all_stay (w ∷ ws) all = (stay w (taken_some w all.0), all_stay ws all.1)

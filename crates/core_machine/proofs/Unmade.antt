@@ -150,8 +150,8 @@ copy_unmade t live known old new source entry s refusal is = copy_by t known liv
 -- ---- the steps
 
 module _ (c : CoreState) (m : M) (at : IsMachine m c) (runs : m.state ≡ Running) (d : CoreState) (a : ℕ) (size : d.disk.size ≡ c.disk.size) (parts : d.parts ≡ c.parts)
-    (tables : d.tables ≡ c.tables) (count : d.acknowledged ≡ c.acknowledged) (k after : CoreCollection) (ran : c.collection ≡ Some k) (r : Runs c.tables.held m.swept m.collection k)
-    (under : IsUnderWay c.tables.held k) (is_after : d.collection ≡ Some after) where
+    (tables : d.tables ≡ c.tables) (count : d.acknowledged ≡ c.acknowledged) (k after : CoreCollection) (ran : c.collection ≡ Some k)
+    (r : Runs c.tables.held m.swept m.collection k) (under : IsUnderWay c.tables.held k) (is_after : d.collection ≡ Some after) where
   abbrev t : SlotTable
   t = c.tables.held
 
@@ -190,7 +190,8 @@ module _ (c : CoreState) (m : M) (at : IsMachine m c) (runs : m.state ≡ Runnin
   finds_at phases.Copy may is = inr (inr is)
   finds_at phase may is = absurd may
 
-  compares_at : (phase : Phase) → IsCompared phase → IsCollecting phase m.store m.collection → IsCollecting phases.Mark m.store m.collection ⊎ IsCollecting phases.Copy m.store m.collection
+  compares_at : (phase : Phase) → IsCompared phase → IsCollecting phase m.store m.collection
+      → IsCollecting phases.Mark m.store m.collection ⊎ IsCollecting phases.Copy m.store m.collection
   compares_at phases.Mark may is = inl is
   compares_at phases.Copy may is = inr is
   compares_at phase may is = absurd may
@@ -259,7 +260,8 @@ module _ (c : CoreState) (m : M) (at : IsMachine m c) (runs : m.state ≡ Runnin
       (m, (no_part, (inr (inr (inr (is, omega (arith, cause.0, at.last_id)))), refl)), rested (kept_run same) stays stops)
   not_flushed refusals.DiskWrite is cause same stays stops =
       let buffer = k.sweep.buffer in
-      stops_by (with_sealed (suc m.last_id) buffer.kind buffer.segments m.store ∷ []) (inr (inl (is, omega (arith, cause.0, at.last_id), (buffer.kind, buffer.segments, refl)))) (still same) stops
+      stops_by (with_sealed (suc m.last_id) buffer.kind buffer.segments m.store ∷ [])
+      (inr (inl (is, omega (arith, cause.0, at.last_id), (buffer.kind, buffer.segments, refl)))) (still same) stops
   not_flushed (refusals.Damaged byte why) is cause same stays stops = absurd (let wrong : Some own.places ≡ None = sym own.known_is ∙ cause.1 in cc)
   not_flushed refusal is cause same stays stops = absurd cause.1
 
@@ -268,17 +270,20 @@ module _ (c : CoreState) (m : M) (at : IsMachine m c) (runs : m.state ≡ Runnin
   pub not_made : (stage : CoreStage) (next : Next) → k.stage ≡ stage → k.sweep.next ≡ next → (refusal : Refusal) → IsStepRefusal stage next (at_moment c k) d.disk refusal
       → Keeps stage next (at_moment c k) (at_moment d after) refusal → StopsAfter steps.GcStep (Err refusal) c.acknowledged d.stop → Left refusal
   not_made (core.Mark level slot) next is next_is refusal cause kept stops =
-      left_by phases.Mark refusal (collecting (core.Mark level slot) next is next_is) (mark_unmade t c.known c.disk d.disk level slot k.live refusal cause) (marks_run level slot refusal kept.0) kept.1 stops
+      left_by phases.Mark refusal (collecting (core.Mark level slot) next is next_is) (mark_unmade t c.known c.disk d.disk level slot k.live refusal cause)
+      (marks_run level slot refusal kept.0) kept.1 stops
   not_made (core.Filter slot) next is next_is refusal cause kept stops =
       left_by phases.Filter refusal (collecting (core.Filter slot) next is next_is) (record_unmade t c.known c.disk d.disk slot refusal cause) (kept_run kept.0) kept.1 stops
   not_made core.Select next is next_is refusal cause kept stops =
       left_by phases.Select refusal (collecting core.Select next is next_is) (subst (Unmade phases.Select) (sym cause) tt) (kept_run kept.0) kept.1 stops
   not_made core.Sweep (nexts.Copy source entry) is next_is refusal cause kept stops =
-      not_copied refusal (collecting core.Sweep (nexts.Copy source entry) is next_is) (copy_unmade t k.live c.known c.disk d.disk source entry k.sweep refusal cause) kept.0 kept.1 stops
+      not_copied refusal (collecting core.Sweep (nexts.Copy source entry) is next_is) (copy_unmade t k.live c.known c.disk d.disk source entry k.sweep refusal cause)
+      kept.0 kept.1 stops
   not_made core.Sweep (nexts.Flush source entry) is next_is refusal cause kept stops =
       not_flushed refusal (collecting core.Sweep (nexts.Flush source entry) is next_is) cause kept.0 kept.1 stops
   not_made core.Sweep (nexts.Release source entry) is next_is refusal cause kept stops =
-      subst Left (sym cause) (stops_by (with_freed (slot_in_turn k.sweep) m.store ∷ []) (inr (inr (collecting core.Sweep (nexts.Release source entry) is next_is, (slot_in_turn k.sweep, refl))))
+      subst Left (sym cause)
+      (stops_by (with_freed (slot_in_turn k.sweep) m.store ∷ []) (inr (inr (collecting core.Sweep (nexts.Release source entry) is next_is, (slot_in_turn k.sweep, refl))))
       (still kept) (subst (λ (x : Refusal). StopsAfter steps.GcStep (Err x) c.acknowledged d.stop) cause stops))
   not_made core.Sweep nexts.End is next_is refusal cause kept stops = absurd cause
 

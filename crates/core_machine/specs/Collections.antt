@@ -26,9 +26,10 @@ HasCopied phases.Flush swept = swept ≡ true
 HasCopied phases.Release swept = swept ≡ true
 HasCopied phase swept = Unit {0}
 
--- The sweep of the machine, of these sources and with these changes so far, is that of the core: the core has slots where the machine has ids,
--- and the segments that are to be written where it has their keys.
-pub record SameSweep (t : SlotTable) (swept : Bool) (sources : List ℕ) (changes : List StoreChange) (next : Phase) (s : Sweep) (k : CoreSweep) : Type 0 where
+-- The sweep of the machine, of these sources and with these changes so far, is that of the core: the core has slots where the machine has
+-- ids, and the segments that are to be written where it has their keys.
+pub record SameSweep (t : SlotTable) (swept : Bool) (sources : List ℕ) (changes : List StoreChange) (next : Phase) (s : Sweep) (k : CoreSweep)
+    : Type 0 where
   pub next_is : next ≡ phase_at core.Sweep k.next
   pub sources_are : k.sources.items ≡ sources
   pub source_is : s.source ≡ sources_before k k.next
@@ -40,8 +41,8 @@ pub record SameSweep (t : SlotTable) (swept : Bool) (sources : List ℕ) (change
   pub copied_is : k.copied ≡ length (keys_written changes) + length s.filled
   pub swept_is : HasCopied next swept
 
--- As many containers are to be scanned as the core has levels and slots left for; containers are recorded, or the sources are chosen next; or
--- they are swept. Before a sweep nothing was changed.
+-- As many containers are to be scanned as the core has levels and slots left for; containers are recorded, or the sources are chosen next;
+-- or they are swept. Before a sweep nothing was changed.
 abbrev pub SameStage : SlotTable → Bool → (sources : List ℕ) → List StoreChange → (snapshot : ℕ) → CoreSweep → Stage → CoreStage → Type 0
 SameStage t swept sources changes snapshot sweep (Marking left) (core.Mark level slot) =
     (suc left ≡ trees_from snapshot t slot + (level - 1) * trees_from snapshot t 0) × (changes ≡ [])

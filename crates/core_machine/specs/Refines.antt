@@ -109,4 +109,5 @@ abbrev pub CoreRefines : (C : Type 0) → (C → CoreState) → Type 0
 CoreRefines C state = (e : Event) (step : Asked Root) (old new : C) (m : Machine Root (List Top)) → asked_by e.step ≡ Some step
     → IsRunning (state old) → IsMachine m (state old)
     → CoreStep (state old) e (state new)
-    → (n : Machine Root (List Top)) × (Legal of_roots (record { actor = e.actor; asked = step; answer = answered_by e.answer e.buf }) m n × IsMachine n (state new))
+    → (n : Machine Root (List Top))
+    × (Legal of_roots (record { actor = e.actor; asked = step; answer = answered_by e.answer e.buf }) m n × IsMachine n (state new))

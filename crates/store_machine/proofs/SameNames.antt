@@ -52,6 +52,7 @@ module _ (X Y : Type 0) (f : X → Y) (m : finite.FinMap order X) where
   mapped = finite.from_sorted (changed (List ℕ) X Y order f (finite.entries m))
 
   pub get_mapped : (q : List ℕ) → finite.get mapped q ≡ option_map f (finite.get m q)
+  unfolding mapped
   get_mapped q =
       finite.get-from_sorted order (changed (List ℕ) X Y order f (finite.entries m)) q (right (List ℕ) X Y order f m)
       ∙ changed_find (List ℕ) X Y order f q (finite.entries m) ∙ ap (option_map f) (sym (finite.get-entries m q))

@@ -19,8 +19,9 @@ use Rattle.store_machine.specs.Lines.{Ends, Line, reply_of}
 use Rattle.store_machine.specs.Machine.{Found, Idle, RunState, Running, Stopped}
 use Rattle.store_machine.specs.Opening.{MayBeFound}
 use Rattle.store_machine.specs.Values.{of_files}
+use Rattle.store_machine.proofs.Passing.{sure_found}
 use Rattle.store_machine.proofs.Quiet.{running_sure}
-use Rattle.store_machine.proofs.Stepwise.{At, Desks, IsFailure, Opened, Step, ends_so, last_from, lines_after, no_actor, not_barred, one_step, sure_found}
+use Rattle.store_machine.proofs.Stepwise.{At, Desks, IsFailure, Opened, Step, ends_so, last_from, lines_after, no_actor, not_barred, one_step}
 
 has_file : (o : Option (ListOf ℕ)) → is_some o ≡ true → (file : ListOf ℕ) × (o ≡ Some file)
 has_file None is = absurd cc

@@ -25,8 +25,9 @@ use Rattle.store_machine.specs.Machine.{Found, Machine, Part, Idle, Reading, kin
 use Rattle.store_machine.specs.Opening.{MayBeFound}
 use Rattle.store_machine.specs.Values.{StaysAt, of_files}
 use Rattle.store_machine.specs.Runs.{Run}
+use Rattle.store_machine.proofs.Passing.{sure_found}
 use Rattle.store_machine.proofs.Quiet.{IsSure, running_sure}
-use Rattle.store_machine.proofs.Stepwise.{At, Desks, IsFailure, Opened, Step, ends_so, first_actor, last_from, lines_after, not_barred, one_step, sure_found}
+use Rattle.store_machine.proofs.Stepwise.{At, Desks, IsFailure, Opened, Step, ends_so, first_actor, last_from, lines_after, not_barred, one_step}
 
 abbrev FilePart : Type 0
 FilePart = Part (ListOf ℕ) (ListOf (ListOf ℕ))

@@ -68,12 +68,6 @@ pub record At (now : Found (ListOf ℕ)) (part : Part (ListOf ℕ) (ListOf (List
   pub some : 0 < length d.machine.parts
   pub part_is : part_in d.machine 0 ≡ part
 
--- no write that failed left a doubt
-pub sure_found : (state : RunState (ListOf ℕ)) (now x : Found (ListOf ℕ)) → IsSure state → MayBeFound of_files state now x → x ≡ now
-sure_found Running now x sure may = may
-sure_found (Stopped None stores) now x sure may = may
-sure_found (Stopped (Some other) stores) now x sure may = absurd sure
-
 -- ---- the opening
 
 -- why one is refused where the disk tells its content

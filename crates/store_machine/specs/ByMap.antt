@@ -6,11 +6,12 @@ use Rattle.refusals.specs.declared.refusal.Refusal.{Refusal}
 use Rattle.refusals.specs.declared.refusal.Refusal.TheVariants.{Memory, NoFile, BadName, Numbers, DiskRead, DiskWrite}
 use Rattle.reply_text.specs.Text.{listing_text}
 use Rattle.script_lines.specs.ReplyValue as replies
-use Rattle.store_machine.specs.Commands.{AreLinesOf, Command, Delete, EndsWith, IsDone, Lines, List, Replied, Restore, desk, printed}
+use Rattle.store_machine.specs.Commands.{AreLinesOf, Command, Delete, EndsWith, IsDone, Lines, List, Replied, Restore, desk, printed, run_of}
 use Rattle.store_machine.specs.Legal.{HasName, LacksNumbers, listing, without_name}
 use Rattle.store_machine.specs.Lines.{Desk}
 use Rattle.store_machine.specs.Machine.{Found, Machine, Running, Stepped}
 use Rattle.store_machine.specs.Opening.{MayBeFound}
+use Rattle.store_machine.specs.Runs.{IsPassedFrom}
 use Rattle.store_machine.specs.Values.{of_files}
 
 -- the machine of files
@@ -94,3 +95,20 @@ pub record Listed (rs : ListOf Replied) (now : Found (ListOf ℕ)) (n : FileMach
 
 abbrev pub ListsByMap : Type 0
 ListsByMap = ByMap List Listed
+
+-- ---- at each moment of their steps
+
+-- of what may be found then, P holds beside the names of before
+abbrev pub Through : Command → (Found (ListOf ℕ) → Found (ListOf ℕ) → Type 0) → Type 0
+Through command P = (first : ℕ) (rs : ListOf Replied) (ss : ListOf (Stepped (ListOf ℕ))) (m : FileMachine) (e : Desk (ListOf ℕ) (ListOf (ListOf ℕ)))
+    → m.state ≡ Running → AreLinesOf command rs → (ran : Lines of_files rs ss (desk m) e)
+    → (x : Found (ListOf ℕ)) → IsPassedFrom of_files first ss m e.machine (run_of of_files rs ss (desk m) e ran) x → P m.now x
+
+abbrev pub RestoresThrough : Type 0
+RestoresThrough = (name : ListOf ℕ) → Through (Restore name) (λ now x. x ≡ now)
+
+abbrev pub DeletesThrough : Type 0
+DeletesThrough = (name : ListOf ℕ) → Through (Delete name) (λ now x. (x ≡ now) ⊎ (x ≡ without_name of_files name now))
+
+abbrev pub ListsThrough : Type 0
+ListsThrough = Through List (λ now x. x ≡ now)

@@ -159,7 +159,7 @@ deletes_by_map name [] ss m e runs lines_are (none, is) = record {
 }
 deletes_by_map name (one ∷ more) ss m e runs lines_are ran =
     let after : After name m.now (last_from one more).reply (printed (Delete name) [] (one ∷ more)) e =
-    lines_after (Delete name) (After name) m.now (next name m.now) (opened_after name m.now) one more ss m e refl runs lines_are ran in
+    lines_after (Delete name) m (After name m.now) (next name m.now) (λ reply d opened fresh. opened_after name m.now reply d opened) one more ss e runs lines_are ran in
     record {
       found = after.found;
       done = λ end. after.done (ends_so (λ one. IsDone (Delete name) one.reply) one more end);

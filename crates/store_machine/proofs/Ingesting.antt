@@ -32,7 +32,7 @@ D = Desk (List ℕ) (List (List ℕ))
 pub run_one : (x : Step) (ss : List Step) (m n : F) → ss ≡ x ∷ [] → Run of_files ss m n → Legal of_files x m n
 run_one x ss m n is run = let one = subst (λ (xs : List Step). Run of_files xs m n) is run in subst (Legal of_files x m) (sym one.1.1) one.1.0
 
-run_parts : (xs ys : List Step) (m n : F) → Run of_files (xs ++ ys) m n → (mid : F) × Run of_files xs m mid × Run of_files ys mid n
+pub run_parts : (xs ys : List Step) (m n : F) → Run of_files (xs ++ ys) m n → (mid : F) × Run of_files xs m mid × Run of_files ys mid n
 run_parts [] ys m n run = (m, refl, run)
 run_parts (x ∷ xs) ys m n (next, (legal, run)) = let rest = run_parts xs ys next n run in (rest.0, (next, (legal, rest.1)), rest.2)
 

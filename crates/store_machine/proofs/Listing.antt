@@ -127,7 +127,7 @@ lists_by_map [] ss m e runs lines_are (none, is) = record {
 }
 lists_by_map (one ∷ more) ss m e runs lines_are ran =
     let after : After m.now (last_from one more).reply (printed List [] (one ∷ more)) e =
-    lines_after List After m.now (next m.now) (opened_after m.now) one more ss m e refl runs lines_are ran in
+    lines_after List m (After m.now) (next m.now) (λ reply d opened fresh. opened_after m.now reply d opened) one more ss e runs lines_are ran in
     record {
       found = λ x may. sure_found e.machine.state e.machine.now x after.sure may ∙ after.same;
       text = after.part;

@@ -10,20 +10,25 @@ use Rattle.script_lines.specs.ReplyValue as replies
 use Rattle.store_machine.specs.Asked.{Asked}
 use Rattle.store_machine.specs.Asked as asked
 use Rattle.store_machine.specs.ByMap.{DeletesThrough, FileMachine, ListsThrough, RestoresThrough}
-use Rattle.store_machine.specs.Commands.{AllFollow, AreLinesOf, Command, Delete, Follows, Lines, List, Replied, Restore, desk, run_of}
+use Rattle.store_machine.specs.CollectsAlone.{CollectsThrough}
+use Rattle.store_machine.specs.Commands.{AllFollow, AreLinesOf, Collect, Command, Delete, Follows, Lines, List, Replied, Restore, desk, run_of}
 use Rattle.store_machine.specs.Done.{Done}
 use Rattle.store_machine.specs.Done as done
 use Rattle.store_machine.specs.Legal.{Answers, ByState, Does, Legal, Refuses, RefusesDelete, without_name}
-use Rattle.store_machine.specs.Lines.{Ends, Line, reply_of, step_of}
+use Rattle.store_machine.specs.Lines.{AreDid, Ends, Line, reply_of, step_of}
 use Rattle.store_machine.specs.Machine.{Found, RunState, Running, Stopped}
 use Rattle.store_machine.specs.Opening.{MayBeFound}
 use Rattle.store_machine.specs.Values.{of_files}
 use Rattle.store_machine.proofs.Ingesting.{run_one}
-use Rattle.store_machine.proofs.Passing.{AllOk, GoodTo, IsFine, ok_good_to, passes_to, sure_found}
+use Rattle.store_machine.proofs.Passing.{AllOk, GoodTo, IsFine, IsTold, ok_good_to, passes_to, sure_found}
 use Rattle.store_machine.proofs.Quiet.{F, Step, running_sure}
 use Rattle.store_machine.proofs.Stepwise.{Desks}
 
 -- ---- the steps that lines make
+
+all_ok : (xs : ListOf Step) (x : Step) → AllOk xs → IsFine x.asked → IsTold x.answer → AllOk (xs ++ x ∷ [])
+all_ok [] x ok fine told = (fine, told, tt)
+all_ok (y ∷ ys) x (own, was, ok) fine told = (own, was, all_ok ys x ok fine told)
 
 module _ (command : Command) (Last : Asked (ListOf ℕ) → Type 0) where
   -- all were done, and may be followed; or no line comes after this one
@@ -202,3 +207,44 @@ pub deletes_through : DeletesThrough
 deletes_through name first rs ss m e runs lines_are ran x passed =
     passes_to m.now (Takes name) (Either name m.now) (inl refl) (deletes_last name m.now) first ss m e.machine (run_of of_files rs ss (desk m) e ran)
     (all_good (Delete name) (Takes name) (delete_ends name) (delete_fits name) rs ss (desk m) e lines_are ran) refl runs x passed
+
+-- ---- collect
+
+module _ (percent : ℕ) where
+  collect_ends : (refusal : Refusal) (line : LineValue) → Follows (Collect percent) (replies.Refused refusal) line → ⊥
+  collect_ends refusal line follows = follows
+
+  did_ok : (made : ListOf Step) → AreDid of_files made → AllOk made
+  did_ok [] did = tt
+  did_ok (x ∷ xs) (asked_is, (phase, answer_is), more) = (subst IsFine (sym asked_is) tt, subst IsTold (sym answer_is) tt, did_ok xs more)
+
+  collect_fits : (prev : ReplyValue) (one : Replied) (d mid : Desks) (ss : ListOf Step) → Follows (Collect percent) prev one.line → Line of_files one.line one.reply ss d mid
+      → Fits (Collect percent) NoStep one.reply ss
+  collect_fits prev one d mid ss follows line = by prev follows
+    where
+      begins : Line of_files (lines.Gc percent) one.reply ss d mid → Fits (Collect percent) NoStep one.reply ss
+      begins (run, inl (admits, (a, step, step_is, ends, sessions))) =
+          fine_fits (Collect percent) NoStep collect_ends a (asked.GcStart percent) one.reply ss tt (subst (λ (s : Asked (ListOf ℕ)). Ends of_files a [] s one.reply ss) step_is ends)
+      begins (run, inr (refusal, bars, is, no_steps, sessions)) = inl (subst AllOk (sym no_steps) tt)
+
+      -- the last of them
+      with_last : (made : ListOf Step) (a : ℕ) → AllOk made → Ends of_files a made asked.GcStep one.reply ss → Fits (Collect percent) NoStep one.reply ss
+      with_last made a ok (Ok answer, is, reply_is) = inl (subst AllOk (sym is) (all_ok made (step_of of_files a asked.GcStep (Ok answer)) ok tt tt))
+      with_last made a ok (Err refusal, is, reply_is) = inr (
+        subst (GoodTo NoStep) (sym is) (ok_good_to NoStep made (step_of of_files a asked.GcStep (Err refusal) ∷ []) ok (inl tt)),
+        λ line follows. subst (λ (r : ReplyValue). Follows (Collect percent) r line) reply_is follows,
+      )
+
+      sweeps : Line of_files lines.Sweep one.reply ss d mid → Fits (Collect percent) NoStep one.reply ss
+      sweeps (run, inl (admits, (made, a, did, ends, last, sessions))) = with_last made a (did_ok made did) ends
+      sweeps (run, inr (refusal, bars, is, no_steps, sessions)) = inl (subst AllOk (sym no_steps) tt)
+
+      by : (prev : ReplyValue) → Follows (Collect percent) prev one.line → Fits (Collect percent) NoStep one.reply ss
+      by (replies.Opened files) is = begins (subst (λ (l : LineValue). Line of_files l one.reply ss d mid) is line)
+      by (replies.Collecting snapshot) is = sweeps (subst (λ (l : LineValue). Line of_files l one.reply ss d mid) is line)
+      by reply follows = absurd follows
+
+pub collects_through : CollectsThrough
+collects_through percent first rs ss m e runs lines_are ran x passed =
+    passes_to m.now NoStep (λ y. y ≡ m.now) refl (λ s old new same up last. absurd last) first ss m e.machine (run_of of_files rs ss (desk m) e ran)
+    (all_good (Collect percent) NoStep (collect_ends percent) (collect_fits percent) rs ss (desk m) e lines_are ran) refl runs x passed

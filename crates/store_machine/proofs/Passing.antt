@@ -7,9 +7,9 @@ use Rattle.store_machine.specs.Asked.{Asked}
 use Rattle.store_machine.specs.Asked as asked
 use Rattle.store_machine.specs.Done.{Done}
 use Rattle.store_machine.specs.Done as done
-use Rattle.store_machine.specs.Legal.{Answers, ByState, Does, Legal, Refuses, RefusesCommit, with_name}
+use Rattle.store_machine.specs.Legal.{Answers, ByState, Does, Legal, Refuses, RefusesCommit, RefusesGcStep, RefusesOn, with_name}
 use Rattle.store_machine.specs.Lines.{AreTurns, Session, answer_of}
-use Rattle.store_machine.specs.Machine.{Found, Reading, RunState, Running, Stopped, put_at}
+use Rattle.store_machine.specs.Machine.{Found, Idle, Reading, RunState, Running, Stopped, put_at}
 use Rattle.store_machine.specs.Opening.{MayBeFound, Reopens, freeing}
 use Rattle.store_machine.specs.Runs.{IsPassedFrom, Run}
 use Rattle.store_machine.specs.Values.{of_files}
@@ -17,16 +17,21 @@ use Rattle.store_machine.proofs.Quiet.{IsSure, running_sure, F, Goes, IsQuiet, Q
 
 -- ---- lists of steps
 
--- a step that puts no name
+-- a step that changes no name
 abbrev pub IsFine : Asked (List ℕ) → Type 0
-IsFine asked.Begin = Unit {0}
-IsFine (asked.Claim seg) = Unit {0}
-IsFine (asked.Seal filled) = Unit {0}
-IsFine asked.Reopen = Unit {0}
-IsFine (asked.OpenRead name) = Unit {0}
-IsFine asked.ReadNext = Unit {0}
-IsFine asked.ListNames = Unit {0}
-IsFine step = ⊥
+IsFine (asked.Commit name file) = ⊥
+IsFine (asked.Delete name) = ⊥
+IsFine step = Unit {0}
+
+-- one that neither begins, claims or seals, nor opens the store again
+abbrev pub IsRead : Asked (List ℕ) → Type 0
+IsRead asked.Begin = ⊥
+IsRead (asked.Claim seg) = ⊥
+IsRead (asked.Seal filled) = ⊥
+IsRead (asked.Commit name file) = ⊥
+IsRead (asked.Delete name) = ⊥
+IsRead asked.Reopen = ⊥
+IsRead step = Unit {0}
 
 abbrev pub IsTold : Result Done Refusal → Type 0
 IsTold (Ok answer) = Unit {0}
@@ -74,7 +79,7 @@ turns_ok a (x ∷ xs) s t (actor, due, (answer, told, more)) =
     let rest = turns_ok a xs (record s { answers = s.answers ++ answer ∷ [] }) t more in
     ((fine_of x.asked (due_is_quiet s x.asked due), is_told x.answer answer told, rest.0), rest.1)
 
--- ---- steps that only read
+-- ---- steps that store nothing
 
 stays_so : (m n : F) → m.state ≡ Running → n ≡ m → Goes m n
 stays_so m n runs is = record { now = ap (λ (x : F). x.now) is; state = ap (λ (x : F). x.state) is ∙ runs }
@@ -82,50 +87,83 @@ stays_so m n runs is = record { now = ap (λ (x : F). x.now) is; state = ap (λ 
 puts_part : (a : ℕ) (part : _) (m n : F) → m.state ≡ Running → n ≡ put_at m a part → Goes m n
 puts_part a part m n runs is = record { now = ap (λ (x : F). x.now) is; state = ap (λ (x : F). x.state) is ∙ runs }
 
-opens_go : (a : ℕ) (name : List ℕ) (answer : Done) (m n : F) → m.state ≡ Running → Does of_files a (asked.OpenRead name) answer m n → Goes m n
-opens_go a name (done.Opened count) m n runs (named, idle, (value, rest, has, starts, count_is, others)) = puts_part a (Reading value rest) m n runs others
-opens_go a name answer m n runs does = absurd does
+rests_so : (m n : F) → m.state ≡ Running → n ≡ m → Quiet m n
+rests_so m n runs is = quiet_of m n (stays_so m n runs is)
 
-reads_go : (a : ℕ) (answer : Done) (m n : F) → m.state ≡ Running → Does of_files a asked.ReadNext answer m n → Goes m n
-reads_go a (done.Bytes bytes) m n runs (value, rest, after, was, gives, others) = puts_part a (Reading value after) m n runs others
-reads_go a done.End m n runs (value, rest, was, ends, others) = stays_so m n runs others
-reads_go a answer m n runs does = absurd does
+-- done
+reads_go : (a : ℕ) (step : Asked (List ℕ)) (answer : Done) (m n : F) → IsRead step → m.state ≡ Running → Does of_files a step answer m n → Goes m n
+reads_go a (asked.OpenRead name) (done.Opened count) m n read runs (named, idle, (value, rest, has, starts, count_is, others)) = puts_part a (Reading value rest) m n runs others
+reads_go a asked.ReadNext (done.Bytes bytes) m n read runs (value, rest, after, was, gives, others) = puts_part a (Reading value after) m n runs others
+reads_go a asked.ReadNext done.End m n read runs (value, rest, was, ends, others) = stays_so m n runs others
+reads_go a asked.EndRead done.Dropped m n read runs (was, others) = puts_part a Idle m n runs others
+reads_go a asked.Abort done.Aborted m n read runs (was, others) = puts_part a Idle m n runs others
+reads_go a asked.ListNames (done.Listed files) m n read runs (is, others) = stays_so m n runs others
+reads_go a asked.Stat (done.Counted files segments bytes used free) m n read runs (is, others) = stays_so m n runs others
+reads_go a (asked.GcStart percent) (done.Started snapshot) m n read runs (none, is, others) =
+    record { now = ap (λ (x : F). x.now) others; state = ap (λ (x : F). x.state) others ∙ runs }
+reads_go a asked.GcStep (done.Did phase) m n read runs goes = record { now = ap (λ (x : F). x.now) goes.others; state = ap (λ (x : F). x.state) goes.others ∙ runs }
+reads_go a asked.GcStep (done.Collected freed copied) m n read runs ends = record { now = ap (λ (x : F). x.now) ends.others; state = ap (λ (x : F). x.state) ends.others ∙ runs }
+reads_go a (asked.OpenRead name) answer m n read runs does = absurd does
+reads_go a asked.ReadNext answer m n read runs does = absurd does
+reads_go a asked.EndRead answer m n read runs does = absurd does
+reads_go a asked.Abort answer m n read runs does = absurd does
+reads_go a asked.ListNames answer m n read runs does = absurd does
+reads_go a asked.Stat answer m n read runs does = absurd does
+reads_go a (asked.GcStart percent) answer m n read runs does = absurd does
+reads_go a asked.GcStep answer m n read runs does = absurd does
+reads_go a step answer m n read runs does = absurd read
 
-lists_go : (a : ℕ) (answer : Done) (m n : F) → m.state ≡ Running → Does of_files a asked.ListNames answer m n → Goes m n
-lists_go a (done.Listed files) m n runs (is, others) = stays_so m n runs others
-lists_go a answer m n runs does = absurd does
+-- refused
+gc_rests : (refusal : Refusal) (m n : F) → m.state ≡ Running → RefusesGcStep of_files refusal m n → Quiet m n
+gc_rests refusals.NotCollecting m n runs (none, is) = rests_so m n runs is
+gc_rests refusals.Memory m n runs (some, is) = rests_so m n runs is
+gc_rests refusals.Numbers m n runs (at, last, is) = rests_so m n runs is
+gc_rests refusals.DiskRead m n runs (at, is) = rests_so m n runs is
+gc_rests refusals.DiskWrite m n runs (stores, may, is) = record { now = ap (λ (x : F). x.now) is; state = subst IsSure (sym (ap (λ (x : F). x.state) is)) tt }
+gc_rests (refusals.Corrupt slot offset count want got) m n runs (at, (unknown, is)) = rests_so m n runs is
+gc_rests (refusals.Missing key) m n runs (at, (unknown, is)) = rests_so m n runs is
+gc_rests (refusals.Damaged at why) m n runs (where_at, (unknown, is)) = rests_so m n runs is
+gc_rests refusal m n runs refuses = absurd refuses
 
-open_refused : (a : ℕ) (name : List ℕ) (refusal : Refusal) (m n : F) → m.state ≡ Running → Refuses of_files a (asked.OpenRead name) refusal m n → Goes m n
-open_refused a name (refusals.WrongPart kind) m n runs (wrong, is) = stays_so m n runs is
-open_refused a name refusals.Memory m n runs is = stays_so m n runs is
-open_refused a name refusals.BadName m n runs (right, (bad, is)) = stays_so m n runs is
-open_refused a name refusals.NoFile m n runs (right, (named, none, is)) = stays_so m n runs is
-open_refused a name refusal m n runs (right, refuses) = absurd refuses
+start_rests : (a percent : ℕ) (refusal : Refusal) (m n : F) → m.state ≡ Running → RefusesOn of_files a (asked.GcStart percent) refusal m n → Quiet m n
+start_rests a percent refusals.Memory m n runs (none, is) = rests_so m n runs is
+start_rests a percent (refusals.Missing key) m n runs (none, (unknown, is)) = rests_so m n runs is
+start_rests a percent (refusals.Damaged at why) m n runs (none, (unknown, is)) = rests_so m n runs is
+start_rests a percent (refusals.Collecting phase) m n runs (at, is) = rests_so m n runs is
+start_rests a percent refusal m n runs refuses = absurd refuses
 
-read_refused : (a : ℕ) (refusal : Refusal) (m n : F) → m.state ≡ Running → Refuses of_files a asked.ReadNext refusal m n → Goes m n
-read_refused a (refusals.WrongPart kind) m n runs (wrong, is) = stays_so m n runs is
-read_refused a refusals.Memory m n runs refuses = puts_part a (Reading refuses.0 refuses.2) m n runs refuses.5
-read_refused a refusal m n runs (right, (value, rest, after, was, stays, is)) = puts_part a (Reading value after) m n runs is
+open_rests : (a : ℕ) (name : List ℕ) (refusal : Refusal) (m n : F) → m.state ≡ Running → RefusesOn of_files a (asked.OpenRead name) refusal m n → Quiet m n
+open_rests a name refusals.Memory m n runs is = rests_so m n runs is
+open_rests a name refusals.BadName m n runs (bad, is) = rests_so m n runs is
+open_rests a name refusals.NoFile m n runs (named, none, is) = rests_so m n runs is
+open_rests a name refusal m n runs refuses = absurd refuses
 
-list_refused : (a : ℕ) (refusal : Refusal) (m n : F) → m.state ≡ Running → Refuses of_files a asked.ListNames refusal m n → Goes m n
-list_refused a (refusals.WrongPart kind) m n runs (wrong, is) = stays_so m n runs is
-list_refused a refusals.Memory m n runs is = stays_so m n runs is
-list_refused a refusal m n runs (right, refuses) = absurd refuses
+list_rests : (a : ℕ) (refusal : Refusal) (m n : F) → m.state ≡ Running → RefusesOn of_files a asked.ListNames refusal m n → Quiet m n
+list_rests a refusals.Memory m n runs is = rests_so m n runs is
+list_rests a refusal m n runs refuses = absurd refuses
 
-open_goes : (a : ℕ) (name : List ℕ) (told : Result Done Refusal) (m n : F) → m.state ≡ Running → Answers of_files a (asked.OpenRead name) told m n → Goes m n
-open_goes a name (Ok answer) m n runs does = opens_go a name answer m n runs does
-open_goes a name (Err refusal) m n runs refuses = open_refused a name refusal m n runs refuses
+reads_rest_on : (a : ℕ) (step : Asked (List ℕ)) (refusal : Refusal) (m n : F) → IsRead step → m.state ≡ Running → RefusesOn of_files a step refusal m n → Quiet m n
+reads_rest_on a (asked.OpenRead name) refusal m n read runs refuses = open_rests a name refusal m n runs refuses
+reads_rest_on a asked.ReadNext refusal m n read runs (value, rest, after, was, stays, is) = quiet_of m n (puts_part a (Reading value after) m n runs is)
+reads_rest_on a asked.ListNames refusal m n read runs refuses = list_rests a refusal m n runs refuses
+reads_rest_on a (asked.GcStart percent) refusal m n read runs refuses = start_rests a percent refusal m n runs refuses
+reads_rest_on a asked.GcStep refusal m n read runs refuses = gc_rests refusal m n runs refuses
+reads_rest_on a asked.EndRead refusal m n read runs refuses = absurd refuses
+reads_rest_on a asked.Abort refusal m n read runs refuses = absurd refuses
+reads_rest_on a asked.Stat refusal m n read runs refuses = absurd refuses
+reads_rest_on a step refusal m n read runs refuses = absurd read
 
-read_goes : (a : ℕ) (told : Result Done Refusal) (m n : F) → m.state ≡ Running → Answers of_files a asked.ReadNext told m n → Goes m n
-read_goes a (Ok answer) m n runs does = reads_go a answer m n runs does
-read_goes a (Err refusal) m n runs refuses = read_refused a refusal m n runs refuses
-
-list_goes : (a : ℕ) (told : Result Done Refusal) (m n : F) → m.state ≡ Running → Answers of_files a asked.ListNames told m n → Goes m n
-list_goes a (Ok answer) m n runs does = lists_go a answer m n runs does
-list_goes a (Err refusal) m n runs refuses = list_refused a refusal m n runs refuses
+reads_rest : (a : ℕ) (step : Asked (List ℕ)) (refusal : Refusal) (m n : F) → IsRead step → m.state ≡ Running → Refuses of_files a step refusal m n → Quiet m n
+reads_rest a step (refusals.WrongPart kind) m n read runs (wrong, is) = rests_so m n runs is
+reads_rest a step refusals.Memory m n read runs on = reads_rest_on a step refusals.Memory m n read runs on
+reads_rest a step refusal m n read runs (right, on) = reads_rest_on a step refusal m n read runs on
 
 by_running : (a : ℕ) (step : Asked (List ℕ)) (told : Result Done Refusal) (m n : F) → m.state ≡ Running → ByState of_files m.state a step told m n → Answers of_files a step told m n
 by_running a step told m n runs by = subst (λ (st : RunState (List ℕ)). ByState of_files st a step told m n) runs by
+
+read_quiet : (a : ℕ) (step : Asked (List ℕ)) (told : Result Done Refusal) (m n : F) → IsRead step → Answers of_files a step told m n → m.state ≡ Running → Quiet m n
+read_quiet a step (Ok answer) m n read does runs = quiet_of m n (reads_go a step answer m n read runs does)
+read_quiet a step (Err refusal) m n read refuses runs = reads_rest a step refusal m n read runs refuses
 
 -- ---- fine steps
 
@@ -153,9 +191,14 @@ fine_quiet a asked.Begin told m n fine runs legal = step_quiet a asked.Begin tol
 fine_quiet a (asked.Claim seg) told m n fine runs legal = step_quiet a (asked.Claim seg) told m n tt runs legal
 fine_quiet a (asked.Seal filled) told m n fine runs legal = step_quiet a (asked.Seal filled) told m n tt runs legal
 fine_quiet a asked.Reopen told m n fine runs legal = reopen_quiet told m n runs legal
-fine_quiet a (asked.OpenRead name) told m n fine runs legal = quiet_of m n (open_goes a name told m n runs (by_running a (asked.OpenRead name) told m n runs legal))
-fine_quiet a asked.ReadNext told m n fine runs legal = quiet_of m n (read_goes a told m n runs (by_running a asked.ReadNext told m n runs legal))
-fine_quiet a asked.ListNames told m n fine runs legal = quiet_of m n (list_goes a told m n runs (by_running a asked.ListNames told m n runs legal))
+fine_quiet a (asked.OpenRead name) told m n fine runs legal = read_quiet a (asked.OpenRead name) told m n tt (by_running a (asked.OpenRead name) told m n runs legal) runs
+fine_quiet a asked.ReadNext told m n fine runs legal = read_quiet a asked.ReadNext told m n tt (by_running a asked.ReadNext told m n runs legal) runs
+fine_quiet a asked.ListNames told m n fine runs legal = read_quiet a asked.ListNames told m n tt (by_running a asked.ListNames told m n runs legal) runs
+fine_quiet a asked.EndRead told m n fine runs legal = read_quiet a asked.EndRead told m n tt (by_running a asked.EndRead told m n runs legal) runs
+fine_quiet a asked.Abort told m n fine runs legal = read_quiet a asked.Abort told m n tt (by_running a asked.Abort told m n runs legal) runs
+fine_quiet a asked.Stat told m n fine runs legal = read_quiet a asked.Stat told m n tt (by_running a asked.Stat told m n runs legal) runs
+fine_quiet a (asked.GcStart percent) told m n fine runs legal = read_quiet a (asked.GcStart percent) told m n tt (by_running a (asked.GcStart percent) told m n runs legal) runs
+fine_quiet a asked.GcStep told m n fine runs legal = read_quiet a asked.GcStep told m n tt (by_running a asked.GcStep told m n runs legal) runs
 fine_quiet a step told m n fine runs legal = absurd fine
 
 fine_goes : (a : ℕ) (step : Asked (List ℕ)) (told : Result Done Refusal) (m n : F) → IsFine step → IsTold told → m.state ≡ Running
@@ -164,9 +207,14 @@ fine_goes a asked.Begin (Ok answer) m n fine ok runs legal = step_done a asked.B
 fine_goes a (asked.Claim seg) (Ok answer) m n fine ok runs legal = step_done a (asked.Claim seg) answer m n tt runs legal
 fine_goes a (asked.Seal filled) (Ok answer) m n fine ok runs legal = step_done a (asked.Seal filled) answer m n tt runs legal
 fine_goes a asked.Reopen (Ok answer) m n fine ok runs legal = reopen_goes answer m n runs legal
-fine_goes a (asked.OpenRead name) (Ok answer) m n fine ok runs legal = open_goes a name (Ok answer) m n runs (by_running a (asked.OpenRead name) (Ok answer) m n runs legal)
-fine_goes a asked.ReadNext (Ok answer) m n fine ok runs legal = read_goes a (Ok answer) m n runs (by_running a asked.ReadNext (Ok answer) m n runs legal)
-fine_goes a asked.ListNames (Ok answer) m n fine ok runs legal = list_goes a (Ok answer) m n runs (by_running a asked.ListNames (Ok answer) m n runs legal)
+fine_goes a (asked.OpenRead name) (Ok answer) m n fine ok runs legal = reads_go a (asked.OpenRead name) answer m n tt runs (by_running a (asked.OpenRead name) (Ok answer) m n runs legal)
+fine_goes a asked.ReadNext (Ok answer) m n fine ok runs legal = reads_go a asked.ReadNext answer m n tt runs (by_running a asked.ReadNext (Ok answer) m n runs legal)
+fine_goes a asked.ListNames (Ok answer) m n fine ok runs legal = reads_go a asked.ListNames answer m n tt runs (by_running a asked.ListNames (Ok answer) m n runs legal)
+fine_goes a asked.EndRead (Ok answer) m n fine ok runs legal = reads_go a asked.EndRead answer m n tt runs (by_running a asked.EndRead (Ok answer) m n runs legal)
+fine_goes a asked.Abort (Ok answer) m n fine ok runs legal = reads_go a asked.Abort answer m n tt runs (by_running a asked.Abort (Ok answer) m n runs legal)
+fine_goes a asked.Stat (Ok answer) m n fine ok runs legal = reads_go a asked.Stat answer m n tt runs (by_running a asked.Stat (Ok answer) m n runs legal)
+fine_goes a (asked.GcStart percent) (Ok answer) m n fine ok runs legal = reads_go a (asked.GcStart percent) answer m n tt runs (by_running a (asked.GcStart percent) (Ok answer) m n runs legal)
+fine_goes a asked.GcStep (Ok answer) m n fine ok runs legal = reads_go a asked.GcStep answer m n tt runs (by_running a asked.GcStep (Ok answer) m n runs legal)
 fine_goes a step (Ok answer) m n fine ok runs legal = absurd fine
 fine_goes a step (Err refusal) m n fine ok runs legal = absurd ok
 

@@ -282,7 +282,7 @@ restores_by_map name [] ss m e runs lines_are (none, is) = record {
 }
 restores_by_map name (one ∷ more) ss m e runs lines_are ran =
     let after : After name m.now (last_from one more).reply (printed (Restore name) [] (one ∷ more)) e =
-    lines_after (Restore name) (After name) m.now (next name m.now) (opened_after name m.now) one more ss m e refl runs lines_are ran in
+    lines_after (Restore name) m (After name m.now) (next name m.now) (λ reply d opened fresh. opened_after name m.now reply d opened) one more ss e runs lines_are ran in
     record {
       found = λ x may. sure_found e.machine.state e.machine.now x after.sure may ∙ after.same;
       part = after.part;

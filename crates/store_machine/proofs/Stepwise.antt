@@ -8,6 +8,8 @@ use Rattle.script_lines.specs.Grammar.{LineValue}
 use Rattle.script_lines.specs.Grammar as lines
 use Rattle.script_lines.specs.ReplyValue.{ReplyValue}
 use Rattle.script_lines.specs.ReplyValue as replies
+use Rattle.store_model.specs.Freeing.{FreesTo}
+use Rattle.store_model.specs.Image.{Store}
 use Rattle.store_machine.specs.Asked.{Asked}
 use Rattle.store_machine.specs.Asked as asked
 use Rattle.store_machine.specs.ByMap.{FileMachine}
@@ -17,7 +19,8 @@ use Rattle.store_machine.specs.Done as done
 use Rattle.store_machine.specs.Legal.{Answers, ByState, Legal}
 use Rattle.store_machine.specs.Lines.{Bars, Desk, Ends, Line, Session, actor_of, all_none, kind_at, kind_by, reply_of, session_of, step_of, takes, unless_refused}
 use Rattle.store_machine.specs.Machine.{Found, Machine, Part, Idle, RunState, Running, Stopped, Stepped, kind_of, part_in}
-use Rattle.store_machine.specs.Opening.{MayBeFound, MayRefuseOpening, Reopens, freeing}
+use Rattle.store_machine.specs.Needs.{NamesNeed}
+use Rattle.store_machine.specs.Opening.{MayBeFound, MayRefuseOpening, Reopens, Stands, freeing}
 use Rattle.store_machine.specs.Runs.{Run}
 use Rattle.store_machine.specs.Values.{of_files}
 use Rattle.store_machine.proofs.Ingesting.{reply_by, run_one}
@@ -45,6 +48,9 @@ last_is one (next ∷ more) = last_is next more
 
 pub ends_so : (P : Replied → Type 0) (one : Replied) (more : ListOf Replied) → EndsWith P (one ∷ more) → P (last_from one more)
 ends_so P one more (last, is, holds) = subst P (one_of last (last_from one more) (sym is ∙ last_is one more)) holds
+
+pub ends_from : (P : Replied → Type 0) (one : Replied) (more : ListOf Replied) → P (last_from one more) → EndsWith P (one ∷ more)
+ends_from P one more holds = (last_from one more, last_is one more, holds)
 
 -- What is so after a line, by its reply and the text so far, is so after all.
 module _ (command : Command) (After : ReplyValue → ListOf ℕ → Desks → Type 0)
@@ -96,6 +102,30 @@ Opened now reply d =
     ((files : ℕ) × (reply ≡ replies.Opened files) × At now Idle d)
     ⊎ ((refusal : Refusal) × (reply ≡ replies.Refused refusal) × IsFailure refusal × (d.machine.now ≡ now) × IsSure d.machine.state)
 
+-- The store that was there stands, or that with room made; and no collection runs.
+pub record Fresh (start : FileMachine) (d : Desks) : Type 0 where
+  pub slots : ListOf ℕ
+  pub room : FreesTo (NamesNeed of_files start.now) slots start.store d.machine.store
+  pub none_runs : d.machine.collection ≡ None
+
+abbrev pub FreshOnce : FileMachine → ReplyValue → Desks → Type 0
+FreshOnce start (replies.Opened files) d = Fresh start d
+FreshOnce start reply d = Unit {0}
+
+fresh_by : (m : FileMachine) (mid : Desks) (reply : ReplyValue) (told : Result Done Refusal) → m.state ≡ Running → reply ≡ reply_of 0 told → Reopens of_files told m mid.machine
+    → FreshOnce m reply mid
+fresh_by m mid reply (Err refusal) runs is reopens = subst (λ (r : ReplyValue). FreshOnce m r mid) (sym is) tt
+fresh_by m mid reply (Ok (done.Reopened files)) runs is opens =
+    let found : opens.found ≡ m.now = subst (λ (st : RunState (ListOf ℕ)). MayBeFound of_files st m.now opens.found) runs (opens.may tt) in
+    let before : opens.before ≡ m.store = subst (λ (st : RunState (ListOf ℕ)). Stands of_files st m.store opens.before) runs (opens.same tt) in
+    subst (λ (r : ReplyValue). FreshOnce m r mid) (sym is) (record {
+      slots = opens.freed;
+      room = subst (λ (s : Store). FreesTo (NamesNeed of_files m.now) opens.freed s mid.machine.store) before
+          (subst (λ (f : Found (ListOf ℕ)). FreesTo (NamesNeed of_files f) opens.freed opens.before mid.machine.store) found (opens.frees tt));
+      none_runs = ap (λ (x : FileMachine). x.collection) opens.others;
+    })
+fresh_by m mid reply (Ok answer) runs is opens = absurd opens
+
 opened_by : (m : FileMachine) (mid : Desks) (reply : ReplyValue) (told : Result Done Refusal) → m.state ≡ Running → reply ≡ reply_of 0 told → Reopens of_files told m mid.machine
     → mid.sessions ≡ unless_refused reply (all_none (desk m).sessions) (desk m).sessions → Opened m.now reply mid
 opened_by m mid reply (Err refusal) runs is (may, inl others) sessions = inr (
@@ -131,21 +161,22 @@ opened_by m mid reply (Ok (done.Reopened files)) runs is opens sessions =
 opened_by m mid reply (Ok answer) runs is opens sessions = absurd opens
 
 -- The lines of a command: what is so once it was opened or refused is so at the end.
-module _ (command : Command) (After : Found (ListOf ℕ) → ReplyValue → ListOf ℕ → Desks → Type 0) (now : Found (ListOf ℕ))
-    (next : (prev : ReplyValue) (one : Replied) (text : ListOf ℕ) (d mid : Desks) (ss : ListOf Step) → After now prev text d → Follows command prev one.line
-    → Line of_files one.line one.reply ss d mid → After now one.reply (text ++ text_of command [] one.line one.reply) mid)
-    (opened : (reply : ReplyValue) (d : Desks) → Opened now reply d → After now reply (text_of command [] lines.Reopen reply) d) where
-  pub lines_after : (one : Replied) (more : ListOf Replied) (ss : ListOf Step) (m : FileMachine) (e : Desks) → m.now ≡ now → m.state ≡ Running → AreLinesOf command (one ∷ more)
-      → Lines of_files (one ∷ more) ss (desk m) e → After now (last_from one more).reply (printed command [] (one ∷ more)) e
-  lines_after one more ss m e same runs (first, follow) (made, later, mid, is, line, ran) =
-      let opening : Line of_files lines.Reopen one.reply made (desk m) mid = subst (λ (l : LineValue). Line of_files l one.reply made (desk m) mid) first line in
+module _ (command : Command) (start : FileMachine) (After : ReplyValue → ListOf ℕ → Desks → Type 0)
+    (next : (prev : ReplyValue) (one : Replied) (text : ListOf ℕ) (d mid : Desks) (ss : ListOf Step) → After prev text d → Follows command prev one.line
+    → Line of_files one.line one.reply ss d mid → After one.reply (text ++ text_of command [] one.line one.reply) mid)
+    (opened : (reply : ReplyValue) (d : Desks) → Opened start.now reply d → FreshOnce start reply d → After reply (text_of command [] lines.Reopen reply) d) where
+  pub lines_after : (one : Replied) (more : ListOf Replied) (ss : ListOf Step) (e : Desks) → start.state ≡ Running → AreLinesOf command (one ∷ more)
+      → Lines of_files (one ∷ more) ss (desk start) e → After (last_from one more).reply (printed command [] (one ∷ more)) e
+  lines_after one more ss e runs (first, follow) (made, later, mid, is, line, ran) =
+      let opening : Line of_files lines.Reopen one.reply made (desk start) mid = subst (λ (l : LineValue). Line of_files l one.reply made (desk start) mid) first line in
       let a = opening.1.0.0 in
       let told = opening.1.0.1.0 in
-      let legal : Reopens of_files told m mid.machine = run_one (step_of of_files a asked.Reopen told) made m mid.machine opening.1.0.1.1 opening.0 in
-      let so : Opened m.now one.reply mid = opened_by m mid one.reply told runs (opening.1.0.1.2 ∙ reply_by a 0 told m mid.machine legal) legal opening.1.1 in
-      let after : After now one.reply (text_of command [] one.line one.reply) mid =
-      subst (λ (l : LineValue). After now one.reply (text_of command [] l one.reply) mid) (sym first) (opened one.reply mid (subst (λ (x : Found (ListOf ℕ)). Opened x one.reply mid) same so)) in
-      all_after command (After now) next more one (text_of command [] one.line one.reply) mid e later after follow ran
+      let legal : Reopens of_files told start mid.machine = run_one (step_of of_files a asked.Reopen told) made start mid.machine opening.1.0.1.1 opening.0 in
+      let reply_is : one.reply ≡ reply_of 0 told = opening.1.0.1.2 ∙ reply_by a 0 told start mid.machine legal in
+      let after : After one.reply (text_of command [] one.line one.reply) mid =
+      subst (λ (l : LineValue). After one.reply (text_of command [] l one.reply) mid) (sym first)
+      (opened one.reply mid (opened_by start mid one.reply told runs reply_is legal opening.1.1) (fresh_by start mid one.reply told runs reply_is legal)) in
+      all_after command After next more one (text_of command [] one.line one.reply) mid e later after follow ran
 
 -- ---- a line that is one step
 

@@ -1,5 +1,6 @@
 //! Laws of runs of the plain store.
 ghost use Rattle.store_machine.specs.ByMap.{DeletesByMap, DeletesThrough, ListsByMap, ListsThrough, RestoresByMap, RestoresThrough};
+ghost use Rattle.store_machine.specs.CollectsAlone.{CollectsByMap, CollectsThrough};
 ghost use Rattle.store_machine.specs.Collected.{CollectsWhatItSelected};
 ghost use Rattle.store_machine.specs.Forgetting.{RunsAreForgotten, StepsAreForgotten};
 ghost use Rattle.store_machine.specs.Ingests.{IngestsByMap, IngestsThrough};
@@ -48,4 +49,12 @@ pub fn a_delete_takes_its_name()
 pub fn a_list_tells_the_names()
     ensures ended { ListsByMap }
     ensures through { ListsThrough }
+{}
+
+/// After the lines of a `collect` the names are what they were, also at each moment of its steps; where it was done it is printed how many
+/// containers were given back, each of which held the newest copy of nothing that the names need, and how many segments were copied; and
+/// each refusal has its cause. The function does nothing.
+pub fn a_collect_keeps_the_names()
+    ensures ended { CollectsByMap }
+    ensures through { CollectsThrough }
 {}

@@ -19,7 +19,7 @@ use Rattle.store_machine.specs.Asked.{Asked}
 use Rattle.store_machine.specs.Asked as asked
 use Rattle.store_machine.specs.ByMap.{FileMachine}
 use Rattle.store_machine.specs.Collecting.{Ends as EndsCollection, Goes, GoesOn, IsCollecting, Makes, Went, freed_in, keys_written}
-use Rattle.store_machine.specs.CollectsAlone.{CollectRefusal, Collected, CollectsByMap, HasSwept, Spares, Sweeps}
+use Rattle.store_machine.specs.CollectsAlone.{CollectRefusal, CollectsByMap, HasSwept, Spares, Sweeps}
 use Rattle.store_machine.specs.Commands.{Collect, Follows, IsDone, Replied, desk, printed, text_of}
 use Rattle.store_machine.specs.Done.{Done}
 use Rattle.store_machine.specs.Done as done
@@ -157,7 +157,8 @@ module _ (percent : ℕ) (start : FileMachine) where
 
   opened_after : (reply : ReplyValue) (d : Desks) → Opened start.now reply d → FreshOnce start reply d → After reply (text_of (Collect percent) [] lines.Reopen reply) d
   opened_after reply d (inr (refusal, is, fails, same, sure)) fresh =
-      refused_after reply (text_of (Collect percent) [] lines.Reopen reply) d refusal is (failure d.machine refusal fails) same sure (ap (text_of (Collect percent) [] lines.Reopen) is)
+      refused_after reply (text_of (Collect percent) [] lines.Reopen reply) d refusal is (failure d.machine refusal fails) same sure
+      (ap (text_of (Collect percent) [] lines.Reopen) is)
   opened_after reply d (inl (files, is, at)) fresh =
       subst (λ (r : ReplyValue). After r (text_of (Collect percent) [] lines.Reopen r) d) (sym is) (record {
         same = at.same;
@@ -217,7 +218,8 @@ module _ (percent : ℕ) (start : FileMachine) where
 
     rests : (refusal : Refusal) → reply ≡ replies.Refused refusal → CollectRefusal d.machine refusal → mid.machine ≡ d.machine → Next
     rests refusal is cause same =
-        stops text none (lines.Gc percent) reply mid refusal is (subst (λ (x : FileMachine). CollectRefusal x refusal) (sym same) cause) (ap (λ (x : FileMachine). x.now) same ∙ at.same)
+        stops text none (lines.Gc percent) reply mid refusal is (subst (λ (x : FileMachine). CollectRefusal x refusal) (sym same) cause)
+        (ap (λ (x : FileMachine). x.now) same ∙ at.same)
         (running_sure mid.machine.state (ap (λ (x : FileMachine). x.state) same ∙ at.runs))
 
     begins_not : (a : ℕ) (refusal : Refusal) → reply ≡ replies.Refused refusal → RefusesOn of_files a (asked.GcStart percent) refusal d.machine mid.machine → Next
@@ -275,7 +277,8 @@ module _ (percent : ℕ) (start : FileMachine) where
       refused_by refusals.Numbers is (flush, last, same) = stays refusals.Numbers is last same
       refused_by refusals.DiskRead is (some, same) = stays refusals.DiskRead is tt same
       refused_by refusals.DiskWrite is (stores, may, others) =
-          stops text none lines.Sweep reply mid refusals.DiskWrite is tt (ap (λ (x : FileMachine). x.now) others ∙ u.same) (subst IsSure (sym (ap (λ (x : FileMachine). x.state) others)) tt)
+          stops text none lines.Sweep reply mid refusals.DiskWrite is tt (ap (λ (x : FileMachine). x.now) others ∙ u.same)
+          (subst IsSure (sym (ap (λ (x : FileMachine). x.state) others)) tt)
       refused_by (refusals.Corrupt slot offset count want got) is (at, (unknown, same)) = absurd (unknown tt)
       refused_by (refusals.Missing key) is (at, (unknown, same)) = absurd (unknown tt)
       refused_by (refusals.Damaged byte why) is (at, (unknown, same)) = absurd (unknown tt)

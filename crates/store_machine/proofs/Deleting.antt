@@ -10,7 +10,7 @@ use Rattle.script_lines.specs.ReplyValue.{ReplyValue}
 use Rattle.script_lines.specs.ReplyValue as replies
 use Rattle.store_machine.specs.Asked.{Asked}
 use Rattle.store_machine.specs.Asked as asked
-use Rattle.store_machine.specs.ByMap.{DeleteRefusal, Deleted, DeletesByMap, FileMachine}
+use Rattle.store_machine.specs.ByMap.{DeleteRefusal, DeletesByMap, FileMachine}
 use Rattle.store_machine.specs.Commands.{Delete, Follows, IsDone, Replied, desk, printed, text_of}
 use Rattle.store_machine.specs.Done.{Done}
 use Rattle.store_machine.specs.Done as done
@@ -92,18 +92,26 @@ module _ (name : ListOf ℕ) (now : Found (ListOf ℕ)) where
         record {
           stage = subst (λ (r : ReplyValue). Stage r mid) (sym is) tt;
           found = λ x may. inr (sure_found mid.machine.state mid.machine.now x (running_sure mid.machine.state runs) may ∙ now_is);
-          done = λ _. (now_is, runs, does.named, subst (λ (f : Found (ListOf ℕ)). (file : ListOf ℕ) × (finite.get f.names name ≡ Some file)) at.same (has_file (finite.get d.machine.now.names name) does.there));
+          done = λ _. (
+            now_is,
+            runs,
+            does.named,
+            subst (λ (f : Found (ListOf ℕ)). (file : ListOf ℕ) × (finite.get f.names name ≡ Some file)) at.same
+                (has_file (finite.get d.machine.now.names name) does.there),
+          );
           refused = λ refusal wrong. absurd (let no : replies.Deleted sequence ≡ replies.Refused refusal = sym is ∙ wrong in cc);
         }
     deletes a answer is does = absurd does
 
     rests : (refusal : Refusal) → reply ≡ replies.Refused refusal → DeleteRefusal name now d.machine refusal → mid.machine ≡ d.machine → So
     rests refusal is cause same =
-        rests_after reply (text ++ text_of (Delete name) [] (lines.Delete name) reply) mid refusal is (subst (λ (x : FileMachine). DeleteRefusal name now x refusal) (sym same) cause)
+        rests_after reply (text ++ text_of (Delete name) [] (lines.Delete name) reply) mid refusal is
+        (subst (λ (x : FileMachine). DeleteRefusal name now x refusal) (sym same) cause)
         (subst (λ (x : FileMachine). (y : Found (ListOf ℕ)) → MayBeFound of_files x.state x.now y → y ≡ now) (sym same) (at_finds d at))
 
     -- a write failed, and the name may be gone
-    in_doubt : reply ≡ replies.Refused refusals.DiskWrite → (stores : _) → mid.machine ≡ record d.machine { state = Stopped (Some (without_name of_files name d.machine.now)) stores } → So
+    in_doubt : reply ≡ replies.Refused refusals.DiskWrite → (stores : _)
+        → mid.machine ≡ record d.machine { state = Stopped (Some (without_name of_files name d.machine.now)) stores } → So
     in_doubt is stores others = record {
       stage = subst (λ (r : ReplyValue). Stage r mid) (sym is) tt;
       found = λ x may. by x (subst (λ (m : FileMachine). MayBeFound of_files m.state m.now x) others may);

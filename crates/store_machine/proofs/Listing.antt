@@ -9,7 +9,7 @@ use Rattle.script_lines.specs.ReplyValue.{ReplyValue}
 use Rattle.script_lines.specs.ReplyValue as replies
 use Rattle.store_machine.specs.Asked.{Asked}
 use Rattle.store_machine.specs.Asked as asked
-use Rattle.store_machine.specs.ByMap.{FileMachine, ListRefusal, Listed, ListsByMap}
+use Rattle.store_machine.specs.ByMap.{FileMachine, ListRefusal, ListsByMap}
 use Rattle.store_machine.specs.Commands.{Follows, IsDone, List, Replied, desk, printed, text_of}
 use Rattle.store_machine.specs.Done.{Done}
 use Rattle.store_machine.specs.Done as done
@@ -77,7 +77,8 @@ module _ (now : Found (ListOf ℕ)) where
 
     lists : (a : ℕ) (answer : Done) → reply ≡ reply_of a (Ok answer) → Does of_files a asked.ListNames answer d.machine mid.machine → So
     lists a (done.Listed files) is (files_are, others) =
-        let text_is : listing_text files ≡ listing_text (listing of_files now) = ap listing_text files_are ∙ ap (λ (f : Found (ListOf ℕ)). listing_text (listing of_files f)) at.same in
+        let text_is : listing_text files ≡ listing_text (listing of_files now) = ap listing_text files_are
+        ∙ ap (λ (f : Found (ListOf ℕ)). listing_text (listing of_files f)) at.same in
         by_reply (replies.Listed files) is (record {
           same = ap (λ (x : FileMachine). x.now) others ∙ at.same;
           sure = running_sure mid.machine.state (ap (λ (x : FileMachine). x.state) others ∙ at.runs);

@@ -42,8 +42,11 @@ module _ (command : Command) (Last : Asked (ListOf ℕ) → Type 0) where
     fine_fits a step reply ss fine (Err refusal, is, reply_is) =
         inr (subst (GoodTo Last) (sym is) (inl fine), λ line follows. refused refusal line (subst (λ (r : ReplyValue). Follows command r line) reply_is follows))
 
-    module _ (fits : (prev : ReplyValue) (one : Replied) (d mid : Desks) (ss : ListOf Step) → Follows command prev one.line → Line of_files one.line one.reply ss d mid → Fits one.reply ss) where
-      good_after : (first later : ListOf Step) (one : Replied) (more : ListOf Replied) (mid e : Desks) → Fits one.reply first → AllFollow command one more → Lines of_files more later mid e
+    module _
+        (fits : (prev : ReplyValue) (one : Replied) (d mid : Desks) (ss : ListOf Step) → Follows command prev one.line → Line of_files one.line one.reply ss d mid
+        → Fits one.reply ss) where
+      good_after : (first later : ListOf Step) (one : Replied) (more : ListOf Replied) (mid e : Desks) → Fits one.reply first → AllFollow command one more
+          → Lines of_files more later mid e
           → GoodTo Last later → GoodTo Last (first ++ later)
       good_after first later one more mid e (inl ok) follow ran good = ok_good_to Last first later ok good
       good_after first later one [] mid e (inr (own, none)) follow (is, same) good =
@@ -103,7 +106,8 @@ restores_through name first rs ss m e runs lines_are ran x passed =
 list_ends : (refusal : Refusal) (line : LineValue) → Follows List (replies.Refused refusal) line → ⊥
 list_ends refusal line follows = follows
 
-list_fits : (prev : ReplyValue) (one : Replied) (d mid : Desks) (ss : ListOf Step) → Follows List prev one.line → Line of_files one.line one.reply ss d mid → Fits List NoStep one.reply ss
+list_fits : (prev : ReplyValue) (one : Replied) (d mid : Desks) (ss : ListOf Step) → Follows List prev one.line → Line of_files one.line one.reply ss d mid
+    → Fits List NoStep one.reply ss
 list_fits prev one d mid ss follows line = by prev follows
   where
     lists : Line of_files lines.ListNames one.reply ss d mid → Fits List NoStep one.reply ss
@@ -198,7 +202,8 @@ module _ (name : ListOf ℕ) where
       delete_found a (Ok answer) does may = delete_done a answer does may
       delete_found a (Err refusal) refuses may = delete_refused a refusal refuses may
 
-    deletes_last : (s : Step) (m n : F) → m.now ≡ now → m.state ≡ Running → Takes s.asked → Legal of_files s m n → (x : Found (ListOf ℕ)) → MayBeFound of_files n.state n.now x → Either x
+    deletes_last : (s : Step) (m n : F) → m.now ≡ now → m.state ≡ Running → Takes s.asked → Legal of_files s m n → (x : Found (ListOf ℕ)) → MayBeFound of_files n.state n.now x
+        → Either x
     deletes_last s m n same runs is legal x may =
         delete_found m n same runs x s.actor s.answer (subst (λ (st : RunState (ListOf ℕ)). ByState of_files st s.actor (asked.Delete name) s.answer m n) runs
         (subst (λ (step : Asked (ListOf ℕ)). Legal of_files (record { actor = s.actor; asked = step; answer = s.answer }) m n) is legal)) may
@@ -224,7 +229,8 @@ module _ (percent : ℕ) where
     where
       begins : Line of_files (lines.Gc percent) one.reply ss d mid → Fits (Collect percent) NoStep one.reply ss
       begins (run, inl (admits, (a, step, step_is, ends, sessions))) =
-          fine_fits (Collect percent) NoStep collect_ends a (asked.GcStart percent) one.reply ss tt (subst (λ (s : Asked (ListOf ℕ)). Ends of_files a [] s one.reply ss) step_is ends)
+          fine_fits (Collect percent) NoStep collect_ends a (asked.GcStart percent) one.reply ss tt
+          (subst (λ (s : Asked (ListOf ℕ)). Ends of_files a [] s one.reply ss) step_is ends)
       begins (run, inr (refusal, bars, is, no_steps, sessions)) = inl (subst AllOk (sym no_steps) tt)
 
       -- the last of them

@@ -158,7 +158,8 @@ reads_rest a step (refusals.WrongPart kind) m n read runs (wrong, is) = rests_so
 reads_rest a step refusals.Memory m n read runs on = reads_rest_on a step refusals.Memory m n read runs on
 reads_rest a step refusal m n read runs (right, on) = reads_rest_on a step refusal m n read runs on
 
-by_running : (a : ℕ) (step : Asked (List ℕ)) (told : Result Done Refusal) (m n : F) → m.state ≡ Running → ByState of_files m.state a step told m n → Answers of_files a step told m n
+by_running : (a : ℕ) (step : Asked (List ℕ)) (told : Result Done Refusal) (m n : F) → m.state ≡ Running → ByState of_files m.state a step told m n
+    → Answers of_files a step told m n
 by_running a step told m n runs by = subst (λ (st : RunState (List ℕ)). ByState of_files st a step told m n) runs by
 
 read_quiet : (a : ℕ) (step : Asked (List ℕ)) (told : Result Done Refusal) (m n : F) → IsRead step → Answers of_files a step told m n → m.state ≡ Running → Quiet m n
@@ -207,13 +208,15 @@ fine_goes a asked.Begin (Ok answer) m n fine ok runs legal = step_done a asked.B
 fine_goes a (asked.Claim seg) (Ok answer) m n fine ok runs legal = step_done a (asked.Claim seg) answer m n tt runs legal
 fine_goes a (asked.Seal filled) (Ok answer) m n fine ok runs legal = step_done a (asked.Seal filled) answer m n tt runs legal
 fine_goes a asked.Reopen (Ok answer) m n fine ok runs legal = reopen_goes answer m n runs legal
-fine_goes a (asked.OpenRead name) (Ok answer) m n fine ok runs legal = reads_go a (asked.OpenRead name) answer m n tt runs (by_running a (asked.OpenRead name) (Ok answer) m n runs legal)
+fine_goes a (asked.OpenRead name) (Ok answer) m n fine ok runs legal = reads_go a (asked.OpenRead name) answer m n tt runs
+    (by_running a (asked.OpenRead name) (Ok answer) m n runs legal)
 fine_goes a asked.ReadNext (Ok answer) m n fine ok runs legal = reads_go a asked.ReadNext answer m n tt runs (by_running a asked.ReadNext (Ok answer) m n runs legal)
 fine_goes a asked.ListNames (Ok answer) m n fine ok runs legal = reads_go a asked.ListNames answer m n tt runs (by_running a asked.ListNames (Ok answer) m n runs legal)
 fine_goes a asked.EndRead (Ok answer) m n fine ok runs legal = reads_go a asked.EndRead answer m n tt runs (by_running a asked.EndRead (Ok answer) m n runs legal)
 fine_goes a asked.Abort (Ok answer) m n fine ok runs legal = reads_go a asked.Abort answer m n tt runs (by_running a asked.Abort (Ok answer) m n runs legal)
 fine_goes a asked.Stat (Ok answer) m n fine ok runs legal = reads_go a asked.Stat answer m n tt runs (by_running a asked.Stat (Ok answer) m n runs legal)
-fine_goes a (asked.GcStart percent) (Ok answer) m n fine ok runs legal = reads_go a (asked.GcStart percent) answer m n tt runs (by_running a (asked.GcStart percent) (Ok answer) m n runs legal)
+fine_goes a (asked.GcStart percent) (Ok answer) m n fine ok runs legal = reads_go a (asked.GcStart percent) answer m n tt runs
+    (by_running a (asked.GcStart percent) (Ok answer) m n runs legal)
 fine_goes a asked.GcStep (Ok answer) m n fine ok runs legal = reads_go a asked.GcStep answer m n tt runs (by_running a asked.GcStep (Ok answer) m n runs legal)
 fine_goes a step (Ok answer) m n fine ok runs legal = absurd fine
 fine_goes a step (Err refusal) m n fine ok runs legal = absurd ok

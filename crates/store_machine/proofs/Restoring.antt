@@ -15,7 +15,7 @@ use Rattle.script_lines.specs.ReplyValue.{ReplyValue}
 use Rattle.script_lines.specs.ReplyValue as replies
 use Rattle.store_machine.specs.Asked.{Asked}
 use Rattle.store_machine.specs.Asked as asked
-use Rattle.store_machine.specs.ByMap.{FileMachine, IsPartOfFile, RestoreRefusal, Restored, RestoresByMap}
+use Rattle.store_machine.specs.ByMap.{FileMachine, IsPartOfFile, RestoreRefusal, RestoredFile, RestoresByMap}
 use Rattle.store_machine.specs.Commands.{Follows, IsDone, Lines, Replied, Restore, desk, printed, text_of}
 use Rattle.store_machine.specs.Done.{Done}
 use Rattle.store_machine.specs.Done as done
@@ -115,7 +115,8 @@ module _ (name : ListOf ℕ) (now : Found (ListOf ℕ)) where
       part_is = ap (λ (x : FileMachine). part_in x 0) is ∙ index_set d.machine.parts part at.some;
     }
 
-    rested : (old : FilePart) (reply : ReplyValue) (refusal : Refusal) → At now old d → IsPartOfFile name now text → reply ≡ replies.Refused refusal → RestoreRefusal name now refusal
+    rested : (old : FilePart) (reply : ReplyValue) (refusal : Refusal) → At now old d → IsPartOfFile name now text → reply ≡ replies.Refused refusal
+        → RestoreRefusal name now refusal
         → mid.machine ≡ d.machine → (line : LineValue) → After reply (text ++ text_of (Restore name) [] line reply) mid
     rested old reply refusal at part is cause same line =
         subst (λ (r : ReplyValue). After reply (text ++ text_of (Restore name) [] line r) mid) (sym is)

@@ -214,6 +214,7 @@ module _ (now : Found (ListOf ℕ)) (part : Part (ListOf ℕ) (ListOf (ListOf �
       → Ends of_files a [] step reply ss → Answered a step reply d mid
   one_step a step reply ss run by (told, is, reply_is) = record {
     told = told;
-    answers = subst (λ (st : RunState (ListOf ℕ)). ByState of_files st a step told d.machine mid.machine) at.runs (by told (run_one (step_of of_files a step told) ss d.machine mid.machine is run));
+    answers = subst (λ (st : RunState (ListOf ℕ)). ByState of_files st a step told d.machine mid.machine) at.runs
+        (by told (run_one (step_of of_files a step told) ss d.machine mid.machine is run));
     reply_is = reply_is;
   }

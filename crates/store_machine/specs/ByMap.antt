@@ -44,14 +44,14 @@ RestoreRefusal name now DiskWrite = Unit {0}
 RestoreRefusal name now refusal = ⊥
 
 -- What may be found is what was. A first part of the name's file is printed, and where the last line was done all of it.
-pub record Restored (name : ListOf ℕ) (rs : ListOf Replied) (now : Found (ListOf ℕ)) (n : FileMachine) : Type 0 where
+pub record RestoredFile (name : ListOf ℕ) (rs : ListOf Replied) (now : Found (ListOf ℕ)) (n : FileMachine) : Type 0 where
   pub found : (x : Found (ListOf ℕ)) → MayBeFound of_files n.state n.now x → x ≡ now
   pub part : IsPartOfFile name now (printed (Restore name) [] rs)
   pub done : EndsWith (λ one. IsDone (Restore name) one.reply) rs → finite.get now.names name ≡ Some (printed (Restore name) [] rs)
   pub refused : (refusal : Refusal) → EndsRefused refusal rs → RestoreRefusal name now refusal
 
 abbrev pub RestoresByMap : Type 0
-RestoresByMap = (name : ListOf ℕ) → ByMap (Restore name) (Restored name)
+RestoresByMap = (name : ListOf ℕ) → ByMap (Restore name) (RestoredFile name)
 
 -- ---- delete
 
@@ -66,7 +66,7 @@ DeleteRefusal name now n refusal = ⊥
 
 -- What may be found is what was, or that without the name; where the last line was done it is the latter, and the name had a file. Only a
 -- write that failed leaves a doubt.
-pub record Deleted (name : ListOf ℕ) (rs : ListOf Replied) (now : Found (ListOf ℕ)) (n : FileMachine) : Type 0 where
+pub record DeletedName (name : ListOf ℕ) (rs : ListOf Replied) (now : Found (ListOf ℕ)) (n : FileMachine) : Type 0 where
   pub found : (x : Found (ListOf ℕ)) → MayBeFound of_files n.state n.now x → (x ≡ now) ⊎ (x ≡ without_name of_files name now)
   pub done : EndsWith (λ one. IsDone (Delete name) one.reply) rs
       → (n.now ≡ without_name of_files name now) × (n.state ≡ Running) × IsName name
@@ -75,7 +75,7 @@ pub record Deleted (name : ListOf ℕ) (rs : ListOf Replied) (now : Found (ListO
       × (((refusal ≡ DiskWrite) → ⊥) → (x : Found (ListOf ℕ)) → MayBeFound of_files n.state n.now x → x ≡ now)
 
 abbrev pub DeletesByMap : Type 0
-DeletesByMap = (name : ListOf ℕ) → ByMap (Delete name) (Deleted name)
+DeletesByMap = (name : ListOf ℕ) → ByMap (Delete name) (DeletedName name)
 
 -- ---- list
 
@@ -85,22 +85,23 @@ ListRefusal DiskRead = Unit {0}
 ListRefusal DiskWrite = Unit {0}
 ListRefusal refusal = ⊥
 
--- What may be found is what was. Where the last line was done the names are printed, with the lengths and the roots of their files; and else
--- nothing.
-pub record Listed (rs : ListOf Replied) (now : Found (ListOf ℕ)) (n : FileMachine) : Type 0 where
+-- What may be found is what was. Where the last line was done the names are printed, with the lengths and the roots of their files; and
+-- else nothing.
+pub record ListedNames (rs : ListOf Replied) (now : Found (ListOf ℕ)) (n : FileMachine) : Type 0 where
   pub found : (x : Found (ListOf ℕ)) → MayBeFound of_files n.state n.now x → x ≡ now
   pub text : (printed List [] rs ≡ []) ⊎ (printed List [] rs ≡ listing_text (listing of_files now))
   pub done : EndsWith (λ one. IsDone List one.reply) rs → printed List [] rs ≡ listing_text (listing of_files now)
   pub refused : (refusal : Refusal) → EndsRefused refusal rs → ListRefusal refusal
 
 abbrev pub ListsByMap : Type 0
-ListsByMap = ByMap List Listed
+ListsByMap = ByMap List ListedNames
 
 -- ---- at each moment of their steps
 
 -- of what may be found then, P holds beside the names of before
 abbrev pub Through : Command → (Found (ListOf ℕ) → Found (ListOf ℕ) → Type 0) → Type 0
-Through command P = (first : ℕ) (rs : ListOf Replied) (ss : ListOf (Stepped (ListOf ℕ))) (m : FileMachine) (e : Desk (ListOf ℕ) (ListOf (ListOf ℕ)))
+Through command P = (first : ℕ) (rs : ListOf Replied) (ss : ListOf (Stepped (ListOf ℕ))) (m : FileMachine)
+    (e : Desk (ListOf ℕ) (ListOf (ListOf ℕ)))
     → m.state ≡ Running → AreLinesOf command rs → (ran : Lines of_files rs ss (desk m) e)
     → (x : Found (ListOf ℕ)) → IsPassedFrom of_files first ss m e.machine (run_of of_files rs ss (desk m) e ran) x → P m.now x
 

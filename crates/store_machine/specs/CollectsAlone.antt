@@ -1,4 +1,5 @@
--- What the lines of a `collect` come to, in a run of the machine of files: the names stay, and what it gave back held nothing that they need.
+-- What the lines of a `collect` come to, in a run of the machine of files: the names stay, and what it gave back held nothing that they
+-- need.
 use Rattle.std.specs.Prelude.{◌≡◌, ◌⊎◌, ◌≤◌, ℕ, List as ListOf, [], ◌∷◌, length, None}
 use Rattle.disk_format.specs.declared.numbers.TheConstants.{LAST_ID}
 use Rattle.refusals.specs.declared.refusal.Refusal.{Refusal}
@@ -21,10 +22,12 @@ use Rattle.store_machine.specs.Values.{of_files}
 -- each container that is given back holds the newest copy of no key that the file of a name has, in its turn
 abbrev pub Spares : Found (ListOf ℕ) → ListOf StoreChange → Store → Type 0
 Spares now [] store = Unit {0}
-Spares now (FreeContainer slot ∷ more) store = IsSpare (NamesNeed of_files now) store.held slot × Spares now more (changed (FreeContainer slot) store)
+Spares now (FreeContainer slot ∷ more) store = IsSpare (NamesNeed of_files now) store.held slot
+    × Spares now more (changed (FreeContainer slot) store)
 Spares now (change ∷ more) store = Spares now more (changed change store)
 
--- The store that was there came to this one: the opening made room, where it had to; and then these changes were made, each where it could be.
+-- The store that was there came to this one: the opening made room, where it had to; and then these changes were made, each where it could
+-- be.
 pub record Sweeps (changes : ListOf StoreChange) (m n : FileMachine) : Type 0 where
   pub opened : Store
   pub slots : ListOf ℕ
@@ -50,7 +53,7 @@ CollectRefusal n refusal = ⊥
 
 -- What may be found is what was. Where the last line was done it is printed how many containers were given back, and how many segments
 -- copied; and else nothing.
-pub record Collected (percent : ℕ) (rs : ListOf Replied) (m n : FileMachine) : Type 0 where
+pub record CollectedAlone (percent : ℕ) (rs : ListOf Replied) (m n : FileMachine) : Type 0 where
   pub found : (x : Found (ListOf ℕ)) → MayBeFound of_files n.state n.now x → x ≡ m.now
   pub done : EndsWith (λ one. IsDone (Collect percent) one.reply) rs
       → (freed copied : ℕ) × (printed (Collect percent) [] rs ≡ reply_line (replies.Collected freed copied)) × HasSwept freed copied m n
@@ -58,8 +61,9 @@ pub record Collected (percent : ℕ) (rs : ListOf Replied) (m n : FileMachine) :
   pub refused : (refusal : Refusal) → EndsRefused refusal rs → CollectRefusal n refusal
 
 abbrev pub CollectsByMap : Type 0
-CollectsByMap = (percent : ℕ) (rs : ListOf Replied) (ss : ListOf (Stepped (ListOf ℕ))) (m : FileMachine) (e : Desk (ListOf ℕ) (ListOf (ListOf ℕ)))
-    → m.state ≡ Running → AreLinesOf (Collect percent) rs → Lines of_files rs ss (desk m) e → Collected percent rs m e.machine
+CollectsByMap = (percent : ℕ) (rs : ListOf Replied) (ss : ListOf (Stepped (ListOf ℕ))) (m : FileMachine)
+    (e : Desk (ListOf ℕ) (ListOf (ListOf ℕ)))
+    → m.state ≡ Running → AreLinesOf (Collect percent) rs → Lines of_files rs ss (desk m) e → CollectedAlone percent rs m e.machine
 
 abbrev pub CollectsThrough : Type 0
 CollectsThrough = (percent : ℕ) → Through (Collect percent) (λ now x. x ≡ now)

@@ -2,7 +2,6 @@
 use Rattle.std.proofs.Common.{◌≡◌, inl, inr, ℕ, zero, suc, false, List, [], ◌++◌, replicate, Option, Some, None, Ok, refl, sym, ◌∙◌, ap, subst, arith}
 use Rattle.std.specs.FinMap as finite
 use Rattle.actor_parts.specs.declared.actor.TheConstants.{ACTORS}
-use Rattle.actor_parts.specs.declared.part.Part as core_part
 use Rattle.actor_parts.specs.declared.part.Part.TheVariants as core
 use Rattle.container_meta.specs.Places.{PlaceMap}
 use Rattle.disk_format.specs.Cells.{Root}
@@ -17,6 +16,7 @@ use Rattle.refusals.specs.declared.refusal.Refusal.{Refusal}
 use Rattle.refusals.specs.declared.refusal.Refusal.TheVariants as refusals
 use Rattle.store_model.specs.Image.{IsValidFor, Store, last_sequence, names_of}
 use Rattle.store_model.specs.Slots.{IsIndexOf, last_id}
+use Rattle.store_model.proofs.Sound.{last_within}
 use Rattle.store_state.specs.Tables.{Represents}
 use Rattle.store_core.specs.Opening.{IsKept, IsNew, IsReadFrom, OpensNone, StopsUnopened, WritesUnread}
 use Rattle.store_core.specs.State.{CoreState, IsRunning}
@@ -40,14 +40,14 @@ all_same (suc count) = (tt, all_same count)
 
 -- ---- a store that was read
 
-root_in : Named → Root
+abbrev root_in : Named → Root
 root_in n = n.root
 
-found_in : Store → Found Root
+abbrev found_in : Store → Found Root
 found_in store = record { names = mapped Named Root root_in (names_of store); last = last_sequence store }
 
 -- the machine of a store, at rest
-at_rest : Store → M
+abbrev at_rest : Store → M
 at_rest store = record {
   now = found_in store;
   parts = all_idle;
@@ -61,52 +61,54 @@ at_rest store = record {
 }
 
 -- the store that a core has, whatever its index
-unindexed : {store : Store} {known : Option PlaceMap} {c : CoreState} → Represents store known c.tables → Represents store None c.tables
-unindexed r = record { slots_are = r.slots_are; names_are = r.names_are; slots_hold = r.slots_hold; index_is_newest = tt }
+unindexed : (store : Store) (known : Option PlaceMap) (t : Tables) → Represents store known t → Represents store None t
+unindexed store known t r = record { slots_are = r.slots_are; names_are = r.names_are; slots_hold = r.slots_hold; index_is_newest = λ index is. absurd cc }
 
 module _ (before : DiskView) (c : CoreState) (read : IsReadFrom before c) (runs : IsRunning c) where
-  new : IsNew (Shows before c.disk) before.size c
-  new = read.opened
+  abbrev opened : IsNew (Shows before c.disk) before.size c
+  opened = read.opened
 
-  is_index : (places : PlaceMap) → c.known ≡ Some places → IsIndexOf new.store.held places
-  is_index places is = new.whole places is
+  is_index : (places : PlaceMap) → c.known ≡ Some places → IsIndexOf opened.store.held places
+  is_index places is = opened.whole places is
 
-  rests : IsMachine (at_rest new.store) c
+  rests : IsMachine (at_rest opened.store) c
   rests = record {
-    represents = unindexed new.represents;
-    valid = subst (λ (size : ℕ). IsValidFor size new.store) (sym read.reads.only.later.size_is) new.valid;
-    free = omega (arith, new.reserve);
-    names = get_mapped Named Root root_in (names_of new.store);
+    represents = unindexed opened.store c.known c.tables opened.represents;
+    valid = subst (λ (size : ℕ). IsValidFor size opened.store) (sym read.reads.only.later.size_is) opened.valid;
+    free = omega (arith, opened.reserve);
+    names = get_mapped Named Root root_in (names_of opened.store);
     last = refl;
-    last_id = sym new.last_id_is;
-    parts = subst (SameParts all_idle) (sym new.parts_are) (all_same ACTORS);
-    acknowledged = sym new.counted;
-    index = λ _. record { places = new.told.0; known_is = new.told.1; newest = λ _. (refl, is_index new.told.0 new.told.1) };
-    collection = subst (SameCollection c.tables.held false None) (sym new.collection_is) tt;
-    state = subst (SameStop 0 Running) (sym new.stop_is) tt;
+    last_id = sym opened.last_id_is;
+    last_within = omega (arith, last_within opened.store.held opened.valid.headers);
+    parts = subst (SameParts all_idle) (sym opened.parts_are) (all_same ACTORS);
+    acknowledged = sym opened.counted;
+    index = λ _. record { places = opened.told.0; known_is = opened.told.1; newest = λ _. (refl, is_index opened.told.0 opened.told.1) };
+    collection = subst (SameCollection c.tables.held false None) (sym opened.collection_is) tt;
+    state = subst (SameStop 0 Running) (sym opened.stop_is) tt;
   }
 
-  as_many : finite.len c.tables.names ≡ finite.len (found_in new.store).names
+  as_many : finite.len c.tables.names ≡ finite.len (found_in opened.store).names
   as_many =
-      ap finite.len new.represents.names_are.names_are
-      ∙ sym (len_changed Named Root root_in (names_of new.store) (found_in new.store).names (get_mapped Named Root root_in (names_of new.store)))
+      ap finite.len opened.represents.names_are.names_are
+      ∙ sym (len_changed Named Root root_in (names_of opened.store) (found_in opened.store).names (get_mapped Named Root root_in (names_of opened.store)))
 
-  comes : (actor : ℕ) (m : M) → Reopens actor (Ok (done.Reopened (finite.len c.tables.names))) m (at_rest new.store)
+  comes : (actor : ℕ) (m : M) → Reopens actor (Ok (done.Reopened (finite.len c.tables.names))) m (at_rest opened.store)
   comes actor m = record {
-    found = found_in new.store;
+    found = found_in opened.store;
     may = λ known. absurd known;
     files_are = as_many;
-    before = new.store;
+    before = opened.store;
     same = λ known. absurd known;
     freed = [];
     frees = λ known. absurd known;
-    reserve = new.reserve;
+    reserve = opened.reserve;
     others = refl;
   }
 
 module _ (D : Type 0) (view : D → DiskView) (C : Type 0) (state : C → CoreState) where
   pub opened_refines : OpenedRefines D view C state
-  opened_refines actor before c (inl read) runs = (at_rest read.opened.store, (rests before (state c) read runs, comes before (state c) read runs actor))
+  opened_refines actor before c (inl read) runs =
+      (at_rest read.opened.store, (rests (view before) (state c) read runs, comes (view before) (state c) read runs actor))
   opened_refines actor before c (inr (mid, (made, read))) runs =
       (at_rest read.opened.store, (rests (view mid) (state c) read runs, comes (view mid) (state c) read runs actor))
 
@@ -161,6 +163,7 @@ module _ (D : Type 0) (view : D → DiskView) where
       names = at.names;
       last = at.last;
       last_id = at.last_id ∙ ap (λ (t : Tables). t.held.last_id) (sym kept.tables_are);
+      last_within = at.last_within;
       parts = subst (SameParts m.parts) (sym kept.parts_are) at.parts;
       acknowledged = at.acknowledged ∙ sym kept.counted;
       index = λ running. let own = at.index running in record { places = own.places; known_is = kept.index_is ∙ own.known_is; newest = own.newest };
@@ -177,6 +180,7 @@ module _ (D : Type 0) (view : D → DiskView) where
       names = at.names;
       last = at.last;
       last_id = at.last_id ∙ ap (λ (t : Tables). t.held.last_id) (sym stops.tables_are);
+      last_within = at.last_within;
       parts = subst (SameParts m.parts) (sym stops.parts_are) at.parts;
       acknowledged = at.acknowledged ∙ sym stops.counted;
       index = λ running. absurd (never_runs [] m.state running);
@@ -192,7 +196,7 @@ module _ (D : Type 0) (view : D → DiskView) (C : Type 0) (state : C → CoreSt
   unopened_refines actor refusal old new m at none (inr stops) = (
     record m { state = freeing of_roots [] m.state },
     (
-      (may_refuse D view refusal (state old).disk (state new).disk none, inr ([], (refl, λ known. absurd known))),
+      (may_refuse D view refusal (state old).disk (state new).disk none, inr ([], refl, (λ known. absurd known))),
       stopped_so D view refusal (state old) (state new) m at stops,
     ),
   )

@@ -13,7 +13,7 @@ use Rattle.refusals.specs.declared.refusal.Refusal.{Refusal}
 use Rattle.refusals.specs.declared.refusal.Refusal.TheVariants as refusals
 use Rattle.store_core.specs.declared.stop.Stop.{Stop}
 use Rattle.store_core.specs.Core.{ClaimRow, ListRow, StatRow, AbortRow, AnswersStopped, BeginRow, EndRow, Made, OpenRow, ReadRow, Steps, StepsOr, StopsAfter, counted}
-use Rattle.store_core.specs.State.{CoreState, Event}
+use Rattle.store_core.specs.State.{CoreState, Event, IsUnderWayIn, IsUp, UnlessStopped}
 use Rattle.store_machine.specs.Asked.{Asked}
 use Rattle.store_machine.specs.Asked as asked
 use Rattle.store_machine.specs.Done.{Done}
@@ -21,11 +21,13 @@ use Rattle.store_machine.specs.Legal.{Answers, ByState, LegalBy}
 use Rattle.store_machine.specs.Machine.{RunState, Running, Stopped}
 use Rattle.store_machine.specs.Values.{IsStuck, of_roots}
 use Rattle.store_state.specs.declared.tables.Tables.{Tables}
-use Rattle.store_core.specs.Collecting.{Collects, IsKeptKey}
+use Rattle.store_core.specs.Collecting.{Collects, IsKeptKey, StartRow}
 use Rattle.core_machine.specs.Collections.{SameCollection}
 use Rattle.core_machine.specs.Refines.{CoreRefines, HasIndex, IsMachine, SameParts, SameStop, asked_by, answered_by}
 use Rattle.store_model.specs.Image.{IsValidFor}
 use Rattle.store_state.specs.Tables.{Represents}
+use Rattle.core_machine.proofs.Collected.{gc_row}
+use Rattle.core_machine.proofs.Started.{start_row}
 use Rattle.core_machine.proofs.Rows.{M, abort_row, begin_row, claim_row, commit_row, list_row, stat_row, delete_row, end_row, left_by, open_row, read_row, same_at, same_marks, stays_so}
 
 no_write : (after : List Top) → IsStuck after refusals.DiskWrite → ⊥
@@ -81,6 +83,13 @@ module _ (c d : CoreState) where
   claim_quiet told seg a (Err refusal) row stop count = (stop, count)
   claim_quiet told seg a (Ok answer) row stop count = absurd row
 
+  start_quiet : (percent : ℕ) (answer : Result Answer Refusal) → StartRow percent answer c d → Quiet (steps.GcStart percent) answer
+  start_quiet percent (Ok (answers.Started snapshot)) row stop count = (stop, count)
+  start_quiet percent (Err (refusals.Collecting phase)) row stop count = (stop, count)
+  start_quiet percent (Err refusals.DiskWrite) row stop count = absurd row.cause.cause
+  start_quiet percent (Err refusal) row stop count = (stop, count)
+  start_quiet percent (Ok answer) row stop count = absurd row
+
   list_quiet : (answer : Result Answer Refusal) → ListRow answer c d → Quiet steps.ListNames answer
   list_quiet (Ok (answers.Listed files)) row stop count = (stop, count)
   list_quiet (Err refusals.Memory) row stop count = (stop, count)
@@ -98,7 +107,7 @@ module _ (c d : CoreState) where
 some_is : (a b : Asked Root) → Some a ≡ Some b → a ≡ b
 some_is a b is = cc
 
-module _ (c d : CoreState) (m : M) (at : IsMachine m c) (runs : m.state ≡ Running) (a : ℕ) (buf : List ℕ) where
+module _ (c d : CoreState) (m : M) (at : IsMachine m c) (runs : m.state ≡ Running) (under : IsUnderWayIn c.tables.held c.collection) (a : ℕ) (buf : List ℕ) where
   own : HasIndex m.swept m.forgotten m.store.held c.known
   own = at.index runs
 
@@ -110,23 +119,23 @@ module _ (c d : CoreState) (m : M) (at : IsMachine m c) (runs : m.state ≡ Runn
   made_by steps.Begin step answer is made collects stop count =
       let quiet = begin_quiet c d a answer made.row stop count in
       subst (Left answer) (some_is asked.Begin step is) (begin_row c m at runs d a answer buf made.row
-          (left_by c m at runs d made.effect.tables made.effect.disk.only.later.size_is quiet.1 (same_at c m at runs d collects) quiet.0))
+      (left_by c m at runs d made.effect.tables made.effect.disk.only.later.size_is quiet.1 (same_at c m at runs d collects) quiet.0))
   made_by steps.Abort step answer is made collects stop count =
       let quiet = abort_quiet c d a answer made.row stop count in
       subst (Left answer) (some_is asked.Abort step is) (abort_row c m at runs d a answer buf made.row
-          (left_by c m at runs d made.effect.tables made.effect.disk.only.later.size_is quiet.1 (same_at c m at runs d collects) quiet.0))
+      (left_by c m at runs d made.effect.tables made.effect.disk.only.later.size_is quiet.1 (same_at c m at runs d collects) quiet.0))
   made_by (steps.OpenRead name) step answer is made collects stop count =
       let quiet = open_quiet c d name a answer made.row stop count in
       subst (Left answer) (some_is (asked.OpenRead name) step is) (open_row c m at runs d name a answer buf made.row
-          (left_by c m at runs d made.effect.tables made.effect.disk.only.later.size_is quiet.1 (same_at c m at runs d collects) quiet.0))
+      (left_by c m at runs d made.effect.tables made.effect.disk.only.later.size_is quiet.1 (same_at c m at runs d collects) quiet.0))
   made_by steps.ReadNext step answer is made collects stop count =
       let quiet = read_quiet c d a answer buf made.row stop count in
       subst (Left answer) (some_is asked.ReadNext step is) (read_row c m at runs d a answer buf made.row
-          (left_by c m at runs d made.effect.tables made.effect.disk.only.later.size_is quiet.1 (same_at c m at runs d collects) quiet.0))
+      (left_by c m at runs d made.effect.tables made.effect.disk.only.later.size_is quiet.1 (same_at c m at runs d collects) quiet.0))
   made_by steps.EndRead step answer is made collects stop count =
       let quiet = end_quiet c d a answer made.row stop count in
       subst (Left answer) (some_is asked.EndRead step is) (end_row c m at runs d a answer buf made.row
-          (left_by c m at runs d made.effect.tables made.effect.disk.only.later.size_is quiet.1 (same_at c m at runs d collects) quiet.0))
+      (left_by c m at runs d made.effect.tables made.effect.disk.only.later.size_is quiet.1 (same_at c m at runs d collects) quiet.0))
   made_by (steps.Delete name) step answer is made collects stop count =
       subst (Left answer) (some_is (asked.Delete name) step is) (delete_row c m at runs d name a answer buf made.row made.effect collects stop count)
   made_by (steps.Commit name root) step answer is made collects stop count =
@@ -134,16 +143,21 @@ module _ (c d : CoreState) (m : M) (at : IsMachine m c) (runs : m.state ≡ Runn
   made_by (steps.Claim seg) step answer is made collects stop count =
       let quiet = claim_quiet c d (own.places, own.known_is) seg a answer made.row stop count in
       subst (Left answer) (some_is (asked.Claim seg) step is) (claim_row c m at runs d seg a answer buf made.row
-          (left_by c m at runs d made.effect.tables made.effect.disk.only.later.size_is quiet.1
-          (same_marks (IsKeptKey (steps.Claim seg) answer) c.tables.held m.swept m.collection c.collection d.collection collects at.collection) quiet.0))
+      (left_by c m at runs d made.effect.tables made.effect.disk.only.later.size_is quiet.1
+      (same_marks (IsKeptKey (steps.Claim seg) answer) c.tables.held m.swept m.collection c.collection d.collection collects at.collection) quiet.0))
   made_by steps.ListNames step answer is made collects stop count =
       let quiet = list_quiet c d answer made.row stop count in
       subst (Left answer) (some_is asked.ListNames step is) (list_row c m at runs d a answer buf made.row
-          (left_by c m at runs d made.effect.tables made.effect.disk.only.later.size_is quiet.1 (same_at c m at runs d collects) quiet.0))
+      (left_by c m at runs d made.effect.tables made.effect.disk.only.later.size_is quiet.1 (same_at c m at runs d collects) quiet.0))
   made_by steps.Stat step answer is made collects stop count =
       let quiet = stat_quiet c d at answer made.row stop count in
       subst (Left answer) (some_is asked.Stat step is) (stat_row c m at runs d a answer buf made.row
-          (left_by c m at runs d made.effect.tables made.effect.disk.only.later.size_is quiet.1 (same_at c m at runs d collects) quiet.0))
+      (left_by c m at runs d made.effect.tables made.effect.disk.only.later.size_is quiet.1 (same_at c m at runs d collects) quiet.0))
+  made_by (steps.GcStart percent) step answer is made collects stop count =
+      let quiet = start_quiet c d percent answer made.row stop count in
+      subst (Left answer) (some_is (asked.GcStart percent) step is) (start_row c m at runs d percent a answer buf made.row made.effect under quiet.0 quiet.1)
+  made_by steps.GcStep step answer is made collects stop count =
+      subst (Left answer) (some_is asked.GcStep step is) (gc_row c m at runs d a answer buf made.row made.effect under stop count)
   made_by s step answer is made collects stop count = absurd (let wrong : None ≡ Some step = is in cc)
 
 -- none of these is an opening
@@ -174,6 +188,8 @@ by_state s asked.Reopen a told m n is by = absurd (no_opening s is)
     no_opening (steps.Claim seg) is = absurd (let wrong : asked.Claim seg ≡ asked.Reopen = some_is (asked.Claim seg) asked.Reopen is in cc)
     no_opening (steps.Commit name root) is = absurd (let wrong : asked.Commit name root ≡ asked.Reopen = some_is (asked.Commit name root) asked.Reopen is in cc)
     no_opening steps.ListNames is = absurd (let wrong : asked.ListNames ≡ asked.Reopen = some_is asked.ListNames asked.Reopen is in cc)
+    no_opening (steps.GcStart percent) is = absurd (let wrong : asked.GcStart percent ≡ asked.Reopen = some_is (asked.GcStart percent) asked.Reopen is in cc)
+    no_opening steps.GcStep is = absurd (let wrong : asked.GcStep ≡ asked.Reopen = some_is asked.GcStep asked.Reopen is in cc)
     no_opening steps.Stat is = absurd (let wrong : asked.Stat ≡ asked.Reopen = some_is asked.Stat asked.Reopen is in cc)
     no_opening s is = absurd (let wrong : None ≡ Some asked.Reopen = is in cc)
 
@@ -195,6 +211,7 @@ module _ (e : Event) (step : Asked Root) (old new : CoreState) (m : M) (is : ask
         names = at.names;
         last = at.last;
         last_id = at.last_id ∙ ap (λ (t : Tables). t.held.last_id) (sym answers.same.tables_are);
+        last_within = at.last_within;
         parts = subst (SameParts m.parts) (sym answers.same.parts_are) at.parts;
         acknowledged = at.acknowledged ∙ sym answers.same.counted;
         index = λ running. absurd (let wrong : Stopped other stores ≡ Running = sym state ∙ running in cc);
@@ -205,18 +222,18 @@ module _ (e : Event) (step : Asked Root) (old new : CoreState) (m : M) (is : ask
     ),
   )
 
-  steps_so : m.state ≡ Running → Steps e old new → End
-  steps_so runs s =
-      let left = made_by old new m at runs e.actor e.buf e.step step e.answer is s.made s.collects s.stops s.counted_is in
+  steps_so : m.state ≡ Running → IsUp old → Steps e old new → End
+  steps_so runs up s =
+      let left = made_by old new m at runs up.under_way e.actor e.buf e.step step e.answer is s.made s.collects s.stops s.counted_is in
       (left.0, (subst (λ (st : RunState Root). ByState of_roots st e.actor step (answered_by e.answer e.buf) m left.0) (sym runs) left.1, left.2))
 
-  by : (st : RunState Root) (stop : Option Stop) → m.state ≡ st → SameStop m.acknowledged st stop → StepsOr stop e old new → End
-  by Running None state same made = steps_so state made
-  by Running (Some stop) state same made = absurd same
-  by (Stopped other stores) None state same made = absurd same
-  by (Stopped other stores) (Some stop) state same made = refuses other stores stop state same made
+  by : (st : RunState Root) (stop : Option Stop) → m.state ≡ st → SameStop m.acknowledged st stop → UnlessStopped stop (IsUp old) → StepsOr stop e old new → End
+  by Running None state same up made = steps_so state up made
+  by Running (Some stop) state same up made = absurd same
+  by (Stopped other stores) None state same up made = absurd same
+  by (Stopped other stores) (Some stop) state same up made = refuses other stores stop state same made
 
 pub core_refines : (C : Type 0) (state : C → CoreState) → CoreRefines C state
 core_refines C state e step old new m is up at made =
-    let end = by e step (state old) (state new) m is at m.state (state old).stop refl at.state made in
+    let end = by e step (state old) (state new) m is at m.state (state old).stop refl at.state up made in
     (end.0, (by_state e.step step e.actor (answered_by e.answer e.buf) m end.0 is end.1.0, end.1.1))

@@ -203,7 +203,7 @@ module _ (c : CoreState) (m : M) (at : IsMachine m c) where
   same_index is has = record { places = has.places; known_is = is ∙ has.known_is; newest = has.newest }
 
   -- tables, disk's size and count as before, and the parts of these: it is the machine with these parts and this collection
-  goes_on : (d : CoreState) (parts : List RootPart) (k : Option (Collection Root)) → d.tables ≡ c.tables → d.disk.size ≡ c.disk.size → SameParts parts d.parts
+  pub goes_on : (d : CoreState) (parts : List RootPart) (k : Option (Collection Root)) → d.tables ≡ c.tables → d.disk.size ≡ c.disk.size → SameParts parts d.parts
       → d.acknowledged ≡ c.acknowledged → d.known ≡ c.known → SameCollection c.tables.held m.swept k d.collection → m.state ≡ Running → d.stop ≡ None
       → IsMachine (record m { parts = parts; collection = k }) d
   goes_on d parts k tables size same count index collects runs stop = record {
@@ -213,6 +213,7 @@ module _ (c : CoreState) (m : M) (at : IsMachine m c) where
     names = at.names;
     last = at.last;
     last_id = at.last_id ∙ ap (λ (t : Tables). t.held.last_id) (sym tables);
+    last_within = at.last_within;
     parts = same;
     acknowledged = at.acknowledged ∙ sym count;
     index = λ running. same_index index (at.index running);
@@ -247,7 +248,7 @@ module _ (c : CoreState) (m : M) (at : IsMachine m c) where
     with_parts : Rested → (parts : List RootPart) → SameParts parts d.parts → IsMachine (record m { parts = parts }) d
     with_parts r parts same = goes_on d parts m.collection r.tables r.size same r.count r.index r.collects runs r.stop
 
-    as_it_was : Rested → d.parts ≡ c.parts → IsMachine m d
+    pub as_it_was : Rested → d.parts ≡ c.parts → IsMachine m d
     as_it_was r same = with_parts r m.parts (subst (SameParts m.parts) (sym same) at.parts)
 
     put_part : Rested → (a : ℕ) (p : RootPart) (q : core_part.Part) → SamePart p q → d.parts ≡ with_part c.parts a q → IsMachine (put_at m a p) d
@@ -394,6 +395,7 @@ module _ (c : CoreState) (m : M) (at : IsMachine m c) where
               ∙ ap (λ (ns : NameMap). option_map (λ (n : Named). n.root) (finite.get ns q)) (sym (names_after_change name Gone m.store at.valid.follow));
           last = ap suc at.last ∙ sym (last_changed name Gone m.store at.valid.follow);
           last_id = at.last_id ∙ ap (λ (t : SlotTable). t.last_id) (sym held);
+          last_within = at.last_within;
           parts = subst (SameParts m.parts) (sym same) at.parts;
           acknowledged = ap one_more at.acknowledged ∙ sym count;
           index = λ running. same_index effect.index (at.index running);
@@ -416,6 +418,7 @@ module _ (c : CoreState) (m : M) (at : IsMachine m c) where
       names = at.names;
       last = at.last;
       last_id = at.last_id ∙ ap (λ (t : Tables). t.held.last_id) (sym tables);
+      last_within = at.last_within;
       parts = subst (SameParts m.parts) (sym same) at.parts;
       acknowledged = at.acknowledged ∙ sym count;
       index = λ running. absurd (let wrong : Stopped found stores ≡ Running = running in cc);
@@ -582,6 +585,7 @@ module _ (c : CoreState) (m : M) (at : IsMachine m c) where
               ∙ ap (λ (ns : NameMap). option_map (λ (n : Named). n.root) (finite.get ns q)) (sym (names_after_change name (Put root) m.store at.valid.follow));
           last = ap suc at.last ∙ sym (last_changed name (Put root) m.store at.valid.follow);
           last_id = at.last_id ∙ ap (λ (t : SlotTable). t.last_id) (sym held);
+          last_within = at.last_within;
           parts = subst (SameParts (slice_set m.parts a Idle)) (sym parts_are) (set_at m.parts c.parts a Idle core.Idle at.parts tt);
           acknowledged = ap one_more at.acknowledged ∙ sym count;
           index = λ running. same_index effect.index (at.index running);

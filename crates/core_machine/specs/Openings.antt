@@ -1,5 +1,5 @@
 -- A core that is opened, at first or again, on any disk, as the machine of roots.
-use Rattle.std.specs.Prelude.{◌≡◌, ℕ, List, Result, Ok, Err}
+use Rattle.std.specs.Prelude.{ℕ, List, Result, Ok, Err}
 use Rattle.std.specs.FinMap as finite
 use Rattle.disk_format.specs.Cells.{Root}
 use Rattle.dd_disk.specs.View.{DiskView}
@@ -21,7 +21,7 @@ Reopens actor answer m n = Legal of_roots (record { actor = actor; asked = asked
 
 -- What has been opened, over anything that has a disk, is a machine, which each machine may come to by an opening; it has so many names.
 abbrev pub OpenedRefines : (D : Type 0) → (D → DiskView) → (C : Type 0) → (C → CoreState) → Type 0
-OpenedRefines D view C state = (actor : ℕ) (before : DiskView) (new : C) → OpensCore D view before (state new) → IsRunning (state new)
+OpenedRefines D view C state = (actor : ℕ) (before : D) (new : C) → OpensCore D view (view before) (state new) → IsRunning (state new)
     → (n : Machine Root (List Top)) × (IsMachine n (state new)
     × ((m : Machine Root (List Top)) → Reopens actor (Ok (done.Reopened (finite.len (state new).tables.names))) m n))
 

@@ -1,9 +1,10 @@
--- A core, on any disk, as the machine of roots: what is so between them, for the steps that change no container.
-use Rattle.std.specs.Prelude.{◌≡◌, ℕ, Bool, false, List, [], ◌∷◌, take, Option, Some, None, option_map, Result, Ok, Err}
+-- A core, on any disk, as the machine of roots: what is so between them, for all steps but seals.
+use Rattle.std.specs.Prelude.{◌≡◌, ◌≤◌, ℕ, Bool, false, List, [], ◌∷◌, take, Option, Some, None, option_map, Result, Ok, Err}
 use Rattle.std.specs.FinMap as finite
 use Rattle.container_meta.specs.Places.{PlaceMap}
 use Rattle.container_meta.specs.Spelling.{HeaderValue}
 use Rattle.disk_format.specs.Cells.{Root}
+use Rattle.disk_format.specs.declared.numbers.TheConstants.{LAST_ID}
 use Rattle.merkle_file.specs.declared.top.Top.{Top}
 use Rattle.namespace.specs.declared.record.Named.{Named}
 use Rattle.actor_parts.specs.declared.part.Part as core_part
@@ -59,6 +60,7 @@ pub record IsMachine (m : Machine Root (List Top)) (c : CoreState) : Type 0 wher
   pub names : (name : List ℕ) → finite.get m.now.names name ≡ option_map (λ (n : Named). n.root) (finite.get (names_of m.store) name)
   pub last : m.now.last ≡ last_sequence m.store
   pub last_id : m.last_id ≡ c.tables.held.last_id
+  pub last_within : m.last_id ≤ LAST_ID
   pub parts : SameParts m.parts c.parts
   pub acknowledged : m.acknowledged ≡ c.acknowledged
   -- A write that failed may have changed the index before.
@@ -78,6 +80,8 @@ asked_by (steps.Delete name) = Some (asked.Delete name)
 asked_by (steps.Claim seg) = Some (asked.Claim seg)
 asked_by (steps.Commit name root) = Some (asked.Commit name root)
 asked_by steps.ListNames = Some asked.ListNames
+asked_by (steps.GcStart percent) = Some (asked.GcStart percent)
+asked_by steps.GcStep = Some asked.GcStep
 asked_by steps.Stat = Some asked.Stat
 asked_by step = None
 
@@ -100,7 +104,7 @@ answered_by (Ok (answers.Done freed copied)) buf = Ok (done.Collected freed copi
 answered_by (Ok (answers.Stat files segments bytes used free)) buf = Ok (done.Counted files segments bytes used free)
 answered_by (Err refusal) buf = Err refusal
 
--- All steps but seals and those of a collection: with no premise on the disk, what the core does is what the machine may do.
+-- All steps but seals: with no premise on the disk, what the core does is what the machine may do.
 abbrev pub CoreRefines : (C : Type 0) → (C → CoreState) → Type 0
 CoreRefines C state = (e : Event) (step : Asked Root) (old new : C) (m : Machine Root (List Top)) → asked_by e.step ≡ Some step
     → IsRunning (state old) → IsMachine m (state old)

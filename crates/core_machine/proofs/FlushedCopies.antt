@@ -1,0 +1,177 @@
+-- A step of a core's sweep that writes what was copied, as one of the machine's, on any disk.
+use Rattle.std.proofs.Common.{◌≡◌, ◌≢◌, ℕ, suc, ◌+◌, List, [], ◌∷◌, ◌++◌, get_or, length, None, refl, sym, ◌∙◌, ap, subst, arith, length-append}
+use Rattle.container_meta.specs.declared.kind.Kind.{Kind}
+use Rattle.container_meta.specs.Segments.{Segment, keys_of}
+use Rattle.container_meta.specs.Spelling.{HeaderValue, header_of}
+use Rattle.disk_format.specs.Cells.{Root}
+use Rattle.merkle_file.specs.declared.top.Top.{Top}
+use Rattle.refusals.specs.declared.refusal.Phase.{Phase}
+use Rattle.refusals.specs.declared.refusal.Phase.TheVariants as phases
+use Rattle.store_model.specs.Image.{IsValidFor, Store}
+use Rattle.store_model.specs.Slots.{HasFree, first_free}
+use Rattle.store_model.specs.Steps.{CanFlush, FlushContainer, StoreChange, with_sealed}
+use Rattle.store_model.proofs.Free.{first_closed, some_free}
+use Rattle.store_model.proofs.Valid.{free_sealed, valid_sealed}
+use Rattle.store_state.specs.declared.slot_table.SlotTable.{SlotTable}
+use Rattle.store_state.specs.Tables.{IsFirstFree, Represents}
+use Rattle.gc_sweep.specs.declared.sweep.Next.TheVariants as nexts
+use Rattle.gc_sweep.specs.declared.sweep.Sweep.{Sweep as CoreSweep}
+use Rattle.gc_sweep.specs.UnderWay.{HasNext, IsSweeping, entry_in, sources_before}
+use Rattle.gc_steps.specs.declared.collection.Stage.TheVariants as stages
+use Rattle.gc_steps.specs.Stepping.{Flushes as CoreFlushes, Moment, phase_at}
+use Rattle.gc_steps.specs.UnderWay.{IsUnderWay}
+use Rattle.store_machine.specs.Collecting.{keys_written, next_of, sources_in}
+use Rattle.store_machine.specs.Machine.{Collection, Machine, Sweeping, Sweep}
+use Rattle.store_machine.proofs.Swept.{freed_more, written_more}
+use Rattle.core_machine.specs.Collections.{HasCopied, SameRun, SameSweep, ids_at}
+use Rattle.core_machine.proofs.CopiedSources.{no_keys}
+use Rattle.core_machine.proofs.SweptOn.{AtSweep, Swept, at_sweep, is_sweeping, next_ready, others_stay, run_on, waiting_stay}
+
+abbrev M : Type 0
+M = Machine Root (List Top)
+
+module _ (m : M) (c : Collection Root) (source entry : ℕ) (old new : Moment) (represents : Represents m.store None old.tables) (valid : IsValidFor old.disk.size m.store)
+    (free : HasFree m.store.held) (last : m.last_id ≡ old.tables.held.last_id) (under : IsUnderWay old.tables.held old.collection)
+    (run : SameRun old.tables.held m.swept c old.collection) (stage : old.collection.stage ≡ stages.Sweep) (next_was : old.collection.sweep.next ≡ nexts.Flush source entry)
+    (flushes : CoreFlushes source entry old new) where
+  abbrev t : SlotTable
+  t = old.tables.held
+
+  abbrev now : SlotTable
+  now = new.tables.held
+
+  abbrev k : CoreSweep
+  k = old.collection.sweep
+
+  abbrev k' : CoreSweep
+  k' = new.collection.sweep
+
+  at : AtSweep t m.swept c k
+  at = at_sweep t m.swept c old.collection run stage
+
+  abbrev s : Sweep
+  s = at.s
+
+  abbrev sources : List ℕ
+  sources = sources_in c
+
+  sweeping : IsSweeping t old.collection.snapshot k
+  sweeping = is_sweeping t old.collection under stage
+
+  has : HasNext t k (nexts.Flush source entry)
+  has = subst (HasNext t k) next_was sweeping.next_is
+
+  phase_was : at.next ≡ phases.Flush
+  phase_was = at.same.next_is ∙ ap (phase_at stages.Sweep) next_was
+
+  -- ---- the container
+
+  abbrev kind : Kind
+  kind = k.buffer.kind
+
+  abbrev segments : List Segment
+  segments = k.buffer.segments
+
+  -- under the next id
+  one : old.tables.held.last_id + 1 ≡ suc m.last_id
+  one = omega (arith, last)
+
+  wrote : CanFlush (suc m.last_id) kind segments m.store × Represents (with_sealed (suc m.last_id) kind segments m.store) None new.tables
+  wrote =
+      subst (λ (id : ℕ). CanFlush id kind segments m.store × Represents (with_sealed id kind segments m.store) None new.tables) one
+      (flushes.writes.written.alone.store_has m.store represents valid free)
+
+  abbrev h : HeaderValue
+  h = header_of (suc m.last_id) kind segments
+
+  abbrev after : Store
+  after = with_sealed (suc m.last_id) kind segments m.store
+
+  free_first : IsFirstFree (first_free m.store.held) m.store.held
+  free_first =
+      let within = some_free m.store.held free in
+      record { first = refl; within = within; closed = first_closed m.store.held within }
+
+  stay : (w : ℕ) → get_or t.ids.items w 0 ≢ 0 → get_or now.ids.items w 0 ≡ get_or t.ids.items w 0
+  stay = others_stay m.store.held t now (first_free m.store.held) h free_first represents.slots_hold wrote.1.slots_hold
+
+  -- ---- the sweep
+
+  abbrev swept_on : Sweep
+  swept_on = record s { filled = []; waiting = []; ready = s.waiting }
+
+  some_wait : s.waiting ≢ []
+  some_wait none = has.1 (sweeping.fills (no_slots k.waiting.items (sym at.same.waiting_is ∙ none)))
+    where
+      no_slots : (slots : List ℕ) → ids_at t slots ≡ [] → slots ≡ []
+      no_slots [] is = refl
+      no_slots (w ∷ ws) is = absurd (omega (arith, ap length is))
+
+  is_ready : next_of m.store.held sources swept_on ≡ phases.Release
+  is_ready = next_ready m.store.held sources s.source s.waiting [] some_wait
+
+  abbrev changes : List StoreChange
+  changes = c.changes ++ FlushContainer (suc m.last_id) kind segments ∷ []
+
+  keys_filled : keys_of k.buffer ≡ s.filled
+  keys_filled = sym at.same.filled_is
+
+  -- what was to be written is
+  many_written : length (keys_written changes) ≡ length (keys_written c.changes) + length s.filled
+  many_written = omega (
+    arith,
+    ap length (written_more c.changes (FlushContainer (suc m.last_id) kind segments ∷ [])),
+    length-append (keys_written c.changes) (keys_of k.buffer ++ []),
+    length-append (keys_of k.buffer) [],
+    ap length keys_filled,
+  )
+
+  same_now : SameSweep now m.swept sources changes (next_of m.store.held sources swept_on) swept_on k'
+  same_now = record {
+    next_is = is_ready ∙ ap (phase_at stages.Sweep) (sym flushes.flushed.next_is);
+    sources_are = ap (λ (v : _). v.items) flushes.flushed.sources_are ∙ at.same.sources_are;
+    source_is = at.same.source_is ∙ ap (sources_before k) next_was ∙ sym (ap (sources_before k') flushes.flushed.next_is);
+    entry_is = at.same.entry_is ∙ ap entry_in next_was ∙ sym (ap entry_in flushes.flushed.next_is);
+    filled_is = sym (no_keys k'.buffer flushes.flushed.emptied);
+    waiting_is = ap (ids_at now) (sym flushes.flushed.none_waits);
+    ready_is = at.same.waiting_is ∙ waiting_stay t old.collection.snapshot k sweeping now stay ∙ ap (ids_at now) (sym flushes.flushed.ready_is);
+    freed_is = omega (arith, flushes.flushed.freed_is, at.same.freed_is, freed_more c.changes (FlushContainer (suc m.last_id) kind segments ∷ []));
+    copied_is = omega (arith, flushes.flushed.copied_is, at.same.copied_is, many_written);
+    swept_is = subst (λ (p : Phase). HasCopied p m.swept) (sym is_ready) (subst (λ (p : Phase). HasCopied p m.swept) phase_was at.same.swept_is);
+  }
+
+  -- What was copied is written, whatever the index has.
+  pub flushes_so : Swept phases.Flush m c new.tables new.collection
+  flushes_so = record {
+    went = record {
+      stage = Sweeping (next_of m.store.held sources swept_on) swept_on;
+      recorded = c.recorded;
+      changes = FlushContainer (suc m.last_id) kind segments ∷ [];
+      forgotten = m.forgotten;
+    };
+    store = after;
+    goes = (
+      s,
+      swept_on,
+      kind,
+      segments,
+      at.stage_is ∙ ap (λ (p : Phase). Sweeping p s) phase_was,
+      refl,
+      keys_filled,
+      refl,
+      refl,
+      refl,
+      refl,
+      λ known. absurd known,
+    );
+    makes = (wrote.0, refl);
+    represents = wrote.1;
+    valid = λ size is. valid_sealed (suc m.last_id) kind segments m.store wrote.0 size is;
+    free = omega (arith, wrote.0.slot, free_sealed (suc m.last_id) kind segments m.store wrote.0);
+    names = refl;
+    last = refl;
+    last_id = sym one ∙ sym flushes.writes.written.last_is;
+    last_within = λ few. omega (arith, flushes.writes.has_slot.below, last);
+    run = run_on t now m.swept m.swept c old.collection new.collection (next_of m.store.held sources swept_on) swept_on
+        (FlushContainer (suc m.last_id) kind segments ∷ []) run stage flushes.sweeps same_now;
+  }

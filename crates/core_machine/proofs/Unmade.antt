@@ -1,0 +1,287 @@
+-- A step of a collection that is refused, as the machine of roots has it.
+use Rattle.std.proofs.Common.{◌≡◌, ◌⊎◌, inl, inr, ℕ, suc, List, [], ◌∷◌, Option, Some, None, Err, refl, sym, ◌∙◌, ap, subst, arith}
+use Rattle.container_meta.specs.declared.entry.Entry.{Entry}
+use Rattle.container_meta.specs.Places.{PlaceMap}
+use Rattle.container_meta.specs.Segments.{Contents}
+use Rattle.copy_forward.specs.Copying.{IsCopyRefusal}
+use Rattle.copy_forward.specs.Entries.{IsRemoveRefusal, MapStays}
+use Rattle.copy_forward.specs.Headers.{IsHeaderRefusal}
+use Rattle.copy_forward.specs.Planning.{IsPlanRefusal, IsStuck, Planned, Source}
+use Rattle.dd_disk.specs.View.{DiskView}
+use Rattle.gc_enumerate.specs.Live.{LiveKeys}
+use Rattle.gc_enumerate.specs.declared.fault.ScanFault.{ScanFault}
+use Rattle.gc_enumerate.specs.declared.fault.ScanFault.TheVariants as faults
+use Rattle.gc_sweep.specs.declared.sweep.Next.{Next}
+use Rattle.gc_sweep.specs.declared.sweep.Next.TheVariants as nexts
+use Rattle.gc_sweep.specs.declared.sweep.Sweep.{Sweep as CoreSweep}
+use Rattle.gc_sweep.specs.Copying.{IsCopyStepRefusal}
+use Rattle.gc_sweep.specs.Flushing.{IsFlushStepRefusal}
+use Rattle.gc_sweep.specs.InTurn.{slot_in_turn}
+use Rattle.ingest_steps.specs.Sealing.{KeepsMap}
+use Rattle.gc_steps.specs.declared.collection.Collection.{Collection as CoreCollection}
+use Rattle.gc_steps.specs.declared.collection.Stage.{Stage as CoreStage}
+use Rattle.gc_steps.specs.declared.collection.Stage.TheVariants as core
+use Rattle.gc_steps.specs.Filtering.{IsRecordRefusal}
+use Rattle.gc_steps.specs.Marking.{IsMarkRefusal, KeepsMarks}
+use Rattle.gc_steps.specs.Scanning.{step_refusal}
+use Rattle.gc_steps.specs.Stepping.{IsStepRefusal, Keeps, phase_at}
+use Rattle.gc_steps.specs.UnderWay.{IsUnderWay}
+use Rattle.refusals.specs.declared.refusal.Phase.{Phase}
+use Rattle.refusals.specs.declared.refusal.Phase.TheVariants as phases
+use Rattle.refusals.specs.declared.refusal.Refusal.{Refusal}
+use Rattle.refusals.specs.declared.refusal.Refusal.TheVariants as refusals
+use Rattle.store_model.specs.Freeing.{with_freed}
+use Rattle.store_model.specs.Image.{Store}
+use Rattle.store_model.specs.Steps.{with_sealed}
+use Rattle.store_state.specs.declared.slot_table.SlotTable.{SlotTable}
+use Rattle.store_core.specs.Collecting.{at_moment}
+use Rattle.store_core.specs.Core.{StopsAfter}
+use Rattle.store_core.specs.State.{CoreState}
+use Rattle.actor_parts.specs.StepValue as steps
+use Rattle.store_machine.specs.Asked as asked
+use Rattle.store_machine.specs.Collecting.{IsCollecting}
+use Rattle.store_machine.specs.Legal.{IsAtRightPart, MayBreak, Refuses}
+use Rattle.store_machine.specs.Machine.{Running, Stopped}
+use Rattle.store_machine.specs.Values.{of_roots}
+use Rattle.core_machine.specs.Collections.{SameCollection, SameRun}
+use Rattle.core_machine.specs.Refines.{HasIndex, IsMachine}
+use Rattle.core_machine.proofs.Phases.{Runs, is_collecting, some_runs}
+use Rattle.core_machine.proofs.Rows.{M, as_it_was, stopped_at}
+
+-- ---- what a step may be refused by, if no write failed
+
+-- steps that read, that compare digests, and that scan for nodes
+abbrev IsRead : Phase → Type 0
+IsRead phases.Mark = Unit {0}
+IsRead phases.Filter = Unit {0}
+IsRead phases.Copy = Unit {0}
+IsRead phase = ⊥
+
+abbrev IsCompared : Phase → Type 0
+IsCompared phases.Mark = Unit {0}
+IsCompared phases.Copy = Unit {0}
+IsCompared phase = ⊥
+
+abbrev IsScanned : Phase → Type 0
+IsScanned phases.Mark = Unit {0}
+IsScanned phase = ⊥
+
+abbrev Unmade : Phase → Refusal → Type 0
+Unmade phase refusals.Memory = Unit {0}
+Unmade phase refusals.DiskRead = IsRead phase
+Unmade phase (refusals.Corrupt slot offset count want got) = IsCompared phase
+Unmade phase (refusals.Missing key) = IsScanned phase
+Unmade phase (refusals.Damaged at why) = IsRead phase
+Unmade phase refusal = ⊥
+
+-- ---- a container is not scanned
+
+header_unmade : (t : SlotTable) (old new : DiskView) (slot : ℕ) (refusal : Refusal) → IsHeaderRefusal t old new slot refusal → Unmade phases.Mark refusal
+header_unmade t old new slot refusals.Memory is = tt
+header_unmade t old new slot refusals.DiskRead is = tt
+header_unmade t old new slot (refusals.Damaged at why) is = tt
+header_unmade t old new slot refusal is = absurd is
+
+fault_unmade : (fault : ScanFault) → Unmade phases.Mark (step_refusal fault)
+fault_unmade faults.DiskRead = tt
+fault_unmade (faults.Damaged at why) = tt
+fault_unmade (faults.Corrupt slot offset count want got) = tt
+fault_unmade (faults.Missing key) = tt
+fault_unmade faults.Memory = tt
+
+mark_unmade : (t : SlotTable) (known : Option PlaceMap) (old new : DiskView) (level slot : ℕ) (live : LiveKeys) (refusal : Refusal)
+    → IsMarkRefusal t known old new level slot live refusal → Unmade phases.Mark refusal
+mark_unmade t known old new level slot live refusal (inl header) = header_unmade t old new slot refusal header
+mark_unmade t known old new level slot live refusal (inr stops) = subst (Unmade phases.Mark) (sym stops.refusal_is) (fault_unmade stops.fault)
+
+-- ---- nor recorded
+
+record_unmade : (t : SlotTable) (known : Option PlaceMap) (old new : DiskView) (slot : ℕ) (refusal : Refusal) → IsRecordRefusal t known old new slot refusal
+    → Unmade phases.Filter refusal
+record_unmade t known old new slot refusals.Memory is = tt
+record_unmade t known old new slot refusals.DiskRead is = tt
+record_unmade t known old new slot (refusals.Damaged at why) is = tt
+record_unmade t known old new slot refusal is = absurd is
+
+-- ---- a source is not copied; or its dead copies' keys don't leave the index, as a write failed
+
+stuck_unmade : (s : Source) (shown : (List ℕ → Type 0) → Type 0) (es : List Entry) (before : Planned) (refusal : Refusal) → IsStuck s shown es before refusal
+    → Unmade phases.Copy refusal
+stuck_unmade s shown [] before refusal is = absurd is
+stuck_unmade s shown (e ∷ es) before refusals.Memory (inl is) = tt
+stuck_unmade s shown (e ∷ es) before refusals.DiskRead (inl is) = tt
+stuck_unmade s shown (e ∷ es) before (refusals.Damaged at why) (inl is) = tt
+stuck_unmade s shown (e ∷ es) before (refusals.Corrupt slot offset count want got) (inl is) = tt
+stuck_unmade s shown (e ∷ es) before refusal (inl is) = absurd is.1.1
+stuck_unmade s shown (e ∷ es) before refusal (inr (mid, (takes, stuck))) = stuck_unmade s shown es mid refusal stuck
+
+plan_unmade : (s : Source) (shown : (List ℕ → Type 0) → Type 0) (es : List Entry) (before : Planned) (refusal : Refusal) → IsPlanRefusal s shown es before refusal
+    → Unmade phases.Copy refusal
+plan_unmade s shown es before refusals.Memory is = tt
+plan_unmade s shown es before refusal is = stuck_unmade s shown es before refusal is
+
+-- what a write that failed leaves is told apart
+abbrev Broken : Refusal → Type 0
+Broken refusals.DiskWrite = Unit {0}
+Broken refusal = ⊥
+
+copied_header : (t : SlotTable) (old new : DiskView) (slot : ℕ) (refusal : Refusal) → IsHeaderRefusal t old new slot refusal → Unmade phases.Copy refusal
+copied_header t old new slot refusals.Memory is = tt
+copied_header t old new slot refusals.DiskRead is = tt
+copied_header t old new slot (refusals.Damaged at why) is = tt
+copied_header t old new slot refusal is = absurd is
+
+removed_unmade : (known : Option PlaceMap) (refusal : Refusal) → IsRemoveRefusal known refusal → Unmade phases.Copy refusal ⊎ Broken refusal
+removed_unmade known refusals.DiskWrite is = inr tt
+removed_unmade known (refusals.Damaged at why) is = inl tt
+removed_unmade known refusal is = absurd is
+
+copy_by : (t : SlotTable) (known : Option PlaceMap) (live : LiveKeys) (slot from : ℕ) (filling : Contents) (old new : DiskView) (refusal : Refusal)
+    → IsCopyRefusal t known live slot from filling old new refusal → Unmade phases.Copy refusal ⊎ Broken refusal
+copy_by t known live slot from filling old new refusal (inl (inl header)) = inl (copied_header t old new slot refusal header)
+copy_by t known live slot from filling old new refusal (inl (inr (h, tabled, shown, kind, within, plan))) = inl (plan_unmade _ _ _ _ refusal plan)
+copy_by t known live slot from filling old new refusal (inr removed) = removed_unmade known refusal removed
+
+copy_unmade : (t : SlotTable) (live : LiveKeys) (known : Option PlaceMap) (old new : DiskView) (source entry : ℕ) (s : CoreSweep) (refusal : Refusal)
+    → IsCopyStepRefusal t live known old new source entry s refusal → Unmade phases.Copy refusal ⊎ Broken refusal
+copy_unmade t live known old new source entry s refusals.Memory is = inl tt
+copy_unmade t live known old new source entry s refusal is = copy_by t known live is.slot entry is.filling old new refusal is.cause
+
+-- ---- the steps
+
+module _ (c : CoreState) (m : M) (at : IsMachine m c) (runs : m.state ≡ Running) (d : CoreState) (a : ℕ) (size : d.disk.size ≡ c.disk.size) (parts : d.parts ≡ c.parts)
+    (tables : d.tables ≡ c.tables) (count : d.acknowledged ≡ c.acknowledged) (k after : CoreCollection) (ran : c.collection ≡ Some k) (r : Runs c.tables.held m.swept m.collection k)
+    (under : IsUnderWay c.tables.held k) (is_after : d.collection ≡ Some after) where
+  abbrev t : SlotTable
+  t = c.tables.held
+
+  own : HasIndex m.swept m.forgotten m.store.held c.known
+  own = at.index runs
+
+  abbrev Left : Refusal → Type 0
+  Left refusal = (n : M) × Refuses of_roots a asked.GcStep refusal m n × IsMachine n d
+
+  no_part : IsAtRightPart of_roots a asked.GcStep m
+  no_part taken is = absurd (let wrong : None ≡ Some taken = is in cc)
+
+  -- nothing but what is live is another
+  rested : SameRun t m.swept r.c after → d.known ≡ c.known → d.stop ≡ None → IsMachine m d
+  rested same index stop =
+      let collects : SameCollection t m.swept m.collection d.collection =
+      subst (SameCollection t m.swept m.collection) (sym is_after) (subst (λ p. SameCollection t m.swept p (Some after)) (sym r.ran) same) in
+      as_it_was c m at runs d (record { tables = tables; size = size; count = count; index = index; collects = collects; stop = stop }) parts
+
+  collecting : (stage : CoreStage) (next : Next) → k.stage ≡ stage → k.sweep.next ≡ next → IsCollecting (phase_at stage next) m.store m.collection
+  collecting stage next is next_is =
+      is_collecting m.store t m.swept m.collection k (phase_at stage next) at.valid.headers at.represents.slots_hold under r
+      (ap (λ (s : CoreStage). phase_at s next) (sym is) ∙ ap (phase_at k.stage) (sym next_is))
+
+  reads_at : (X : Type 0) (phase : Phase) → IsRead phase → IsCollecting phase m.store m.collection
+      → IsCollecting phases.Mark m.store m.collection ⊎ IsCollecting phases.Filter m.store m.collection ⊎ IsCollecting phases.Copy m.store m.collection ⊎ X
+  reads_at X phases.Mark may is = inl is
+  reads_at X phases.Filter may is = inr (inl is)
+  reads_at X phases.Copy may is = inr (inr (inl is))
+  reads_at X phase may is = absurd may
+
+  finds_at : (phase : Phase) → IsRead phase → IsCollecting phase m.store m.collection
+      → IsCollecting phases.Mark m.store m.collection ⊎ IsCollecting phases.Filter m.store m.collection ⊎ IsCollecting phases.Copy m.store m.collection
+  finds_at phases.Mark may is = inl is
+  finds_at phases.Filter may is = inr (inl is)
+  finds_at phases.Copy may is = inr (inr is)
+  finds_at phase may is = absurd may
+
+  compares_at : (phase : Phase) → IsCompared phase → IsCollecting phase m.store m.collection → IsCollecting phases.Mark m.store m.collection ⊎ IsCollecting phases.Copy m.store m.collection
+  compares_at phases.Mark may is = inl is
+  compares_at phases.Copy may is = inr is
+  compares_at phase may is = absurd may
+
+  scans_at : (phase : Phase) → IsScanned phase → IsCollecting phase m.store m.collection → IsCollecting phases.Mark m.store m.collection
+  scans_at phases.Mark may is = is
+  scans_at phase may is = absurd may
+
+  refused : (phase : Phase) (refusal : Refusal) → Unmade phase refusal → IsCollecting phase m.store m.collection → Refuses of_roots a asked.GcStep refusal m m
+  refused phase refusals.Memory may is = (some_runs t m.swept m.collection k r, refl)
+  refused phase refusals.DiskRead may is = (no_part, (reads_at _ phase may is, refl))
+  refused phase (refusals.Corrupt slot offset bytes want got) may is = (no_part, (compares_at phase may is, ((λ known. known), refl)))
+  refused phase (refusals.Missing key) may is = (no_part, (scans_at phase may is, ((λ known. known), refl)))
+  refused phase (refusals.Damaged byte why) may is = (no_part, (finds_at phase may is, ((λ known. known), refl)))
+  refused phase refusal may is = absurd may
+
+  runs_still : (phase : Phase) (refusal : Refusal) → Unmade phase refusal → StopsAfter steps.GcStep (Err refusal) c.acknowledged d.stop → d.stop ≡ None
+  runs_still phase refusals.DiskWrite may stops = absurd may
+  runs_still phase refusal may stops = stops
+
+  -- a write failed, and it is stopped
+  stops_by : (stores : List Store) → MayBreak of_roots m stores → d.collection ≡ c.collection → StopsAfter steps.GcStep (Err refusals.DiskWrite) c.acknowledged d.stop
+      → Left refusals.DiskWrite
+  stops_by stores may collects stop = (
+    record m { state = Stopped None stores },
+    (no_part, (stores, may, refl)),
+    stopped_at c m at runs d None stores tables size parts count collects refusals.DiskWrite stop,
+  )
+
+  -- ---- before a sweep
+
+  kept_run : after ≡ k → SameRun t m.swept r.c after
+  kept_run same = subst (SameRun t m.swept r.c) (sym same) r.same
+
+  marks_run : (level slot : ℕ) (refusal : Refusal) → KeepsMarks c.known c.disk d.disk level slot k after refusal → SameRun t m.swept r.c after
+  marks_run level slot refusals.Memory (inl same) = kept_run same
+  marks_run level slot refusals.Memory (inr marks) = subst (SameRun t m.swept r.c) (sym marks.collection_is)
+      (record { percent_is = r.same.percent_is; snapshot_is = r.same.snapshot_is; recorded_is = r.same.recorded_is; stage_is = r.same.stage_is })
+  marks_run level slot refusal same = kept_run same
+
+  left_by : (phase : Phase) (refusal : Refusal) → IsCollecting phase m.store m.collection → Unmade phase refusal → SameRun t m.swept r.c after → d.known ≡ c.known
+      → StopsAfter steps.GcStep (Err refusal) c.acknowledged d.stop → Left refusal
+  left_by phase refusal is may same index stops = (m, refused phase refusal may is, rested same index (runs_still phase refusal may stops))
+
+  -- ---- a sweep
+
+  map_same : (refusal : Refusal) → Unmade phases.Copy refusal → MapStays c.known d.known refusal → d.known ≡ c.known
+  map_same refusals.DiskWrite may stays = absurd may
+  map_same (refusals.Damaged byte why) may stays = stays own.places own.known_is ∙ sym own.known_is
+  map_same refusal may stays = stays
+
+  still : after ≡ k → d.collection ≡ c.collection
+  still same = is_after ∙ ap Some same ∙ sym ran
+
+  not_copied : (refusal : Refusal) → IsCollecting phases.Copy m.store m.collection → Unmade phases.Copy refusal ⊎ Broken refusal → after ≡ k → MapStays c.known d.known refusal
+      → StopsAfter steps.GcStep (Err refusal) c.acknowledged d.stop → Left refusal
+  not_copied refusal is (inl may) same stays stops = left_by phases.Copy refusal is may (kept_run same) (map_same refusal may stays) stops
+  not_copied refusals.DiskWrite is (inr broke) same stays stops = stops_by [] (inl (is, refl)) (still same) stops
+  not_copied refusal is (inr broke) same stays stops = absurd broke
+
+  not_flushed : (refusal : Refusal) → IsCollecting phases.Flush m.store m.collection → IsFlushStepRefusal c.tables c.known refusal → after ≡ k → KeepsMap c.known d.known refusal
+      → StopsAfter steps.GcStep (Err refusal) c.acknowledged d.stop → Left refusal
+  not_flushed refusals.Memory is cause same stays stops = (m, (some_runs t m.swept m.collection k r, refl), rested (kept_run same) stays stops)
+  not_flushed refusals.Numbers is cause same stays stops = (m, (no_part, (is, omega (arith, cause, at.last_id), refl)), rested (kept_run same) stays stops)
+  not_flushed refusals.DiskRead is cause same stays stops =
+      (m, (no_part, (inr (inr (inr (is, omega (arith, cause.0, at.last_id)))), refl)), rested (kept_run same) stays stops)
+  not_flushed refusals.DiskWrite is cause same stays stops =
+      let buffer = k.sweep.buffer in
+      stops_by (with_sealed (suc m.last_id) buffer.kind buffer.segments m.store ∷ []) (inr (inl (is, omega (arith, cause.0, at.last_id), (buffer.kind, buffer.segments, refl)))) (still same) stops
+  not_flushed (refusals.Damaged byte why) is cause same stays stops = absurd (let wrong : Some own.places ≡ None = sym own.known_is ∙ cause.1 in cc)
+  not_flushed refusal is cause same stays stops = absurd cause.1
+
+  -- ---- by its stage
+
+  pub not_made : (stage : CoreStage) (next : Next) → k.stage ≡ stage → k.sweep.next ≡ next → (refusal : Refusal) → IsStepRefusal stage next (at_moment c k) d.disk refusal
+      → Keeps stage next (at_moment c k) (at_moment d after) refusal → StopsAfter steps.GcStep (Err refusal) c.acknowledged d.stop → Left refusal
+  not_made (core.Mark level slot) next is next_is refusal cause kept stops =
+      left_by phases.Mark refusal (collecting (core.Mark level slot) next is next_is) (mark_unmade t c.known c.disk d.disk level slot k.live refusal cause) (marks_run level slot refusal kept.0) kept.1 stops
+  not_made (core.Filter slot) next is next_is refusal cause kept stops =
+      left_by phases.Filter refusal (collecting (core.Filter slot) next is next_is) (record_unmade t c.known c.disk d.disk slot refusal cause) (kept_run kept.0) kept.1 stops
+  not_made core.Select next is next_is refusal cause kept stops =
+      left_by phases.Select refusal (collecting core.Select next is next_is) (subst (Unmade phases.Select) (sym cause) tt) (kept_run kept.0) kept.1 stops
+  not_made core.Sweep (nexts.Copy source entry) is next_is refusal cause kept stops =
+      not_copied refusal (collecting core.Sweep (nexts.Copy source entry) is next_is) (copy_unmade t k.live c.known c.disk d.disk source entry k.sweep refusal cause) kept.0 kept.1 stops
+  not_made core.Sweep (nexts.Flush source entry) is next_is refusal cause kept stops =
+      not_flushed refusal (collecting core.Sweep (nexts.Flush source entry) is next_is) cause kept.0 kept.1 stops
+  not_made core.Sweep (nexts.Release source entry) is next_is refusal cause kept stops =
+      subst Left (sym cause) (stops_by (with_freed (slot_in_turn k.sweep) m.store ∷ []) (inr (inr (collecting core.Sweep (nexts.Release source entry) is next_is, (slot_in_turn k.sweep, refl))))
+      (still kept) (subst (λ (x : Refusal). StopsAfter steps.GcStep (Err x) c.acknowledged d.stop) cause stops))
+  not_made core.Sweep nexts.End is next_is refusal cause kept stops = absurd cause
+
+  pub row_refused : (refusal : Refusal) → IsStepRefusal k.stage k.sweep.next (at_moment c k) d.disk refusal → Keeps k.stage k.sweep.next (at_moment c k) (at_moment d after) refusal
+      → StopsAfter steps.GcStep (Err refusal) c.acknowledged d.stop → Left refusal
+  row_refused refusal cause kept stops = not_made k.stage k.sweep.next refl refl refusal cause kept stops

@@ -11,6 +11,7 @@ pub mod Counted
 pub mod Crashes
 pub mod Damage
 pub mod FindingKeys
+pub mod FindingMeanwhile
 pub mod Finished
 pub mod FinishedStores
 pub mod Flushed
@@ -28,6 +29,7 @@ pub mod LoneRun
 pub mod Making
 pub mod MakingGc
 pub mod MarkedSteps
+pub mod MarkingReads
 pub mod Marks
 pub mod Opened
 pub mod OwnParts
@@ -37,6 +39,7 @@ pub mod RecordedAll
 pub mod RecordedSums
 pub mod Reserves
 pub mod Rooms
+pub mod RootsKept
 pub mod SafeSteps
 pub mod Sealing
 pub mod SparedRest

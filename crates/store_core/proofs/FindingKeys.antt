@@ -31,8 +31,8 @@ use Rattle.store_state.specs.declared.tables.Tables.{Tables}
 use Rattle.store_core.specs.declared.stop.Stop.{Stop}
 use Rattle.store_core.specs.Bounds.{starts}
 use Rattle.store_core.specs.Collecting.{Begins, GcEffect, GcRow, GoesOn, IsNotMade, TouchesBy, at_moment}
-use Rattle.store_core.specs.Core.{Effect, KeepsTables, Row, Steps, StepsOr}
-use Rattle.store_core.specs.Finding.{AreItsSteps, FindsKeys}
+use Rattle.store_core.specs.Core.{CoreStep, Effect, KeepsTables, Row, Steps, StepsOr}
+use Rattle.store_core.specs.Finding.{AreItsSteps, FindsKeys, IsIndexed}
 use Rattle.store_core.specs.Runs.{CoreRun}
 use Rattle.store_core.specs.State.{CoreState, Event, IsRunning, IsUnderWayIn, IsUp, UnlessStopped}
 use Rattle.store_core.proofs.CoreRuns.{run_later, running_step}

@@ -1,5 +1,5 @@
 -- Which keys a collection found once it has marked, whatever steps others made meanwhile.
-use Rattle.std.proofs.Common.{◌≡◌, ◌⊎◌, inl, inr, ℕ, zero, suc, ◌+◌, ◌<◌, ◌≤◌, ◌&&◌, Bool, true, not, List, [], ◌∷◌, length, map, Option, Some, None, Result, Ok, Err, refl, sym, ◌∙◌, ap, subst, arith}
+use Rattle.std.proofs.Common.{◌≡◌, ◌⊎◌, inl, inr, ℕ, zero, suc, ◌+◌, ◌<◌, ◌≤◌, ◌&&◌, Bool, true, false, not, List, [], ◌∷◌, length, map, Option, Some, None, Result, Ok, Err, refl, sym, ◌∙◌, ap, subst, arith}
 use Rattle.std.specs.Prelude.{◌==◌, get_or, nat_le, nat_lt, slice_get}
 use Rattle.std.specs.FinMap as finite
 use Rattle.std.specs.List.{AllByRecursion, Contains}
@@ -491,7 +491,7 @@ module _ (first : List (Option HeaderValue)) (roots : RootKeys) where
             absurd (never_marked mid new c (record { collection = m.c; runs = m.runs; level = level; slot = slot; stage_is = was }) (stuck (e ∷ es) mid new stop stops run) is marked)
         by_stop level slot was rest None none steps running =
             by_goes rest (record { collection = m.c; runs = m.runs; level = level; slot = slot; stage_is = was })
-            (step_goes (state mid) (state next) m level slot was running e.actor e.buf e.step e.answer run.1.0.asked run.1.0.apart steps.made.row steps.made.effect steps.collects steps.stops)
+            (step_goes (state mid) (state next) m level slot was running e.actor e.buf e.step e.answer run.1.0.is_step run.1.0.apart steps.made.row steps.made.effect steps.collects steps.stops)
 
         by_stage : (stage : Stage) → m.c.stage ≡ stage → (IsMarking (state next) → Found es next new run.1.1) → Found (e ∷ es) mid new run
         by_stage (Mark level slot) was rest = by_stop level slot was rest (state mid).stop refl run.1.0.made up

@@ -64,7 +64,7 @@ IsNoEnd answer = Unit {0}
 -- A step of anyone while a collection runs, which goes on: a segment of a tree is a node of its level; and where it is one of the collection, no
 -- header but one of these was shown in its slot with its digest.
 pub record StepMeanwhile (held : List (Option HeaderValue)) (e : Event) (old new : CoreState) : Type 0 where
-  pub asked : IsStep e.step
+  pub is_step : IsStep e.step
   pub goes_on : IsNoEnd e.answer
   pub apart : e.step ≡ asked.GcStep → HeadersAreApart held old.disk new.disk
   pub made : CoreStep old e new

@@ -257,11 +257,14 @@ module _ (C : Type 0) (state : C → CoreState) (v w : DiskView) (old new : C) (
 
           by_case : OnlyReads (state mid).disk (state new).disk ⊎ (HeadersAreApart store.held (state mid).disk (state new).disk → FindsAll index (roots_of (state old).tables.names (state old).parts)) → FindsBeforeWriting (Collect percent) v w
           by_case (inl reads) = inl (unchanged v w (reads_on v (state mid).disk w begun_reads (reads_on (state mid).disk (state new).disk w reads called.last.only)))
-          by_case (inr found) = inr (ends_holds, record {
-            index = index;
-            index_is = called.opened.whole index called.opened.told.1;
-            found = λ apart. of_names (found (apart_to new later.clock_is called.last.only.later apart));
-          })
+          by_case (inr found) = inr (
+            ends_holds,
+            record {
+              index = index;
+              index_is = called.opened.whole index called.opened.told.1;
+              found = λ apart. of_names (found (apart_to new later.clock_is called.last.only.later apart));
+            },
+          )
 
       -- the disk's count of faults, by the last step
       pub ends_faults : CountsFault (ending blames answer) v.faults w.faults

@@ -146,7 +146,8 @@ pub record SweepsTo (store : Store) (changes : List StoreChange) : Type 0 where
   pub after : Store
   pub chain : ChangesTo changes store after
 
--- Each key of the trees of all names was found in the index of the store, where no header but the store's was shown in a slot with its digest.
+-- Each key of the trees of all names was found in the index of the store, where no header but the store's was shown in a slot with its
+-- digest.
 pub record FindsNames (store : Store) (disk disk_now : DiskView) : Type 0 where
   pub index : PlaceMap
   pub index_is : IsIndexOf store.held index

@@ -67,8 +67,8 @@ pub record HasChildren (P : List ℕ → Type 0) (key : List ℕ) : Type 0 where
   pub key_is : node_key node ≡ key
   pub children : All P (child_keys node)
 
--- The index has each key of the trees of these roots: the live keys that it has are a set in which the keys of the roots are, and with each key
--- that isn't one of data those of the children of a node of that key.
+-- The index has each key of the trees of these roots: the live keys that it has are a set in which the keys of the roots are, and with each
+-- key but one of data those of the children of a node of that key.
 pub record FindsTrees (index : PlaceMap) (live : LiveKeys) (roots : List RootKey) : Type 0 where
   pub roots_are : All (λ r. IsLive index live r.key) roots
   pub closed : (key : List ℕ) → IsLive index live key → IsDataKey key ⊎ HasChildren (IsLive index live) key

@@ -31,8 +31,8 @@ pub record IsIndexed (s : Store) (index : PlaceMap) (c : CoreState) : Type 0 whe
 abbrev pub AreItsSteps : List Event → Type 0
 AreItsSteps events = AllByRecursion (λ e. e.step ≡ asked.GcStep) events
 
--- A collection frees and copies nothing before it has marked. Once it has, with no other steps between, the index had, as it began, each key of
--- the trees of all names, readers and pins, where no header but the store's was shown in a slot with its digest.
+-- A collection frees and copies nothing before it has marked. Once it has, with no other steps between, the index had, as it began, each key
+-- of the trees of all names, readers and pins, where no header but the store's was shown in a slot with its digest.
 abbrev pub FindsKeys : (C : Type 0) → (C → CoreState) → Type 0
 FindsKeys C state = (actor percent snapshot : ℕ) (buf : List ℕ) (events : List Event) (s : Store) (index : PlaceMap) (old begun new : C)
     (c : Collection) → IsRunning (state old) → (state old).stop ≡ None → IsIndexed s index (state old)
@@ -61,8 +61,8 @@ abbrev pub IsNoEnd : Result Answer Refusal → Type 0
 IsNoEnd (Ok (answers.Done freed copied)) = ⊥
 IsNoEnd answer = Unit {0}
 
--- A step of anyone while a collection runs, which goes on: a segment of a tree is a node of its level; and where it is one of the collection, no
--- header but one of these was shown in its slot with its digest.
+-- A step of anyone while a collection runs, which goes on: a segment of a tree is a node of its level; and where it is one of the
+-- collection, no header but one of these was shown in its slot with its digest.
 pub record StepMeanwhile (held : List (Option HeaderValue)) (e : Event) (old new : CoreState) : Type 0 where
   pub is_step : IsStep e.step
   pub goes_on : IsNoEnd e.answer
@@ -71,7 +71,8 @@ pub record StepMeanwhile (held : List (Option HeaderValue)) (e : Event) (old new
 
 abbrev pub RunMeanwhile : (C : Type 0) → (C → CoreState) → List (Option HeaderValue) → List Event → C → C → Type 0
 RunMeanwhile C state held [] old new = new ≡ old
-RunMeanwhile C state held (e ∷ es) old new = (mid : C) × (StepMeanwhile held e (state old) (state mid) × RunMeanwhile C state held es mid new)
+RunMeanwhile C state held (e ∷ es) old new =
+    (mid : C) × (StepMeanwhile held e (state old) (state mid) × RunMeanwhile C state held es mid new)
 
 -- the core after so many of the steps of a run, or after all
 abbrev pub core_after : (C : Type 0) (state : C → CoreState) (held : List (Option HeaderValue)) (events : List Event) (old new : C)
@@ -96,12 +97,13 @@ pub record FindsOnTheWay (roots : RootKeys) (many : ℕ) (moments : ℕ → Core
   pub first : (earlier : ℕ) → earlier < count → StillMarks (moments earlier)
   pub found : HasFound roots (moments count)
 
--- A collection frees and copies nothing before it has marked (`OnlyReadsAtFirst`). When it has, whatever steps others made meanwhile, the index
--- has each key of the trees of all names, readers and pins: of those as it began, and of those at that moment. No header but the store's was
--- shown in a slot, of those that had one as it began, with its digest.
+-- A collection frees and copies nothing before it has marked (`OnlyReadsAtFirst`). When it has, whatever steps others made meanwhile, the
+-- index has each key of the trees of all names, readers and pins: of those as it began, and of those at that moment. In no step of it was a
+-- header but the store's shown with its digest in a slot that had one as it began.
 abbrev pub FindsKeysMeanwhile : (C : Type 0) → (C → CoreState) → Type 0
-FindsKeysMeanwhile C state = (actor percent snapshot : ℕ) (buf : List ℕ) (events : List Event) (s : Store) (index : PlaceMap) (old begun new : C)
-    (c : Collection) → IsRunning (state old) → (state old).stop ≡ None → IsIndexed s index (state old)
+FindsKeysMeanwhile C state = (actor percent snapshot : ℕ) (buf : List ℕ) (events : List Event) (s : Store) (index : PlaceMap)
+    (old begun new : C) (c : Collection) → IsRunning (state old) → (state old).stop ≡ None → IsIndexed s index (state old)
     → CoreStep (state old) (starts actor percent snapshot buf) (state begun)
     → (run : RunMeanwhile C state s.held events begun new) → (state new).collection ≡ Some c → HasMarkedAll c.stage
-    → FindsOnTheWay (roots_of (state old).tables.names (state old).parts) (length events) (λ count. state (core_after C state s.held events begun new run count))
+    → FindsOnTheWay (roots_of (state old).tables.names (state old).parts) (length events)
+    (λ count. state (core_after C state s.held events begun new run count))

@@ -369,6 +369,22 @@ module _ (Q : List ℕ → Type 0) (pins : PinMap) (has : (key : List ℕ) → I
 
 -- ---- once it has marked
 
+-- its live keys stay as they are, so it goes on
+pub marked_on : (first held : List (Option HeaderValue)) (index : PlaceMap) (before after : Collection) (names : NameMap) (parts : List Part) (roots : RootKeys) → HasMarkedAll before.stage → after.live ≡ before.live
+    → after.snapshot ≡ before.snapshot → FindsSoFar first held index before names parts roots → FindsSoFar first held index after names parts roots
+marked_on first held index before after names parts roots marked live snapshot finds = record {
+  stood = λ slot h there old. finds.stood slot h there (omega (arith, old, snapshot));
+  followed = λ key place has is_live. by_case key place (finds.followed key place has (subst (λ (l : LiveKeys). IsLiveAt l key place) live is_live));
+  since_live = λ key place h has there new. subst (λ (l : LiveKeys). IsLiveAt l key place) (sym live) (finds.since_live key place h has there (omega (arith, new, snapshot)));
+  roots_live = λ key root. subst (λ (l : LiveKeys). IsLive index l key) (sym live) (finds.roots_live key root);
+  before_live = subst (λ (l : LiveKeys). All (λ (r : RootKey). IsLive index l r.key) roots) (sym live) finds.before_live;
+}
+  where
+    by_case : (key : List ℕ) (place : Place) → IsFollowed held index before key place → IsFollowed held index after key place
+    by_case key place (inl leaf) = inl leaf
+    by_case key place (inr (inl children)) = inr (inl (subst (λ (l : LiveKeys). HasChildren (IsLive index l) key) (sym live) children))
+    by_case key place (inr (inr ahead)) = absurd (ahead.ahead (all_passed before.stage marked place.level place.slot))
+
 pub found_trees : (first held : List (Option HeaderValue)) (index : PlaceMap) (c : Collection) (names : NameMap) (parts : List Part) (roots : RootKeys) → FindsSoFar first held index c names parts roots → HasMarkedAll c.stage
     → FindsTrees index c.live (roots ++ roots_of names parts)
 found_trees first held index c names parts roots finds marked = record {

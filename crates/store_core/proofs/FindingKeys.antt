@@ -32,11 +32,11 @@ use Rattle.store_core.specs.declared.stop.Stop.{Stop}
 use Rattle.store_core.specs.Bounds.{starts}
 use Rattle.store_core.specs.Collecting.{Begins, GcEffect, GcRow, GoesOn, IsNotMade, TouchesBy, at_moment}
 use Rattle.store_core.specs.Core.{CoreStep, Effect, KeepsTables, Row, Steps, StepsOr}
-use Rattle.store_core.specs.Finding.{AreItsSteps, FindsKeys, IsIndexed}
+use Rattle.store_core.specs.Finding.{AreItsSteps, FindsKeys, IsIndexed, IsNoSweep}
 use Rattle.store_core.specs.Runs.{CoreRun}
 use Rattle.store_core.specs.State.{CoreState, Event, IsRunning, IsUnderWayIn, IsUp, UnlessStopped}
 use Rattle.store_core.proofs.CoreRuns.{run_later, running_step}
-use Rattle.store_core.proofs.MarkingReads.{gc_scans, only_read, same_running}
+use Rattle.store_core.proofs.BeforeSweep.{gc_goes, has_not_scanned, has_scanned, only_read, same_running}
 use Rattle.store_core.proofs.RunningOn.{step_runs}
 use Rattle.store_core.proofs.Stepping.{step_later}
 
@@ -89,14 +89,20 @@ module _ (s : Store) (index : PlaceMap) (headers : AreHeaders s.held) (partial :
           (subst (HasStage old.tables.held m.c) was so.stage_is).0
 
       gc_marks : (answer : Result Answer Refusal) → GcRow answer old new → GcEffect answer old new → IsMarking new
-      gc_marks answer row effect = elim (gc_scans old new m.c m.runs level slot was answer row) [
-        | inl (phase, (is, scanned)) ↦ marking_on scanned.after scanned.now_runs scanned.keeps (only_read old new m.c m.runs level slot was answer effect)
-            (λ apart. scan_finds index s headers partial old.tables.held m.slots old.disk new.disk level slot some_level m.c scanned.after roots was (finding_then apart) (apart_here apart)
-            (subst (λ (k : Option PlaceMap). Scans old.tables.held k old.disk new.disk level slot m.c scanned.after) m.known_is scanned.scans))
-        | inr (refusal, (is, refused)) ↦ marking_on refused.after refused.now_runs refused.keeps (only_read old new m.c m.runs level slot was answer effect)
+      gc_marks answer row effect = elim (gc_goes old new m.c m.runs early answer row) [
+        | inl gone ↦ marking_on gone.after gone.now_runs gone.keeps reads
+            (λ apart. scan_finds index s headers partial old.tables.held m.slots old.disk new.disk level slot some_level m.c gone.after roots was (finding_then apart) (apart_here apart)
+            (subst (λ (k : Option PlaceMap). Scans old.tables.held k old.disk new.disk level slot m.c gone.after) m.known_is (has_scanned old new m.c m.runs early level slot was gone)))
+        | inr (refusal, refused) ↦ marking_on refused.after refused.now_runs refused.keeps reads
             (λ apart. refusal_finds index s headers partial old.tables.held m.slots old.disk new.disk level slot some_level m.c refused.after roots was (finding_then apart) refusal
-            (subst (λ (k : Option PlaceMap). KeepsMarks k old.disk new.disk level slot m.c refused.after refusal) m.known_is refused.kept))
+            (subst (λ (k : Option PlaceMap). KeepsMarks k old.disk new.disk level slot m.c refused.after refusal) m.known_is (has_not_scanned old new m.c m.runs early level slot was refusal refused)))
       ]
+        where
+          early : IsNoSweep m.c.stage
+          early = subst IsNoSweep (sym was) tt
+
+          reads : OnlyReads old.disk new.disk
+          reads = only_read old new m.c m.runs early answer effect
 
     all_found : HasMarkedAll m.c.stage → IsSoFar new
     all_found marked = inr (λ apart. found_all index s headers partial m.c roots (finding_then apart) marked)

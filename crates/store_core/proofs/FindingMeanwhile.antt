@@ -1,5 +1,5 @@
--- Which keys a collection found once it has marked, whatever steps others made meanwhile.
-use Rattle.std.proofs.Common.{◌≡◌, ◌⊎◌, inl, inr, ℕ, zero, suc, ◌+◌, ◌<◌, ◌≤◌, ◌&&◌, Bool, true, false, not, List, [], ◌∷◌, length, map, Option, Some, None, Result, Ok, Err, refl, sym, ◌∙◌, ap, subst, arith}
+-- Which keys a collection has found until it sweeps, whatever steps others made meanwhile.
+use Rattle.std.proofs.Common.{◌≡◌, ◌⊎◌, inl, inr, ℕ, zero, suc, ◌+◌, ◌<◌, ◌≤◌, ◌&&◌, Bool, true, false, not, List, [], ◌∷◌, ◌++◌, length, map, Option, Some, None, Result, Ok, Err, refl, sym, ◌∙◌, ap, subst, arith}
 use Rattle.std.specs.Prelude.{◌==◌, get_or, nat_le, nat_lt, slice_get}
 use Rattle.std.specs.FinMap as finite
 use Rattle.std.specs.List.{AllByRecursion, Contains}
@@ -41,26 +41,28 @@ use Rattle.store_state.specs.declared.tables.Tables.{Tables}
 use Rattle.gc_steps.specs.declared.collection.Collection.{Collection}
 use Rattle.gc_steps.specs.declared.collection.Stage.{Stage}
 use Rattle.gc_steps.specs.declared.collection.Stage.TheVariants.{Filter, Mark, Select, Sweep}
-use Rattle.gc_steps.specs.Finding.{HasChildren, HasMarkedAll, HeadersAreApart, IsDataKey}
+use Rattle.gc_steps.specs.Finding.{FindsTrees, HasChildren, HasMarkedAll, HeadersAreApart, IsDataKey}
+use Rattle.gc_steps.specs.Stepping.{Keeps, StepsTo}
 use Rattle.gc_steps.specs.Marking.{KeepsMarks, Scans}
 use Rattle.gc_steps.specs.Roots.{IsPartKey, IsRoot, Marks, RootKeys, roots_of}
 use Rattle.gc_steps.specs.Starting.{AreFound}
-use Rattle.gc_steps.specs.UnderWay.{HasStage, IsUnderWay}
+use Rattle.gc_steps.specs.UnderWay.{HasRoom, HasStage, IsUnderWay}
 use Rattle.gc_steps.specs.Stages.{is_old_slot, is_tree, is_tree_slot}
 use Rattle.gc_steps.proofs.ClaimedPin.{one_more, one_or_other}
 use Rattle.gc_steps.proofs.FirstStage.{id_there}
-use Rattle.gc_steps.proofs.FoundMeanwhile.{FindsSoFar, Gains, begins, found_trees, gain_finds, pinned_node, refusal_finds, scan_finds}
+use Rattle.gc_steps.proofs.FoundMeanwhile.{FindsSoFar, Gains, begins, found_trees, gain_finds, marked_on, pinned_node, refusal_finds, scan_finds}
 use Rattle.gc_steps.proofs.Marked.{contains_first, contains_none, marks_none}
 use Rattle.gc_steps.proofs.RootsAfter.{committed_root, deleted_root, part_root}
 use Rattle.gc_steps.proofs.SealedPins.{decided, stays_there, with_there}
 use Rattle.store_core.specs.declared.stop.Stop.{Stop}
 use Rattle.store_core.specs.Bounds.{starts}
-use Rattle.store_core.specs.Collecting.{Begins, Collects, GcEffect, GcRow, IsKeptKey, MarksIn, StartRow}
+use Rattle.store_core.specs.Collecting.{Begins, Collects, GcEffect, GcRow, IsKeptKey, MarksIn, StartRow, at_moment}
 use Rattle.store_core.specs.Core.{ClaimRow, CommitRow, DeleteRow, Effect, KeepsTables, Makes, NamesOne, Rests, Row, SealRow, SealsOne, Steps, StepsOr, StopsAfter, next_id}
-use Rattle.store_core.specs.Finding.{FindsKeysMeanwhile, FindsOnTheWay, HasFound, RunMeanwhile, StillMarks, core_after}
+use Rattle.store_core.specs.Finding.{FindsKeysMeanwhile, IsNoSweep, RunBeforeSweep}
+use Rattle.store_core.specs.Runs.{CoreRun}
 use Rattle.store_core.specs.State.{CoreState, Event, IsRunning, IsUnderWayIn, IsUp, UnlessStopped}
-use Rattle.store_core.proofs.CoreRuns.{running_step}
-use Rattle.store_core.proofs.MarkingReads.{gc_scans, only_read, same_running}
+use Rattle.store_core.proofs.CoreRuns.{running_step, runs_before, was_running}
+use Rattle.store_core.proofs.BeforeSweep.{HasGoneOn, HasNotGoneOn, gc_goes, has_not_scanned, has_scanned, same_running}
 use Rattle.store_core.proofs.Rooms.{free_held}
 use Rattle.store_core.proofs.RootsKept.{abort_none, begin_none, end_none, list_none, none_same, open_none, read_none, stat_none, within_parts}
 use Rattle.store_core.proofs.RunningOn.{seal_kept, step_runs}
@@ -100,10 +102,17 @@ sealed_node Q pins has kind (x ∷ xs) right none key among =
         subst (λ (k : List ℕ). IsDataKey k ⊎ HasChildren Q k) (sym same) (pinned_node Q pins has kind x right.0 (all_pinned pins (children_by kind x) nones.0))
     by_place nones (inr later) others = others nones.1 later
 
--- ---- what is so while it marks
+-- ---- what is so until it sweeps
+
+-- two slots are free until then
+room_before : (t : SlotTable) (c : Collection) (stage : Stage) → IsNoSweep stage → HasStage t c stage → HasRoom t
+room_before t c (Mark level slot) early has = has.4
+room_before t c (Filter slot) early has = has.2
+room_before t c Select early has = has.1
+room_before t c Sweep early has = absurd early
 
 module _ (first : List (Option HeaderValue)) (roots : RootKeys) where
-  record IsMarking (now : CoreState) : Type 0 where
+  record IsFinding (now : CoreState) : Type 0 where
     c : Collection
     runs : now.collection ≡ Some c
     store : Store
@@ -113,29 +122,22 @@ module _ (first : List (Option HeaderValue)) (roots : RootKeys) where
     valid : IsValidFor now.disk.size store
     finds : FindsSoFar first store.held index c now.tables.names now.parts roots
 
-  module _ (old new : CoreState) (m : IsMarking old) (level slot : ℕ) (was : m.c.stage ≡ Mark level slot) (up : IsUp old) where
+  module _ (old new : CoreState) (m : IsFinding old) (early : IsNoSweep m.c.stage) (up : IsUp old) where
     partial : IsPartialIndexOf m.store.held m.index
     partial = m.represents.index_is_newest m.index m.known_is
 
     under_way : IsUnderWay old.tables.held m.c
     under_way = subst (IsUnderWayIn old.tables.held) m.runs up.under_way
 
-    stage : HasStage old.tables.held m.c (Mark level slot)
-    stage = subst (HasStage old.tables.held m.c) was under_way.stage_is
-
     names_are : old.tables.names ≡ names_of m.store
     names_are = m.represents.names_are.names_are
-
-    -- it marks still, whichever keys became live
-    marks_still : (live : LiveKeys) → new.collection ≡ Some (record m.c { live = live }) → StillMarks new
-    marks_still live runs = record { collection = record m.c { live = live }; runs = runs; level = level; slot = slot; stage_is = was }
 
     -- what holds then, by the store as it is
     abbrev Gaining : (List ℕ → Type 0) → Store → PlaceMap → LiveKeys → Type 1
     Gaining P store later live = Gains m.index m.store m.valid.headers partial P store.held later m.c live old.tables.names new.tables.names old.parts new.parts
 
     goes_on : (P : List ℕ → Type 0) (store : Store) (later : PlaceMap) (live : LiveKeys) → new.collection ≡ Some (record m.c { live = live }) → new.known ≡ Some later → Represents store new.known new.tables
-        → IsValidFor new.disk.size store → Gaining P store later live → IsMarking new
+        → IsValidFor new.disk.size store → Gaining P store later live → IsFinding new
     goes_on P store later live runs known represents valid gains = record {
       c = record m.c { live = live };
       runs = runs;
@@ -149,7 +151,7 @@ module _ (first : List (Option HeaderValue)) (roots : RootKeys) where
 
     -- ---- a step that leaves tables and index as they were
 
-    rests_on : (P : List ℕ → Type 0) (live : LiveKeys) → new.collection ≡ Some (record m.c { live = live }) → IsLater old.disk new.disk → KeepsTables old new → Gaining P m.store m.index live → IsMarking new
+    rests_on : (P : List ℕ → Type 0) (live : LiveKeys) → new.collection ≡ Some (record m.c { live = live }) → IsLater old.disk new.disk → KeepsTables old new → Gaining P m.store m.index live → IsFinding new
     rests_on P live runs later keeps gains =
         goes_on P m.store m.index live runs (keeps.index_is ∙ m.known_is)
         (subst (λ (known : Option PlaceMap). Represents m.store known new.tables) (sym keeps.index_is) (subst (Represents m.store old.known) (sym keeps.tables_are) m.represents))
@@ -176,10 +178,10 @@ module _ (first : List (Option HeaderValue)) (roots : RootKeys) where
     still : KeepsTables old new → ((key : List ℕ) → IsRoot old.tables.names new.parts key → IsRoot old.tables.names old.parts key) → (key : List ℕ) → IsRoot new.tables.names new.parts key → IsRoot old.tables.names old.parts key
     still keeps fewer key root = fewer key (subst (λ (t : Tables). IsRoot t.names new.parts key) keeps.tables_are root)
 
-    none_brought : new.collection ≡ old.collection → IsLater old.disk new.disk → KeepsTables old new → ((key : List ℕ) → IsRoot old.tables.names new.parts key → IsRoot old.tables.names old.parts key) → IsMarking new
+    none_brought : new.collection ≡ old.collection → IsLater old.disk new.disk → KeepsTables old new → ((key : List ℕ) → IsRoot old.tables.names new.parts key → IsRoot old.tables.names old.parts key) → IsFinding new
     none_brought collects later keeps fewer = rests_on (λ key. ⊥) m.c.live (collects ∙ m.runs) later keeps (none_gained m.store m.c.live refl unmarked (still keeps fewer))
 
-    part_rests : (answer : Result Answer Refusal) → new.collection ≡ old.collection → Rests answer old new → ((key : List ℕ) → IsRoot old.tables.names new.parts key → IsRoot old.tables.names old.parts key) → IsMarking new
+    part_rests : (answer : Result Answer Refusal) → new.collection ≡ old.collection → Rests answer old new → ((key : List ℕ) → IsRoot old.tables.names new.parts key → IsRoot old.tables.names old.parts key) → IsFinding new
     part_rests answer collects effect fewer = none_brought collects effect.disk.only.later effect.tables fewer
 
     -- which keys became live, where a collection runs
@@ -201,12 +203,12 @@ module _ (first : List (Option HeaderValue)) (roots : RootKeys) where
       pin_root : (pins : PinMap) → part_of old.parts actor ≡ Writing pins → (key : List ℕ) → IsPartKey (Writing pins) key → IsRoot old.tables.names old.parts key
       pin_root pins writing key pinned = inr (actor, (below pins writing, subst (λ (p : Part). IsPartKey p key) (sym writing) pinned))
 
-      none_claimed : (seg : KindSegment) (answer : Result Answer Refusal) → new.parts ≡ old.parts → Rests answer old new → MarksIn (λ key. ⊥) old.collection new.collection → IsMarking new
+      none_claimed : (seg : KindSegment) (answer : Result Answer Refusal) → new.parts ≡ old.parts → Rests answer old new → MarksIn (λ key. ⊥) old.collection new.collection → IsFinding new
       none_claimed seg answer parts effect marks =
           let is = marked_in (λ key. ⊥) marks in
           rests_on (λ key. ⊥) is.0 is.1.0 effect.disk.only.later effect.tables (none_gained m.store is.0 refl is.1.1 (still effect.tables (same_parts parts)))
 
-      claimed : (seg : KindSegment) (answer : Result Answer Refusal) → IsStepSegment seg → ClaimRow seg actor answer old new → Rests answer old new → Collects (asked.Claim seg) answer old new → IsMarking new
+      claimed : (seg : KindSegment) (answer : Result Answer Refusal) → IsStepSegment seg → ClaimRow seg actor answer old new → Rests answer old new → Collects (asked.Claim seg) answer old new → IsFinding new
       claimed seg (Ok answers.Held) right row effect collects = rests_on P marks.0 marks.1.0 effect.disk.only.later effect.tables (record {
         marks = marks.1.1;
         decided = one_or_other segment;
@@ -246,10 +248,10 @@ module _ (first : List (Option HeaderValue)) (roots : RootKeys) where
       -- ---- a seal
 
       free : HasFree m.store.held
-      free = omega (arith, stage.4, free_held m.store.held old.tables.held m.represents.slots_hold m.valid.headers)
+      free = omega (arith, room_before old.tables.held m.c m.c.stage early under_way.stage_is, free_held m.store.held old.tables.held m.represents.slots_hold m.valid.headers)
 
       sealed : (filled : Contents) (id : ℕ) → AreStepSegments filled.kind filled.segments → SealRow filled actor (Ok (answers.Sealed id)) old new → SealsOne filled (Ok (answers.Sealed id)) old new
-          → Collects (asked.Seal filled) (Ok (answers.Sealed id)) old new → IsMarking new
+          → Collects (asked.Seal filled) (Ok (answers.Sealed id)) old new → IsFinding new
       sealed filled id right row effect collects = goes_on P t later.0 marks.0 marks.1.0 later.1 represents (made.valid.store_has m.store m.represents m.valid free) (record {
         marks = marks.1.1;
         decided = decided m.store (next_id old) filled can;
@@ -305,7 +307,7 @@ module _ (first : List (Option HeaderValue)) (roots : RootKeys) where
 
       -- one that is refused stops the core, or leaves tables and index as they were
       unsealed : (filled : Contents) (refusal : Refusal) → SealRow filled actor (Err refusal) old new → SealsOne filled (Err refusal) old new → Collects (asked.Seal filled) (Err refusal) old new
-          → StopsAfter (asked.Seal filled) (Err refusal) old.acknowledged new.stop → new.stop ≡ None → IsMarking new
+          → StopsAfter (asked.Seal filled) (Err refusal) old.acknowledged new.stop → new.stop ≡ None → IsFinding new
       unsealed filled refusal row effect collects stops stays =
           let keeps = seal_kept old new stays filled refusal old.acknowledged stops effect.kept in
           let is = marked_in (λ key. ⊥) collects in
@@ -314,7 +316,7 @@ module _ (first : List (Option HeaderValue)) (roots : RootKeys) where
       -- ---- a name
 
       named : (name : List ℕ) (change : Change) (answer : Answer) → NamesOne name change (Ok answer) old new → new.collection ≡ old.collection
-          → ((key : List ℕ) → IsRoot (names_changed (suc (last_sequence m.store)) name change old.tables.names) new.parts key → IsRoot old.tables.names old.parts key) → IsMarking new
+          → ((key : List ℕ) → IsRoot (names_changed (suc (last_sequence m.store)) name change old.tables.names) new.parts key → IsRoot old.tables.names old.parts key) → IsFinding new
       named name change answer effect collects fewer =
           let t : Store = with_change name change m.store in
           let represents = effect.made.represents.store_has m.store m.represents m.valid free in
@@ -323,7 +325,7 @@ module _ (first : List (Option HeaderValue)) (roots : RootKeys) where
           goes_on (λ key. ⊥) t m.index m.c.live (collects ∙ m.runs) (effect.index ∙ m.known_is) represents (effect.made.valid.store_has m.store m.represents m.valid free)
           (none_gained t m.c.live refl unmarked (λ key root. fewer key (subst (λ (n : NameMap). IsRoot n new.parts key) names root)))
 
-      committed : (name : List ℕ) (root : Root) (answer : Result Answer Refusal) → CommitRow name root actor answer old new → NamesOne name (Put root) answer old new → new.collection ≡ old.collection → IsMarking new
+      committed : (name : List ℕ) (root : Root) (answer : Result Answer Refusal) → CommitRow name root actor answer old new → NamesOne name (Put root) answer old new → new.collection ≡ old.collection → IsFinding new
       committed name root (Ok (answers.Committed sequence)) row effect collects =
           let may = row.0 in
           named name (Put root) (answers.Committed sequence) effect collects (λ key is.
@@ -332,7 +334,7 @@ module _ (first : List (Option HeaderValue)) (roots : RootKeys) where
       committed name root (Err refusal) row effect collects = none_brought collects effect.disk.later effect.kept (same_parts row.1)
       committed name root answer row effect collects = absurd row
 
-      deleted : (name : List ℕ) (answer : Result Answer Refusal) → DeleteRow name answer old new → NamesOne name Delete answer old new → new.collection ≡ old.collection → IsMarking new
+      deleted : (name : List ℕ) (answer : Result Answer Refusal) → DeleteRow name answer old new → NamesOne name Delete answer old new → new.collection ≡ old.collection → IsFinding new
       deleted name (Ok (answers.Deleted sequence)) row effect collects =
           named name Delete (answers.Deleted sequence) effect collects (λ key is.
           deleted_root (suc (last_sequence m.store)) name old.tables.names old.parts key
@@ -342,7 +344,7 @@ module _ (first : List (Option HeaderValue)) (roots : RootKeys) where
 
       -- ---- another collection does not begin
 
-      not_begun : (percent : ℕ) (answer : Result Answer Refusal) → StartRow percent answer old new → Rests answer old new → IsMarking new
+      not_begun : (percent : ℕ) (answer : Result Answer Refusal) → StartRow percent answer old new → Rests answer old new → IsFinding new
       not_begun percent (Ok (answers.Started snapshot)) row effect = absurd (let wrong : None ≡ Some m.c = sym row.0.none_ran ∙ m.runs in cc)
       not_begun percent (Err (refusals.Collecting phase)) row effect = part_rests (Err (refusals.Collecting phase)) row.1 effect (same_parts row.2)
       not_begun percent (Err refusal) row effect = absurd (let wrong : None ≡ Some m.c = sym row.none_ran ∙ m.runs in cc)
@@ -350,18 +352,9 @@ module _ (first : List (Option HeaderValue)) (roots : RootKeys) where
 
       -- ---- its own step
 
-      -- the container that it scans came before it
-      came_before : (h : HeaderValue) → slice_get m.store.held slot ≡ Some (Some h) → h.id < m.c.snapshot
-      came_before h there =
-          let tree : is_tree_slot m.c.snapshot old.tables.held slot ≡ true = stage.2.1 in
-          let id : ℕ = get_or old.tables.held.ids.items slot 0 in
-          let old_slot = first_true (is_old_slot m.c.snapshot old.tables.held slot) (is_tree (slice_get old.tables.held.counts.items slot)) tree in
-          let low : id < m.c.snapshot = ltb-true id m.c.snapshot (second_true (not (id == 0)) (nat_lt id m.c.snapshot) old_slot) in
-          omega (arith, low, ap (λ (ids : List ℕ). get_or ids slot 0) m.represents.slots_hold.ids_are, id_there m.store.held slot h there)
-
-      scanned_on : (after : Collection) → new.collection ≡ Some after → KeepsTables old new → new.parts ≡ old.parts → IsLater old.disk new.disk
-          → FindsSoFar first m.store.held m.index after old.tables.names old.parts roots → IsMarking new
-      scanned_on after runs keeps parts later finds = record {
+      goes_so : (after : Collection) → new.collection ≡ Some after → KeepsTables old new → new.parts ≡ old.parts → IsLater old.disk new.disk
+          → FindsSoFar first m.store.held m.index after old.tables.names old.parts roots → IsFinding new
+      goes_so after runs keeps parts later finds = record {
         c = after;
         runs = runs;
         store = m.store;
@@ -373,131 +366,115 @@ module _ (first : List (Option HeaderValue)) (roots : RootKeys) where
             (subst (λ (p : List Part). FindsSoFar first m.store.held m.index after old.tables.names p roots) (sym parts) finds);
       }
 
-      own_step : HeadersAreApart first old.disk new.disk → (answer : Result Answer Refusal) → GcRow answer old new → GcEffect answer old new → IsMarking new
-      own_step apart answer row effect = elim (gc_scans old new m.c m.runs level slot was answer row) [
-        | inl (phase, (is, scanned)) ↦ scanned_on scanned.after scanned.now_runs scanned.keeps scanned.parts_are effect.later
-            (scan_finds m.index m.store m.valid.headers partial old.tables.held m.represents.slots_hold first old.tables.names old.parts roots old.disk new.disk level slot stage.0 m.c scanned.after was m.finds apart came_before
-            (subst (λ (k : Option PlaceMap). Scans old.tables.held k old.disk new.disk level slot m.c scanned.after) m.known_is scanned.scans))
-        | inr (refusal, (is, refused)) ↦ scanned_on refused.after refused.now_runs refused.keeps refused.parts_are effect.later
-            (refusal_finds m.index m.store m.valid.headers partial old.tables.held m.represents.slots_hold first old.tables.names old.parts roots old.disk new.disk level slot stage.0 m.c refused.after was m.finds refusal
-            (subst (λ (k : Option PlaceMap). KeepsMarks k old.disk new.disk level slot m.c refused.after refusal) m.known_is refused.kept))
+      abbrev FindsAfter : Collection → Type 0
+      FindsAfter after = FindsSoFar first m.store.held m.index after old.tables.names old.parts roots
+
+      -- while it marks a container is scanned
+      module _ (level slot : ℕ) (was : m.c.stage ≡ Mark level slot) (apart : HeadersAreApart first old.disk new.disk) where
+        has : HasStage old.tables.held m.c (Mark level slot)
+        has = subst (HasStage old.tables.held m.c) was under_way.stage_is
+
+        -- which came before it
+        came_before : (h : HeaderValue) → slice_get m.store.held slot ≡ Some (Some h) → h.id < m.c.snapshot
+        came_before h there =
+            let tree : is_tree_slot m.c.snapshot old.tables.held slot ≡ true = has.2.1 in
+            let id : ℕ = get_or old.tables.held.ids.items slot 0 in
+            let old_slot = first_true (is_old_slot m.c.snapshot old.tables.held slot) (is_tree (slice_get old.tables.held.counts.items slot)) tree in
+            let low : id < m.c.snapshot = ltb-true id m.c.snapshot (second_true (not (id == 0)) (nat_lt id m.c.snapshot) old_slot) in
+            omega (arith, low, ap (λ (ids : List ℕ). get_or ids slot 0) m.represents.slots_hold.ids_are, id_there m.store.held slot h there)
+
+        scanned : (gone : HasGoneOn old new m.c m.runs early) → FindsAfter gone.after
+        scanned gone =
+            scan_finds m.index m.store m.valid.headers partial old.tables.held m.represents.slots_hold first old.tables.names old.parts roots old.disk new.disk level slot has.0 m.c gone.after was m.finds apart came_before
+            (subst (λ (k : Option PlaceMap). Scans old.tables.held k old.disk new.disk level slot m.c gone.after) m.known_is (has_scanned old new m.c m.runs early level slot was gone))
+
+        not_scanned : (refusal : Refusal) (refused : HasNotGoneOn old new m.c m.runs early refusal) → FindsAfter refused.after
+        not_scanned refusal refused =
+            refusal_finds m.index m.store m.valid.headers partial old.tables.held m.represents.slots_hold first old.tables.names old.parts roots old.disk new.disk level slot has.0 m.c refused.after was m.finds refusal
+            (subst (λ (k : Option PlaceMap). KeepsMarks k old.disk new.disk level slot m.c refused.after refusal) m.known_is (has_not_scanned old new m.c m.runs early level slot was refusal refused))
+
+      -- and from then on its live keys stay
+      stays_so : HasMarkedAll m.c.stage → (after : Collection) → after.live ≡ m.c.live → after.snapshot ≡ m.c.snapshot → FindsAfter after
+      stays_so marked after live snapshot = marked_on first m.store.held m.index m.c after old.tables.names old.parts roots marked live snapshot m.finds
+
+      gone_on : HeadersAreApart first old.disk new.disk → (stage : Stage) → m.c.stage ≡ stage → (gone : HasGoneOn old new m.c m.runs early) → FindsAfter gone.after
+      gone_on apart (Mark level slot) was gone = scanned level slot was apart gone
+      gone_on apart (Filter slot) was gone =
+          let steps = subst (λ (stage : Stage). StepsTo stage m.c.sweep.next (at_moment old m.c) (at_moment new gone.after)) was gone.steps in
+          stays_so (subst HasMarkedAll (sym was) tt) gone.after (ap (λ (c : Collection). c.live) steps.0.collection_is) (ap (λ (c : Collection). c.snapshot) steps.0.collection_is)
+      gone_on apart Select was gone =
+          let steps = subst (λ (stage : Stage). StepsTo stage m.c.sweep.next (at_moment old m.c) (at_moment new gone.after)) was gone.steps in
+          stays_so (subst HasMarkedAll (sym was) tt) gone.after (ap (λ (c : Collection). c.live) steps.0.collection_is) (ap (λ (c : Collection). c.snapshot) steps.0.collection_is)
+      gone_on apart Sweep was gone = absurd (subst IsNoSweep was early)
+
+      not_gone_on : HeadersAreApart first old.disk new.disk → (refusal : Refusal) (stage : Stage) → m.c.stage ≡ stage → (refused : HasNotGoneOn old new m.c m.runs early refusal) → FindsAfter refused.after
+      not_gone_on apart refusal (Mark level slot) was refused = not_scanned level slot was apart refusal refused
+      not_gone_on apart refusal (Filter slot) was refused =
+          let kept = subst (λ (stage : Stage). Keeps stage m.c.sweep.next (at_moment old m.c) (at_moment new refused.after) refusal) was refused.kept in
+          subst FindsAfter (sym kept.0) m.finds
+      not_gone_on apart refusal Select was refused =
+          let kept = subst (λ (stage : Stage). Keeps stage m.c.sweep.next (at_moment old m.c) (at_moment new refused.after) refusal) was refused.kept in
+          subst FindsAfter (sym kept.0) m.finds
+      not_gone_on apart refusal Sweep was refused = absurd (subst IsNoSweep was early)
+
+      own_step : HeadersAreApart first old.disk new.disk → (answer : Result Answer Refusal) → GcRow answer old new → GcEffect answer old new → IsFinding new
+      own_step apart answer row effect = elim (gc_goes old new m.c m.runs early answer row) [
+        | inl gone ↦ goes_so gone.after gone.now_runs gone.keeps gone.parts_are effect.later (gone_on apart m.c.stage refl gone)
+        | inr (refusal, refused) ↦ goes_so refused.after refused.now_runs refused.keeps refused.parts_are effect.later (not_gone_on apart refusal m.c.stage refl refused)
       ]
 
       -- ---- a step, whichever it is
 
-      -- it goes on so, or the core stopped
-      abbrev Goes : Type 0
-      Goes = IsMarking new ⊎ (StillMarks new × ((stop : Stop) × (new.stop ≡ Some stop)))
+      module _ (stays : new.stop ≡ None) where
+        seal_goes : (filled : Contents) (answer : Result Answer Refusal) → AreStepSegments filled.kind filled.segments → SealRow filled actor answer old new → SealsOne filled answer old new → Collects (asked.Seal filled) answer old new
+            → StopsAfter (asked.Seal filled) answer old.acknowledged new.stop → IsFinding new
+        seal_goes filled (Ok (answers.Sealed id)) right row effect collects stops = sealed filled id right row effect collects
+        seal_goes filled (Err refusal) right row effect collects stops = unsealed filled refusal row effect collects stops stays
+        seal_goes filled answer right row effect collects stops = absurd row
 
-      seal_goes : (filled : Contents) (answer : Result Answer Refusal) → AreStepSegments filled.kind filled.segments → SealRow filled actor answer old new → SealsOne filled answer old new → Collects (asked.Seal filled) answer old new
-          → StopsAfter (asked.Seal filled) answer old.acknowledged new.stop → Goes
-      seal_goes filled (Ok (answers.Sealed id)) right row effect collects stops = inl (sealed filled id right row effect collects)
-      seal_goes filled (Err refusal) right row effect collects stops = by_stop new.stop refl
-        where
-          by_stop : (stop : Option Stop) → new.stop ≡ stop → Goes
-          by_stop None is = inl (unsealed filled refusal row effect collects stops is)
-          by_stop (Some stop) is = let marked = marked_in (λ key. ⊥) collects in inr (marks_still marked.0 marked.1.0, (stop, is))
-      seal_goes filled answer right row effect collects stops = absurd row
-
-      step_goes : (step : StepValue) (answer : Result Answer Refusal) → IsStep step → (step ≡ asked.GcStep → HeadersAreApart first old.disk new.disk) → Row step actor answer buf old new → Effect step answer old new
-          → Collects step answer old new → StopsAfter step answer old.acknowledged new.stop → Goes
-      step_goes asked.Begin answer right apart row effect collects stops = inl (part_rests answer collects effect (begin_none old.tables.names old new actor buf refl up.many answer row))
-      step_goes (asked.Claim seg) answer right apart row effect collects stops = inl (claimed seg answer right row effect collects)
-      step_goes (asked.Seal filled) answer right apart row effect collects stops = seal_goes filled answer right.1 row effect collects stops
-      step_goes (asked.Commit name root) answer right apart row effect collects stops = inl (committed name root answer row effect collects)
-      step_goes asked.Abort answer right apart row effect collects stops = inl (part_rests answer collects effect (abort_none old.tables.names old new actor buf refl up.many answer row))
-      step_goes (asked.OpenRead name) answer right apart row effect collects stops = inl (part_rests answer collects effect (open_none old.tables.names old new actor buf refl up.many name answer row))
-      step_goes asked.ReadNext answer right apart row effect collects stops = inl (part_rests answer collects effect (read_none old.tables.names old new actor buf refl up.many answer row))
-      step_goes asked.EndRead answer right apart row effect collects stops = inl (part_rests answer collects effect (end_none old.tables.names old new actor buf refl up.many answer row))
-      step_goes (asked.Delete name) answer right apart row effect collects stops = inl (deleted name answer row effect collects)
-      step_goes asked.ListNames answer right apart row effect collects stops = inl (part_rests answer collects effect (list_none old.tables.names old new actor buf refl up.many answer row))
-      step_goes (asked.GcStart percent) answer right apart row effect collects stops = inl (not_begun percent answer row effect)
-      step_goes asked.GcStep answer right apart row effect collects stops = inl (own_step (apart refl) answer row effect)
-      step_goes asked.Stat answer right apart row effect collects stops = inl (part_rests answer collects effect (stat_none old.tables.names old new actor buf refl up.many answer row))
+        step_goes : (step : StepValue) (answer : Result Answer Refusal) → IsStep step → (step ≡ asked.GcStep → HeadersAreApart first old.disk new.disk) → Row step actor answer buf old new → Effect step answer old new
+            → Collects step answer old new → StopsAfter step answer old.acknowledged new.stop → IsFinding new
+        step_goes asked.Begin answer right apart row effect collects stops = part_rests answer collects effect (begin_none old.tables.names old new actor buf refl up.many answer row)
+        step_goes (asked.Claim seg) answer right apart row effect collects stops = claimed seg answer right row effect collects
+        step_goes (asked.Seal filled) answer right apart row effect collects stops = seal_goes filled answer right.1 row effect collects stops
+        step_goes (asked.Commit name root) answer right apart row effect collects stops = committed name root answer row effect collects
+        step_goes asked.Abort answer right apart row effect collects stops = part_rests answer collects effect (abort_none old.tables.names old new actor buf refl up.many answer row)
+        step_goes (asked.OpenRead name) answer right apart row effect collects stops = part_rests answer collects effect (open_none old.tables.names old new actor buf refl up.many name answer row)
+        step_goes asked.ReadNext answer right apart row effect collects stops = part_rests answer collects effect (read_none old.tables.names old new actor buf refl up.many answer row)
+        step_goes asked.EndRead answer right apart row effect collects stops = part_rests answer collects effect (end_none old.tables.names old new actor buf refl up.many answer row)
+        step_goes (asked.Delete name) answer right apart row effect collects stops = deleted name answer row effect collects
+        step_goes asked.ListNames answer right apart row effect collects stops = part_rests answer collects effect (list_none old.tables.names old new actor buf refl up.many answer row)
+        step_goes (asked.GcStart percent) answer right apart row effect collects stops = not_begun percent answer row effect
+        step_goes asked.GcStep answer right apart row effect collects stops = own_step (apart refl) answer row effect
+        step_goes asked.Stat answer right apart row effect collects stops = part_rests answer collects effect (stat_none old.tables.names old new actor buf refl up.many answer row)
 
   -- ---- steps, one after the other
 
   module _ (C : Type 0) (state : C → CoreState) where
-    -- a core that is stopped keeps its collection
-    stuck : (events : List Event) (mid new : C) (stop : Stop) → (state mid).stop ≡ Some stop → RunMeanwhile C state first events mid new → (state new).collection ≡ (state mid).collection
-    stuck [] mid new stop is run = ap (λ (c : C). (state c).collection) run
-    stuck (e ∷ es) mid new stop is run =
-        let same = (subst (λ (o : Option Stop). StepsOr o e (state mid) (state run.0)) is run.1.0.made).same in
-        stuck es run.0 new stop (same.stop_is ∙ is) run.1.1 ∙ same.collection_is
+    plain_run : (events : List Event) (mid new : C) → RunBeforeSweep C state first events mid new → CoreRun C state events mid new
+    plain_run [] mid new run = run
+    plain_run (e ∷ es) mid new run = (run.0, (run.1.0.made, plain_run es run.0 new run.1.1))
 
-    -- so it never marks all
-    never_marked : (mid new : C) (c : Collection) → StillMarks (state mid) → (state new).collection ≡ (state mid).collection → (state new).collection ≡ Some c → HasMarkedAll c.stage → ⊥
-    never_marked mid new c marks same is marked =
-        let one = same_running c marks.collection (state new).collection is (same ∙ marks.runs) in
-        subst HasMarkedAll (ap (λ (x : Collection). x.stage) one ∙ marks.stage_is) marked
-
-    abbrev Found : (events : List Event) (mid new : C) → RunMeanwhile C state first events mid new → Type 0
-    Found events mid new run = FindsOnTheWay roots (length events) (λ count. state (core_after C state first events mid new run count))
-
-    at_first : (events : List Event) (mid new : C) (run : RunMeanwhile C state first events mid new) → core_after C state first events mid new run 0 ≡ mid
-    at_first [] mid new run = refl
-    at_first (e ∷ es) mid new run = refl
-
-    -- it has marked all
-    found_here : (events : List Event) (mid new : C) (run : RunMeanwhile C state first events mid new) (m : IsMarking (state mid)) → HasMarkedAll m.c.stage → Found events mid new run
-    found_here events mid new run m marked = record {
-      count = 0;
-      within = omega arith;
-      first = λ earlier below. absurd (omega (arith, below));
-      found = subst (λ (c : C). HasFound roots (state c)) (sym (at_first events mid new run)) (record {
-        collection = m.c;
-        runs = m.runs;
-        marked = marked;
-        index = m.index;
-        known_is = m.known_is;
-        found = found_trees first m.store.held m.index m.c (state mid).tables.names (state mid).parts roots m.finds marked;
-      });
-    }
-
-    -- or has it after one step more
-    found_later : (e : Event) (es : List Event) (mid new : C) (run : RunMeanwhile C state first (e ∷ es) mid new) → StillMarks (state mid) → Found es run.0 new run.1.1 → Found (e ∷ es) mid new run
-    found_later e es mid new run marks rest = record {
-      count = suc rest.count;
-      within = omega (arith, rest.within);
-      first = λ earlier below. by_count earlier below;
-      found = rest.found;
-    }
+    finds_on : (events : List Event) (mid new : C) → RunBeforeSweep C state first events mid new → IsRunning (state mid) → (state new).stop ≡ None → IsFinding (state mid) → IsFinding (state new)
+    finds_on [] mid new run running stays m = subst (λ (c : C). IsFinding (state c)) (sym run) m
+    finds_on (e ∷ es) mid new run running stays m =
+        finds_on es run.0 new run.1.1 (step_runs (state mid) (state run.0) e run.1.0.made running) stays
+        (step_goes (state mid) (state run.0) m early up e.actor e.buf next_stays e.step e.answer run.1.0.is_step run.1.0.apart steps.made.row steps.made.effect steps.collects steps.stops)
       where
-        by_count : (earlier : ℕ) → earlier < suc rest.count → StillMarks (state (core_after C state first (e ∷ es) mid new run earlier))
-        by_count zero below = marks
-        by_count (suc earlier) below = rest.first earlier (omega (arith, below))
+        next_stays : (state run.0).stop ≡ None
+        next_stays = runs_before C state es run.0 new (plain_run es run.0 new run.1.1) stays
 
-    finds_on : (events : List Event) (mid new : C) (run : RunMeanwhile C state first events mid new) (c : Collection) → IsRunning (state mid) → (state new).collection ≡ Some c → HasMarkedAll c.stage → IsMarking (state mid)
-        → Found events mid new run
-    finds_on [] mid new run c up is marked m =
-        let one = same_running m.c c (state mid).collection m.runs (ap (λ (x : C). (state x).collection) (sym run) ∙ is) in
-        found_here [] mid new run m (subst (λ (x : Collection). HasMarkedAll x.stage) (sym one) marked)
-    finds_on (e ∷ es) mid new run c up is marked m =
-        by_stage m.c.stage refl (finds_on es run.0 new run.1.1 c (step_runs (state mid) (state run.0) e run.1.0.made up) is marked)
-      where
-        next : C
-        next = run.0
+        stop_is : (state mid).stop ≡ None
+        stop_is = was_running (state mid).stop e (state mid) (state run.0) refl run.1.0.made next_stays
 
-        stopped : StillMarks (state next) → (stop : Stop) → (state next).stop ≡ Some stop → ⊥
-        stopped marks stop stops = never_marked next new c marks (stuck es next new stop stops run.1.1) is marked
+        steps : Steps e (state mid) (state run.0)
+        steps = running_step (state mid) (state run.0) e stop_is run.1.0.made
 
-        by_goes : (IsMarking (state next) → Found es next new run.1.1) → StillMarks (state mid) → IsMarking (state next) ⊎ (StillMarks (state next) × ((stop : Stop) × ((state next).stop ≡ Some stop))) → Found (e ∷ es) mid new run
-        by_goes rest marks (inl goes) = found_later e es mid new run marks (rest goes)
-        by_goes rest marks (inr stops) = absurd (stopped stops.0 stops.1.0 stops.1.1)
+        up : IsUp (state mid)
+        up = subst (λ (stop : Option Stop). UnlessStopped stop (IsUp (state mid))) stop_is running
 
-        by_stop : (level slot : ℕ) → m.c.stage ≡ Mark level slot → (IsMarking (state next) → Found es next new run.1.1) → (stop : Option Stop) → (state mid).stop ≡ stop → StepsOr stop e (state mid) (state next)
-            → UnlessStopped stop (IsUp (state mid)) → Found (e ∷ es) mid new run
-        by_stop level slot was rest (Some stop) stops steps running =
-            absurd (never_marked mid new c (record { collection = m.c; runs = m.runs; level = level; slot = slot; stage_is = was }) (stuck (e ∷ es) mid new stop stops run) is marked)
-        by_stop level slot was rest None none steps running =
-            by_goes rest (record { collection = m.c; runs = m.runs; level = level; slot = slot; stage_is = was })
-            (step_goes (state mid) (state next) m level slot was running e.actor e.buf e.step e.answer run.1.0.is_step run.1.0.apart steps.made.row steps.made.effect steps.collects steps.stops)
-
-        by_stage : (stage : Stage) → m.c.stage ≡ stage → (IsMarking (state next) → Found es next new run.1.1) → Found (e ∷ es) mid new run
-        by_stage (Mark level slot) was rest = by_stop level slot was rest (state mid).stop refl run.1.0.made up
-        by_stage (Filter at) was rest = found_here (e ∷ es) mid new run m (subst HasMarkedAll (sym was) tt)
-        by_stage Select was rest = found_here (e ∷ es) mid new run m (subst HasMarkedAll (sym was) tt)
-        by_stage Sweep was rest = found_here (e ∷ es) mid new run m (subst HasMarkedAll (sym was) tt)
+        early : IsNoSweep m.c.stage
+        early = subst (λ (x : Collection). IsNoSweep x.stage) (same_running run.1.0.not_swept.collection m.c (state mid).collection run.1.0.not_swept.runs m.runs) run.1.0.not_swept.early
 
 -- ---- slots of the same ids
 
@@ -530,8 +507,15 @@ different_by_ids (Some h ∷ cs) (Some g ∷ ds) right also same different = (
 -- The law.
 module _ (C : Type 0) (state : C → CoreState) where
   pub finds_keys_meanwhile : FindsKeysMeanwhile C state
-  finds_keys_meanwhile actor percent snapshot buf events s index old begun new c up runs indexed began run is marked =
-      finds_on s.held roots C state events begun new run c (step_runs (state old) (state begun) (starts actor percent snapshot buf) began up) is marked so
+  finds_keys_meanwhile actor percent snapshot buf events s index old begun new c up runs indexed began run stays is marked =
+      let m = finds_on s.held roots C state events begun new run (step_runs (state old) (state begun) (starts actor percent snapshot buf) began up) stays so in
+      let one : m.c ≡ c = same_running m.c c (state new).collection m.runs is in
+      record {
+        index = m.index;
+        known_is = m.known_is;
+        found = subst (λ (x : Collection). FindsTrees m.index x.live (roots_of (state old).tables.names (state old).parts ++ roots_of (state new).tables.names (state new).parts)) one
+            (found_trees s.held m.store.held m.index m.c (state new).tables.names (state new).parts roots m.finds (subst (λ (x : Collection). HasMarkedAll x.stage) (sym one) marked));
+      }
     where
       roots : RootKeys
       roots = roots_of (state old).tables.names (state old).parts
@@ -575,7 +559,7 @@ module _ (C : Type 0) (state : C → CoreState) where
       keeps : KeepsTables (state old) (state begun)
       keeps = steps.made.effect.tables
 
-      so : IsMarking s.held roots (state begun)
+      so : IsFinding s.held roots (state begun)
       so = record {
         c = begins_so.collection;
         runs = begins_so.runs;

@@ -1,5 +1,6 @@
 pub mod AnySteps
 pub mod AtStore
+pub mod BeforeSweep
 pub mod Bounded
 pub mod ByNeed
 pub mod CheckedReads
@@ -29,7 +30,6 @@ pub mod LoneRun
 pub mod Making
 pub mod MakingGc
 pub mod MarkedSteps
-pub mod MarkingReads
 pub mod Marks
 pub mod Opened
 pub mod OwnParts

@@ -1,18 +1,17 @@
 -- Which keys a collection found in the index, whatever the disk holds (docs/MODEL.md, 'The core').
-use Rattle.std.specs.Prelude.{◌≡◌, ℕ, zero, suc, ◌<◌, ◌≤◌, List, [], ◌∷◌, ◌++◌, length, Option, Some, None, Result, Ok}
+use Rattle.std.specs.Prelude.{◌≡◌, ℕ, List, [], ◌∷◌, ◌++◌, Option, Some, None}
 use Rattle.std.specs.List.{AllByRecursion}
-use Rattle.actor_parts.specs.declared.step.Answer.{Answer}
-use Rattle.actor_parts.specs.declared.step.Answer.TheVariants as answers
 use Rattle.actor_parts.specs.StepValue as asked
 use Rattle.actor_parts.specs.StepValue.{IsStep}
 use Rattle.container_meta.specs.Places.{PlaceMap}
 use Rattle.container_meta.specs.Spelling.{HeaderValue}
 use Rattle.dd_disk.specs.View.{OnlyReads}
 use Rattle.gc_steps.specs.declared.collection.Collection.{Collection}
-use Rattle.gc_steps.specs.declared.collection.Stage.TheVariants.{Mark}
+use Rattle.gc_enumerate.specs.Live.{LiveKeys}
+use Rattle.gc_steps.specs.declared.collection.Stage.{Stage}
+use Rattle.gc_steps.specs.declared.collection.Stage.TheVariants.{Sweep}
 use Rattle.gc_steps.specs.Finding.{FindsAll, FindsTrees, HasMarkedAll, HeadersAreApart}
 use Rattle.gc_steps.specs.Roots.{RootKeys, roots_of}
-use Rattle.refusals.specs.declared.refusal.Refusal.{Refusal}
 use Rattle.store_model.specs.Image.{Store}
 use Rattle.store_model.specs.Slots.{AreHeaders}
 use Rattle.store_state.specs.Tables.{Represents}
@@ -43,67 +42,46 @@ FindsKeys C state = (actor percent snapshot : ℕ) (buf : List ℕ) (events : Li
 
 -- ---- whatever others do meanwhile
 
--- the collection that runs has not marked all
-pub record StillMarks (c : CoreState) : Type 0 where
+abbrev pub IsNoSweep : Stage → Type 0
+IsNoSweep Sweep = ⊥
+IsNoSweep stage = Unit {0}
+
+-- the collection that runs has not begun to sweep: it marks, records containers, or chooses some of them
+pub record HasNotSwept (c : CoreState) : Type 0 where
   pub collection : Collection
   pub runs : c.collection ≡ Some collection
-  pub level : ℕ
-  pub slot : ℕ
-  pub stage_is : collection.stage ≡ Mark level slot
+  pub early : IsNoSweep collection.stage
 
--- A step of a collection that has not marked all only reads: it frees and copies nothing.
-abbrev pub OnlyReadsAtFirst : (C : Type 0) → (C → CoreState) → Type 0
-OnlyReadsAtFirst C state = (e : Event) (old new : C) → StillMarks (state old) → e.step ≡ asked.GcStep → CoreStep (state old) e (state new)
-    → OnlyReads (state old).disk (state new).disk × KeepsTables (state old) (state new)
+-- A step of a collection that has not begun to sweep only reads: it frees and copies nothing.
+abbrev pub OnlyReadsBeforeSweep : (C : Type 0) → (C → CoreState) → Type 0
+OnlyReadsBeforeSweep C state = (e : Event) (old new : C) → HasNotSwept (state old) → e.step ≡ asked.GcStep
+    → CoreStep (state old) e (state new) → OnlyReads (state old).disk (state new).disk × KeepsTables (state old) (state new)
 
--- no collection came to its end
-abbrev pub IsNoEnd : Result Answer Refusal → Type 0
-IsNoEnd (Ok (answers.Done freed copied)) = ⊥
-IsNoEnd answer = Unit {0}
-
--- A step of anyone while a collection runs, which goes on: a segment of a tree is a node of its level; and where it is one of the
--- collection, no header but one of these was shown in its slot with its digest.
-pub record StepMeanwhile (held : List (Option HeaderValue)) (e : Event) (old new : CoreState) : Type 0 where
+-- A step of anyone while a collection runs that has not begun to sweep: a segment of a tree is a node of its level; and where the step is one
+-- of the collection, no header but one of these was shown in its slot with its digest.
+pub record StepBeforeSweep (held : List (Option HeaderValue)) (e : Event) (old new : CoreState) : Type 0 where
+  pub not_swept : HasNotSwept old
   pub is_step : IsStep e.step
-  pub goes_on : IsNoEnd e.answer
   pub apart : e.step ≡ asked.GcStep → HeadersAreApart held old.disk new.disk
   pub made : CoreStep old e new
 
-abbrev pub RunMeanwhile : (C : Type 0) → (C → CoreState) → List (Option HeaderValue) → List Event → C → C → Type 0
-RunMeanwhile C state held [] old new = new ≡ old
-RunMeanwhile C state held (e ∷ es) old new =
-    (mid : C) × (StepMeanwhile held e (state old) (state mid) × RunMeanwhile C state held es mid new)
+abbrev pub RunBeforeSweep : (C : Type 0) → (C → CoreState) → List (Option HeaderValue) → List Event → C → C → Type 0
+RunBeforeSweep C state held [] old new = new ≡ old
+RunBeforeSweep C state held (e ∷ es) old new =
+    (mid : C) × (StepBeforeSweep held e (state old) (state mid) × RunBeforeSweep C state held es mid new)
 
--- the core after so many of the steps of a run, or after all
-abbrev pub core_after : (C : Type 0) (state : C → CoreState) (held : List (Option HeaderValue)) (events : List Event) (old new : C)
-    → RunMeanwhile C state held events old new → ℕ → C
-core_after C state held [] old new run count = old
-core_after C state held (e ∷ es) old new run zero = old
-core_after C state held (e ∷ es) old new run (suc count) = core_after C state held es run.0 new run.1.1 count
-
--- The collection has marked all, and its index has each key of the trees of these roots, and of all roots as they are then.
-pub record HasFound (roots : RootKeys) (c : CoreState) : Type 0 where
-  pub collection : Collection
-  pub runs : c.collection ≡ Some collection
-  pub marked : HasMarkedAll collection.stage
+-- The index of a core has each key of the trees of these roots, and of all its roots: each of them is live.
+pub record HasFound (roots : RootKeys) (live : LiveKeys) (c : CoreState) : Type 0 where
   pub index : PlaceMap
   pub known_is : c.known ≡ Some index
-  pub found : FindsTrees index collection.live (roots ++ roots_of c.tables.names c.parts)
+  pub found : FindsTrees index live (roots ++ roots_of c.tables.names c.parts)
 
--- So it is at the first moment of a run at which it has marked all. The core is given by the number of steps that were made.
-pub record FindsOnTheWay (roots : RootKeys) (many : ℕ) (moments : ℕ → CoreState) : Type 0 where
-  pub count : ℕ
-  pub within : count ≤ many
-  pub first : (earlier : ℕ) → earlier < count → StillMarks (moments earlier)
-  pub found : HasFound roots (moments count)
-
--- A collection frees and copies nothing before it has marked (`OnlyReadsAtFirst`). When it has, whatever steps others made meanwhile, the
--- index has each key of the trees of all names, readers and pins: of those as it began, and of those at that moment. In no step of it was a
--- header but the store's shown with its digest in a slot that had one as it began.
+-- A collection frees and copies nothing before it sweeps (`OnlyReadsBeforeSweep`). At each moment until then, once it has marked, and also as it
+-- begins to sweep, whatever steps others made meanwhile, the index has each key of the trees of all names, readers and pins: of those as it
+-- began, and of those at that moment. In no step of it was a header but the store's shown with its digest in a slot that had one as it began.
 abbrev pub FindsKeysMeanwhile : (C : Type 0) → (C → CoreState) → Type 0
 FindsKeysMeanwhile C state = (actor percent snapshot : ℕ) (buf : List ℕ) (events : List Event) (s : Store) (index : PlaceMap)
     (old begun new : C) (c : Collection) → IsRunning (state old) → (state old).stop ≡ None → IsIndexed s index (state old)
-    → CoreStep (state old) (starts actor percent snapshot buf) (state begun)
-    → (run : RunMeanwhile C state s.held events begun new) → (state new).collection ≡ Some c → HasMarkedAll c.stage
-    → FindsOnTheWay (roots_of (state old).tables.names (state old).parts) (length events)
-    (λ count. state (core_after C state s.held events begun new run count))
+    → CoreStep (state old) (starts actor percent snapshot buf) (state begun) → RunBeforeSweep C state s.held events begun new
+    → (state new).stop ≡ None → (state new).collection ≡ Some c → HasMarkedAll c.stage
+    → HasFound (roots_of (state old).tables.names (state old).parts) c.live (state new)

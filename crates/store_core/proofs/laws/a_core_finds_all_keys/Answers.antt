@@ -1,6 +1,6 @@
 use Rattle.store_core.proofs.FindingKeys.{finds_keys}
 use Rattle.store_core.proofs.FindingMeanwhile.{finds_keys_meanwhile}
-use Rattle.store_core.proofs.MarkingReads.{only_reads_at_first}
+use Rattle.store_core.proofs.BeforeSweep.{only_reads_before_sweep}
 use Rattle.store_core.proofs.laws.a_core_finds_all_keys.Goals as goal
 
 pub returns-clause-alone : goal.returns-clause-alone
@@ -10,4 +10,4 @@ pub returns-clause-meanwhile : goal.returns-clause-meanwhile
 returns-clause-meanwhile g c = finds_keys_meanwhile _ g.C.HasState.state
 
 pub returns-clause-reads : goal.returns-clause-reads
-returns-clause-reads g c = only_reads_at_first _ g.C.HasState.state
+returns-clause-reads g c = only_reads_before_sweep _ g.C.HasState.state

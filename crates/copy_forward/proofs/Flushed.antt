@@ -17,14 +17,18 @@ have_places : (m : PlaceMap) (kind : Kind) (es : List Entry) → HaveHad m kind 
 have_places m kind [] = tt
 have_places m kind (e ∷ es) = (refl, have_places m kind es)
 
-pub have_had : (m : PlaceMap) (kind k : Kind) (entries es : List Entry) (places none : List (Option Place)) → k ≡ kind → entries ≡ es → none ≡ [] → places ≡ none ++ places_in m k entries
+pub have_had : (m : PlaceMap) (kind k : Kind) (entries es : List Entry) (places none : List (Option Place)) → k ≡ kind → entries ≡ es → none ≡ []
+    → places ≡ none ++ places_in m k entries
     → HaveHad m kind es places
 have_had m kind k entries es places none same_kind same empty is =
-    subst (HaveHad m kind es) (sym (is ∙ ap (λ (ps : List (Option Place)). ps ++ places_in m k entries) empty ∙ ap (λ (x : Kind). places_in m x entries) same_kind ∙ ap (places_in m kind) same)) (have_places m kind es)
+    subst (HaveHad m kind es)
+    (sym (is ∙ ap (λ (ps : List (Option Place)). ps ++ places_in m k entries) empty ∙ ap (λ (x : Kind). places_in m x entries) same_kind ∙ ap (places_in m kind) same))
+    (have_places m kind es)
 
 -- ---- what was written
 
-pub written_on : (result : Result ℕ Refusal) (t new : Tables) (slot : ℕ) (filled : Contents) (size mid_size : ℕ) (known mid_known : Option PlaceMap) → mid_size ≡ size → mid_known ≡ known
+pub written_on : (result : Result ℕ Refusal) (t new : Tables) (slot : ℕ) (filled : Contents) (size mid_size : ℕ) (known mid_known : Option PlaceMap) → mid_size ≡ size
+    → mid_known ≡ known
     → IfOk result (λ id. (spares : ℕ) → HasSlotBeside spares t slot → HasWritten spares t mid_size mid_known slot filled new id)
     → IfOk result (λ id. (spares : ℕ) → HasSlotBeside spares t slot → HasWritten spares t size known slot filled new id)
 written_on (Ok id) t new slot filled size mid_size known mid_known same_size same_known written = λ spares has.

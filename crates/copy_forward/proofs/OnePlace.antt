@@ -29,5 +29,6 @@ same_place a b same =
 pub place_same : (a : Place) → is_place a a ≡ true
 place_same a =
     both_true ((a.slot == a.slot) && (a.offset == a.offset) && (a.length == a.length)) (a.level == a.level)
-    (both_true ((a.slot == a.slot) && (a.offset == a.offset)) (a.length == a.length) (both_true (a.slot == a.slot) (a.offset == a.offset) (eq_same a.slot a.slot refl) (eq_same a.offset a.offset refl))
+    (both_true ((a.slot == a.slot) && (a.offset == a.offset)) (a.length == a.length)
+    (both_true (a.slot == a.slot) (a.offset == a.offset) (eq_same a.slot a.slot refl) (eq_same a.offset a.offset refl))
     (eq_same a.length a.length refl)) (eq_same a.level a.level refl)

@@ -26,7 +26,8 @@ use Rattle.copy_forward.specs.declared.plan.Plan.{Plan}
 
 -- ---- a live copy
 
-pub live_in : (s : Source) (e : Entry) (copy : Bool) (key : List ℕ) (place : Place) → KnownMap s.known (λ m. copy ≡ is_copy m s.kind s.slot e) → copy ≡ true → key ≡ entry_key s.kind e
+pub live_in : (s : Source) (e : Entry) (copy : Bool) (key : List ℕ) (place : Place) → KnownMap s.known (λ m. copy ≡ is_copy m s.kind s.slot e) → copy ≡ true
+    → key ≡ entry_key s.kind e
     → place ≡ place_of s.slot e → IsLiveAt s.live key place → IsLiveIn s e
 live_in s e copy key place is flag key_is place_is live =
     (λ m known. sym (is m known) ∙ flag, subst (λ (k : List ℕ). IsLiveAt s.live k (place_of s.slot e)) key_is (subst (IsLiveAt s.live key) place_is live))
@@ -47,7 +48,8 @@ module _ (S T : (List ℕ → Type 0) → Type 0) (wider : (P : List ℕ → Typ
     },
   )
 
-  pub takes_live : (s : Source) (e : Entry) (before after : Planned) → IsLiveIn s e → AddsLive s.kind s.slot S e before.buffer after.buffer → after.dead ≡ before.dead → TakesOne s T e before after
+  pub takes_live : (s : Source) (e : Entry) (before after : Planned) → IsLiveIn s e → AddsLive s.kind s.slot S e before.buffer after.buffer → after.dead ≡ before.dead
+      → TakesOne s T e before after
   takes_live s e before after live adds dead = inr (inr (live, live_wider s.kind s.slot e before.buffer after.buffer adds, dead))
 
   one_wider : (s : Source) (e : Entry) (before after : Planned) → TakesOne s S e before after → TakesOne s T e before after
@@ -67,7 +69,8 @@ module _ (S T : (List ℕ → Type 0) → Type 0) (wider : (P : List ℕ → Typ
       (cause.0, cause.1, cause.2, cause.3, cause.4, record { bytes = cause.5.bytes; long = cause.5.long; digest_is = cause.5.digest_is; there = wider _ cause.5.there })
   copy_wider place digest _ cause = absurd cause
 
-  pub live_refused : (s : Source) (e : Entry) (buffer : Contents) → IsLiveIn s e → (refusal : Refusal) → IsLiveRefusal s.kind s.slot S e buffer refusal → IsOneRefusal s T e buffer refusal
+  pub live_refused : (s : Source) (e : Entry) (buffer : Contents) → IsLiveIn s e → (refusal : Refusal) → IsLiveRefusal s.kind s.slot S e buffer refusal
+      → IsOneRefusal s T e buffer refusal
   live_refused s e buffer live Memory cause = tt
   live_refused s e buffer live DiskRead cause = tt
   live_refused s e buffer live (Corrupt slot offset count want got) cause = (live, (cause.0, copy_wider (place_of s.slot e) e.digest (Corrupt slot offset count want got) cause.1))
@@ -110,7 +113,8 @@ TakesAll s S [] before after = after ≡ before
 TakesAll s S (e ∷ es) before after = (mid : Planned) × (TakesOne s S e before mid × TakesAll s S es mid after)
 
 -- by other reads
-all_wider : (S T : (List ℕ → Type 0) → Type 0) → ((P : List ℕ → Type 0) → S P → T P) → (s : Source) (es : List Entry) (before after : Planned) → TakesAll s S es before after → TakesAll s T es before after
+all_wider : (S T : (List ℕ → Type 0) → Type 0) → ((P : List ℕ → Type 0) → S P → T P) → (s : Source) (es : List Entry) (before after : Planned) → TakesAll s S es before after
+    → TakesAll s T es before after
 all_wider S T wider s [] before after same = same
 all_wider S T wider s (e ∷ es) before after (mid, (one, others)) = (mid, (one_wider S T wider s e before mid one, all_wider S T wider s es mid after others))
 
@@ -120,7 +124,8 @@ module _ (s : Source) (S : (List ℕ → Type 0) → Type 0) where
   takes_push (x ∷ xs) e before mid after (next, (first, others)) one = (next, (first, takes_push xs e next mid after others one))
 
   -- and then the others
-  takes_then : (xs es : List Entry) (before mid after : Planned) (count : ℕ) → TakesAll s S xs before mid → Takes s S es mid after count → Takes s S (xs ++ es) before after (length xs + count)
+  takes_then : (xs es : List Entry) (before mid after : Planned) (count : ℕ) → TakesAll s S xs before mid → Takes s S es mid after count
+      → Takes s S (xs ++ es) before after (length xs + count)
   takes_then [] es before mid after count same takes =
       let none : count ≡ 0 + count = omega arith in
       subst (λ (n : ℕ). Takes s S es before after n) none (subst (λ (p : Planned). Takes s S es p after count) same takes)
@@ -147,7 +152,8 @@ module _ (s next : Source) (same : next ≡ s) (S R T : (List ℕ → Type 0) �
   pub takes_more : (after : Planned) → TakesOne next R (get_or es i d) mid after → TakesAll s T (take (i + 1) es) before after
   takes_more after one =
       subst (λ (xs : List Entry). TakesAll s T xs before after) (sym (take_more es i d within))
-      (takes_push s T (take i es) (get_or es i d) before mid after earlier (one_wider R T others s (get_or es i d) mid after (subst (λ (x : Source). TakesOne x R (get_or es i d) mid after) same one)))
+      (takes_push s T (take i es) (get_or es i d) before mid after earlier
+      (one_wider R T others s (get_or es i d) mid after (subst (λ (x : Source). TakesOne x R (get_or es i d) mid after) same one)))
 
   pub stops_there : (after : Planned) (count : ℕ) → count ≡ i → IsFull next (get_or es i d) mid.buffer → after ≡ mid → Takes s T es before after count
   stops_there after count count_is full stays =
@@ -159,12 +165,14 @@ module _ (s next : Source) (same : next ≡ s) (S R T : (List ℕ → Type 0) �
 
   pub stuck_there : (refusal : Refusal) → IsOneRefusal next R (get_or es i d) mid.buffer refusal → IsStuck s T es before refusal
   stuck_there refusal cause =
-      let on : IsOneRefusal s T (get_or es i d) mid.buffer refusal = one_refusal_wider R T others s (get_or es i d) mid.buffer refusal (subst (λ (x : Source). IsOneRefusal x R (get_or es i d) mid.buffer refusal) same cause) in
+      let on : IsOneRefusal s T (get_or es i d) mid.buffer refusal = one_refusal_wider R T others s (get_or es i d) mid.buffer refusal
+      (subst (λ (x : Source). IsOneRefusal x R (get_or es i d) mid.buffer refusal) same cause) in
       subst (λ (xs : List Entry). IsStuck s T xs before refusal) (sym (split_at es i d within))
       (stuck_then s T (take i es) (get_or es i d ∷ drop (suc i) es) before mid refusal earlier (inl on))
 
 -- after the last of them
-pub takes_whole : (s : Source) (S : (List ℕ → Type 0) → Type 0) (es : List Entry) (n count : ℕ) (before after : Planned) → length es ≤ n → n ≤ length es → count ≡ n → TakesAll s S (take n es) before after
+pub takes_whole : (s : Source) (S : (List ℕ → Type 0) → Type 0) (es : List Entry) (n count : ℕ) (before after : Planned) → length es ≤ n → n ≤ length es → count ≡ n
+    → TakesAll s S (take n es) before after
     → Takes s S es before after count
 takes_whole s S es n count before after past few is all =
     let whole : TakesAll s S es before after = subst (λ (xs : List Entry). TakesAll s S xs before after) (take_all n es past) all in
@@ -219,7 +227,8 @@ allowed_from kind (suc n) (e ∷ es) all = allowed_from kind n es all.1
 -- ---- a whole plan
 
 -- with what the container had at first
-pub from_first : (s : Source) (S : (List ℕ → Type 0) → Type 0) (es rest : List Entry) (copy buffer : Contents) (dead : List (List ℕ)) (after : Planned) (count : ℕ) → es ≡ rest → copy ≡ buffer → dead ≡ []
+pub from_first : (s : Source) (S : (List ℕ → Type 0) → Type 0) (es rest : List Entry) (copy buffer : Contents) (dead : List (List ℕ)) (after : Planned) (count : ℕ) → es ≡ rest
+    → copy ≡ buffer → dead ≡ []
     → Takes s S es (planned copy dead) after count → Takes s S rest (planned buffer []) after count
 from_first s S es rest copy buffer dead after count entries_are same none takes =
     subst (λ (xs : List Entry). Takes s S xs (planned buffer []) after count) entries_are
@@ -233,7 +242,8 @@ pub record HasRoomFor (es : List Entry) (buffer : Contents) : Type 0 where
 module _ (s : Source) (S : (List ℕ → Type 0) → Type 0) where
   has_room_first : (e : Entry) (es : List Entry) (buffer : Contents) → HasRoomFor (e ∷ es) buffer → has_room buffer e.length ≡ true
   has_room_first e es buffer room =
-      both_true (nat_lt (length buffer.segments) MOST_ENTRIES) (nat_le (bytes_in buffer.segments + e.length) DATA_BYTES) (lt-ltb (length buffer.segments) MOST_ENTRIES (omega (arith, room.few)))
+      both_true (nat_lt (length buffer.segments) MOST_ENTRIES) (nat_le (bytes_in buffer.segments + e.length) DATA_BYTES)
+      (lt-ltb (length buffer.segments) MOST_ENTRIES (omega (arith, room.few)))
       (le-leb (bytes_in buffer.segments + e.length) DATA_BYTES (omega (arith, room.small, sum_by-cons (λ (x : Entry). x.length) e es)))
 
   -- where nothing is added
@@ -275,6 +285,13 @@ room_in_none h from buffer right within none =
     let all : bytes_of h.entries ≡ sum_by length_of (take from h.entries) + bytes_of (drop from h.entries) =
     ap bytes_of (sym (take-append-drop from h.entries)) ∙ parts in
     record {
-      few = omega (arith, no_entries, length-drop from h.entries, leb-true (length h.entries) MOST_ENTRIES (both (nat_le 1 (length h.entries)) (nat_le (length h.entries) MOST_ENTRIES) right.count).1, within);
+      few = omega (
+        arith,
+        no_entries,
+        length-drop from h.entries,
+        leb-true (length h.entries) MOST_ENTRIES
+            (both (nat_le 1 (length h.entries)) (nat_le (length h.entries) MOST_ENTRIES) right.count).1,
+        within,
+      );
       small = omega (arith, no_bytes, all, right.whole, leb-true h.data_length DATA_BYTES (both (nat_le 1 h.data_length) (nat_le h.data_length DATA_BYTES) right.data_length).1);
     }

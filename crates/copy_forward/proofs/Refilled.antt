@@ -78,7 +78,8 @@ module _ (kind : Kind) (ss : List Segment) (i : ℕ) (within : i < length ss) (r
 
   pub fits : has_room (record { kind = kind; segments = take i ss }) (length (segment_at ss i).bytes) ≡ true
   fits =
-      let most = leb-true (length (entries_from 0 ss)) MOST_ENTRIES (both (nat_le 1 (length (entries_from 0 ss))) (nat_le (length (entries_from 0 ss)) MOST_ENTRIES) right.count).1 in
+      let most = leb-true (length (entries_from 0 ss)) MOST_ENTRIES
+      (both (nat_le 1 (length (entries_from 0 ss))) (nat_le (length (entries_from 0 ss)) MOST_ENTRIES) right.count).1 in
       let bytes = leb-true (bytes_in ss) DATA_BYTES (both (nat_le 1 (bytes_in ss)) (nat_le (bytes_in ss) DATA_BYTES) right.data_length).1 in
       both_true (nat_lt (length (take i ss)) MOST_ENTRIES) (nat_le (bytes_in (take i ss) + length (segment_at ss i).bytes) DATA_BYTES)
       (lt-ltb (length (take i ss)) MOST_ENTRIES (omega (arith, most, length-entries_from 0 ss, length-take-le i ss (omega (arith, within)))))
@@ -89,20 +90,23 @@ module _ (kind : Kind) (ss : List Segment) (i : ℕ) (within : i < length ss) (r
     can_add_it = subst (λ (c : Contents). CanAdd c s) (sym copy_is) (subst (λ (t : KindSegment). CanAdd (record { kind = kind; segments = take i ss }) t) (sym s_is) can_add)
 
     pub fits_it : has_room copy (length s.segment.bytes) ≡ true
-    fits_it = ap (λ (c : Contents). has_room c (length s.segment.bytes)) copy_is ∙ ap (λ (t : KindSegment). has_room (record { kind = kind; segments = take i ss }) (length t.segment.bytes)) s_is ∙ fits
+    fits_it = ap (λ (c : Contents). has_room c (length s.segment.bytes)) copy_is
+        ∙ ap (λ (t : KindSegment). has_room (record { kind = kind; segments = take i ss }) (length t.segment.bytes)) s_is ∙ fits
 
     pub one_more : (new : Contents) → new ≡ record copy { segments = copy.segments ++ s.segment ∷ [] } → new ≡ record { kind = kind; segments = take (i + 1) ss }
     one_more new is =
         let next : i + 1 ≡ suc i = omega arith in
         is ∙ ap (λ (c : Contents). (let v : Contents = record { kind = c.kind; segments = c.segments ++ s.segment ∷ [] } in v)) copy_is
         ∙ ap (λ (t : KindSegment). (let v : Contents = record { kind = kind; segments = take i ss ++ t.segment ∷ [] } in v)) s_is
-        ∙ ap (λ (l : List Segment). (let v : Contents = record { kind = kind; segments = l } in v)) (sym (take-suc ss i (record { level = 0; bytes = [] }) within) ∙ ap (λ (n : ℕ). take n ss) (sym next))
+        ∙ ap (λ (l : List Segment). (let v : Contents = record { kind = kind; segments = l } in v))
+        (sym (take-suc ss i (record { level = 0; bytes = [] }) within) ∙ ap (λ (n : ℕ). take n ss) (sym next))
 
 -- the segment that was made is that of the number
 pub level_of : (es : List Entry) (ss : List Segment) (i : ℕ) (d : Entry) → i < length ss → es ≡ entries_from 0 ss → (get_or es i d).level ≡ (segment_at ss i).level
 level_of es ss i d within is = ap (λ (l : List Entry). (get_or l i d).level) is ∙ (cut d 0 ss i within).level_is
 
-pub segment_made : (s : KindSegment) (kind other : Kind) (level : ℕ) (bytes : List ℕ) (t : Segment) → s ≡ record { kind = other; segment = record { level = level; bytes = bytes } } → other ≡ kind → level ≡ t.level
+pub segment_made : (s : KindSegment) (kind other : Kind) (level : ℕ) (bytes : List ℕ) (t : Segment)
+    → s ≡ record { kind = other; segment = record { level = level; bytes = bytes } } → other ≡ kind → level ≡ t.level
     → bytes ≡ t.bytes → s ≡ record { kind = kind; segment = t }
 segment_made s kind other level bytes t is kind_is level_is bytes_is =
     is ∙ ap (λ (k : Kind). (let v : KindSegment = record { kind = k; segment = record { level = level; bytes = bytes } } in v)) kind_is

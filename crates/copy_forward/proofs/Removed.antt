@@ -35,7 +35,8 @@ without_push : (keys : List (List ℕ)) (key : List ℕ) (m : PlaceMap) → with
 without_push [] key m = refl
 without_push (k ∷ ks) key m = without_push ks key (finite.remove m k)
 
-pub one_out : (keys : List (List ℕ)) (i : ℕ) (d : List ℕ) (had mid has : Option PlaceMap) → i < length keys → AreOut (take i keys) had mid → KnownMap mid (λ m. has ≡ Some (finite.remove m (get_or keys i d)))
+pub one_out : (keys : List (List ℕ)) (i : ℕ) (d : List ℕ) (had mid has : Option PlaceMap) → i < length keys → AreOut (take i keys) had mid
+    → KnownMap mid (λ m. has ≡ Some (finite.remove m (get_or keys i d)))
     → AreOut (take (i + 1) keys) had has
 one_out keys i d had mid has within so_far one m known =
     one (without_keys (take i keys) m) (so_far m known)

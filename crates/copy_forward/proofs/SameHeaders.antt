@@ -33,7 +33,8 @@ same_bytes : (g h : HeaderValue) → IsHeader g → IsHeader h → length h.entr
 same_bytes g h right also many same =
     let f : List ℕ = fields_spelling h.id h.kind (length h.entries) h.data_length in
     let k : List ℕ = fields_spelling g.id g.kind (length g.entries) g.data_length in
-    let parts = same_rest f k (entries_spelling h.entries) (entries_spelling g.entries) 23 (length-fields_spelling h.id h.kind (length h.entries) h.data_length) (length-fields_spelling g.id g.kind (length g.entries) g.data_length) same in
+    let parts = same_rest f k (entries_spelling h.entries) (entries_spelling g.entries) 23 (length-fields_spelling h.id h.kind (length h.entries) h.data_length)
+    (length-fields_spelling g.id g.kind (length g.entries) g.data_length) same in
     same_header h g also right
     (ap (λ (l : List ℕ). front_spelling l (entries_spelling h.entries) ++ entries_spelling h.entries ++ zeros (49152 - 48 * length h.entries)) parts.0
     ∙ ap (λ (l : List ℕ). front_spelling k l ++ l ++ zeros (49152 - 48 * length h.entries)) parts.1
@@ -49,7 +50,8 @@ by_bytes g h right also many digest false is =
     let differ : hashed_bytes h ≢ hashed_bytes g = unequal (hashed_bytes h) (hashed_bytes g) is in
     inr (record { differ = λ same. differ (sym same); same = digest })
 
-pub stores_or_shared : (held : List (Option HeaderValue)) (t : SlotTable) (slot : ℕ) (g h : HeaderValue) → RepresentsSlots held t → slice_get held slot ≡ Some (Some g) → IsHeader g → IsHeader h → IsTabled t slot h
+pub stores_or_shared : (held : List (Option HeaderValue)) (t : SlotTable) (slot : ℕ) (g h : HeaderValue) → RepresentsSlots held t → slice_get held slot ≡ Some (Some g)
+    → IsHeader g → IsHeader h → IsTabled t slot h
     → (h ≡ g) ⊎ ShareDigest g h
 unfolding header_digest
 stores_or_shared held t slot g h slots there right also tabled =

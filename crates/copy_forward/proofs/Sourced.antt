@@ -44,7 +44,8 @@ module _ (t : SlotTable) (known mid_known : Option PlaceMap) (live : LiveKeys) (
     );
   }
 
-  pub unplanned_after : (refusal : Refusal) → IsTabled t slot h → h.kind ≡ buffer.kind → from ≤ length h.entries → IsPlanRefusal (source_of mid_known live slot h.kind) (Shows mid new) (drop from h.entries) (planned buffer []) refusal
+  pub unplanned_after : (refusal : Refusal) → IsTabled t slot h → h.kind ≡ buffer.kind → from ≤ length h.entries
+      → IsPlanRefusal (source_of mid_known live slot h.kind) (Shows mid new) (drop from h.entries) (planned buffer []) refusal
       → IsSourceRefusal t known live slot from buffer old new refusal
   unplanned_after refusal tabled kind few is = inr (
     h,
@@ -57,7 +58,8 @@ module _ (t : SlotTable) (known mid_known : Option PlaceMap) (live : LiveKeys) (
   )
 
 -- what was planned is so by what more reads show
-pub plans_until : (t : SlotTable) (known : Option PlaceMap) (live : LiveKeys) (slot from : ℕ) (buffer : Contents) (old mid new : DiskView) (found : Option Plan) → OnlyReads old mid → IsLater mid new
+pub plans_until : (t : SlotTable) (known : Option PlaceMap) (live : LiveKeys) (slot from : ℕ) (buffer : Contents) (old mid new : DiskView) (found : Option Plan)
+    → OnlyReads old mid → IsLater mid new
     → PlansSource t known live slot from buffer old mid found → PlansSource t known live slot from buffer old new found
 plans_until t known live slot from buffer old mid new found reads later is = record {
   header = is.header;
@@ -67,11 +69,13 @@ plans_until t known live slot from buffer old mid new found reads later is = rec
   plans = by_found found is.plans;
 }
   where
-    by_found : (f : Option Plan) → PlansBy (source_of known live slot is.header.kind) (Shows old mid) is.header from buffer f → PlansBy (source_of known live slot is.header.kind) (Shows old new) is.header from buffer f
+    by_found : (f : Option Plan) → PlansBy (source_of known live slot is.header.kind) (Shows old mid) is.header from buffer f
+        → PlansBy (source_of known live slot is.header.kind) (Shows old new) is.header from buffer f
     by_found None other = other
     by_found (Some plan) (kind, plans) = (
       kind,
-      plan_wider (Shows old mid) (Shows old new) (λ P so. until old mid new so reads.later.clock_is later) (source_of known live slot is.header.kind) is.header.entries from buffer plan plans,
+      plan_wider (Shows old mid) (Shows old new) (λ P so. until old mid new so reads.later.clock_is later)
+          (source_of known live slot is.header.kind) is.header.entries from buffer plan plans,
     )
 
 -- ---- calls that only read change nothing of an index
@@ -92,7 +96,9 @@ changes_read place e old new reads = record {
 }
 
 -- reads, and then a change
-pub changes_after : (e : Ending) (old mid new : DiskView) (slots : ℕ) → old.size ≡ size_of slots → Reads Done old mid → ((n : ℕ) → mid.size ≡ size_of n → Changes (slot_at n) e mid new)
+pub changes_after : (e : Ending) (old mid new : DiskView) (slots : ℕ) → old.size ≡ size_of slots → Reads Done old mid
+    → ((n : ℕ) → mid.size ≡ size_of n → Changes (slot_at n) e mid new)
     → Changes (slot_at slots) e old new
 changes_after e old mid new slots size_is reads changes =
-    changes_on (slot_at slots) e old mid new Done reads.faults_are (changes_read (slot_at slots) Done old mid reads) (changes slots (size_on old mid slots reads.only.later size_is))
+    changes_on (slot_at slots) e old mid new Done reads.faults_are (changes_read (slot_at slots) Done old mid reads)
+    (changes slots (size_on old mid slots reads.only.later size_is))

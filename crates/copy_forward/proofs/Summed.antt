@@ -16,7 +16,8 @@ module _ (index : PlaceMap) (live : LiveKeys) (kind : Kind) (slot : ℕ) where
   pub none_summed : (es : List Entry) → es ≡ [] → SumsLive index live kind slot es 0
   none_summed es none = subst (λ (xs : List Entry). SumsLive index live kind slot xs 0) (sym none) refl
 
-  live_push : (es : List Entry) (e : Entry) (sum : ℕ) → IsLiveCopy index live kind slot e → SumsLive index live kind slot es sum → SumsLive index live kind slot (es ++ e ∷ []) (sum + e.length)
+  live_push : (es : List Entry) (e : Entry) (sum : ℕ) → IsLiveCopy index live kind slot e → SumsLive index live kind slot es sum
+      → SumsLive index live kind slot (es ++ e ∷ []) (sum + e.length)
   live_push [] e sum is none = inl (is, (0, omega (arith, none), refl))
   live_push (x ∷ xs) e sum is (inl (here, (rest, more, sums))) = inl (here, (rest + e.length, omega (arith, more), live_push xs e rest is sums))
   live_push (x ∷ xs) e sum is (inr (dead, sums)) = inr (dead, live_push xs e sum is sums)

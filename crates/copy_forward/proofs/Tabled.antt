@@ -42,7 +42,8 @@ tabled_by t slot c h there none =
     let all : AllHold (header_checks (get_or t.ids.items slot 0) c h) = (checked_ok (header_checks (get_or t.ids.items slot 0) c h) tt tt none).0 in
     record {
       id_is = sym (eqb-true h.id (get_or t.ids.items slot 0) all.0);
-      count_is = there ∙ ap (λ (x : SlotCount). Some x) (same_count c.kind c.entries c.bytes c.digest h (same_kind h.kind c.kind (eqb-true (kind_byte h.kind) (kind_byte c.kind) all.1.0))
+      count_is = there
+          ∙ ap (λ (x : SlotCount). Some x) (same_count c.kind c.entries c.bytes c.digest h (same_kind h.kind c.kind (eqb-true (kind_byte h.kind) (kind_byte c.kind) all.1.0))
           (eqb-true (length h.entries) c.entries all.1.1.0) (eqb-true h.data_length c.bytes all.1.1.1.0) (same_bytes c.digest (header_digest h) all.1.1.1.1.0));
     }
 
@@ -53,8 +54,13 @@ none_differs t slot c h there tabled =
     let id = get_or t.ids.items slot 0 in
     let same : count_of (Some h) ≡ c = some_is (sym tabled.count_is ∙ there) in
     subst (λ (x : SlotCount). passes (header_checks id x h) ≡ Ok tt) same
-    (checked_all (header_checks id (count_of (Some h)) h) tt
-    (eq-eqb h.id id (sym tabled.id_is), (eq-eqb (kind_byte h.kind) (kind_byte h.kind) refl, (eq-eqb (length h.entries) (length h.entries) refl, (eq-eqb h.data_length h.data_length refl, ((bytes_eq-Decides (header_digest h) (header_digest h)).1 refl, tt))))))
+    (checked_all (header_checks id (count_of (Some h)) h) tt (
+      eq-eqb h.id id (sym tabled.id_is),
+      (
+        eq-eqb (kind_byte h.kind) (kind_byte h.kind) refl,
+        (eq-eqb (length h.entries) (length h.entries) refl, (eq-eqb h.data_length h.data_length refl, ((bytes_eq-Decides (header_digest h) (header_digest h)).1 refl, tt))),
+      ),
+    ))
   where
     some_is : (let o : Option SlotCount = Some (count_of (Some h)) in o) ≡ Some c → count_of (Some h) ≡ c
     some_is e = cc

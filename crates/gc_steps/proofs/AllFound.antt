@@ -79,7 +79,8 @@ tree_levels Tree level some is = (refl, leb-true level MOST_LEVEL (second_true (
 placed_at : {X : Type 0} (index : PlaceMap) (level : ℕ) (key : List ℕ) (xs : List X) (of : X → List ℕ) (at : X → Place)
     → AllByRecursion (λ x. IsPlaceOf (Some index) (of x) (at x) × ((at x).level ≡ level)) xs → Contains (map of xs) key → HasAt index level key
 placed_at index level key [] of at placed (k, below, is) = absurd (omega (arith, below))
-placed_at index level key (x ∷ xs) of at placed (zero, below, is) = record { place = at x; place_is = ap (finite.get index) (sym is) ∙ placed.0.0 index refl; level_is = placed.0.1 }
+placed_at index level key (x ∷ xs) of at placed
+    (zero, below, is) = record { place = at x; place_is = ap (finite.get index) (sym is) ∙ placed.0.0 index refl; level_is = placed.0.1 }
 placed_at index level key (x ∷ xs) of at placed (suc k, below, is) = placed_at index level key xs of at placed.1 (k, omega (arith, below), is)
 
 first_ones : {X : Type 0} (of : X → List ℕ) (xs ys : List X) (key : List ℕ) → Contains (map of xs) key → Contains (map of (xs ++ ys)) key
@@ -142,12 +143,15 @@ module _ (index : PlaceMap) (store : Store) (headers : AreHeaders store.held) (p
   entry_right : (key : List ℕ) (place : Place) (e : Entered key place) → is_level e.header.kind place.level ≡ true
   entry_right key place e =
       let right = header_right store.held place.slot e.header headers e.there in
-      let so = found_so (λ (x : Entry). is_level e.header.kind x.level ≡ true) _ e.header.entries e.entry (have_levels e.header.kind e.header.kind [] e.header.entries refl right.entries) e.found in
+      let so = found_so (λ (x : Entry). is_level e.header.kind x.level ≡ true) _ e.header.entries e.entry
+      (have_levels e.header.kind e.header.kind [] e.header.entries refl right.entries) e.found in
       ap (λ (p : Place). is_level e.header.kind p.level) e.place_is ∙ so.0
 
   -- a key of level 0 is that of data
   pub data_or_node : (key : List ℕ) (place : Place) → Entered key place → IsDataKey key ⊎ (1 ≤ place.level)
-  data_or_node key place e = by_kind e.header.kind (entry_right key place e) ((bytes_eq-Decides (key_of (kind_byte e.header.kind) e.entry.digest) key).0 (found_so (λ (x : Entry). Unit {0}) _ e.header.entries e.entry (none_asked e.header.entries) e.found).1)
+  data_or_node key place e = by_kind e.header.kind (entry_right key place e)
+      ((bytes_eq-Decides (key_of (kind_byte e.header.kind) e.entry.digest) key).0
+      (found_so (λ (x : Entry). Unit {0}) _ e.header.entries e.entry (none_asked e.header.entries) e.found).1)
     where
       by_kind : (kind : Kind) → is_level kind place.level ≡ true → key_of (kind_byte kind) e.entry.digest ≡ key → IsDataKey key ⊎ (1 ≤ place.level)
       by_kind Leaf is same = inl (ap (byte_at 0) (sym same))
@@ -165,7 +169,8 @@ module _ (index : PlaceMap) (store : Store) (headers : AreHeaders store.held) (p
         tree_slot store.held t snapshot slots place.slot e.header.id low (tree_of store.held place.slot e.header e.within e.there right kind)
 
     -- as it begins no node was passed
-    pub none_yet : (key : List ℕ) (place : Place) → 1 ≤ place.level → (e : Entered key place) → e.header.id < snapshot → WasScanned (mark_level snapshot t MOST_LEVEL) place.level place.slot → ⊥
+    pub none_yet : (key : List ℕ) (place : Place) → 1 ≤ place.level → (e : Entered key place) → e.header.id < snapshot
+        → WasScanned (mark_level snapshot t MOST_LEVEL) place.level place.slot → ⊥
     none_yet key place some e low scanned =
         let most = (tree_levels e.header.kind place.level some (entry_right key place e)).1 in
         not_first t snapshot place.slot (in_table key place e) (in_tree key place some e low) place.level most scanned
@@ -189,7 +194,8 @@ module _ (index : PlaceMap) (store : Store) (headers : AreHeaders store.held) (p
   abbrev pub AreLive : Collection → List RootKey → Type 0
   AreLive c roots = All (λ r. HasLive c.live r.level r.key) roots
 
-  grown : (before after : LiveKeys) → ((key : List ℕ) (place : Place) → IsLiveAt before key place → IsLiveAt after key place) → (level : ℕ) (key : List ℕ) → HasLive before level key → HasLive after level key
+  grown : (before after : LiveKeys) → ((key : List ℕ) (place : Place) → IsLiveAt before key place → IsLiveAt after key place) → (level : ℕ) (key : List ℕ)
+      → HasLive before level key → HasLive after level key
   grown before after grows level key has = record { place = has.place; place_is = has.place_is; is_live = grows key has.place has.is_live; level_is = has.level_is }
 
   -- ---- once all was passed
@@ -201,11 +207,13 @@ module _ (index : PlaceMap) (store : Store) (headers : AreHeaders store.held) (p
       record { place = has.place; place_is = has.place_is; level_is = has.level_is },
       node_weaker (HasLive c.live level) (FindsTree index level) (suc level) key (tree_found level)
           (subst (λ (below : ℕ). HasNode (HasLive c.live below) (suc level) key) (let less : suc level - 1 ≡ level = omega arith in less)
-          (subst (λ (l : ℕ). HasNode (HasLive c.live (l - 1)) l key) has.level_is (closed key has.place has.place_is has.is_live (omega (arith, has.level_is)) (scanned has.place.level has.place.slot)))),
+          (subst (λ (l : ℕ). HasNode (HasLive c.live (l - 1)) l key) has.level_is
+          (closed key has.place has.place_is has.is_live (omega (arith, has.level_is)) (scanned has.place.level has.place.slot)))),
     )
 
     roots_found_all : (roots : List RootKey) → AreLive c roots → FindsAll index roots
-    roots_found_all roots live = All-weaker (λ (r : RootKey). HasLive c.live r.level r.key) (λ (r : RootKey). FindsTree index r.level r.key) (λ r has. tree_found r.level r.key has) roots live
+    roots_found_all roots live = All-weaker (λ (r : RootKey). HasLive c.live r.level r.key) (λ (r : RootKey). FindsTree index r.level r.key)
+        (λ r has. tree_found r.level r.key has) roots live
 
   -- ---- as it begins
 
@@ -215,7 +223,8 @@ module _ (index : PlaceMap) (store : Store) (headers : AreHeaders store.held) (p
         let e = entered key place has in
         absurd (none_yet t slots c.snapshot key place some e (all_before c.snapshot above key place e) (subst (λ (s : Stage). WasScanned s place.level place.slot) stage scanned))
 
-  roots_begun : (live : LiveKeys) (roots : List RootKey) → AreFound (Some index) roots → ((r : RootKey) (place : Place) → Contains roots r → IsLiveAt live r.key place) → (c : Collection) → c.live ≡ live → AreLive c roots
+  roots_begun : (live : LiveKeys) (roots : List RootKey) → AreFound (Some index) roots → ((r : RootKey) (place : Place) → Contains roots r → IsLiveAt live r.key place)
+      → (c : Collection) → c.live ≡ live → AreLive c roots
   roots_begun live roots found are c same = λ k d within.
       let root = get_or roots k d in
       let has = found k d within in
@@ -273,7 +282,8 @@ module _ (index : PlaceMap) (store : Store) (headers : AreHeaders store.held) (p
       wider l key = node_weaker (HasLive before.live (l - 1)) (HasLive after.live (l - 1)) l key (grown before.live after.live grows (l - 1))
 
       -- the node of an entry of it
-      pub node_here : (key : List ℕ) (place : Place) → finite.get index key ≡ Some place → IsLiveAt before.live key place → 1 ≤ place.level → Entered key place → place.level ≡ level → place.slot ≡ slot
+      pub node_here : (key : List ℕ) (place : Place) → finite.get index key ≡ Some place → IsLiveAt before.live key place → 1 ≤ place.level → Entered key place
+          → place.level ≡ level → place.slot ≡ slot
           → HasNode (HasLive after.live (place.level - 1)) place.level key
       node_here key place has is_live some e level_is slot_is =
           let header : e.header ≡ h = some_same e.header h (some_same (Some e.header) (Some h) (sym e.there ∙ ap (slice_get store.held) slot_is ∙ there)) in
@@ -283,7 +293,8 @@ module _ (index : PlaceMap) (store : Store) (headers : AreHeaders store.held) (p
           subst (λ (g : HeaderValue). AllByRecursion (HasLiveChildren scan showed after.live) g.entries) (sym header)
           (recursion_from_All (HasLiveChildren scan showed after.live) h.entries (scanned.children index refl)) in
           let one = found_so (HasLiveChildren scan showed after.live) _ e.header.entries e.entry each e.found in
-          let key_is : entry_key h.kind e.entry ≡ key = ap (λ (g : HeaderValue). entry_key g.kind e.entry) (sym header) ∙ (bytes_eq-Decides (entry_key e.header.kind e.entry) key).0 one.1 in
+          let key_is : entry_key h.kind e.entry ≡ key = ap (λ (g : HeaderValue). entry_key g.kind e.entry) (sym header)
+          ∙ (bytes_eq-Decides (entry_key e.header.kind e.entry) key).0 one.1 in
           let to_scan : IsToScan scan e.entry = record {
             level_is = ap (λ (p : Place). p.level) (sym at) ∙ level_is;
             live = subst (λ (k : List ℕ). IsLiveAt before.live k (place_of slot e.entry)) (sym key_is) (subst (IsLiveAt before.live key) at is_live);
@@ -301,19 +312,23 @@ module _ (index : PlaceMap) (store : Store) (headers : AreHeaders store.held) (p
                 (λ k is. record { place = is.0; place_is = is.1.0 index refl; is_live = is.1.1; level_is = is.1.2 }) (child_keys node.0) node.1.1);
           }
 
-      scanned_closed : (t : SlotTable) → RepresentsSlots store.held t → last_id store.held < before.snapshot → after.stage ≡ mark_from before.snapshot t level (slot + 1) → IsClosed before → IsClosed after
+      scanned_closed : (t : SlotTable) → RepresentsSlots store.held t → last_id store.held < before.snapshot → after.stage ≡ mark_from before.snapshot t level (slot + 1)
+          → IsClosed before → IsClosed after
       scanned_closed t slots above now closed key place has is_live some is =
           by_case ((scanned.marks.marks key place).0 is_live) (passed t slots now key place some e (all_before before.snapshot above key place e) is)
         where
           e : Entered key place
           e = entered key place has
 
-          by_case : IsLiveAt before.live key place ⊎ IsAmong key place scanned.marks.found → WasScanned (Mark level slot) place.level place.slot ⊎ ((place.level ≡ level) × (place.slot ≡ slot))
+          by_case : IsLiveAt before.live key place ⊎ IsAmong key place scanned.marks.found → WasScanned (Mark level slot) place.level place.slot
+              ⊎ ((place.level ≡ level) × (place.slot ≡ slot))
               → HasNode (HasLive after.live (place.level - 1)) place.level key
-          by_case (inl earlier) (inl before_is) = wider place.level key (closed key place has earlier some (subst (λ (s : Stage). WasScanned s place.level place.slot) (sym was) before_is))
+          by_case (inl earlier) (inl before_is) = wider place.level key
+              (closed key place has earlier some (subst (λ (s : Stage). WasScanned s place.level place.slot) (sym was) before_is))
           by_case (inl earlier) (inr here) = node_here key place has earlier some e here.0 here.1
           by_case (inr among) where_is =
-              absurd (not_later place.level place.slot (below_it scanned.marks.found (λ f. f.key) (λ f. f.place) scanned.marks.finds.placed key place has (among_keys key place scanned.marks.found among)) where_is)
+              absurd (not_later place.level place.slot
+              (below_it scanned.marks.found (λ f. f.key) (λ f. f.place) scanned.marks.finds.placed key place has (among_keys key place scanned.marks.found among)) where_is)
 
     -- some of it, as memory ran out
     module _ (now : after.stage ≡ before.stage) (scanned : ScansSome (Some index) old new slot level h before.live after.live) where
@@ -344,14 +359,18 @@ module _ (index : PlaceMap) (store : Store) (headers : AreHeaders store.held) (p
     pub closed : IsClosed c
     pub live : AreLive c roots
 
-  pub begins_finding : (t : SlotTable) (c : Collection) (roots : List RootKey) → RepresentsSlots store.held t → last_id store.held < c.snapshot → c.stage ≡ mark_level c.snapshot t MOST_LEVEL
+  pub begins_finding : (t : SlotTable) (c : Collection) (roots : List RootKey) → RepresentsSlots store.held t → last_id store.held < c.snapshot
+      → c.stage ≡ mark_level c.snapshot t MOST_LEVEL
       → AreFound (Some index) roots → ((r : RootKey) (place : Place) → Contains roots r → IsLiveAt c.live r.key place) → IsFinding c roots
   begins_finding t c roots slots above stage found live = record { above = above; closed = begun_closed t slots c above stage; live = roots_begun c.live roots found live c refl }
 
-  still_live : (before after : Collection) (roots : List RootKey) → ((key : List ℕ) (place : Place) → IsLiveAt before.live key place → IsLiveAt after.live key place) → AreLive before roots → AreLive after roots
-  still_live before after roots grows = All-weaker (λ (r : RootKey). HasLive before.live r.level r.key) (λ (r : RootKey). HasLive after.live r.level r.key) (λ r has. grown before.live after.live grows r.level r.key has) roots
+  still_live : (before after : Collection) (roots : List RootKey) → ((key : List ℕ) (place : Place) → IsLiveAt before.live key place → IsLiveAt after.live key place)
+      → AreLive before roots → AreLive after roots
+  still_live before after roots grows = All-weaker (λ (r : RootKey). HasLive before.live r.level r.key) (λ (r : RootKey). HasLive after.live r.level r.key)
+      (λ r has. grown before.live after.live grows r.level r.key has) roots
 
-  module _ (t : SlotTable) (slots : RepresentsSlots store.held t) (old new : DiskView) (level slot : ℕ) (some : 1 ≤ level) (before after : Collection) (roots : List RootKey) (was : before.stage ≡ Mark level slot)
+  module _ (t : SlotTable) (slots : RepresentsSlots store.held t) (old new : DiskView) (level slot : ℕ) (some : 1 ≤ level) (before after : Collection) (roots : List RootKey)
+      (was : before.stage ≡ Mark level slot)
       (finding : IsFinding before roots) where
     -- a container is scanned, by what `mark_container` says
     pub scan_finds : HeadersAreApart store.held old new → Scans t (Some index) old new level slot before after → IsFinding after roots
@@ -361,7 +380,8 @@ module _ (index : PlaceMap) (store : Store) (headers : AreHeaders store.held) (p
         let there : slice_get store.held slot ≡ Some (Some scans.header) = held.1 ∙ ap (λ (h : HeaderValue). Some (Some h)) (sym same) in
         record {
           above = omega (arith, finding.above, ap (λ (c : Collection). c.snapshot) scans.collection_is);
-          closed = scanned_closed old new level slot some scans.header before after was there scans.scanned t slots finding.above (ap (λ (c : Collection). c.stage) scans.collection_is) finding.closed;
+          closed = scanned_closed old new level slot some scans.header before after was there scans.scanned t slots finding.above
+              (ap (λ (c : Collection). c.stage) scans.collection_is) finding.closed;
           live = still_live before after roots (λ key place is. (scans.scanned.marks.marks key place).1 (inl is)) finding.live;
         }
 

@@ -64,7 +64,8 @@ abbrev pub KeepsBoth : PlaceMap → PlaceMap → Store → Store → List Part �
 KeepsBoth index later s t before after old new c d =
     (MarksAreClosed index s before old c → MarksAreClosed later t after new d) × (SweepIsSafe index s before old c → SweepIsSafe later t after new d)
 
-module _ (index later : PlaceMap) (c : Collection) (marked : LiveKeys) (s t : Store) (old new : List ℕ) (parts : List Part) (carries : Carries index later c.live marked s t old new parts) where
+module _ (index later : PlaceMap) (c : Collection) (marked : LiveKeys) (s t : Store) (old new : List ℕ) (parts : List Part)
+    (carries : Carries index later c.live marked s t old new parts) where
   -- a node that was live, and whose newest copy is the same, was held before
   node_before : (n : Contents) (copy : Copy) → HoldsNode t.held new n copy → IsLive index c.live (node_key n) → newest 0 t.held (node_key n) ≡ newest 0 s.held (node_key n)
       → HoldsNode s.held old n copy
@@ -85,7 +86,8 @@ module _ (index later : PlaceMap) (c : Collection) (marked : LiveKeys) (s t : St
   new_on : NewAreLive index c.live c.snapshot s.held → NewAreLive later marked c.snapshot t.held
   new_on before slot h there new_id = by_slot (carries.slots slot h there)
     where
-      by_slot : (slice_get s.held slot ≡ Some (Some h)) ⊎ All (λ e. IsLive later marked (entry_key h.kind e)) h.entries → All (λ e. IsLive later marked (entry_key h.kind e)) h.entries
+      by_slot : (slice_get s.held slot ≡ Some (Some h)) ⊎ All (λ e. IsLive later marked (entry_key h.kind e)) h.entries
+          → All (λ e. IsLive later marked (entry_key h.kind e)) h.entries
       by_slot (inl was) = λ k d within. carries.live_still (entry_key h.kind (get_or h.entries k d)) (before slot h was new_id k d within)
       by_slot (inr all) = all
 

@@ -40,7 +40,8 @@ pub record IsWholeBelow (index : PlaceMap) (held : List (Option HeaderValue)) (i
 
 module _ (index : PlaceMap) (held : List (Option HeaderValue)) (image : List ℕ) where
   -- a held tree whose root has the key of a node that is held is the node's
-  tree_of_node : (t : Tree (List ℕ)) (n : Contents) (copy : Copy) → IsTree t → HoldsCounted (HasKey index) held image t → HoldsNode held image n copy → IsRootOf (node_key n) t → IsTreeOf t n
+  tree_of_node : (t : Tree (List ℕ)) (n : Contents) (copy : Copy) → IsTree t → HoldsCounted (HasKey index) held image t → HoldsNode held image n copy → IsRootOf (node_key n) t
+      → IsTreeOf t n
   tree_of_node tree.Empty n copy right holds node is = absurd right
   tree_of_node (tree.Leaf segment) n copy right holds node is = absurd (leaf_apart segment n (sym is))
   tree_of_node (tree.Node level ts) n copy right holds node is =
@@ -84,5 +85,6 @@ module _ (index : PlaceMap) (held : List (Option HeaderValue)) (image : List ℕ
       (λ key there. held_node.count key (contains_next (node_key (contents_of is.level is.below)) key (keys_below is.below) there)))
 
   -- The children of a node whose tree is held whole are held whole.
-  pub children_whole : (n : Contents) (copy : Copy) → HoldsNode held image n copy → IsWhole index held image (node_key n) → All (IsWholeBelow index held image n.level) (child_keys n)
+  pub children_whole : (n : Contents) (copy : Copy) → HoldsNode held image n copy → IsWhole index held image (node_key n)
+      → All (IsWholeBelow index held image n.level) (child_keys n)
   children_whole n copy node whole = tree_whole whole.whole n (node_of_whole (node_key n) n copy whole node refl) whole.right whole.is_held

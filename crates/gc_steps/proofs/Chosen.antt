@@ -63,9 +63,11 @@ module _ (t : SlotTable) (c : Collection) (sources : List ℕ) (recorded : IsRec
 
     pub all_left : AreLeft t c.snapshot sources 0
     all_left = record {
-      old = λ i within. All-contains (λ id. is_old c.snapshot id ≡ true) (old_ids c.snapshot t.ids.items) (get_or sources i 0) (filter_passes (is_old c.snapshot) t.ids.items) (among_old i within);
+      old = λ i within. All-contains (λ id. is_old c.snapshot id ≡ true) (old_ids c.snapshot t.ids.items) (get_or sources i 0) (filter_passes (is_old c.snapshot) t.ids.items)
+          (among_old i within);
       there = λ i from within.
-          All-contains (Contains t.ids.items) (old_ids c.snapshot t.ids.items) (get_or sources i 0) (All-filter (is_old c.snapshot) (Contains t.ids.items) t.ids.items (All-contains_itself t.ids.items)) (among_old i within);
+          All-contains (Contains t.ids.items) (old_ids c.snapshot t.ids.items) (get_or sources i 0)
+          (All-filter (is_old c.snapshot) (Contains t.ids.items) t.ids.items (All-contains_itself t.ids.items)) (among_old i within);
     }
 
     pub first_left : 0 < length sources → Contains t.ids.items (get_or sources 0 0)

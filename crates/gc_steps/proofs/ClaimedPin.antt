@@ -58,18 +58,21 @@ module _ (pins : PinMap) (key : List ℕ) (pin : Pin) where
           by_test false is = (was.0, got other ∙ ap (λ (b : Bool). cond b (Some pin) (finite.get pins other)) is ∙ was.1)
 
 -- a mark that is shared is that of one key
-one_mark : (old marked : LiveKeys) (key : List ℕ) (place : Place) → ((other : List ℕ) (there : Place) → IsLiveAt marked other there ↔ (IsLiveAt old other there ⊎ SharesMark other there key place))
+one_mark : (old marked : LiveKeys) (key : List ℕ) (place : Place)
+    → ((other : List ℕ) (there : Place) → IsLiveAt marked other there ↔ (IsLiveAt old other there ⊎ SharesMark other there key place))
     → Marks (λ other. other ≡ key) old marked
 unfolding SharesMark
 one_mark old marked key place shares = shares
 
 -- The key of a segment that is held is pinned, and marked.
-pub claimed_key : (index : PlaceMap) (store : Store) (image : List ℕ) (files : Files) (parts : List Part) (c : Collection) (marked : LiveKeys) (actor : ℕ) (pins : PinMap) (key : List ℕ) (pin : Pin)
+pub claimed_key : (index : PlaceMap) (store : Store) (image : List ℕ) (files : Files) (parts : List Part) (c : Collection) (marked : LiveKeys) (actor : ℕ) (pins : PinMap)
+    (key : List ℕ) (pin : Pin)
     → actor < ACTORS → actor < length parts → part_of parts actor ≡ Writing pins → Marks (λ other. other ≡ key) c.live marked
     → CoreInvariant index store files (with_part parts actor (Writing (finite.insert pins key pin))) image → IsStoreOf store files image
     → KeepsBoth index index store store parts (with_part parts actor (Writing (finite.insert pins key pin))) image image c (record c { live = marked })
 claimed_key index store image files parts c marked actor pins key pin below there writing marks core holds =
-    gained (λ other. other ≡ key) index index store store image image files parts c marked actor pins (finite.insert pins key pin) below there writing gains grows core holds (moves_none index store store c.snapshot refl)
+    gained (λ other. other ≡ key) index index store store image image files parts c marked actor pins (finite.insert pins key pin) below there writing gains grows core holds
+    (moves_none index store store c.snapshot refl)
   where
     gains : Gains (λ other. other ≡ key) c.live marked pins (finite.insert pins key pin)
     gains = record { marks = marks; pinned = one_more pins key pin; decided = one_or_other key }
@@ -85,7 +88,8 @@ claimed_key index store image files parts c marked actor pins key pin below ther
     }
 
 -- So it is where the mark is said by those that share it.
-pub claimed : (index : PlaceMap) (store : Store) (image : List ℕ) (files : Files) (parts : List Part) (c : Collection) (marked : LiveKeys) (actor : ℕ) (pins : PinMap) (key : List ℕ) (pin : Pin) (place : Place)
+pub claimed : (index : PlaceMap) (store : Store) (image : List ℕ) (files : Files) (parts : List Part) (c : Collection) (marked : LiveKeys) (actor : ℕ) (pins : PinMap)
+    (key : List ℕ) (pin : Pin) (place : Place)
     → actor < ACTORS → actor < length parts → part_of parts actor ≡ Writing pins
     → ((other : List ℕ) (there : Place) → IsLiveAt marked other there ↔ (IsLiveAt c.live other there ⊎ SharesMark other there key place))
     → CoreInvariant index store files (with_part parts actor (Writing (finite.insert pins key pin))) image → IsStoreOf store files image

@@ -63,7 +63,8 @@ begun_counted t sources s begins = omega (arith, begins.none_freed, ap length be
     first End is = omega (arith, is.1, ap length begins.sources_are)
 
 -- where a source is to go on, so many came to their end
-next_before : (t : SlotTable) (sources : List ℕ) (s : SweepValue) (buffer : Contents) (source entry : ℕ) (n : Next) → s.sources.items ≡ sources → source ≤ length sources → IsNext t sources buffer source entry n
+next_before : (t : SlotTable) (sources : List ℕ) (s : SweepValue) (buffer : Contents) (source entry : ℕ) (n : Next) → s.sources.items ≡ sources → source ≤ length sources
+    → IsNext t sources buffer source entry n
     → sources_before s n ≡ source
 next_before t sources s buffer source entry (CopyNext x e) same most is = is.0
 next_before t sources s buffer source entry (Flush x e) same most is = is.0
@@ -76,14 +77,18 @@ pub keys_so : (P : List ℕ → Type 0) (kind : Kind) (xs : List Segment) → Al
 keys_so P kind [] all = tt
 keys_so P kind (x ∷ xs) all = (all.0, keys_so P kind xs all.1)
 
-pub live_so : (index : PlaceMap) (live : LiveKeys) (held : List (Option HeaderValue)) (image : List ℕ) (kind : Kind) (xs : List Segment) → AllByRecursion (IsCopied index live held image kind) xs
+pub live_so : (index : PlaceMap) (live : LiveKeys) (held : List (Option HeaderValue)) (image : List ℕ) (kind : Kind) (xs : List Segment)
+    → AllByRecursion (IsCopied index live held image kind) xs
     → AllByRecursion (λ x. IsLive index live (segment_key kind x)) xs
 live_so index live held image kind [] all = tt
 live_so index live held image kind (x ∷ xs) all = (all.0.is_live, live_so index live held image kind xs all.1)
 
-module _ (t : SlotTable) (index : PlaceMap) (held : List (Option HeaderValue)) (image : List ℕ) (live : LiveKeys) (snapshot source entry : ℕ) (s s' : SweepValue) (known_now : Option PlaceMap) (old new : DiskView)
-    (slots : RepresentsSlots held t) (differ : DifferentIds held) (stand : HoldSlots 0 held image) (partial : IsPartialIndexOf held index) (content : old.content ≡ Some image) (under : IsSweeping t snapshot s)
-    (stage : s.next ≡ CopyNext source entry) (holds : HoldsSweep index held image live snapshot s) (copies : CopiesSource t live (Some index) known_now old new source entry s s') where
+module _ (t : SlotTable) (index : PlaceMap) (held : List (Option HeaderValue)) (image : List ℕ) (live : LiveKeys) (snapshot source entry : ℕ) (s s' : SweepValue)
+    (known_now : Option PlaceMap) (old new : DiskView)
+    (slots : RepresentsSlots held t) (differ : DifferentIds held) (stand : HoldSlots 0 held image) (partial : IsPartialIndexOf held index) (content : old.content ≡ Some image)
+    (under : IsSweeping t snapshot s)
+    (stage : s.next ≡ CopyNext source entry) (holds : HoldsSweep index held image live snapshot s)
+    (copies : CopiesSource t live (Some index) known_now old new source entry s s') where
   abbrev h : HeaderValue
   h = copies.plans.header
 
@@ -111,14 +116,17 @@ module _ (t : SlotTable) (index : PlaceMap) (held : List (Option HeaderValue)) (
       was : finite.get index key ≡ Some is_live.0
       was = left.were key is_live.0 is_live.1.0
 
-      by_found : (found : Option Plan) → PlansBy (source_of (Some index) live copies.slot h.kind) (Shows old new) h entry copies.filling found → TakesBy t copies.slot source found s s'
+      by_found : (found : Option Plan) → PlansBy (source_of (Some index) live copies.slot h.kind) (Shows old new) h entry copies.filling found
+          → TakesBy t copies.slot source found s s'
           → (has_key s.buffer key ≡ true) ⊎ LiesOld index held snapshot key
       by_found None other takes =
           absurd (not_other t index held image live snapshot source entry s slots differ stand under stage holds copies.slot copies.kind copies.filling copies.is_source h shown other)
-      by_found (Some plan) (kind_is, is) takes = elim (filled_new index held image live snapshot source entry s copies.slot copies.kind copies.filling h partial read old new content plan is key is_live.0 was (sym (ap (λ (c : Contents). has_key c key) takes.0) ∙ has)) [
-        | inl before ↦ inl before
-        | inr added ↦ inr (is_live.0, (was, (h, (ap (slice_get held) added.0 ∙ read.there, read.old))))
-      ]
+      by_found (Some plan) (kind_is, is) takes = elim
+          (filled_new index held image live snapshot source entry s copies.slot copies.kind copies.filling h partial read old new content plan is key is_live.0 was
+          (sym (ap (λ (c : Contents). has_key c key) takes.0) ∙ has)) [
+            | inl before ↦ inl before
+            | inr added ↦ inr (is_live.0, (was, (h, (ap (slice_get held) added.0 ∙ read.there, read.old))))
+          ]
 
   copied_counted : IsCounted s → IsCounted s'
   copied_counted counted = by_found copies.found copies.plans.plans copies.takes
@@ -141,14 +149,16 @@ module _ (t : SlotTable) (index : PlaceMap) (held : List (Option HeaderValue)) (
           omega (arith, before, copies.others.freed_is, ap length waits, ap length ready, ap (sources_before s') next)
       by_ended plan false (waits, ready, next) = omega (arith, before, copies.others.freed_is, ap length waits, ap length ready, ap (sources_before s') next)
 
-      by_found : (found : Option Plan) → PlansBy (source_of (Some index) live copies.slot h.kind) (Shows old new) h entry copies.filling found → TakesBy t copies.slot source found s s' → IsCounted s'
+      by_found : (found : Option Plan) → PlansBy (source_of (Some index) live copies.slot h.kind) (Shows old new) h entry copies.filling found
+          → TakesBy t copies.slot source found s s' → IsCounted s'
       by_found None other takes =
           absurd (not_other t index held image live snapshot source entry s slots differ stand under stage holds copies.slot copies.kind copies.filling copies.is_source h shown other)
       by_found (Some plan) (kind_is, is) takes = by_ended plan plan.ended takes.2
 
 -- ---- copies are written, and a source is given back
 
-flushed_counted : (t : SlotTable) (snapshot source entry : ℕ) (s s' : SweepValue) → IsSweeping t snapshot s → s.next ≡ Flush source entry → HasFlushed source entry s s' → IsCounted s → IsCounted s'
+flushed_counted : (t : SlotTable) (snapshot source entry : ℕ) (s s' : SweepValue) → IsSweeping t snapshot s → s.next ≡ Flush source entry → HasFlushed source entry s s'
+    → IsCounted s → IsCounted s'
 flushed_counted t snapshot source entry s s' under stage flushed counted =
     let has : HasNext t s (Flush source entry) = subst (HasNext t s) stage under.next_is in
     omega (
@@ -162,7 +172,8 @@ flushed_counted t snapshot source entry s s' under stage flushed counted =
       ap (sources_before s') flushed.next_is,
     )
 
-released_counted : (t now : SlotTable) (snapshot source entry : ℕ) (s s' : SweepValue) → IsSweeping t snapshot s → s.next ≡ Release source entry → HasReleased now source entry s s' → IsCounted s → IsCounted s'
+released_counted : (t now : SlotTable) (snapshot source entry : ℕ) (s s' : SweepValue) → IsSweeping t snapshot s → s.next ≡ Release source entry
+    → HasReleased now source entry s s' → IsCounted s → IsCounted s'
 released_counted t now snapshot source entry s s' under stage released counted = by_ready s.ready.items refl
   where
     has : HasNext t s (Release source entry)
@@ -198,8 +209,10 @@ pub record GoesWell (index : PlaceMap) (held : List (Option HeaderValue)) (c d :
   pub filled : (key : List ℕ) → has_key d.sweep.buffer key ≡ true → (has_key c.sweep.buffer key ≡ true) ⊎ LiesOld index held c.snapshot key
   pub counted : IsCounted c.sweep → IsCounted d.sweep
 
-module _ (t u : Tables) (index : PlaceMap) (held : List (Option HeaderValue)) (image : List ℕ) (known : Option PlaceMap) (old new : DiskView) (c d : Collection) (slots : RepresentsSlots held t.held) (differ : DifferentIds held)
-    (stand : HoldSlots 0 held image) (partial : IsPartialIndexOf held index) (content : old.content ≡ Some image) (under : IsUnderWay t.held c) (holds : HoldsAt c.stage index held image c) where
+module _ (t u : Tables) (index : PlaceMap) (held : List (Option HeaderValue)) (image : List ℕ) (known : Option PlaceMap) (old new : DiskView) (c d : Collection)
+    (slots : RepresentsSlots held t.held) (differ : DifferentIds held)
+    (stand : HoldSlots 0 held image) (partial : IsPartialIndexOf held index) (content : old.content ≡ Some image) (under : IsUnderWay t.held c)
+    (holds : HoldsAt c.stage index held image c) where
   same_well : d.sweep ≡ c.sweep → GoesWell index held c d
   same_well same = record {
     filled = λ key has. inl (ap (λ (s : SweepValue). has_key s.buffer key) (sym same) ∙ has);
@@ -215,7 +228,8 @@ module _ (t u : Tables) (index : PlaceMap) (held : List (Option HeaderValue)) (i
   held_sweep : c.stage ≡ Sweep → HoldsSweep index held image c.live c.snapshot c.sweep
   held_sweep is = (subst (λ (s : Stage). HoldsAt s index held image c) is holds).1
 
-  by_stage : (stage : Stage) (next : Next) → c.stage ≡ stage → c.sweep.next ≡ next → StepsTo stage next (moment t (Some index) old c) (moment u known new d) → GoesWell index held c d
+  by_stage : (stage : Stage) (next : Next) → c.stage ≡ stage → c.sweep.next ≡ next → StepsTo stage next (moment t (Some index) old c) (moment u known new d)
+      → GoesWell index held c d
   by_stage (Mark level slot) next is next_is steps = same_well (ap (λ (x : Collection). x.sweep) steps.0.collection_is)
   by_stage (Filter slot) next is next_is steps = same_well (ap (λ (x : Collection). x.sweep) steps.0.collection_is)
   by_stage Select next is next_is steps = record {
@@ -223,8 +237,10 @@ module _ (t u : Tables) (index : PlaceMap) (held : List (Option HeaderValue)) (i
     counted = λ counted. begun_counted t.held d.sweep.sources.items d.sweep steps.0.begins;
   }
   by_stage Sweep (CopyNext source entry) is next_is steps = record {
-    filled = copied_new t.held index held image c.live c.snapshot source entry c.sweep d.sweep known old new slots differ stand partial content (sweeping is) next_is (held_sweep is) steps.0;
-    counted = copied_counted t.held index held image c.live c.snapshot source entry c.sweep d.sweep known old new slots differ stand partial content (sweeping is) next_is (held_sweep is) steps.0;
+    filled = copied_new t.held index held image c.live c.snapshot source entry c.sweep d.sweep known old new slots differ stand partial content (sweeping is) next_is
+        (held_sweep is) steps.0;
+    counted = copied_counted t.held index held image c.live c.snapshot source entry c.sweep d.sweep known old new slots differ stand partial content (sweeping is) next_is
+        (held_sweep is) steps.0;
   }
   by_stage Sweep (Flush source entry) is next_is steps = record {
     filled = emptied steps.flushed.emptied;

@@ -35,7 +35,8 @@ same_bytes place slot offset count image s o n =
     ap (λ (x : ℕ). range (data_at x + place.offset) place.length image) (sym s) ∙ ap (λ (x : ℕ). range (data_at slot + x) place.length image) (sym o)
     ∙ ap (λ (x : ℕ). range (data_at slot + offset) x image) (sym n)
 
-pub read_fault : (old new : DiskView) (place : Place) (digest : List ℕ) (refusal : Refusal) → IsCopyRefusal (Shows old new) place digest refusal → IsReadFault (ShowsAt old new) place digest (scan_fault refusal)
+pub read_fault : (old new : DiskView) (place : Place) (digest : List ℕ) (refusal : Refusal) → IsCopyRefusal (Shows old new) place digest refusal
+    → IsReadFault (ShowsAt old new) place digest (scan_fault refusal)
 read_fault old new place digest DiskRead cause = tt
 read_fault old new place digest (Corrupt slot offset count want got) cause = record {
   slot_is = cause.0;

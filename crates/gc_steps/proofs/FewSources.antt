@@ -97,11 +97,14 @@ module _ (most : ℕ) (t u : Tables) (known_before known : Option PlaceMap) (old
     chosen = omega (arith, few.chosen, ap (λ (v : Vec ℕ Global). length v.items) sources);
   }
 
-  by_stage : (stage : Stage) (next : Next) → c.stage ≡ stage → c.sweep.next ≡ next → IsUnderWay t.held c → StepsTo stage next was is_now → TablesAfter stage next was is_now → HasFewSources most u.held d
+  by_stage : (stage : Stage) (next : Next) → c.stage ≡ stage → c.sweep.next ≡ next → IsUnderWay t.held c → StepsTo stage next was is_now → TablesAfter stage next was is_now
+      → HasFewSources most u.held d
   by_stage (Mark level slot) next is at under steps same =
-      same_few same (ap (λ (x : Collection). x.snapshot) steps.0.collection_is) (ap (λ (x : Collection). x.sweep.sources) steps.0.collection_is) (λ first. subst IsToChoose (sym is) tt)
+      same_few same (ap (λ (x : Collection). x.snapshot) steps.0.collection_is) (ap (λ (x : Collection). x.sweep.sources) steps.0.collection_is)
+      (λ first. subst IsToChoose (sym is) tt)
   by_stage (Filter slot) next is at under steps same =
-      same_few same (ap (λ (x : Collection). x.snapshot) steps.0.collection_is) (ap (λ (x : Collection). x.sweep.sources) steps.0.collection_is) (λ first. subst IsToChoose (sym is) tt)
+      same_few same (ap (λ (x : Collection). x.snapshot) steps.0.collection_is) (ap (λ (x : Collection). x.sweep.sources) steps.0.collection_is)
+      (λ first. subst IsToChoose (sym is) tt)
   by_stage Select next is at under steps same =
       let recorded = at_stage t.held c Select under is in
       record {
@@ -112,7 +115,8 @@ module _ (most : ℕ) (t u : Tables) (known_before known : Option PlaceMap) (old
   by_stage Sweep (Flush source entry) is at under steps tables = swept_few is steps.sweeps steps.flushed.sources_are
   by_stage Sweep (Release source entry) is at under steps freed = swept_few is steps.1 steps.0.sources_are
   by_stage Sweep End is at under steps same =
-      same_few same (ap (λ (x : Collection). x.snapshot) steps.0) (ap (λ (x : Collection). x.sweep.sources) steps.0) (λ first. subst IsToChoose (ap (λ (x : Collection). x.stage) steps.0) first)
+      same_few same (ap (λ (x : Collection). x.snapshot) steps.0) (ap (λ (x : Collection). x.sweep.sources) steps.0)
+      (λ first. subst IsToChoose (ap (λ (x : Collection). x.stage) steps.0) first)
 
   -- A step that is done leaves it so.
   pub few_step : IsUnderWay t.held c → StepsTo c.stage c.sweep.next was is_now → TablesAfter c.stage c.sweep.next was is_now → HasFewSources most u.held d
@@ -129,7 +133,8 @@ module _ (most : ℕ) (t u : Tables) (known_before known : Option PlaceMap) (old
     where
       by_memory : (d ≡ c) ⊎ MarksOnly known_before old new level slot c d → StaysSo
       by_memory (inl is) = all_same is
-      by_memory (inr only) = (ap (λ (x : Collection). x.stage) only.collection_is, ap (λ (x : Collection). x.snapshot) only.collection_is, ap (λ (x : Collection). x.sweep.sources) only.collection_is)
+      by_memory (inr only) =
+          (ap (λ (x : Collection). x.stage) only.collection_is, ap (λ (x : Collection). x.snapshot) only.collection_is, ap (λ (x : Collection). x.sweep.sources) only.collection_is)
 
       by_refusal : (refusal : Refusal) → KeepsMarks known_before old new level slot c d refusal → StaysSo
       by_refusal Memory is = by_memory is

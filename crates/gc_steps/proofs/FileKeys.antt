@@ -34,7 +34,8 @@ use Rattle.gc_steps.proofs.Needed.{child_root}
 use Rattle.gc_steps.proofs.RootTrees.{not_zero, root_there, top_key, top_of}
 
 -- the keys by which a node names the trees below it are keys of these
-child_below : (level : ℕ) (ts : Trees (List ℕ)) → AreBelow level ts → (key : List ℕ) → Contains (map (child_key level) (children_of of_segment ts)) key → Contains (keys_below ts) key
+child_below : (level : ℕ) (ts : Trees (List ℕ)) → AreBelow level ts → (key : List ℕ) → Contains (map (child_key level) (children_of of_segment ts)) key
+    → Contains (keys_below ts) key
 child_below level tree.NoTree right key there = absurd (contains_none key there)
 child_below level (tree.Then t ts) right key there =
     by_place (contains_first (child_key level (child_of of_segment t)) key (map (child_key level) (children_of of_segment ts)) there) (child_below level ts right.2 key)
@@ -47,7 +48,8 @@ child_below level (tree.Then t ts) right key there =
     by_place (inr later) rest = Contains-append_right (tree_keys t) (keys_below ts) key (rest later)
 
 -- A tree that is held and has the key of a node that is held has the keys of its children.
-module _ (held : List (Option HeaderValue)) (image : List ℕ) (n : Contents) (copy : Copy) (node : HoldsNode held image n copy) (key : List ℕ) (child : Contains (child_keys n) key) where
+module _ (held : List (Option HeaderValue)) (image : List ℕ) (n : Contents) (copy : Copy) (node : HoldsNode held image n copy) (key : List ℕ)
+    (child : Contains (child_keys n) key) where
   mutual
     pub tree_closed : (t : Tree (List ℕ)) → AllByRecursion IsTree (trees_in t) → HoldsTree held image t → Contains (tree_keys t) (node_key n) → Contains (tree_keys t) key
     tree_closed tree.Empty right holds has = absurd (contains_none (node_key n) has)
@@ -87,7 +89,8 @@ module _ (held : List (Option HeaderValue)) (image : List ℕ) (n : Contents) (c
         either (inr there) first rest = Contains-append_right (tree_keys t) (keys_below ts) key (rest there)
 
 -- So a file that needs a node needs its children.
-pub reachable_closed : (store : Store) (files : Files) (image : List ℕ) → IsStoreOf store files image → (n : Contents) (copy : Copy) → HoldsNode store.held image n copy → IsReachable files (node_key n)
+pub reachable_closed : (store : Store) (files : Files) (image : List ℕ) → IsStoreOf store files image → (n : Contents) (copy : Copy) → HoldsNode store.held image n copy
+    → IsReachable files (node_key n)
     → (key : List ℕ) → Contains (child_keys n) key → IsReachable files key
 reachable_closed store files image holds n copy node (name, (bytes, (filed, has))) key child =
     by_file (names_of_name name) (finite.get files name) filed (holds.files_are name)
@@ -108,7 +111,8 @@ reachable_closed store files image holds n copy node (name, (bytes, (filed, has)
 -- ---- the keys of names
 
 -- a root's key is one of its tree
-pub key_of_root : (t : Tree (List ℕ)) (root : Root) (key : List ℕ) → AllByRecursion IsTree (trees_in t) → top_of root ≡ tree.root_of of_segment t → HasRootKey root key → Contains (tree_keys t) key
+pub key_of_root : (t : Tree (List ℕ)) (root : Root) (key : List ℕ) → AllByRecursion IsTree (trees_in t) → top_of root ≡ tree.root_of of_segment t → HasRootKey root key
+    → Contains (tree_keys t) key
 key_of_root tree.Empty root key right top has = absurd (has.0 (ap (λ (x : Top). x.length) top))
 key_of_root (tree.Leaf segment) root key right top has =
     let key_is : key ≡ leaf_key segment = has.1 ∙ ap top_key top in
@@ -125,5 +129,8 @@ name_reachable store files image key holds is =
     let file = file_of_root one.name one.named.root store files image holds (one.named.sequence, one.found) in
     let few : length file.bytes ≤ MOST_FILE = subst FitsFile file.filed (files_fit store files image holds one.name) in (
       one.name,
-      (file.bytes, (file.filed, key_of_root (file_tree file.bytes) one.named.root key (right_file file.bytes few) (ap top_of (file.root_is ∙ root_of_tree file.bytes few)) one.has)),
+      (
+        file.bytes,
+        (file.filed, key_of_root (file_tree file.bytes) one.named.root key (right_file file.bytes few) (ap top_of (file.root_is ∙ root_of_tree file.bytes few)) one.has),
+      ),
     )

@@ -99,7 +99,8 @@ first_true : (a b : Bool) → a && b ≡ true → a ≡ true
 first_true true b e = refl
 first_true false b e = absurd cc
 
-pub node_there : (held : List (Option HeaderValue)) (image : List ℕ) (n : Contents) (copy : Copy) → HoldSlots 0 held image → newest 0 held (node_key n) ≡ Some copy → HasTree held copy.place.slot copy.id
+pub node_there : (held : List (Option HeaderValue)) (image : List ℕ) (n : Contents) (copy : Copy) → HoldSlots 0 held image → newest 0 held (node_key n) ≡ Some copy
+    → HasTree held copy.place.slot copy.id
 node_there held image n copy holds is =
     let l = lies 0 held (node_key n) copy is in
     let slot : l.index ≡ copy.place.slot = omega (arith, ap (λ (x : Copy). x.place.slot) l.copy_is) in
@@ -129,7 +130,8 @@ not_none id some = by_test (id == 0) refl
     by_test true is = absurd (omega (arith, eqb-true id 0 is, some))
 
 -- a container of nodes that is there
-pub tree_of : (held : List (Option HeaderValue)) (slot : ℕ) (h : HeaderValue) → slot < length held → slice_get held slot ≡ Some (Some h) → IsHeader h → h.kind ≡ Tree → HasTree held slot h.id
+pub tree_of : (held : List (Option HeaderValue)) (slot : ℕ) (h : HeaderValue) → slot < length held → slice_get held slot ≡ Some (Some h) → IsHeader h → h.kind ≡ Tree
+    → HasTree held slot h.id
 tree_of held slot h within there right kind = record {
   within = within;
   id_is = id_there held slot h there;
@@ -138,7 +140,8 @@ tree_of held slot h within there right kind = record {
 }
 
 -- one that came before the collection is gone over
-pub tree_slot : (held : List (Option HeaderValue)) (t : SlotTable) (snapshot : ℕ) → RepresentsSlots held t → (slot id : ℕ) → id < snapshot → HasTree held slot id → is_tree_slot snapshot t slot ≡ true
+pub tree_slot : (held : List (Option HeaderValue)) (t : SlotTable) (snapshot : ℕ) → RepresentsSlots held t → (slot id : ℕ) → id < snapshot → HasTree held slot id
+    → is_tree_slot snapshot t slot ≡ true
 tree_slot held t snapshot slots slot id old is =
     both (is_old_slot snapshot t slot) (is_tree (slice_get t.counts.items slot))
     (ap (λ (n : ℕ). not (n == 0) && nat_lt n snapshot) (ap (λ (ids : List ℕ). get_or ids slot 0) slots.ids_are ∙ is.id_is)
@@ -170,10 +173,12 @@ module _ (held : List (Option HeaderValue)) (image : List ℕ) (t : SlotTable) (
   tree_there slot id old is = tree_slot held t snapshot slots slot id old is
 
   -- no node that is held was passed
-  pub none_passed : last_id held < snapshot → (c : Collection) → c.snapshot ≡ snapshot → c.stage ≡ mark_level snapshot t MOST_LEVEL → (n : Contents) (copy : Copy) → HoldsNode held image n copy → IsPassed c n.level copy → ⊥
+  pub none_passed : last_id held < snapshot → (c : Collection) → c.snapshot ≡ snapshot → c.stage ≡ mark_level snapshot t MOST_LEVEL → (n : Contents) (copy : Copy)
+      → HoldsNode held image n copy → IsPassed c n.level copy → ⊥
   none_passed above c snapshot_is stage_is n copy node (inr new) = omega (arith, newest_id 0 held (node_key n) copy node.copy_is, above, snapshot_is, new)
   none_passed above c snapshot_is stage_is n copy node (inl scanned) =
       let old : copy.id < snapshot = omega (arith, newest_id 0 held (node_key n) copy node.copy_is, above) in
       let tree = node_there held image n copy holds node.copy_is in
       let within : copy.place.slot < length t.ids.items = omega (arith, tree.within, ap length slots.ids_are, as_many held) in
-      not_first t snapshot copy.place.slot within (tree_there copy.place.slot copy.id old tree) n.level node.right.level (subst (λ (s : Stage). WasScanned s n.level copy.place.slot) stage_is scanned)
+      not_first t snapshot copy.place.slot within (tree_there copy.place.slot copy.id old tree) n.level node.right.level
+      (subst (λ (s : Stage). WasScanned s n.level copy.place.slot) stage_is scanned)

@@ -72,7 +72,8 @@ IsFollowed held index c key place = IsDataKey key ⊎ (HasChildren (IsLive index
 pub record FindsSoFar (first held : List (Option HeaderValue)) (index : PlaceMap) (c : Collection) (names : NameMap) (parts : List Part) (roots : RootKeys) : Type 0 where
   pub stood : (slot : ℕ) (h : HeaderValue) → slice_get held slot ≡ Some (Some h) → h.id < c.snapshot → slice_get first slot ≡ Some (Some h)
   pub followed : (key : List ℕ) (place : Place) → finite.get index key ≡ Some place → IsLiveAt c.live key place → IsFollowed held index c key place
-  pub since_live : (key : List ℕ) (place : Place) (h : HeaderValue) → finite.get index key ≡ Some place → slice_get held place.slot ≡ Some (Some h) → c.snapshot ≤ h.id → IsLiveAt c.live key place
+  pub since_live : (key : List ℕ) (place : Place) (h : HeaderValue) → finite.get index key ≡ Some place → slice_get held place.slot ≡ Some (Some h) → c.snapshot ≤ h.id
+      → IsLiveAt c.live key place
   pub roots_live : (key : List ℕ) → IsRoot names parts key → IsLive index c.live key
   pub before_live : All (λ r. IsLive index c.live r.key) roots
 
@@ -98,12 +99,14 @@ scanned_or_not Sweep level slot = inl tt
 module _ (index : PlaceMap) (store : Store) (headers : AreHeaders store.held) (partial : IsPartialIndexOf store.held index) where
   -- ---- it begins
 
-  pub begins : (t : SlotTable) (c : Collection) (names : NameMap) (parts : List Part) → RepresentsSlots store.held t → last_id store.held < c.snapshot → c.stage ≡ mark_level c.snapshot t MOST_LEVEL
+  pub begins : (t : SlotTable) (c : Collection) (names : NameMap) (parts : List Part) → RepresentsSlots store.held t → last_id store.held < c.snapshot
+      → c.stage ≡ mark_level c.snapshot t MOST_LEVEL
       → AreFound (Some index) (roots_of names parts) → ((key : List ℕ) (place : Place) → IsLiveAt c.live key place ↔ IsRoot names parts key)
       → FindsSoFar store.held store.held index c names parts (roots_of names parts)
   begins t c names parts slots above stage found live = record {
     stood = λ slot h there old. there;
-    followed = λ key place has is_live. by_kind key place (entered index store headers partial key place has) (data_or_node index store headers partial key place (entered index store headers partial key place has));
+    followed = λ key place has is_live. by_kind key place (entered index store headers partial key place has)
+        (data_or_node index store headers partial key place (entered index store headers partial key place has));
     since_live = λ key place h has there new. absurd (omega (arith, id_below store.held place.slot h there, above, new));
     roots_live = λ key root. All-contains (IsLive index c.live) (map key_at roots) key (All-map (IsLive index c.live) key_at roots all) ((roots_have names parts key).1 root);
     before_live = all;
@@ -132,13 +135,15 @@ module _ (index : PlaceMap) (store : Store) (headers : AreHeaders store.held) (p
 
   -- ---- a container is scanned
 
-  module _ (first : List (Option HeaderValue)) (names : NameMap) (parts : List Part) (roots : RootKeys) (before after : Collection) (finds : FindsSoFar first store.held index before names parts roots)
+  module _ (first : List (Option HeaderValue)) (names : NameMap) (parts : List Part) (roots : RootKeys) (before after : Collection)
+      (finds : FindsSoFar first store.held index before names parts roots)
       (same : after.snapshot ≡ before.snapshot) (more : (key : List ℕ) (place : Place) → IsLiveAt before.live key place → IsLiveAt after.live key place) where
     still : (key : List ℕ) → IsLive index before.live key → IsLive index after.live key
     still key is = (is.0, (is.1.0, more key is.0 is.1.1))
 
     -- where each key that is live then is followed up
-    followed_on : ((key : List ℕ) (place : Place) → finite.get index key ≡ Some place → IsLiveAt after.live key place → IsFollowed store.held index after key place) → FindsSoFar first store.held index after names parts roots
+    followed_on : ((key : List ℕ) (place : Place) → finite.get index key ≡ Some place → IsLiveAt after.live key place → IsFollowed store.held index after key place)
+        → FindsSoFar first store.held index after names parts roots
     followed_on followed = record {
       stood = λ slot h there old. finds.stood slot h there (omega (arith, old, same));
       followed = followed;
@@ -158,7 +163,8 @@ module _ (index : PlaceMap) (store : Store) (headers : AreHeaders store.held) (p
         by_case (inr (inr ahead)) = inr (on ahead)
 
     -- so is one that became live, which marking has yet to come to, unless it lies in a container that came since, and was live
-    newly_followed : (key : List ℕ) (place : Place) → finite.get index key ≡ Some place → (1 ≤ place.level → (e : Entered index store headers partial key place) → e.header.id < before.snapshot → WasScanned after.stage place.level place.slot → ⊥)
+    newly_followed : (key : List ℕ) (place : Place) → finite.get index key ≡ Some place
+        → (1 ≤ place.level → (e : Entered index store headers partial key place) → e.header.id < before.snapshot → WasScanned after.stage place.level place.slot → ⊥)
         → (IsLiveAt before.live key place → IsFollowed store.held index after key place) → IsFollowed store.held index after key place
     newly_followed key place has ahead was =
         let e = entered index store headers partial key place has in
@@ -170,18 +176,22 @@ module _ (index : PlaceMap) (store : Store) (headers : AreHeaders store.held) (p
           ]
         ]
 
-  module _ (t : SlotTable) (slots : RepresentsSlots store.held t) (first : List (Option HeaderValue)) (names : NameMap) (parts : List Part) (roots : RootKeys) (old new : DiskView) (level slot : ℕ) (some : 1 ≤ level)
+  module _ (t : SlotTable) (slots : RepresentsSlots store.held t) (first : List (Option HeaderValue)) (names : NameMap) (parts : List Part) (roots : RootKeys) (old new : DiskView)
+      (level slot : ℕ) (some : 1 ≤ level)
       (before after : Collection) (was : before.stage ≡ Mark level slot) (finds : FindsSoFar first store.held index before names parts roots) where
     -- by what `mark_container` says
-    pub scan_finds : HeadersAreApart first old new → ((h : HeaderValue) → slice_get store.held slot ≡ Some (Some h) → h.id < before.snapshot) → Scans t (Some index) old new level slot before after
+    pub scan_finds : HeadersAreApart first old new → ((h : HeaderValue) → slice_get store.held slot ≡ Some (Some h) → h.id < before.snapshot)
+        → Scans t (Some index) old new level slot before after
         → FindsSoFar first store.held index after names parts roots
-    scan_finds apart age scans = followed_on first names parts roots before after finds snapshot_is more (λ key place has is_live. by_case key place has ((scans.scanned.marks.marks key place).0 is_live))
+    scan_finds apart age scans = followed_on first names parts roots before after finds snapshot_is more
+        (λ key place has is_live. by_case key place has ((scans.scanned.marks.marks key place).0 is_live))
       where
         held : (h : HeaderValue) × (slice_get store.held slot ≡ Some (Some h)) × (header_digest h ≡ header_digest scans.header)
         held = tabled_held store.held slot scans.header scans.right (ap (λ (counts : List SlotCount). slice_get counts slot) (sym slots.counts_are) ∙ scans.tabled.count_is)
 
         there : slice_get store.held slot ≡ Some (Some scans.header)
-        there = held.1 ∙ ap (λ (h : HeaderValue). Some (Some h)) (sym (apart slot held.0 scans.header (finds.stood slot held.0 held.1 (age held.0 held.1)) scans.shown (sym held.2)))
+        there = held.1
+            ∙ ap (λ (h : HeaderValue). Some (Some h)) (sym (apart slot held.0 scans.header (finds.stood slot held.0 held.1 (age held.0 held.1)) scans.shown (sym held.2)))
 
         snapshot_is : after.snapshot ≡ before.snapshot
         snapshot_is = ap (λ (c : Collection). c.snapshot) scans.collection_is
@@ -189,7 +199,8 @@ module _ (index : PlaceMap) (store : Store) (headers : AreHeaders store.held) (p
         more : (key : List ℕ) (place : Place) → IsLiveAt before.live key place → IsLiveAt after.live key place
         more = grows index store headers partial old new level slot some scans.header before after was there scans.scanned
 
-        passes : (key : List ℕ) (place : Place) → 1 ≤ place.level → (e : Entered index store headers partial key place) → e.header.id < before.snapshot → WasScanned after.stage place.level place.slot
+        passes : (key : List ℕ) (place : Place) → 1 ≤ place.level → (e : Entered index store headers partial key place) → e.header.id < before.snapshot
+            → WasScanned after.stage place.level place.slot
             → WasScanned (Mark level slot) place.level place.slot ⊎ ((place.level ≡ level) × (place.slot ≡ slot))
         passes = passed index store headers partial old new level slot some scans.header before after was t slots (ap (λ (c : Collection). c.stage) scans.collection_is)
 
@@ -213,27 +224,33 @@ module _ (index : PlaceMap) (store : Store) (headers : AreHeaders store.held) (p
                   node = node.node;
                   right = node.right;
                   key_is = node.key_is;
-                  children = All-weaker (HasLive index store headers partial after.live (place.level - 1)) (IsLive index after.live) (λ k is. (is.place, (is.place_is, is.is_live))) (child_keys node.node) node.children;
+                  children = All-weaker (HasLive index store headers partial after.live (place.level - 1)) (IsLive index after.live)
+                      (λ k is. (is.place, (is.place_is, is.is_live))) (child_keys node.node) node.children;
                 }
 
-            by_scan : WasScanned after.stage place.level place.slot ⊎ (WasScanned after.stage place.level place.slot → ⊥) → HasChildren (IsLive index after.live) key ⊎ IsToCome store.held after place
+            by_scan : WasScanned after.stage place.level place.slot ⊎ (WasScanned after.stage place.level place.slot → ⊥) → HasChildren (IsLive index after.live) key
+                ⊎ IsToCome store.held after place
             by_scan (inl scanned) = inl (by_place (passes key place ahead.node e low scanned))
             by_scan (inr not_yet) = inr (record { header = ahead.header; there = ahead.there; old = omega (arith, ahead.old, snapshot_is); node = ahead.node; ahead = not_yet })
 
         earlier : (key : List ℕ) (place : Place) → finite.get index key ≡ Some place → IsLiveAt before.live key place → IsFollowed store.held index after key place
         earlier key place has is_live = was_followed first names parts roots before after finds snapshot_is more key place has is_live (on key place has is_live)
 
-        by_case : (key : List ℕ) (place : Place) → finite.get index key ≡ Some place → IsLiveAt before.live key place ⊎ IsAmong key place scans.scanned.marks.found → IsFollowed store.held index after key place
+        by_case : (key : List ℕ) (place : Place) → finite.get index key ≡ Some place → IsLiveAt before.live key place ⊎ IsAmong key place scans.scanned.marks.found
+            → IsFollowed store.held index after key place
         by_case key place has (inl is_live) = earlier key place has is_live
         by_case key place has (inr among) =
-            let below = below_it index store headers partial old new level slot some scans.header before after was scans.scanned.marks.found (λ f. f.key) (λ f. f.place) scans.scanned.marks.finds.placed key place has
+            let below = below_it index store headers partial old new level slot some scans.header before after was scans.scanned.marks.found (λ f. f.key)
+            (λ f. f.place) scans.scanned.marks.finds.placed key place has
             (among_keys key place scans.scanned.marks.found among) in
             newly_followed first names parts roots before after finds snapshot_is more key place has
-            (λ node e low is. not_later index store headers partial old new level slot some scans.header before after was place.level place.slot below (passes key place node e low is)) (earlier key place has)
+            (λ node e low is. not_later index store headers partial old new level slot some scans.header before after was place.level place.slot below
+            (passes key place node e low is)) (earlier key place has)
 
     -- some of it, as memory ran out
     only_finds : MarksOnly (Some index) old new level slot before after → FindsSoFar first store.held index after names parts roots
-    only_finds only = followed_on first names parts roots before after finds snapshot_is more (λ key place has is_live. by_case key place has ((only.scanned.marks.1.1.1 key place).0 is_live))
+    only_finds only = followed_on first names parts roots before after finds snapshot_is more
+        (λ key place has is_live. by_case key place has ((only.scanned.marks.1.1.1 key place).0 is_live))
       where
         snapshot_is : after.snapshot ≡ before.snapshot
         snapshot_is = ap (λ (c : Collection). c.snapshot) only.collection_is
@@ -253,10 +270,12 @@ module _ (index : PlaceMap) (store : Store) (headers : AreHeaders store.held) (p
           ahead = λ is. ahead.ahead (subst (λ (s : Stage). WasScanned s place.level place.slot) now is);
         }))
 
-        by_case : (key : List ℕ) (place : Place) → finite.get index key ≡ Some place → IsLiveAt before.live key place ⊎ IsAmong key place only.scanned.marks.0 → IsFollowed store.held index after key place
+        by_case : (key : List ℕ) (place : Place) → finite.get index key ≡ Some place → IsLiveAt before.live key place ⊎ IsAmong key place only.scanned.marks.0
+            → IsFollowed store.held index after key place
         by_case key place has (inl is_live) = earlier key place has is_live
         by_case key place has (inr among) =
-            let below = below_it index store headers partial old new level slot some only.header before after was only.scanned.found (λ f. f.key) (λ f. f.place) only.scanned.finds.placed key place has
+            let below = below_it index store headers partial old new level slot some only.header before after was only.scanned.found (λ f. f.key)
+            (λ f. f.place) only.scanned.finds.placed key place has
             (some_among index store headers partial old new level slot some only.header before after was now only.scanned key place among) in
             newly_followed first names parts roots before after finds snapshot_is more key place has
             (λ node e low is. not_later index store headers partial old new level slot some only.header before after was place.level place.slot below
@@ -275,7 +294,8 @@ module _ (index : PlaceMap) (store : Store) (headers : AreHeaders store.held) (p
 
   -- What it does: just the keys of which P holds became live; the index has them, and no other key another place; no container goes, and one that
   -- comes has no id of before; and each root is one of before, or P holds of it.
-  pub record Gains (P : List ℕ → Type 0) (held : List (Option HeaderValue)) (later : PlaceMap) (c : Collection) (live : LiveKeys) (names now : NameMap) (parts after : List Part) : Type 1 where
+  pub record Gains (P : List ℕ → Type 0) (held : List (Option HeaderValue)) (later : PlaceMap) (c : Collection) (live : LiveKeys) (names now : NameMap)
+      (parts after : List Part) : Type 1 where
     pub marks : Marks P c.live live
     pub decided : (key : List ℕ) → P key ⊎ (P key → ⊥)
     pub has_still : (key : List ℕ) → HasKey index key → HasKey later key
@@ -287,7 +307,8 @@ module _ (index : PlaceMap) (store : Store) (headers : AreHeaders store.held) (p
     -- where all roots of before have Q, such a key is that of data, or of a node whose children have Q
     pub nodes : (Q : List ℕ → Type 0) → ((key : List ℕ) → IsRoot names parts key → Q key) → (key : List ℕ) → P key → IsDataKey key ⊎ HasChildren Q key
 
-  module _ (P : List ℕ → Type 0) (first held : List (Option HeaderValue)) (later : PlaceMap) (c : Collection) (live : LiveKeys) (names now : NameMap) (parts after : List Part) (roots : RootKeys)
+  module _ (P : List ℕ → Type 0) (first held : List (Option HeaderValue)) (later : PlaceMap) (c : Collection) (live : LiveKeys) (names now : NameMap) (parts after : List Part)
+      (roots : RootKeys)
       (gains : Gains P held later c live names now parts after) (finds : FindsSoFar first store.held index c names parts roots) where
     abbrev next : Collection
     next = record c { live = live }
@@ -316,9 +337,11 @@ module _ (index : PlaceMap) (store : Store) (headers : AreHeaders store.held) (p
         by_case : IsFollowed store.held index c key place → IsFollowed held later next key place
         by_case (inl leaf) = inl leaf
         by_case (inr (inl children)) = inr (inl (children_weaker (IsLive index c.live) (IsLive later live) key kept children))
-        by_case (inr (inr ahead)) = inr (inr (record { header = ahead.header; there = gains.stands place.slot ahead.header ahead.there; old = ahead.old; node = ahead.node; ahead = ahead.ahead }))
+        by_case (inr (inr ahead)) = inr
+            (inr (record { header = ahead.header; there = gains.stands place.slot ahead.header ahead.there; old = ahead.old; node = ahead.node; ahead = ahead.ahead }))
 
-    others_since : (key : List ℕ) (place : Place) (h : HeaderValue) → (P key → ⊥) → finite.get later key ≡ Some place → slice_get held place.slot ≡ Some (Some h) → c.snapshot ≤ h.id → IsLiveAt live key place
+    others_since : (key : List ℕ) (place : Place) (h : HeaderValue) → (P key → ⊥) → finite.get later key ≡ Some place → slice_get held place.slot ≡ Some (Some h)
+        → c.snapshot ≤ h.id → IsLiveAt live key place
     others_since key place h other has there new =
         let before : finite.get index key ≡ Some place = sym (gains.others_stay key other) ∙ has in
         let e = entered index store headers partial key place before in
@@ -370,7 +393,8 @@ module _ (Q : List ℕ → Type 0) (pins : PinMap) (has : (key : List ℕ) → I
 -- ---- once it has marked
 
 -- its live keys stay as they are, so it goes on
-pub marked_on : (first held : List (Option HeaderValue)) (index : PlaceMap) (before after : Collection) (names : NameMap) (parts : List Part) (roots : RootKeys) → HasMarkedAll before.stage → after.live ≡ before.live
+pub marked_on : (first held : List (Option HeaderValue)) (index : PlaceMap) (before after : Collection) (names : NameMap) (parts : List Part) (roots : RootKeys)
+    → HasMarkedAll before.stage → after.live ≡ before.live
     → after.snapshot ≡ before.snapshot → FindsSoFar first held index before names parts roots → FindsSoFar first held index after names parts roots
 marked_on first held index before after names parts roots marked live snapshot finds = record {
   stood = λ slot h there old. finds.stood slot h there (omega (arith, old, snapshot));
@@ -385,11 +409,13 @@ marked_on first held index before after names parts roots marked live snapshot f
     by_case key place (inr (inl children)) = inr (inl (subst (λ (l : LiveKeys). HasChildren (IsLive index l) key) (sym live) children))
     by_case key place (inr (inr ahead)) = absurd (ahead.ahead (all_passed before.stage marked place.level place.slot))
 
-pub found_trees : (first held : List (Option HeaderValue)) (index : PlaceMap) (c : Collection) (names : NameMap) (parts : List Part) (roots : RootKeys) → FindsSoFar first held index c names parts roots → HasMarkedAll c.stage
+pub found_trees : (first held : List (Option HeaderValue)) (index : PlaceMap) (c : Collection) (names : NameMap) (parts : List Part) (roots : RootKeys)
+    → FindsSoFar first held index c names parts roots → HasMarkedAll c.stage
     → FindsTrees index c.live (roots ++ roots_of names parts)
 found_trees first held index c names parts roots finds marked = record {
   roots_are = All-append (λ (r : RootKey). IsLive index c.live r.key) roots (roots_of names parts) finds.before_live
-      (λ k d within. finds.roots_live (get_or (roots_of names parts) k d).key (root_live names parts (get_or (roots_of names parts) k d) (Contains-get_or (roots_of names parts) k d within)));
+      (λ k d within. finds.roots_live (get_or (roots_of names parts) k d).key
+      (root_live names parts (get_or (roots_of names parts) k d) (Contains-get_or (roots_of names parts) k d within)));
   closed = λ key is. by_case key is.0 (finds.followed key is.0 is.1.0 is.1.1);
 }
   where

@@ -56,13 +56,15 @@ lies_there held key copy l =
     ap (slice_get held) (sym slot) ∙ slice_get-get_or held l.index None l.within ∙ ap Some l.there
 
 -- a key whose newest copy came after the collection began is live
-pub new_live : (index : PlaceMap) (live : LiveKeys) (snapshot : ℕ) (held : List (Option HeaderValue)) (key : List ℕ) (copy : Copy) → NewAreLive index live snapshot held → newest 0 held key ≡ Some copy
+pub new_live : (index : PlaceMap) (live : LiveKeys) (snapshot : ℕ) (held : List (Option HeaderValue)) (key : List ℕ) (copy : Copy) → NewAreLive index live snapshot held
+    → newest 0 held key ≡ Some copy
     → snapshot ≤ copy.id → IsLive index live key
 new_live index live snapshot held key copy all is new =
     let l = lies 0 held key copy is in
     let id : copy.id ≡ l.header.id = ap (λ (x : Copy). x.id) l.copy_is in
     let each = all copy.place.slot l.header (lies_there held key copy l) (omega (arith, new, id)) in
-    let found = found_so (λ e. IsLive index live (entry_key l.header.kind e)) _ l.header.entries l.entry (recursion_from_All (λ (e : Entry). IsLive index live (entry_key l.header.kind e)) l.header.entries each) l.found in
+    let found = found_so (λ e. IsLive index live (entry_key l.header.kind e)) _ l.header.entries l.entry
+    (recursion_from_All (λ (e : Entry). IsLive index live (entry_key l.header.kind e)) l.header.entries each) l.found in
     subst (IsLive index live) ((bytes_eq-Decides (entry_key l.header.kind l.entry) key).0 found.1) found.0
 
 -- ---- keys that were found
@@ -77,7 +79,8 @@ pub record IsChildOf (P : Entry → Type 0) (s : Scan) (showed : Place → List 
   pub child : Contains (child_keys node) key
 
 module _ (P : Entry → Type 0) (s : Scan) (showed : Place → List ℕ → Type 0) (key : List ℕ) where
-  pub child_found : (es : List Entry) (nodes : List Contents) → AllByRecursion P es → HaveNodes s showed es nodes → Contains (flat_map child_keys nodes) key → IsChildOf P s showed key
+  pub child_found : (es : List Entry) (nodes : List Contents) → AllByRecursion P es → HaveNodes s showed es nodes → Contains (flat_map child_keys nodes) key
+      → IsChildOf P s showed key
   child_found [] nodes all have there = absurd (contains_none key (subst (λ (ns : List Contents). Contains (flat_map child_keys ns) key) have there))
   child_found (e ∷ es) nodes all (inl over) there = child_found es nodes all.1 over.1 there
   child_found (e ∷ es) nodes all (inr has) there =
@@ -85,7 +88,8 @@ module _ (P : Entry → Type 0) (s : Scan) (showed : Place → List ℕ → Type
       (Contains-append_cases (child_keys has.0) (flat_map child_keys has.1.0) key (subst (λ (ns : List Contents). Contains (flat_map child_keys ns) key) has.1.1.0 there))
       (child_found es has.1.0 all.1 has.1.1.3)
     where
-      by_place : Contains (child_keys has.0) key ⊎ Contains (flat_map child_keys has.1.0) key → (Contains (flat_map child_keys has.1.0) key → IsChildOf P s showed key) → IsChildOf P s showed key
+      by_place : Contains (child_keys has.0) key ⊎ Contains (flat_map child_keys has.1.0) key → (Contains (flat_map child_keys has.1.0) key → IsChildOf P s showed key)
+          → IsChildOf P s showed key
       by_place (inl here) rest = record { entry = e; node = has.0; rule = all.0; to_scan = has.1.1.1; node_is = has.1.1.2; child = here }
       by_place (inr later) rest = rest later
 
@@ -103,13 +107,15 @@ tree_kind : (kind : Kind) (level : ℕ) → 1 ≤ level → is_level kind level 
 tree_kind Leaf level some is = let zero_level : level ≡ 0 = eqb-true level 0 is in absurd (omega (arith, some, zero_level))
 tree_kind Tree level some is = refl
 
-module _ (index : PlaceMap) (store : Store) (files : Files) (image : List ℕ) (holds : IsStoreOf store files image) (partial : IsPartialIndexOf store.held index) (old new : DiskView)
+module _ (index : PlaceMap) (store : Store) (files : Files) (image : List ℕ) (holds : IsStoreOf store files image) (partial : IsPartialIndexOf store.held index)
+    (old new : DiskView)
     (content : old.content ≡ Some image) (level slot : ℕ) (h : HeaderValue) (before : LiveKeys) where
   abbrev scan : Scan
   scan = scan_for (Some index) before slot level h
 
   -- what was scanned is such a node
-  pub scanned_node : (e : Entry) (n : Contents) → is_level h.kind e.level ≡ true → IsToScan scan e → IsNodeOf scan.layer (ShowsAt old new) e n → IsLiveNode index before store.held image level n
+  pub scanned_node : (e : Entry) (n : Contents) → is_level h.kind e.level ≡ true → IsToScan scan e → IsNodeOf scan.layer (ShowsAt old new) e n
+      → IsLiveNode index before store.held image level n
   scanned_node e n rule to_scan node =
       let kind : h.kind ≡ Tree = tree_kind h.kind e.level (omega (arith, to_scan.level_is, node.level_is, node.right.above)) rule in
       let key : entry_key h.kind e ≡ node_key n = ap (λ (k : Kind). key_of (kind_byte k) e.digest) kind ∙ ap (key_of 1) (sym node.digest_is) in
@@ -145,7 +151,8 @@ module _ (index : PlaceMap) (store : Store) (files : Files) (image : List ℕ) (
         subst (λ (x : Contents). All (IsLive index after) (child_keys x)) (same_node e m n copy place read node)
         (All-weaker (IsLiveOf (Some index) after (m.level - 1)) (IsLive index after) (live_in (m.level - 1)) (child_keys m) live)
 
-    pub node_scanned : (n : Contents) (copy : Copy) → HoldsNode store.held image n copy → IsLive index before (node_key n) → n.level ≡ level → copy.place.slot ≡ slot → All (IsLive index after) (child_keys n)
+    pub node_scanned : (n : Contents) (copy : Copy) → HoldsNode store.held image n copy → IsLive index before (node_key n) → n.level ≡ level → copy.place.slot ≡ slot
+        → All (IsLive index after) (child_keys n)
     node_scanned n copy node live level_is slot_is =
         let l = lies 0 store.held (node_key n) copy node.copy_is in
         let header : l.header ≡ h =
@@ -153,7 +160,8 @@ module _ (index : PlaceMap) (store : Store) (files : Files) (image : List ℕ) (
         let place : copy.place ≡ place_of slot l.entry =
         ap (λ (c : Copy). c.place) l.copy_is ∙ ap (λ (s : ℕ). place_of s l.entry) (sym (ap (λ (c : Copy). c.place.slot) l.copy_is) ∙ slot_is) in
         let here : AllByRecursion (HasLiveChildren scan (ShowsAt old new) after) l.header.entries =
-        subst (λ (g : HeaderValue). AllByRecursion (HasLiveChildren scan (ShowsAt old new) after) g.entries) (sym header) (recursion_from_All (HasLiveChildren scan (ShowsAt old new) after) h.entries children) in
+        subst (λ (g : HeaderValue). AllByRecursion (HasLiveChildren scan (ShowsAt old new) after) g.entries) (sym header)
+        (recursion_from_All (HasLiveChildren scan (ShowsAt old new) after) h.entries children) in
         let found = found_so (HasLiveChildren scan (ShowsAt old new) after) _ l.header.entries l.entry here l.found in
         let key : entry_key h.kind l.entry ≡ node_key n =
         ap (λ (g : HeaderValue). entry_key g.kind l.entry) (sym header) ∙ (bytes_eq-Decides (entry_key l.header.kind l.entry) (node_key n)).0 found.1 in
@@ -166,7 +174,8 @@ module _ (index : PlaceMap) (store : Store) (files : Files) (image : List ℕ) (
         let to_scan : IsToScan scan l.entry = record {
           level_is = entry_level;
           live = subst (λ (k : List ℕ). IsLiveAt before k (place_of slot l.entry)) (sym key) (subst (IsLiveAt before (node_key n)) indexed live.1.1);
-          copy = λ m known. subst (λ (o : PlaceMap). finite.get o (entry_key h.kind l.entry) ≡ Some (place_of slot l.entry)) (some_same index m known) (ap (finite.get index) key ∙ live.1.0 ∙ ap Some indexed);
+          copy = λ m known. subst (λ (o : PlaceMap). finite.get o (entry_key h.kind l.entry) ≡ Some (place_of slot l.entry)) (some_same index m known)
+              (ap (finite.get index) key ∙ live.1.0 ∙ ap Some indexed);
         } in
         let has = found.0 to_scan in
         closed_by l.entry has.0 n copy place has.1.0 node has.1.1

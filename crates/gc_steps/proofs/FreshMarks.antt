@@ -138,7 +138,8 @@ module _ (keys fresh after : List (List ℕ)) (key : List ℕ) (old mid : LiveKe
       more other place (inl same) (inr there) = inr (subst (λ (ks : List (List ℕ)). Contains ks other) (sym same) there)
       more other place (inr new) (inr there) = inr (subst (λ (ks : List (List ℕ)). Contains ks other) (sym new.1) (Contains-append_left fresh (key ∷ []) other there))
 
-      apart : (other : List ℕ) (place : Place) → (after ≡ fresh) ⊎ ((IsLiveAt mid key place → ⊥) × (after ≡ fresh ++ key ∷ [])) → Contains after other → IsLiveAt old other place → ⊥
+      apart : (other : List ℕ) (place : Place) → (after ≡ fresh) ⊎ ((IsLiveAt mid key place → ⊥) × (after ≡ fresh ++ key ∷ [])) → Contains after other → IsLiveAt old other place
+          → ⊥
       apart other place (inl same) there was = some_marked.apart other place (subst (λ (ks : List (List ℕ)). Contains ks other) same there) was
       apart other place (inr new) there was = by_case ((contains_more fresh key other).1 (subst (λ (ks : List (List ℕ)). Contains ks other) new.1 there))
         where
@@ -147,7 +148,8 @@ module _ (keys fresh after : List (List ℕ)) (key : List ℕ) (old mid : LiveKe
           by_case (inr same) = new.0 ((are.marks key place).1 (inl (live_same old other key place place (sym same) was)))
 
 -- the loop's turn
-pub marked_turn : (keys fresh after : List (List ℕ)) (i : ℕ) (old mid new : LiveKeys) → i < length keys → AreMarked (take i keys) fresh old mid → Marks (λ k. k ≡ get_or keys i []) mid new
+pub marked_turn : (keys fresh after : List (List ℕ)) (i : ℕ) (old mid new : LiveKeys) → i < length keys → AreMarked (take i keys) fresh old mid
+    → Marks (λ k. k ≡ get_or keys i []) mid new
     → TellsFresh mid (get_or keys i []) fresh after → AreMarked (take (i + 1) keys) after old new
 marked_turn keys fresh after i old mid new within are marks tells = record {
   marks = keys_turn keys i old mid new within are.marks marks;
@@ -176,7 +178,11 @@ unmarked_turn keys i old mid new within first second = subst (λ (ks : List (Lis
           let mid_is = (second key place).0 is in
           let old_is = (first key place).0 mid_is.0 in
           (old_is.0, λ there. either old_is.1 mid_is.1 ((contains_more (take i keys) (get_or keys i []) key).1 there)),
-      λ is. (second key place).1 ((first key place).1 (is.0, λ there. is.1 ((contains_more (take i keys) (get_or keys i []) key).0 (inl there))), λ same. is.1 ((contains_more (take i keys) (get_or keys i []) key).0 (inr same))),
+      λ is. (second key place).1 (
+        (first key place).1 (is.0, λ there. is.1 ((contains_more (take i keys) (get_or keys i []) key).0 (inl there))),
+        λ same. is.1
+            ((contains_more (take i keys) (get_or keys i []) key).0 (inr same)),
+      ),
     )
       where
         either : (Contains (take i keys) key → ⊥) → (key ≡ get_or keys i [] → ⊥) → Contains (take i keys) key ⊎ (key ≡ get_or keys i []) → ⊥

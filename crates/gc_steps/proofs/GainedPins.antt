@@ -51,7 +51,8 @@ live_anywhere live key place other is = is
 
 module _ (index : PlaceMap) (store : Store) (files : Files) (image : List ℕ) (marked : LiveKeys) (holds : IsStoreOf store files image) (pins : PinMap)
     (all : ArePinsOf (HasKey index) store.held image pins) (live : (key : List ℕ) → IsPartKey (Writing pins) key → IsLive index marked key) where
-  pinned_children : (level : ℕ) (cs : List Child) → AllByRecursion (λ c. has_pin pins c.key c.pin ≡ true) (map (child_pin level) cs) → All (IsLive index marked) (map (child_key level) cs)
+  pinned_children : (level : ℕ) (cs : List Child) → AllByRecursion (λ c. has_pin pins c.key c.pin ≡ true) (map (child_pin level) cs)
+      → All (IsLive index marked) (map (child_key level) cs)
   pinned_children level [] pinned k d within = absurd (omega (arith, within))
   pinned_children level (c ∷ cs) pinned zero d within =
       live (child_pin level c).key ((child_pin level c).pin, pin_found (child_pin level c).pin (finite.get pins (child_pin level c).key) pinned.0)
@@ -64,7 +65,8 @@ module _ (index : PlaceMap) (store : Store) (files : Files) (image : List ℕ) (
   children_of_kind Tree s n node key_is right bytes_are pinned =
       let same : contents_in s.bytes ≡ n = spellings_tell_nodes (contents_in s.bytes) n right.bytes.node node (sym right.bytes.spelled ∙ bytes_are) in
       let found = pinned_children s.level (contents_in s.bytes).children pinned in
-      subst (λ (m : Contents). All (IsLive index marked) (child_keys m)) same (subst (λ (l : ℕ). All (IsLive index marked) (map (child_key l) (contents_in s.bytes).children)) right.level found)
+      subst (λ (m : Contents). All (IsLive index marked) (child_keys m)) same
+      (subst (λ (l : ℕ). All (IsLive index marked) (map (child_key l) (contents_in s.bytes).children)) right.level found)
 
   pub pinned_grown : (key : List ℕ) → IsPartKey (Writing pins) key → IsGrown index marked store.held image key
   pinned_grown key (pin, found) =
@@ -97,15 +99,18 @@ pub record Grows (P : List ℕ → Type 0) (index later : PlaceMap) (s t : Store
   pub slots : (slot : ℕ) (h : HeaderValue) → slice_get t.held slot ≡ Some (Some h)
       → (slice_get s.held slot ≡ Some (Some h)) ⊎ All (λ e. P (entry_key h.kind e)) h.entries
 
-module _ (P : List ℕ → Type 0) (index later : PlaceMap) (s t : Store) (old new : List ℕ) (files : Files) (parts : List Part) (c : Collection) (marked : LiveKeys) (actor : ℕ) (pins more : PinMap)
-    (below : actor < ACTORS) (there : actor < length parts) (writing : part_of parts actor ≡ Writing pins) (gains : Gains P c.live marked pins more) (grows : Grows P index later s t old new)
+module _ (P : List ℕ → Type 0) (index later : PlaceMap) (s t : Store) (old new : List ℕ) (files : Files) (parts : List Part) (c : Collection) (marked : LiveKeys) (actor : ℕ)
+    (pins more : PinMap)
+    (below : actor < ACTORS) (there : actor < length parts) (writing : part_of parts actor ≡ Writing pins) (gains : Gains P c.live marked pins more)
+    (grows : Grows P index later s t old new)
     (core : CoreInvariant later t files (with_part parts actor (Writing more)) new) (holds : IsStoreOf t files new) where
   abbrev after : List Part
   after = with_part parts actor (Writing more)
 
   are_pins : ArePinsOf (HasKey later) t.held new more
   are_pins =
-      subst (HoldsPart (HasKey later) t.held new) (apart.same parts actor (Writing more) there) (part_holds (HoldsPart (HasKey later) t.held new) after actor tt core.pins_are_closed)
+      subst (HoldsPart (HasKey later) t.held new) (apart.same parts actor (Writing more) there)
+      (part_holds (HoldsPart (HasKey later) t.held new) after actor tt core.pins_are_closed)
 
   live_still : (key : List ℕ) → IsLive index c.live key → IsLive later marked key
   live_still key (place, (found, is)) =

@@ -48,7 +48,8 @@ first_found : (e : List ℕ × Named) (es : List (List ℕ × Named)) → finite
 first_found e es = ap (λ (b : Bool). cond b (Some e.1) (finite.find (slice_cmp nat_cmp) e.0 es)) (tied e.0 e.0 ∙ (bytes_eq-Decides e.0 e.0).1 refl)
 
 -- and one of the rest too, since the first has another name
-rest_found : (e : List ℕ × Named) (es : List (List ℕ × Named)) (name : List ℕ) (named : Named) → T (below_all (slice_cmp nat_cmp) e.0 es) → finite.find (slice_cmp nat_cmp) name es ≡ Some named
+rest_found : (e : List ℕ × Named) (es : List (List ℕ × Named)) (name : List ℕ) (named : Named) → T (below_all (slice_cmp nat_cmp) e.0 es)
+    → finite.find (slice_cmp nat_cmp) name es ≡ Some named
     → finite.find (slice_cmp nat_cmp) name (e ∷ es) ≡ Some named
 rest_found e es name named below found = by_test (eq_by_cmp (slice_cmp nat_cmp) name e.0) refl
   where

@@ -127,14 +127,16 @@ abbrev pub keys_after : Stage → Next → SweepValue → List (List ℕ) → Li
 keys_after SweepStage (Flush source entry) s keys = keys ++ keys_of s.buffer
 keys_after stage next s keys = keys
 
-lone_early : (stage : Stage) → IsToChoose stage → (index later : PlaceMap) (held held_now : List (Option HeaderValue)) (c : Collection) (keys : List (List ℕ)) → IsAsBegun index later held held_now keys
+lone_early : (stage : Stage) → IsToChoose stage → (index later : PlaceMap) (held held_now : List (Option HeaderValue)) (c : Collection) (keys : List (List ℕ))
+    → IsAsBegun index later held held_now keys
     → IsLoneAt stage index later held held_now c keys
 lone_early (Mark level at) early index later held held_now c keys is = is
 lone_early (Filter at) early index later held held_now c keys is = is
 lone_early Select early index later held held_now c keys is = is
 lone_early SweepStage early index later held held_now c keys is = absurd early
 
-pub begun_early : (stage : Stage) → IsToChoose stage → (index later : PlaceMap) (held held_now : List (Option HeaderValue)) (c : Collection) (keys : List (List ℕ)) → IsLoneAt stage index later held held_now c keys
+pub begun_early : (stage : Stage) → IsToChoose stage → (index later : PlaceMap) (held held_now : List (Option HeaderValue)) (c : Collection) (keys : List (List ℕ))
+    → IsLoneAt stage index later held held_now c keys
     → IsAsBegun index later held held_now keys
 begun_early (Mark level at) early index later held held_now c keys is = is
 begun_early (Filter at) early index later held held_now c keys is = is
@@ -150,7 +152,8 @@ begun_lone index held c none early = record {
 }
 
 -- while it marks only marks are added
-pub marked_lone : (index later : PlaceMap) (held held_now : List (Option HeaderValue)) (c : Collection) (keys : List (List ℕ)) (level at : ℕ) (live : LiveKeys) → c.stage ≡ Mark level at → c.liveness ≡ []
+pub marked_lone : (index later : PlaceMap) (held held_now : List (Option HeaderValue)) (c : Collection) (keys : List (List ℕ)) (level at : ℕ) (live : LiveKeys)
+    → c.stage ≡ Mark level at → c.liveness ≡ []
     → IsLone index later held held_now c keys → IsLone index later held held_now (record c { live = live }) keys
 marked_lone index later held held_now c keys level at live is none was = record {
   told = subst (AllByRecursion (IsTold index live held)) (sym none) tt;
@@ -159,7 +162,8 @@ marked_lone index later held held_now c keys level at live is none was = record 
 }
 
 -- a slot keeps its container where another comes
-still_with : (h : HeaderValue) (held : List (Option HeaderValue)) (slot : ℕ) (g : HeaderValue) → slice_get held slot ≡ Some (Some g) → slice_get (with_slot (first_free held) h held) slot ≡ Some (Some g)
+still_with : (h : HeaderValue) (held : List (Option HeaderValue)) (slot : ℕ) (g : HeaderValue) → slice_get held slot ≡ Some (Some g)
+    → slice_get (with_slot (first_free held) h held) slot ≡ Some (Some g)
 still_with h [] slot g there = absurd cc
 still_with h (None ∷ cs) zero g there = absurd (let wrong : None ≡ Some g = some_same None (Some g) there in cc)
 still_with h (None ∷ cs) (suc slot) g there = there
@@ -168,8 +172,10 @@ still_with h (Some x ∷ cs) (suc slot) g there = still_with h cs slot g there
 
 -- ---- step by step
 
-module _ (index : PlaceMap) (held : List (Option HeaderValue)) (m : PlaceMap) (store : Store) (files : Files) (image : List ℕ) (t : Tables) (known : Option PlaceMap) (old new : DiskView) (c d : Collection)
-    (keys : List (List ℕ)) (holds : IsStoreOf store files image) (represents : Represents store (Some m) t) (content : old.content ≡ Some image) (was : IsLone index m held store.held c keys)
+module _ (index : PlaceMap) (held : List (Option HeaderValue)) (m : PlaceMap) (store : Store) (files : Files) (image : List ℕ) (t : Tables) (known : Option PlaceMap)
+    (old new : DiskView) (c d : Collection)
+    (keys : List (List ℕ)) (holds : IsStoreOf store files image) (represents : Represents store (Some m) t) (content : old.content ≡ Some image)
+    (was : IsLone index m held store.held c keys)
     (under : IsUnderWay t.held c) where
   abbrev slots : RepresentsSlots store.held t.held
   slots = represents.slots_hold
@@ -315,7 +321,8 @@ module _ (index : PlaceMap) (held : List (Option HeaderValue)) (m : PlaceMap) (s
           }))
 
     -- what was copied was written
-    module _ (source entry : ℕ) (next_is : c.sweep.next ≡ Flush source entry) (f : Flushes source entry (moment t (Some m) old c) (moment tables_now known new d)) (later : PlaceMap) (known_is : known ≡ Some later)
+    module _ (source entry : ℕ) (next_is : c.sweep.next ≡ Flush source entry) (f : Flushes source entry (moment t (Some m) old c) (moment tables_now known new d))
+        (later : PlaceMap) (known_is : known ≡ Some later)
         (id : ℕ) (new_id : c.snapshot ≤ id) where
       abbrev buffer : Contents
       buffer = c.sweep.buffer
@@ -336,7 +343,8 @@ module _ (index : PlaceMap) (held : List (Option HeaderValue)) (m : PlaceMap) (s
       slot_is = ((f.writes.has_slot.slot_is old.size (Some m)).store_has store represents valid free).first
 
       map_is : written ≡ later
-      map_is = some_same written later (ap (λ (n : ℕ). Some (with_entries buffer.kind n (entries_from 0 buffer.segments) m)) (sym slot_is) ∙ sym (f.places image content m refl) ∙ known_is)
+      map_is = some_same written later
+          (ap (λ (n : ℕ). Some (with_entries buffer.kind n (entries_from 0 buffer.segments) m)) (sym slot_is) ∙ sym (f.places image content m refl) ∙ known_is)
 
       -- a key that was not filled stays where it was
       other_key : (key : List ℕ) → has_key buffer key ≡ false → finite.get written key ≡ finite.get m key
@@ -413,19 +421,24 @@ module _ (index : PlaceMap) (held : List (Option HeaderValue)) (m : PlaceMap) (s
 
   module _ (valid : IsValidFor old.size store) (free : HasFree store.held) (tables_now : Tables) where
     abbrev After : Stage → Next → Type 0
-    After stage next = (later : PlaceMap) → known ≡ Some later → (s : Store) → IsStoreAfter stage next c.snapshot c.sweep m store s image → IsLone index later held s.held d (keys_after stage next c.sweep keys)
+    After stage next = (later : PlaceMap) → known ≡ Some later → (s : Store) → IsStoreAfter stage next c.snapshot c.sweep m store s image
+        → IsLone index later held s.held d (keys_after stage next c.sweep keys)
 
     stays : known ≡ Some m → IsLone index m held store.held d keys → (later : PlaceMap) → known ≡ Some later → (s : Store) → s ≡ store → IsLone index later held s.held d keys
     stays same now later known_is s is =
-        subst (λ (x : Store). IsLone index later held x.held d keys) (sym is) (subst (λ (x : PlaceMap). IsLone index x held store.held d keys) (some_same m later (sym same ∙ known_is)) now)
+        subst (λ (x : Store). IsLone index later held x.held d keys) (sym is)
+        (subst (λ (x : PlaceMap). IsLone index x held store.held d keys) (some_same m later (sym same ∙ known_is)) now)
 
-    by_stage : (stage : Stage) (next : Next) → c.stage ≡ stage → c.sweep.next ≡ next → HoldsAt stage m store.held image c → StepsTo stage next (moment t (Some m) old c) (moment tables_now known new d)
+    by_stage : (stage : Stage) (next : Next) → c.stage ≡ stage → c.sweep.next ≡ next → HoldsAt stage m store.held image c
+        → StepsTo stage next (moment t (Some m) old c) (moment tables_now known new d)
         → After stage next
     by_stage (Mark level at) next is next_is holds_now steps = λ later known_is s same. stays steps.1 (scanned_lone level at is steps.0) later known_is s same
-    by_stage (Filter at) next is next_is holds_now steps = λ later known_is s same. stays steps.1 (recorded_lone at is (at_stage t.held c (Filter at) under is).0.0 steps.0) later known_is s same
+    by_stage (Filter at) next is next_is holds_now steps = λ later known_is s same. stays steps.1
+        (recorded_lone at is (at_stage t.held c (Filter at) under is).0.0 steps.0) later known_is s same
     by_stage Select next is next_is holds_now steps = λ later known_is s same. stays steps.1 (chosen_lone is steps.0) later known_is s same
     by_stage SweepStage (CopyNext source entry) is next_is holds_now steps = λ later known_is s same.
-        subst (λ (x : Store). IsLone index later held x.held d keys) (sym same) (copied_lone valid free tables_now is steps.1 source entry next_is holds_now.1 steps.0 later known_is)
+        subst (λ (x : Store). IsLone index later held x.held d keys) (sym same)
+        (copied_lone valid free tables_now is steps.1 source entry next_is holds_now.1 steps.0 later known_is)
     by_stage SweepStage (Flush source entry) is next_is holds_now steps = λ later known_is s flushing.
         subst (λ (x : Store). IsLone index later held x.held d (keys ++ keys_of c.sweep.buffer)) (sym flushing.now_is)
         (flushed_lone valid free tables_now is steps.sweeps source entry next_is steps later known_is flushing.id flushing.new)
@@ -433,7 +446,8 @@ module _ (index : PlaceMap) (held : List (Option HeaderValue)) (m : PlaceMap) (s
         subst (λ (x : Store). IsLone index later held x.held d keys) (sym freeing.now_is)
         (subst (λ (x : PlaceMap). IsLone index x held (without_slot (slot_in_turn c.sweep) store.held) d keys) (some_same m later (sym (steps.3 image content) ∙ known_is))
         (released_lone valid free tables_now is steps.1 source entry steps.0 s freeing))
-    by_stage SweepStage End is next_is holds_now steps = λ later known_is s same. stays steps.1 (subst (λ (x : Collection). IsLone index m held store.held x keys) (sym steps.0) was) later known_is s same
+    by_stage SweepStage End is next_is holds_now steps = λ later known_is s same. stays steps.1
+        (subst (λ (x : Collection). IsLone index m held store.held x keys) (sym steps.0) was) later known_is s same
 
     pub lone_step : HoldsAt c.stage m store.held image c → StepsTo c.stage c.sweep.next (moment t (Some m) old c) (moment tables_now known new d) → After c.stage c.sweep.next
     lone_step holds_now steps = by_stage c.stage c.sweep.next refl refl holds_now steps

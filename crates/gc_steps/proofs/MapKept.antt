@@ -20,4 +20,5 @@ map_kept places owned_from stay serves owns known t slot old new runs within ser
     let long : length given ≡ size_of slots = old.sized given content ∙ runs.valid.size_is in
     let owned : slot_at slots ≤ owned_from (length given) = subst (λ n. slot_at slots ≤ owned_from n) (sym long) (owns slots (subst serves runs.valid.size_is served)) in
     let many : length t.held.ids.items ≡ slots = slots_there old.size known t runs in
-    ap places after.1 ∙ stay given after.0 (record { size = after.2.size; after = λ p n above. after.2.after p n (omega (arith, above, owned, within, many)) }) ∙ ap places (sym content)
+    ap places after.1 ∙ stay given after.0 (record { size = after.2.size; after = λ p n above. after.2.after p n (omega (arith, above, owned, within, many)) })
+    ∙ ap places (sym content)

@@ -112,7 +112,8 @@ any_contained [] key = (λ none. absurd cc, λ none. absurd (contains_none key n
 any_contained (k ∷ ks) key =
     (λ is. (same_list k key ks).0 (to (eq_by_cmp (slice_cmp nat_cmp) key k) refl (any_contained ks key).0 is), λ is. back (any_contained ks key).1 ((same_list k key ks).1 is))
   where
-    to : (b : Bool) → eq_by_cmp (slice_cmp nat_cmp) key k ≡ b → (list_any (eq_by_cmp (slice_cmp nat_cmp) key) ks ≡ true → Contains ks key) → (b || list_any (eq_by_cmp (slice_cmp nat_cmp) key) ks) ≡ true
+    to : (b : Bool) → eq_by_cmp (slice_cmp nat_cmp) key k ≡ b → (list_any (eq_by_cmp (slice_cmp nat_cmp) key) ks ≡ true → Contains ks key)
+        → (b || list_any (eq_by_cmp (slice_cmp nat_cmp) key) ks) ≡ true
         → (key ≡ k) ⊎ Contains ks key
     to true same rest is = inl (sym ((bytes_eq-Decides k key).0 (sym (tied key k) ∙ same)))
     to false other rest is = inr (rest is)

@@ -38,7 +38,9 @@ first_as_many : (test : ℕ → Bool) (from count end : ℕ) → from + count �
 unfolding first_from count_from
 first_as_many test from zero end ends = tt
 first_as_many test from (suc count) end ends =
-    elim (test from) as (λ b. test from ≡ b → AsMany test end (if b then 1 + count_from test (from + 1) count else count_from test (from + 1) count) (if b then Some from else first_from test (from + 1) count)) [
+    elim (test from) as
+    (λ b. test from ≡ b
+    → AsMany test end (if b then 1 + count_from test (from + 1) count else count_from test (from + 1) count) (if b then Some from else first_from test (from + 1) count)) [
       | true ↦ λ passes.
           let left : end - from ≡ suc count = omega (arith, ends) in
           ap (count_from test from) left ∙ counted test from count passes
@@ -52,7 +54,8 @@ once_more n count = omega arith
 
 module _ (chosen : ℕ) (t : SlotTable) (c : Collection) where
   to_filter : (from : ℕ) → from ≤ length t.ids.items → steps_at chosen t c (filter_from c.snapshot t from) ≤ filter_steps chosen c.snapshot t from
-  to_filter from within = by_found (first_slot t (is_old_slot c.snapshot t) from) (first_as_many (is_old_slot c.snapshot t) from (length t.ids.items - from) (length t.ids.items) (omega (arith, within)))
+  to_filter from within = by_found (first_slot t (is_old_slot c.snapshot t) from)
+      (first_as_many (is_old_slot c.snapshot t) from (length t.ids.items - from) (length t.ids.items) (omega (arith, within)))
     where
       by_found : (found : Option ℕ) → AsMany (is_old_slot c.snapshot t) (length t.ids.items) (old_from c.snapshot t from) found
           → steps_at chosen t c (filter_at found) ≤ filter_steps chosen c.snapshot t from
@@ -61,7 +64,8 @@ module _ (chosen : ℕ) (t : SlotTable) (c : Collection) where
 
   to_level : (level : ℕ) → steps_at chosen t c (mark_level c.snapshot t level) ≤ level * trees_from c.snapshot t 0 + filter_steps chosen c.snapshot t 0
   to_level zero = omega (arith, to_filter 0 (omega arith))
-  to_level (suc level) = by_found (first_slot t (is_tree_slot c.snapshot t) 0) (first_as_many (is_tree_slot c.snapshot t) 0 (length t.ids.items - 0) (length t.ids.items) (omega arith))
+  to_level (suc level) = by_found (first_slot t (is_tree_slot c.snapshot t) 0)
+      (first_as_many (is_tree_slot c.snapshot t) 0 (length t.ids.items - 0) (length t.ids.items) (omega arith))
     where
       by_found : (found : Option ℕ) → AsMany (is_tree_slot c.snapshot t) (length t.ids.items) (trees_from c.snapshot t 0) found
           → steps_at chosen t c (mark_at c.snapshot t (suc level) found) ≤ suc level * trees_from c.snapshot t 0 + filter_steps chosen c.snapshot t 0
@@ -72,7 +76,8 @@ module _ (chosen : ℕ) (t : SlotTable) (c : Collection) where
 
   to_mark : (level from : ℕ) → from ≤ length t.ids.items
       → steps_at chosen t c (mark_from c.snapshot t level from) ≤ trees_from c.snapshot t from + (level - 1) * trees_from c.snapshot t 0 + filter_steps chosen c.snapshot t 0
-  to_mark level from within = by_found (first_slot t (is_tree_slot c.snapshot t) from) (first_as_many (is_tree_slot c.snapshot t) from (length t.ids.items - from) (length t.ids.items) (omega (arith, within)))
+  to_mark level from within = by_found (first_slot t (is_tree_slot c.snapshot t) from)
+      (first_as_many (is_tree_slot c.snapshot t) from (length t.ids.items - from) (length t.ids.items) (omega (arith, within)))
     where
       by_found : (found : Option ℕ) → AsMany (is_tree_slot c.snapshot t) (length t.ids.items) (trees_from c.snapshot t from) found
           → steps_at chosen t c (mark_on c.snapshot t level found) ≤ trees_from c.snapshot t from + (level - 1) * trees_from c.snapshot t 0 + filter_steps chosen c.snapshot t 0
@@ -83,25 +88,30 @@ module _ (chosen : ℕ) (t : SlotTable) (c : Collection) where
 
 module _ (chosen : ℕ) (t now : SlotTable) (c after : Collection) (under : IsUnderWay t c) where
   -- by the stage, and by what the collection is then
-  fewer : (stage : Stage) (new : Collection) → c.stage ≡ stage → after ≡ new → steps_to_come chosen now new < steps_at chosen t c stage → steps_to_come chosen now after < steps_to_come chosen t c
+  fewer : (stage : Stage) (new : Collection) → c.stage ≡ stage → after ≡ new → steps_to_come chosen now new < steps_at chosen t c stage
+      → steps_to_come chosen now after < steps_to_come chosen t c
   fewer stage new at is less =
-      subst (λ (x : Collection). steps_to_come chosen now x < steps_to_come chosen t c) (sym is) (subst (λ (s : Stage). steps_to_come chosen now new < steps_at chosen t c s) (sym at) less)
+      subst (λ (x : Collection). steps_to_come chosen now x < steps_to_come chosen t c) (sym is)
+      (subst (λ (s : Stage). steps_to_come chosen now new < steps_at chosen t c s) (sym at) less)
 
   -- the sweep goes on
-  pub fewer_to_sweep : c.stage ≡ Sweep → after ≡ record c { sweep = after.sweep } → steps_left after.sweep < steps_left c.sweep → steps_to_come chosen now after < steps_to_come chosen t c
+  pub fewer_to_sweep : c.stage ≡ Sweep → after ≡ record c { sweep = after.sweep } → steps_left after.sweep < steps_left c.sweep
+      → steps_to_come chosen now after < steps_to_come chosen t c
   fewer_to_sweep at is less =
       let next : Collection = record c { sweep = after.sweep } in
       fewer Sweep next at is (subst (λ (s : Stage). steps_at chosen now next s < steps_left c.sweep) (sym at) less)
 
 module _ (chosen : ℕ) (t : SlotTable) (c after : Collection) (under : IsUnderWay t c) where
-  pub fewer_to_mark : (level slot : ℕ) (known : Option PlaceMap) (old new : DiskView) → c.stage ≡ Mark level slot → Scans t known old new level slot c after → steps_to_come chosen t after < steps_to_come chosen t c
+  pub fewer_to_mark : (level slot : ℕ) (known : Option PlaceMap) (old new : DiskView) → c.stage ≡ Mark level slot → Scans t known old new level slot c after
+      → steps_to_come chosen t after < steps_to_come chosen t c
   fewer_to_mark level slot known old new at scans =
       let was = at_stage t c (Mark level slot) under at in
       let next : Collection = record c { live = after.live; stage = mark_from c.snapshot t level (slot + 1) } in
       fewer chosen t t c after under (Mark level slot) next at scans.collection_is
       (omega (arith, to_mark chosen t next level (slot + 1) (omega (arith, was.2.0)), one_fewer (is_tree_slot c.snapshot t) (length t.ids.items) slot was.2.0 was.2.1))
 
-  pub fewer_to_record : (slot : ℕ) (known : Option PlaceMap) (old new : DiskView) → c.stage ≡ Filter slot → Records t known old new slot c after → steps_to_come chosen t after < steps_to_come chosen t c
+  pub fewer_to_record : (slot : ℕ) (known : Option PlaceMap) (old new : DiskView) → c.stage ≡ Filter slot → Records t known old new slot c after
+      → steps_to_come chosen t after < steps_to_come chosen t c
   fewer_to_record slot known old new at records =
       let was = at_stage t c (Filter slot) under at in
       let next : Collection = record c { liveness = c.liveness ++ recorded t slot records.live ∷ []; stage = filter_from c.snapshot t (slot + 1) } in

@@ -51,7 +51,8 @@ module _ (held : List (Option HeaderValue)) (image : List ℕ) (P : List ℕ →
         closed n holds.0.copy (record { right = right.0; copy_is = holds.0.copy_is; bytes_are = holds.0.bytes_are }) top in
         first_or (contains_first (node_key n) key (keys_below ts) has) top (closed_trees level ts right.1 holds.1 below)
       where
-        first_or : (key ≡ node_key (contents_of level ts)) ⊎ Contains (keys_below ts) key → P (node_key (contents_of level ts)) → ((k : List ℕ) → Contains (keys_below ts) k → P k) → P key
+        first_or : (key ≡ node_key (contents_of level ts)) ⊎ Contains (keys_below ts) key → P (node_key (contents_of level ts)) → ((k : List ℕ) → Contains (keys_below ts) k → P k)
+            → P key
         first_or (inl same) top rest = subst P (sym same) top
         first_or (inr there) top rest = rest key there
 
@@ -60,7 +61,8 @@ module _ (held : List (Option HeaderValue)) (image : List ℕ) (P : List ℕ →
     closed_trees level tree.NoTree below holds all key has = absurd (contains_none key has)
     closed_trees level (tree.Then t ts) below holds all key has =
         either (Contains-append_cases (tree_keys t) (keys_below ts) key has)
-        (closed_tree t (child_key level (child_of of_segment t)) below.1 holds.0 (child_root level t below.0 below.1) (all 0 (child_key level (child_of of_segment t)) (omega arith)))
+        (closed_tree t (child_key level (child_of of_segment t)) below.1 holds.0 (child_root level t below.0 below.1)
+        (all 0 (child_key level (child_of of_segment t)) (omega arith)))
         (closed_trees level ts below.2 holds.1 (λ k d within. all (suc k) d (omega (arith, within))))
       where
         either : Contains (tree_keys t) key ⊎ Contains (keys_below ts) key → AllKeys P t → ((k : List ℕ) → Contains (keys_below ts) k → P k) → P key

@@ -50,7 +50,8 @@ pub record HasRootOf (root : Root) (t : Tree (List ℕ)) : Type 0 where
   pub has : HasRootKey root (root_key root)
   pub root_is : IsRootOf (root_key root) t
 
-pub has_root : (t : Tree (List ℕ)) (root : Root) (key : List ℕ) → AllByRecursion IsTree (trees_in t) → top_of root ≡ tree.root_of of_segment t → Contains (tree_keys t) key → HasRootOf root t
+pub has_root : (t : Tree (List ℕ)) (root : Root) (key : List ℕ) → AllByRecursion IsTree (trees_in t) → top_of root ≡ tree.root_of of_segment t → Contains (tree_keys t) key
+    → HasRootOf root t
 has_root tree.Empty root key right top there = absurd (contains_none key there)
 has_root (tree.Leaf segment) root key right top there = record {
   right = right.0;
@@ -88,7 +89,8 @@ module _ (index : PlaceMap) (store : Store) (files : Files) (parts : List Part) 
 
   -- of a key that is needed
   pub needed_has : (key : List ℕ) → IsNeeded store parts image key → P key
-  needed_has key needed = closed_tree store.held image P closed needed.tree needed.root needed.right needed.is_held needed.root_is (roots needed.root needed.is_root) key needed.within
+  needed_has key needed = closed_tree store.held image P closed needed.tree needed.root needed.right needed.is_held needed.root_is
+      (roots needed.root needed.is_root) key needed.within
 
   -- of one that a file needs
   pub reachable_has : (key : List ℕ) → IsReachable files key → P key

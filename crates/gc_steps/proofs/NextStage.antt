@@ -66,7 +66,8 @@ module _ (t : SlotTable) (snapshot level slot : ℕ) where
     ]
 
 -- Once the container of a slot was scanned for a level, a node that was passed had been passed before, or is of that level in that slot.
-module _ (held : List (Option HeaderValue)) (image : List ℕ) (t : SlotTable) (holds : HoldSlots 0 held image) (slots : RepresentsSlots held t) (level slot : ℕ) (before after : Collection)
+module _ (held : List (Option HeaderValue)) (image : List ℕ) (t : SlotTable) (holds : HoldSlots 0 held image) (slots : RepresentsSlots held t) (level slot : ℕ)
+    (before after : Collection)
     (was : before.stage ≡ Mark level slot) (now : after.stage ≡ mark_from before.snapshot t level (slot + 1)) (same : after.snapshot ≡ before.snapshot) where
   up_to : (l at : ℕ) → (level < l) ⊎ ((l ≡ level) × (at ≤ slot)) → WasScanned (Mark level slot) l at ⊎ ((l ≡ level) × (at ≡ slot))
   up_to l at (inl above) = inl (inl above)

@@ -140,7 +140,8 @@ tree_kind : (kind : Kind) (level : ℕ) → 1 ≤ level → is_level kind level 
 tree_kind Leaf level some is = let zero_level : level ≡ 0 = eqb-true level 0 is in absurd (omega (arith, some, zero_level))
 tree_kind Tree level some is = refl
 
-module _ (index : PlaceMap) (store : Store) (files : Files) (image : List ℕ) (holds : IsStoreOf store files image) (partial : IsPartialIndexOf store.held index) (old new : DiskView)
+module _ (index : PlaceMap) (store : Store) (files : Files) (image : List ℕ) (holds : IsStoreOf store files image) (partial : IsPartialIndexOf store.held index)
+    (old new : DiskView)
     (content : old.content ≡ Some image) where
   map_known : {A : Type 0} → Some index ≡ None → A
   map_known none = absurd cc
@@ -162,7 +163,8 @@ module _ (index : PlaceMap) (store : Store) (files : Files) (image : List ℕ) (
   header_same t slot why slots has (inr other) =
       never_other store.held t slot has.header image old new why slots has.there (slot_held slot store.held (Some has.header) image holds.right.slots_are has.there) content other
 
-  header_clean : (t : SlotTable) (slot : ℕ) (refusal : Refusal) → RepresentsSlots store.held t → HasHeader store.held slot → IsHeaderRefusal t old new slot refusal → IsClean refusal
+  header_clean : (t : SlotTable) (slot : ℕ) (refusal : Refusal) → RepresentsSlots store.held t → HasHeader store.held slot → IsHeaderRefusal t old new slot refusal
+      → IsClean refusal
   header_clean t slot (Corrupt at offset count want got) slots has is = is
   header_clean t slot (Missing key) slots has is = is
   header_clean t slot (Damaged at why) slots has is = header_same t slot why slots has is.1
@@ -170,7 +172,8 @@ module _ (index : PlaceMap) (store : Store) (files : Files) (image : List ℕ) (
   header_clean t slot refusal slots has is = tt
 
   -- so a container is recorded
-  record_clean : (t : SlotTable) (slot : ℕ) (refusal : Refusal) → RepresentsSlots store.held t → HasHeader store.held slot → IsRecordRefusal t (Some index) old new slot refusal → IsClean refusal
+  record_clean : (t : SlotTable) (slot : ℕ) (refusal : Refusal) → RepresentsSlots store.held t → HasHeader store.held slot → IsRecordRefusal t (Some index) old new slot refusal
+      → IsClean refusal
   record_clean t slot (Corrupt at offset count want got) slots has is = is
   record_clean t slot (Missing key) slots has is = is
   record_clean t slot (Damaged at why) slots has (inl header) = header_same t slot why slots has header.1
@@ -206,8 +209,10 @@ module _ (index : PlaceMap) (store : Store) (files : Files) (image : List ℕ) (
         ap (λ (p : Place). bytes_at p image) found.2 ∙ shown_content old new (λ (i : List ℕ). bytes_at (place_of slot e) i ≡ bad.bytes) image bad.shown content in
         faultless level bad.bytes why (subst (IsNodeOf level) read (subst (λ (l : ℕ). IsNodeOf l (bytes_at found.0.place image)) level_is so.so)) bad.wrong_is
 
-  module _ (parts : List Part) (t : Tables) (level slot : ℕ) (before : Collection) (represents : Represents store (Some index) t) (closed : MarksAreClosed index store parts image before) (some : 1 ≤ level) where
-    fault_clean : (h : HeaderValue) (fault : ScanFault) → IsHeader h → IsTabled t.held slot h → Shows old new (λ i. HoldsSlot i slot (Some h)) → IsEntriesFault (Some index) old new slot level h before.live fault
+  module _ (parts : List Part) (t : Tables) (level slot : ℕ) (before : Collection) (represents : Represents store (Some index) t)
+      (closed : MarksAreClosed index store parts image before) (some : 1 ≤ level) where
+    fault_clean : (h : HeaderValue) (fault : ScanFault) → IsHeader h → IsTabled t.held slot h → Shows old new (λ i. HoldsSlot i slot (Some h))
+        → IsEntriesFault (Some index) old new slot level h before.live fault
         → IsClean (step_refusal fault)
     fault_clean h faults.Memory right tabled shown cause = tt
     fault_clean h faults.DiskRead right tabled shown cause = tt
@@ -259,7 +264,8 @@ module _ (index : PlaceMap) (store : Store) (files : Files) (image : List ℕ) (
 
 -- The next step of a collection that is under way finds no damage, neither of a header, nor of a node, nor of a copy, nor of the index, and misses
 -- no key.
-pub no_damage : (index : PlaceMap) (store : Store) (files : Files) (parts : List Part) (image : List ℕ) (t : Tables) (old new : DiskView) (c : Collection) (refusal : Refusal) → IsStoreOf store files image
+pub no_damage : (index : PlaceMap) (store : Store) (files : Files) (parts : List Part) (image : List ℕ) (t : Tables) (old new : DiskView) (c : Collection) (refusal : Refusal)
+    → IsStoreOf store files image
     → Represents store (Some index) t → old.content ≡ Some image → IsUnderWay t.held c → IsMarked index store parts image c c.stage
     → IsStepRefusal c.stage c.sweep.next (moment t (Some index) old c) new refusal → IsClean refusal
 no_damage index store files parts image t old new c refusal holds represents content under closed is =

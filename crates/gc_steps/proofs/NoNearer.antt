@@ -53,7 +53,8 @@ module _ (t now : SlotTable) (snapshot slot id : ℕ) (count : SlotCount) (close
 
   is_new : (n : ℕ) → n ≡ slot → is_old_slot snapshot now n ≡ false
   is_new n is =
-      ap (λ (k : ℕ). is_old snapshot (get_or now.ids.items k 0)) is ∙ ap (λ (ids : List ℕ). is_old snapshot (get_or ids slot 0)) ids_are ∙ ap (is_old snapshot) (get_set t.ids.items slot id within)
+      ap (λ (k : ℕ). is_old snapshot (get_or now.ids.items k 0)) is ∙ ap (λ (ids : List ℕ). is_old snapshot (get_or ids slot 0)) ids_are
+      ∙ ap (is_old snapshot) (get_set t.ids.items slot id within)
       ∙ second_false (not (id == 0)) (nat_lt id snapshot) (not_below id snapshot above)
 
   id_same : (n : ℕ) → n ≢ slot → get_or now.ids.items n 0 ≡ get_or t.ids.items n 0
@@ -83,21 +84,27 @@ module _ (t now : SlotTable) (snapshot slot id : ℕ) (count : SlotCount) (close
   many : length now.ids.items ≡ length t.ids.items
   many = ap length ids_are ∙ length-set t.ids.items slot id
 
-  count_on : (now_test test : ℕ → Bool) → ((n : ℕ) → now_test n ≡ test n) → (from : ℕ) → count_from now_test from (length now.ids.items - from) ≡ count_from test from (length t.ids.items - from)
+  count_on : (now_test test : ℕ → Bool) → ((n : ℕ) → now_test n ≡ test n) → (from : ℕ)
+      → count_from now_test from (length now.ids.items - from) ≡ count_from test from (length t.ids.items - from)
   count_on now_test test same from = ap (λ (n : ℕ). count_from now_test from (n - from)) many ∙ count_same now_test test same from (length t.ids.items - from)
 
   pub old_from_same : (from : ℕ) → old_from snapshot now from ≡ old_from snapshot t from
   old_from_same from = count_on (is_old_slot snapshot now) (is_old_slot snapshot t) old_same from
 
   pub steps_same : (chosen : ℕ) (c : Collection) → c.snapshot ≡ snapshot → (stage : Stage) → steps_at chosen now c stage ≡ steps_at chosen t c stage
-  steps_same chosen c at (Mark level other) = subst (λ (s : ℕ). (let d : Collection = record c { snapshot = s } in steps_at chosen now d (Mark level other) ≡ steps_at chosen t d (Mark level other))) (sym at) (
+  steps_same chosen c at (Mark level other) = subst
+      (λ (s : ℕ). (let d : Collection = record c { snapshot = s } in steps_at chosen now d (Mark level other) ≡ steps_at chosen t d (Mark level other))) (sym at) (
       let old = count_on (is_old_slot snapshot now) (is_old_slot snapshot t) old_same 0 in
       let tree = count_on (is_tree_slot snapshot now) (is_tree_slot snapshot t) tree_same in
-      ap (λ (n : ℕ). n + (level - 1) * count_from (is_tree_slot snapshot now) 0 (length now.ids.items - 0) + (count_from (is_old_slot snapshot now) 0 (length now.ids.items - 0) + 1 + 4 * chosen)) (tree other)
-      ∙ ap (λ (n : ℕ). count_from (is_tree_slot snapshot t) other (length t.ids.items - other) + (level - 1) * n + (count_from (is_old_slot snapshot now) 0 (length now.ids.items - 0) + 1 + 4 * chosen)) (tree 0)
-      ∙ ap (λ (n : ℕ). count_from (is_tree_slot snapshot t) other (length t.ids.items - other) + (level - 1) * count_from (is_tree_slot snapshot t) 0 (length t.ids.items - 0) + (n + 1 + 4 * chosen)) old
+      ap (λ (n : ℕ). n + (level - 1) * count_from (is_tree_slot snapshot now) 0 (length now.ids.items - 0) +
+      (count_from (is_old_slot snapshot now) 0 (length now.ids.items - 0) + 1 + 4 * chosen)) (tree other)
+      ∙ ap (λ (n : ℕ). count_from (is_tree_slot snapshot t) other (length t.ids.items - other) + (level - 1) * n +
+      (count_from (is_old_slot snapshot now) 0 (length now.ids.items - 0) + 1 + 4 * chosen)) (tree 0)
+      ∙ ap (λ (n : ℕ). count_from (is_tree_slot snapshot t) other (length t.ids.items - other) + (level - 1) * count_from (is_tree_slot snapshot t) 0 (length t.ids.items - 0) +
+      (n + 1 + 4 * chosen)) old
       )
-  steps_same chosen c at (Filter other) = subst (λ (s : ℕ). (let d : Collection = record c { snapshot = s } in steps_at chosen now d (Filter other) ≡ steps_at chosen t d (Filter other))) (sym at)
+  steps_same chosen c at (Filter other) = subst
+      (λ (s : ℕ). (let d : Collection = record c { snapshot = s } in steps_at chosen now d (Filter other) ≡ steps_at chosen t d (Filter other))) (sym at)
       (ap (λ (n : ℕ). n + 1 + 4 * chosen) (count_on (is_old_slot snapshot now) (is_old_slot snapshot t) old_same other))
   steps_same chosen c at Select = refl
   steps_same chosen c at Sweep = refl
@@ -111,7 +118,8 @@ pub as_many : (held : List (Option HeaderValue)) (t now : SlotTable) (c : Collec
     → RepresentsSlots (with_slot slot h held) now → t.last_id < h.id → IsUnderWay t c → steps_to_come chosen now c ≡ steps_to_come chosen t c
 as_many held t now c slot h chosen free was is next under =
     steps_same t now c.snapshot slot h.id (count_of (Some h)) (ap (λ (ids : List ℕ). get_or ids slot 0) was.ids_are ∙ closed_slot held slot free.closed)
-    (omega (arith, free.within, ap length was.ids_are, many_ids held)) (omega (arith, under.began, next)) (is.ids_are ∙ ids_with slot h held ∙ ap (λ (ids : List ℕ). set ids slot h.id) (sym was.ids_are))
+    (omega (arith, free.within, ap length was.ids_are, many_ids held)) (omega (arith, under.began, next))
+    (is.ids_are ∙ ids_with slot h held ∙ ap (λ (ids : List ℕ). set ids slot h.id) (sym was.ids_are))
     (is.counts_are ∙ counts_with slot h held ∙ ap (λ (counts : List SlotCount). set counts slot (count_of (Some h))) (sym was.counts_are)) chosen c refl c.stage
 
 -- and there are as many containers that were there when the collection began
@@ -119,5 +127,6 @@ pub old_many : (held : List (Option HeaderValue)) (t now : SlotTable) (c : Colle
     → RepresentsSlots (with_slot slot h held) now → t.last_id < h.id → IsUnderWay t c → (from : ℕ) → old_from c.snapshot now from ≡ old_from c.snapshot t from
 old_many held t now c slot h free was is next under from =
     old_from_same t now c.snapshot slot h.id (count_of (Some h)) (ap (λ (ids : List ℕ). get_or ids slot 0) was.ids_are ∙ closed_slot held slot free.closed)
-    (omega (arith, free.within, ap length was.ids_are, many_ids held)) (omega (arith, under.began, next)) (is.ids_are ∙ ids_with slot h held ∙ ap (λ (ids : List ℕ). set ids slot h.id) (sym was.ids_are))
+    (omega (arith, free.within, ap length was.ids_are, many_ids held)) (omega (arith, under.began, next))
+    (is.ids_are ∙ ids_with slot h held ∙ ap (λ (ids : List ℕ). set ids slot h.id) (sym was.ids_are))
     (is.counts_are ∙ counts_with slot h held ∙ ap (λ (counts : List SlotCount). set counts slot (count_of (Some h))) (sym was.counts_are)) from

@@ -39,7 +39,8 @@ between xs x ys = Contains-append_right xs (x ∷ ys) x (0, omega arith, refl)
 module _ (index : PlaceMap) (store : Store) (files : Files) (parts : List Part) (image : List ℕ) (holds : IsStoreOf store files image) (partial : IsPartialIndexOf store.held index)
     (old new : DiskView) (content : old.content ≡ Some image) (level slot : ℕ) (before : Collection) (closed : MarksAreClosed index store parts image before) where
   -- the tree of each child of a node whose tree is held whole is held whole
-  child_whole : (n : Contents) (key : List ℕ) → All (IsWholeBelow index store.held image n.level) (child_keys n) → ComesTo (Some index) n key → IsWholeBelow index store.held image n.level key
+  child_whole : (n : Contents) (key : List ℕ) → All (IsWholeBelow index store.held image n.level) (child_keys n) → ComesTo (Some index) n key
+      → IsWholeBelow index store.held image n.level key
   child_whole n key all comes =
       All-contains (IsWholeBelow index store.held image n.level) (child_keys n) key all
       (subst (λ (keys : List (List ℕ)). Contains keys key) (sym comes.keys_are) (between (keys_of comes.before) key comes.after))
@@ -68,11 +69,13 @@ module _ (index : PlaceMap) (store : Store) (files : Files) (parts : List Part) 
       none_lacked stuck.cause.0 key (scanned_whole h stuck.at stuck.cause.0 right within stuck.cause.1.0 stuck.cause.1.1) stuck.cause.1.2
 
   -- no scan is refused by a child that the index has at another level
-  pub not_misplaced : (h : HeaderValue) (e : Entry) (n : Contents) (at : ℕ) (why : Why) → IsHeader h → Contains h.entries e → IsToScan (scan_for (Some index) before.live slot level h) e
+  pub not_misplaced : (h : HeaderValue) (e : Entry) (n : Contents) (at : ℕ) (why : Why) → IsHeader h → Contains h.entries e
+      → IsToScan (scan_for (Some index) before.live slot level h) e
       → IsNodeOf (record { slot = slot; kind = h.kind; level = level }) (ShowsAt old new) e n → MisplacesChild (Some index) n at why → ⊥
   not_misplaced h e n at why right within to_scan node wrong = none_misplaced n at why (scanned_whole h e n right within to_scan node) wrong
 
-  not_stopped : (key : List ℕ) (h : HeaderValue) (fault : ScanFault) → Missing key ≡ step_refusal fault → IsHeader h → IsEntriesFault (Some index) old new slot level h before.live fault → ⊥
+  not_stopped : (key : List ℕ) (h : HeaderValue) (fault : ScanFault) → Missing key ≡ step_refusal fault → IsHeader h
+      → IsEntriesFault (Some index) old new slot level h before.live fault → ⊥
   not_stopped key h faults.Memory is right cause = absurd cc
   not_stopped key h faults.DiskRead is right cause = absurd cc
   not_stopped key h (faults.Damaged at why) is right cause = absurd cc
@@ -85,7 +88,8 @@ module _ (index : PlaceMap) (store : Store) (files : Files) (parts : List Part) 
   none_missing t key (inr stops) = not_stopped key stops.header stops.fault stops.refusal_is stops.right stops.cause
 
 -- No scan is refused by `Missing`, by what `mark_container` says, on a disk whose content stands for the files by the store.
-pub never_missing : (index : PlaceMap) (store : Store) (files : Files) (parts : List Part) (image : List ℕ) (t : Tables) (old new : DiskView) (level slot : ℕ) (before : Collection) (key : List ℕ)
+pub never_missing : (index : PlaceMap) (store : Store) (files : Files) (parts : List Part) (image : List ℕ) (t : Tables) (old new : DiskView) (level slot : ℕ)
+    (before : Collection) (key : List ℕ)
     → IsStoreOf store files image → Represents store (Some index) t → old.content ≡ Some image → MarksAreClosed index store parts image before
     → IsMarkRefusal t.held (Some index) old new level slot before.live (Missing key) → ⊥
 never_missing index store files parts image t old new level slot before key holds represents content closed =

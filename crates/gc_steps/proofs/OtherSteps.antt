@@ -33,9 +33,11 @@ module _ (index : PlaceMap) (store : Store) (old new : List ℕ) (parts : List P
   kept keeps = fewer_roots index store store old new parts parts c refl keeps (λ key root. root)
 
   -- A cell is made for a record.
-  pub cell_made : Follow 0 finite.empty store.records → KeepsCopies (HasKey index) store old (with_cell store) new → KeepsBoth index index store (with_cell store) parts parts old new c c
+  pub cell_made : Follow 0 finite.empty store.records → KeepsCopies (HasKey index) store old (with_cell store) new
+      → KeepsBoth index index store (with_cell store) parts parts old new c c
   cell_made follow keeps =
-      fewer_roots index store (with_cell store) old new parts parts c refl keeps (λ key root. subst (λ (names : NameMap). IsRoot names parts key) (names_with_cell store follow) root)
+      fewer_roots index store (with_cell store) old new parts parts c refl keeps
+      (λ key root. subst (λ (names : NameMap). IsRoot names parts key) (names_with_cell store follow) root)
 
 -- ---- a name changes
 
@@ -44,7 +46,8 @@ module _ (index : PlaceMap) (store : Store) (old new : List ℕ) (parts : List P
   pub deleted : KeepsCopies (HasKey index) store old (with_change name Delete store) new → KeepsBoth index index store (with_change name Delete store) parts parts old new c c
   deleted keeps =
       fewer_roots index store (with_change name Delete store) old new parts parts c refl keeps
-      (λ key root. deleted_root (suc (last_sequence store)) name (names_of store) parts key (subst (λ (names : NameMap). IsRoot names parts key) (names_after_change name Delete store follow) root))
+      (λ key root. deleted_root (suc (last_sequence store)) name (names_of store) parts key
+      (subst (λ (names : NameMap). IsRoot names parts key) (names_after_change name Delete store follow) root))
 
   -- It is given the root of the file that an actor stored.
   pub committed : (root : Root) (actor : ℕ) (pins : PinMap) → actor < ACTORS → part_of parts actor ≡ Writing pins

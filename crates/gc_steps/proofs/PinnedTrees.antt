@@ -98,7 +98,8 @@ module _ (index : PlaceMap) (store : Store) (files : Files) (image : List ℕ) (
       so.level_is ∙ eqb-true so.entry.level 0 so.so
 
   -- of data it is a leaf
-  data_tree : (s : Segment) (key : List ℕ) (pin : Pin) → segment_key Leaf s ≡ key → pin_by Leaf s ≡ pin → HasNewest store.held key s.level s.bytes image → HasKey index key → HasTree key pin
+  data_tree : (s : Segment) (key : List ℕ) (pin : Pin) → segment_key Leaf s ≡ key → pin_by Leaf s ≡ pin → HasNewest store.held key s.level s.bytes image → HasKey index key
+      → HasTree key pin
   data_tree s key pin key_is pin_is has counts =
       let here : newest 0 store.held (leaf_key s.bytes) ≡ Some has.copy = ap (newest 0 store.held) key_is ∙ has.copy_is in
       let within = copy_within store key has.copy (headers_of_right image store holds.right) has.copy_is in
@@ -118,11 +119,13 @@ module _ (index : PlaceMap) (store : Store) (files : Files) (image : List ℕ) (
       }
 
   -- of a node it is that node over the trees of its children
-  node_tree : (s : Segment) (key : List ℕ) (pin : Pin) → segment_key Tree s ≡ key → pin_by Tree s ≡ pin → IsNodeSegment s → HasNewest store.held key s.level s.bytes image → HasKey index key
+  node_tree : (s : Segment) (key : List ℕ) (pin : Pin) → segment_key Tree s ≡ key → pin_by Tree s ≡ pin → IsNodeSegment s → HasNewest store.held key s.level s.bytes image
+      → HasKey index key
       → HasTrees index store.held image s.level (contents_in s.bytes).children → HasTree key pin
   node_tree s key pin key_is pin_is right has counts below =
       let n : Contents = contents_of s.level below.trees in
-      let same : n ≡ contents_in s.bytes = same_contents s.level (contents_in s.bytes).level (children_of of_segment below.trees) (contents_in s.bytes).children right.level below.children_are in
+      let same : n ≡ contents_in s.bytes = same_contents s.level (contents_in s.bytes).level (children_of of_segment below.trees)
+      (contents_in s.bytes).children right.level below.children_are in
       let spelled : s.bytes ≡ spelling n = right.bytes.spelled ∙ ap spelling (sym same) in
       let top : key ≡ node_key n = sym key_is ∙ ap (λ (bytes : List ℕ). key_of 1 (sha256 bytes)) spelled in
       record {
@@ -181,14 +184,17 @@ module _ (index : PlaceMap) (store : Store) (files : Files) (image : List ℕ) (
   pinned_tree zero key pin level is =
       of_kind zero (λ k p lower below. absurd (omega (arith, lower))) is.segment.kind is.segment.segment key pin level is.key_is is.pin_is is.right is.newest is.children is.counts
   pinned_tree (suc n) key pin level is =
-      of_kind (suc n) (λ k p lower below. pinned_tree n k p (omega (arith, lower)) below) is.segment.kind is.segment.segment key pin level is.key_is is.pin_is is.right is.newest is.children is.counts
+      of_kind (suc n)
+      (λ k p lower below. pinned_tree n k p
+      (omega (arith, lower)) below) is.segment.kind is.segment.segment key pin level is.key_is is.pin_is is.right is.newest is.children is.counts
 
   -- What an actor has pinned is held whole.
   pub pinned_whole : (key : List ℕ) (pin : Pin) → finite.get pins key ≡ Some pin → IsWhole index store.held image key
   pinned_whole key pin found = (pinned_tree pin.level key pin refl (all key pin found)).is_whole
 
   -- The index has it at the level that is said of it.
-  pub pinned_level : IsPartialIndexOf store.held index → (key : List ℕ) (pin : Pin) → finite.get pins key ≡ Some pin → (place : Place) → finite.get index key ≡ Some place → place.level ≡ pin.level
+  pub pinned_level : IsPartialIndexOf store.held index → (key : List ℕ) (pin : Pin) → finite.get pins key ≡ Some pin → (place : Place) → finite.get index key ≡ Some place
+      → place.level ≡ pin.level
   pinned_level partial key pin found place there =
       let has = pinned_tree pin.level key pin refl (all key pin found) in
       whole_level index store image partial key has.is_whole place there ∙ has.level_is

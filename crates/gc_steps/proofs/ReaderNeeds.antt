@@ -32,7 +32,8 @@ some_total level [] some all = absurd (omega (arith, some))
 some_total level (c ∷ cs) some all = omega (arith, all.0.some, sum_by-cons (λ (x : Child). x.length) c cs)
 
 -- a tree that has a key isn't empty, and is that of its root's key
-pub tree_root : (t : Tree (List ℕ)) (root : Root) (key : List ℕ) → AllByRecursion IsTree (trees_in t) → record { length = root.length; level = root.level; digest = root.digest } ≡ tree.root_of of_segment t → Contains (tree_keys t) key
+pub tree_root : (t : Tree (List ℕ)) (root : Root) (key : List ℕ) → AllByRecursion IsTree (trees_in t)
+    → record { length = root.length; level = root.level; digest = root.digest } ≡ tree.root_of of_segment t → Contains (tree_keys t) key
     → HasRootKey root (root_key root) × IsRootOf (root_key root) t × IsTree t
 tree_root tree.Empty root key right top there = absurd (contains_none key there)
 tree_root (tree.Leaf segment) root key right top there = ((λ none. omega (arith, right.0, ap (λ (x : Top). x.length) top, none), refl), ap top_key top, right.0)
@@ -45,7 +46,8 @@ tree_root (tree.Node level ts) root key right top there =
     )
 
 -- Where the file that an actor takes has a key, it has a root, and its tree is that of the root's key, keeps the rules, and is held.
-pub reader_needs : (P : List ℕ → Type 0) (held : List (Option HeaderValue)) (image : List ℕ) (reader : Reader) (rest : HoldsRest P held image reader) (key : List ℕ) → Contains (tree_keys rest.whole) key
+pub reader_needs : (P : List ℕ → Type 0) (held : List (Option HeaderValue)) (image : List ℕ) (reader : Reader) (rest : HoldsRest P held image reader) (key : List ℕ)
+    → Contains (tree_keys rest.whole) key
     → HasRootKey reader.root (root_key reader.root) × IsRootOf (root_key reader.root) rest.whole × IsTree rest.whole × HoldsTree held image rest.whole
 reader_needs P held image reader rest key there =
     let root = tree_root rest.whole reader.root key rest.right rest.top_is there in

@@ -32,7 +32,8 @@ pub record IsOfSlot (index : PlaceMap) (live : LiveKeys) (held : List (Option He
   pub all_is : r.all ≡ bytes_of header.entries
   pub sums : SumsLive index live header.kind slot header.entries r.live
 
-module _ (m : PlaceMap) (store : Store) (files : Files) (image : List ℕ) (t : Tables) (old new : DiskView) (c d : Collection) (holds : IsStoreOf store files image) (represents : Represents store (Some m) t)
+module _ (m : PlaceMap) (store : Store) (files : Files) (image : List ℕ) (t : Tables) (old new : DiskView) (c d : Collection) (holds : IsStoreOf store files image)
+    (represents : Represents store (Some m) t)
     (content : old.content ≡ Some image) (at : ℕ) (within : at < length t.held.ids.items) (records : Records t.held (Some m) old new at c d) where
   abbrev slots : RepresentsSlots store.held t.held
   slots = represents.slots_hold

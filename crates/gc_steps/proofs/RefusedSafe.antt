@@ -41,7 +41,8 @@ use Rattle.gc_steps.proofs.ScanKeeps.{refusal_keeps}
 use Rattle.gc_steps.proofs.StepSafe.{changed_keeps, changed_stands, core_kept, read_keeps, read_stands, store_of}
 
 -- The map of the index stays, and the store; and what the content has the newest copies of.
-pub record StaysSafe (index : PlaceMap) (store : Store) (files : Files) (parts : List Part) (image now : List ℕ) (among : ByteSet) (known : Option PlaceMap) (new : DiskView) (d : Collection) : Type 0 where
+pub record StaysSafe (index : PlaceMap) (store : Store) (files : Files) (parts : List Part) (image now : List ℕ) (among : ByteSet) (known : Option PlaceMap) (new : DiskView)
+    (d : Collection) : Type 0 where
   pub known_is : known ≡ Some index
   pub stands : StandsFor (Stands (IsIn among) store files) new
   pub core : CoreInvariant index store files parts now
@@ -54,7 +55,8 @@ map_stays index known DiskWrite other stays = absurd (other refl)
 map_stays index known (Damaged at why) other stays = stays index refl
 map_stays index known _ other stays = stays
 
-module _ (index : PlaceMap) (store : Store) (files : Files) (parts : List Part) (image now : List ℕ) (among : ByteSet) (t : Tables) (known : Option PlaceMap) (old new : DiskView) (c d : Collection)
+module _ (index : PlaceMap) (store : Store) (files : Files) (parts : List Part) (image now : List ℕ) (among : ByteSet) (t : Tables) (known : Option PlaceMap) (old new : DiskView)
+    (c d : Collection)
     (core : CoreInvariant index store files parts image) (represents : Represents store (Some index) t) (valid : IsValidFor old.size store) (content : old.content ≡ Some image)
     (content_now : new.content ≡ Some now) (stands : StandsFor (Stands (IsIn among) store files) old) where
   abbrev Stays : Type 0
@@ -78,7 +80,8 @@ module _ (index : PlaceMap) (store : Store) (files : Files) (parts : List Part) 
 
   stays_read : known ≡ Some index → OnlyReads old new → IsSafe index store parts image d → Stays
   stays_read known_is only safe =
-      stays known_is (read_stands store files image now old new among content content_now stands only) (read_keeps store files image now old new among content content_now stands only) safe
+      stays known_is (read_stands store files image now old new among content content_now stands only)
+      (read_keeps store files image now old new among content content_now stands only) safe
 
   same_safe : IsSafe index store parts image c → d ≡ c → IsSafe index store parts image d
   same_safe safe is = subst (λ (x : Collection). IsSafe index store parts image x) (sym is) safe
@@ -104,7 +107,8 @@ module _ (index : PlaceMap) (store : Store) (files : Files) (parts : List Part) 
   module _ (stage_is : c.stage ≡ Sweep) (safe : SweepIsSafe index store parts image c) where
     was_held : HoldsSweep index store.held image c.live c.snapshot c.sweep
     was_held =
-        let both : SourcesStand store.held c.snapshot c.sweep × HoldsSweep index store.held image c.live c.snapshot c.sweep = subst (λ (s : Stage). HoldsAt s index store.held image c) stage_is safe.sweep_holds in both.1
+        let both : SourcesStand store.held c.snapshot c.sweep
+        × HoldsSweep index store.held image c.live c.snapshot c.sweep = subst (λ (s : Stage). HoldsAt s index store.held image c) stage_is safe.sweep_holds in both.1
 
     abbrev Writes : Ending → Type 0
     Writes e = SealsIndexed t (t.held.last_id + 1) c.sweep.buffer e old new
@@ -137,7 +141,8 @@ module _ (index : PlaceMap) (store : Store) (files : Files) (parts : List Part) 
       λ key level bytes has. moves.holds among store (Some index) index files image now represents content content_now here may fit key level bytes tt has,
     )
 
-    rests : (refusal : Refusal) → (refusal ≡ DiskWrite → ⊥) → IsFlushStepRefusal t (Some index) refusal → KeepsMap (Some index) known refusal → Writes (ending_of (blames refusal)) → (known ≡ Some index) × Rests
+    rests : (refusal : Refusal) → (refusal ≡ DiskWrite → ⊥) → IsFlushStepRefusal t (Some index) refusal → KeepsMap (Some index) known refusal → Writes (ending_of (blames refusal))
+        → (known ≡ Some index) × Rests
     rests Memory other cause map moves = (map, rest_refused moves)
     rests Numbers other cause map moves = (map, rest_refused moves)
     rests DiskRead other cause map moves = (map, rest_unread moves)
@@ -145,7 +150,8 @@ module _ (index : PlaceMap) (store : Store) (files : Files) (parts : List Part) 
     rests (Damaged at why) other cause map moves = absurd (let wrong = cause.1 in cc)
     rests _ other cause map moves = absurd cause.1
 
-  by_stage : (stage : Stage) (next : Next) → c.stage ≡ stage → (refusal : Refusal) → (refusal ≡ DiskWrite → ⊥) → IsSafe index store parts image c → IsSafeAt stage index store parts image c
+  by_stage : (stage : Stage) (next : Next) → c.stage ≡ stage → (refusal : Refusal) → (refusal ≡ DiskWrite → ⊥) → IsSafe index store parts image c
+      → IsSafeAt stage index store parts image c
       → IsStepRefusal stage next (moment t (Some index) old c) new refusal → Keeps stage next (moment t (Some index) old c) (moment t known new d) refusal
       → Touches stage next c.sweep t (ending_of (blames refusal)) old new → Stays
   by_stage (Mark level slot) next is refusal other safe marks cause keeps touches = stays_read keeps.1 touches.only (mark_safe level slot refusal is marks keeps.0)
@@ -161,7 +167,8 @@ module _ (index : PlaceMap) (store : Store) (files : Files) (parts : List Part) 
   by_stage Sweep (Release source entry) is refusal other safe sweep cause keeps touches = absurd (other cause)
   by_stage Sweep End is refusal other safe sweep cause keeps touches = absurd cause
 
-  pub refused_safe : (refusal : Refusal) → (refusal ≡ DiskWrite → ⊥) → IsSafe index store parts image c → IsStepRefusal c.stage c.sweep.next (moment t (Some index) old c) new refusal
+  pub refused_safe : (refusal : Refusal) → (refusal ≡ DiskWrite → ⊥) → IsSafe index store parts image c
+      → IsStepRefusal c.stage c.sweep.next (moment t (Some index) old c) new refusal
       → Keeps c.stage c.sweep.next (moment t (Some index) old c) (moment t known new d) refusal → Touches c.stage c.sweep.next c.sweep t (ending_of (blames refusal)) old new
       → StaysSafe index store files parts image now among known new d
   refused_safe refusal other safe cause keeps touches = by_stage c.stage c.sweep.next refl refusal other safe safe cause keeps touches

@@ -31,7 +31,8 @@ use Rattle.gc_steps.proofs.Marked.{OfFirst, contains_first, contains_head, conta
 
 -- ---- loops, one turn more
 
-pub added : {X Y : Type 0} (f : X → List Y) (xs : List X) (i : ℕ) (d : X) (start mid after : List Y) → i < length xs → mid ≡ start ++ flat_map f (take i xs) → after ≡ mid ++ f (get_or xs i d)
+pub added : {X Y : Type 0} (f : X → List Y) (xs : List X) (i : ℕ) (d : X) (start mid after : List Y) → i < length xs → mid ≡ start ++ flat_map f (take i xs)
+    → after ≡ mid ++ f (get_or xs i d)
     → after ≡ start ++ flat_map f (take (i + 1) xs)
 added f xs i d start mid after within first second =
     second ∙ ap (λ ys. ys ++ f (get_or xs i d)) first ∙ flat_map_more f start (take i xs) (get_or xs i d) ∙ ap (λ ks. start ++ flat_map f ks) (sym (take_more xs i d within))
@@ -43,7 +44,8 @@ listed_turn files i file start mid after within is first second =
     let ns : List NamedRoot = map listed_value (take i files) in
     let more : map listed_value (take (i + 1) files) ≡ ns ++ listed_value file ∷ [] =
     ap (map listed_value) (take_more files i file within ∙ ap (λ (x : ListedName). take i files ++ x ∷ []) (sym is)) ∙ map_push listed_value (take i files) file in
-    second ∙ ap (λ ys. ys ++ keys_of_listed (listed_value file)) first ∙ flat_map_more keys_of_listed start ns (listed_value file) ∙ ap (λ ks. start ++ flat_map keys_of_listed ks) (sym more)
+    second ∙ ap (λ ys. ys ++ keys_of_listed (listed_value file)) first ∙ flat_map_more keys_of_listed start ns (listed_value file)
+    ∙ ap (λ ks. start ++ flat_map keys_of_listed ks) (sym more)
 
 -- no actor before the first
 pub first_none : (start names added : List RootKey) (parts : List Part) → start ≡ [] → added ≡ start ++ names → added ≡ names ++ keys_of_first parts 0
@@ -54,10 +56,12 @@ pub first_more : (parts : List Part) (count : ℕ) → keys_of_first parts (coun
 unfolding keys_of_first
 first_more parts count = ap (keys_of_first parts) (let next : count + 1 ≡ suc count = omega arith in next)
 
-pub first_turn : (names : List RootKey) (parts : List Part) (count : ℕ) (mid after : List RootKey) → mid ≡ names ++ keys_of_first parts count → after ≡ mid ++ keys_of_number parts count
+pub first_turn : (names : List RootKey) (parts : List Part) (count : ℕ) (mid after : List RootKey) → mid ≡ names ++ keys_of_first parts count
+    → after ≡ mid ++ keys_of_number parts count
     → after ≡ names ++ keys_of_first parts (count + 1)
 first_turn names parts count mid after first second =
-    second ∙ ap (λ ys. ys ++ keys_of_number parts count) first ∙ append_assoc names (keys_of_first parts count) (keys_of_number parts count) ∙ ap (λ ks. names ++ ks) (sym (first_more parts count))
+    second ∙ ap (λ ys. ys ++ keys_of_number parts count) first ∙ append_assoc names (keys_of_first parts count) (keys_of_number parts count)
+    ∙ ap (λ ks. names ++ ks) (sym (first_more parts count))
 
 -- ---- the keys of all roots
 
@@ -160,7 +164,8 @@ last_or_before parts count key = (
   ],
 )
   where
-    by_place : (actor : ℕ) → (actor < suc count) × IsNumberKey parts actor key → (leb (suc actor) count ≡ true) × (suc actor ≤ count) ⊎ (leb (suc actor) count ≡ false) × (count < suc actor)
+    by_place : (actor : ℕ) → (actor < suc count) × IsNumberKey parts actor key → (leb (suc actor) count ≡ true) × (suc actor ≤ count) ⊎ (leb (suc actor) count ≡ false)
+        × (count < suc actor)
         → OfFirst parts count key ⊎ IsNumberKey parts count key
     by_place actor is (inl less) = inl (actor, (omega (arith, less.1), is.1))
     by_place actor is (inr more) =
@@ -221,7 +226,8 @@ root_live names parts r among = (roots_have names parts r.key).0 (map_has key_at
 
 -- so what is live at first is the roots
 pub roots_live : (live : LiveKeys) (names : NameMap) (parts : List Part) (roots : List RootKey) → roots ≡ roots_of names parts
-    → ((key : List ℕ) (place : Place) → IsLiveAt live key place ↔ Contains (map key_at roots) key) → (key : List ℕ) (place : Place) → IsLiveAt live key place ↔ IsRoot names parts key
+    → ((key : List ℕ) (place : Place) → IsLiveAt live key place ↔ Contains (map key_at roots) key) → (key : List ℕ) (place : Place)
+    → IsLiveAt live key place ↔ IsRoot names parts key
 roots_live live names parts roots are marked key place = (
   λ is. (roots_have names parts key).0 (subst (λ (rs : List RootKey). Contains (map key_at rs) key) are ((marked key place).0 is)),
   λ is. (marked key place).1 (subst (λ (rs : List RootKey). Contains (map key_at rs) key) (sym are) ((roots_have names parts key).1 is)),
@@ -235,7 +241,8 @@ roots_turn roots i d old mid new within first second =
     let root : RootKey = get_or roots i d in
     let more : map key_at (take (i + 1) roots) ≡ map key_at (take i roots) ++ root.key ∷ [] = ap (map key_at) (take_more roots i d within) ∙ map_push key_at (take i roots) root in
     subst (λ (all : List (List ℕ)). Marks (Contains all) old new) (sym more)
-    (marks_as (λ k. Contains (map key_at (take i roots)) k ⊎ (k ≡ root.key)) (Contains (map key_at (take i roots) ++ root.key ∷ [])) old new (contains_more (map key_at (take i roots)) root.key)
+    (marks_as (λ k. Contains (map key_at (take i roots)) k ⊎ (k ≡ root.key)) (Contains (map key_at (take i roots) ++ root.key ∷ [])) old new
+    (contains_more (map key_at (take i roots)) root.key)
     (marks_more (Contains (map key_at (take i roots))) (λ k. k ≡ root.key) old mid new first second))
 
 -- ---- looking them up

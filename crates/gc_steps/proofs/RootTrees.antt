@@ -57,7 +57,8 @@ whole_indexed index held image key whole =
 -- ---- a tree that is held is that of its root's key
 
 module _ (index : PlaceMap) (held : List (Option HeaderValue)) (image : List ℕ) where
-  whole_root : (t : Tree (List ℕ)) (root : Root) (key : List ℕ) → AllByRecursion IsTree (trees_in t) → HoldsCounted (HasKey index) held image t → top_of root ≡ tree.root_of of_segment t
+  whole_root : (t : Tree (List ℕ)) (root : Root) (key : List ℕ) → AllByRecursion IsTree (trees_in t) → HoldsCounted (HasKey index) held image t
+      → top_of root ≡ tree.root_of of_segment t
       → HasRootKey root key → IsWhole index held image key
   whole_root tree.Empty root key right holds top has = absurd (has.0 (ap (λ (x : Top). x.length) top))
   whole_root (tree.Leaf segment) root key right holds top has = record { whole = tree.Leaf segment; root_is = has.1 ∙ ap top_key top; right = right.0; is_held = holds }

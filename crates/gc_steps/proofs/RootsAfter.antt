@@ -33,11 +33,13 @@ part_number (p ∷ ps) (suc actor) zero part = inr refl
 part_number (p ∷ ps) (suc actor) (suc other) part = part_number ps actor other part
 
 -- A root after it is one of before, or of the part.
-pub part_root : (names : NameMap) (parts : List Part) (actor : ℕ) (part : Part) (key : List ℕ) → IsRoot names (with_part parts actor part) key → IsRoot names parts key ⊎ IsPartKey part key
+pub part_root : (names : NameMap) (parts : List Part) (actor : ℕ) (part : Part) (key : List ℕ) → IsRoot names (with_part parts actor part) key → IsRoot names parts key
+    ⊎ IsPartKey part key
 part_root names parts actor part key (inl name) = inl (inl name)
 part_root names parts actor part key (inr (other, (below, is))) = by_number (part_number parts actor other part)
   where
-    by_number : (part_of (with_part parts actor part) other ≡ part) ⊎ (part_of (with_part parts actor part) other ≡ part_of parts other) → IsRoot names parts key ⊎ IsPartKey part key
+    by_number : (part_of (with_part parts actor part) other ≡ part) ⊎ (part_of (with_part parts actor part) other ≡ part_of parts other) → IsRoot names parts key
+        ⊎ IsPartKey part key
     by_number (inl new) = inr (subst (λ (p : Part). IsPartKey p key) new is)
     by_number (inr same) = inl (inr (other, (below, subst (λ (p : Part). IsPartKey p key) same is)))
 
@@ -68,7 +70,8 @@ reading_root names parts actor old new below was same key is = by_case (part_roo
 
 -- ---- the root of a name
 
-listed_there : (es : List (List ℕ × Named)) (name key : List ℕ) (named : Named) → finite.find (slice_cmp nat_cmp) name es ≡ Some named → HasRootKey named.root key → IsListedKey (map named_root es) key
+listed_there : (es : List (List ℕ × Named)) (name key : List ℕ) (named : Named) → finite.find (slice_cmp nat_cmp) name es ≡ Some named → HasRootKey named.root key
+    → IsListedKey (map named_root es) key
 listed_there [] name key named found has = absurd cc
 listed_there (e ∷ es) name key named found has = by_test (eq_by_cmp (slice_cmp nat_cmp) name e.0) found (λ rest. listed_there es name key named rest has)
   where
@@ -84,7 +87,8 @@ pub key_of_name : (names : NameMap) (name key : List ℕ) (named : Named) → fi
 key_of_name names name key named found has = listed_there (finite.entries names) name key named (sym (finite.get-entries names name) ∙ found) has
 
 -- An actor begins to read the file of a name: no root comes.
-pub opened_root : (names : NameMap) (parts : List Part) (actor : ℕ) (reader : Reader) (name : List ℕ) (named : Named) → finite.get names name ≡ Some named → named.root ≡ reader.root
+pub opened_root : (names : NameMap) (parts : List Part) (actor : ℕ) (reader : Reader) (name : List ℕ) (named : Named) → finite.get names name ≡ Some named
+    → named.root ≡ reader.root
     → (key : List ℕ) → IsRoot names (with_part parts actor (Reading reader)) key → IsRoot names parts key
 opened_root names parts actor reader name named found same key is = by_case (part_root names parts actor (Reading reader) key is)
   where
@@ -113,7 +117,8 @@ got_after_insert names name other given named has = by_test (eq_by_cmp (slice_cm
     by_test false is = inr is
 
 -- A name is deleted: no root comes.
-pub deleted_root : (number : ℕ) (name : List ℕ) (names : NameMap) (parts : List Part) (key : List ℕ) → IsRoot (names_changed number name Delete names) parts key → IsRoot names parts key
+pub deleted_root : (number : ℕ) (name : List ℕ) (names : NameMap) (parts : List Part) (key : List ℕ) → IsRoot (names_changed number name Delete names) parts key
+    → IsRoot names parts key
 deleted_root number name names parts key (inr actor) = inr actor
 deleted_root number name names parts key (inl is) =
     let one = name_of_key (finite.remove names name) key is in
@@ -128,13 +133,15 @@ put_root number name root names parts key (inl is) =
     let one = name_of_key (finite.insert names name given) key is in
     by_case one.name one.named one.has (got_after_insert names name one.name given one.named one.found)
   where
-    by_case : (other : List ℕ) (named : Named) → HasRootKey named.root key → ((let n : Named = record { sequence = number; root = root } in n) ≡ named) ⊎ (finite.get names other ≡ Some named)
+    by_case : (other : List ℕ) (named : Named) → HasRootKey named.root key → ((let n : Named = record { sequence = number; root = root } in n) ≡ named)
+        ⊎ (finite.get names other ≡ Some named)
         → IsRoot names parts key ⊎ HasRootKey root key
     by_case other named has (inl same) = inr (subst (λ (n : Named). HasRootKey n.root key) (sym same) has)
     by_case other named has (inr found) = inl (inl (key_of_name names other key named found has))
 
 -- It is the root of a file that an actor stored, and that actor is at nothing then: no root comes.
-pub committed_root : (number : ℕ) (name : List ℕ) (root : Root) (names : NameMap) (parts : List Part) (actor : ℕ) (pins : PinMap) → actor < ACTORS → part_of parts actor ≡ Writing pins
+pub committed_root : (number : ℕ) (name : List ℕ) (root : Root) (names : NameMap) (parts : List Part) (actor : ℕ) (pins : PinMap) → actor < ACTORS
+    → part_of parts actor ≡ Writing pins
     → (root.length ≡ 0) ⊎ (has_pin pins (root_key root) (record { level = root.level; length = root.length }) ≡ true)
     → (key : List ℕ) → IsRoot (names_changed number name (Put root) names) (with_part parts actor Idle) key → IsRoot names parts key
 committed_root number name root names parts actor pins below writing stored key is = by_case (put_root number name root names (with_part parts actor Idle) key is)

@@ -88,7 +88,8 @@ module _ (index : PlaceMap) (store : Store) (files : Files) (image : List ℕ) (
           let is = root_is_of t root right top some in
           let there = root_there t (root_key root) is in
           let has = subst (HasKey index) (sym there.1) (holds.count there.0 there.2) in
-          found_at (root_key root) root.level has.0 has.1 (tree_level index store image partial t (root_key root) has.0 holds.tree_is_held is has.1 ∙ sym (ap (λ (x : Top). x.level) top))
+          found_at (root_key root) root.level has.0 has.1
+          (tree_level index store image partial t (root_key root) has.0 holds.tree_is_held is has.1 ∙ sym (ap (λ (x : Top). x.level) top))
 
       by_length : (b : Bool) → root.length == 0 ≡ b → AllByRecursion Found (if b then [] else record { key = root_key root; level = root.level } ∷ [])
       by_length true is = tt
@@ -96,7 +97,8 @@ module _ (index : PlaceMap) (store : Store) (files : Files) (image : List ℕ) (
 
   -- those of names
   names_found : IsStoreOf store files image → IndexesFiles index files → AllByRecursion Found (flat_map keys_of_listed (listing_of (names_of store)))
-  names_found holds indexed = each_of Found keys_of_listed (listing_of (names_of store)) (each_name (λ (n : NamedRoot). AllByRecursion Found (keys_of_listed n)) (names_of store) (λ name named found. one name named found))
+  names_found holds indexed = each_of Found keys_of_listed (listing_of (names_of store))
+      (each_name (λ (n : NamedRoot). AllByRecursion Found (keys_of_listed n)) (names_of store) (λ name named found. one name named found))
     where
       one : (name : List ℕ) (named : Named) → finite.get (names_of store) name ≡ Some named → AllByRecursion Found (keys_of_root named.root)
       one name named found =
@@ -117,7 +119,8 @@ module _ (index : PlaceMap) (store : Store) (files : Files) (image : List ℕ) (
 
     part_found : (part : Part) → HoldsPart (HasKey index) store.held image part → AllByRecursion Found (keys_of_part part)
     part_found Idle held = tt
-    part_found (Writing pins) held = each_of Found (keys_of_pin pins) (finite.keys pins) (every (λ (key : List ℕ). AllByRecursion Found (keys_of_pin pins key)) (finite.keys pins) (λ key. pin_found pins key held))
+    part_found (Writing pins) held = each_of Found (keys_of_pin pins) (finite.keys pins)
+        (every (λ (key : List ℕ). AllByRecursion Found (keys_of_pin pins key)) (finite.keys pins) (λ key. pin_found pins key held))
     part_found (Reading reader) held = root_found held.whole reader.root held.right held.is_held held.top_is
 
     number_found : (parts : List Part) (actor : ℕ) → AllByRecursion (HoldsPart (HasKey index) store.held image) parts → AllByRecursion Found (keys_of_number parts actor)
@@ -133,11 +136,13 @@ module _ (index : PlaceMap) (store : Store) (files : Files) (image : List ℕ) (
     first_found parts (suc count) all = joined Found (keys_of_first parts count) (keys_of_number parts count) (first_found parts count all) (number_found parts count all)
 
 -- Each root is found.
-pub roots_found : (index : PlaceMap) (store : Store) (files : Files) (parts : List Part) (image : List ℕ) → CoreInvariant index store files parts image → IsStoreOf store files image
+pub roots_found : (index : PlaceMap) (store : Store) (files : Files) (parts : List Part) (image : List ℕ) → CoreInvariant index store files parts image
+    → IsStoreOf store files image
     → AllByRecursion (IsFound (Some index)) (roots_of (names_of store) parts)
 roots_found index store files parts image core holds =
     joined (IsFound (Some index)) (flat_map keys_of_listed (listing_of (names_of store))) (keys_of_first parts ACTORS)
-    (names_found index store files image core.index_is_newest holds core.files_are_indexed) (first_found index store files image core.index_is_newest holds parts ACTORS core.pins_are_closed)
+    (names_found index store files image core.index_is_newest holds core.files_are_indexed)
+    (first_found index store files image core.index_is_newest holds parts ACTORS core.pins_are_closed)
 
 -- ---- so none is a reason to refuse
 
@@ -154,7 +159,8 @@ module _ (alone : Option PlaceMap) (index : PlaceMap) (root : RootKey) (found : 
   cause_unread (Damaged at why) (inr wrong) = absurd (not_misplaced at why wrong)
   cause_unread refusal is = absurd is
 
-stopped_unread : (alone : Option PlaceMap) (index : PlaceMap) (roots : List RootKey) → AllByRecursion (IsFound (Some index)) roots → (refusal : Refusal) → StopsAt alone (Some index) roots refusal
+stopped_unread : (alone : Option PlaceMap) (index : PlaceMap) (roots : List RootKey) → AllByRecursion (IsFound (Some index)) roots → (refusal : Refusal)
+    → StopsAt alone (Some index) roots refusal
     → (refusal ≡ DiskRead) × (alone ≡ None)
 stopped_unread alone index roots all refusal stops =
     cause_unread alone index stops.at

@@ -84,13 +84,15 @@ module _ (index : PlaceMap) (store : Store) (parts : List Part) (image : List �
   sweep_safe c none safe = sweep_at c c.stage none safe
 
   -- another stage, of the same live keys and the same snapshot
-  pub restaged : (c after : Collection) → after.live ≡ c.live → after.snapshot ≡ c.snapshot → HoldsAt after.stage index store.held image after → SweepIsSafe index store parts image c
+  pub restaged : (c after : Collection) → after.live ≡ c.live → after.snapshot ≡ c.snapshot → HoldsAt after.stage index store.held image after
+      → SweepIsSafe index store parts image c
       → SweepIsSafe index store parts image after
   restaged c after live snapshot sweep safe = record {
     roots_are_live = λ key root. on key (safe.roots_are_live key root);
     live_is_closed = λ n copy holds is. all_on n (safe.live_is_closed n copy holds (subst (λ (l : LiveKeys). IsLive index l (node_key n)) live is));
     sweep_holds = sweep;
-    new_are_live = subst (λ (l : LiveKeys). NewAreLive index l after.snapshot store.held) (sym live) (subst (λ (s : ℕ). NewAreLive index c.live s store.held) (sym snapshot) safe.new_are_live);
+    new_are_live = subst (λ (l : LiveKeys). NewAreLive index l after.snapshot store.held) (sym live)
+        (subst (λ (s : ℕ). NewAreLive index c.live s store.held) (sym snapshot) safe.new_are_live);
   }
     where
       on : (key : List ℕ) → IsLive index c.live key → IsLive index after.live key
@@ -108,7 +110,8 @@ module _ (index : PlaceMap) (store : Store) (parts : List Part) (image : List �
       (early_level c.snapshot t.held MOST_LEVEL)
 
 -- What leaves both invariants leaves it safe, where the stage stays.
-pub others_safe : (index later : PlaceMap) (s t : Store) (before after : List Part) (old new : List ℕ) (c d : Collection) → KeepsBoth index later s t before after old new c d → d.stage ≡ c.stage
+pub others_safe : (index later : PlaceMap) (s t : Store) (before after : List Part) (old new : List ℕ) (c d : Collection) → KeepsBoth index later s t before after old new c d
+    → d.stage ≡ c.stage
     → IsSafe index s before old c → IsSafe later t after new d
 others_safe index later s t before after old new c d keeps same safe = subst (λ (x : Stage). IsSafeAt x later t after new d) (sym same) (by_stage c.stage safe)
   where

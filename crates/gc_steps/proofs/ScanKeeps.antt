@@ -55,7 +55,8 @@ pub record IsNewKey (index : PlaceMap) (live : LiveKeys) (held : List (Option He
 
 -- ---- marks stay closed
 
-module _ (index : PlaceMap) (store : Store) (parts : List Part) (image : List ℕ) (level slot : ℕ) (before after : Collection) (closed : MarksAreClosed index store parts image before)
+module _ (index : PlaceMap) (store : Store) (parts : List Part) (image : List ℕ) (level slot : ℕ) (before after : Collection)
+    (closed : MarksAreClosed index store parts image before)
     (was : before.stage ≡ Mark level slot) (same : after.snapshot ≡ before.snapshot) where
   abbrev Was : List ℕ → Type 0
   Was key = IsLive index before.live key
@@ -84,7 +85,8 @@ module _ (index : PlaceMap) (store : Store) (parts : List Part) (image : List �
   -- the level in the slot, and the children of these are live, if they were live before:
   module _ (stays : (key : List ℕ) → Was key → Now key) (just : (key : List ℕ) → Now key → Was key ⊎ IsNew key)
       (passes : (n : Contents) (copy : Copy) → HoldsNode store.held image n copy → IsPassed after n.level copy → PassesOne level slot before n copy)
-      (others : (n : Contents) (copy : Copy) → HoldsNode store.held image n copy → Was (node_key n) → IsPassed after n.level copy → IsPassed before n.level copy ⊎ All Now (child_keys n)) where
+      (others : (n : Contents) (copy : Copy) → HoldsNode store.held image n copy → Was (node_key n) → IsPassed after n.level copy → IsPassed before n.level copy
+      ⊎ All Now (child_keys n)) where
     now_whole : (key : List ℕ) → Now key → IsWhole index store.held image key
     now_whole key is = by_case (just key is)
       where
@@ -129,7 +131,8 @@ module _ (index : PlaceMap) (store : Store) (parts : List Part) (image : List �
       roots_are_live = λ key root. stays key (closed.roots_are_live key root);
       live_is_whole = now_whole;
       passed_is_closed = closed_now;
-      new_are_live = λ at g there_is late. All-weaker (λ (e : Entry). Was (entry_key g.kind e)) (λ (e : Entry). Now (entry_key g.kind e)) (λ e is. stays (entry_key g.kind e) is) g.entries
+      new_are_live = λ at g there_is late. All-weaker (λ (e : Entry). Was (entry_key g.kind e)) (λ (e : Entry). Now (entry_key g.kind e))
+          (λ e is. stays (entry_key g.kind e) is) g.entries
           (closed.new_are_live at g there_is (omega (arith, late, same)));
     }
 
@@ -154,7 +157,8 @@ module _ (index : PlaceMap) (store : Store) (files : Files) (image : List ℕ) (
   rules : AllByRecursion HasRule h.entries
   rules = have_levels h.kind h.kind [] h.entries refl right.entries
 
-  key_of_node : (es : List Entry) (nodes : List Contents) (key : List ℕ) → AllByRecursion HasRule es → HaveNodes scan (ShowsAt old new) es nodes → Contains (flat_map child_keys nodes) key
+  key_of_node : (es : List Entry) (nodes : List Contents) (key : List ℕ) → AllByRecursion HasRule es → HaveNodes scan (ShowsAt old new) es nodes
+      → Contains (flat_map child_keys nodes) key
       → IsNewKey index live store.held image level key
   key_of_node es nodes key all have child =
       let found = child_found HasRule scan (ShowsAt old new) key es nodes all have child in
@@ -193,7 +197,8 @@ module _ (index : PlaceMap) (store : Store) (files : Files) (parts : List Part) 
         by_case (inl earlier) = inl (is.0, (is.1.0, earlier))
         by_case (inr among) = inr (new_key index store files image holds partial old new content level slot h right before.live after.live scanned key is.0 among)
 
-    scanned_closed : slice_get store.held slot ≡ Some (Some h) → ((n : Contents) (copy : Copy) → HoldsNode store.held image n copy → IsPassed after n.level copy → PassesOne level slot before n copy)
+    scanned_closed : slice_get store.held slot ≡ Some (Some h)
+        → ((n : Contents) (copy : Copy) → HoldsNode store.held image n copy → IsPassed after n.level copy → PassesOne level slot before n copy)
         → MarksAreClosed index store parts image after
     scanned_closed there passes =
         stays_closed index store parts image level slot before after closed was same (λ key is. (is.0, (is.1.0, (scanned.marks.marks key is.0).1 (inl is.1.1)))) was_or_new passes
@@ -203,7 +208,8 @@ module _ (index : PlaceMap) (store : Store) (files : Files) (parts : List Part) 
             → IsPassed before n.level copy ⊎ All (IsLive index after.live) (child_keys n)
         by_case n copy node live (inl earlier) = inl earlier
         by_case n copy node live (inr here) =
-            inr (node_scanned index store files image holds partial old new content level slot h before.live there after.live (scanned.children index refl) n copy node live here.0 here.1)
+            inr (node_scanned index store files image holds partial old new content level slot h before.live there after.live
+            (scanned.children index refl) n copy node live here.0 here.1)
 
   -- where some did
   module _ (scanned : ScansSome (Some index) old new slot level h before.live after.live) (stage_stays : after.stage ≡ before.stage) where
@@ -237,7 +243,8 @@ module _ (index : PlaceMap) (store : Store) (files : Files) (parts : List Part) 
       let there : slice_get store.held slot ≡ Some (Some scans.header) = header_held store.held image slot scans.header holds.right.slots_are inside shown in
       let same : after.snapshot ≡ before.snapshot = ap (λ (c : Collection). c.snapshot) scans.collection_is in
       let now : after.stage ≡ mark_from before.snapshot t.held level (slot + 1) = ap (λ (c : Collection). c.stage) scans.collection_is in
-      scanned_closed index store files parts image holds (represents.index_is_newest index refl) old new content level slot scans.header scans.right before after closed was same scans.scanned there
+      scanned_closed index store files parts image holds
+      (represents.index_is_newest index refl) old new content level slot scans.header scans.right before after closed was same scans.scanned there
       (passes_one store.held image t.held holds.right.slots_are slots level slot before after was now same)
 
   only_keeps : MarksOnly (Some index) old new level slot before after → MarksAreClosed index store parts image after

@@ -8,7 +8,8 @@ use Rattle.gc_steps.specs.Stages.{first_from, first_slot}
 first_step : (test : ℕ → Bool) (from count less : ℕ) → count ≡ suc less → first_from test from count ≡ (if test from then Some from else first_from test (from + 1) less)
 unfolding first_from
 first_step test from zero less same = absurd (omega (arith, same))
-first_step test from (suc count) less same = ap (λ n. if test from then Some from else first_from test (from + 1) n) (let same_less : count ≡ less = omega (arith, same) in same_less)
+first_step test from (suc count) less same = ap (λ n. if test from then Some from else first_from test (from + 1) n)
+    (let same_less : count ≡ less = omega (arith, same) in same_less)
 
 no_more : (test : ℕ → Bool) (from count : ℕ) → count ≡ 0 → first_from test from count ≡ None
 unfolding first_from

@@ -21,12 +21,14 @@ use Rattle.gc_steps.specs.declared.collection.Collection.{Collection}
 use Rattle.gc_steps.specs.Marking.{ScansEntries, ScansSome, IsEntriesFault, KeepsMarks, scan_for}
 use Rattle.gc_steps.specs.Scanning.{ShowsAt, step_refusal}
 
-module _ (D : Type 0) (view : D → DiskView) (known : Option PlaceMap) (old : DiskView) (slot level : ℕ) (h : HeaderValue) (before after : LiveKeys) (mid new : D) (same : mid ≡ new) where
+module _ (D : Type 0) (view : D → DiskView) (known : Option PlaceMap) (old : DiskView) (slot level : ℕ) (h : HeaderValue) (before after : LiveKeys) (mid new : D)
+    (same : mid ≡ new) where
   pub some_at : ScansSome known old (view mid) slot level h before after → ScansSome known old (view new) slot level h before after
   some_at some = subst (λ (d : D). ScansSome known old (view d) slot level h before after) same some
 
   pub marks_at : {T E : Type 0} (result : Result T E) → OnOk result (MarksChildren (scan_for known before slot level h) (ShowsAt old (view mid)) h.entries after)
-      → OnOk result (ChildrenAreLive (scan_for known before slot level h) (ShowsAt old (view mid)) h.entries after) → OnOk result (ScansEntries known old (view new) slot level h before after)
+      → OnOk result (ChildrenAreLive (scan_for known before slot level h) (ShowsAt old (view mid)) h.entries after)
+      → OnOk result (ScansEntries known old (view new) slot level h before after)
   marks_at (Ok x) marks children = subst (λ (d : D). ScansEntries known old (view d) slot level h before after) same (record { marks = marks; children = children })
   marks_at (Err e) marks children = tt
 
@@ -83,7 +85,8 @@ module _ (s : Scan) (showed showed' : Place → List ℕ → Type 0) (wider : (p
   fault_on damaged es (faults.Missing key) cause = stuck_on damaged es (faults.Missing key) cause
   fault_on damaged es (faults.Damaged at why) cause = stuck_on damaged es (faults.Damaged at why) cause
 
-module _ (known mid_known : Option PlaceMap) (old mid new : DiskView) (reads : OnlyReads old mid) (same : mid_known ≡ known) (slot level : ℕ) (h : HeaderValue) (before : LiveKeys) where
+module _ (known mid_known : Option PlaceMap) (old mid new : DiskView) (reads : OnlyReads old mid) (same : mid_known ≡ known) (slot level : ℕ) (h : HeaderValue)
+    (before : LiveKeys) where
   wider : (place : Place) (bytes : List ℕ) → ShowsAt mid new place bytes → ShowsAt old new place bytes
   wider place bytes shown = since old mid new reads shown
 
@@ -106,7 +109,8 @@ module _ (known mid_known : Option PlaceMap) (old mid new : DiskView) (reads : O
       (subst (λ (k : Option PlaceMap). IsEntriesFault k mid new slot level h before fault) same cause)
 
 -- a refusal by a scan keeps all but some marks
-pub keeps_marks : (known : Option PlaceMap) (old new : DiskView) (level slot : ℕ) (c : Collection) (live : LiveKeys) (fault : ScanFault) (refusal : Refusal) (h : HeaderValue) → IsHeader h
+pub keeps_marks : (known : Option PlaceMap) (old new : DiskView) (level slot : ℕ) (c : Collection) (live : LiveKeys) (fault : ScanFault) (refusal : Refusal) (h : HeaderValue)
+    → IsHeader h
     → Shows old new (λ image. HoldsSlot image slot (Some h)) → refusal ≡ step_refusal fault → UnlessMemory fault (live ≡ c.live)
     → (fault ≡ faults.Memory → ScansSome known old new slot level h c.live live) → KeepsMarks known old new level slot c (record c { live = live }) refusal
 keeps_marks known old new level slot c live fault refusal h right shown is kept some =

@@ -34,7 +34,8 @@ not_old snapshot id above = by_test (is_old snapshot id) refl
     by_test false new = refl
 
 -- of the containers that were there, the same are in the first slots
-old_same : (snapshot : ℕ) (ids : List ℕ) (slot id n : ℕ) → get_or ids slot 0 ≡ 0 → is_old snapshot id ≡ false → old_ids snapshot (take n (set ids slot id)) ≡ old_ids snapshot (take n ids)
+old_same : (snapshot : ℕ) (ids : List ℕ) (slot id n : ℕ) → get_or ids slot 0 ≡ 0 → is_old snapshot id ≡ false
+    → old_ids snapshot (take n (set ids slot id)) ≡ old_ids snapshot (take n ids)
 old_same snapshot [] slot id n closed new = refl
 old_same snapshot (x ∷ xs) zero id zero closed new = refl
 old_same snapshot (x ∷ xs) (suc slot) id zero closed new = refl
@@ -43,7 +44,8 @@ old_same snapshot (x ∷ xs) zero id (suc n) closed new =
     ∙ sym (ap (λ y. cond (is_old snapshot y) (x ∷ old_ids snapshot (take n xs)) (old_ids snapshot (take n xs))) closed)
 old_same snapshot (x ∷ xs) (suc slot) id (suc n) closed new = ap (λ (rest : List ℕ). cond (is_old snapshot x) (x ∷ rest) rest) (old_same snapshot xs slot id n closed new)
 
-module _ (t now : SlotTable) (c : Collection) (slot id : ℕ) (count : SlotCount) (closed : get_or t.ids.items slot 0 ≡ 0) (above : c.snapshot ≤ id) (ids_are : now.ids.items ≡ set t.ids.items slot id)
+module _ (t now : SlotTable) (c : Collection) (slot id : ℕ) (count : SlotCount) (closed : get_or t.ids.items slot 0 ≡ 0) (above : c.snapshot ≤ id)
+    (ids_are : now.ids.items ≡ set t.ids.items slot id)
     (counts_are : now.counts.items ≡ set t.counts.items slot count) where
   many : length now.ids.items ≡ length t.ids.items
   many = ap length ids_are ∙ length-set t.ids.items slot id
@@ -80,16 +82,19 @@ module _ (t now : SlotTable) (c : Collection) (slot id : ℕ) (count : SlotCount
             ∙ ap (λ (found : Option SlotCount). is_old_slot c.snapshot t other && is_tree found) count_same ∙ tree,
       )
 
-  stage_same : RESERVE < free_in t → suc (free_in now) ≡ free_in t → (IsSweeping t c.snapshot c.sweep → IsSweeping now c.snapshot c.sweep) → (stage : Stage) → HasStage t c stage → HasStage now c stage
+  stage_same : RESERVE < free_in t → suc (free_in now) ≡ free_in t → (IsSweeping t c.snapshot c.sweep → IsSweeping now c.snapshot c.sweep) → (stage : Stage) → HasStage t c stage
+      → HasStage now c stage
   stage_same spare less sweeping (Mark level other) was = (was.0, was.1, tree_same other was.2, was.3, omega (arith, spare, less))
   stage_same spare less sweeping (Filter other) was = (slot_same other was.0, was.1 ∙ sym (same_old other), omega (arith, spare, less))
   stage_same spare less sweeping Select was = (
-    was.0 ∙ ap (old_ids c.snapshot) (take_all (length t.ids.items) t.ids.items (omega arith)) ∙ sym all_same ∙ ap (old_ids c.snapshot) (sym (take_all (length now.ids.items) now.ids.items (omega arith))),
+    was.0 ∙ ap (old_ids c.snapshot) (take_all (length t.ids.items) t.ids.items (omega arith)) ∙ sym all_same
+        ∙ ap (old_ids c.snapshot) (sym (take_all (length now.ids.items) now.ids.items (omega arith))),
     omega (arith, spare, less),
   )
   stage_same spare less sweeping Sweep was = sweeping was
 
-  sealed_on : RESERVE < free_in t → suc (free_in now) ≡ free_in t → (IsSweeping t c.snapshot c.sweep → IsSweeping now c.snapshot c.sweep) → t.last_id ≤ now.last_id → IsUnderWay t c → IsUnderWay now c
+  sealed_on : RESERVE < free_in t → suc (free_in now) ≡ free_in t → (IsSweeping t c.snapshot c.sweep → IsSweeping now c.snapshot c.sweep) → t.last_id ≤ now.last_id
+      → IsUnderWay t c → IsUnderWay now c
   sealed_on spare less sweeping later under = record {
     began = omega (arith, under.began, later);
     ids_differ = subst (IsDistinct nat_eq) (sym all_same) under.ids_differ;
@@ -98,7 +103,8 @@ module _ (t now : SlotTable) (c : Collection) (slot id : ℕ) (count : SlotCount
   }
 
 -- A container that is sealed into the first free slot under the next id, or a later one, beside the slots of the reserve.
-pub sealed : (held : List (Option HeaderValue)) (t now : SlotTable) (c : Collection) (slot : ℕ) (h : HeaderValue) → IsFirstFree slot held → AreHeaders held → IsHeader h → RepresentsSlots held t
+pub sealed : (held : List (Option HeaderValue)) (t now : SlotTable) (c : Collection) (slot : ℕ) (h : HeaderValue) → IsFirstFree slot held → AreHeaders held → IsHeader h
+    → RepresentsSlots held t
     → RepresentsSlots (with_slot slot h held) now → now.last_id ≡ max t.last_id h.id → t.last_id < h.id → RESERVE < free_in t → IsUnderWay t c → IsUnderWay now c
 sealed held t now c slot h free headers right was is last next spare under =
     sealed_on t now c slot h.id (count_of (Some h)) (slot_closed held t now slot h free was is) (omega (arith, under.began, next)) (ids_set held t now slot h free was is)

@@ -50,16 +50,19 @@ key_found kind at (s ∷ ss) key e found = by_test (bytes_eq (segment_key kind s
     here = record { digest = sha256 s.bytes; offset = at; length = length s.bytes; level = s.level }
 
     by_test : (b : Bool) → bytes_eq (segment_key kind s) key ≡ b → cond b (Some here) (entry_of kind (entries_from (at + length s.bytes) ss) key) ≡ Some e
-        → (entry_of kind (entries_from (at + length s.bytes) ss) key ≡ Some e → Contains (map (segment_key kind) ss) key) → Contains (segment_key kind s ∷ map (segment_key kind) ss) key
+        → (entry_of kind (entries_from (at + length s.bytes) ss) key ≡ Some e → Contains (map (segment_key kind) ss) key)
+        → Contains (segment_key kind s ∷ map (segment_key kind) ss) key
     by_test true same first rest =
-        subst (λ (k : List ℕ). Contains (segment_key kind s ∷ map (segment_key kind) ss) k) ((bytes_eq-Decides (segment_key kind s) key).0 same) (in_head (segment_key kind s) (map (segment_key kind) ss))
+        subst (λ (k : List ℕ). Contains (segment_key kind s ∷ map (segment_key kind) ss) k) ((bytes_eq-Decides (segment_key kind s) key).0 same)
+        (in_head (segment_key kind s) (map (segment_key kind) ss))
     by_test false differ later rest = in_tail (segment_key kind s) key (map (segment_key kind) ss) (rest later)
 
 -- and one that none has is that of none
 key_lacking : (kind : Kind) (at : ℕ) (ss : List Segment) (key : List ℕ) → entry_of kind (entries_from at ss) key ≡ None → Contains (map (segment_key kind) ss) key → ⊥
 key_lacking kind at [] key none has = contains_none key has
 key_lacking kind at (s ∷ ss) key none has =
-    by_test (bytes_eq (segment_key kind s) key) refl none (contains_first (segment_key kind s) key (map (segment_key kind) ss) has) (λ rest later. key_lacking kind (at + length s.bytes) ss key rest later)
+    by_test (bytes_eq (segment_key kind s) key) refl none (contains_first (segment_key kind s) key (map (segment_key kind) ss) has)
+    (λ rest later. key_lacking kind (at + length s.bytes) ss key rest later)
   where
     here : Entry
     here = record { digest = sha256 s.bytes; offset = at; length = length s.bytes; level = s.level }
@@ -81,7 +84,8 @@ entries_sealed kind at (s ∷ ss) (suc k) d within =
 
 -- ---- the slots
 
-pub with_there : (at : ℕ) (h : HeaderValue) (held : List (Option HeaderValue)) (slot : ℕ) (g : HeaderValue) → slice_get (with_slot at h held) slot ≡ Some (Some g) → (slice_get held slot ≡ Some (Some g)) ⊎ (h ≡ g)
+pub with_there : (at : ℕ) (h : HeaderValue) (held : List (Option HeaderValue)) (slot : ℕ) (g : HeaderValue) → slice_get (with_slot at h held) slot ≡ Some (Some g)
+    → (slice_get held slot ≡ Some (Some g)) ⊎ (h ≡ g)
 with_there at h [] slot g is = absurd cc
 with_there zero h (c ∷ cs) zero g is = inr (some_same h g (some_same (Some h) (Some g) is))
 with_there zero h (c ∷ cs) (suc slot) g is = inl is
@@ -89,7 +93,8 @@ with_there (suc at) h (c ∷ cs) zero g is = inl is
 with_there (suc at) h (c ∷ cs) (suc slot) g is = with_there at h cs slot g is
 
 -- one that was there stays there
-pub stays_there : (h : HeaderValue) (held : List (Option HeaderValue)) (slot : ℕ) (g : HeaderValue) → slice_get held slot ≡ Some (Some g) → slice_get (with_slot (first_free held) h held) slot ≡ Some (Some g)
+pub stays_there : (h : HeaderValue) (held : List (Option HeaderValue)) (slot : ℕ) (g : HeaderValue) → slice_get held slot ≡ Some (Some g)
+    → slice_get (with_slot (first_free held) h held) slot ≡ Some (Some g)
 stays_there h [] slot g is = absurd cc
 stays_there h (None ∷ cs) zero g is = absurd (let wrong : None ≡ Some g = some_same None (Some g) is in cc)
 stays_there h (None ∷ cs) (suc slot) g is = is
@@ -142,12 +147,14 @@ module _ (store : Store) (id : ℕ) (filled : Contents) (can : CanSeal id filled
         by_slot : (slot : ℕ) (h : HeaderValue) → (slice_get store.held slot ≡ Some (Some h)) ⊎ (header_of id filled.kind filled.segments ≡ h)
             → (slice_get store.held slot ≡ Some (Some h)) ⊎ All (λ e. IsSealedKey filled (entry_key h.kind e)) h.entries
         by_slot slot h (inl was) = inl was
-        by_slot slot h (inr same) = inr (subst (λ (g : HeaderValue). All (λ e. IsSealedKey filled (entry_key g.kind e)) g.entries) same (entries_sealed filled.kind 0 filled.segments))
+        by_slot slot h (inr same) = inr
+            (subst (λ (g : HeaderValue). All (λ e. IsSealedKey filled (entry_key g.kind e)) g.entries) same (entries_sealed filled.kind 0 filled.segments))
 
     -- the place of a key that is sealed is in the first free slot
     sealed_place : (key : List ℕ) (place : Place) (e : Entry) → finite.get later key ≡ Some place → entry_of filled.kind entries key ≡ Some e → place.slot ≡ first_free store.held
     sealed_place key place e has found =
-        let newest_is = newest_with 0 (first_free store.held) (header_of id filled.kind filled.segments) store.held key e (omega arith) (omega (arith, can.slot)) can.new_id found in
+        let newest_is = newest_with 0 (first_free store.held) (header_of id filled.kind filled.segments) store.held key e (omega arith)
+        (omega (arith, can.slot)) can.new_id found in
         ap (λ (p : Place). p.slot) (sym (some_same (place_of (first_free store.held) e) place (sym (ap (option_map (λ (c : Copy). c.place)) newest_is) ∙ partial key place has)))
 
     -- what the index has newly lies in the container
@@ -163,10 +170,15 @@ module _ (store : Store) (id : ℕ) (filled : Contents) (can : CanSeal id filled
         by_found key place has None none = inl (sym (others_same key (key_lacking filled.kind 0 filled.segments key none)) ∙ has)
         by_found key place has (Some e) found = inr (
           header_of id filled.kind filled.segments,
-          (ap (slice_get sealed_store.held) (sealed_place key place e has found) ∙ there_now (header_of id filled.kind filled.segments) store.held (omega (arith, can.slot)), above),
+          (
+            ap (slice_get sealed_store.held) (sealed_place key place e has found)
+                ∙ there_now (header_of id filled.kind filled.segments) store.held (omega (arith, can.slot)),
+            above,
+          ),
         )
 
-        by_slot : (slot : ℕ) (h : HeaderValue) → h.id < snapshot → (slice_get store.held slot ≡ Some (Some h)) ⊎ (header_of id filled.kind filled.segments ≡ h) → slice_get store.held slot ≡ Some (Some h)
+        by_slot : (slot : ℕ) (h : HeaderValue) → h.id < snapshot → (slice_get store.held slot ≡ Some (Some h)) ⊎ (header_of id filled.kind filled.segments ≡ h)
+            → slice_get store.held slot ≡ Some (Some h)
         by_slot slot h old (inl was) = was
         by_slot slot h old (inr same) = absurd (omega (arith, above, old, ap (λ (g : HeaderValue). g.id) same))
 

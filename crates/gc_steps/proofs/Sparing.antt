@@ -73,7 +73,8 @@ held_within (x ∷ xs) (suc slot) h is = let rest = held_within xs slot h is in 
 
 -- ---- which keys are live
 
-module _ (P : List ℕ → Type 0) (index : PlaceMap) (store : Store) (files : Files) (image : List ℕ) (holds : IsStoreOf store files image) (partial : IsPartialIndexOf store.held index)
+module _ (P : List ℕ → Type 0) (index : PlaceMap) (store : Store) (files : Files) (image : List ℕ) (holds : IsStoreOf store files image)
+    (partial : IsPartialIndexOf store.held index)
     (closed : (n : Contents) (copy : Copy) → HoldsNode store.held image n copy → P (node_key n) → (key : List ℕ) → Contains (child_keys n) key → P key)
     (old new : DiskView) (content : old.content ≡ Some image) (level slot : ℕ) (h : HeaderValue) (right : IsHeader h) (live after : LiveKeys) (within : IsWithin P live) where
   of_new : (key : List ℕ) → IsNewKey index live store.held image level key → P key
@@ -95,7 +96,8 @@ module _ (P : List ℕ → Type 0) (index : PlaceMap) (store : Store) (files : F
 
 -- ---- as it begins
 
-pub spares_begun : (P : List ℕ → Type 0) (index : PlaceMap) (store : Store) (image : List ℕ) (t : SlotTable) (c : Collection) → HoldSlots 0 store.held image → RepresentsSlots store.held t
+pub spares_begun : (P : List ℕ → Type 0) (index : PlaceMap) (store : Store) (image : List ℕ) (t : SlotTable) (c : Collection) → HoldSlots 0 store.held image
+    → RepresentsSlots store.held t
     → c.stage ≡ mark_level c.snapshot t MOST_LEVEL → last_id store.held < c.snapshot → IsWithin P c.live → Spares P index store.held c
 spares_begun P index store image t c holds slots stage_is above within = record {
   within = within;
@@ -121,7 +123,8 @@ held_at index store parts image c = by_stage c.stage refl
     by_stage SweepStage is safe = subst (λ (s : Stage). HoldsAt s index store.held image c) is safe.sweep_holds
 
 -- a sweep makes so of each container, and of what was copied
-swept_spares : (P : List ℕ → Type 0) (index : PlaceMap) (held : List (Option HeaderValue)) (c d : Collection) → IsWithin P c.live → c.stage ≡ SweepStage → d ≡ record c { sweep = d.sweep }
+swept_spares : (P : List ℕ → Type 0) (index : PlaceMap) (held : List (Option HeaderValue)) (c d : Collection) → IsWithin P c.live → c.stage ≡ SweepStage
+    → d ≡ record c { sweep = d.sweep }
     → ((slot : ℕ) (h : HeaderValue) → slice_get held slot ≡ Some (Some h) → IsSweptSo index c.live d.sweep slot h) → AreAlone index held d.sweep → Spares P index held d
 swept_spares P index held c d within stage_is same swept alone = subst (Spares P index held) (sym same) (record {
   within = within;
@@ -134,7 +137,8 @@ swept_spares P index held c d within stage_is same swept alone = subst (Spares P
 
 module _ (P : List ℕ → Type 0) (index : PlaceMap) (store : Store) (files : Files) (image : List ℕ) (t : Tables) (known : Option PlaceMap) (old new : DiskView) (c d : Collection)
     (holds : IsStoreOf store files image) (represents : Represents store (Some index) t) (content : old.content ≡ Some image)
-    (closed : (n : Contents) (copy : Copy) → HoldsNode store.held image n copy → P (node_key n) → (key : List ℕ) → Contains (child_keys n) key → P key) (was : Spares P index store.held c) where
+    (closed : (n : Contents) (copy : Copy) → HoldsNode store.held image n copy → P (node_key n) → (key : List ℕ) → Contains (child_keys n) key → P key)
+    (was : Spares P index store.held c) where
   abbrev slots : RepresentsSlots store.held t.held
   slots = represents.slots_hold
 
@@ -187,7 +191,8 @@ module _ (P : List ℕ → Type 0) (index : PlaceMap) (store : Store) (files : F
   recorded_spares : (at : ℕ) → c.stage ≡ Filter at → at < length t.held.ids.items → Records t.held (Some index) old new at c d → Spares P index store.held d
   recorded_spares at stage_is within records = subst (Spares P index store.held) (sym records.collection_is) (record {
     within = was.within;
-    spared = λ slot h there. filter_spared index t.held c.snapshot next slot h (within_table slot h there) (old_slot slot h there (low slot h there)) (low slot h there) (at + 1) (chosen slot h there);
+    spared = λ slot h there. filter_spared index t.held c.snapshot next slot h (within_table slot h there) (old_slot slot h there (low slot h there)) (low slot h there) (at + 1)
+        (chosen slot h there);
     alone = filter_alone index store.held t.held c.snapshot next (at + 1);
   })
     where
@@ -210,7 +215,8 @@ module _ (P : List ℕ → Type 0) (index : PlaceMap) (store : Store) (files : F
             let header : records.header ≡ h = one_header store.held at at records.header h refl here is in
             subst (λ (n : ℕ). IsChosen index next n h) (sym same.1)
             (subst (IsChosen index next at) header
-            (recorded_chosen index t.held c next at records.live records.header refl refl refl (low at records.header here) (id_in at records.header here) (records.live_is index refl)))
+            (recorded_chosen index t.held c next at records.live records.header refl refl refl (low at records.header here) (id_in at records.header here)
+            (records.live_is index refl)))
         | inr other ↦ chosen_on index t.held c next at records.live records.header refl refl refl refl slot h
             ((spared_at (Filter at) stage_is slot h there).1 (omega (arith, below, other.1)))
       ]
@@ -235,14 +241,16 @@ module _ (P : List ℕ → Type 0) (index : PlaceMap) (store : Store) (files : F
   alone_at stage_is = subst (λ (s : Stage). CopiesAlone s index store.held c) stage_is was.alone
 
   -- what holds of it then
-  held_then : (m : PlaceMap) (held : List (Option HeaderValue)) (now : List ℕ) → c.stage ≡ SweepStage → d ≡ record c { sweep = d.sweep } → HoldsAt d.stage m held now d → HoldsSweep m held now c.live c.snapshot d.sweep
+  held_then : (m : PlaceMap) (held : List (Option HeaderValue)) (now : List ℕ) → c.stage ≡ SweepStage → d ≡ record c { sweep = d.sweep } → HoldsAt d.stage m held now d
+      → HoldsSweep m held now c.live c.snapshot d.sweep
   held_then m held now stage_is same is =
       subst (λ (live : LiveKeys). HoldsSweep m held now live c.snapshot d.sweep) (ap (λ (x : Collection). x.live) same)
       (subst (λ (n : ℕ). HoldsSweep m held now d.live n d.sweep) (ap (λ (x : Collection). x.snapshot) same)
       (subst (λ (s : Stage). HoldsAt s m held now d) (ap (λ (x : Collection). x.stage) same ∙ stage_is) is).1)
 
   module _ (valid : IsValidFor old.size store) (free : HasFree store.held) (under : IsUnderWay t.held c) (tables_now : Tables) where
-    module _ (stage_is : c.stage ≡ SweepStage) (sweeping : IsSweeping t.held c.snapshot c.sweep) (held : HoldsSweep index store.held image c.live c.snapshot c.sweep) (same : d ≡ record c { sweep = d.sweep }) where
+    module _ (stage_is : c.stage ≡ SweepStage) (sweeping : IsSweeping t.held c.snapshot c.sweep) (held : HoldsSweep index store.held image c.live c.snapshot c.sweep)
+        (same : d ≡ record c { sweep = d.sweep }) where
       -- a source was copied
       copied_spares : (source entry : ℕ) → c.sweep.next ≡ CopyNext source entry → CopiesSource t.held c.live (Some index) known old new source entry c.sweep d.sweep
           → (m : PlaceMap) → known ≡ Some m → Spares P m store.held d
@@ -259,14 +267,17 @@ module _ (P : List ℕ → Type 0) (index : PlaceMap) (store : Store) (files : F
               copied_leaves t.held index store.held image c.live c.snapshot source entry c.sweep d.sweep known old new slots holds.right.different holds.right.slots_are partial content sweeping next_is held copies
 
       -- what was copied was written
-      flushed_spares : (source entry : ℕ) → c.sweep.next ≡ Flush source entry → (f : Flushes source entry (moment t (Some index) old c) (moment tables_now known new d)) → (m : PlaceMap) → known ≡ Some m
+      flushed_spares : (source entry : ℕ) → c.sweep.next ≡ Flush source entry → (f : Flushes source entry (moment t (Some index) old c) (moment tables_now known new d))
+          → (m : PlaceMap) → known ≡ Some m
           → (s : Store) (now : List ℕ) → IsFlushing c.snapshot c.sweep.buffer store s image → HoldsAt d.stage m s.held now d → Spares P m s.held d
       flushed_spares source entry next_is f m known_is s now flushing then =
           subst (λ (x : Store). Spares P m x.held d) (sym flushing.now_is)
           (subst (λ (x : PlaceMap). Spares P x held_now d) map_is
           (swept_spares P later held_now c d was.within stage_is same
-          (flushed_swept t.held index store.held image now c.live c.snapshot source entry flushing.id c.sweep d.sweep slots sweeping next_is f.flushed flushing.can.right held (alone_at stage_is) holds_now (swept_at stage_is))
-          (flushed_alone t.held index store.held image now c.live c.snapshot source entry flushing.id c.sweep d.sweep slots sweeping next_is f.flushed flushing.can.right held (alone_at stage_is))))
+          (flushed_swept t.held index store.held image now c.live c.snapshot source entry flushing.id c.sweep d.sweep slots sweeping next_is f.flushed flushing.can.right held
+          (alone_at stage_is) holds_now (swept_at stage_is))
+          (flushed_alone t.held index store.held image now c.live c.snapshot source entry flushing.id c.sweep d.sweep slots sweeping next_is f.flushed flushing.can.right held
+          (alone_at stage_is))))
         where
           held_now : List (Option HeaderValue)
           held_now = with_slot (first_free store.held) (header_of flushing.id c.sweep.buffer.kind c.sweep.buffer.segments) store.held
@@ -280,7 +291,8 @@ module _ (P : List ℕ → Type 0) (index : PlaceMap) (store : Store) (files : F
           map_is : later ≡ m
           map_is =
               some_same later m
-              (ap (λ (n : ℕ). Some (with_entries c.sweep.buffer.kind n (entries_from 0 c.sweep.buffer.segments) index)) (sym slot_is) ∙ sym (f.places image content index refl) ∙ known_is)
+              (ap (λ (n : ℕ). Some (with_entries c.sweep.buffer.kind n (entries_from 0 c.sweep.buffer.segments) index)) (sym slot_is) ∙ sym (f.places image content index refl)
+              ∙ known_is)
 
           holds_now : HoldsSweep later held_now now c.live c.snapshot d.sweep
           holds_now =
@@ -288,7 +300,8 @@ module _ (P : List ℕ → Type 0) (index : PlaceMap) (store : Store) (files : F
               (subst (λ (x : Store). HoldsSweep m x.held now c.live c.snapshot d.sweep) flushing.now_is (held_then m s.held now stage_is same then))
 
       -- a source was given back
-      released_spares : (source entry : ℕ) → c.sweep.next ≡ Release source entry → HasReleased tables_now.held source entry c.sweep d.sweep → known ≡ Some index → (m : PlaceMap) → known ≡ Some m
+      released_spares : (source entry : ℕ) → c.sweep.next ≡ Release source entry → HasReleased tables_now.held source entry c.sweep d.sweep → known ≡ Some index → (m : PlaceMap)
+          → known ≡ Some m
           → (s : Store) (now : List ℕ) → IsFreeing index c.sweep (slot_in_turn c.sweep) store s → HoldsAt d.stage m s.held now d → Spares P m s.held d
       released_spares source entry next_is released stays m known_is s now freeing then =
           subst (λ (x : Store). Spares P m x.held d) (sym freeing.now_is)
@@ -312,14 +325,16 @@ module _ (P : List ℕ → Type 0) (index : PlaceMap) (store : Store) (files : F
 
     abbrev After : Stage → Next → Type 0
     After stage next =
-        (m : PlaceMap) → known ≡ Some m → (s : Store) (now : List ℕ) → IsStoreAfter stage next c.snapshot c.sweep index store s image → HoldsAt d.stage m s.held now d → Spares P m s.held d
+        (m : PlaceMap) → known ≡ Some m → (s : Store) (now : List ℕ) → IsStoreAfter stage next c.snapshot c.sweep index store s image → HoldsAt d.stage m s.held now d
+        → Spares P m s.held d
 
     -- where index and store stay
     stays : known ≡ Some index → Spares P index store.held d → (m : PlaceMap) → known ≡ Some m → (s : Store) → s ≡ store → Spares P m s.held d
     stays same spares m known_is s is =
         subst (λ (x : Store). Spares P m x.held d) (sym is) (subst (λ (x : PlaceMap). Spares P x store.held d) (some_same index m (sym same ∙ known_is)) spares)
 
-    by_stage : (stage : Stage) (next : Next) → c.stage ≡ stage → c.sweep.next ≡ next → HoldsAt stage index store.held image c → StepsTo stage next (moment t (Some index) old c) (moment tables_now known new d)
+    by_stage : (stage : Stage) (next : Next) → c.stage ≡ stage → c.sweep.next ≡ next → HoldsAt stage index store.held image c
+        → StepsTo stage next (moment t (Some index) old c) (moment tables_now known new d)
         → After stage next
     by_stage (Mark level at) next is next_is held steps =
         λ m known_is s now same then. stays steps.1 (scanned_spares level at is (at_stage t.held c (Mark level at) under is).2.0 steps.0) m known_is s same
@@ -334,7 +349,8 @@ module _ (P : List ℕ → Type 0) (index : PlaceMap) (store : Store) (files : F
     by_stage SweepStage End is next_is held steps = λ m known_is s now same then. stays steps.1 (subst (Spares P index store.held) (sym steps.0) was) m known_is s same
 
     -- Each step keeps it.
-    pub spares_step : HoldsAt c.stage index store.held image c → StepsTo c.stage c.sweep.next (moment t (Some index) old c) (moment tables_now known new d) → After c.stage c.sweep.next
+    pub spares_step : HoldsAt c.stage index store.held image c → StepsTo c.stage c.sweep.next (moment t (Some index) old c) (moment tables_now known new d)
+        → After c.stage c.sweep.next
     spares_step held steps = by_stage c.stage c.sweep.next refl refl held steps
 
   -- And so does each refusal, by the index of before.
@@ -347,7 +363,8 @@ module _ (P : List ℕ → Type 0) (index : PlaceMap) (store : Store) (files : F
     marks_kept level at Memory is (inr only) = some_spares level at is only
     marks_kept level at _ is same = same_spares same
 
-    kept_by : (stage : Stage) (next : Next) (refusal : Refusal) → c.stage ≡ stage → Keeps stage next (moment t (Some index) old c) (moment tables_now known new d) refusal → Spares P index store.held d
+    kept_by : (stage : Stage) (next : Next) (refusal : Refusal) → c.stage ≡ stage → Keeps stage next (moment t (Some index) old c) (moment tables_now known new d) refusal
+        → Spares P index store.held d
     kept_by (Mark level at) next refusal is keeps = marks_kept level at refusal is keeps.0
     kept_by (Filter at) next refusal is keeps = same_spares keeps.0
     kept_by Select next refusal is keeps = same_spares keeps.0
@@ -371,7 +388,8 @@ module _ (P : List ℕ → Type 0) (index : PlaceMap) (store : Store) (live : Li
       let found = finds store index (entry_key kind e) place partial (copy_at index kind slot e has.0) in
       none (entry_key kind e) found.0 (within (entry_key kind e) place has.1) found.1 (ap (λ (p : Place). p.slot) found.2)
 
-module _ (P : List ℕ → Type 0) (index : PlaceMap) (store : Store) (t : SlotTable) (c : Collection) (under : IsUnderWay t c) (sweeps : c.stage ≡ SweepStage) (ended : c.sweep.next ≡ End)
+module _ (P : List ℕ → Type 0) (index : PlaceMap) (store : Store) (t : SlotTable) (c : Collection) (under : IsUnderWay t c) (sweeps : c.stage ≡ SweepStage)
+    (ended : c.sweep.next ≡ End)
     (was : Spares P index store.held c) where
   -- each container holds a live copy
   pub ended_spared : (slot : ℕ) (h : HeaderValue) → slice_get store.held slot ≡ Some (Some h) → IsSpared index c slot h
@@ -399,7 +417,8 @@ module _ (P : List ℕ → Type 0) (index : PlaceMap) (store : Store) (t : SlotT
 -- ---- what others leave
 
 -- other live keys, of which each is as live as it was, are spared so
-live_copies : (index : PlaceMap) (live now : LiveKeys) → IsAsLive live now → (kind : Kind) (slot : ℕ) (es : List Entry) → HasLiveCopy index live kind slot es → HasLiveCopy index now kind slot es
+live_copies : (index : PlaceMap) (live now : LiveKeys) → IsAsLive live now → (kind : Kind) (slot : ℕ) (es : List Entry) → HasLiveCopy index live kind slot es
+    → HasLiveCopy index now kind slot es
 live_copies index live now same kind slot [] has = has
 live_copies index live now same kind slot (e ∷ es) (inl has) = inl (has.0, (same (entry_key kind e) (place_of slot e)).1 has.1)
 live_copies index live now same kind slot (e ∷ es) (inr rest) = inr (live_copies index live now same kind slot es rest)
@@ -432,7 +451,8 @@ as_spared P index held c now same was = record {
     alone_by SweepStage is = is
 
 -- A container that is about to be given back holds the newest copy of no key of which P holds, where the index has all such.
-pub ready_is_spare : (P : List ℕ → Type 0) (index : PlaceMap) (store : Store) (slot : ℕ) (h : HeaderValue) → slice_get store.held slot ≡ Some (Some h) → IsPartialIndexOf store.held index
+pub ready_is_spare : (P : List ℕ → Type 0) (index : PlaceMap) (store : Store) (slot : ℕ) (h : HeaderValue) → slice_get store.held slot ≡ Some (Some h)
+    → IsPartialIndexOf store.held index
     → ((key : List ℕ) → P key → HasKey index key) → HasNoEntryIn index slot → IsSpare P store.held slot
 ready_is_spare P index store slot h there partial indexed none = record {
   header = h;

@@ -64,7 +64,8 @@ use Rattle.gc_steps.proofs.FirstStage.{first_there}
 abbrev pub IsChosen : PlaceMap → Collection → ℕ → HeaderValue → Type 0
 IsChosen index d slot h = IsSelectedId d.snapshot d.percent d.liveness h.id ⊎ IsSpared index d slot h
 
-module _ (index : PlaceMap) (t : SlotTable) (snapshot : ℕ) (d : Collection) (slot : ℕ) (h : HeaderValue) (within : slot < length t.ids.items) (old : is_old_slot snapshot t slot ≡ true)
+module _ (index : PlaceMap) (t : SlotTable) (snapshot : ℕ) (d : Collection) (slot : ℕ) (h : HeaderValue) (within : slot < length t.ids.items)
+    (old : is_old_slot snapshot t slot ≡ true)
     (low : h.id < d.snapshot) where
   -- it is no slot before the first from one on
   not_passed : (from : ℕ) (found : Option ℕ) → first_slot t (is_old_slot snapshot t) from ≡ found → from ≤ slot → (at : ℕ) × ((found ≡ Some at) × (at ≤ slot))
@@ -72,7 +73,8 @@ module _ (index : PlaceMap) (t : SlotTable) (snapshot : ℕ) (d : Collection) (s
       let first = first_there (is_old_slot snapshot t) from (length t.ids.items - from) slot later (omega (arith, later, within)) old in
       (first.slot, (sym is ∙ first.first, first.no_later))
 
-  found_spared : (from : ℕ) (found : Option ℕ) → first_slot t (is_old_slot snapshot t) from ≡ found → (slot < from → IsChosen index d slot h) → IsSparedAt (filter_at found) index d slot h
+  found_spared : (from : ℕ) (found : Option ℕ) → first_slot t (is_old_slot snapshot t) from ≡ found → (slot < from → IsChosen index d slot h)
+      → IsSparedAt (filter_at found) index d slot h
   found_spared from None is before = (low, chosen)
     where
       chosen : IsChosen index d slot h
@@ -154,16 +156,19 @@ none_live snapshot percent r old none =
     (or_true (nat_lt (r.live * 100) (percent * r.all)) (r.live == 0) (eq-eqb r.live 0 none))
 
 -- and one of which something is has a live copy
-some_live : (index : PlaceMap) (live : LiveKeys) (kind : Kind) (slot : ℕ) (es : List Entry) (sum : ℕ) → SumsLive index live kind slot es sum → 1 ≤ sum → HasLiveCopy index live kind slot es
+some_live : (index : PlaceMap) (live : LiveKeys) (kind : Kind) (slot : ℕ) (es : List Entry) (sum : ℕ) → SumsLive index live kind slot es sum → 1 ≤ sum
+    → HasLiveCopy index live kind slot es
 some_live index live kind slot [] sum sums some = absurd (omega (arith, sums, some))
 some_live index live kind slot (e ∷ es) sum (inl here) some = inl here.0
 some_live index live kind slot (e ∷ es) sum (inr other) some = inr (some_live index live kind slot es sum other.1 some)
 
 -- what some record is stays so with one more
-pub more_selected : (snapshot percent id : ℕ) (rs : List ContainerLiveness) (r : ContainerLiveness) → IsSelectedId snapshot percent rs id → IsSelectedId snapshot percent (rs ++ r ∷ []) id
+pub more_selected : (snapshot percent id : ℕ) (rs : List ContainerLiveness) (r : ContainerLiveness) → IsSelectedId snapshot percent rs id
+    → IsSelectedId snapshot percent (rs ++ r ∷ []) id
 more_selected snapshot percent id rs r (k, one, below, is, passes) = (k, one, grind (arith, common_steps), grind (arith, common_steps), passes)
 
-pub last_selected : (snapshot percent id : ℕ) (rs : List ContainerLiveness) (r : ContainerLiveness) → r.id ≡ id → is_selected snapshot percent r ≡ true → IsSelectedId snapshot percent (rs ++ r ∷ []) id
+pub last_selected : (snapshot percent id : ℕ) (rs : List ContainerLiveness) (r : ContainerLiveness) → r.id ≡ id → is_selected snapshot percent r ≡ true
+    → IsSelectedId snapshot percent (rs ++ r ∷ []) id
 last_selected snapshot percent id rs r same passes = (length rs, r, grind (arith, common_steps), grind (arith, common_steps), (same, passes))
 
 module _ (index : PlaceMap) (t : SlotTable) (c d : Collection) (slot live : ℕ) (h : HeaderValue) where
@@ -184,7 +189,8 @@ module _ (index : PlaceMap) (t : SlotTable) (c d : Collection) (slot live : ℕ)
       live_is = recorded_live_by (get_or t.ids.items slot 0) _ live
 
   -- and one that was recorded before
-  pub chosen_on : d.snapshot ≡ c.snapshot → d.percent ≡ c.percent → d.live ≡ c.live → d.liveness ≡ c.liveness ++ recorded t slot live ∷ [] → (other : ℕ) (g : HeaderValue) → IsChosen index c other g
+  pub chosen_on : d.snapshot ≡ c.snapshot → d.percent ≡ c.percent → d.live ≡ c.live → d.liveness ≡ c.liveness ++ recorded t slot live ∷ [] → (other : ℕ) (g : HeaderValue)
+      → IsChosen index c other g
       → IsChosen index d other g
   chosen_on snapshot percent lives is other g (inr spared) = inr (subst (λ (l : LiveKeys). HasLiveCopy index l g.kind other g.entries) (sym lives) spared)
   chosen_on snapshot percent lives is other g (inl selected) =
@@ -201,7 +207,8 @@ IsSweptSo index live s slot h =
     IsToBeTaken s.sources.items (sources_before s s.next) h.id ⊎ IsToBeFreed s slot ⊎ HasLiveCopy index live h.kind slot h.entries
 
 -- a sweep that begins
-pub begun_swept : (t : SlotTable) (sources : List ℕ) (s : Sweep) (index : PlaceMap) (live : LiveKeys) (slot : ℕ) (h : HeaderValue) → Begins t sources s → Contains sources h.id ⊎ HasLiveCopy index live h.kind slot h.entries
+pub begun_swept : (t : SlotTable) (sources : List ℕ) (s : Sweep) (index : PlaceMap) (live : LiveKeys) (slot : ℕ) (h : HeaderValue) → Begins t sources s → Contains sources h.id
+    ⊎ HasLiveCopy index live h.kind slot h.entries
     → IsSweptSo index live s slot h
 begun_swept t sources s index live slot h begins (inr spared) = inr (inr spared)
 begun_swept t sources s index live slot h begins (inl there) = inl (
@@ -220,7 +227,8 @@ begun_swept t sources s index live slot h begins (inl there) = inl (
     first End is = omega (arith, is.1, ap length begins.sources_are)
 
 -- the copies of a container that the index still has
-copies_on : (index later : PlaceMap) (live : LiveKeys) → ((key : List ℕ) → IsLive index live key → finite.get later key ≡ finite.get index key) → (kind : Kind) (slot : ℕ) (es : List Entry)
+copies_on : (index later : PlaceMap) (live : LiveKeys) → ((key : List ℕ) → IsLive index live key → finite.get later key ≡ finite.get index key)
+    → (kind : Kind) (slot : ℕ) (es : List Entry)
     → HasLiveCopy index live kind slot es → HasLiveCopy later live kind slot es
 copies_on index later live stay kind slot [] has = has
 copies_on index later live stay kind slot (e ∷ es) (inr rest) = inr (copies_on index later live stay kind slot es rest)
@@ -229,7 +237,8 @@ copies_on index later live stay kind slot (e ∷ es) (inl has) =
     inl (at_copy later kind slot e (stay (entry_key kind e) (place_of slot e, (found, has.1)) ∙ found), has.1)
 
 -- What a step of a sweep makes of a source: where it stands still, it is to be taken or to be given back.
-module _ (index : PlaceMap) (held : List (Option HeaderValue)) (image : List ℕ) (live : LiveKeys) (snapshot : ℕ) (s : Sweep) (holds : HoldsSweep index held image live snapshot s) (slot : ℕ) (h : HeaderValue)
+module _ (index : PlaceMap) (held : List (Option HeaderValue)) (image : List ℕ) (live : LiveKeys) (snapshot : ℕ) (s : Sweep) (holds : HoldsSweep index held image live snapshot s)
+    (slot : ℕ) (h : HeaderValue)
     (there : slice_get held slot ≡ Some (Some h)) where
   pub source_so : IsSourceId s.sources.items h.id → IsSweptSo index live s slot h
   source_so (i, (within, is)) = elim (leb_tells (sources_before s s.next) i) [
@@ -237,13 +246,16 @@ module _ (index : PlaceMap) (held : List (Option HeaderValue)) (image : List ℕ
     | inr before ↦ inr (inl (holds.none_lost slot i h there before.1 (sym is)))
   ]
 
-module _ (held : List (Option HeaderValue)) (t : SlotTable) (snapshot : ℕ) (s : Sweep) (under : IsSweeping t snapshot s) (slots : RepresentsSlots held t) (slot : ℕ) (h : HeaderValue)
+module _ (held : List (Option HeaderValue)) (t : SlotTable) (snapshot : ℕ) (s : Sweep) (under : IsSweeping t snapshot s) (slots : RepresentsSlots held t) (slot : ℕ)
+    (h : HeaderValue)
     (there : slice_get held slot ≡ Some (Some h)) where
   -- what is to be given back is a source
   pub freed_source : IsToBeFreed s slot → IsSourceId s.sources.items h.id
   freed_source freed =
-      let stands = stands_in held t snapshot s under slots slot freed in
-      (stands.number, (omega (arith, stands.below, under.before), sym stands.id_is ∙ ap (λ (g : HeaderValue). g.id) (one_header held slot slot stands.header h refl stands.there there)))
+      let stands = stands_in held t snapshot s under slots slot freed in (
+        stands.number,
+        (omega (arith, stands.below, under.before), sym stands.id_is ∙ ap (λ (g : HeaderValue). g.id) (one_header held slot slot stands.header h refl stands.there there)),
+      )
 
   -- as is one that was copied in part
   pub half_source : (g : HeaderValue) → IsHalfCopied held s slot g → IsSourceId s.sources.items h.id
@@ -264,13 +276,15 @@ module _ (held : List (Option HeaderValue)) (t : SlotTable) (snapshot : ℕ) (s 
   alone_source (inr (g, half)) = half_source g half
 
 -- what is so of a container before a step of a sweep that copies, or gives back, is so after it
-module _ (index later : PlaceMap) (held held_now : List (Option HeaderValue)) (now : List ℕ) (live : LiveKeys) (t : SlotTable) (snapshot : ℕ) (s s' : Sweep) (slots : RepresentsSlots held t)
+module _ (index later : PlaceMap) (held held_now : List (Option HeaderValue)) (now : List ℕ) (live : LiveKeys) (t : SlotTable) (snapshot : ℕ) (s s' : Sweep)
+    (slots : RepresentsSlots held t)
     (under : IsSweeping t snapshot s) (same : s'.sources.items ≡ s.sources.items) (holds_now : HoldsSweep later held_now now live snapshot s') (slot : ℕ) (h : HeaderValue)
     (there : slice_get held slot ≡ Some (Some h)) (there_now : slice_get held_now slot ≡ Some (Some h)) where
   pub source_swept : IsSourceId s.sources.items h.id → IsSweptSo later live s' slot h
   source_swept source = source_so later held_now now live snapshot s' holds_now slot h there_now (subst (λ (xs : List ℕ). IsSourceId xs h.id) (sym same) source)
 
-  pub swept_on : (HasLiveCopy index live h.kind slot h.entries → HasLiveCopy later live h.kind slot h.entries ⊎ IsSourceId s.sources.items h.id) → IsSweptSo index live s slot h → IsSweptSo later live s' slot h
+  pub swept_on : (HasLiveCopy index live h.kind slot h.entries → HasLiveCopy later live h.kind slot h.entries ⊎ IsSourceId s.sources.items h.id) → IsSweptSo index live s slot h
+      → IsSweptSo later live s' slot h
   swept_on copies (inl (i, (from, below, is))) = source_swept (i, (below, is))
   swept_on copies (inr (inl freed)) = source_swept (freed_source held t snapshot s under slots slot h there freed)
   swept_on copies (inr (inr spared)) = elim (copies spared) [
@@ -285,9 +299,12 @@ AreAlone index held s = (key : List ℕ) (place : Place) → has_key s.buffer ke
 
 -- ---- a source is copied
 
-module _ (t : SlotTable) (index : PlaceMap) (held : List (Option HeaderValue)) (image : List ℕ) (live : LiveKeys) (snapshot source entry : ℕ) (s s' : Sweep) (known_now : Option PlaceMap) (old new : DiskView)
-    (slots : RepresentsSlots held t) (differ : DifferentIds held) (stand : HoldSlots 0 held image) (partial : IsPartialIndexOf held index) (content : old.content ≡ Some image) (under : IsSweeping t snapshot s)
-    (stage : s.next ≡ CopyNext source entry) (holds : HoldsSweep index held image live snapshot s) (copies : CopiesSource t live (Some index) known_now old new source entry s s') where
+module _ (t : SlotTable) (index : PlaceMap) (held : List (Option HeaderValue)) (image : List ℕ) (live : LiveKeys) (snapshot source entry : ℕ) (s s' : Sweep)
+    (known_now : Option PlaceMap) (old new : DiskView)
+    (slots : RepresentsSlots held t) (differ : DifferentIds held) (stand : HoldSlots 0 held image) (partial : IsPartialIndexOf held index) (content : old.content ≡ Some image)
+    (under : IsSweeping t snapshot s)
+    (stage : s.next ≡ CopyNext source entry) (holds : HoldsSweep index held image live snapshot s)
+    (copies : CopiesSource t live (Some index) known_now old new source entry s s') where
   pub copied_leaves : LeavesHeld index held image live snapshot known_now s'
   copied_leaves = holds_copied t index held image live snapshot source entry s s' known_now old new slots differ stand partial content under stage holds copies
 
@@ -332,7 +349,8 @@ module _ (t : SlotTable) (index : PlaceMap) (held : List (Option HeaderValue)) (
       -- none lies in a container that came after the collection began
       not_newer : (g : HeaderValue) → slice_get held place.slot ≡ Some (Some g) → snapshot ≤ g.id → ⊥
       not_newer g there newer = elim (came key place was has) [
-        | inl before ↦ let old_id = source_old_id held t snapshot s under slots place.slot g there (alone_source held t snapshot s under slots place.slot g there (alone key place before was)) in omega (arith, old_id, newer)
+        | inl before ↦ let old_id = source_old_id held t snapshot s under slots place.slot g there
+            (alone_source held t snapshot s under slots place.slot g there (alone key place before was)) in omega (arith, old_id, newer)
         | inr here ↦ omega (arith, ap (λ (x : HeaderValue). x.id) (one_header held place.slot copies.slot g h here there read.there), newer, read.old)
       ]
 
@@ -363,13 +381,15 @@ entry_none kind offset (x ∷ xs) key lacks = by_test (bytes_eq (segment_key kin
     here : Entry
     here = record { digest = sha256 x.bytes; offset = offset; length = length x.bytes; level = x.level }
 
-    by_test : (b : Bool) → b || listed (map (segment_key kind) xs) key ≡ false → (listed (map (segment_key kind) xs) key ≡ false → entry_of kind (entries_from (offset + length x.bytes) xs) key ≡ None)
+    by_test : (b : Bool) → b || listed (map (segment_key kind) xs) key ≡ false
+        → (listed (map (segment_key kind) xs) key ≡ false → entry_of kind (entries_from (offset + length x.bytes) xs) key ≡ None)
         → cond b (Some here) (entry_of kind (entries_from (offset + length x.bytes) xs) key) ≡ None
     by_test true lacks rest = absurd cc
     by_test false lacks rest = rest lacks
 
 -- the new container holds a live copy
-new_copy : (index : PlaceMap) (held : List (Option HeaderValue)) (image : List ℕ) (live : LiveKeys) (kind : Kind) (at : ℕ) (ss : List Segment) → Follow kind [] (entries_from 0 ss) → ss ≢ []
+new_copy : (index : PlaceMap) (held : List (Option HeaderValue)) (image : List ℕ) (live : LiveKeys) (kind : Kind) (at : ℕ) (ss : List Segment) → Follow kind [] (entries_from 0 ss)
+    → ss ≢ []
     → AllByRecursion (IsCopied index live held image kind) ss → HasLiveCopy (with_entries kind at (entries_from 0 ss) index) live kind at (entries_from 0 ss)
 new_copy index held image live kind at [] follow some copied = absurd (some refl)
 new_copy index held image live kind at (x ∷ xs) follow some copied = inl (
@@ -385,8 +405,10 @@ new_copy index held image live kind at (x ∷ xs) follow some copied = inl (
         ap (λ (b : Bool). cond b (Some first) (entry_of kind (entries_from (0 + length x.bytes) xs) (segment_key kind x)))
         ((bytes_eq-Decides (segment_key kind x) (segment_key kind x)).1 refl)
 
-module _ (t : SlotTable) (index : PlaceMap) (held : List (Option HeaderValue)) (image now : List ℕ) (live : LiveKeys) (snapshot source entry id : ℕ) (s s' : Sweep) (slots : RepresentsSlots held t)
-    (under : IsSweeping t snapshot s) (stage : s.next ≡ Flush source entry) (flushed : HasFlushed source entry s s') (right : IsHeader (header_of id s.buffer.kind s.buffer.segments))
+module _ (t : SlotTable) (index : PlaceMap) (held : List (Option HeaderValue)) (image now : List ℕ) (live : LiveKeys) (snapshot source entry id : ℕ) (s s' : Sweep)
+    (slots : RepresentsSlots held t)
+    (under : IsSweeping t snapshot s) (stage : s.next ≡ Flush source entry) (flushed : HasFlushed source entry s s')
+    (right : IsHeader (header_of id s.buffer.kind s.buffer.segments))
     (holds : HoldsSweep index held image live snapshot s) (alone : AreAlone index held s) where
   abbrev place : ℕ
   place = first_free held
@@ -414,7 +436,8 @@ module _ (t : SlotTable) (index : PlaceMap) (held : List (Option HeaderValue)) (
       by_filled true filled = inr (alone_source held t snapshot s under slots slot h there (alone (entry_key kind e) (place_of slot e) filled found))
       by_filled false lacks = inl (inl (
         at_copy later kind slot e
-            (put_none s.buffer.kind place (entries_from 0 s.buffer.segments) index (entry_key kind e) (entry_none s.buffer.kind 0 s.buffer.segments (entry_key kind e) lacks) ∙ found),
+            (put_none s.buffer.kind place (entries_from 0 s.buffer.segments) index (entry_key kind e) (entry_none s.buffer.kind 0 s.buffer.segments (entry_key kind e) lacks)
+            ∙ found),
         has.1,
       ))
 
@@ -434,7 +457,8 @@ module _ (t : SlotTable) (index : PlaceMap) (held : List (Option HeaderValue)) (
 
 -- ---- a source is given back
 
-module _ (t then : SlotTable) (index : PlaceMap) (held : List (Option HeaderValue)) (now : List ℕ) (live : LiveKeys) (snapshot source entry : ℕ) (s s' : Sweep) (slots : RepresentsSlots held t)
+module _ (t then : SlotTable) (index : PlaceMap) (held : List (Option HeaderValue)) (now : List ℕ) (live : LiveKeys) (snapshot source entry : ℕ) (s s' : Sweep)
+    (slots : RepresentsSlots held t)
     (under : IsSweeping t snapshot s) (stage : s.next ≡ Release source entry) (released : HasReleased then source entry s s') where
   abbrev less : List (Option HeaderValue)
   less = without_slot (slot_in_turn s) held
@@ -443,7 +467,8 @@ module _ (t then : SlotTable) (index : PlaceMap) (held : List (Option HeaderValu
       → (slot : ℕ) (h : HeaderValue) → slice_get less slot ≡ Some (Some h) → IsSweptSo index live s' slot h
   released_swept holds_now was slot h there =
       let before = (there_before (slot_in_turn s) slot h held there).1 in
-      swept_on index index held less now live t snapshot s s' slots under (ap (λ (v : _). v.items) released.sources_are) holds_now slot h before there (λ spared. inl spared) (was slot h before)
+      swept_on index index held less now live t snapshot s s' slots under (ap (λ (v : _). v.items) released.sources_are) holds_now slot h before there (λ spared. inl spared)
+      (was slot h before)
 
   pub released_alone : AreAlone index held s → AreAlone index less s'
   released_alone alone key at has found = by_origin (alone key at filled found)
@@ -454,6 +479,7 @@ module _ (t then : SlotTable) (index : PlaceMap) (held : List (Option HeaderValu
       next : HasNext t s (Release source entry)
       next = subst (HasNext t s) stage under.next_is
 
-      by_origin : Contains s.waiting.items at.slot ⊎ ((h : HeaderValue) × IsHalfCopied held s at.slot h) → Contains s'.waiting.items at.slot ⊎ ((h : HeaderValue) × IsHalfCopied less s' at.slot h)
+      by_origin : Contains s.waiting.items at.slot ⊎ ((h : HeaderValue) × IsHalfCopied held s at.slot h) → Contains s'.waiting.items at.slot
+          ⊎ ((h : HeaderValue) × IsHalfCopied less s' at.slot h)
       by_origin (inl waits) = inl (subst (λ (xs : List ℕ). Contains xs at.slot) (sym (ap (λ (v : _). v.items) released.waiting_is)) waits)
       by_origin (inr (h, half)) = absurd (no_key s.buffer key (next.1 (omega (arith, half.some, ap entry_in stage))).1 filled)

@@ -34,7 +34,8 @@ part_holds P [] actor idle all = idle
 part_holds P (p ∷ ps) zero idle all = all.0
 part_holds P (p ∷ ps) (suc actor) idle all = part_holds P ps actor idle all.1
 
-module _ (index : PlaceMap) (store : Store) (files : Files) (parts : List Part) (image : List ℕ) (core : CoreInvariant index store files parts image) (holds : IsStoreOf store files image) where
+module _ (index : PlaceMap) (store : Store) (files : Files) (parts : List Part) (image : List ℕ) (core : CoreInvariant index store files parts image)
+    (holds : IsStoreOf store files image) where
   part_whole : (part : Part) (key : List ℕ) → HoldsPart (HasKey index) store.held image part → IsPartKey part key → IsWhole index store.held image key
   part_whole Idle key held is = absurd is
   part_whole (Writing pins) key held is = pinned_whole index store files image holds pins held key is.0 is.1
@@ -58,7 +59,8 @@ module _ (index : PlaceMap) (store : Store) (files : Files) (parts : List Part) 
   }
 
   -- So it is as a collection begins on these tables, by what `start` says.
-  pub started : (known : Option PlaceMap) (t : Tables) (c : Collection) → Represents store known t → c.snapshot ≡ min (t.held.last_id + 1) (2 ^ 64 - 1) → c.stage ≡ mark_level c.snapshot t.held MOST_LEVEL
+  pub started : (known : Option PlaceMap) (t : Tables) (c : Collection) → Represents store known t → c.snapshot ≡ min (t.held.last_id + 1) (2 ^ 64 - 1)
+      → c.stage ≡ mark_level c.snapshot t.held MOST_LEVEL
       → ((key : List ℕ) (place : Place) → IsLiveAt c.live key place ↔ IsRoot t.names parts key) → MarksAreClosed index store parts image c
   started known t c represents snapshot stage live =
       let last : last_id store.held ≤ 2 ^ 64 - 2 = last_within store.held (headers_of_right image store holds.right) in

@@ -108,7 +108,8 @@ Spares later store store_now parts image now =
 
 -- What a step leaves: the invariants of the running store, and of the collection, of the store and the map of the index that there are then; and
 -- all that is needed.
-pub record LeavesSafe (c : Collection) (index : PlaceMap) (store : Store) (files : Files) (parts : List Part) (image now : List ℕ) (among : ByteSet) (u : Tables) (known : Option PlaceMap) (new : DiskView)
+pub record LeavesSafe (c : Collection) (index : PlaceMap) (store : Store) (files : Files) (parts : List Part) (image now : List ℕ) (among : ByteSet) (u : Tables)
+    (known : Option PlaceMap) (new : DiskView)
     (d : Collection) : Type 0 where
   pub later : PlaceMap
   pub known_is : known ≡ Some later
@@ -176,20 +177,24 @@ module _ (store : Store) (files : Files) (image now : List ℕ) (old new : DiskV
 
 -- Where the content has the same newest copies, the invariant goes on.
 pub core_kept : (index : PlaceMap) (store : Store) (files : Files) (parts : List Part) (image now : List ℕ) → CoreInvariant index store files parts image
-    → ((key : List ℕ) (level : ℕ) (bytes : List ℕ) → HasNewest store.held key level bytes image → HasNewest store.held key level bytes now) → CoreInvariant index store files parts now
+    → ((key : List ℕ) (level : ℕ) (bytes : List ℕ) → HasNewest store.held key level bytes image → HasNewest store.held key level bytes now)
+    → CoreInvariant index store files parts now
 core_kept index store files parts image now core keeps = record {
   index_is_newest = core.index_is_newest;
   files_are_indexed = core.files_are_indexed;
-  pins_are_closed = parts_kept (HasKey index) (HasKey index) store store image now (λ key level bytes need has. keeps key level bytes has) (λ key has. has) parts core.pins_are_closed;
+  pins_are_closed = parts_kept (HasKey index) (HasKey index) store store image now (λ key level bytes need has. keeps key level bytes has)
+      (λ key has. has) parts core.pins_are_closed;
   reserve_holds = core.reserve_holds;
   has_free = core.has_free;
 }
 
 -- ---- each stage
 
-module _ (index : PlaceMap) (store : Store) (files : Files) (parts : List Part) (image now : List ℕ) (among : ByteSet) (t u : Tables) (known : Option PlaceMap) (old new : DiskView) (c d : Collection)
+module _ (index : PlaceMap) (store : Store) (files : Files) (parts : List Part) (image now : List ℕ) (among : ByteSet) (t u : Tables) (known : Option PlaceMap)
+    (old new : DiskView) (c d : Collection)
     (core : CoreInvariant index store files parts image) (few : length parts ≤ ACTORS) (represents : Represents store (Some index) t) (valid : IsValidFor old.size store)
-    (content : old.content ≡ Some image) (content_now : new.content ≡ Some now) (stands : StandsFor (Stands (IsIn among) store files) old) (under : IsUnderWay t.held c) (under_now : IsUnderWay u.held d) where
+    (content : old.content ≡ Some image) (content_now : new.content ≡ Some now) (stands : StandsFor (Stands (IsIn among) store files) old) (under : IsUnderWay t.held c)
+    (under_now : IsUnderWay u.held d) where
   abbrev Leaves : Stage → Next → Type 0
   Leaves stage next = c.stage ≡ stage → c.sweep.next ≡ next → LeavesSafe c index store files parts image now among u known new d
 
@@ -220,7 +225,8 @@ module _ (index : PlaceMap) (store : Store) (files : Files) (parts : List Part) 
       (λ n copy node whole k other within. (children_whole index store.held image n copy node whole k other within).is_whole) key needed)
 
   -- Where store, tables and index stay.
-  all_kept : IsStoreAfter c.stage c.sweep.next c.snapshot c.sweep index store store image → known ≡ Some index → u ≡ t → new.size ≡ old.size → StandsFor (Stands (IsIn among) store files) new → Newest
+  all_kept : IsStoreAfter c.stage c.sweep.next c.snapshot c.sweep index store store image → known ≡ Some index → u ≡ t → new.size ≡ old.size
+      → StandsFor (Stands (IsIn among) store files) new → Newest
       → IsSafe index store parts now d → ((key : List ℕ) → IsLive index c.live key → IsLive index d.live key) → LeavesSafe c index store files parts image now among u known new d
   all_kept store_is known_is same size after keeps safe lives = record {
     later = index;
@@ -254,7 +260,8 @@ module _ (index : PlaceMap) (store : Store) (files : Files) (parts : List Part) 
   abbrev After : Stage → Next → Type 0
   After stage next = IsStoreAfter stage next c.snapshot c.sweep index store store image
 
-  mark_leaves : (level slot : ℕ) (next : Next) → MarksAreClosed index store parts image c → Scans t.held (Some index) old new level slot c d → known ≡ Some index → u ≡ t → OnlyReads old new
+  mark_leaves : (level slot : ℕ) (next : Next) → MarksAreClosed index store parts image c → Scans t.held (Some index) old new level slot c d → known ≡ Some index → u ≡ t
+      → OnlyReads old new
       → Leaves (Mark level slot) next
   mark_leaves level slot next marks scans known_is same only stage_is next_is =
       all_read (at_stage_next After (Mark level slot) next stage_is next_is refl) known_is same only
@@ -263,7 +270,8 @@ module _ (index : PlaceMap) (store : Store) (files : Files) (parts : List Part) 
       (mark_from c.snapshot t.held level (slot + 1)) (ap (λ (x : Collection). x.stage) scans.collection_is) (early_from c.snapshot t.held level (slot + 1)))
       (more_live level slot scans)
 
-  filter_leaves : (slot : ℕ) (next : Next) → SweepIsSafe index store parts image c → Records t.held (Some index) old new slot c d → known ≡ Some index → u ≡ t → OnlyReads old new → Leaves (Filter slot) next
+  filter_leaves : (slot : ℕ) (next : Next) → SweepIsSafe index store parts image c → Records t.held (Some index) old new slot c d → known ≡ Some index → u ≡ t → OnlyReads old new
+      → Leaves (Filter slot) next
   filter_leaves slot next safe records known_is same only stage_is next_is =
       let found : Option ℕ = first_slot t.held (is_old_slot c.snapshot t.held) (slot + 1) in
       let stage : d.stage ≡ filter_at found = ap (λ (x : Collection). x.stage) records.collection_is in
@@ -274,7 +282,8 @@ module _ (index : PlaceMap) (store : Store) (files : Files) (parts : List Part) 
       (same_lives (ap (λ (x : Collection). x.live) records.collection_is))
 
   -- the sweep that there is then holds
-  swept : (later : PlaceMap) (store_now : Store) (i : List ℕ) → RepresentsSlots store_now.held u.held → d.stage ≡ Sweep → HoldsSweep later store_now.held i d.live d.snapshot d.sweep
+  swept : (later : PlaceMap) (store_now : Store) (i : List ℕ) → RepresentsSlots store_now.held u.held → d.stage ≡ Sweep
+      → HoldsSweep later store_now.held i d.live d.snapshot d.sweep
       → HoldsAt d.stage later store_now.held i d
   swept later store_now i slots stage holds_now =
       subst (λ (s : Stage). HoldsAt s later store_now.held i d) (sym stage)
@@ -292,7 +301,8 @@ module _ (index : PlaceMap) (store : Store) (files : Files) (parts : List Part) 
 
   end_leaves : IsSafe index store parts image c → d ≡ c → known ≡ Some index → u ≡ t → OnlyReads old new → Leaves Sweep End
   end_leaves safe is known_is same only stage_is next_is =
-      all_read (at_stage_next After Sweep End stage_is next_is refl) known_is same only (subst (λ (x : Collection). IsSafe index store parts image x) (sym is) safe) (same_lives (ap (λ (x : Collection). x.live) is))
+      all_read (at_stage_next After Sweep End stage_is next_is refl) known_is same only (subst (λ (x : Collection). IsSafe index store parts image x) (sym is) safe)
+      (same_lives (ap (λ (x : Collection). x.live) is))
 
   -- ---- the sweep
 
@@ -306,7 +316,8 @@ module _ (index : PlaceMap) (store : Store) (files : Files) (parts : List Part) 
     -- Where a step leaves the store, and just the live keys live, the sweep is safe, and nothing is lost that is needed.
     module _ (later : PlaceMap) (store_now : Store) (left : Left later store_now) (on : d ≡ record c { sweep = d.sweep }) (names : names_of store_now ≡ names_of store) where
       all_still : (keys : List (List ℕ)) → All (IsLive index c.live) keys → All (IsLive later d.live) keys
-      all_still keys all k other within = subst (λ (l : LiveKeys). IsLive later l (get_or keys k other)) (sym (ap (λ (x : Collection). x.live) on)) (left.stays (get_or keys k other) (all k other within))
+      all_still keys all k other within = subst (λ (l : LiveKeys). IsLive later l (get_or keys k other)) (sym (ap (λ (x : Collection). x.live) on))
+          (left.stays (get_or keys k other) (all k other within))
 
       live_before : (key : List ℕ) → IsLive later d.live key → IsLive index c.live key
       live_before key is = left.was key (subst (λ (l : LiveKeys). IsLive later l key) (ap (λ (x : Collection). x.live) on) is)
@@ -315,7 +326,8 @@ module _ (index : PlaceMap) (store : Store) (files : Files) (parts : List Part) 
       closed n copy there live =
           let was = live_before (node_key n) live in
           let found = copy_of store.held index partial (node_key n) was.0 was.1.0 in
-          let has : HasNewest store.held (node_key n) found.0.place.level (bytes_at found.0.place image) image = record { copy = found.0; copy_is = found.1.0; level_is = refl; bytes_are = refl } in
+          let has : HasNewest store.held (node_key n) found.0.place.level
+          (bytes_at found.0.place image) image = record { copy = found.0; copy_is = found.1.0; level_is = refl; bytes_are = refl } in
           let then = left.copies (node_key n) found.0.place.level (bytes_at found.0.place image) was has in
           let one : then.copy ≡ copy = some_same then.copy copy (sym then.copy_is ∙ there.copy_is) in
           all_still (child_keys n)
@@ -344,7 +356,8 @@ module _ (index : PlaceMap) (store : Store) (files : Files) (parts : List Part) 
       needed_live : (key : List ℕ) → IsNeeded store parts image key → IsLive index c.live key
       needed_live key needed = needed_has index store files parts image holds (IsLive index c.live) safe.roots_are_live safe.live_is_closed key needed
 
-      pub left_safe : known ≡ Some later → IsStoreAfter c.stage c.sweep.next c.snapshot c.sweep index store store_now image → IsSafe later store_now parts now d → LeavesSafe c index store files parts image now among u known new d
+      pub left_safe : known ≡ Some later → IsStoreAfter c.stage c.sweep.next c.snapshot c.sweep index store store_now image → IsSafe later store_now parts now d
+          → LeavesSafe c index store files parts image now among u known new d
       left_safe known_is store_is safe_now = record {
         later = later;
         known_is = known_is;
@@ -366,7 +379,8 @@ module _ (index : PlaceMap) (store : Store) (files : Files) (parts : List Part) 
     new_still later stays slot h there above k other within = stays (entry_key h.kind (get_or h.entries k other)) (safe.new_are_live slot h there above k other within)
 
     -- A source is copied.
-    copy_leaves_safe : (source entry : ℕ) → c.sweep.next ≡ CopyNext source entry → CopiesSource t.held c.live (Some index) known old new source entry c.sweep d.sweep → d ≡ record c { sweep = d.sweep } → u ≡ t
+    copy_leaves_safe : (source entry : ℕ) → c.sweep.next ≡ CopyNext source entry → CopiesSource t.held c.live (Some index) known old new source entry c.sweep d.sweep
+        → d ≡ record c { sweep = d.sweep } → u ≡ t
         → Changes (slot_at store.slots) Done old new → LeavesSafe c index store files parts image now among u known new d
     copy_leaves_safe source entry next_is copies on same changes =
         let keeps : Newest = changed_keeps store files image now old new among content content_now stands Done changes in
@@ -381,7 +395,8 @@ module _ (index : PlaceMap) (store : Store) (files : Files) (parts : List Part) 
         (safe_on held.later store left on refl held.sweep_holds (new_still held.later left.stays))
 
     -- What was copied is written.
-    module _ (source entry : ℕ) (next_is : c.sweep.next ≡ Flush source entry) (flushes : Flushes source entry (moment t (Some index) old c) (moment u known new d)) (goes : IsLater old new)
+    module _ (source entry : ℕ) (next_is : c.sweep.next ≡ Flush source entry) (flushes : Flushes source entry (moment t (Some index) old c) (moment u known new d))
+        (goes : IsLater old new)
         (moves : SealsIndexed t (t.held.last_id + 1) c.sweep.buffer Done old new) where
       abbrev filled : Contents
       filled = c.sweep.buffer
@@ -417,7 +432,8 @@ module _ (index : PlaceMap) (store : Store) (files : Files) (parts : List Part) 
 
       sweeping_now : IsSweeping u.held c.snapshot d.sweep
       sweeping_now =
-          subst (λ (n : ℕ). IsSweeping u.held n d.sweep) (ap (λ (x : Collection). x.snapshot) flushes.sweeps) (at_stage u.held d Sweep under_now (ap (λ (x : Collection). x.stage) flushes.sweeps ∙ stage_is))
+          subst (λ (n : ℕ). IsSweeping u.held n d.sweep) (ap (λ (x : Collection). x.snapshot) flushes.sweeps)
+          (at_stage u.held d Sweep under_now (ap (λ (x : Collection). x.stage) flushes.sweeps ∙ stage_is))
 
       in_index : (key : List ℕ) → HasKey more key → HasKey index key
       in_index key has = by_found (entry_of filled.kind (entries_from 0 filled.segments) key) refl
@@ -425,7 +441,8 @@ module _ (index : PlaceMap) (store : Store) (files : Files) (parts : List Part) 
           by_found : (found : Option Entry) → entry_of filled.kind (entries_from 0 filled.segments) key ≡ found → HasKey index key
           by_found None none = (has.0, sym (put_none filled.kind slot (entries_from 0 filled.segments) index key none) ∙ has.1)
           by_found (Some e) found =
-              let live = live_keys index c.live store.held image filled.kind filled.segments was_held.1.copied key (key_found filled.kind 0 filled.segments key e found) in (live.0, live.1.0)
+              let live = live_keys index c.live store.held image filled.kind filled.segments was_held.1.copied key (key_found filled.kind 0 filled.segments key e found) in
+              (live.0, live.1.0)
 
       headers : AreHeaders written.held
       headers = (valid_sealed id filled.kind filled.segments store can old.size valid).headers
@@ -440,7 +457,8 @@ module _ (index : PlaceMap) (store : Store) (files : Files) (parts : List Part) 
       left : Left more written
       left =
           flush_leaves index store files parts image now among t u old new c.live core represents valid content content_now stands slot filled flushes.writes goes moves
-          (may_flush index store.held image c.live c.snapshot c.sweep was_held.1 (IsIn among) holds.nodes here.among) (inr (inr (are_newest index store.held image c.live c.snapshot c.sweep was_held.1))) in_index reserve free
+          (may_flush index store.held image c.live c.snapshot c.sweep was_held.1 (IsIn among) holds.nodes here.among)
+          (inr (inr (are_newest index store.held image c.live c.snapshot c.sweep was_held.1))) in_index reserve free
 
       new_live : NewAreLive more c.live c.snapshot written.held
       new_live other h there above = by_slot (with_there (first_free store.held) (header_of id filled.kind filled.segments) store.held other h there)
@@ -448,7 +466,8 @@ module _ (index : PlaceMap) (store : Store) (files : Files) (parts : List Part) 
           each : All (λ e. IsLive more c.live (entry_key filled.kind e)) (entries_from 0 filled.segments)
           each k d within =
               left.stays (entry_key filled.kind (get_or (entries_from 0 filled.segments) k d))
-              (live_keys index c.live store.held image filled.kind filled.segments was_held.1.copied (entry_key filled.kind (get_or (entries_from 0 filled.segments) k d)) (entries_sealed filled.kind 0 filled.segments k d within))
+              (live_keys index c.live store.held image filled.kind filled.segments was_held.1.copied (entry_key filled.kind (get_or (entries_from 0 filled.segments) k d))
+              (entries_sealed filled.kind 0 filled.segments k d within))
 
           by_slot : (slice_get store.held other ≡ Some (Some h)) ⊎ (header_of id filled.kind filled.segments ≡ h) → All (λ e. IsLive more c.live (entry_key h.kind e)) h.entries
           by_slot (inl was) = new_still more left.stays other h was above
@@ -462,7 +481,8 @@ module _ (index : PlaceMap) (store : Store) (files : Files) (parts : List Part) 
           (safe_on more written left flushes.sweeps refl holds_now new_live)
 
     -- A source is given back.
-    release_leaves_safe : (source entry : ℕ) → c.sweep.next ≡ Release source entry → HasFreed t (slot_in_turn c.sweep) u → HasReleased u.held source entry c.sweep d.sweep → d ≡ record c { sweep = d.sweep }
+    release_leaves_safe : (source entry : ℕ) → c.sweep.next ≡ Release source entry → HasFreed t (slot_in_turn c.sweep) u → HasReleased u.held source entry c.sweep d.sweep
+        → d ≡ record c { sweep = d.sweep }
         → known ≡ Some index → IsLater old new → GivesBack t (slot_in_turn c.sweep) Done old new → LeavesSafe c index store files parts image now among u known new d
     release_leaves_safe source entry next_is freed released on known_is goes gives =
         let slot : ℕ = slot_in_turn c.sweep in
@@ -472,7 +492,16 @@ module _ (index : PlaceMap) (store : Store) (files : Files) (parts : List Part) 
         release_leaves index store files parts image now among t u old new c.live core represents valid content content_now stands slot turn.stands.header turn.stands.there turn.none freed goes gives in
         left_safe index fewer left on refl known_is
         (at_stage_next (λ s n. IsStoreAfter s n c.snapshot c.sweep index store fewer image) Sweep (Release source entry) stage_is next_is
-        (record { header = turn.stands.header; there = turn.stands.there; number = turn.stands.number; within = omega (arith, turn.stands.below, sweeping.before); id_is = turn.stands.id_is; none = turn.none; now_is = refl }))
+        (record {
+          header = turn.stands.header;
+          there = turn.stands.there;
+          number = turn.stands.number;
+          within = omega
+              (arith, turn.stands.below, sweeping.before);
+          id_is = turn.stands.id_is;
+          none = turn.none;
+          now_is = refl;
+        }))
         (safe_on index fewer left on refl
         (holds_released t.held u.held index store.held image now c.live c.snapshot source entry c.sweep d.sweep represents.slots_hold sweeping next_is released was_held.1
         (λ key level bytes has. gives.holds among store index files image now represents core.files_are_indexed turn.none content content_now here key level bytes has))
@@ -485,9 +514,11 @@ module _ (index : PlaceMap) (store : Store) (files : Files) (parts : List Part) 
   by_stage (Mark level slot) next safe steps same touches goes is next_is = mark_leaves level slot next safe steps.0 steps.1 same touches.only is next_is
   by_stage (Filter slot) next safe steps same touches goes is next_is = filter_leaves slot next safe steps.0 steps.1 same touches.only is next_is
   by_stage Select next safe steps same touches goes is next_is = select_leaves next safe steps.0 steps.1 same touches.only is next_is
-  by_stage Sweep (CopyNext source entry) safe steps same touches goes is next_is = copy_leaves_safe safe is source entry next_is steps.0 steps.1 same (touches store.slots valid.size_is)
+  by_stage Sweep (CopyNext source entry) safe steps same touches goes is next_is = copy_leaves_safe safe is source entry next_is steps.0 steps.1 same
+      (touches store.slots valid.size_is)
   by_stage Sweep (Flush source entry) safe steps tables touches goes is next_is = flush_leaves_safe safe is source entry next_is steps goes touches.1
-  by_stage Sweep (Release source entry) safe steps freed touches goes is next_is = release_leaves_safe safe is source entry next_is freed steps.0 steps.1 (steps.3 image content) goes touches.1
+  by_stage Sweep (Release source entry) safe steps freed touches goes is next_is = release_leaves_safe safe is source entry next_is freed steps.0 steps.1
+      (steps.3 image content) goes touches.1
   by_stage Sweep End safe steps same touches goes is next_is =
       end_leaves (subst (λ (s : Stage). IsSafeAt s index store parts image c) (sym is) safe) steps.0 steps.1 same touches.only is next_is
 

@@ -51,7 +51,8 @@ module _ (c : Collection) (stage : c.stage ≡ Sweep) (next : Next) (next_is : c
       ∙ ap (λ (n : Next). answer_at Sweep n c.sweep.freed c.sweep.copied) next_is
       )
 
-module _ (t u : Tables) (known now : Option PlaceMap) (old new : DiskView) (c : Collection) (s : SweepValue) (source entry : ℕ) (stage : c.stage ≡ Sweep) (under : IsUnderWay t.held c) where
+module _ (t u : Tables) (known now : Option PlaceMap) (old new : DiskView) (c : Collection) (s : SweepValue) (source entry : ℕ) (stage : c.stage ≡ Sweep)
+    (under : IsUnderWay t.held c) where
   abbrev before : Moment
   before = moment t known old c
 
@@ -80,7 +81,8 @@ module _ (t u : Tables) (known now : Option PlaceMap) (old new : DiskView) (c : 
       nearer = λ chosen most. fewer chosen (copy_nears t.held c.snapshot source entry c.sweep s sweeping c.live known now old new next_is copies);
     }
 
-    pub copy_refused : (refusal : Refusal) → s ≡ c.sweep → IsCopyStepRefusal t.held c.live known old new source entry c.sweep refusal → MapStays known now refusal → Refuses before after refusal
+    pub copy_refused : (refusal : Refusal) → s ≡ c.sweep → IsCopyStepRefusal t.held c.live known old new source entry c.sweep refusal → MapStays known now refusal
+        → Refuses before after refusal
     copy_refused refusal stays cause map = record {
       cause = at_next c stage (Copy source entry) next_is (λ st n. IsStepRefusal st n before new refusal) cause;
       kept = at_next c stage (Copy source entry) next_is (λ st n. Keeps st n before after refusal) (ap (swept c) stays, map);
@@ -88,7 +90,8 @@ module _ (t u : Tables) (known now : Option PlaceMap) (old new : DiskView) (c : 
       runs_still = λ is runs. subst (Runs new.size now) (sym same) (runs_same old.size new.size known now t size is runs);
     }
 
-  pub copy_goes : (next_is : c.sweep.next ≡ Copy source entry) (e : Ending) (slots : ℕ) → old.size ≡ size_of slots → ((n : ℕ) → old.size ≡ size_of n → Changes (slot_at n) e old new) → GoesBy c t e old new
+  pub copy_goes : (next_is : c.sweep.next ≡ Copy source entry) (e : Ending) (slots : ℕ) → old.size ≡ size_of slots
+      → ((n : ℕ) → old.size ≡ size_of n → Changes (slot_at n) e old new) → GoesBy c t e old new
   copy_goes next_is e slots size changes = record {
     later = (changes slots size).later;
     faults_are = (changes slots size).faults_are;
@@ -113,7 +116,8 @@ module _ (t u : Tables) (known now : Option PlaceMap) (old new : DiskView) (c : 
 
   -- ---- a source was given back
 
-  pub release_made : (next_is : c.sweep.next ≡ Release source entry) (size : new.size ≡ old.size) → HasFreed t (slot_in_turn c.sweep) u → HasReleased u.held source entry c.sweep s → IsDurable new
+  pub release_made : (next_is : c.sweep.next ≡ Release source entry) (size : new.size ≡ old.size) → HasFreed t (slot_in_turn c.sweep) u → HasReleased u.held source entry c.sweep s
+      → IsDurable new
       → Known old.content (λ _. now ≡ known) → Makes before after (Did phases.Release)
   release_made next_is size freed released durable map = record {
     answer_is = answers c stage (Release source entry) next_is;

@@ -11,7 +11,8 @@ use Rattle.store_state.specs.declared.tables.Tables.{Tables}
 use Rattle.gc_sweep.proofs.KeyLists.{had_before}
 
 -- with an index that has fewer keys
-pub runs_emptied : (size new_size : ℕ) (known after_known : Option PlaceMap) (t : Tables) (keys : List (List ℕ)) → new_size ≡ size → KnownMap known (λ m. after_known ≡ Some (without_keys keys m))
+pub runs_emptied : (size new_size : ℕ) (known after_known : Option PlaceMap) (t : Tables) (keys : List (List ℕ)) → new_size ≡ size
+    → KnownMap known (λ m. after_known ≡ Some (without_keys keys m))
     → Stays known after_known → Runs size known t → Runs new_size after_known t
 runs_emptied size new_size known after_known t keys same removed stays runs = subst (λ (n : ℕ). Runs n after_known t) (sym same) (record {
   store = runs.store;

@@ -55,18 +55,21 @@ module _ (snapshot : ℕ) where
       ]
 
   pub ids_apart : (size : ℕ) (known : Option PlaceMap) (t : Tables) → Runs size known t → IsDistinct nat_eq (old_ids snapshot t.held.ids.items)
-  ids_apart size known t runs = subst (λ (ids : List ℕ). IsDistinct nat_eq (old_ids snapshot ids)) (sym runs.represents.slots_hold.ids_are) (held_apart runs.store.held runs.valid.different)
+  ids_apart size known t runs = subst (λ (ids : List ℕ). IsDistinct nat_eq (old_ids snapshot ids)) (sym runs.represents.slots_hold.ids_are)
+      (held_apart runs.store.held runs.valid.different)
 
   module _ (ids : List ℕ) where
     -- those in the slots before one, and in this slot
     one_more : (slot : ℕ) → slot < length ids → old_ids snapshot (take (slot + 1) ids) ≡ old_ids snapshot (take slot ids) ++ old_ids snapshot (get_or ids slot 0 ∷ [])
     one_more slot within = ap (old_ids snapshot) (take_more ids slot 0 within) ∙ filter-append (is_old snapshot) (take slot ids) (get_or ids slot 0 ∷ [])
 
-    more_old : (slot : ℕ) → slot < length ids → is_old snapshot (get_or ids slot 0) ≡ true → old_ids snapshot (take (slot + 1) ids) ≡ old_ids snapshot (take slot ids) ++ get_or ids slot 0 ∷ []
+    more_old : (slot : ℕ) → slot < length ids → is_old snapshot (get_or ids slot 0) ≡ true
+        → old_ids snapshot (take (slot + 1) ids) ≡ old_ids snapshot (take slot ids) ++ get_or ids slot 0 ∷ []
     more_old slot within old = one_more slot within ∙ ap (λ b. old_ids snapshot (take slot ids) ++ cond b (get_or ids slot 0 ∷ []) []) old
 
     more_new : (slot : ℕ) → slot < length ids → is_old snapshot (get_or ids slot 0) ≡ false → old_ids snapshot (take (slot + 1) ids) ≡ old_ids snapshot (take slot ids)
-    more_new slot within new = one_more slot within ∙ ap (λ b. old_ids snapshot (take slot ids) ++ cond b (get_or ids slot 0 ∷ []) []) new ∙ append-nil (old_ids snapshot (take slot ids))
+    more_new slot within new = one_more slot within ∙ ap (λ b. old_ids snapshot (take slot ids) ++ cond b (get_or ids slot 0 ∷ []) []) new
+        ∙ append-nil (old_ids snapshot (take slot ids))
 
     -- before the first from one on there are no others
     abbrev Passed : ℕ → Option ℕ → Type 0
@@ -81,9 +84,11 @@ module _ (snapshot : ℕ) where
     unfolding first_from
     first_passed from zero ends = ap (old_ids snapshot) (sym (take_all from ids (omega (arith, ends))))
     first_passed from (suc count) ends =
-        elim (is_old snapshot (get_or ids from 0)) as (λ b. is_old snapshot (get_or ids from 0) ≡ b → Passed from (if b then Some from else first_from (λ slot. is_old snapshot (get_or ids slot 0)) (from + 1) count)) [
+        elim (is_old snapshot (get_or ids from 0)) as
+        (λ b. is_old snapshot (get_or ids from 0) ≡ b → Passed from (if b then Some from else first_from (λ slot. is_old snapshot (get_or ids slot 0)) (from + 1) count)) [
           | true ↦ λ old. (omega (arith, ends), old, refl)
-          | false ↦ λ new. passed_on from (first_from (λ slot. is_old snapshot (get_or ids slot 0)) (from + 1) count) (more_new from (omega (arith, ends)) new) (first_passed (from + 1) count (omega (arith, ends)))
+          | false ↦ λ new. passed_on from (first_from (λ slot. is_old snapshot (get_or ids slot 0)) (from + 1) count) (more_new from (omega (arith, ends)) new)
+              (first_passed (from + 1) count (omega (arith, ends)))
         ] refl
 
 -- the first that passes a test passes it
@@ -122,7 +127,8 @@ module _ (t : SlotTable) (c : Collection) where
 
   stage_mark : (level from : ℕ) → 1 ≤ level → level ≤ MOST_LEVEL → from ≤ length t.ids.items → c.liveness ≡ [] → HasRoom t → HasStage t c (mark_from c.snapshot t level from)
   stage_mark level from least most within nothing none =
-      by_found (first_slot t (is_tree_slot c.snapshot t) from) (first_found (is_tree_slot c.snapshot t) from (length t.ids.items - from) (length t.ids.items) (omega (arith, within)))
+      by_found (first_slot t (is_tree_slot c.snapshot t) from)
+      (first_found (is_tree_slot c.snapshot t) from (length t.ids.items - from) (length t.ids.items) (omega (arith, within)))
     where
       by_found : (found : Option ℕ) → Found (is_tree_slot c.snapshot t) (length t.ids.items) found → HasStage t c (mark_on c.snapshot t level found)
       by_found None is = stage_level (level - 1) (omega (arith, most)) nothing none
@@ -170,7 +176,8 @@ module _ (t : SlotTable) (c : Collection) (under : IsUnderWay t c) where
     sources_are = chose;
   }
 
-  pub marked : (after : Collection) (level slot : ℕ) → c.stage ≡ Mark level slot → after ≡ record c { live = after.live; stage = mark_from c.snapshot t level (slot + 1) } → IsUnderWay t after
+  pub marked : (after : Collection) (level slot : ℕ) → c.stage ≡ Mark level slot → after ≡ record c { live = after.live; stage = mark_from c.snapshot t level (slot + 1) }
+      → IsUnderWay t after
   marked after level slot at is =
       let was = at_stage t c (Mark level slot) under at in
       let new : Collection = record c { live = after.live; stage = mark_from c.snapshot t level (slot + 1) } in
@@ -180,7 +187,8 @@ module _ (t : SlotTable) (c : Collection) (under : IsUnderWay t c) where
   recorded_id id live None = refl
   recorded_id id live (Some count) = refl
 
-  pub recorded_on : (after : Collection) (slot live : ℕ) → c.stage ≡ Filter slot → after ≡ record c { liveness = c.liveness ++ recorded t slot live ∷ []; stage = filter_from c.snapshot t (slot + 1) } → IsUnderWay t after
+  pub recorded_on : (after : Collection) (slot live : ℕ) → c.stage ≡ Filter slot
+      → after ≡ record c { liveness = c.liveness ++ recorded t slot live ∷ []; stage = filter_from c.snapshot t (slot + 1) } → IsUnderWay t after
   recorded_on after slot live at is =
       let was = at_stage t c (Filter slot) under at in
       let new : Collection = record c { liveness = c.liveness ++ recorded t slot live ∷ []; stage = filter_from c.snapshot t (slot + 1) } in
@@ -188,7 +196,8 @@ module _ (t : SlotTable) (c : Collection) (under : IsUnderWay t c) where
       map_push (λ (x : ContainerLiveness). x.id) c.liveness (recorded t slot live)
       ∙ ap (λ (id : ℕ). ids_of c.liveness ++ id ∷ []) (recorded_id (get_or t.ids.items slot 0) live (slice_get t.counts.items slot))
       ∙ ap (λ (ids : List ℕ). ids ++ get_or t.ids.items slot 0 ∷ []) was.1 ∙ sym (more_old c.snapshot t.ids.items slot was.0.0 was.0.1) in
-      subst (IsUnderWay t) (sym is) (goes_on new refl (stage_filter t new (slot + 1) (omega (arith, was.0.0)) all was.2) (filter_chose new (first_slot t (is_old_slot c.snapshot t) (slot + 1))))
+      subst (IsUnderWay t) (sym is)
+      (goes_on new refl (stage_filter t new (slot + 1) (omega (arith, was.0.0)) all was.2) (filter_chose new (first_slot t (is_old_slot c.snapshot t) (slot + 1))))
 
   -- the sources are chosen, and their sweep is under way
   pub chosen : (after : Collection) → c.stage ≡ Select → Chooses t c after → IsSweeping t c.snapshot after.sweep → IsUnderWay t after
@@ -216,7 +225,8 @@ live_on t c live under = record { began = under.began; ids_differ = under.ids_di
 -- ---- the sweep goes on
 
 -- by tables that run, of which no less is the last id; the sources stay
-pub swept_on : (size : ℕ) (known : Option PlaceMap) (t : SlotTable) (now : Tables) (c after : Collection) → Runs size known now → t.last_id ≤ now.held.last_id → IsUnderWay t c → c.stage ≡ Sweep
+pub swept_on : (size : ℕ) (known : Option PlaceMap) (t : SlotTable) (now : Tables) (c after : Collection) → Runs size known now → t.last_id ≤ now.held.last_id → IsUnderWay t c
+    → c.stage ≡ Sweep
     → after ≡ record c { sweep = after.sweep } → after.sweep.sources ≡ c.sweep.sources → IsSweeping now.held c.snapshot after.sweep → IsUnderWay now.held after
 swept_on size known t now c after runs last under stage is sources sweeping =
     let next : Collection = record c { sweep = after.sweep } in

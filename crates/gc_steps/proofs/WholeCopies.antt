@@ -70,7 +70,8 @@ few_live index live kind slot (e ∷ es) sum (inl here) =
 few_live index live kind slot (e ∷ es) sum (inr dead) = omega (arith, few_live index live kind slot es sum dead.1, sum_by-cons (λ (x : Entry). x.length) e es)
 
 -- where all bytes are live, each entry is
-all_live : (index : PlaceMap) (live : LiveKeys) (kind : Kind) (slot : ℕ) (before es : List Entry) (sum : ℕ) → Follow kind before es → SumsLive index live kind slot es sum → bytes_of es ≤ sum
+all_live : (index : PlaceMap) (live : LiveKeys) (kind : Kind) (slot : ℕ) (before es : List Entry) (sum : ℕ) → Follow kind before es → SumsLive index live kind slot es sum
+    → bytes_of es ≤ sum
     → AllByRecursion (IsLiveCopy index live kind slot) es
 all_live index live kind slot before [] sum follow sums most = tt
 all_live index live kind slot before (e ∷ es) sum follow (inl here) most = (
@@ -93,13 +94,15 @@ less_live snapshot r old less =
 
 -- ---- up to the choice
 
-module _ (index : PlaceMap) (t : SlotTable) (snapshot : ℕ) (d : Collection) (slot : ℕ) (h : HeaderValue) (within : slot < length t.ids.items) (old : is_old_slot snapshot t slot ≡ true) where
+module _ (index : PlaceMap) (t : SlotTable) (snapshot : ℕ) (d : Collection) (slot : ℕ) (h : HeaderValue) (within : slot < length t.ids.items)
+    (old : is_old_slot snapshot t slot ≡ true) where
   not_passed : (from : ℕ) (found : Option ℕ) → first_slot t (is_old_slot snapshot t) from ≡ found → from ≤ slot → (at : ℕ) × ((found ≡ Some at) × (at ≤ slot))
   not_passed from found is later =
       let first = first_there (is_old_slot snapshot t) from (length t.ids.items - from) slot later (omega (arith, later, within)) old in
       (first.slot, (sym is ∙ first.first, first.no_later))
 
-  found_taken : (from : ℕ) (found : Option ℕ) → first_slot t (is_old_slot snapshot t) from ≡ found → (slot < from → IsTakenOrLive index d slot h) → IsTakenAt (filter_at found) index d slot h
+  found_taken : (from : ℕ) (found : Option ℕ) → first_slot t (is_old_slot snapshot t) from ≡ found → (slot < from → IsTakenOrLive index d slot h)
+      → IsTakenAt (filter_at found) index d slot h
   found_taken from None is before = elim (leb_tells from slot) [
     | inl later ↦ absurd (let at = not_passed from None is later.1 in let wrong : None ≡ Some at.0 = at.1.0 in cc)
     | inr early ↦ before early.1
@@ -132,7 +135,8 @@ module _ (index : PlaceMap) (t : SlotTable) (snapshot : ℕ) (d : Collection) (s
 
 -- ---- copies that stay
 
-all_on : (index later : PlaceMap) (live : LiveKeys) → ((key : List ℕ) → IsLive index live key → finite.get later key ≡ finite.get index key) → (kind : Kind) (slot : ℕ) (es : List Entry)
+all_on : (index later : PlaceMap) (live : LiveKeys) → ((key : List ℕ) → IsLive index live key → finite.get later key ≡ finite.get index key)
+    → (kind : Kind) (slot : ℕ) (es : List Entry)
     → AllByRecursion (IsLiveCopy index live kind slot) es → AllByRecursion (IsLiveCopy later live kind slot) es
 all_on index later live stay kind slot [] all = tt
 all_on index later live stay kind slot (e ∷ es) all =
@@ -140,12 +144,14 @@ all_on index later live stay kind slot (e ∷ es) all =
     ((at_copy later kind slot e (stay (entry_key kind e) (place_of slot e, (found, all.0.1)) ∙ found), all.0.1), all_on index later live stay kind slot es all.1)
 
 -- the entries of a container of copies, by its segments
-live_entries : (index : PlaceMap) (held : List (Option HeaderValue)) (image : List ℕ) (live : LiveKeys) (kind : Kind) (offset : ℕ) (ss : List Segment) → AllByRecursion (IsCopied index live held image kind) ss
+live_entries : (index : PlaceMap) (held : List (Option HeaderValue)) (image : List ℕ) (live : LiveKeys) (kind : Kind) (offset : ℕ) (ss : List Segment)
+    → AllByRecursion (IsCopied index live held image kind) ss
     → AllByRecursion (λ e. IsLive index live (entry_key kind e)) (entries_from offset ss)
 live_entries index held image live kind offset [] all = tt
 live_entries index held image live kind offset (x ∷ xs) all = (all.0.is_live, live_entries index held image live kind (offset + length x.bytes) xs all.1)
 
-new_live : (index later : PlaceMap) (live : LiveKeys) (kind : Kind) (slot : ℕ) (es : List Entry) → AllByRecursion (λ e. finite.get later (entry_key kind e) ≡ Some (place_of slot e)) es
+new_live : (index later : PlaceMap) (live : LiveKeys) (kind : Kind) (slot : ℕ) (es : List Entry)
+    → AllByRecursion (λ e. finite.get later (entry_key kind e) ≡ Some (place_of slot e)) es
     → AllByRecursion (λ e. IsLive index live (entry_key kind e)) es → AllByRecursion (IsLiveCopy later live kind slot) es
 new_live index later live kind slot [] places all = tt
 new_live index later live kind slot (e ∷ es) places all = (
@@ -158,7 +164,8 @@ each_placed : (kind : Kind) (slot : ℕ) (index : PlaceMap) (all es : List Entry
 each_placed kind slot index all [] follow found = tt
 each_placed kind slot index all (e ∷ es) follow found = (put_some kind slot [] all index (entry_key kind e) e follow found.0, each_placed kind slot index all es follow found.1)
 
-pub count_there : (held : List (Option HeaderValue)) (slot : ℕ) (h : HeaderValue) → slice_get held slot ≡ Some (Some h) → slice_get (map count_of held) slot ≡ Some (count_of (Some h))
+pub count_there : (held : List (Option HeaderValue)) (slot : ℕ) (h : HeaderValue) → slice_get held slot ≡ Some (Some h)
+    → slice_get (map count_of held) slot ≡ Some (count_of (Some h))
 count_there [] slot h there = absurd cc
 count_there (x ∷ xs) zero h there = ap (λ (y : Option HeaderValue). Some (count_of y)) (some_same x (Some h) there)
 count_there (x ∷ xs) (suc slot) h there = count_there xs slot h there
@@ -166,7 +173,8 @@ count_there (x ∷ xs) (suc slot) h there = count_there xs slot h there
 -- ---- as it begins, and step by step
 
 -- nothing was recorded
-pub begun_takes : (index : PlaceMap) (store : Store) (image : List ℕ) (t : SlotTable) (c : Collection) → HoldSlots 0 store.held image → RepresentsSlots store.held t → c.percent ≡ 100
+pub begun_takes : (index : PlaceMap) (store : Store) (image : List ℕ) (t : SlotTable) (c : Collection) → HoldSlots 0 store.held image → RepresentsSlots store.held t
+    → c.percent ≡ 100
     → c.stage ≡ mark_level c.snapshot t MOST_LEVEL → last_id store.held < c.snapshot → TakesAll index store.held c
 begun_takes index store image t c holds slots full stage_is above = record {
   percent_is = full;
@@ -176,7 +184,8 @@ begun_takes index store image t c holds slots full stage_is above = record {
 }
 
 module _ (P : List ℕ → Type 0) (index : PlaceMap) (store : Store) (files : Files) (image : List ℕ) (t : Tables) (known : Option PlaceMap) (old new : DiskView) (c d : Collection)
-    (holds : IsStoreOf store files image) (represents : Represents store (Some index) t) (content : old.content ≡ Some image) (was : Spares P index store.held c) (takes : TakesAll index store.held c) where
+    (holds : IsStoreOf store files image) (represents : Represents store (Some index) t) (content : old.content ≡ Some image) (was : Spares P index store.held c)
+    (takes : TakesAll index store.held c) where
   abbrev slots : RepresentsSlots store.held t.held
   slots = represents.slots_hold
 
@@ -239,7 +248,9 @@ module _ (P : List ℕ → Type 0) (index : PlaceMap) (store : Store) (files : F
 
     taken_now : IsTakenOrLive index noted at records.header
     taken_now = elim (leb_tells records.header.data_length records.live) [
-      | inl most ↦ inr (all_live index c.live records.header.kind at [] records.header.entries records.live records.right.entries (records.live_is index refl) (omega (arith, most.1, records.right.whole)))
+      | inl most ↦ inr
+          (all_live index c.live records.header.kind at [] records.header.entries records.live records.right.entries (records.live_is index refl)
+          (omega (arith, most.1, records.right.whole)))
       | inr less ↦ inl (last_selected c.snapshot c.percent records.header.id c.liveness one id_is
           (subst (λ (n : ℕ). is_selected c.snapshot n one ≡ true) (sym takes.percent_is)
           (less_live c.snapshot one (omega (arith, id_is, low at records.header here)) (omega (arith, live_is, all_is, less.1)))))
@@ -261,7 +272,8 @@ module _ (P : List ℕ → Type 0) (index : PlaceMap) (store : Store) (files : F
     recorded_takes : TakesAll index store.held d
     recorded_takes = subst (TakesAll index store.held) (sym records.collection_is) (record {
       percent_is = takes.percent_is;
-      each = λ slot h there. filter_taken index t.held c.snapshot noted slot h (within_table slot h there) (old_slot slot h there (low slot h there)) (at + 1) (taken_to slot h there);
+      each = λ slot h there. filter_taken index t.held c.snapshot noted slot h (within_table slot h there) (old_slot slot h there (low slot h there)) (at + 1)
+          (taken_to slot h there);
     })
 
   -- ---- the choice
@@ -302,7 +314,8 @@ module _ (P : List ℕ → Type 0) (index : PlaceMap) (store : Store) (files : F
       sweeping : IsSweeping t.held c.snapshot c.sweep
       sweeping = at_stage t.held c SweepStage under stage_is
 
-      copied_takes : (source entry : ℕ) → c.sweep.next ≡ CopyNext source entry → CopiesSource t.held c.live (Some index) known old new source entry c.sweep d.sweep → (m : PlaceMap) → known ≡ Some m
+      copied_takes : (source entry : ℕ) → c.sweep.next ≡ CopyNext source entry → CopiesSource t.held c.live (Some index) known old new source entry c.sweep d.sweep
+          → (m : PlaceMap) → known ≡ Some m
           → TakesAll m store.held d
       copied_takes source entry next_is copies m known_is =
           subst (λ (x : PlaceMap). TakesAll x store.held d) (some_same leaves.later m (sym leaves.known_is ∙ known_is))
@@ -319,7 +332,8 @@ module _ (P : List ℕ → Type 0) (index : PlaceMap) (store : Store) (files : F
           ]
 
       -- what was copied was written
-      module _ (source entry : ℕ) (next_is : c.sweep.next ≡ Flush source entry) (f : Flushes source entry (moment t (Some index) old c) (moment tables_now known new d)) (m : PlaceMap) (known_is : known ≡ Some m)
+      module _ (source entry : ℕ) (next_is : c.sweep.next ≡ Flush source entry) (f : Flushes source entry (moment t (Some index) old c) (moment tables_now known new d))
+          (m : PlaceMap) (known_is : known ≡ Some m)
           (id : ℕ) (right : IsHeader (header_of id c.sweep.buffer.kind c.sweep.buffer.segments)) where
         abbrev place : ℕ
         place = first_free store.held
@@ -357,11 +371,13 @@ module _ (P : List ℕ → Type 0) (index : PlaceMap) (store : Store) (files : F
             here_still : has_key c.sweep.buffer (entry_key h.kind e) ≡ false → IsLiveCopy later c.live h.kind slot e
             here_still lacks = (
               at_copy later h.kind slot e
-                  (put_none c.sweep.buffer.kind place entries index (entry_key h.kind e) (entry_none c.sweep.buffer.kind 0 c.sweep.buffer.segments (entry_key h.kind e) lacks) ∙ found),
+                  (put_none c.sweep.buffer.kind place entries index (entry_key h.kind e) (entry_none c.sweep.buffer.kind 0 c.sweep.buffer.segments (entry_key h.kind e) lacks)
+                  ∙ found),
               all.0.1,
             )
 
-            by_filled : (b : Bool) → has_key c.sweep.buffer (entry_key h.kind e) ≡ b → IsSourceId c.sweep.sources.items h.id ⊎ AllByRecursion (IsLiveCopy later c.live h.kind slot) es
+            by_filled : (b : Bool) → has_key c.sweep.buffer (entry_key h.kind e) ≡ b → IsSourceId c.sweep.sources.items h.id
+                ⊎ AllByRecursion (IsLiveCopy later c.live h.kind slot) es
                 → IsSourceId c.sweep.sources.items h.id ⊎ AllByRecursion (IsLiveCopy later c.live h.kind slot) (e ∷ es)
             by_filled b filled (inl source) = inl source
             by_filled true filled (inr rest) =
@@ -370,7 +386,9 @@ module _ (P : List ℕ → Type 0) (index : PlaceMap) (store : Store) (files : F
 
         each_now : (slot : ℕ) (h : HeaderValue) → slice_get held_now slot ≡ Some (Some h) → IsSourceId c.sweep.sources.items h.id ⊎ IsAllLive later c.live slot h
         each_now slot h there = elim (with_place place (header_of id c.sweep.buffer.kind c.sweep.buffer.segments) store.held slot h there) [
-          | inl is ↦ inr (subst (λ (g : HeaderValue). IsAllLive later c.live slot g) is.1 (subst (λ (n : ℕ). AllByRecursion (IsLiveCopy later c.live c.sweep.buffer.kind n) entries) is.0 new_all))
+          | inl is ↦ inr
+              (subst (λ (g : HeaderValue). IsAllLive later c.live slot g) is.1
+              (subst (λ (n : ℕ). AllByRecursion (IsLiveCopy later c.live c.sweep.buffer.kind n) entries) is.0 new_all))
           | inr before ↦ elim (swept_at stage_is slot h before) [
             | inl of_source ↦ inl of_source
             | inr all ↦ still_all slot h before h.entries all
@@ -390,10 +408,12 @@ module _ (P : List ℕ → Type 0) (index : PlaceMap) (store : Store) (files : F
     stays same now m known_is s is =
         subst (λ (x : Store). TakesAll m x.held d) (sym is) (subst (λ (x : PlaceMap). TakesAll x store.held d) (some_same index m (sym same ∙ known_is)) now)
 
-    by_stage : (stage : Stage) (next : Next) → c.stage ≡ stage → c.sweep.next ≡ next → HoldsAt stage index store.held image c → StepsTo stage next (moment t (Some index) old c) (moment tables_now known new d)
+    by_stage : (stage : Stage) (next : Next) → c.stage ≡ stage → c.sweep.next ≡ next → HoldsAt stage index store.held image c
+        → StepsTo stage next (moment t (Some index) old c) (moment tables_now known new d)
         → After stage next
     by_stage (Mark level at) next is next_is held steps = λ m known_is s same. stays steps.1 (scanned_takes level at is steps.0) m known_is s same
-    by_stage (Filter at) next is next_is held steps = λ m known_is s same. stays steps.1 (recorded_takes at is (at_stage t.held c (Filter at) under is).0.0 steps.0) m known_is s same
+    by_stage (Filter at) next is next_is held steps = λ m known_is s same. stays steps.1
+        (recorded_takes at is (at_stage t.held c (Filter at) under is).0.0 steps.0) m known_is s same
     by_stage Select next is next_is held steps = λ m known_is s same. stays steps.1 (chosen_takes is steps.0) m known_is s same
     by_stage SweepStage (CopyNext source entry) is next_is held steps = λ m known_is s same.
         subst (λ (x : Store). TakesAll m x.held d) (sym same) (copied_takes is held.1 steps.1 source entry next_is steps.0 m known_is)
@@ -406,12 +426,14 @@ module _ (P : List ℕ → Type 0) (index : PlaceMap) (store : Store) (files : F
         (λ slot h there. swept_at is slot h (there_before (slot_in_turn c.sweep) slot h store.held there).1)))
     by_stage SweepStage End is next_is held steps = λ m known_is s same. stays steps.1 (subst (TakesAll index store.held) (sym steps.0) takes) m known_is s same
 
-    pub takes_step : HoldsAt c.stage index store.held image c → StepsTo c.stage c.sweep.next (moment t (Some index) old c) (moment tables_now known new d) → After c.stage c.sweep.next
+    pub takes_step : HoldsAt c.stage index store.held image c → StepsTo c.stage c.sweep.next (moment t (Some index) old c) (moment tables_now known new d)
+        → After c.stage c.sweep.next
     takes_step held steps = by_stage c.stage c.sweep.next refl refl held steps
 
 -- ---- what is refused: but for its live keys, while it marks, it stays
 
-pub takes_live : (index : PlaceMap) (held : List (Option HeaderValue)) (c : Collection) (level at : ℕ) (live : LiveKeys) → c.stage ≡ Mark level at → TakesAll index held c → TakesAll index held (record c { live = live })
+pub takes_live : (index : PlaceMap) (held : List (Option HeaderValue)) (c : Collection) (level at : ℕ) (live : LiveKeys) → c.stage ≡ Mark level at → TakesAll index held c
+    → TakesAll index held (record c { live = live })
 takes_live index held c level at live stage_is takes = record {
   percent_is = takes.percent_is;
   each = λ slot h there. subst (λ (s : Stage). IsTakenAt s index (record c { live = live }) slot h) (sym stage_is) tt;
@@ -419,7 +441,8 @@ takes_live index held c level at live stage_is takes = record {
 
 -- ---- at its end
 
-module _ (P : List ℕ → Type 0) (index : PlaceMap) (held : List (Option HeaderValue)) (image : List ℕ) (t : SlotTable) (c : Collection) (under : IsUnderWay t c) (sweeps : c.stage ≡ SweepStage) (ended : c.sweep.next ≡ End)
+module _ (P : List ℕ → Type 0) (index : PlaceMap) (held : List (Option HeaderValue)) (image : List ℕ) (t : SlotTable) (c : Collection) (under : IsUnderWay t c)
+    (sweeps : c.stage ≡ SweepStage) (ended : c.sweep.next ≡ End)
     (holds : HoldsSweep index held image c.live c.snapshot c.sweep) (within : IsWithin P c.live) (partial : IsPartialIndexOf held index) (takes : TakesAll index held c) where
   -- an entry of a container is the newest copy of a key of which P holds
   abbrev pub IsNewestOf : ℕ → HeaderValue → Entry → Type 0
@@ -437,5 +460,6 @@ module _ (P : List ℕ → Type 0) (index : PlaceMap) (held : List (Option Heade
   ended_whole slot h there = by_way (subst (λ (s : Stage). IsTakenAt s index c slot h) sweeps (takes.each slot h there))
     where
       by_way : IsTakenAt SweepStage index c slot h → AllByRecursion (IsNewestOf slot h) h.entries
-      by_way (inl (i, (below, is))) = absurd (none_left t index held image c.live c.snapshot c.sweep (at_stage t c SweepStage under sweeps) ended holds i below slot h there (sym is))
+      by_way (inl (i, (below, is))) = absurd
+          (none_left t index held image c.live c.snapshot c.sweep (at_stage t c SweepStage under sweeps) ended holds i below slot h there (sym is))
       by_way (inr all) = newest_each slot h h.entries all

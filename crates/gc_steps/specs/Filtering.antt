@@ -53,8 +53,8 @@ IsRecordRefusal t known old new slot DiskRead = Unit {0}
 IsRecordRefusal t known old new slot (Damaged at why) = ((at ≡ slot_at slot) × IsHeaderDamage t old new slot why) ⊎ (known ≡ None)
 IsRecordRefusal t known old new slot refusal = ⊥
 
--- The sources are chosen: just the containers that are selected, each as often as it was recorded, so each once where each was recorded once;
--- data before trees, and by rising id. There is one such list. And a sweep of them begins.
+-- The sources are chosen: just the containers that are selected, each as often as it was recorded, so each once where each was recorded
+-- once; data before trees, and by rising id. There is one such list. And a sweep of them begins.
 pub record Chooses (t : SlotTable) (before after : Collection) : Type 0 where
   pub which : (id : ℕ) → Contains after.sweep.sources.items id ↔ IsSelectedId before.snapshot before.percent before.liveness id
   pub each : IsPermutation (ids_of (selected before.snapshot before.percent before.liveness)) after.sweep.sources.items

@@ -16,7 +16,8 @@ IsRootOf key tree.Empty = ⊥
 IsRootOf key (tree.Leaf segment) = key ≡ leaf_key segment
 IsRootOf key (tree.Node level ts) = key ≡ node_key (contents_of level ts)
 
--- The tree of a key is held whole, by newest copies that the index all has. Its nodes keep the rules, and each is one level above its children.
+-- The tree of a key is held whole, by newest copies that the index all has. Its nodes keep the rules, and each is one level above its
+-- children.
 pub record IsWhole (index : PlaceMap) (held : List (Option HeaderValue)) (image key : List ℕ) : Type 0 where
   pub whole : Tree (List ℕ)
   pub root_is : IsRootOf key whole

@@ -22,7 +22,8 @@ abbrev pub scan_for : Option PlaceMap → LiveKeys → ℕ → ℕ → HeaderVal
 scan_for known live slot level h = scan_of known live (record { slot = slot; kind = h.kind; level = level })
 
 -- Just the children of its live nodes of that level became live: of each entry that is live, and the copy that the index has.
-pub record ScansEntries (known : Option PlaceMap) (old new : DiskView) (slot level : ℕ) (h : HeaderValue) (before after : LiveKeys) : Type 0 where
+pub record ScansEntries (known : Option PlaceMap) (old new : DiskView) (slot level : ℕ) (h : HeaderValue)
+    (before after : LiveKeys) : Type 0 where
   pub marks : MarksChildren (scan_for known before slot level h) (ShowsAt old new) h.entries after
   pub children : ChildrenAreLive (scan_for known before slot level h) (ShowsAt old new) h.entries after
 
@@ -45,7 +46,8 @@ pub record Scans (t : SlotTable) (known : Option PlaceMap) (old new : DiskView) 
   pub collection_is : after ≡ record before { live = after.live; stage = mark_from before.snapshot t level (slot + 1) }
 
 -- It was not, by an entry of it, as reads showed its header, which is that of the table.
-pub record StopsScan (t : SlotTable) (known : Option PlaceMap) (old new : DiskView) (level slot : ℕ) (live : LiveKeys) (refusal : Refusal) : Type 0 where
+pub record StopsScan (t : SlotTable) (known : Option PlaceMap) (old new : DiskView) (level slot : ℕ) (live : LiveKeys)
+    (refusal : Refusal) : Type 0 where
   pub header : HeaderValue
   pub right : IsHeader header
   pub tabled : IsTabled t slot header

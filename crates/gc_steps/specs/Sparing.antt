@@ -31,8 +31,8 @@ IsToBeTaken sources from id = (i : ℕ) × ((from ≤ i) × (i < length sources)
 abbrev pub IsToBeFreed : Sweep → ℕ → Type 0
 IsToBeFreed s slot = Contains (s.waiting.items ++ s.ready.items) slot
 
--- A container at a stage: it was there when the collection began, and once it was recorded it is selected, or holds a live copy; and while it
--- sweeps a container is a source that is still to be copied to its end, or one that is to be given back, or holds a live copy.
+-- A container at a stage: it was there when the collection began, and once it was recorded it is selected, or holds a live copy; and while
+-- it sweeps a container is a source that is still to be copied to its end, or one that is to be given back, or holds a live copy.
 abbrev pub IsSparedAt : Stage → PlaceMap → Collection → ℕ → HeaderValue → Type 0
 IsSparedAt (Mark level at) index c slot h = h.id < c.snapshot
 IsSparedAt (Filter at) index c slot h =

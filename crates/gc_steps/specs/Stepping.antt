@@ -77,8 +77,8 @@ pub record Flushes (source entry : ℕ) (old new : Moment) : Type 0 where
   pub flushed : HasFlushed source entry old.collection.sweep new.collection.sweep
   pub sweeps : SweepsOn old new
 
--- What it does to the collection and to the map of the index, which stays where a container is given back if the disk tells its content; at the
--- end nothing.
+-- What it does to the collection and to the map of the index, which stays where a container is given back if the disk tells its content; at
+-- the end nothing.
 abbrev pub StepsTo : Stage → Next → Moment → Moment → Type 0
 StepsTo (Mark level slot) next old new =
     Scans old.tables.held old.known old.disk new.disk level slot old.collection new.collection × (new.known ≡ old.known)
@@ -122,8 +122,8 @@ Keeps Sweep (Flush source entry) old new refusal = (new.collection ≡ old.colle
 Keeps Sweep (Release source entry) old new refusal = new.collection ≡ old.collection
 Keeps stage next old new refusal = (new.collection ≡ old.collection) × (new.known ≡ old.known)
 
--- What it does to the disk, however it ends: what counts of it changes only where a container is written, in a closed slot, or given back, and
--- there only the gate of its slot.
+-- What it does to the disk, however it ends: what counts of it changes only where a container is written, in a closed slot, or given back,
+-- and there only the gate of its slot.
 abbrev pub Touches : Stage → Next → SweepValue → Tables → Ending → DiskView → DiskView → Type 0
 Touches Sweep (Copy source entry) s t ending old new = (slots : ℕ) → old.size ≡ size_of slots → Changes (slot_at slots) ending old new
 Touches Sweep (Flush source entry) s t ending old new =
@@ -132,8 +132,8 @@ Touches Sweep (Release source entry) s t ending old new =
     Acts ending old new × GivesBack t (slot_in_turn s) ending old new × ChangesGateAlone (slot_in_turn s) ending old new
 Touches stage next s t ending old new = Reads ending old new
 
--- Tables that run with the index's map run on; where a container is given back, if the index has no entry in its slot and its map stays, and
--- where one is written, if the index has its places.
+-- Tables that run with the index's map run on; where a container is given back, if the index has no entry in its slot and its map stays,
+-- and where one is written, if the index has its places.
 abbrev pub RunsOn : Stage → Next → Moment → Moment → Type 0
 RunsOn Sweep (Flush source entry) old new =
     Known old.disk.content (λ _. KnownMap old.known (λ _. Runs old.disk.size old.known old.tables

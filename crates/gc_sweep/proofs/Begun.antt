@@ -11,7 +11,8 @@ use Rattle.gc_sweep.specs.UnderWay.{AreLeft, IsSweeping, free_in}
 use Rattle.gc_sweep.proofs.Arrives.{arrives, by_parts}
 use Rattle.gc_sweep.proofs.CopyKeeps.{before_next, has_next}
 
-pub begun_on : (t : SlotTable) (snapshot : ℕ) (sources : List ℕ) (s : Sweep) → Begins t sources s → IsDistinct nat_eq sources → length sources ≤ MOST_SLOTS → AreLeft t snapshot sources 0 → RESERVE ≤ free_in t
+pub begun_on : (t : SlotTable) (snapshot : ℕ) (sources : List ℕ) (s : Sweep) → Begins t sources s → IsDistinct nat_eq sources → length sources ≤ MOST_SLOTS
+    → AreLeft t snapshot sources 0 → RESERVE ≤ free_in t
     → IsSweeping t snapshot s
 unfolding IsDistinct
 begun_on t snapshot sources s begins once few left room =

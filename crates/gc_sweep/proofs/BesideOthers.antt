@@ -17,7 +17,8 @@ use Rattle.gc_sweep.proofs.HoldsFlushed.{with_before}
 use Rattle.gc_sweep.proofs.InSlots.{live_on}
 
 -- more keys may become live
-live_more : (index : PlaceMap) (live live_now : LiveKeys) → ((key : List ℕ) (place : Place) → IsLiveAt live key place → IsLiveAt live_now key place) → (key : List ℕ) → IsLive index live key
+live_more : (index : PlaceMap) (live live_now : LiveKeys) → ((key : List ℕ) (place : Place) → IsLiveAt live key place → IsLiveAt live_now key place) → (key : List ℕ)
+    → IsLive index live key
     → IsLive index live_now key
 live_more index live live_now more key is = (is.0, (is.1.0, more key is.0 is.1.1))
 
@@ -43,14 +44,16 @@ new_there h (None ∷ cs) some = refl
 new_there h (Some g ∷ cs) some = new_there h cs some
 
 -- and each other one stands
-still_there : (h : HeaderValue) (held : List (Option HeaderValue)) (slot : ℕ) (g : HeaderValue) → slice_get held slot ≡ Some (Some g) → slice_get (with_slot (first_free held) h held) slot ≡ Some (Some g)
+still_there : (h : HeaderValue) (held : List (Option HeaderValue)) (slot : ℕ) (g : HeaderValue) → slice_get held slot ≡ Some (Some g)
+    → slice_get (with_slot (first_free held) h held) slot ≡ Some (Some g)
 still_there h [] slot g there = there
 still_there h (None ∷ cs) zero g there = absurd (let wrong : None ≡ Some g = some_same None (Some g) there in cc)
 still_there h (None ∷ cs) (suc slot) g there = there
 still_there h (Some x ∷ cs) zero g there = there
 still_there h (Some x ∷ cs) (suc slot) g there = still_there h cs slot g there
 
-pub sealed_beside : (index : PlaceMap) (held : List (Option HeaderValue)) (image now : List ℕ) (live live_now : LiveKeys) (snapshot : ℕ) (h : HeaderValue) → IsHeader h → snapshot ≤ h.id → 1 ≤ free_slots held
+pub sealed_beside : (index : PlaceMap) (held : List (Option HeaderValue)) (image now : List ℕ) (live live_now : LiveKeys) (snapshot : ℕ) (h : HeaderValue) → IsHeader h
+    → snapshot ≤ h.id → 1 ≤ free_slots held
     → ((key : List ℕ) (place : Place) → IsLiveAt live key place → IsLiveAt live_now key place)
     → ((key : List ℕ) (level : ℕ) (bytes : List ℕ) → HasKey index key → HasNewest held key level bytes image → HasNewest (with_slot (first_free held) h held) key level bytes now)
     → GoesOnBeside index (with_entries h.kind (first_free held) h.entries index) held (with_slot (first_free held) h held) image now live live_now snapshot
@@ -77,5 +80,6 @@ sealed_beside index held image now live live_now snapshot h right new some more 
             → (finite.get index key ≡ Some place) ⊎ ((g : HeaderValue) × ((slice_get (with_slot (first_free held) h held) place.slot ≡ Some (Some g)) × (snapshot ≤ g.id)))
         by_entry None is = inl (sym (put_none h.kind (first_free held) h.entries index key is) ∙ has)
         by_entry (Some found) is =
-            let same : place ≡ place_of (first_free held) found = some_same place (place_of (first_free held) found) (sym has ∙ put_some h.kind (first_free held) [] h.entries index key found right.entries is) in
+            let same : place ≡ place_of (first_free held) found = some_same place (place_of (first_free held) found)
+            (sym has ∙ put_some h.kind (first_free held) [] h.entries index key found right.entries is) in
             inr (h, (ap (λ (p : Place). slice_get (with_slot (first_free held) h held) p.slot) same ∙ new_there h held some, new))

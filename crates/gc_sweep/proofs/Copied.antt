@@ -51,7 +51,8 @@ module _ (s : Source) (S : (List ℕ → Type 0) → Type 0) where
       )
 
 -- so the number of those that were copied is one
-pub copied_fits : (t : SlotTable) (snapshot : ℕ) (s : Sweep) (known : Option PlaceMap) (live : LiveKeys) (slot from : ℕ) (filling : Contents) (old new : DiskView) (found : Option Plan)
+pub copied_fits : (t : SlotTable) (snapshot : ℕ) (s : Sweep) (known : Option PlaceMap) (live : LiveKeys) (slot from : ℕ) (filling : Contents) (old new : DiskView)
+    (found : Option Plan)
     → IsSweeping t snapshot s → PlansSource t known live slot from filling old new found → IfSome found (λ plan. s.copied + plan.copied < 2 ^ 64)
 copied_fits t snapshot s known live slot from filling old new None under plans = tt
 copied_fits t snapshot s known live slot from filling old new (Some plan) under plans =
@@ -64,7 +65,8 @@ copied_fits t snapshot s known live slot from filling old new (Some plan) under 
 
 -- ---- why none was
 
-pub is_source : (t : SlotTable) (source : ℕ) (s : Sweep) (slot : ℕ) (kind : Kind) → slot < length t.ids.items → get_or t.ids.items slot 0 ≡ get_or s.sources.items source 0 → kind_in t slot ≡ Some kind
+pub is_source : (t : SlotTable) (source : ℕ) (s : Sweep) (slot : ℕ) (kind : Kind) → slot < length t.ids.items → get_or t.ids.items slot 0 ≡ get_or s.sources.items source 0
+    → kind_in t slot ≡ Some kind
     → (filling : Contents) → IsFilling s.buffer kind filling → IsSource t source s slot kind filling
 is_source t source s slot kind within id_is kind_is filling fills = record { within = within; id_is = id_is; kind_is = kind_is; filling_is = fills }
 

@@ -50,7 +50,8 @@ IsFailure DiskRead = Unit {0}
 IsFailure DiskWrite = Unit {0}
 IsFailure refusal = ⊥
 
-module _ (index : PlaceMap) (held : List (Option HeaderValue)) (image : List ℕ) (stand : HoldSlots 0 held image) (copies : AreCopies 0 held image) (partial : IsPartialIndexOf held index) (t : SlotTable)
+module _ (index : PlaceMap) (held : List (Option HeaderValue)) (image : List ℕ) (stand : HoldSlots 0 held image) (copies : AreCopies 0 held image)
+    (partial : IsPartialIndexOf held index) (t : SlotTable)
     (slots : RepresentsSlots held t) (old new : DiskView) (content : old.content ≡ Some image) where
   -- the header of a slot that has a container keeps the format
   header_right : (slot : ℕ) (h : HeaderValue) (why : Why) → slice_get held slot ≡ Some (Some h) → IsDamage (ReadAs old new (header_bytes slot)) why → ⊥
@@ -82,9 +83,11 @@ module _ (index : PlaceMap) (held : List (Option HeaderValue)) (image : List ℕ
         let newest = copy_of held index partial (entry_key kind e) (place_of slot e) here in
         let digest : sha256 (bytes_at (place_of slot e) image) ≡ e.digest =
         subst (λ (p : Place). sha256 (bytes_at p image) ≡ e.digest) newest.1.1 (copy_digest held (kind_byte kind) e.digest image newest.0 copies newest.1.0) in
-        let read : range (data_at at + offset) count image ≡ found.bytes = shown_content old new (λ (i : List ℕ). range (data_at at + offset) count i ≡ found.bytes) image found.there content in
+        let read : range (data_at at + offset) count image ≡ found.bytes = shown_content old new
+        (λ (i : List ℕ). range (data_at at + offset) count i ≡ found.bytes) image found.there content in
         let bytes : bytes_at (place_of slot e) image ≡ found.bytes =
-        ap (λ (n : ℕ). range (data_at n + e.offset) e.length image) (sym slot_is) ∙ ap (λ (n : ℕ). range (data_at at + n) e.length image) (sym offset_is) ∙ ap (λ (n : ℕ). range (data_at at + offset) n image) (sym count_is)
+        ap (λ (n : ℕ). range (data_at n + e.offset) e.length image) (sym slot_is) ∙ ap (λ (n : ℕ). range (data_at at + n) e.length image) (sym offset_is)
+        ∙ ap (λ (n : ℕ). range (data_at at + offset) n image) (sym count_is)
         ∙ read in
         absurd (differ (want_is ∙ sym digest ∙ ap sha256 bytes ∙ found.digest_is))
     one_fails e buffer _ cause = absurd cause.1.1
@@ -104,12 +107,14 @@ module _ (index : PlaceMap) (held : List (Option HeaderValue)) (image : List ℕ
   remove_fails _ cause = absurd cause
 
   -- a container that stands is looked at
-  source_fails : (live : LiveKeys) (slot from : ℕ) (h : HeaderValue) (buffer : Contents) (refusal : Refusal) → slice_get held slot ≡ Some (Some h) → IsSourceRefusal t (Some index) live slot from buffer old new refusal
+  source_fails : (live : LiveKeys) (slot from : ℕ) (h : HeaderValue) (buffer : Contents) (refusal : Refusal) → slice_get held slot ≡ Some (Some h)
+      → IsSourceRefusal t (Some index) live slot from buffer old new refusal
       → IsFailure refusal
   source_fails live slot from h buffer refusal there (inl header) = header_fails slot h there refusal header
   source_fails live slot from h buffer refusal there (inr (g, tabled, shown, kind, few, plan)) = plan_fails live slot g.kind (drop from g.entries) (planned buffer []) refusal plan
 
-  copy_fails : (live : LiveKeys) (slot from : ℕ) (h : HeaderValue) (buffer : Contents) (refusal : Refusal) → slice_get held slot ≡ Some (Some h) → IsCopyRefusal t (Some index) live slot from buffer old new refusal
+  copy_fails : (live : LiveKeys) (slot from : ℕ) (h : HeaderValue) (buffer : Contents) (refusal : Refusal) → slice_get held slot ≡ Some (Some h)
+      → IsCopyRefusal t (Some index) live slot from buffer old new refusal
       → IsFailure refusal
   copy_fails live slot from h buffer refusal there (inl cause) = source_fails live slot from h buffer refusal there cause
   copy_fails live slot from h buffer refusal there (inr cause) = remove_fails refusal cause

@@ -95,11 +95,13 @@ module _ (t : SlotTable) (snapshot source entry : ℕ) (s : Sweep) (under : IsSw
     other_slot w is same =
         let one : get_or s.sources.items is.number 0 ≡ get_or s.sources.items source 0 = sym is.id_is ∙ ap (λ (x : ℕ). get_or t.ids.items x 0) same ∙ id_is in
         let apart = apart_from_distinct nat_eq s.sources.items is.number source 0 under.once is.taken here.0 in
-        let wrong : true ≡ false = sym (eq-eqb (get_or s.sources.items source 0) (get_or s.sources.items source 0) refl) ∙ subst (λ (x : ℕ). nat_eq x (get_or s.sources.items source 0) ≡ false) one apart in cc
+        let wrong : true ≡ false = sym (eq-eqb (get_or s.sources.items source 0) (get_or s.sources.items source 0) refl)
+        ∙ subst (λ (x : ℕ). nat_eq x (get_or s.sources.items source 0) ≡ false) one apart in cc
 
     taken_with : AllByRecursion (IsTaken t s.sources.items (source + 1)) (s.waiting.items ++ slot ∷ [])
     taken_with =
-        all_more (IsTaken t s.sources.items (source + 1)) s.waiting.items slot (all_by (IsTaken t s.sources.items source) (IsTaken t s.sources.items (source + 1)) (λ w is. taken_more (source + 1) w (omega arith) is) s.waiting.items taken_here)
+        all_more (IsTaken t s.sources.items (source + 1)) s.waiting.items slot
+        (all_by (IsTaken t s.sources.items source) (IsTaken t s.sources.items (source + 1)) (λ w is. taken_more (source + 1) w (omega arith) is) s.waiting.items taken_here)
         (record { within = within; number = source; taken = omega arith; id_is = id_is })
 
     apart_with : IsDistinct nat_eq (s.waiting.items ++ slot ∷ [])
@@ -136,7 +138,8 @@ module _ (t : SlotTable) (snapshot source entry : ℕ) (s s' : Sweep) (under : I
     within = within;
     left = left_on t snapshot source entry s under stage k more;
     taken = subst (λ (xs : List ℕ). AllByRecursion (IsTaken t s.sources.items k) xs) (sym (append-nil s.waiting.items))
-        (all_by (IsTaken t s.sources.items source) (IsTaken t s.sources.items k) (λ w is. taken_more t snapshot source entry s under stage k w more is) s.waiting.items (taken_here t snapshot source entry s under stage));
+        (all_by (IsTaken t s.sources.items source) (IsTaken t s.sources.items k) (λ w is. taken_more t snapshot source entry s under stage k w more is) s.waiting.items
+        (taken_here t snapshot source entry s under stage));
     apart = subst (IsDistinct nat_eq) (sym (append-nil s.waiting.items)) (apart_here t snapshot source entry s under stage);
     counted = omega (arith, counted_here t snapshot source entry s under stage, more);
     waits = waits;
@@ -144,22 +147,26 @@ module _ (t : SlotTable) (snapshot source entry : ℕ) (s s' : Sweep) (under : I
   }
 
   -- the next source comes
-  follows : (buffer : Contents) (waiting : List ℕ) (copied : ℕ) → GoesTo t snapshot (source + 1) s.sources.items waiting [] buffer s.freed → s'.waiting.items ≡ waiting → s'.ready.items ≡ []
+  follows : (buffer : Contents) (waiting : List ℕ) (copied : ℕ) → GoesTo t snapshot (source + 1) s.sources.items waiting [] buffer s.freed → s'.waiting.items ≡ waiting
+      → s'.ready.items ≡ []
       → s'.buffer ≡ buffer → s'.copied ≡ s.copied + copied → copied ≤ MOST_ENTRIES → IsNext t s.sources.items buffer (source + 1) 0 s'.next → IsSweeping t snapshot s'
   follows buffer waiting copied to waiting_is ready_is buffer_is copied_is few next =
       let next' : IsNext t s'.sources.items s'.buffer (source + 1) 0 s'.next =
       subst (λ (b : Contents). IsNext t s'.sources.items b (source + 1) 0 s'.next) (sym buffer_is)
       (subst (λ (xs : List ℕ). IsNext t xs buffer (source + 1) 0 s'.next) (sym sources_are) next) in
       let within : source + 1 ≤ length s'.sources.items = omega (arith, at.0, ap length sources_are) in
-      arrives t snapshot (source + 1) s' (by_parts t snapshot (source + 1) s.sources.items s' waiting [] buffer s.freed to sources_are waiting_is ready_is buffer_is others.freed_is)
-      (before_next t s' (source + 1) within s'.next next') (omega (arith, copied_is, few, copied_before, one_at_most (nat_lt 0 entry))) (has_next t s' (source + 1) within s'.next next' ready_is) (room s'.next)
+      arrives t snapshot (source + 1) s'
+      (by_parts t snapshot (source + 1) s.sources.items s' waiting [] buffer s.freed to sources_are waiting_is ready_is buffer_is others.freed_is)
+      (before_next t s' (source + 1) within s'.next next') (omega (arith, copied_is, few, copied_before, one_at_most (nat_lt 0 entry)))
+      (has_next t s' (source + 1) within s'.next next' ready_is) (room s'.next)
 
   -- nothing
   left_alone : (slot : ℕ) → TakesBy t slot source None s s' → IsSweeping t snapshot s'
   left_alone slot takes = follows s.buffer s.waiting.items 0 (stays_at (source + 1) s.buffer (omega arith) (omega (arith, at.0)) under.waits under.fills)
       takes.1 takes.2 takes.0 (omega (arith, takes.3)) (omega arith) takes.4
 
-  module _ (slot : ℕ) (within : slot < length t.ids.items) (id_is : get_or t.ids.items slot 0 ≡ get_or s.sources.items source 0) (kind : Kind) (filling : Contents) (fills : IsFilling s.buffer kind filling)
+  module _ (slot : ℕ) (within : slot < length t.ids.items) (id_is : get_or t.ids.items slot 0 ≡ get_or s.sources.items source 0) (kind : Kind) (filling : Contents)
+      (fills : IsFilling s.buffer kind filling)
       (plan : Plan) (few : plan.copied ≤ MOST_ENTRIES) (grows : length plan.buffer.segments ≡ length filling.segments + plan.copied) where
     -- something was filled just where something is
     empty_before : filling.segments ≡ [] → s.buffer.segments ≡ []
@@ -183,7 +190,8 @@ module _ (t : SlotTable) (snapshot source entry : ℕ) (s s' : Sweep) (under : I
       few = under.few;
       within = omega (arith, at.0);
       left = left_on t snapshot source entry s under stage (source + 1) (omega arith);
-      taken = subst (λ (xs : List ℕ). AllByRecursion (IsTaken t s.sources.items (source + 1)) xs) (sym (append-nil (s.waiting.items ++ slot ∷ []))) (taken_with t snapshot source entry s under stage slot within id_is);
+      taken = subst (λ (xs : List ℕ). AllByRecursion (IsTaken t s.sources.items (source + 1)) xs) (sym (append-nil (s.waiting.items ++ slot ∷ [])))
+          (taken_with t snapshot source entry s under stage slot within id_is);
       apart = subst (IsDistinct nat_eq) (sym (append-nil (s.waiting.items ++ slot ∷ []))) (apart_with t snapshot source entry s under stage slot within id_is);
       counted = omega (arith, counted_here t snapshot source entry s under stage, length-append s.waiting.items (slot ∷ []));
       waits = λ none. absurd (omega (arith, grows, some, ap length none));
@@ -208,7 +216,9 @@ module _ (t : SlotTable) (snapshot source entry : ℕ) (s s' : Sweep) (under : I
     has_ended (inl (some, waiting_is, ready_is, next)) buffer_is copied_is =
         follows plan.buffer (s.waiting.items ++ slot ∷ []) plan.copied (waits_now some) waiting_is ready_is buffer_is copied_is few next
     has_ended (inr (none, waiting_is, ready_is, next_is)) buffer_is copied_is =
-        arrives t snapshot (source + 1) s' (by_parts t snapshot (source + 1) s.sources.items s' s.waiting.items (slot ∷ []) plan.buffer s.freed (ready_now none) sources_are waiting_is ready_is buffer_is others.freed_is)
+        arrives t snapshot (source + 1) s'
+        (by_parts t snapshot (source + 1) s.sources.items s' s.waiting.items (slot ∷ []) plan.buffer s.freed
+        (ready_now none) sources_are waiting_is ready_is buffer_is others.freed_is)
         (ap (sources_before s') next_is) (omega (arith, copied_is, few, copied_before, one_at_most (nat_lt 0 entry)))
         (subst (HasNext t s') (sym next_is) ((λ is. absurd (omega (arith, ap length is, ap length ready_is))), λ some. absurd (omega (arith, some))))
         (room s'.next)
@@ -247,17 +257,24 @@ module _ (t : SlotTable) (snapshot source entry : ℕ) (s s' : Sweep) (under : I
       has_stopped ends buffer_is copied_is =
           arrives t snapshot source s'
           (by_parts t snapshot source s.sources.items s' s.waiting.items [] plan.buffer s.freed
-          (stays_at source plan.buffer (omega arith) (omega (arith, at.0)) (λ none. absurd (omega (arith, grows, some, ap length none))) (λ none. absurd (omega (arith, had, ap length (under.fills none)))))
+          (stays_at source plan.buffer (omega arith) (omega (arith, at.0)) (λ none. absurd (omega (arith, grows, some, ap length none)))
+          (λ none. absurd (omega (arith, had, ap length (under.fills none)))))
           sources_are ends.0 ends.1 buffer_is others.freed_is)
           (ap (sources_before s') ends.2)
-          (subst (λ (n : Next). s'.copied ≤ MOST_ENTRIES * (2 * source + (if nat_lt 0 (entry_in n) then 1 else 0))) (sym ends.2) (omega (arith, copied_is, copied_first, some_passed)))
-          (subst (HasNext t s') (sym ends.2)
-          (ends.1, (λ none. absurd (omega (arith, grows, some, ap length none, ap (λ (c : Contents). length c.segments) buffer_is))), λ passed. omega (arith, at.0, ap length sources_are)))
+          (subst (λ (n : Next). s'.copied ≤ MOST_ENTRIES * (2 * source + (if nat_lt 0 (entry_in n) then 1 else 0))) (sym ends.2)
+          (omega (arith, copied_is, copied_first, some_passed)))
+          (subst (HasNext t s') (sym ends.2) (
+            ends.1,
+            (λ none. absurd (omega (arith, grows, some, ap length none, ap (λ (c : Contents). length c.segments) buffer_is))),
+            λ passed. omega
+                (arith, at.0, ap length sources_are),
+          ))
           (room s'.next)
 
 -- ---- the step
 
-pub copies_on : (t : SlotTable) (snapshot : ℕ) (live : LiveKeys) (known after_known : Option PlaceMap) (old new : DiskView) (source entry : ℕ) (s s' : Sweep) → IsSweeping t snapshot s → s.next ≡ Copy source entry
+pub copies_on : (t : SlotTable) (snapshot : ℕ) (live : LiveKeys) (known after_known : Option PlaceMap) (old new : DiskView) (source entry : ℕ) (s s' : Sweep)
+    → IsSweeping t snapshot s → s.next ≡ Copy source entry
     → CopiesSource t live known after_known old new source entry s s' → IsSweeping t snapshot s'
 copies_on t snapshot live known after_known old new source entry s s' under stage copies = copies_by copies.found refl
   where
@@ -265,14 +282,21 @@ copies_on t snapshot live known after_known old new source entry s s' under stag
     filling = copies.filling
 
     with_plan : (plan : Plan) (header : HeaderValue) → IsHeader header → IsPlan (source_of known live copies.slot header.kind) (Shows old new) header.entries entry filling plan
-        → (ended : Bool) → plan.ended ≡ ended → s'.buffer ≡ plan.buffer → s'.copied ≡ s.copied + plan.copied → EndsBy ended t copies.slot source plan s s' → IsSweeping t snapshot s'
+        → (ended : Bool) → plan.ended ≡ ended → s'.buffer ≡ plan.buffer → s'.copied ≡ s.copied + plan.copied → EndsBy ended t copies.slot source plan s s'
+        → IsSweeping t snapshot s'
     with_plan plan header right is true ended_is buffer_is copied_is ends =
         has_ended t snapshot source entry s s' under stage copies.others copies.slot copies.is_source.within copies.is_source.id_is copies.kind filling copies.is_source.filling_is plan
         (copied_few (source_of known live copies.slot header.kind) (Shows old new) header entry filling plan right is) is.copied_is ends buffer_is copied_is
     with_plan plan header right is false ended_is buffer_is copied_is ends =
         has_stopped t snapshot source entry s s' under stage copies.others copies.slot copies.is_source.within copies.is_source.id_is copies.kind filling copies.is_source.filling_is plan
         (copied_few (source_of known live copies.slot header.kind) (Shows old new) header entry filling plan right is) is.copied_is
-        is.passed is.next_is (omega (arith, is.copied_is, adds_few (source_of known live copies.slot header.kind) (Shows old new) (drop entry header.entries) (planned filling []) (planned plan.buffer plan.dead.items) is.passed is.takes))
+        is.passed is.next_is
+        (omega (
+          arith,
+          is.copied_is,
+          adds_few (source_of known live copies.slot header.kind) (Shows old new) (drop entry header.entries) (planned filling [])
+              (planned plan.buffer plan.dead.items) is.passed is.takes,
+        ))
         (some_filled filling.segments refl) ends buffer_is copied_is
       where
         some_filled : (xs : _) → filling.segments ≡ xs → 0 < length xs
@@ -281,8 +305,10 @@ copies_on t snapshot live known after_known old new source entry s s' under stag
         some_filled (x ∷ xs) some = omega arith
 
     copies_by : (found : Option Plan) → copies.found ≡ found → IsSweeping t snapshot s'
-    copies_by None is = left_alone t snapshot source entry s s' under stage copies.others copies.slot (subst (λ (f : Option Plan). TakesBy t copies.slot source f s s') is copies.takes)
+    copies_by None is = left_alone t snapshot source entry s s' under stage copies.others copies.slot
+        (subst (λ (f : Option Plan). TakesBy t copies.slot source f s s') is copies.takes)
     copies_by (Some plan) is =
         let takes = subst (λ (f : Option Plan). TakesBy t copies.slot source f s s') is copies.takes in
-        let plans = subst (λ (f : Option Plan). PlansBy (source_of known live copies.slot copies.plans.header.kind) (Shows old new) copies.plans.header entry filling f) is copies.plans.plans in
+        let plans = subst
+        (λ (f : Option Plan). PlansBy (source_of known live copies.slot copies.plans.header.kind) (Shows old new) copies.plans.header entry filling f) is copies.plans.plans in
         with_plan plan copies.plans.header copies.plans.right plans.1 plan.ended refl takes.0 takes.1 takes.2

@@ -90,7 +90,8 @@ module _ (source entry snapshot : ℕ) (t : Tables) (s : Sweep) (stage : s.next 
   pub slot_within : slot < length t.held.ids.items
   slot_within = was_taken.0.within
 
-module _ (size source entry snapshot : ℕ) (known : Option PlaceMap) (t now : Tables) (s : Sweep) (runs : Runs size known t) (stage : s.next ≡ Release source entry) (freed : HasFreed t (slot_in_turn s) now)
+module _ (size source entry snapshot : ℕ) (known : Option PlaceMap) (t now : Tables) (s : Sweep) (runs : Runs size known t) (stage : s.next ≡ Release source entry)
+    (freed : HasFreed t (slot_in_turn s) now)
     (under : IsSweeping t.held snapshot s) where
   abbrev turn : ℕ
   turn = slot_in_turn s
@@ -144,7 +145,8 @@ module _ (size source entry snapshot : ℕ) (known : Option PlaceMap) (t now : T
   free_more =
       let held = runs.store.held in
       let there = open_slot held turn (subst (λ (ids : List ℕ). get_or ids turn 0 ≢ 0) runs.represents.slots_hold.ids_are (there_is source entry snapshot t s stage under)) in
-      ap (λ (ids : List ℕ). count_by (λ id. id == 0) ids) slots_now.ids_are ∙ zeros_free (without_slot turn held) (headers_without turn held runs.valid.headers) ∙ free_freed turn there.0 held there.1
+      ap (λ (ids : List ℕ). count_by (λ id. id == 0) ids) slots_now.ids_are ∙ zeros_free (without_slot turn held) (headers_without turn held runs.valid.headers)
+      ∙ free_freed turn there.0 held there.1
       ∙ ap suc (sym (zeros_free held runs.valid.headers) ∙ ap (λ (ids : List ℕ). count_by (λ id. id == 0) ids) (sym runs.represents.slots_hold.ids_are))
 
   -- ---- the sources
@@ -160,7 +162,8 @@ module _ (size source entry snapshot : ℕ) (known : Option PlaceMap) (t now : T
         (contains_set t.held.ids.items turn 0 (get_or s.sources.items i 0) (under.left.there i (omega (arith, before_now, more)) below) other);
   }
 
-  still_taken : (slots : List ℕ) → AllByRecursion (IsTaken t.held s.sources.items source) slots → AllByRecursion (λ w. w ≢ turn) slots → AllByRecursion (IsTaken now.held s.sources.items source) slots
+  still_taken : (slots : List ℕ) → AllByRecursion (IsTaken t.held s.sources.items source) slots → AllByRecursion (λ w. w ≢ turn) slots
+      → AllByRecursion (IsTaken now.held s.sources.items source) slots
   still_taken [] all others = tt
   still_taken (w ∷ ws) all others = (
     record {
@@ -190,7 +193,8 @@ module _ (size source entry snapshot : ℕ) (known : Option PlaceMap) (t now : T
     sources_are = ap (λ (v : _). v.items) released.sources_are
 
     now_goes : GoesTo now.held snapshot source s'.sources.items s'.waiting.items s'.ready.items s'.buffer s'.freed
-    now_goes = by_parts now.held snapshot source s.sources.items s' s.waiting.items others s.buffer (s.freed + 1) goes sources_are (ap (λ (v : _). v.items) released.waiting_is) released.ready_is released.buffer_is released.freed_is
+    now_goes = by_parts now.held snapshot source s.sources.items s' s.waiting.items others s.buffer (s.freed + 1) goes sources_are
+        (ap (λ (v : _). v.items) released.waiting_is) released.ready_is released.buffer_is released.freed_is
 
     copied_before : s'.copied ≤ MOST_ENTRIES * (2 * source + (if nat_lt 0 entry then 1 else 0))
     copied_before =
@@ -217,8 +221,10 @@ module _ (size source entry snapshot : ℕ) (known : Option PlaceMap) (t now : T
           (subst (λ (n : Next). s'.copied ≤ MOST_ENTRIES * (2 * source + (if nat_lt 0 (entry_in n) then 1 else 0))) (sym is)
           (subst (λ (n : ℕ). s'.copied ≤ MOST_ENTRIES * (2 * source + (if nat_lt 0 n then 1 else 0))) (sym next.1) copied_before))
           (subst (HasNext now.held s') (sym is)
-          (subst (λ (xs : List ℕ). (k < length xs) × (s'.ready.items ≡ []) × (0 < e → s'.buffer.segments ≡ []) × ((s'.buffer.segments ≡ []) ⊎ IsOfKind now.held (get_or xs k 0) s'.buffer.kind)) (sym sources_are)
-          (subst (λ (b : Contents). (k < length s.sources.items) × (s'.ready.items ≡ []) × (0 < e → b.segments ≡ []) × ((b.segments ≡ []) ⊎ IsOfKind now.held (get_or s.sources.items k 0) b.kind)) (sym released.buffer_is) (
+          (subst (λ (xs : List ℕ). (k < length xs) × (s'.ready.items ≡ []) × (0 < e → s'.buffer.segments ≡ [])
+          × ((s'.buffer.segments ≡ []) ⊎ IsOfKind now.held (get_or xs k 0) s'.buffer.kind)) (sym sources_are)
+          (subst (λ (b : Contents). (k < length s.sources.items) × (s'.ready.items ≡ []) × (0 < e → b.segments ≡ [])
+          × ((b.segments ≡ []) ⊎ IsOfKind now.held (get_or s.sources.items k 0) b.kind)) (sym released.buffer_is) (
             omega (arith, next.0, next.2),
             none,
             (λ some. (at_release.1 (omega (arith, some, next.1))).1),
@@ -229,8 +235,12 @@ module _ (size source entry snapshot : ℕ) (known : Option PlaceMap) (t now : T
           arrives now.held snapshot source s' now_goes (ap (sources_before s') is ∙ next.0)
           (subst (λ (n : Next). s'.copied ≤ MOST_ENTRIES * (2 * source + (if nat_lt 0 (entry_in n) then 1 else 0))) (sym is)
           (subst (λ (n : ℕ). s'.copied ≤ MOST_ENTRIES * (2 * source + (if nat_lt 0 n then 1 else 0))) (sym next.1) copied_before))
-          (subst (HasNext now.held s') (sym is)
-          (none, subst (λ (b : Contents). b.segments ≢ []) (sym released.buffer_is) next.2, λ some. omega (arith, next.0, (at_release.1 (omega (arith, some, next.1))).0, ap length sources_are)))
+          (subst (HasNext now.held s') (sym is) (
+            none,
+            subst (λ (b : Contents). b.segments ≢ []) (sym released.buffer_is) next.2,
+            λ some. omega
+                (arith, next.0, (at_release.1 (omega (arith, some, next.1))).0, ap length sources_are),
+          ))
           (room s'.next)
       goes_to (Release k e) is next = absurd next
       goes_to End is next =

@@ -56,7 +56,8 @@ keys_stay a b added key kind_is is has =
     ∙ listed_left (keys_of a) (map (segment_key a.kind) added) key has
 
 -- and those of what was added come
-keys_come : (a b : Contents) (added : List Segment) (key : List ℕ) → b.kind ≡ a.kind → b.segments ≡ a.segments ++ added → listed (map (segment_key a.kind) added) key ≡ true → has_key b key ≡ true
+keys_come : (a b : Contents) (added : List Segment) (key : List ℕ) → b.kind ≡ a.kind → b.segments ≡ a.segments ++ added → listed (map (segment_key a.kind) added) key ≡ true
+    → has_key b key ≡ true
 keys_come a b added key kind_is is has =
     ap (λ (k : Kind). listed (map (segment_key k) b.segments) key) kind_is
     ∙ ap (λ (ss : List Segment). listed (map (segment_key a.kind) ss) key) is
@@ -151,7 +152,8 @@ module _ (s : Source) (S : (List ℕ → Type 0) → Type 0) (m : PlaceMap) (kno
       inl (keys_come before.buffer after.buffer (added ∷ []) (entry_key s.kind e) (ap (λ (c : Contents). c.kind) adds.after_is) (ap (λ (c : Contents). c.segments) adds.after_is)
       (ap (λ (k : List ℕ). listed (k ∷ []) (entry_key s.kind e)) key ∙ listed_one (entry_key s.kind e)))
 
-  pub all_planned : (es : List Entry) (before after : Planned) (count : ℕ) → before.buffer.kind ≡ s.kind → Takes s S es before after count → AllByRecursion (IsPlanned s m after) (take count es)
+  pub all_planned : (es : List Entry) (before after : Planned) (count : ℕ) → before.buffer.kind ≡ s.kind → Takes s S es before after count
+      → AllByRecursion (IsPlanned s m after) (take count es)
   all_planned [] before after count kind none = subst (λ (n : ℕ). AllByRecursion (IsPlanned s m after) (take n [])) (sym none.1) tt
   all_planned (e ∷ es) before after count kind (inl full) = subst (λ (n : ℕ). AllByRecursion (IsPlanned s m after) (take n (e ∷ es))) (sym full.2) tt
   all_planned (e ∷ es) before after count kind (inr (mid, (rest, (more, one, others)))) =
@@ -161,7 +163,8 @@ module _ (s : Source) (S : (List ℕ → Type 0) → Type 0) (m : PlaceMap) (kno
 
   -- ---- no key is filled twice
 
-  one_apart : (e : Entry) (before after : Planned) → before.buffer.kind ≡ s.kind → TakesOne s S e before after → IsDistinct bytes_eq (keys_of before.buffer) → IsDistinct bytes_eq (keys_of after.buffer)
+  one_apart : (e : Entry) (before after : Planned) → before.buffer.kind ≡ s.kind → TakesOne s S e before after → IsDistinct bytes_eq (keys_of before.buffer)
+      → IsDistinct bytes_eq (keys_of after.buffer)
   one_apart e before after kind (inl (passed, is)) apart = subst (λ (p : Planned). IsDistinct bytes_eq (keys_of p.buffer)) (sym is) apart
   one_apart e before after kind (inr (inl (dead, is))) apart = subst (λ (p : Planned). IsDistinct bytes_eq (keys_of p.buffer)) (sym is) apart
   one_apart e before after kind (inr (inr (live, inl (had, is), dead))) apart = subst (λ (c : Contents). IsDistinct bytes_eq (keys_of c)) (sym is) apart
@@ -172,7 +175,8 @@ module _ (s : Source) (S : (List ℕ → Type 0) → Type 0) (m : PlaceMap) (kno
       (subst (IsDistinct bytes_eq) (sym (keys_append before.buffer.kind before.buffer.segments (added ∷ [])))
       (distinct_more (keys_of before.buffer) (segment_key before.buffer.kind added) apart (ap (has_key before.buffer) key ∙ lacks.0)))
 
-  pub takes_apart : (es : List Entry) (before after : Planned) (count : ℕ) → before.buffer.kind ≡ s.kind → Takes s S es before after count → IsDistinct bytes_eq (keys_of before.buffer)
+  pub takes_apart : (es : List Entry) (before after : Planned) (count : ℕ) → before.buffer.kind ≡ s.kind → Takes s S es before after count
+      → IsDistinct bytes_eq (keys_of before.buffer)
       → IsDistinct bytes_eq (keys_of after.buffer)
   takes_apart [] before after count kind none apart = subst (λ (p : Planned). IsDistinct bytes_eq (keys_of p.buffer)) (sym none.0) apart
   takes_apart (e ∷ es) before after count kind (inl full) apart = subst (λ (p : Planned). IsDistinct bytes_eq (keys_of p.buffer)) (sym full.1) apart

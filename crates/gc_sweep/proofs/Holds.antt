@@ -37,7 +37,8 @@ none_copied P c none = subst (AllByRecursion P) (sym none) tt
 
 -- ---- a sweep that begins
 
-pub begun_holds : (t : SlotTable) (sources : List ℕ) (s : Sweep) (index : PlaceMap) (held : List (Option HeaderValue)) (image : List ℕ) (live : LiveKeys) (snapshot : ℕ) → Begins t sources s
+pub begun_holds : (t : SlotTable) (sources : List ℕ) (s : Sweep) (index : PlaceMap) (held : List (Option HeaderValue)) (image : List ℕ) (live : LiveKeys) (snapshot : ℕ)
+    → Begins t sources s
     → HoldsSweep index held image live snapshot s
 begun_holds t sources s index held image live snapshot begins = record {
   copied = none_copied (IsCopied index live held image s.buffer.kind) s.buffer begins.empty;
@@ -65,7 +66,12 @@ pub holds_on_disk : (index : PlaceMap) (held : List (Option HeaderValue)) (image
     → HoldsSweep index held image live snapshot s → HoldsSweep index held now live snapshot s
 holds_on_disk index held image now live snapshot s keeps holds = record {
   copied = each_so (IsCopied index live held image s.buffer.kind) (IsCopied index live held now s.buffer.kind) s.buffer.segments
-      (λ x is. (let one : IsCopied index live held now s.buffer.kind x = record { is_live = is.is_live; newest = keeps (segment_key s.buffer.kind x) x.level x.bytes is.newest } in one)) holds.copied;
+      (λ x is.
+      (let one : IsCopied index live held now s.buffer.kind x = record {
+        is_live = is.is_live;
+        newest = keeps
+            (segment_key s.buffer.kind x) x.level x.bytes is.newest;
+      } in one)) holds.copied;
   once = holds.once;
   origin = holds.origin;
   waiting = holds.waiting;
@@ -86,7 +92,8 @@ pub record IsInTurn (index : PlaceMap) (held : List (Option HeaderValue)) (snaps
   pub is_ready : Contains s.ready.items (slot_in_turn s)
   pub none : HasNoEntryIn index (slot_in_turn s)
 
-pub in_turn : (t : SlotTable) (index : PlaceMap) (held : List (Option HeaderValue)) (image : List ℕ) (live : LiveKeys) (snapshot source entry : ℕ) (s : Sweep) → RepresentsSlots held t → IsSweeping t snapshot s
+pub in_turn : (t : SlotTable) (index : PlaceMap) (held : List (Option HeaderValue)) (image : List ℕ) (live : LiveKeys) (snapshot source entry : ℕ) (s : Sweep)
+    → RepresentsSlots held t → IsSweeping t snapshot s
     → s.next ≡ Release source entry → HoldsSweep index held image live snapshot s → IsInTurn index held snapshot s
 in_turn t index held image live snapshot source entry s slots under stage holds =
     let has : HasNext t s (Release source entry) = subst (HasNext t s) stage under.next_is in
@@ -100,8 +107,10 @@ in_turn t index held image live snapshot source entry s slots under stage holds 
 -- ---- at its end
 
 -- no source stands still
-pub none_left : (t : SlotTable) (index : PlaceMap) (held : List (Option HeaderValue)) (image : List ℕ) (live : LiveKeys) (snapshot : ℕ) (s : Sweep) → IsSweeping t snapshot s → s.next ≡ End
-    → HoldsSweep index held image live snapshot s → (number : ℕ) → number < length s.sources.items → (slot : ℕ) (h : HeaderValue) → slice_get held slot ≡ Some (Some h) → h.id ≢ get_or s.sources.items number 0
+pub none_left : (t : SlotTable) (index : PlaceMap) (held : List (Option HeaderValue)) (image : List ℕ) (live : LiveKeys) (snapshot : ℕ) (s : Sweep) → IsSweeping t snapshot s
+    → s.next ≡ End
+    → HoldsSweep index held image live snapshot s → (number : ℕ) → number < length s.sources.items → (slot : ℕ) (h : HeaderValue) → slice_get held slot ≡ Some (Some h)
+    → h.id ≢ get_or s.sources.items number 0
 none_left t index held image live snapshot s under stage holds number within slot h there id_is =
     let has : HasNext t s End = subst (HasNext t s) stage under.next_is in
     let below : number < sources_before s s.next = subst (λ (n : Next). number < sources_before s n) (sym stage) within in

@@ -61,8 +61,10 @@ leaves_on_disk index held image now live snapshot known s keeps leaves = record 
 
 -- ---- a source that was copied
 
-module _ (t : SlotTable) (index : PlaceMap) (held : List (Option HeaderValue)) (image : List ℕ) (live : LiveKeys) (snapshot source entry : ℕ) (s s' : Sweep) (known_now : Option PlaceMap) (old new : DiskView)
-    (slots : RepresentsSlots held t) (differ : DifferentIds held) (stand : HoldSlots 0 held image) (partial : IsPartialIndexOf held index) (content : old.content ≡ Some image) (under : IsSweeping t snapshot s)
+module _ (t : SlotTable) (index : PlaceMap) (held : List (Option HeaderValue)) (image : List ℕ) (live : LiveKeys) (snapshot source entry : ℕ) (s s' : Sweep)
+    (known_now : Option PlaceMap) (old new : DiskView)
+    (slots : RepresentsSlots held t) (differ : DifferentIds held) (stand : HoldSlots 0 held image) (partial : IsPartialIndexOf held index) (content : old.content ≡ Some image)
+    (under : IsSweeping t snapshot s)
     (stage : s.next ≡ CopyNext source entry) (holds : HoldsSweep index held image live snapshot s) where
   at : HasNext t s (CopyNext source entry)
   at = at_copy_next t index held image live snapshot source entry s slots differ stand under stage holds
@@ -127,7 +129,8 @@ module _ (t : SlotTable) (index : PlaceMap) (held : List (Option HeaderValue)) (
     ready_now_empty x there key place found here =
         let end = ends.is_ready x there in
         let was = were key place found in
-        elim (filled_new index held image live snapshot source entry s slot kind filling h partial read old new content plan is key place was (in_slot end.1 key place found (here ∙ end.0))) [
+        elim (filled_new index held image live snapshot source entry s slot kind filling h partial read old new content plan is key place was
+        (in_slot end.1 key place found (here ∙ end.0))) [
           | inl before ↦ elsewhere key before (subst (IsOrigin held snapshot s) (here ∙ end.0) (holds.origin key place before was))
           | inr added ↦ omega (arith, added.1, end.2)
         ]
@@ -137,7 +140,8 @@ module _ (t : SlotTable) (index : PlaceMap) (held : List (Option HeaderValue)) (
         let so = ends.half x g half in
         let slot_is : x ≡ slot = one_slot held x slot g h differ half.there read.there so.0 in
         let header_is : g ≡ h = one_header held x slot g h slot_is half.there read.there in
-        let all : AreCopied (has_key plan.buffer) later slot h plan.next = passed_copied index held image live snapshot source entry s slot kind filling h partial read old new content plan is in (
+        let all : AreCopied
+        (has_key plan.buffer) later slot h plan.next = passed_copied index held image live snapshot source entry s slot kind filling h partial read old new content plan is in (
           omega (arith, so.1, is.within, ap (λ (y : HeaderValue). length y.entries) header_is),
           subst (λ (n : ℕ). AreCopied (has_key s'.buffer) later x g n) (sym so.1)
               (subst (λ (y : HeaderValue). AreCopied (has_key s'.buffer) later x y plan.next) (sym header_is)
@@ -145,7 +149,8 @@ module _ (t : SlotTable) (index : PlaceMap) (held : List (Option HeaderValue)) (
               (subst (λ (c : Contents). AreCopied (has_key c) later slot h plan.next) (sym buffer_is) all))),
         )
 
-    none_lost_now : (x number : ℕ) (g : HeaderValue) → slice_get held x ≡ Some (Some g) → number < sources_before s' s'.next → g.id ≡ get_or s'.sources.items number 0 → Contains (s'.waiting.items ++ s'.ready.items) x
+    none_lost_now : (x number : ℕ) (g : HeaderValue) → slice_get held x ≡ Some (Some g) → number < sources_before s' s'.next → g.id ≡ get_or s'.sources.items number 0
+        → Contains (s'.waiting.items ++ s'.ready.items) x
     none_lost_now x number g there below id_is =
         let id : g.id ≡ get_or s.sources.items number 0 = id_is ∙ ap (λ (xs : List ℕ). get_or xs number 0) (ap (λ (v : _). v.items) others.sources_are) in
         elim (ends.lost number below) [
@@ -193,13 +198,15 @@ module _ (t : SlotTable) (index : PlaceMap) (held : List (Option HeaderValue)) (
       read : IsReadOf index held snapshot source entry s copies.slot copies.kind copies.filling h
       read = read_of t index held image live snapshot source entry s slots differ stand under stage holds copies.slot copies.kind copies.filling copies.is_source h shown
 
-      by_found : (found : Option Plan) → PlansBy (source_of (Some index) live copies.slot h.kind) (Shows old new) h entry copies.filling found → Forgets (Some index) known_now found
+      by_found : (found : Option Plan) → PlansBy (source_of (Some index) live copies.slot h.kind) (Shows old new) h entry copies.filling found
+          → Forgets (Some index) known_now found
           → TakesBy t copies.slot source found s s' → LeavesHeld index held image live snapshot known_now s'
       by_found None other forgets takes =
           absurd (not_other t index held image live snapshot source entry s slots differ stand under stage holds copies.slot copies.kind copies.filling copies.is_source h shown other)
       by_found (Some plan) (kind_is, is) forgets takes =
           leaves copies.slot copies.kind copies.filling h read plan is copies.others takes.0
-          (ends_by t index held snapshot source entry copies.slot copies.kind copies.filling h s s' at.0 read copies.others plan takes.0 least plan.ended most takes.2) (forgets.0 index refl)
+          (ends_by t index held snapshot source entry copies.slot copies.kind copies.filling h s s' at.0 read copies.others plan takes.0 least plan.ended most takes.2)
+          (forgets.0 index refl)
         where
           most : plan.ended ≡ true → length h.entries ≤ plan.next
           most ended = let same : plan.next ≡ length h.entries = eqb-true plan.next (length h.entries) (sym is.ended_is ∙ ended) in omega (arith, same)
@@ -211,5 +218,6 @@ module _ (t : SlotTable) (index : PlaceMap) (held : List (Option HeaderValue)) (
                 some,
                 is.copied_is,
                 is.next_is,
-                adds_few (source_of (Some index) live copies.slot h.kind) (Shows old new) (drop entry h.entries) (planned copies.filling []) (planned plan.buffer plan.dead.items) is.passed is.takes,
+                adds_few (source_of (Some index) live copies.slot h.kind) (Shows old new) (drop entry h.entries) (planned copies.filling [])
+                    (planned plan.buffer plan.dead.items) is.passed is.takes,
               )

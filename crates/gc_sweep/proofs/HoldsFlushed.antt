@@ -34,7 +34,8 @@ use Rattle.gc_sweep.proofs.KeyLists.{each_so, listed}
 -- ---- the container that was written
 
 -- a slot that has a container now had it, or that is the new one
-pub with_before : (at : ℕ) (h : HeaderValue) (held : List (Option HeaderValue)) (slot : ℕ) (g : HeaderValue) → slice_get (with_slot at h held) slot ≡ Some (Some g) → (h ≡ g) ⊎ (slice_get held slot ≡ Some (Some g))
+pub with_before : (at : ℕ) (h : HeaderValue) (held : List (Option HeaderValue)) (slot : ℕ) (g : HeaderValue) → slice_get (with_slot at h held) slot ≡ Some (Some g) → (h ≡ g)
+    ⊎ (slice_get held slot ≡ Some (Some g))
 with_before at h [] slot g there = absurd cc
 with_before zero h (c ∷ cs) zero g there = inl (some_same h g (some_same (Some h) (Some g) there))
 with_before zero h (c ∷ cs) (suc slot) g there = inr there
@@ -49,15 +50,18 @@ entry_there kind offset (x ∷ xs) key has none = by_test (bytes_eq (segment_key
     here : Entry
     here = record { digest = sha256 x.bytes; offset = offset; length = length x.bytes; level = x.level }
 
-    by_test : (b : Bool) → bytes_eq (segment_key kind x) key ≡ b → b || listed (map (segment_key kind) xs) key ≡ true → cond b (Some here) (entry_of kind (entries_from (offset + length x.bytes) xs) key) ≡ None
+    by_test : (b : Bool) → bytes_eq (segment_key kind x) key ≡ b → b || listed (map (segment_key kind) xs) key ≡ true
+        → cond b (Some here) (entry_of kind (entries_from (offset + length x.bytes) xs) key) ≡ None
         → (listed (map (segment_key kind) xs) key ≡ true → entry_of kind (entries_from (offset + length x.bytes) xs) key ≡ None → ⊥) → ⊥
     by_test true same has none rest = absurd cc
     by_test false differ has none rest = rest has none
 
 -- ---- what was copied is written
 
-module _ (t : SlotTable) (index : PlaceMap) (held : List (Option HeaderValue)) (image now : List ℕ) (live : LiveKeys) (snapshot source entry id : ℕ) (s s' : Sweep) (slots : RepresentsSlots held t)
-    (under : IsSweeping t snapshot s) (stage : s.next ≡ Flush source entry) (flushed : HasFlushed source entry s s') (right : IsHeader (header_of id s.buffer.kind s.buffer.segments)) (new : snapshot ≤ id)
+module _ (t : SlotTable) (index : PlaceMap) (held : List (Option HeaderValue)) (image now : List ℕ) (live : LiveKeys) (snapshot source entry id : ℕ) (s s' : Sweep)
+    (slots : RepresentsSlots held t)
+    (under : IsSweeping t snapshot s) (stage : s.next ≡ Flush source entry) (flushed : HasFlushed source entry s s')
+    (right : IsHeader (header_of id s.buffer.kind s.buffer.segments)) (new : snapshot ≤ id)
     (some : 1 ≤ free_slots held) where
   abbrev h : HeaderValue
   h = header_of id s.buffer.kind s.buffer.segments
@@ -83,7 +87,8 @@ module _ (t : SlotTable) (index : PlaceMap) (held : List (Option HeaderValue)) (
   had_elsewhere : (key : List ℕ) (at : Place) → finite.get later key ≡ Some at → at.slot ≢ place → (finite.get index key ≡ Some at) × (has_key s.buffer key ≡ true → ⊥)
   had_elsewhere key at has other = by_entry (entry_of s.buffer.kind (entries_from 0 s.buffer.segments) key) refl
     where
-      by_entry : (found : Option Entry) → entry_of s.buffer.kind (entries_from 0 s.buffer.segments) key ≡ found → (finite.get index key ≡ Some at) × (has_key s.buffer key ≡ true → ⊥)
+      by_entry : (found : Option Entry) → entry_of s.buffer.kind (entries_from 0 s.buffer.segments) key ≡ found → (finite.get index key ≡ Some at)
+          × (has_key s.buffer key ≡ true → ⊥)
       by_entry None is = (
         sym (put_none s.buffer.kind place (entries_from 0 s.buffer.segments) index key is) ∙ has,
         λ filled. entry_there s.buffer.kind 0 s.buffer.segments key filled is,
@@ -114,7 +119,8 @@ module _ (t : SlotTable) (index : PlaceMap) (held : List (Option HeaderValue)) (
   sources_are = ap (λ (v : _). v.items) flushed.sources_are
 
   -- a source stood there before
-  source_before : (slot number : ℕ) (g : HeaderValue) → number < length s.sources.items → g.id ≡ get_or s.sources.items number 0 → slice_get held_now slot ≡ Some (Some g) → slice_get held slot ≡ Some (Some g)
+  source_before : (slot number : ℕ) (g : HeaderValue) → number < length s.sources.items → g.id ≡ get_or s.sources.items number 0 → slice_get held_now slot ≡ Some (Some g)
+      → slice_get held slot ≡ Some (Some g)
   source_before slot number g within id_is there = elim (with_before place h held slot g there) [
     | inl same ↦ absurd (omega (arith, ap (λ (x : HeaderValue). x.id) same, new, id_is, (source_old held t snapshot s under number within).1))
     | inr was ↦ was
@@ -123,7 +129,8 @@ module _ (t : SlotTable) (index : PlaceMap) (held : List (Option HeaderValue)) (
   half_before : (slot : ℕ) (g : HeaderValue) → IsHalfCopied held_now s' slot g → IsHalfCopied held s slot g
   half_before slot g half =
       let more : 0 < entry = omega (arith, half.some, entry_now) in
-      let id_is : g.id ≡ get_or s.sources.items source 0 = half.id_is ∙ ap (λ (xs : List ℕ). get_or xs (sources_before s' s'.next) 0) sources_are ∙ ap (λ (k : ℕ). get_or s.sources.items k 0) before_now in
+      let id_is : g.id ≡ get_or s.sources.items source 0 = half.id_is ∙ ap (λ (xs : List ℕ). get_or xs (sources_before s' s'.next) 0) sources_are
+      ∙ ap (λ (k : ℕ). get_or s.sources.items k 0) before_now in
       record {
         some = omega (arith, more, ap entry_in stage);
         there = source_before slot source g (has.2 more) id_is half.there;
@@ -137,9 +144,11 @@ module _ (t : SlotTable) (index : PlaceMap) (held : List (Option HeaderValue)) (
         let had = had_elsewhere key at found (λ same. other_slot slot stands.header stands.there (sym here ∙ same)) in
         had.1 (holds.waiting slot there key at had.0 here)
 
-    half_empty : (slot : ℕ) (g : HeaderValue) (count : ℕ) → slice_get held slot ≡ Some (Some g) → AreCopied (has_key s.buffer) index slot g count → AreCopied (has_key s'.buffer) later slot g count
+    half_empty : (slot : ℕ) (g : HeaderValue) (count : ℕ) → slice_get held slot ≡ Some (Some g) → AreCopied (has_key s.buffer) index slot g count
+        → AreCopied (has_key s'.buffer) later slot g count
     half_empty slot g count there all =
-        each_so (λ (e : Entry). is_copy index g.kind slot e ≡ true → has_key s.buffer (entry_key g.kind e) ≡ true) (λ (e : Entry). is_copy later g.kind slot e ≡ true → has_key s'.buffer (entry_key g.kind e) ≡ true)
+        each_so (λ (e : Entry). is_copy index g.kind slot e ≡ true → has_key s.buffer (entry_key g.kind e) ≡ true)
+        (λ (e : Entry). is_copy later g.kind slot e ≡ true → has_key s'.buffer (entry_key g.kind e) ≡ true)
         (take count g.entries)
         (λ e was copy.
         let had = had_elsewhere (entry_key g.kind e) (place_of slot e) (copy_at later g.kind slot e copy) (other_slot slot g there) in
@@ -163,5 +172,7 @@ module _ (t : SlotTable) (index : PlaceMap) (held : List (Option HeaderValue)) (
           let id : g.id ≡ get_or s.sources.items number 0 = id_is ∙ ap (λ (xs : List ℕ). get_or xs number 0) sources_are in
           let within : number < length s.sources.items = omega (arith, below, before_now, before_is, under.before) in
           let lost = holds.none_lost slot number g (source_before slot number g within id there) (omega (arith, below, before_now, before_is)) id in
-          subst (λ (xs : List ℕ). Contains xs slot) (ap (λ (xs : List ℕ). s.waiting.items ++ xs) has.0 ∙ append-nil s.waiting.items ∙ sym flushed.ready_is ∙ ap (λ (xs : List ℕ). xs ++ s'.ready.items) (sym flushed.none_waits)) lost;
+          subst (λ (xs : List ℕ). Contains xs slot)
+          (ap (λ (xs : List ℕ). s.waiting.items ++ xs) has.0 ∙ append-nil s.waiting.items ∙ sym flushed.ready_is
+          ∙ ap (λ (xs : List ℕ). xs ++ s'.ready.items) (sym flushed.none_waits)) lost;
     }

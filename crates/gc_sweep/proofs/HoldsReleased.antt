@@ -42,8 +42,10 @@ rest_in (y ∷ ys) x there other = by_place there.0 there.1 there.2
 
 -- ---- a source that is given back
 
-module _ (t then : SlotTable) (index : PlaceMap) (held : List (Option HeaderValue)) (image now : List ℕ) (live : LiveKeys) (snapshot source entry : ℕ) (s s' : Sweep) (slots : RepresentsSlots held t)
-    (under : IsSweeping t snapshot s) (stage : s.next ≡ Release source entry) (released : HasReleased then source entry s s') (holds : HoldsSweep index held image live snapshot s) where
+module _ (t then : SlotTable) (index : PlaceMap) (held : List (Option HeaderValue)) (image now : List ℕ) (live : LiveKeys) (snapshot source entry : ℕ) (s s' : Sweep)
+    (slots : RepresentsSlots held t)
+    (under : IsSweeping t snapshot s) (stage : s.next ≡ Release source entry) (released : HasReleased then source entry s s')
+    (holds : HoldsSweep index held image live snapshot s) where
   abbrev slot : ℕ
   slot = slot_in_turn s
 
@@ -87,7 +89,10 @@ module _ (t then : SlotTable) (index : PlaceMap) (held : List (Option HeaderValu
   -- the slots but that one are as they were
   there_still : (other : ℕ) (h : HeaderValue) → snapshot ≤ h.id → slice_get held other ≡ Some (Some h) → slice_get held_now other ≡ Some (Some h)
   there_still other h new there =
-      other_there slot other held (λ same. (let one = one_header held slot other turn.stands.header h same turn.stands.there there in omega (arith, new, turn.stands.old, ap (λ (g : HeaderValue). g.id) one))) ∙ there
+      other_there slot other held
+      (λ same.
+      (let one = one_header held slot other turn.stands.header h same turn.stands.there there in omega (arith, new, turn.stands.old, ap (λ (g : HeaderValue). g.id) one)))
+      ∙ there
 
   origin_on : (key : List ℕ) (other : ℕ) → has_key s.buffer key ≡ true → IsOrigin held snapshot s other → IsOrigin held_now snapshot s' other
   origin_on key other filled (inl waits) = inl (subst (λ (xs : List ℕ). Contains xs other) (sym waiting_is) waits)
@@ -104,7 +109,8 @@ module _ (t then : SlotTable) (index : PlaceMap) (held : List (Option HeaderValu
   same_filled : (key : List ℕ) → has_key s'.buffer key ≡ has_key s.buffer key
   same_filled key = ap (λ (c : Contents). has_key c key) released.buffer_is
 
-  pub holds_released : ((key : List ℕ) (level : ℕ) (bytes : List ℕ) → HasKey index key → HasNewest held key level bytes image → HasNewest held_now key level bytes now) → HoldsSweep index held_now now live snapshot s'
+  pub holds_released : ((key : List ℕ) (level : ℕ) (bytes : List ℕ) → HasKey index key → HasNewest held key level bytes image → HasNewest held_now key level bytes now)
+      → HoldsSweep index held_now now live snapshot s'
   holds_released keeps = record {
     copied = subst (λ (c : Contents). AllByRecursion (IsCopied index live held_now now c.kind) c.segments) (sym released.buffer_is)
         (each_so (IsCopied index live held image s.buffer.kind) (IsCopied index live held_now now s.buffer.kind) s.buffer.segments

@@ -41,7 +41,8 @@ none_newest held index slot partial none key copy has is here =
     let found = copy_of held index partial key has.0 has.1 in
     none key has.0 has.1 (ap (λ (p : Place). p.slot) (sym found.1.1 ∙ ap (λ (c : Copy). c.place) (some_same found.0 copy (sym found.1.0 ∙ is))) ∙ here)
 
-module _ (t : SlotTable) (index : PlaceMap) (held : List (Option HeaderValue)) (image : List ℕ) (live : LiveKeys) (snapshot : ℕ) (s : Sweep) (slots : RepresentsSlots held t) (headers : AreHeaders held)
+module _ (t : SlotTable) (index : PlaceMap) (held : List (Option HeaderValue)) (image : List ℕ) (live : LiveKeys) (snapshot : ℕ) (s : Sweep) (slots : RepresentsSlots held t)
+    (headers : AreHeaders held)
     (under : IsSweeping t snapshot s) where
   free_is : free_in t ≡ free_slots held
   free_is = ap (λ (ids : List ℕ). count_by (λ id. id == 0) ids) slots.ids_are ∙ zeros_free held headers
@@ -72,7 +73,8 @@ module _ (t : SlotTable) (index : PlaceMap) (held : List (Option HeaderValue)) (
         spare : IsSpare (HasKey index) held (slot_in_turn s)
         spare = record { header = turn.stands.header; holds = turn.stands.there; none = none_newest held index (slot_in_turn s) partial turn.none }
 
-        by_order : ((nat_le (first_free held) (slot_in_turn s) ≡ true) × (first_free held ≤ slot_in_turn s)) ⊎ ((nat_le (first_free held) (slot_in_turn s) ≡ false) × (slot_in_turn s < first_free held)) → HasReserve (HasKey index) held
+        by_order : ((nat_le (first_free held) (slot_in_turn s) ≡ true) × (first_free held ≤ slot_in_turn s))
+            ⊎ ((nat_le (first_free held) (slot_in_turn s) ≡ false) × (slot_in_turn s < first_free held)) → HasReserve (HasKey index) held
         by_order (inl least) = record { first = first_free held; second = slot_in_turn s; differ = omega (arith, least.1, differ); first_is = inl closed; second_is = inr spare }
         by_order (inr more) = record { first = slot_in_turn s; second = first_free held; differ = more.1; first_is = inr spare; second_is = inl closed }
 
@@ -81,7 +83,8 @@ module _ (t : SlotTable) (index : PlaceMap) (held : List (Option HeaderValue)) (
     has_reserve = by_next s.next refl
       where
         closed_by : (n : Next) → s.next ≡ n → taken_from n ≡ 0 → HasReserve (HasKey index) held
-        closed_by n stage none = both_closed (let room : RESERVE ≤ free_in t + taken_from n = subst (λ (n : Next). RESERVE ≤ free_in t + taken_from n) stage under.room in omega (arith, room, none, free_is))
+        closed_by n stage none = both_closed
+            (let room : RESERVE ≤ free_in t + taken_from n = subst (λ (n : Next). RESERVE ≤ free_in t + taken_from n) stage under.room in omega (arith, room, none, free_is))
 
         by_next : (n : Next) → s.next ≡ n → HasReserve (HasKey index) held
         by_next (CopyNext source entry) stage = closed_by (CopyNext source entry) stage refl
@@ -91,11 +94,13 @@ module _ (t : SlotTable) (index : PlaceMap) (held : List (Option HeaderValue)) (
 
 -- ---- what was copied may be written
 
-module _ (index : PlaceMap) (held : List (Option HeaderValue)) (image : List ℕ) (live : LiveKeys) (snapshot : ℕ) (s : Sweep) (holds : HoldsSweep index held image live snapshot s) where
+module _ (index : PlaceMap) (held : List (Option HeaderValue)) (image : List ℕ) (live : LiveKeys) (snapshot : ℕ) (s : Sweep)
+    (holds : HoldsSweep index held image live snapshot s) where
   -- each segment is the newest copy of its key
   pub are_newest : AllByRecursion (λ x. HasNewest held (segment_key s.buffer.kind x) x.level x.bytes image) s.buffer.segments
   are_newest =
-      each_so (IsCopied index live held image s.buffer.kind) (λ x. HasNewest held (segment_key s.buffer.kind x) x.level x.bytes image) s.buffer.segments (λ x is. is.newest) holds.copied
+      each_so (IsCopied index live held image s.buffer.kind) (λ x. HasNewest held (segment_key s.buffer.kind x) x.level x.bytes image) s.buffer.segments
+      (λ x is. is.newest) holds.copied
 
   module _ (S : List ℕ → Type 0) (nodes : AreNodes 0 held image) (among : AreAmong S 0 held image) where
     may_seal : (x : Segment) → HasNewest held (segment_key s.buffer.kind x) x.level x.bytes image → MaySeal S s.buffer.kind x
@@ -103,7 +108,8 @@ module _ (index : PlaceMap) (held : List (Option HeaderValue)) (image : List ℕ
         let node = newest_so IsNodeEntry held s.buffer.kind (sha256 x.bytes) image has.copy (nodes_so 0 held image nodes) has.copy_is in
         let leaf = newest_so (IsAmongThese S) held s.buffer.kind (sha256 x.bytes) image has.copy (among_so S 0 held image among) has.copy_is in
         record {
-          of_kind = subst (λ (level : ℕ). IsOfKind s.buffer.kind level x.bytes) (sym node.level_is ∙ has.level_is) (subst (IsOfKind s.buffer.kind node.entry.level) has.bytes_are node.so);
+          of_kind = subst (λ (level : ℕ). IsOfKind s.buffer.kind level x.bytes) (sym node.level_is ∙ has.level_is)
+              (subst (IsOfKind s.buffer.kind node.entry.level) has.bytes_are node.so);
           among = subst (IsAmong S s.buffer.kind) has.bytes_are leaf.so;
         }
 

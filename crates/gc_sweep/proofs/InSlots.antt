@@ -62,7 +62,8 @@ unused_at id (None ∷ cs) (suc slot) h unused there = unused_at id cs slot h un
 unused_at id (Some g ∷ cs) (suc slot) h unused there = unused_at id cs slot h unused.1 there
 
 -- one id is in one slot
-pub one_slot : (held : List (Option HeaderValue)) (a b : ℕ) (g h : HeaderValue) → DifferentIds held → slice_get held a ≡ Some (Some g) → slice_get held b ≡ Some (Some h) → g.id ≡ h.id → a ≡ b
+pub one_slot : (held : List (Option HeaderValue)) (a b : ℕ) (g h : HeaderValue) → DifferentIds held → slice_get held a ≡ Some (Some g) → slice_get held b ≡ Some (Some h)
+    → g.id ≡ h.id → a ≡ b
 one_slot [] a b g h differ here there same = absurd cc
 one_slot (c ∷ cs) zero zero g h differ here there same = refl
 one_slot (None ∷ cs) zero (suc b) g h differ here there same = absurd (let wrong : None ≡ Some g = some_same None (Some g) here in cc)
@@ -160,7 +161,8 @@ all_so : (es : List Entry) → AllByRecursion (λ (e : Entry). Unit {0}) es
 all_so [] = tt
 all_so (e ∷ es) = (tt, all_so es)
 
-module _ (held : List (Option HeaderValue)) (index : PlaceMap) (partial : IsPartialIndexOf held index) (key : List ℕ) (place : Place) (has : finite.get index key ≡ Some place) where
+module _ (held : List (Option HeaderValue)) (index : PlaceMap) (partial : IsPartialIndexOf held index) (key : List ℕ) (place : Place)
+    (has : finite.get index key ≡ Some place) where
   pub copy_of : (c : Copy) × ((newest 0 held key ≡ Some c) × (c.place ≡ place))
   copy_of = some_copy (newest 0 held key) place (partial key place has)
 
@@ -200,7 +202,8 @@ unfolding IsLiveAt
 live_anywhere live key a b is = is
 
 -- one that keeps its place stays live
-pub live_on : (index later : PlaceMap) (live : LiveKeys) (key : List ℕ) → ((place : Place) → finite.get index key ≡ Some place → (other : Place) × (finite.get later key ≡ Some other)) → IsLive index live key
+pub live_on : (index later : PlaceMap) (live : LiveKeys) (key : List ℕ)
+    → ((place : Place) → finite.get index key ≡ Some place → (other : Place) × (finite.get later key ≡ Some other)) → IsLive index live key
     → IsLive later live key
 live_on index later live key has is =
     let there = has is.0 is.1.0 in

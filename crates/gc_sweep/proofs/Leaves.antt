@@ -43,7 +43,8 @@ unfolding IsLiveAt
 marked live key at other is = is
 
 -- each key that was copied is live
-pub live_keys : (index : PlaceMap) (live : LiveKeys) (held : List (Option HeaderValue)) (image : List ℕ) (kind : Kind) (xs : List Segment) → AllByRecursion (IsCopied index live held image kind) xs → (key : List ℕ)
+pub live_keys : (index : PlaceMap) (live : LiveKeys) (held : List (Option HeaderValue)) (image : List ℕ) (kind : Kind) (xs : List Segment)
+    → AllByRecursion (IsCopied index live held image kind) xs → (key : List ℕ)
     → Contains (map (segment_key kind) xs) key → IsLive index live key
 live_keys index live held image kind [] all key there = absurd (omega (arith, there.1))
 live_keys index live held image kind (x ∷ xs) all key (zero, within, is) = subst (IsLive index live) is all.0.is_live
@@ -51,7 +52,8 @@ live_keys index live held image kind (x ∷ xs) all key (suc k, within, is) = li
 
 -- The tables are those of a store of the same files, and the map of the index is its; the invariant goes on. Just the same keys are live, and
 -- their newest copies are what they were.
-pub record LeavesStore (index later : PlaceMap) (store store_now : Store) (files : Files) (parts : List Part) (image now : List ℕ) (among : ByteSet) (u : Tables) (new : DiskView) (live : LiveKeys) : Type 0 where
+pub record LeavesStore (index later : PlaceMap) (store store_now : Store) (files : Files) (parts : List Part) (image now : List ℕ) (among : ByteSet) (u : Tables) (new : DiskView)
+    (live : LiveKeys) : Type 0 where
   pub represents : Represents store_now (Some later) u
   pub valid : IsValidFor new.size store_now
   pub stands : StandsFor (Stands (IsIn among) store_now files) new
@@ -61,7 +63,8 @@ pub record LeavesStore (index later : PlaceMap) (store store_now : Store) (files
   pub copies : (key : List ℕ) (level : ℕ) (bytes : List ℕ) → IsLive index live key → HasNewest store.held key level bytes image → HasNewest store_now.held key level bytes now
 
 module _ (index : PlaceMap) (store : Store) (files : Files) (parts : List Part) (image now : List ℕ) (among : ByteSet) (t u : Tables) (old new : DiskView) (live : LiveKeys)
-    (core : CoreInvariant index store files parts image) (represents : Represents store (Some index) t) (valid : IsValidFor old.size store) (content : old.content ≡ Some image) (content_now : new.content ≡ Some now)
+    (core : CoreInvariant index store files parts image) (represents : Represents store (Some index) t) (valid : IsValidFor old.size store) (content : old.content ≡ Some image)
+    (content_now : new.content ≡ Some now)
     (stands : StandsFor (Stands (IsIn among) store files) old) where
   has_live : (key : List ℕ) → IsLive index live key → HasKey index key
   has_live key is = (is.0, is.1.0)
@@ -94,7 +97,8 @@ module _ (index : PlaceMap) (store : Store) (files : Files) (parts : List Part) 
       core = record {
         index_is_newest = partial;
         files_are_indexed = λ key reach. let on = live_on key (needed key reach) in (on.0, on.1.0);
-        pins_are_closed = parts_kept (IsLive index live) (HasKey later) store store image now (λ key level bytes is has. keeps key level bytes has) (λ key is. let on = live_on key is in (on.0, on.1.0)) parts held;
+        pins_are_closed = parts_kept (IsLive index live) (HasKey later) store store image now (λ key level bytes is has. keeps key level bytes has)
+            (λ key is. let on = live_on key is in (on.0, on.1.0)) parts held;
         reserve_holds = reserve_by (HasKey index) (HasKey later) store.held (λ key has. (has.0, had key has.0 has.1)) core.reserve_holds;
         has_free = core.has_free;
       };
@@ -105,7 +109,8 @@ module _ (index : PlaceMap) (store : Store) (files : Files) (parts : List Part) 
 
   -- ---- what was copied was written
 
-  module _ (slot : ℕ) (filled : Contents) (writes : WritesCopies t old.size (Some index) slot filled u) (goes : IsLater old new) (moves : SealsIndexed t (t.held.last_id + 1) filled Done old new)
+  module _ (slot : ℕ) (filled : Contents) (writes : WritesCopies t old.size (Some index) slot filled u) (goes : IsLater old new)
+      (moves : SealsIndexed t (t.held.last_id + 1) filled Done old new)
       (may : AllByRecursion (MaySeal (IsIn among) filled.kind) filled.segments) (fit : FitBeside (IsIn among) index filled.kind filled.segments store image)
       (in_index : (key : List ℕ) → HasKey (with_entries filled.kind slot (entries_from 0 filled.segments) index) key → HasKey index key) where
     abbrev more : PlaceMap
@@ -144,7 +149,8 @@ module _ (index : PlaceMap) (store : Store) (files : Files) (parts : List Part) 
 
   -- ---- a source was given back
 
-  module _ (slot : ℕ) (h : HeaderValue) (there : slice_get store.held slot ≡ Some (Some h)) (none : HasNoEntryIn index slot) (freed : HasFreed t slot u) (goes : IsLater old new) (gives : GivesBack t slot Done old new) where
+  module _ (slot : ℕ) (h : HeaderValue) (there : slice_get store.held slot ≡ Some (Some h)) (none : HasNoEntryIn index slot) (freed : HasFreed t slot u) (goes : IsLater old new)
+      (gives : GivesBack t slot Done old new) where
     abbrev fewer : Store
     fewer = with_freed slot store
 

@@ -75,8 +75,10 @@ module _ (t : SlotTable) (snapshot source entry : ℕ) (s s' : Sweep) (under : I
       by_list [] is = absurd (omega (arith, some, ap length (under.fills is)))
       by_list (x ∷ xs) is = omega arith
 
-  module _ (live : LiveKeys) (known after_known : Option PlaceMap) (old new : DiskView) (stage : s.next ≡ Copy source entry) (copies : CopiesSource t live known after_known old new source entry s s') where
-    stopped : (plan : Plan) (header : HeaderValue) → IsPlan (source_of known live copies.slot header.kind) (Shows old new) header.entries entry copies.filling plan → plan.ended ≡ false
+  module _ (live : LiveKeys) (known after_known : Option PlaceMap) (old new : DiskView) (stage : s.next ≡ Copy source entry)
+      (copies : CopiesSource t live known after_known old new source entry s s') where
+    stopped : (plan : Plan) (header : HeaderValue) → IsPlan (source_of known live copies.slot header.kind) (Shows old new) header.entries entry copies.filling plan
+        → plan.ended ≡ false
         → 1 ≤ length copies.filling.segments
     stopped plan header is going = by_list copies.filling.segments refl
       where
@@ -84,7 +86,8 @@ module _ (t : SlotTable) (snapshot source entry : ℕ) (s s' : Sweep) (under : I
         by_list [] none = absurd (let wrong : true ≡ false = sym (eq-eqb plan.next (length header.entries) (is.whole none)) ∙ sym is.ended_is ∙ going in cc)
         by_list (x ∷ xs) some = omega arith
 
-    by_plan : (plan : Plan) (header : HeaderValue) → IsPlan (source_of known live copies.slot header.kind) (Shows old new) header.entries entry copies.filling plan → (ended : Bool) → plan.ended ≡ ended
+    by_plan : (plan : Plan) (header : HeaderValue) → IsPlan (source_of known live copies.slot header.kind) (Shows old new) header.entries entry copies.filling plan
+        → (ended : Bool) → plan.ended ≡ ended
         → EndsBy ended t copies.slot source plan s s' → steps_left s' < steps_left s
     by_plan plan header is true ended ends = ends_nears stage copies.others.sources_are copies.slot plan ends
     by_plan plan header is false going ends =
@@ -147,4 +150,12 @@ module _ (t : SlotTable) (snapshot source entry : ℕ) (s s' : Sweep) (under : I
       by_ready [] none =
           omega (arith, at (Release source entry) stage, next_few u s.sources.items s.buffer source entry s' s'.next (released.goes_on none), same, waiting, one_less)
       by_ready (x ∷ xs) some =
-          omega (arith, at (Release source entry) stage, ap (steps_at s') (released.next_is (λ none. absurd (omega (arith, ap length none, ap length some)))), same, waiting, one_less)
+          omega (
+            arith,
+            at (Release source entry) stage,
+            ap (steps_at s')
+                (released.next_is (λ none. absurd (omega (arith, ap length none, ap length some)))),
+            same,
+            waiting,
+            one_less,
+          )

@@ -50,8 +50,10 @@ map_so P kind (x ∷ xs) all = (all.0, map_so P kind xs all.1)
 
 -- ---- a plan
 
-module _ (index : PlaceMap) (held : List (Option HeaderValue)) (image : List ℕ) (live : LiveKeys) (snapshot source entry : ℕ) (s : Sweep) (slot : ℕ) (kind : Kind) (filling : Contents) (h : HeaderValue)
-    (partial : IsPartialIndexOf held index) (read : IsReadOf index held snapshot source entry s slot kind filling h) (old new : DiskView) (content : old.content ≡ Some image) (plan : Plan)
+module _ (index : PlaceMap) (held : List (Option HeaderValue)) (image : List ℕ) (live : LiveKeys) (snapshot source entry : ℕ) (s : Sweep) (slot : ℕ) (kind : Kind)
+    (filling : Contents) (h : HeaderValue)
+    (partial : IsPartialIndexOf held index) (read : IsReadOf index held snapshot source entry s slot kind filling h) (old new : DiskView) (content : old.content ≡ Some image)
+    (plan : Plan)
     (is : IsPlan (source_of (Some index) live slot h.kind) (Shows old new) h.entries entry filling plan) where
   abbrev src : Source
   src = source_of (Some index) live slot h.kind
@@ -82,7 +84,8 @@ module _ (index : PlaceMap) (held : List (Option HeaderValue)) (image : List ℕ
   pub keys_stay : (key : List ℕ) → IsLive index live key → finite.get later key ≡ finite.get index key
   keys_stay key is_live =
       place_stays plan.dead.items index key
-      (subst (AllByRecursion (λ (k : List ℕ). k ≢ key)) (sym gains.dead_are) (each_so (IsOfDead src index) (λ (k : List ℕ). k ≢ key) gains.dead (other_key key is_live) gains.are_dead))
+      (subst (AllByRecursion (λ (k : List ℕ). k ≢ key)) (sym gains.dead_are)
+      (each_so (IsOfDead src index) (λ (k : List ℕ). k ≢ key) gains.dead (other_key key is_live) gains.are_dead))
 
   pub live_stays : (key : List ℕ) → IsLive index live key → IsLive later live key
   live_stays key is_live = live_on index later live key (λ place found. (place, keys_stay key is_live ∙ found)) is_live
@@ -110,13 +113,15 @@ module _ (index : PlaceMap) (held : List (Option HeaderValue)) (image : List ℕ
   filled_on key has = gained_keys src (Shows old new) index refl before after key gains (filled_before key has)
 
   -- a key that is filled then was before, or is that of a copy in the slot; and then something was added
-  pub filled_new : (key : List ℕ) (place : Place) → finite.get index key ≡ Some place → has_key plan.buffer key ≡ true → (has_key s.buffer key ≡ true) ⊎ ((place.slot ≡ slot) × (0 < plan.copied))
+  pub filled_new : (key : List ℕ) (place : Place) → finite.get index key ≡ Some place → has_key plan.buffer key ≡ true → (has_key s.buffer key ≡ true)
+      ⊎ ((place.slot ≡ slot) × (0 < plan.copied))
   filled_new key place found has = elim (listed_either (keys_of filling) (map (segment_key filling.kind) gains.added) key split) [
     | inl was ↦ inl (filled_was key was)
     | inr added ↦ inr (
       listed_so (λ (k : List ℕ). finite.get index k ≡ Some place → place.slot ≡ slot) (map (segment_key filling.kind) gains.added) key
           (map_so (λ (k : List ℕ). finite.get index k ≡ Some place → place.slot ≡ slot) filling.kind gains.added
-          (each_so (IsOfCopy src (Shows old new) index) (λ x. finite.get index (segment_key filling.kind x) ≡ Some place → place.slot ≡ slot) gains.added at_slot gains.are_live)) added found,
+          (each_so (IsOfCopy src (Shows old new) index)
+          (λ x. finite.get index (segment_key filling.kind x) ≡ Some place → place.slot ≡ slot) gains.added at_slot gains.are_live)) added found,
       some_added gains.added refl added,
     )
   ]
@@ -136,7 +141,14 @@ module _ (index : PlaceMap) (held : List (Option HeaderValue)) (image : List ℕ
       some_added : (xs : List Segment) → gains.added ≡ xs → listed (map (segment_key filling.kind) xs) key ≡ true → 0 < plan.copied
       some_added [] none listed_there = absurd cc
       some_added (x ∷ xs) some listed_there =
-          omega (arith, is.copied_is, ap (λ (ss : List Segment). length ss) gains.segments_are, length-append filling.segments gains.added, ap (λ (ss : List Segment). length ss) some)
+          omega (
+            arith,
+            is.copied_is,
+            ap (λ (ss : List Segment). length ss) gains.segments_are,
+            length-append filling.segments gains.added,
+            ap
+                (λ (ss : List Segment). length ss) some,
+          )
 
   -- no key is filled twice
   pub filled_apart : IsDistinct bytes_eq (keys_of s.buffer) → IsDistinct bytes_eq (keys_of plan.buffer)
@@ -162,7 +174,8 @@ module _ (index : PlaceMap) (held : List (Option HeaderValue)) (image : List ℕ
         };
       }
 
-  pub all_copied : AllByRecursion (IsCopied index live held image s.buffer.kind) s.buffer.segments → AllByRecursion (IsCopied later live held image plan.buffer.kind) plan.buffer.segments
+  pub all_copied : AllByRecursion (IsCopied index live held image s.buffer.kind) s.buffer.segments
+      → AllByRecursion (IsCopied later live held image plan.buffer.kind) plan.buffer.segments
   all_copied all =
       subst (λ (k : Kind). AllByRecursion (IsCopied later live held image k) plan.buffer.segments) (sym gains.kind_is)
       (subst (AllByRecursion (IsCopied later live held image filling.kind)) (sym gains.segments_are)
@@ -188,7 +201,8 @@ module _ (index : PlaceMap) (held : List (Option HeaderValue)) (image : List ℕ
       (λ e was copy. inl (filled_on (entry_key h.kind e) (was copy))) read.first)
       (all_planned src (Shows old new) index refl (drop entry h.entries) before after is.passed read.kind_is is.takes))
 
-  has_of : (e : Entry) → IsPlanned src index after e → is_copy index h.kind slot e ≡ true → (place : Place) → finite.get later (entry_key h.kind e) ≡ Some place → has_key plan.buffer (entry_key h.kind e) ≡ true
+  has_of : (e : Entry) → IsPlanned src index after e → is_copy index h.kind slot e ≡ true → (place : Place) → finite.get later (entry_key h.kind e) ≡ Some place
+      → has_key plan.buffer (entry_key h.kind e) ≡ true
   has_of e one copy place found = elim (one copy) [
     | inl has ↦ has
     | inr dead ↦ absurd (let wrong : None ≡ Some place = sym (gone plan.dead.items index (entry_key h.kind e) dead) ∙ found in cc)
@@ -211,6 +225,8 @@ module _ (index : PlaceMap) (held : List (Option HeaderValue)) (image : List ℕ
       let entry_found : find (λ e. bytes_eq (entry_key h.kind e) key) h.entries ≡ Some at.entry =
       subst (λ (g : HeaderValue). find (λ e. bytes_eq (entry_key g.kind e) key) g.entries ≡ Some at.entry) same at.found in
       let key_is : entry_key h.kind at.entry ≡ key = subst (λ (g : HeaderValue). entry_key g.kind at.entry ≡ key) same at.key_is in
-      let one = (found_so (IsPlanned src index after) (λ e. bytes_eq (entry_key h.kind e) key) h.entries at.entry (all_of (IsPlanned src index after) plan.next h.entries most passed_planned) entry_found).0 in
+      let one =
+      (found_so (IsPlanned src index after) (λ e. bytes_eq (entry_key h.kind e) key) h.entries at.entry
+      (all_of (IsPlanned src index after) plan.next h.entries most passed_planned) entry_found).0 in
       let copy = at_copy index h.kind slot at.entry (ap (finite.get index) key_is ∙ was ∙ ap Some (at.place_is ∙ ap (λ (n : ℕ). place_of n at.entry) here)) in
       ap (has_key plan.buffer) (sym key_is) ∙ has_of at.entry one copy place (ap (finite.get later) key_is ∙ found)

@@ -56,7 +56,8 @@ partial_freed store index slot partial none key place found =
 -- ---- the tables
 
 pub has_freed : (old : Tables) (slot : ℕ) (held : SlotTable) → get_or old.held.ids.items slot 0 ≢ 0
-    → ((cs : List (Option HeaderValue)) → RepresentsSlots cs old.held → RepresentsSlots (without_slot slot cs) held) → held.last_id ≡ old.held.last_id → HasFreed old slot (record old { held = held })
+    → ((cs : List (Option HeaderValue)) → RepresentsSlots cs old.held → RepresentsSlots (without_slot slot cs) held) → held.last_id ≡ old.held.last_id
+    → HasFreed old slot (record old { held = held })
 has_freed old slot held there_is slots last = record {
   others_stay = refl;
   last_stays = last;
@@ -71,7 +72,8 @@ has_freed old slot held there_is slots last = record {
       };
 }
   where
-    after : (store : Store) (known : Option PlaceMap) → KnownMap known (λ index. HasNoEntryIn index slot) → Represents store known old → Represents (with_freed slot store) known (record old { held = held })
+    after : (store : Store) (known : Option PlaceMap) → KnownMap known (λ index. HasNoEntryIn index slot) → Represents store known old
+        → Represents (with_freed slot store) known (record old { held = held })
     after store known none was = record {
       slots_are = was.slots_are;
       names_are = was.names_are;
@@ -107,10 +109,12 @@ module _ (S : List ℕ → Type 0) (store : Store) (index : PlaceMap) (files : F
 
   moves_freed : (e : Ending) (old new : DiskView) → Writes (λ _. Frees slot) (IsFreed slot) e old new → Moves (freeing S slot store files) e old new
   moves_freed e old new writes =
-      moves_written (Stands S store files) (λ c. Stands S store files c ⊎ Stands S (with_freed slot store) files c) (Stands S (with_freed slot store) files) (λ _. Frees slot) (IsFreed slot) old new
+      moves_written (Stands S store files) (λ c. Stands S store files c ⊎ Stands S (with_freed slot store) files c) (Stands S (with_freed slot store) files) (λ _. Frees slot)
+      (IsFreed slot) old new
       once e (λ c stands. inl stands) (λ given d c stands was torn. while d c was torn) writes
 
-  holds_written : (e : Ending) (old new : DiskView) (given held : List ℕ) → old.content ≡ Some given → new.content ≡ Some held → Stands S store files given → Written (IsFreed slot) e old new
+  holds_written : (e : Ending) (old new : DiskView) (given held : List ℕ) → old.content ≡ Some given → new.content ≡ Some held → Stands S store files given
+      → Written (IsFreed slot) e old new
       → KeepsFreed e index slot store given held
   holds_written Done old new given held known is stands written =
       let c = written.0 given known in
@@ -121,10 +125,12 @@ module _ (S : List ℕ → Type 0) (store : Store) (index : PlaceMap) (files : F
   holds_written Broken old new given held known is stands written = tt
 
 -- the container in the slot of a store that the tables represent
-there_by : (t : Tables) (slot : ℕ) (store : Store) (known : Option PlaceMap) → get_or t.held.ids.items slot 0 ≢ 0 → Represents store known t → (h : HeaderValue) × (slice_get store.held slot ≡ Some (Some h))
+there_by : (t : Tables) (slot : ℕ) (store : Store) (known : Option PlaceMap) → get_or t.held.ids.items slot 0 ≢ 0 → Represents store known t → (h : HeaderValue)
+    × (slice_get store.held slot ≡ Some (Some h))
 there_by t slot store known there_is rep = open_slot store.held slot (subst (λ (ids : List ℕ). get_or ids slot 0 ≢ 0) rep.slots_hold.ids_are there_is)
 
-pub gives_back : (t : Tables) (slot : ℕ) → get_or t.held.ids.items slot 0 ≢ 0 → (e : Ending) (old new : DiskView) → Writes (λ _. Frees slot) (IsFreed slot) e old new → GivesBack t slot e old new
+pub gives_back : (t : Tables) (slot : ℕ) → get_or t.held.ids.items slot 0 ≢ 0 → (e : Ending) (old new : DiskView) → Writes (λ _. Frees slot) (IsFreed slot) e old new
+    → GivesBack t slot e old new
 gives_back t slot there_is e old new writes = record {
   moves = λ among store index files rep needed none.
       let there = there_by t slot store (Some index) there_is rep in

@@ -38,7 +38,8 @@ one_more number source below = elim (leb_tells source number) [
 -- ---- how it ended
 
 module _ (t : SlotTable) (index : PlaceMap) (held : List (Option HeaderValue)) (snapshot source entry slot : ℕ) (kind : Kind) (filling : Contents) (h : HeaderValue) (s s' : Sweep)
-    (within : source < length s.sources.items) (read : IsReadOf index held snapshot source entry s slot kind filling h) (others : GoesOn s s') (plan : Plan) (buffer_is : s'.buffer ≡ plan.buffer)
+    (within : source < length s.sources.items) (read : IsReadOf index held snapshot source entry s slot kind filling h) (others : GoesOn s s') (plan : Plan)
+    (buffer_is : s'.buffer ≡ plan.buffer)
     (next_least : 0 < plan.copied → 0 < plan.next) where
   sources_are : s'.sources.items ≡ s.sources.items
   sources_are = ap (λ (v : _). v.items) others.sources_are
@@ -46,7 +47,8 @@ module _ (t : SlotTable) (index : PlaceMap) (held : List (Option HeaderValue)) (
   -- it came to its end
   module _ (most : length h.entries ≤ plan.next) where
     -- and waits
-    waits_now : 0 < plan.copied → s'.waiting.items ≡ s.waiting.items ++ slot ∷ [] → s'.ready.items ≡ [] → IsNext t s.sources.items plan.buffer (source + 1) 0 s'.next → Ends held snapshot source slot h plan s s'
+    waits_now : 0 < plan.copied → s'.waiting.items ≡ s.waiting.items ++ slot ∷ [] → s'.ready.items ≡ [] → IsNext t s.sources.items plan.buffer (source + 1) 0 s'.next
+        → Ends held snapshot source slot h plan s s'
     waits_now some waiting_is ready_is next = record {
       waits_on = λ x there. subst (λ (xs : List ℕ). Contains xs x) (sym waiting_is) (Contains-append_left s.waiting.items (slot ∷ []) x there);
       origin = λ more. inl here;
@@ -74,7 +76,8 @@ module _ (t : SlotTable) (index : PlaceMap) (held : List (Option HeaderValue)) (
         before_now : sources_before s' s'.next ≡ source + 1
         before_now =
             before_next t s' (source + 1) (omega (arith, within, ap length sources_are)) s'.next
-            (subst (λ (b : Contents). IsNext t s'.sources.items b (source + 1) 0 s'.next) (sym buffer_is) (subst (λ (xs : List ℕ). IsNext t xs plan.buffer (source + 1) 0 s'.next) (sym sources_are) next))
+            (subst (λ (b : Contents). IsNext t s'.sources.items b (source + 1) 0 s'.next) (sym buffer_is)
+            (subst (λ (xs : List ℕ). IsNext t xs plan.buffer (source + 1) 0 s'.next) (sym sources_are) next))
 
     -- and is ready
     ready_now : plan.copied ≡ 0 → s'.waiting.items ≡ s.waiting.items → s'.ready.items ≡ slot ∷ [] → s'.next ≡ Release (source + 1) 0 → Ends held snapshot source slot h plan s s'

@@ -24,13 +24,15 @@ use Rattle.gc_sweep.specs.UnderWay.{HasNext, IsSweeping, entry_in, sources_befor
 use Rattle.gc_sweep.proofs.InSlots.{header_at, id_at, kind_at, one_slot, source_old}
 
 -- what an image shows in a slot stands there
-pub header_in : (held : List (Option HeaderValue)) (image : List ℕ) (slot : ℕ) (h : HeaderValue) → HoldSlots 0 held image → slot < length held → HoldsSlot image slot (Some h) → slice_get held slot ≡ Some (Some h)
+pub header_in : (held : List (Option HeaderValue)) (image : List ℕ) (slot : ℕ) (h : HeaderValue) → HoldSlots 0 held image → slot < length held → HoldsSlot image slot (Some h)
+    → slice_get held slot ≡ Some (Some h)
 header_in held image slot h holds within shown =
     let there : slice_get held slot ≡ Some (get_or held slot None) = slice_get-get_or held slot None within in
     there ∙ ap Some (slot_once slot (get_or held slot None) (Some h) image (slot_held slot held (get_or held slot None) image holds there) shown)
 
 -- The header is that of the source of a number, which goes on from an entry.
-pub record IsReadOf (index : PlaceMap) (held : List (Option HeaderValue)) (snapshot source entry : ℕ) (s : Sweep) (slot : ℕ) (kind : Kind) (filling : Contents) (h : HeaderValue) : Type 0 where
+pub record IsReadOf (index : PlaceMap) (held : List (Option HeaderValue)) (snapshot source entry : ℕ) (s : Sweep) (slot : ℕ) (kind : Kind) (filling : Contents)
+    (h : HeaderValue) : Type 0 where
   pub there : slice_get held slot ≡ Some (Some h)
   pub id_is : h.id ≡ get_or s.sources.items source 0
   pub old : h.id < snapshot
@@ -39,7 +41,8 @@ pub record IsReadOf (index : PlaceMap) (held : List (Option HeaderValue)) (snaps
   pub few : entry ≤ length h.entries
   pub first : AreCopied (has_key s.buffer) index slot h entry
 
-module _ (t : SlotTable) (index : PlaceMap) (held : List (Option HeaderValue)) (image : List ℕ) (live : LiveKeys) (snapshot source entry : ℕ) (s : Sweep) (slots : RepresentsSlots held t) (differ : DifferentIds held)
+module _ (t : SlotTable) (index : PlaceMap) (held : List (Option HeaderValue)) (image : List ℕ) (live : LiveKeys) (snapshot source entry : ℕ) (s : Sweep)
+    (slots : RepresentsSlots held t) (differ : DifferentIds held)
     (stand : HoldSlots 0 held image) (under : IsSweeping t snapshot s) (stage : s.next ≡ CopyNext source entry) (holds : HoldsSweep index held image live snapshot s) where
   pub at_copy_next : HasNext t s (CopyNext source entry)
   at_copy_next = subst (HasNext t s) stage under.next_is

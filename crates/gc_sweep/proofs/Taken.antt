@@ -131,7 +131,8 @@ some_closed (None ∷ cs) slot is = omega arith
 some_closed (Some h ∷ cs) zero is = absurd cc
 some_closed (Some h ∷ cs) (suc slot) is = some_closed cs slot is
 
-module _ (held : List (Option HeaderValue)) (t now : SlotTable) (slot : ℕ) (h : HeaderValue) (free : IsFirstFree slot held) (was : RepresentsSlots held t) (is : RepresentsSlots (with_slot slot h held) now) where
+module _ (held : List (Option HeaderValue)) (t now : SlotTable) (slot : ℕ) (h : HeaderValue) (free : IsFirstFree slot held) (was : RepresentsSlots held t)
+    (is : RepresentsSlots (with_slot slot h held) now) where
   pub slot_closed : get_or t.ids.items slot 0 ≡ 0
   slot_closed = ap (λ (ids : List ℕ). get_or ids slot 0) was.ids_are ∙ closed_slot held slot free.closed
 
@@ -151,8 +152,10 @@ module _ (held : List (Option HeaderValue)) (t now : SlotTable) (slot : ℕ) (h 
       ∙ ap (λ (ids : List ℕ). count_by (λ id. id == 0) ids) (sym was.ids_are)
 
 -- A container that another seals leaves a sweep under way.
-pub sealed_by_other : (held : List (Option HeaderValue)) (t now : SlotTable) (snapshot : ℕ) (s : Sweep) (slot : ℕ) (h : HeaderValue) → IsFirstFree slot held → AreHeaders held → IsHeader h → RepresentsSlots held t
+pub sealed_by_other : (held : List (Option HeaderValue)) (t now : SlotTable) (snapshot : ℕ) (s : Sweep) (slot : ℕ) (h : HeaderValue) → IsFirstFree slot held → AreHeaders held
+    → IsHeader h → RepresentsSlots held t
     → RepresentsSlots (with_slot slot h held) now → RESERVE < free_in t → IsSweeping t snapshot s → IsSweeping now snapshot s
 sealed_by_other held t now snapshot s slot h free headers right was is spare under =
-    sealed_on t now snapshot slot h.id (count_of (Some h)) (slot_closed held t now slot h free was is) (ids_set held t now slot h free was is) (counts_set held t now slot h free was is) s
+    sealed_on t now snapshot slot h.id (count_of (Some h)) (slot_closed held t now slot h free was is) (ids_set held t now slot h free was is)
+    (counts_set held t now slot h free was is) s
     (free_less held t now slot h free was is headers right) spare under

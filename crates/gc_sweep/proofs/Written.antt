@@ -40,11 +40,13 @@ has_slot t slot room below first = record {
   below = below;
 }
 
-pub writes_copies : (t : Tables) (size : ℕ) (known : Option PlaceMap) (slot : ℕ) (filled : Contents) (now : Tables) (id : ℕ) → HasSlotBeside spared t slot → HasWritten spared t size known slot filled now id
+pub writes_copies : (t : Tables) (size : ℕ) (known : Option PlaceMap) (slot : ℕ) (filled : Contents) (now : Tables) (id : ℕ) → HasSlotBeside spared t slot
+    → HasWritten spared t size known slot filled now id
     → WritesCopies t size known slot filled now
 writes_copies t size known slot filled now id has written = record { has_slot = has; written = subst (HasWritten spared t size known slot filled now) written.number written }
 
-module _ (size source entry snapshot : ℕ) (known : Option PlaceMap) (t now : Tables) (slot : ℕ) (s s' : Sweep) (runs : Runs size None t) (stage : s.next ≡ Flush source entry) (writes : WritesCopies t size known slot s.buffer now)
+module _ (size source entry snapshot : ℕ) (known : Option PlaceMap) (t now : Tables) (slot : ℕ) (s s' : Sweep) (runs : Runs size None t) (stage : s.next ≡ Flush source entry)
+    (writes : WritesCopies t size known slot s.buffer now)
     (flushed : HasFlushed source entry s s') (under : IsSweeping t.held snapshot s) where
   abbrev store : Store
   store = runs.store
@@ -85,11 +87,13 @@ module _ (size source entry snapshot : ℕ) (known : Option PlaceMap) (t now : T
   counts_now = counts_set store.held t.held now.held place h free was is
 
   left : AreLeft now.held snapshot s.sources.items source
-  left = left_same t.held now.held snapshot place h.id (count_of (Some h)) closed ids_now counts_now s.sources.items source (subst (AreLeft t.held snapshot s.sources.items) before_is under.left)
+  left = left_same t.held now.held snapshot place h.id (count_of (Some h)) closed ids_now counts_now s.sources.items source
+      (subst (AreLeft t.held snapshot s.sources.items) before_is under.left)
 
   all_taken : (slots : List ℕ) → AllByRecursion (IsTaken t.held s.sources.items (sources_before s s.next)) slots → AllByRecursion (IsTaken now.held s.sources.items source) slots
   all_taken slots all =
-      taken_same t.held now.held snapshot place h.id (count_of (Some h)) closed ids_now counts_now s.sources.items under.left.old source (omega (arith, under.before, before_is)) slots
+      taken_same t.held now.held snapshot place h.id (count_of (Some h)) closed ids_now counts_now s.sources.items under.left.old source
+      (omega (arith, under.before, before_is)) slots
       (subst (λ (n : ℕ). AllByRecursion (IsTaken t.held s.sources.items n) slots) before_is all)
 
   waiting_alone : s.waiting.items ++ s.ready.items ≡ s.waiting.items
@@ -127,7 +131,9 @@ module _ (size source entry snapshot : ℕ) (known : Option PlaceMap) (t now : T
 
   pub flushed_on : IsSweeping now.held snapshot s'
   flushed_on =
-      arrives now.held snapshot source s' (by_parts now.held snapshot source s.sources.items s' [] s.waiting.items s'.buffer s.freed goes sources_are flushed.none_waits flushed.ready_is refl flushed.freed_is)
+      arrives now.held snapshot source s'
+      (by_parts now.held snapshot source s.sources.items s' [] s.waiting.items s'.buffer s.freed goes sources_are flushed.none_waits flushed.ready_is refl flushed.freed_is)
       (ap (sources_before s') flushed.next_is) few_copied
-      (subst (HasNext now.held s') (sym flushed.next_is) ((λ none. some_wait (sym flushed.ready_is ∙ none)), λ some. (omega (arith, at.2 some, ap length sources_are), flushed.emptied)))
+      (subst (HasNext now.held s') (sym flushed.next_is)
+      ((λ none. some_wait (sym flushed.ready_is ∙ none)), λ some. (omega (arith, at.2 some, ap length sources_are), flushed.emptied)))
       (subst (λ (n : Next). RESERVE ≤ free_in now.held + taken_from n) (sym flushed.next_is) room)

@@ -74,8 +74,8 @@ pub record HoldsSweep (index : PlaceMap) (held : List (Option HeaderValue)) (ima
   pub none_lost : (slot number : ℕ) (h : HeaderValue) → slice_get held slot ≡ Some (Some h) → number < sources_before s s.next
       → h.id ≡ get_or s.sources.items number 0 → Contains (s.waiting.items ++ s.ready.items) slot
 
--- What others leave of a store and its index: a live key stays so, and the newest copies of keys are what they were; what the index has newly
--- lies in containers that came after the collection began; and just those that came before stand where they stood.
+-- What others leave of a store and its index: a live key stays so, and the newest copies of keys are what they were; what the index has
+-- newly lies in containers that came after the collection began; and just those that came before stand where they stood.
 pub record GoesOnBeside (index later : PlaceMap) (held held_now : List (Option HeaderValue)) (image now : List ℕ) (live live_now : LiveKeys)
     (snapshot : ℕ) : Type 0 where
   pub keys : (key : List ℕ) → IsLive index live key → IsLive later live_now key

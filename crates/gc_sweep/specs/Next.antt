@@ -24,8 +24,8 @@ pub record IsOfOtherKind (t : SlotTable) (id : ℕ) (kind : Kind) : Type 0 where
   pub other : kind_in t slot ≢ Some kind
 
 -- What comes where no source is ready, and the source of a number is to go on from the entry of a number: it is copied, if the container
--- that is filled has nothing yet, or segments of its kind; else that is written. Where no source is left, what there is is written, and then
--- it ends.
+-- that is filled has nothing yet, or segments of its kind; else that is written. Where no source is left, what there is is written, and
+-- then it ends.
 abbrev pub IsNext : SlotTable → List ℕ → Contents → ℕ → ℕ → Next → Type 0
 IsNext t sources buffer source entry (Copy s e) =
     (s ≡ source) × (e ≡ entry) × (source < length sources)

@@ -28,9 +28,11 @@ HasNoEntryIn index slot = (key : List ℕ) (place : Place) → finite.get index 
 pub record HasFreed (old : Tables) (slot : ℕ) (new : Tables) : Type 0 where
   pub others_stay : new ≡ record old { held = new.held }
   pub last_stays : new.held.last_id ≡ old.held.last_id
-  pub represents : (store : Store) (known : Option PlaceMap) → KnownMap known (λ index. HasNoEntryIn index slot) → Represents store known old
+  pub represents : (store : Store) (known : Option PlaceMap) → KnownMap known (λ index. HasNoEntryIn index slot)
+      → Represents store known old
       → Represents (with_freed slot store) known new
-  pub runs : (size : ℕ) (known : Option PlaceMap) → KnownMap known (λ index. HasNoEntryIn index slot) → Runs size known old → Runs size known new
+  pub runs : (size : ℕ) (known : Option PlaceMap) → KnownMap known (λ index. HasNoEntryIn index slot) → Runs size known old
+      → Runs size known new
 
 -- the store of these files, or that with the slot closed
 abbrev pub freeing : (List ℕ → Type 0) → ℕ → Store → Files → Way
@@ -43,10 +45,11 @@ KeepsFreed Refused index slot store given new = KeepsCopies (HasKey index) store
 KeepsFreed Unread index slot store given new = KeepsCopies (HasKey index) store given store new
 KeepsFreed Broken index slot store given new = Unit {0}
 
--- A container is given back: of each store that the tables represent, and of any files whose keys the index has, where it has no entry in the
--- slot. At any moment each image is the store of these files, or that with the slot closed; at the end it is the latter.
+-- A container is given back: of each store that the tables represent, and of any files whose keys the index has, where it has no entry in
+-- the slot. At any moment each image is the store of these files, or that with the slot closed; at the end it is the latter.
 pub record GivesBack (t : Tables) (slot : ℕ) (ending : Ending) (old new : DiskView) : Type 0 where
-  pub moves : (among : ByteSet) (store : Store) (index : PlaceMap) (files : Files) → Represents store (Some index) t → IndexesFiles index files
+  pub moves : (among : ByteSet) (store : Store) (index : PlaceMap) (files : Files) → Represents store (Some index) t
+      → IndexesFiles index files
       → HasNoEntryIn index slot → Moves (freeing (IsIn among) slot store files) ending old new
   pub holds : (among : ByteSet) (store : Store) (index : PlaceMap) (files : Files) (given held : List ℕ) → Represents store (Some index) t
       → IndexesFiles index files → HasNoEntryIn index slot → old.content ≡ Some given → new.content ≡ Some held

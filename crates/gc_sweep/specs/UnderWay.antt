@@ -58,9 +58,9 @@ abbrev pub taken_from : Next → ℕ
 taken_from (Release source entry) = 1
 taken_from next = 0
 
--- A sweep is under way. No source comes twice. Those that came to their end and were not given back are in slots of their own; some wait just
--- where there is something to be written. Two steps at most copy a source, and one has copied a source that goes on from an entry. The slots of
--- the reserve are closed; while a source is ready one may be missing.
+-- A sweep is under way. No source comes twice. Those that came to their end and were not given back are in slots of their own; some wait
+-- just where there is something to be written. Two steps at most copy a source, and one has copied a source that goes on from an entry. The
+-- slots of the reserve are closed; while a source is ready one may be missing.
 pub record IsSweeping (t : SlotTable) (snapshot : ℕ) (s : Sweep) : Type 0 where
   pub once : IsDistinct nat_eq s.sources.items
   pub few : length s.sources.items ≤ MOST_SLOTS

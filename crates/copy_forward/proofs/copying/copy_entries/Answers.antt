@@ -13,8 +13,10 @@ pub returns-in_err-remove_keys-clause-changes : goal.returns-in_err-remove_keys-
 returns-in_err-remove_keys-clause-changes g c = λ slots size_is.
     let view = g.D.Disk.view in
     let e = c.in_err-remove_keys.field-0.0 in
-    passed (λ x. Changes (slot_at slots) x (view c.args.disk.now) (view c.remove_keys.new.disk)) blames c.from_residual-in_err-remove_keys.result e c.from_residual-in_err-remove_keys.ensures.1
-    (changes_after (ending_of (blames e)) (view c.args.disk.now) (view c.plan_source.new.disk) (view c.remove_keys.new.disk) slots size_is c.in_ok-plan.ensures.reads c.in_err-remove_keys.ensures.changes)
+    passed (λ x. Changes (slot_at slots) x (view c.args.disk.now)
+    (view c.remove_keys.new.disk)) blames c.from_residual-in_err-remove_keys.result e c.from_residual-in_err-remove_keys.ensures.1
+    (changes_after (ending_of (blames e)) (view c.args.disk.now) (view c.plan_source.new.disk)
+    (view c.remove_keys.new.disk) slots size_is c.in_ok-plan.ensures.reads c.in_err-remove_keys.ensures.changes)
 
 pub returns-clause-ok : goal.returns-clause-ok
 returns-clause-ok g c =
@@ -31,4 +33,5 @@ returns-clause-ok g c =
 pub returns-clause-changes : goal.returns-clause-changes
 returns-clause-changes g c = λ slots size_is.
     let view = g.D.Disk.view in
-    changes_after Done (view c.args.disk.now) (view c.plan_source.new.disk) (view c.remove_keys.new.disk) slots size_is c.in_ok-plan.ensures.reads c.in_ok-remove_keys.ensures.changes
+    changes_after Done (view c.args.disk.now) (view c.plan_source.new.disk)
+    (view c.remove_keys.new.disk) slots size_is c.in_ok-plan.ensures.reads c.in_ok-remove_keys.ensures.changes

@@ -22,9 +22,11 @@ loop-entry-preserved g c =
       λ m is.
           let told = c.in_ok-is_live_copy.ensures.live m (on next known (Some m) so_far.2 is) in
           elim c.if-branch.branch [
-            | then-branch w ↦ summed_more m c.args.live.now c.args.kind c.args.slot es i d c.loop-entry.sum c.if-branch.sum c.in_ok-is_live_copy.field-0 c.loop-entry-test.true (so_far.0 m is) told
+            | then-branch w ↦ summed_more m c.args.live.now c.args.kind c.args.slot es i d c.loop-entry.sum c.if-branch.sum c.in_ok-is_live_copy.field-0 c.loop-entry-test.true
+                (so_far.0 m is) told
                 (inl (w.if-branch.true, w.sum-is))
-            | else-branch w ↦ summed_more m c.args.live.now c.args.kind c.args.slot es i d c.loop-entry.sum c.if-branch.sum c.in_ok-is_live_copy.field-0 c.loop-entry-test.true (so_far.0 m is) told
+            | else-branch w ↦ summed_more m c.args.live.now c.args.kind c.args.slot es i d c.loop-entry.sum c.if-branch.sum c.in_ok-is_live_copy.field-0 c.loop-entry-test.true
+                (so_far.0 m is) told
                 (inr (w.if-branch.false, w.sum-is))
           ],
       elim c.if-branch.branch [

@@ -42,7 +42,8 @@ loop-key-preserved g c =
     let mid = view c.loop-key.disk in
     let new = view c.remove_key.new.disk in
     let places = g.X.Index.places in (
-      one_out c.args.keys.now c.loop-key.key-index [] (places c.args.index.now old.content) (places c.loop-key.index mid.content) (places c.remove_key.new.index new.content) c.loop-key-test.true
+      one_out c.args.keys.now c.loop-key.key-index [] (places c.args.index.now old.content) (places c.loop-key.index mid.content)
+          (places c.remove_key.new.index new.content) c.loop-key-test.true
           c.loop-key.invariant.0 c.in_ok-remove_key.ensures.ok,
       λ none. c.in_ok-remove_key.ensures.unknown (c.loop-key.invariant.1 none),
       λ slots size_is.

@@ -16,7 +16,8 @@ returns-in-Ok-clause-tabled g c =
     let h : HeaderValue = view c.in_ok-meta.meta in
     let count : SlotCount = c.index-2.result.now in
     let id : c.index.result.now ≡ get_or t.ids.items c.args.slot 0 = get_or_read t.ids.items c.args.slot c.index.result.now c.requires.ids c.index.ensures 0 in
-    let there : slice_get t.counts.items c.args.slot ≡ Some count = slice_get_read t.counts.items (length t.counts.items) c.args.slot count refl c.requires.counts c.index-2.ensures in
+    let there : slice_get t.counts.items c.args.slot ≡ Some count = slice_get_read t.counts.items
+    (length t.counts.items) c.args.slot count refl c.requires.counts c.index-2.ensures in
     tabled_by t c.args.slot count h there (ap (λ (n : ℕ). passes (header_checks n count h)) (sym id) ∙ sym c.in-Ok.ensures)
 
 pub returns-in-Err-clause-only : goal.returns-in-Err-clause-only
@@ -25,9 +26,13 @@ returns-in-Err-clause-only g c =
     let h : HeaderValue = view c.in_ok-meta.meta in
     let count : SlotCount = c.index-2.result.now in
     let id : c.index.result.now ≡ get_or t.ids.items c.args.slot 0 = get_or_read t.ids.items c.args.slot c.index.result.now c.requires.ids c.index.ensures 0 in
-    let there : slice_get t.counts.items c.args.slot ≡ Some count = slice_get_read t.counts.items (length t.counts.items) c.args.slot count refl c.requires.counts c.index-2.ensures in
-    let differs : passes (header_checks (get_or t.ids.items c.args.slot 0) count h) ≡ Err c.in-Err.why = ap (λ (n : ℕ). passes (header_checks n count h)) (sym id) ∙ sym c.in-Err.ensures in
-    weaker _ _ (λ image sized here k holds tabled. absurd (one_differs t c.args.slot count h k c.in-Err.why there (slot_once c.args.slot (Some h) (Some k) image here holds) differs tabled)) c.in_ok-meta.ensures.shown
+    let there : slice_get t.counts.items c.args.slot ≡ Some count = slice_get_read t.counts.items
+    (length t.counts.items) c.args.slot count refl c.requires.counts c.index-2.ensures in
+    let differs : passes (header_checks (get_or t.ids.items c.args.slot 0) count h) ≡ Err c.in-Err.why = ap (λ (n : ℕ). passes (header_checks n count h)) (sym id)
+    ∙ sym c.in-Err.ensures in
+    weaker _ _
+    (λ image sized here k holds tabled. absurd
+    (one_differs t c.args.slot count h k c.in-Err.why there (slot_once c.args.slot (Some h) (Some k) image here holds) differs tabled)) c.in_ok-meta.ensures.shown
 
 pub returns-in-Err-clause-refused : goal.returns-in-Err-clause-refused
 returns-in-Err-clause-refused g c =

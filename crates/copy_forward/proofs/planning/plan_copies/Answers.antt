@@ -12,7 +12,8 @@ pub plan_rest-requires-clause-allowed : goal.plan_rest-requires-clause-allowed
 plan_rest-requires-clause-allowed g c =
     let kind = c.args.meta.now.kind in
     let entries = c.args.meta.now.entries.items in
-    subst (λ (es : List Entry). AllByRecursion (IsAllowed kind) es) (sym c.entries_from-entries.ensures) (allowed_from kind c.args.from entries (all_allowed kind [] entries c.requires.right.entries))
+    subst (λ (es : List Entry). AllByRecursion (IsAllowed kind) es) (sym c.entries_from-entries.ensures)
+    (allowed_from kind c.args.from entries (all_allowed kind [] entries c.requires.right.entries))
 
 pub overflow_sub-copied : goal.overflow_sub-copied
 overflow_sub-copied g c =
@@ -20,7 +21,8 @@ overflow_sub-copied g c =
     let old = view c.args.disk.now in
     let s = source_of (g.X.Index.places c.args.index.now old.content) c.args.live.now c.args.slot c.args.meta.now.kind in
     let copy = c.in_ok-copy.copy in
-    let grown = grows s (Shows old (view c.plan_rest.new.disk)) c.entries_from-entries.result.now (planned copy c.new-dead.result.items) (planned c.plan_rest.new.buffer c.plan_rest.new.dead.items)
+    let grown = grows s (Shows old (view c.plan_rest.new.disk)) c.entries_from-entries.result.now (planned copy c.new-dead.result.items)
+    (planned c.plan_rest.new.buffer c.plan_rest.new.dead.items)
     c.in_ok-count.count c.in_ok-count.ensures.takes in
     omega (arith, grown.more, c.len.ensures, c.len-2.ensures, ap (λ v. length v.segments) c.in_ok-copy.ensures)
 
@@ -41,7 +43,8 @@ returns-clause-plan g c =
       takes = takes;
       next_is = refl;
       whole = λ none.
-          let all = all_planned s shown (drop c.args.from entries) (planned c.args.buffer.now []) after c.in_ok-count.count (room_in_none (header.view c.args.meta.now) c.args.from c.args.buffer.now c.requires.right c.requires.from none) takes in
+          let all = all_planned s shown (drop c.args.from entries) (planned c.args.buffer.now []) after c.in_ok-count.count
+          (room_in_none (header.view c.args.meta.now) c.args.from c.args.buffer.now c.requires.right c.requires.from none) takes in
           omega (arith, all, length-drop c.args.from entries, c.requires.from);
       ended_is = ap (λ (n : ℕ). c.args.from + c.in_ok-count.count == n) (c.len-3.ensures ∙ c.args.meta.now.entries.ok.0);
       within = omega (arith, c.in_ok-count.ensures.within, ap length c.entries_from-entries.ensures, length-drop c.args.from entries, c.requires.from);

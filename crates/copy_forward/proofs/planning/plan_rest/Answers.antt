@@ -26,7 +26,8 @@ returns-in_err-plan_one-clause-refused g c =
     passed_on c.from_residual.result (IsStuck (source known) (Shows old new) c.args.entries.now (planned c.args.buffer.now c.args.dead.now.items)) e c.from_residual.ensures.1
     (stuck_there (source known) (source next) (ap source {x = next} {y = known} so_far.3) (Shows old mid) (Shows mid new) (Shows old new)
     (λ P shown. until old mid new shown so_far.5.only.later.clock_is c.in_err-plan_one.ensures.reads.only.later) (λ P. since old mid new so_far.5.only)
-    c.args.entries.now c.loop-entry.entry-index d c.loop-entry-test.true (planned c.args.buffer.now c.args.dead.now.items) (planned c.loop-entry.buffer c.loop-entry.dead.items) so_far.0
+    c.args.entries.now c.loop-entry.entry-index d c.loop-entry-test.true (planned c.args.buffer.now c.args.dead.now.items)
+    (planned c.loop-entry.buffer c.loop-entry.dead.items) so_far.0
     e c.in_err-plan_one.ensures.refused)
 
 pub returns-then-not-branch-clause-takes : goal.returns-then-not-branch-clause-takes
@@ -43,7 +44,8 @@ returns-then-not-branch-clause-takes g c =
     let full = c.in_ok-plan_one.ensures.full (ap Ok c.if-not-branch.true) in
     stops_there (source known) (source next) (ap source {x = next} {y = known} so_far.3) (Shows old mid) (Shows mid new) (Shows old new)
     (λ P shown. until old mid new shown so_far.5.only.later.clock_is c.in_ok-plan_one.ensures.reads.only.later) (λ P. since old mid new so_far.5.only)
-    c.args.entries.now c.loop-entry.entry-index d c.loop-entry-test.true (planned c.args.buffer.now c.args.dead.now.items) (planned c.loop-entry.buffer c.loop-entry.dead.items) so_far.0
+    c.args.entries.now c.loop-entry.entry-index d c.loop-entry-test.true (planned c.args.buffer.now c.args.dead.now.items)
+    (planned c.loop-entry.buffer c.loop-entry.dead.items) so_far.0
     (planned c.plan_one.new.buffer c.plan_one.new.dead.items) c.loop-entry.count so_far.1 full.0
     (ap (λ (b : Contents). planned b c.plan_one.new.dead.items) full.1 ∙ ap (planned c.loop-entry.buffer) full.2)
 
@@ -60,7 +62,8 @@ loop-entry-preserved g c =
     let so_far = c.loop-entry.invariant in (
       takes_more (source known) (source next) (ap source {x = next} {y = known} so_far.3) (Shows old mid) (Shows mid new) (Shows old new)
           (λ P shown. until old mid new shown so_far.5.only.later.clock_is c.in_ok-plan_one.ensures.reads.only.later) (λ P. since old mid new so_far.5.only)
-          c.args.entries.now c.loop-entry.entry-index d c.loop-entry-test.true (planned c.args.buffer.now c.args.dead.now.items) (planned c.loop-entry.buffer c.loop-entry.dead.items) so_far.0
+          c.args.entries.now c.loop-entry.entry-index d c.loop-entry-test.true (planned c.args.buffer.now c.args.dead.now.items)
+          (planned c.loop-entry.buffer c.loop-entry.dead.items) so_far.0
           (planned c.plan_one.new.buffer c.plan_one.new.dead.items) (c.in_ok-plan_one.ensures.taken (ap Ok c.if-not-branch.false)),
       omega (arith, so_far.1),
       c.in_ok-plan_one.ensures.kind ∙ so_far.2,

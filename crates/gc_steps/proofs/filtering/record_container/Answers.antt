@@ -10,19 +10,32 @@ use Rattle.gc_steps.proofs.UnderWay.{at_stage, recorded_on}
 use Rattle.gc_steps.proofs.filtering.record_container.Goals as goal
 
 pub read_header-requires-clause-place : goal.read_header-requires-clause-place
-read_header-requires-clause-place g c = slot_fits (g.D.Disk.view c.args.disk.now).size c.requires.runs.0 c.args.tables.now c.args.slot c.requires.runs.1 (at_stage c.args.tables.now.held c.args.collection.now (Filter c.args.slot) c.requires.under_way c.requires.stage).0.0
+read_header-requires-clause-place g c = slot_fits (g.D.Disk.view c.args.disk.now).size c.requires.runs.0 c.args.tables.now c.args.slot c.requires.runs.1
+    (at_stage c.args.tables.now.held c.args.collection.now (Filter c.args.slot) c.requires.under_way c.requires.stage).0.0
 
 pub read_header-requires-clause-counts : goal.read_header-requires-clause-counts
-read_header-requires-clause-counts g c = omega (arith, columns (g.D.Disk.view c.args.disk.now).size c.requires.runs.0 c.args.tables.now c.requires.runs.1, (at_stage c.args.tables.now.held c.args.collection.now (Filter c.args.slot) c.requires.under_way c.requires.stage).0.0)
+read_header-requires-clause-counts g c = omega (
+  arith,
+  columns (g.D.Disk.view c.args.disk.now).size c.requires.runs.0 c.args.tables.now c.requires.runs.1,
+  (at_stage c.args.tables.now.held c.args.collection.now (Filter c.args.slot) c.requires.under_way c.requires.stage).0.0,
+)
 
 pub read_header-requires-clause-ids : goal.read_header-requires-clause-ids
 read_header-requires-clause-ids g c = (at_stage c.args.tables.now.held c.args.collection.now (Filter c.args.slot) c.requires.under_way c.requires.stage).0.0
 
 pub recorded-requires-clause-counts : goal.recorded-requires-clause-counts
-recorded-requires-clause-counts g c = omega (arith, columns (g.D.Disk.view c.args.disk.now).size c.requires.runs.0 c.args.tables.now c.requires.runs.1, (at_stage c.args.tables.now.held c.args.collection.now (Filter c.args.slot) c.requires.under_way c.requires.stage).0.0)
+recorded-requires-clause-counts g c = omega (
+  arith,
+  columns (g.D.Disk.view c.args.disk.now).size c.requires.runs.0 c.args.tables.now c.requires.runs.1,
+  (at_stage c.args.tables.now.held c.args.collection.now (Filter c.args.slot) c.requires.under_way c.requires.stage).0.0,
+)
 
 pub overflow_add-slot : goal.overflow_add-slot
-overflow_add-slot g c = omega (arith, few_slots (g.D.Disk.view c.args.disk.now).size c.requires.runs.0 c.args.tables.now c.requires.runs.1, (at_stage c.args.tables.now.held c.args.collection.now (Filter c.args.slot) c.requires.under_way c.requires.stage).0.0)
+overflow_add-slot g c = omega (
+  arith,
+  few_slots (g.D.Disk.view c.args.disk.now).size c.requires.runs.0 c.args.tables.now c.requires.runs.1,
+  (at_stage c.args.tables.now.held c.args.collection.now (Filter c.args.slot) c.requires.under_way c.requires.stage).0.0,
+)
 
 pub filter_from-collection-requires : goal.filter_from-collection-requires
 filter_from-collection-requires g c = few_slots (g.D.Disk.view c.args.disk.now).size c.requires.runs.0 c.args.tables.now c.requires.runs.1

@@ -4,5 +4,6 @@ use Rattle.gc_steps.proofs.starting.mark_roots.Goals as goal
 
 pub loop-root-preserved : goal.loop-root-preserved
 loop-root-preserved c =
-    roots_turn c.args.roots.now c.loop-root.root-index (record { key = []; level = 0 }) c.args.live.now c.loop-root.live c.mark_key.new.live c.loop-root-test.true c.loop-root.invariant
+    roots_turn c.args.roots.now c.loop-root.root-index
+    (record { key = []; level = 0 }) c.args.live.now c.loop-root.live c.mark_key.new.live c.loop-root-test.true c.loop-root.invariant
     c.in_ok-mark_key.ensures.ok

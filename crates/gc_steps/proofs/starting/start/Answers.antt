@@ -22,7 +22,8 @@ begin-requires-clause-counts g c = columns c.requires.runs.0 c.requires.runs.1 c
 
 pub returns-clause-under_way : goal.returns-clause-under_way
 returns-clause-under_way g c =
-    started c.requires.runs.0 c.requires.runs.1 c.args.tables.now _ c.requires.runs.2 (omega (arith, c.saturating_add-snapshot.ensures)) c.new-2.ensures c.requires.room c.mark_level.ensures
+    started c.requires.runs.0 c.requires.runs.1 c.args.tables.now _ c.requires.runs.2
+    (omega (arith, c.saturating_add-snapshot.ensures)) c.new-2.ensures c.requires.room c.mark_level.ensures
 
 pub returns-clause-steps : goal.returns-clause-steps
 returns-clause-steps g c = λ chosen.

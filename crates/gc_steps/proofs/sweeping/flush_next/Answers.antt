@@ -9,8 +9,10 @@ returns-clause-step g c =
     let view = g.D.Disk.view in
     let did = c.in_ok-flush_copies.ensures in
     record {
-      made = flush_made c.args.tables.now c.flush_copies.new.tables (g.X.Index.places c.args.index.now (view c.args.disk.now).content) (g.X.Index.places c.flush_copies.new.index (view c.flush_copies.new.disk).content)
-          (view c.args.disk.now) (view c.flush_copies.new.disk) c.args.collection.now c.flush_copies.new.sweep c.args.source c.args.entry c.requires.stage c.requires.under_way c.requires.next
+      made = flush_made c.args.tables.now c.flush_copies.new.tables (g.X.Index.places c.args.index.now (view c.args.disk.now).content)
+          (g.X.Index.places c.flush_copies.new.index (view c.flush_copies.new.disk).content)
+          (view c.args.disk.now)
+          (view c.flush_copies.new.disk) c.args.collection.now c.flush_copies.new.sweep c.args.source c.args.entry c.requires.stage c.requires.under_way c.requires.next
           did.disk.later.size_is did.written.0 did.written.1 did.written.2.told did.sweep;
       refused = tt;
     }

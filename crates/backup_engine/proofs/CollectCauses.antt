@@ -25,6 +25,7 @@ use Rattle.disk_format.specs.declared.numbers.TheConstants.{LAST_ID}
 use Rattle.disk_format.specs.Layout.{data_at, size_of, slot_at}
 use Rattle.gc_enumerate.specs.Live.{LiveKeys}
 use Rattle.gc_enumerate.specs.Scanning.{IsScanFault}
+use Rattle.gc_steps.specs.Finding.{HasMarkedAll}
 use Rattle.gc_steps.specs.Filtering.{IsRecordRefusal}
 use Rattle.gc_steps.specs.Marking.{StopsScan, scan_for}
 use Rattle.gc_steps.specs.Scanning.{ShowsAt}
@@ -45,7 +46,7 @@ use Rattle.store_model.specs.Refusals.{WereFound}
 use Rattle.store_model.specs.Slots.{HoldsSlot, IsIndexOf}
 use Rattle.store_model.specs.Trees.{bytes_at}
 use Rattle.store_model.proofs.Copies.{data_within}
-use Rattle.backup_engine.specs.AnyDisk.{Holds, IsCaused, IsUnmarked, IsUnwritten, ShownSince, ShownThere}
+use Rattle.backup_engine.specs.AnyDisk.{FindsNames, Holds, IsCaused, IsUnmarked, IsUnwritten, ShownSince, ShownThere}
 use Rattle.backup_engine.specs.Line.{Collect}
 use Rattle.backup_engine.proofs.CollectFaults.{fault_wider}
 use Rattle.backup_engine.proofs.CollectSteps.{IsMarking, both_from}
@@ -160,7 +161,7 @@ module _ (percent : ℕ) (v w : DiskView) (source : SourceView) (sink : SinkView
 
   -- ---- a source, whose slot lies before the end of the slots, where the content stays
 
-  module _ (tells : (places : PlaceMap) × (old.known ≡ Some places)) (slots slot : ℕ) (below : slot < slots) (moved : Both (SameBefore (slot_at slots)) old.disk.content new.content) where
+  module _ (tells : (places : PlaceMap) × (old.known ≡ Some places)) (names : FindsNames holds.store v w) (slots slot : ℕ) (below : slot < slots) (moved : Both (SameBefore (slot_at slots)) old.disk.content new.content) where
     -- what was there is there
     since_before : (P : List ℕ → Type 0) → ((was image : List ℕ) → SameBefore (slot_at slots) was image → P was → P image) → Shows old.disk new P → ShownSince v w P
     since_before P still shown =
@@ -219,7 +220,7 @@ module _ (percent : ℕ) (v w : DiskView) (source : SourceView) (sink : SinkView
               entry = e;
               one_of = one_of;
               cause = (slot_is, is.1, is.2, is.3, is.4, found_since (data_at other + offset) count got (omega (arith, slot_is, is.1)) is.2 is.5);
-            }))),
+            }, names))),
           )
       one_cause s buffer refusal known same cause = absurd cause.1.1
 
@@ -242,20 +243,20 @@ module _ (percent : ℕ) (v w : DiskView) (source : SourceView) (sink : SinkView
     source_cause came some live from buffer (Damaged at why) (inr none) = absurd (untold tells none)
     source_cause came some live from buffer refusal (inr remove) = absurd remove
 
-  copy_cause : Came → HasStage old.tables.held old.collection SweepStage → (tells : (places : PlaceMap) × (old.known ≡ Some places)) (slots : ℕ) → length old.tables.held.ids.items ≡ slots → Both (SameBefore (slot_at slots)) old.disk.content new.content → (source entry : ℕ) → old.collection.sweep.next ≡ Copy source entry → (refusal : Refusal)
+  copy_cause : Came → HasStage old.tables.held old.collection SweepStage → (tells : (places : PlaceMap) × (old.known ≡ Some places)) → FindsNames holds.store v w → (slots : ℕ) → length old.tables.held.ids.items ≡ slots → Both (SameBefore (slot_at slots)) old.disk.content new.content → (source entry : ℕ) → old.collection.sweep.next ≡ Copy source entry → (refusal : Refusal)
       → IsCopyStepRefusal old.tables.held old.collection.live old.known old.disk new source entry old.collection.sweep refusal → IsCausedBy refusal
-  copy_cause came has tells slots many moved source entry next_is Memory cause = tt
-  copy_cause came has tells slots many moved source entry next_is refusal none =
-      source_cause tells slots none.slot (omega (arith, none.is_source.within, many)) moved came
+  copy_cause came has tells names slots many moved source entry next_is Memory cause = tt
+  copy_cause came has tells names slots many moved source entry next_is refusal none =
+      source_cause tells names slots none.slot (omega (arith, none.is_source.within, many)) moved came
       (copied_some old.tables.held old.collection source entry none.slot has next_is none.is_source.id_is) old.collection.live entry none.filling refusal none.cause
 
-  flush_cause : (tells : (places : PlaceMap) × (old.known ≡ Some places)) → (LAST_ID ≤ old.tables.held.last_id → IsUnwritten holds.store) → (refusal : Refusal) → IsFlushStepRefusal old.tables old.known refusal → IsCausedBy refusal
-  flush_cause tells none Memory cause = tt
-  flush_cause tells none Numbers cause = inr (holds, inr (inr (inr (inl (refl, none cause)))))
-  flush_cause tells none DiskRead cause = tt
-  flush_cause tells none DiskWrite cause = tt
-  flush_cause tells none (Damaged at why) cause = absurd (untold tells cause.1)
-  flush_cause tells none refusal cause = absurd cause.1
+  flush_cause : (tells : (places : PlaceMap) × (old.known ≡ Some places)) → (LAST_ID ≤ old.tables.held.last_id → IsUnwritten holds.store) → FindsNames holds.store v w → (refusal : Refusal) → IsFlushStepRefusal old.tables old.known refusal → IsCausedBy refusal
+  flush_cause tells none names Memory cause = tt
+  flush_cause tells none names Numbers cause = inr (holds, inr (inr (inr (inl (refl, none cause, names)))))
+  flush_cause tells none names DiskRead cause = tt
+  flush_cause tells none names DiskWrite cause = tt
+  flush_cause tells none names (Damaged at why) cause = absurd (untold tells cause.1)
+  flush_cause tells none names refusal cause = absurd cause.1
 
   by_write : (refusal : Refusal) → refusal ≡ DiskWrite → IsCausedBy refusal
   by_write refusal is = subst IsCausedBy (sym is) tt
@@ -266,12 +267,12 @@ module _ (percent : ℕ) (v w : DiskView) (source : SourceView) (sink : SinkView
   -- by the stage
   pub stage_cause : (slots : ℕ) → old.disk.size ≡ size_of slots → length old.tables.held.ids.items ≡ slots → (index : PlaceMap) → IsIndexOf holds.store.held index → (tells : (places : PlaceMap) × (old.known ≡ Some places))
       → (LAST_ID ≤ old.tables.held.last_id → IsUnwritten holds.store) → Came → (stage : Stage) (next : Next) → HasStage old.tables.held old.collection stage → old.collection.sweep.next ≡ next → (IsMarking stage → old.known ≡ Some index)
-      → (e : Ending) → Touches stage next old.collection.sweep old.tables e old.disk new → (refusal : Refusal) → IsStepRefusal stage next old new refusal → IsCausedBy refusal
-  stage_cause slots sized many index all tells none came (Mark level slot) next has next_is marks e touches refusal (inl cause) = header_cause came touches.only.content_is slot (marked_some old.tables.held old.collection level slot has) refusal cause
-  stage_cause slots sized many index all tells none came (Mark level slot) next has next_is marks e touches refusal (inr stops) = mark_cause touches.only.content_is index all (marks tt) level slot refusal stops
-  stage_cause slots sized many index all tells none came (Filter slot) next has next_is marks e touches refusal cause = record_cause tells came touches.only.content_is slot (recorded_some old.tables.held old.collection slot has) refusal cause
-  stage_cause slots sized many index all tells none came Select next has next_is marks e touches refusal cause = by_memory refusal cause
-  stage_cause slots sized many index all tells none came SweepStage (Copy source entry) has next_is marks e touches refusal cause = copy_cause came has tells slots many (touches slots sized).content_is source entry next_is refusal cause
-  stage_cause slots sized many index all tells none came SweepStage (Flush source entry) has next_is marks e touches refusal cause = flush_cause tells none refusal cause
-  stage_cause slots sized many index all tells none came SweepStage (Release source entry) has next_is marks e touches refusal cause = by_write refusal cause
-  stage_cause slots sized many index all tells none came SweepStage End has next_is marks e touches refusal cause = absurd cause
+      → (HasMarkedAll stage → FindsNames holds.store v w) → (e : Ending) → Touches stage next old.collection.sweep old.tables e old.disk new → (refusal : Refusal) → IsStepRefusal stage next old new refusal → IsCausedBy refusal
+  stage_cause slots sized many index all tells none came (Mark level slot) next has next_is marks names e touches refusal (inl cause) = header_cause came touches.only.content_is slot (marked_some old.tables.held old.collection level slot has) refusal cause
+  stage_cause slots sized many index all tells none came (Mark level slot) next has next_is marks names e touches refusal (inr stops) = mark_cause touches.only.content_is index all (marks tt) level slot refusal stops
+  stage_cause slots sized many index all tells none came (Filter slot) next has next_is marks names e touches refusal cause = record_cause tells came touches.only.content_is slot (recorded_some old.tables.held old.collection slot has) refusal cause
+  stage_cause slots sized many index all tells none came Select next has next_is marks names e touches refusal cause = by_memory refusal cause
+  stage_cause slots sized many index all tells none came SweepStage (Copy source entry) has next_is marks names e touches refusal cause = copy_cause came has tells (names tt) slots many (touches slots sized).content_is source entry next_is refusal cause
+  stage_cause slots sized many index all tells none came SweepStage (Flush source entry) has next_is marks names e touches refusal cause = flush_cause tells none (names tt) refusal cause
+  stage_cause slots sized many index all tells none came SweepStage (Release source entry) has next_is marks names e touches refusal cause = by_write refusal cause
+  stage_cause slots sized many index all tells none came SweepStage End has next_is marks names e touches refusal cause = absurd cause

@@ -44,7 +44,7 @@ use Rattle.store_core.proofs.CoreRuns.{running_step}
 use Rattle.store_core.proofs.GcSteps.{end_reads}
 use Rattle.store_core.proofs.RunningOn.{step_runs}
 use Rattle.store_core.proofs.SafeSteps.{alone}
-use Rattle.backup_engine.specs.AnyDisk.{EndsDurable, HasSwept, Holds, IsCaused, IsSettledDisk, IsUnwritten, OnAnyDisk, FindsBeforeWriting, WroteOnAny, disk_ending}
+use Rattle.backup_engine.specs.AnyDisk.{EndsDurable, FindsNames, HasSwept, Holds, IsCaused, IsSettledDisk, IsUnwritten, OnAnyDisk, FindsBeforeWriting, WroteOnAny, disk_ending}
 use Rattle.backup_engine.specs.Collected.{collected_line, written_in}
 use Rattle.backup_engine.specs.Frame.{KeepsButSweep, KeepsOthers, KeepsRest, SameButSlotsOf}
 use Rattle.backup_engine.specs.Line.{Collect}
@@ -245,6 +245,18 @@ module _ (C : Type 0) (state : C → CoreState) (v w : DiskView) (old new : C) (
       abbrev pub ends_holds : Holds v w
       ends_holds = holds C state v w old new called (to_end C state v w old new called since_old)
 
+      -- where it had marked before the last step, it had found all keys
+      pub marked_names : (c : Collection) → (state last).collection ≡ Some c → HasMarkedAll c.stage → FindsNames store v w
+      marked_names c ran marked = record {
+        index = index;
+        index_is = called.opened.whole index called.opened.told.1;
+        found = λ apart.
+            let own = own_run C state phases mid last sweeps.1.1.0 in
+            let later : IsLater (state last).disk w = later_on (state last).disk (state new).disk w ends.made.effect.later called.last.only.later in
+            of_names (finds_keys C state 0 percent snapshot start.0 own.events store index old mid last c called.running called.opened.stop_is indexed start.1 own.run own.its
+            (apart_to last so_last.later.clock_is later apart) ran marked);
+      }
+
       -- it only read, or had found all keys
       pub ends_found : FindsBeforeWriting (Collect percent) v w
       ends_found = by_case (reads_or_finds C state 0 percent snapshot start.0 whole.events store index old mid new called.running called.opened.stop_is indexed start.1 whole.run whole.its)
@@ -317,16 +329,6 @@ module _ (C : Type 0) (state : C → CoreState) (v w : DiskView) (old new : C) (
       pub as_many : HasEnded freed copied (state sweeps.1.0) (state new) × (freed ≡ freed_in so_done.changes) × (copied ≡ copied_in so_done.changes)
       as_many = ended store index v sized C state freed copied sweeps.1.0 new so_done sweeps.1.1.1
 
-      -- before the last step it had marked, so it had found all keys
-      abbrev own : OwnRun C state mid sweeps.1.0
-      own = own_run C state sweeps.0 mid sweeps.1.0 sweeps.1.1.0
-
-      all_found : HeadersAreApart store.held v w → FindsAll index (keys_of_names (names_of store))
-      all_found apart =
-          let later : IsLater (state sweeps.1.0).disk w = later_on (state sweeps.1.0).disk (state new).disk w (ends done sweeps).made.effect.later called.last.only.later in
-          of_names (finds_keys C state 0 percent snapshot start.0 own.events store index old mid sweeps.1.0 as_many.0.before called.running called.opened.stop_is indexed start.1 own.run own.its
-          (apart_to sweeps.1.0 so_done.later.clock_is later apart) as_many.0.ran (subst HasMarkedAll (sym as_many.0.at_end.0) tt))
-
       swept : HasSwept freed copied v w
       swept = record {
         holds = ends_holds done sweeps;
@@ -334,7 +336,7 @@ module _ (C : Type 0) (state : C → CoreState) (v w : DiskView) (old new : C) (
         sweeps = record { each = so_done.each; after = so_done.after; chain = so_done.chain };
         freed_are = as_many.1;
         copied_are = as_many.2;
-        names = record { index = index; index_is = called.opened.whole index called.opened.told.1; found = all_found };
+        names = marked_names done sweeps as_many.0.before as_many.0.ran (subst HasMarkedAll (sym as_many.0.at_end.0) tt);
       }
 
       -- the last step only read
@@ -426,7 +428,7 @@ module _ (C : Type 0) (state : C → CoreState) (v w : DiskView) (old new : C) (
           let so_is = same_collection so_far.collection c at.collection so_far.runs made.ran in
           stage_cause percent v w source sink (ends_holds err sweeps) (at_moment at c) (state new).disk so_far.later (ends err sweeps).made.effect.later called.last store.slots (so_far.later.size_is ∙ sized) slots_many
           index (called.opened.whole index called.opened.told.1) so_far.tells unwritten came_to c.stage c.sweep.next (subst (λ (x : Collection). HasStage at.tables.held x x.stage) so_is (under_way store index v sized C state sweeps.1.0 so_far).stage_is) refl (λ marks. so_far.marks (subst (λ (x : Collection). IsMarking x.stage) (sym so_is) marks))
-          (ending blames err) (subst (λ (o : Option Collection). TouchesBy o err at (state new).disk) made.ran touches) r made.cause
+          (λ marked. marked_names err sweeps c made.ran marked) (ending blames err) (subst (λ (o : Option Collection). TouchesBy o err at (state new).disk) made.ran touches) r made.cause
 
       cause_of : (r : Refusal) → GcRow (Err r) at (state new) → TouchesBy at.collection err at (state new).disk → (source : SourceView) (sink : SinkView)
           → IsCaused (Collect percent) [] v w source source sink sink (Some (Refused r))

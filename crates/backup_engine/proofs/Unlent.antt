@@ -278,8 +278,9 @@ module _ (loans loans_now : List ℕ) (v w : DiskView) where
     uncollected : (is : Holds lent lent_now) (refusal : Refusal) → IsUncollected is refusal → IsUncollected (holds is) refusal
     uncollected is refusal (inl bad) = inl (bad_header_so lent lent_now v w shown_since is.store refusal bad)
     uncollected is refusal (inr (inl (index, (all, unmarked)))) = inr (inl (index, (all, unmarked_so lent lent_now v w shown_since index refusal unmarked)))
-    uncollected is refusal (inr (inr (inl uncopied))) = inr (inr (inl (uncopied_so lent lent_now v w shown_since refusal uncopied)))
-    uncollected is refusal (inr (inr (inr none))) = inr (inr (inr none))
+    uncollected is refusal (inr (inr (inl uncopied))) = inr (inr (inl (uncopied_so lent lent_now v w shown_since refusal uncopied.0, names_so is.store uncopied.1)))
+    uncollected is refusal (inr (inr (inr (inl unwritten)))) = inr (inr (inr (inl (unwritten.0, unwritten.1, names_so is.store unwritten.2))))
+    uncollected is refusal (inr (inr (inr (inr none)))) = inr (inr (inr (inr none)))
 
     collect_refused : (percent : ℕ) (refusal : Refusal) → IsRefused (Collect percent) given lent lent_now source source_now sink sink_now refusal → IsRefused (Collect percent) given v w source source_now sink sink_now refusal
     collect_refused percent DiskRead is = is

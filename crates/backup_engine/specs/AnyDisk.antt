@@ -242,13 +242,14 @@ pub record IsUnrooted (store : Store) (refusal : Refusal) : Type 0 where
   pub index_is : IsIndexOf store.held index
   pub stops : StopsAt (Some index) (Some index) (keys_of_names (names_of store)) refusal
 
--- Why a collection of the store that the disk holds went no further. The index, while it marks, is that of the store.
+-- Why a collection of the store that the disk holds went no further. The index, while it marks, is that of the store. One that came to
+-- copying, or to writing copies, had found the keys of all names.
 abbrev pub IsUncollected : {disk disk_now : DiskView} → Holds disk disk_now → Refusal → Type 0
 IsUncollected {disk} {disk_now} holds refusal =
     HasBadHeader holds.store disk disk_now refusal
     ⊎ ((index : PlaceMap) × (IsIndexOf holds.store.held index × IsUnmarked index disk disk_now refusal))
-    ⊎ IsUncopied disk disk_now refusal
-    ⊎ ((refusal ≡ Numbers) × IsUnwritten holds.store)
+    ⊎ (IsUncopied disk disk_now refusal × FindsNames holds.store disk disk_now)
+    ⊎ ((refusal ≡ Numbers) × IsUnwritten holds.store × FindsNames holds.store disk disk_now)
     ⊎ IsUnrooted holds.store refusal
 
 -- ---- causes

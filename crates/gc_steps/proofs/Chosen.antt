@@ -8,10 +8,7 @@ use Rattle.std.proofs.lemmas.List.{take_all}
 use Rattle.std.proofs.lemmas.List.Elements.{All-contains, All-contains_itself, All-filter, filter_passes}
 use Rattle.std.proofs.lemmas.List.Sorted.{length_permutation}
 use Rattle.gc_select.specs.declared.liveness.ContainerLiveness.{ContainerLiveness}
-use Rattle.container_meta.specs.declared.kind.Kind.TheVariants.{Leaf, Tree}
-use Rattle.gc_select.specs.Rising.{rising}
-use Rattle.gc_select.specs.Selecting.{AreSources, IsSelectedId, ids_of, is_selected, of_kind, selected, sources_of}
-use Rattle.gc_select.proofs.RisingOnce.{rising_moves, rising_order}
+use Rattle.gc_select.specs.Selecting.{AreSources, IsSelectedId, ids_of, is_selected, selected, sources_of}
 use Rattle.gc_select.proofs.Chosen.{ids_many}
 pub use Rattle.gc_select.proofs.Chosen.{chosen_which, sources_many}
 use Rattle.store_state.specs.declared.slot_table.SlotTable.{SlotTable}

@@ -1,9 +1,9 @@
 -- While a collection marks, whatever others do and whatever the disk holds, each live key that the index has is that of data, or of a node whose
 -- children are so, too, or of a node that marking has yet to come to. So once it has marked, the index has each key of the trees of all roots.
-use Rattle.std.proofs.Common.{◌≡◌, ◌⊎◌, ◌↔◌, inl, inr, ℕ, zero, suc, ◌+◌, ◌-◌, ◌<◌, ◌≤◌, Bool, true, List, [], ◌∷◌, ◌++◌, length, get_or, map, Option, Some, None, refl, sym, ◌∙◌, ap, subst, arith}
+use Rattle.std.proofs.Common.{◌≡◌, ◌⊎◌, ◌↔◌, inl, inr, ℕ, zero, suc, ◌-◌, ◌<◌, ◌≤◌, true, List, [], ◌∷◌, ◌++◌, get_or, map, Option, Some, refl, sym, ◌∙◌, ap, subst, arith}
 use Rattle.std.specs.Prelude.{slice_get}
 use Rattle.std.specs.FinMap as finite
-use Rattle.std.specs.List.{All, AllByRecursion, Contains}
+use Rattle.std.specs.List.{All, AllByRecursion}
 use Rattle.std.proofs.lemmas.Bool.Decides.{eqb_tells, leb_tells}
 use Rattle.std.proofs.lemmas.List.Elements.{All-append, All-contains, All-map, All-weaker, Contains-get_or}
 use Rattle.actor_parts.specs.declared.part.Part.{Part}
@@ -40,7 +40,7 @@ use Rattle.gc_steps.specs.declared.collection.Collection.{Collection}
 use Rattle.gc_steps.specs.declared.collection.Stage.{Stage}
 use Rattle.gc_steps.specs.declared.collection.Stage.TheVariants.{Mark, Filter, Select, Sweep}
 use Rattle.gc_steps.specs.declared.roots.RootKey.{RootKey}
-use Rattle.gc_steps.specs.Finding.{FindsTrees, HasChildren, HasMarkedAll, HasNode, HeadersAreApart, IsDataKey}
+use Rattle.gc_steps.specs.Finding.{FindsTrees, HasChildren, HasMarkedAll, HeadersAreApart, IsDataKey}
 use Rattle.gc_steps.specs.Marking.{KeepsMarks, MarksOnly, Scans}
 use Rattle.gc_steps.specs.MarksAreClosed.{WasScanned}
 use Rattle.gc_steps.specs.Roots.{IsPartKey, IsRoot, Marks, RootKeys, key_at, roots_of}
@@ -49,7 +49,6 @@ use Rattle.gc_steps.specs.Starting.{AreFound}
 use Rattle.gc_steps.proofs.AllFound.{Entered, HasLive, all_passed, below_it, data_or_node, entered, grows, node_here, none_yet, not_later, passed, some_among, some_grows, tabled_held}
 use Rattle.gc_steps.proofs.FirstStage.{id_below}
 use Rattle.gc_steps.proofs.GainedPins.{live_anywhere}
-use Rattle.gc_steps.proofs.Marked.{contains_first}
 use Rattle.gc_steps.proofs.PinnedTrees.{pin_found}
 use Rattle.gc_steps.proofs.RootKeys.{root_live, roots_have}
 

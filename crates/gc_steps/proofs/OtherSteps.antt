@@ -1,16 +1,14 @@
 -- Steps of other actors that bring no root, and no container, leave both invariants of a collection.
-use Rattle.std.proofs.Common.{◌≡◌, ◌⊎◌, ℕ, suc, ◌<◌, true, List, Some, refl, subst}
+use Rattle.std.proofs.Common.{◌≡◌, ◌⊎◌, ℕ, suc, ◌<◌, true, List, refl, subst}
 use Rattle.std.specs.FinMap as finite
 use Rattle.actor_parts.specs.declared.actor.TheConstants.{ACTORS}
 use Rattle.actor_parts.specs.declared.part.Part.{Part}
-use Rattle.actor_parts.specs.declared.part.Part.TheVariants.{Idle, Writing, Reading}
-use Rattle.actor_parts.specs.declared.part.Reader.{Reader}
+use Rattle.actor_parts.specs.declared.part.Part.TheVariants.{Idle, Writing}
 use Rattle.actor_parts.specs.Parts.{part_of, with_part}
 use Rattle.actor_parts.specs.PinMap.{PinMap, has_pin}
 use Rattle.container_meta.specs.Places.{PlaceMap}
 use Rattle.disk_format.specs.Cells.{Root}
 use Rattle.disk_format.specs.Cells.Change.{Put, Delete}
-use Rattle.namespace.specs.declared.record.Named.{Named}
 use Rattle.namespace.specs.Names.{NameMap}
 use Rattle.store_model.specs.Image.{Store, last_sequence, names_of}
 use Rattle.store_model.specs.Journal.{Follow}

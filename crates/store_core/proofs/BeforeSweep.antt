@@ -1,8 +1,7 @@
 -- What a step of a collection that has not begun to sweep does to a core: it only reads.
-use Rattle.std.proofs.Common.{◌≡◌, ◌⊎◌, inl, inr, ℕ, List, Option, Some, None, Result, Ok, Err, refl, sym, ◌∙◌, ap, subst}
+use Rattle.std.proofs.Common.{◌≡◌, ◌⊎◌, inl, inr, ℕ, Option, Some, None, Result, Ok, Err, sym, ◌∙◌, ap, subst}
 use Rattle.actor_parts.specs.declared.step.Answer.{Answer}
 use Rattle.actor_parts.specs.declared.step.Answer.TheVariants as answers
-use Rattle.actor_parts.specs.StepValue as asked
 use Rattle.actor_parts.specs.StepValue.{StepValue}
 use Rattle.dd_disk.specs.Ending.{Ending, ending}
 use Rattle.dd_disk.specs.View.{DiskView, OnlyReads}
@@ -21,8 +20,8 @@ use Rattle.store_state.specs.declared.tables.Tables.{Tables}
 use Rattle.store_core.specs.declared.stop.Stop.{Stop}
 use Rattle.store_core.specs.Collecting.{GcEffect, GcRow, GoesOn, IsNotMade, TouchesBy, at_moment}
 use Rattle.store_core.specs.Core.{Effect, KeepsTables, Row, StepsOr}
-use Rattle.store_core.specs.Finding.{HasNotSwept, IsNoSweep, OnlyReadsBeforeSweep}
-use Rattle.store_core.specs.State.{CoreState, Event}
+use Rattle.store_core.specs.Finding.{IsNoSweep, OnlyReadsBeforeSweep}
+use Rattle.store_core.specs.State.{CoreState}
 
 pub same_running : (a b : Collection) (o : Option Collection) → o ≡ Some a → o ≡ Some b → a ≡ b
 same_running a b o one two = let both : Some a ≡ Some b = sym one ∙ two in cc

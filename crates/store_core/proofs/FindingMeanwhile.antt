@@ -1,18 +1,18 @@
 -- Which keys a collection has found until it sweeps, whatever steps others made meanwhile.
-use Rattle.std.proofs.Common.{◌≡◌, ◌⊎◌, inl, inr, ℕ, zero, suc, ◌+◌, ◌<◌, ◌≤◌, ◌&&◌, Bool, true, false, not, List, [], ◌∷◌, ◌++◌, length, map, Option, Some, None, Result, Ok, Err, refl, sym, ◌∙◌, ap, subst, arith}
+use Rattle.std.proofs.Common.{◌≡◌, ◌⊎◌, inl, inr, ℕ, suc, ◌<◌, ◌≤◌, ◌&&◌, Bool, true, false, not, List, [], ◌∷◌, ◌++◌, length, map, Option, Some, None, Result, Ok, Err, refl, sym, ◌∙◌, ap, subst, arith}
 use Rattle.std.specs.Prelude.{◌==◌, get_or, nat_le, nat_lt, slice_get}
 use Rattle.std.specs.FinMap as finite
-use Rattle.std.specs.List.{AllByRecursion, Contains}
+use Rattle.std.specs.List.{Contains}
 use Rattle.std.proofs.lemmas.Bool.{leb-true, ltb-true}
 use Rattle.std.proofs.lemmas.List.Elements.{All-contains, All-from_recursion, All-map}
 use Rattle.actor_parts.specs.declared.actor.TheConstants.{ACTORS}
 use Rattle.actor_parts.specs.declared.part.Part.{Part}
-use Rattle.actor_parts.specs.declared.part.Part.TheVariants.{Idle, Writing}
+use Rattle.actor_parts.specs.declared.part.Part.TheVariants.{Writing}
 use Rattle.actor_parts.specs.declared.step.Answer.{Answer}
 use Rattle.actor_parts.specs.declared.step.Answer.TheVariants as answers
-use Rattle.actor_parts.specs.Parts.{part_of, with_part}
-use Rattle.actor_parts.specs.PinMap.{PinMap, has_pin}
-use Rattle.actor_parts.specs.Segments.{AreStepSegments, IsStepSegment, children_by, children_of, first_not_in, pin_by, pin_of}
+use Rattle.actor_parts.specs.Parts.{part_of}
+use Rattle.actor_parts.specs.PinMap.{PinMap}
+use Rattle.actor_parts.specs.Segments.{AreStepSegments, IsStepSegment, children_by, children_of, first_not_in, pin_of}
 use Rattle.actor_parts.specs.StepValue as asked
 use Rattle.actor_parts.specs.StepValue.{IsStep, StepValue}
 use Rattle.container_meta.specs.declared.kind.Kind.{Kind}
@@ -31,11 +31,11 @@ use Rattle.refusals.specs.declared.refusal.Refusal.{Refusal}
 use Rattle.refusals.specs.declared.refusal.Refusal.TheVariants as refusals
 use Rattle.store_model.specs.Image.{IsValidFor, Store, last_sequence, names_of}
 use Rattle.store_model.specs.Slots.{AreHeaders, DifferentIds, HasFree, HasKey, IsPartialIndexOf, IsUnusedId, first_free, ids_of}
-use Rattle.store_model.specs.Steps.{CanSeal, ChangeName, SealContainer, with_change, with_sealed}
+use Rattle.store_model.specs.Steps.{CanSeal, SealContainer, with_change, with_sealed}
 use Rattle.store_model.proofs.Free.{as_many}
 use Rattle.store_model.proofs.NameChanges.{names_after_change}
 use Rattle.store_model.proofs.Sound.{last_within}
-use Rattle.store_state.specs.Tables.{Represents, RepresentsSlots}
+use Rattle.store_state.specs.Tables.{Represents}
 use Rattle.store_state.specs.declared.slot_table.SlotTable.{SlotTable}
 use Rattle.store_state.specs.declared.tables.Tables.{Tables}
 use Rattle.gc_steps.specs.declared.collection.Collection.{Collection}
@@ -57,7 +57,7 @@ use Rattle.gc_steps.proofs.SealedPins.{decided, stays_there, with_there}
 use Rattle.store_core.specs.declared.stop.Stop.{Stop}
 use Rattle.store_core.specs.Bounds.{starts}
 use Rattle.store_core.specs.Collecting.{Begins, Collects, GcEffect, GcRow, IsKeptKey, MarksIn, StartRow, at_moment}
-use Rattle.store_core.specs.Core.{ClaimRow, CommitRow, DeleteRow, Effect, KeepsTables, Makes, NamesOne, Rests, Row, SealRow, SealsOne, Steps, StepsOr, StopsAfter, next_id}
+use Rattle.store_core.specs.Core.{ClaimRow, CommitRow, DeleteRow, Effect, KeepsTables, Makes, NamesOne, Rests, Row, SealRow, SealsOne, Steps, StopsAfter, next_id}
 use Rattle.store_core.specs.Finding.{FindsKeysMeanwhile, IsNoSweep, RunBeforeSweep}
 use Rattle.store_core.specs.Runs.{CoreRun}
 use Rattle.store_core.specs.State.{CoreState, Event, IsRunning, IsUnderWayIn, IsUp, UnlessStopped}

@@ -1,5 +1,5 @@
 -- Steps that change the part of one actor alone, and bring no root.
-use Rattle.std.proofs.Common.{◌≡◌, ℕ, zero, suc, ◌<◌, List, [], ◌∷◌, length, Option, Some, None, Result, Ok, Err, refl, sym, ◌∙◌, ap, subst, arith}
+use Rattle.std.proofs.Common.{◌≡◌, ℕ, zero, suc, ◌<◌, List, [], ◌∷◌, length, Some, Result, Ok, Err, refl, sym, ◌∙◌, subst, arith}
 use Rattle.std.specs.FinMap as finite
 use Rattle.actor_parts.specs.declared.actor.TheConstants.{ACTORS}
 use Rattle.actor_parts.specs.declared.part.Part.{Part}

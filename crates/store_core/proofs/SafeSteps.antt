@@ -4,10 +4,9 @@ use Rattle.gc_steps.proofs.SealedPins.{sealed_safe}
 use Rattle.store_model.specs.Refusals.{root_key}
 use Rattle.ingest_steps.specs.Writers.{IsStored}
 use Rattle.refusals.specs.declared.refusal.Refusal.TheVariants as refusals
-use Rattle.read_steps.specs.Readers as readers
 use Rattle.actor_parts.specs.declared.step.Answer.TheVariants as answers
 use Rattle.actor_parts.specs.StepValue as asked
-use Rattle.store_core.specs.Core.{AbortRow, BeginRow, ClaimRow, CommitRow, EndRow, ListRow, OpenRow, ReadRow, Rests, SealRow, SealsOne, StatRow, next_id}
+use Rattle.store_core.specs.Core.{ClaimRow, CommitRow, Rests, SealRow, SealsOne, next_id}
 use Rattle.std.specs.List.{AllByRecursion, Contains}
 use Rattle.actor_parts.specs.declared.step.Answer.{Answer}
 use Rattle.store_model.specs.Collisions.{ByteSet, IsIn}
@@ -18,7 +17,7 @@ use Rattle.store_state.specs.Invariant.{CoreInvariant}
 use Rattle.store_core.specs.State.{CoreState, IsUnderWayIn}
 use Rattle.disk_format.specs.Cells.Change.{Delete, Put}
 use Rattle.gc_steps.specs.declared.collection.Stage.TheVariants.{Filter, Mark, Select, Sweep}
-use Rattle.std.proofs.Common.{[], Err, List, None, Ok, Option, Result, Some, ap, arith, map, refl, subst, true, ℕ, ◌<◌, ◌↔◌, ◌∙◌, ◌∷◌, ◌≡◌, ◌≢◌, ◌⊎◌, zero, suc, inl, inr, sym, length}
+use Rattle.std.proofs.Common.{[], Err, List, None, Ok, Option, Result, Some, ap, arith, map, refl, subst, true, ℕ, ◌<◌, ◌↔◌, ◌∙◌, ◌∷◌, ◌≡◌, ◌≢◌, ◌⊎◌, suc, inl, inr, sym, length}
 use Rattle.actor_parts.specs.declared.part.Part.TheVariants.{Idle, Writing}
 use Rattle.store_core.specs.Runs.{IsAt, IsSafeIn}
 use Rattle.gc_enumerate.specs.Live.{IsLiveAt, LiveKeys}
@@ -29,13 +28,10 @@ use Rattle.gc_steps.proofs.Carried.{KeepsBoth}
 use Rattle.store_model.specs.Steps.{KeepsCopies, with_change, with_sealed}
 use Rattle.container_meta.specs.declared.kind.Kind.{Kind}
 use Rattle.container_meta.specs.Segments.{KindSegment, Segment, segment_key, Contents}
-use Rattle.namespace.specs.Names.{NameMap}
-use Rattle.namespace.specs.declared.record.Named.{Named}
 use Rattle.actor_parts.specs.declared.part.Part.{Part}
 use Rattle.actor_parts.specs.PinMap.{PinMap, has_pin}
 use Rattle.container_meta.specs.declared.place.Place.{Place}
 use Rattle.container_meta.specs.Places.{PlaceMap}
-use Rattle.actor_parts.specs.declared.part.Reader.{Reader}
 use Rattle.refusals.specs.declared.refusal.Refusal.{Refusal}
 use Rattle.store_state.specs.Tables.{Represents, Runs}
 use Rattle.disk_format.specs.Cells.{Root}
@@ -43,7 +39,6 @@ use Rattle.gc_steps.specs.declared.collection.Stage.{Stage}
 use Rattle.store_model.specs.Image.{Store, names_of}
 use Rattle.store_model.specs.Files.{Stored}
 use Rattle.store_state.specs.declared.tables.Tables.{Tables}
-use Rattle.merkle_file.specs.declared.top.Top.{Top}
 use Rattle.gc_steps.proofs.ClaimedPin.{claimed_key, one_more}
 use Rattle.gc_steps.proofs.Marked.{contains_first, contains_head, contains_next, contains_none}
 use Rattle.gc_steps.proofs.FewerRoots.{fewer_roots}

@@ -104,31 +104,37 @@ module _ (C : Type 0) (state : C → CoreState) (actor : ℕ) where
 
   -- ---- one more
 
-  pub turns_then_pause : (answers : List Answer) (s t u : SessionState) (old new : C) → TurnRun C state actor answers s t old new → IsPaused t u → TurnRun C state actor answers s u old new
+  pub turns_then_pause : (answers : List Answer) (s t u : SessionState) (old new : C) → TurnRun C state actor answers s t old new → IsPaused t u
+      → TurnRun C state actor answers s u old new
   turns_then_pause [] s t u old new run pause = (paused_on s t u run.0 pause, run.1)
   turns_then_pause (answer ∷ answers) s t u old new run pause = (run.0, run.1, run.2, turns_then_pause answers run.0 t u run.1 new run.3 pause)
 
-  pub turns_then_one : (answers : List Answer) (answer : Answer) (s t u : SessionState) (old mid new : C) → TurnRun C state actor answers s t old mid → IsTurn actor answer t u (state mid) (state new)
+  pub turns_then_one : (answers : List Answer) (answer : Answer) (s t u : SessionState) (old mid new : C) → TurnRun C state actor answers s t old mid
+      → IsTurn actor answer t u (state mid) (state new)
       → TurnRun C state actor (answers ++ answer ∷ []) s u old new
   turns_then_one [] answer s t u old mid new run turn =
       (u, new, subst (λ (c : C). IsTurn actor answer s u (state c) (state new)) run.1 (pause_then_turn actor answer s t u (state mid) (state new) run.0 turn), no_turns u new)
   turns_then_one (first ∷ answers) answer s t u old mid new run turn = (run.0, run.1, run.2, turns_then_one answers answer run.0 t u run.1 mid new run.3 turn)
 
-  pub turns_then : (T U : Type 0) (x : T) (y : U) (s t u : SessionState) (old mid new : C) → TakesTurns C state actor (Ok x) s t old mid → (answer : Answer) → TakesTurn C state actor (Ok (Some answer)) t u mid new
+  pub turns_then : (T U : Type 0) (x : T) (y : U) (s t u : SessionState) (old mid new : C) → TakesTurns C state actor (Ok x) s t old mid → (answer : Answer)
+      → TakesTurn C state actor (Ok (Some answer)) t u mid new
       → TakesTurns C state actor (Ok y) s u old new
   turns_then T U x y s t u old mid new run answer turn = (run.0 ++ answer ∷ [], turns_then_one run.0 answer s t u old mid new run.1 turn)
 
-  pub turns_then_none : (T U : Type 0) (x : T) (y : U) (s t u : SessionState) (old mid new : C) → TakesTurns C state actor (Ok x) s t old mid → TakesTurn C state actor (Ok None) t u mid new
+  pub turns_then_none : (T U : Type 0) (x : T) (y : U) (s t u : SessionState) (old mid new : C) → TakesTurns C state actor (Ok x) s t old mid
+      → TakesTurn C state actor (Ok None) t u mid new
       → TakesTurns C state actor (Ok y) s u old new
   turns_then_none T U x y s t u old mid new run none =
       (run.0, subst (λ (c : C). TurnRun C state actor run.0 s u old c) (sym none.3) (turns_then_pause run.0 s t u old mid run.1 none.0))
 
-  pub turns_then_stop : (T U : Type 0) (x : T) (refusal : Refusal) (s t u : SessionState) (old mid new : C) → TakesTurns C state actor (Ok x) s t old mid → TakesTurn C state actor (Err refusal) t u mid new
+  pub turns_then_stop : (T U : Type 0) (x : T) (refusal : Refusal) (s t u : SessionState) (old mid new : C) → TakesTurns C state actor (Ok x) s t old mid
+      → TakesTurn C state actor (Err refusal) t u mid new
       → TakesTurns {T = U} C state actor (Err refusal) s u old new
   turns_then_stop T U x refusal s t u old mid new run stop = (run.0, t, mid, run.1, stop)
 
   -- whether there was a turn or none
-  pub turns_then_any : (T U : Type 0) (x : T) (y : U) (s t u : SessionState) (old mid new : C) → TakesTurns C state actor (Ok x) s t old mid → (made : Option Answer) → TakesTurn C state actor (Ok made) t u mid new
+  pub turns_then_any : (T U : Type 0) (x : T) (y : U) (s t u : SessionState) (old mid new : C) → TakesTurns C state actor (Ok x) s t old mid → (made : Option Answer)
+      → TakesTurn C state actor (Ok made) t u mid new
       → TakesTurns C state actor (Ok y) s u old new
   turns_then_any T U x y s t u old mid new run None none = turns_then_none T U x y s t u old mid new run none
   turns_then_any T U x y s t u old mid new run (Some answer) turn = turns_then T U x y s t u old mid new run answer turn

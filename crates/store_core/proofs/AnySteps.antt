@@ -65,7 +65,8 @@ changes_same asked.ListNames answer other = refl
 changes_same (asked.GcStart percent) answer other = refl
 changes_same asked.Stat answer other = refl
 
-pub changes_only : (step : StepValue) (answer : Result Answer Refusal) (changes : List StoreChange) → IsNoGcStep step → AreChangesBy step answer changes → changes ≡ changes_by step answer
+pub changes_only : (step : StepValue) (answer : Result Answer Refusal) (changes : List StoreChange) → IsNoGcStep step → AreChangesBy step answer changes
+    → changes ≡ changes_by step answer
 changes_only asked.GcStep answer changes other are = absurd other
 changes_only asked.Begin answer changes other are = are
 changes_only (asked.Claim seg) answer changes other are = are
@@ -84,21 +85,25 @@ changes_only asked.Stat answer changes other are = are
 pub changes_told : (steps : List FileEvent) (changes : List StoreChange) → AreNoGcSteps (events_of steps) → AreChangesOf steps changes → changes ≡ changes_of steps
 changes_told [] changes others are = are
 changes_told (f ∷ fs) changes others are =
-    are.2 ∙ ap (λ (l : List StoreChange). l ++ are.1) (changes_only f.event.step f.event.answer are.0 others.0 are.3) ∙ ap (λ (l : List StoreChange). changes_by f.event.step f.event.answer ++ l) (changes_told fs are.1 others.1 are.4)
+    are.2 ∙ ap (λ (l : List StoreChange). l ++ are.1) (changes_only f.event.step f.event.answer are.0 others.0 are.3)
+    ∙ ap (λ (l : List StoreChange). changes_by f.event.step f.event.answer ++ l) (changes_told fs are.1 others.1 are.4)
 
 -- the same step by another name
 abbrev pub with_step : FileEvent → StepValue → FileEvent
 with_step f step = record { event = record { actor = f.event.actor; step = step; answer = f.event.answer; buf = f.event.buf }; bytes = f.bytes }
 
-gc_leads : (among : ByteSet) (f : FileEvent) (s : Store) (stored : Stored) (old new : CoreState) → f.event.step ≡ asked.GcStep → FileStep (IsIn among) f old new → IsAt (IsIn among) s stored old → new.stop ≡ None
+gc_leads : (among : ByteSet) (f : FileEvent) (s : Store) (stored : Stored) (old new : CoreState) → f.event.step ≡ asked.GcStep → FileStep (IsIn among) f old new
+    → IsAt (IsIn among) s stored old → new.stop ≡ None
     → Leads (IsIn among) s f (stored_by f stored) old new
 gc_leads among f s stored old new is step at stays =
     let runs : old.stop ≡ None = was_running old.stop f.event old new refl step.made stays in
     subst (λ (st : StepValue). Steps (with_step f st).event old new → Leads (IsIn among) s (with_step f st) (stored_by (with_step f st) stored) old new) (sym is)
-    (λ steps. gc_led among s stored old new f.event.actor f.event.buf f.bytes at stays f.event.answer steps.made.row steps.made.effect steps.stops) (running_step old new f.event runs step.made)
+    (λ steps. gc_led among s stored old new f.event.actor f.event.buf f.bytes at stays f.event.answer steps.made.row steps.made.effect steps.stops)
+    (running_step old new f.event runs step.made)
 
 module _ (among : ByteSet) (distinct : HasNoCollisions (IsIn among)) where
-  pub other_leads : (f : FileEvent) (s : Store) (stored : Stored) (old new : CoreState) → IsNoGcStep f.event.step → NextOn (IsIn among) s (changes_by f.event.step f.event.answer) (stored_by f stored) old new
+  pub other_leads : (f : FileEvent) (s : Store) (stored : Stored) (old new : CoreState) → IsNoGcStep f.event.step
+      → NextOn (IsIn among) s (changes_by f.event.step f.event.answer) (stored_by f stored) old new
       → Leads (IsIn among) s f (stored_by f stored) old new
   other_leads f s stored old new other goes = record {
     changes = changes_by f.event.step f.event.answer;
@@ -110,7 +115,8 @@ module _ (among : ByteSet) (distinct : HasNoCollisions (IsIn among)) where
   }
 
   -- a step of a run, whichever it is
-  pub any_step : (f : FileEvent) (s : Store) (stored : Stored) (old new : CoreState) → FileStep (IsIn among) f old new → IsAt (IsIn among) s stored old → new.stop ≡ None → Leads (IsIn among) s f (stored_by f stored) old new
+  pub any_step : (f : FileEvent) (s : Store) (stored : Stored) (old new : CoreState) → FileStep (IsIn among) f old new → IsAt (IsIn among) s stored old → new.stop ≡ None
+      → Leads (IsIn among) s f (stored_by f stored) old new
   any_step f s stored old new step at stays = elim (gc_or_not f.event.step) [
     | inl gc ↦ gc_leads among f s stored old new gc step at stays
     | inr other ↦ other_leads f s stored old new other (file_step among distinct f s stored old new other step at stays)

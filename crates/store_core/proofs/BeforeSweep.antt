@@ -28,13 +28,15 @@ same_running a b o one two = let both : Some a ≡ Some b = sym one ∙ two in c
 
 -- ---- by its stage
 
-touches_none : (stage : Stage) (next : Next) (s : SweepValue) (t : Tables) (e : Ending) (old new : DiskView) → IsNoSweep stage → Touches stage next s t e old new → OnlyReads old new
+touches_none : (stage : Stage) (next : Next) (s : SweepValue) (t : Tables) (e : Ending) (old new : DiskView) → IsNoSweep stage → Touches stage next s t e old new
+    → OnlyReads old new
 touches_none (Mark level slot) next s t e old new early touches = touches.only
 touches_none (Filter slot) next s t e old new early touches = touches.only
 touches_none Select next s t e old new early touches = touches.only
 touches_none Sweep next s t e old new early touches = absurd early
 
-moves_none : (stage : Stage) (next : Next) (old new : Moment) → IsNoSweep stage → StepsTo stage next old new → TablesAfter stage next old new → (new.tables ≡ old.tables) × (new.known ≡ old.known)
+moves_none : (stage : Stage) (next : Next) (old new : Moment) → IsNoSweep stage → StepsTo stage next old new → TablesAfter stage next old new → (new.tables ≡ old.tables)
+    × (new.known ≡ old.known)
 moves_none (Mark level slot) next old new early steps tables = (tables, steps.1)
 moves_none (Filter slot) next old new early steps tables = (tables, steps.1)
 moves_none Select next old new early steps tables = (tables, steps.1)
@@ -51,7 +53,8 @@ keeps_index Sweep next old new refusal early kept = absurd early
 module _ (old new : CoreState) (c : Collection) (runs : old.collection ≡ Some c) (early : IsNoSweep c.stage) where
   pub only_read : (answer : Result Answer Refusal) → GcEffect answer old new → OnlyReads old.disk new.disk
   only_read answer effect =
-      touches_none c.stage c.sweep.next c.sweep old.tables (ending blames answer) old.disk new.disk early (subst (λ (o : Option Collection). TouchesBy o answer old new.disk) runs effect.touches)
+      touches_none c.stage c.sweep.next c.sweep old.tables (ending blames answer) old.disk new.disk early
+      (subst (λ (o : Option Collection). TouchesBy o answer old new.disk) runs effect.touches)
 
   -- it was made
   pub record HasGoneOn : Type 0 where

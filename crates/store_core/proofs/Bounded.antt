@@ -80,7 +80,8 @@ module _ (old new : CoreState) (b : Collection) (ran : old.collection ≡ Some b
 
   -- ---- a step of another kind
 
-  kept : (step : StepValue) (answer : Result Answer Refusal) → made_by step answer ≡ 0 → new.tables.held ≡ old.tables.held → new.collection ≡ old.collection → Leaves step answer b old new
+  kept : (step : StepValue) (answer : Result Answer Refusal) → made_by step answer ≡ 0 → new.tables.held ≡ old.tables.held → new.collection ≡ old.collection
+      → Leaves step answer b old new
   kept step answer none held same = unchanged step answer none b.live (same ∙ ran) (same_steps held)
 
   marked : (step : StepValue) (answer : Result Answer Refusal) (P : List ℕ → Type 0) → made_by step answer ≡ 0 → MarksIn P old.collection new.collection
@@ -94,7 +95,8 @@ module _ (old new : CoreState) (b : Collection) (ran : old.collection ≡ Some b
     under = subst (IsUnderWayIn old.tables.held) ran up.under_way
 
     -- a container that is sealed
-    sealed_steps : (filled : Contents) (id actor : ℕ) (buf : List ℕ) → Row (asked.Seal filled) actor (Ok (answers.Sealed id)) buf old new → Effect (asked.Seal filled) (Ok (answers.Sealed id)) old new
+    sealed_steps : (filled : Contents) (id actor : ℕ) (buf : List ℕ) → Row (asked.Seal filled) actor (Ok (answers.Sealed id)) buf old new
+        → Effect (asked.Seal filled) (Ok (answers.Sealed id)) old new
         → (chosen : ℕ) → steps_to_come chosen new.tables.held b ≡ steps_to_come chosen old.tables.held b
     sealed_steps filled id actor buf row effect chosen =
         let s = up.runs.store in
@@ -104,19 +106,23 @@ module _ (old new : CoreState) (b : Collection) (ran : old.collection ≡ Some b
           within = first_within s.held up.runs.has_free;
           closed = first_closed s.held up.runs.has_free;
         } in
-        as_many s.held old.tables.held new.tables.held b (first_free s.held) (header_of (next_id old) filled.kind filled.segments) chosen first up.runs.represents.slots_hold now.represents.slots_hold (omega arith) under
+        as_many s.held old.tables.held new.tables.held b (first_free s.held)
+        (header_of (next_id old) filled.kind filled.segments) chosen first up.runs.represents.slots_hold now.represents.slots_hold (omega arith) under
 
-    seal_leaves : (filled : Contents) (answer : Result Answer Refusal) (actor : ℕ) (buf : List ℕ) → Row (asked.Seal filled) actor answer buf old new → Effect (asked.Seal filled) answer old new
+    seal_leaves : (filled : Contents) (answer : Result Answer Refusal) (actor : ℕ) (buf : List ℕ) → Row (asked.Seal filled) actor answer buf old new
+        → Effect (asked.Seal filled) answer old new
         → Collects (asked.Seal filled) answer old new → Leaves (asked.Seal filled) answer b old new
     seal_leaves filled (Ok (answers.Sealed id)) actor buf row effect collects =
         marked (asked.Seal filled) (Ok (answers.Sealed id)) (IsKeptKey (asked.Seal filled) (Ok (answers.Sealed id))) refl collects (sealed_steps filled id actor buf row effect)
     seal_leaves filled (Err refusal) actor buf row effect collects =
-        marked (asked.Seal filled) (Err refusal) (IsKeptKey (asked.Seal filled) (Err refusal)) refl collects (same_steps (ap (λ (t : Tables). t.held) (tables_kept old new refusal effect.kept)))
+        marked (asked.Seal filled) (Err refusal) (IsKeptKey (asked.Seal filled) (Err refusal)) refl collects
+        (same_steps (ap (λ (t : Tables). t.held) (tables_kept old new refusal effect.kept)))
     seal_leaves filled answer actor buf row effect collects = absurd row
 
   start_leaves : (percent : ℕ) (answer : Result Answer Refusal) → StartRow percent answer old new → KeepsTables old new → Leaves (asked.GcStart percent) answer b old new
   start_leaves percent (Ok (answers.Started snapshot)) row tables = absurd (let wrong : None ≡ Some b = sym row.0.none_ran ∙ ran in cc)
-  start_leaves percent (Err (refusals.Collecting phase)) row tables = kept (asked.GcStart percent) (Err (refusals.Collecting phase)) refl (ap (λ (t : Tables). t.held) tables.tables_are) row.1
+  start_leaves percent (Err (refusals.Collecting phase)) row tables = kept (asked.GcStart percent) (Err (refusals.Collecting phase)) refl
+      (ap (λ (t : Tables). t.held) tables.tables_are) row.1
   start_leaves percent (Err refusal) row tables = absurd (let wrong : None ≡ Some b = sym row.none_ran ∙ ran in cc)
   start_leaves percent answer row tables = absurd row
 
@@ -150,17 +156,21 @@ module _ (old new : CoreState) (b : Collection) (ran : old.collection ≡ Some b
   chosen_by a Sweep (Copy source entry) is goes = swept a is goes.1 goes.0.others.sources_are
   chosen_by a Sweep (Flush source entry) is goes = swept a is goes.sweeps goes.flushed.sources_are
   chosen_by a Sweep (Release source entry) is goes = swept a is goes.1 goes.0.sources_are
-  chosen_by a Sweep End is goes = same_sources a (ap (λ (x : Collection). x.sweep.sources.items) goes.0) (λ early. absurd (let none : ⊥ = subst IsToChoose (ap (λ (x : Collection). x.stage) goes.0 ∙ is) early in none))
+  chosen_by a Sweep End is goes = same_sources a (ap (λ (x : Collection). x.sweep.sources.items) goes.0)
+      (λ early. absurd (let none : ⊥ = subst IsToChoose (ap (λ (x : Collection). x.stage) goes.0 ∙ is) early in none))
 
   did_leaves : (phase : _) → GoesOn phase old new → Leaves asked.GcStep (Ok (answers.Did phase)) b old new
   did_leaves phase goes = by_before goes.before (same_some goes.before b old.collection goes.ran ran) goes.steps goes.nearer
     where
       by_before : (before : Collection) → before ≡ b → StepsTo before.stage before.sweep.next (at_moment old before) (at_moment new goes.after)
-          → ((chosen : ℕ) → length goes.after.sweep.sources.items ≤ chosen → Nears (Did phase) (steps_to_come chosen old.tables.held before) (steps_to_come chosen new.tables.held goes.after))
+          → ((chosen : ℕ) → length goes.after.sweep.sources.items ≤ chosen
+          → Nears (Did phase) (steps_to_come chosen old.tables.held before) (steps_to_come chosen new.tables.held goes.after))
           → Leaves asked.GcStep (Ok (answers.Did phase)) b old new
       by_before before same steps nearer =
           let so : Goes goes.after b.stage b.sweep.next = subst (λ (x : Collection). StepsTo x.stage x.sweep.next (at_moment old x) (at_moment new goes.after)) same steps in
-          let near = subst (λ (x : Collection). (chosen : ℕ) → length goes.after.sweep.sources.items ≤ chosen → Nears (Did phase) (steps_to_come chosen old.tables.held x) (steps_to_come chosen new.tables.held goes.after)) same nearer in
+          let near = subst
+          (λ (x : Collection). (chosen : ℕ) → length goes.after.sweep.sources.items ≤ chosen
+          → Nears (Did phase) (steps_to_come chosen old.tables.held x) (steps_to_come chosen new.tables.held goes.after)) same nearer in
           let chosen = chosen_by goes.after b.stage b.sweep.next refl so in
           record {
             a = goes.after;
@@ -176,21 +186,25 @@ module _ (old new : CoreState) (b : Collection) (ran : old.collection ≡ Some b
   gc_leaves (Err refusals.NotCollecting) goes_on row = absurd (let wrong : None ≡ Some b = sym row.0.none_ran ∙ ran in cc)
   gc_leaves (Err refusal) goes_on row =
       let same = same_some row.0.before b old.collection row.0.ran ran in
-      let live = refused_live old new b b.stage b.sweep.next refusal row.0.after (subst (λ (x : Collection). Keeps x.stage x.sweep.next (at_moment old x) (at_moment new row.0.after) refusal) same row.0.kept) in
+      let live = refused_live old new b b.stage b.sweep.next refusal row.0.after
+      (subst (λ (x : Collection). Keeps x.stage x.sweep.next (at_moment old x) (at_moment new row.0.after) refusal) same row.0.kept) in
       unchanged asked.GcStep (Err refusal) refl live.0 (row.0.runs ∙ ap Some live.1) (same_steps (ap (λ (t : Tables). t.held) row.0.tables_are))
   gc_leaves answer goes_on row = absurd row
 
   -- ---- any step
 
-  step_leaves : (actor : ℕ) (buf : List ℕ) (step : StepValue) (answer : Result Answer Refusal) → IsUp old → IsNoEnd answer → Row step actor answer buf old new → Effect step answer old new → Collects step answer old new
+  step_leaves : (actor : ℕ) (buf : List ℕ) (step : StepValue) (answer : Result Answer Refusal) → IsUp old → IsNoEnd answer → Row step actor answer buf old new
+      → Effect step answer old new → Collects step answer old new
       → Leaves step answer b old new
   step_leaves actor buf asked.Begin answer up goes_on row effect collects = kept asked.Begin answer refl (ap (λ (t : Tables). t.held) effect.tables.tables_are) collects
   step_leaves actor buf (asked.Claim seg) answer up goes_on row effect collects =
       marked (asked.Claim seg) answer (IsKeptKey (asked.Claim seg) answer) refl collects (same_steps (ap (λ (t : Tables). t.held) effect.tables.tables_are))
   step_leaves actor buf (asked.Seal filled) answer up goes_on row effect collects = seal_leaves up filled answer actor buf row effect collects
-  step_leaves actor buf (asked.Commit name root) answer up goes_on row effect collects = kept (asked.Commit name root) answer refl (commit_held old new name root actor answer row effect) collects
+  step_leaves actor buf (asked.Commit name root) answer up goes_on row effect collects = kept (asked.Commit name root) answer refl
+      (commit_held old new name root actor answer row effect) collects
   step_leaves actor buf asked.Abort answer up goes_on row effect collects = kept asked.Abort answer refl (ap (λ (t : Tables). t.held) effect.tables.tables_are) collects
-  step_leaves actor buf (asked.OpenRead name) answer up goes_on row effect collects = kept (asked.OpenRead name) answer refl (ap (λ (t : Tables). t.held) effect.tables.tables_are) collects
+  step_leaves actor buf (asked.OpenRead name) answer up goes_on row effect collects = kept (asked.OpenRead name) answer refl
+      (ap (λ (t : Tables). t.held) effect.tables.tables_are) collects
   step_leaves actor buf asked.ReadNext answer up goes_on row effect collects = kept asked.ReadNext answer refl (ap (λ (t : Tables). t.held) effect.tables.tables_are) collects
   step_leaves actor buf asked.EndRead answer up goes_on row effect collects = kept asked.EndRead answer refl (ap (λ (t : Tables). t.held) effect.tables.tables_are) collects
   step_leaves actor buf (asked.Delete name) answer up goes_on row effect collects = kept (asked.Delete name) answer refl (delete_held old new name answer row effect) collects
@@ -202,7 +216,8 @@ module _ (old new : CoreState) (b : Collection) (ran : old.collection ≡ Some b
   event_leaves : (e : Event) (stop : Option Stop) → StepsOr stop e old new → UnlessStopped stop (IsUp old) → IsNoEnd e.answer → Leaves e.step e.answer b old new
   event_leaves e None steps up goes_on = step_leaves e.actor e.buf e.step e.answer up goes_on steps.made.row steps.made.effect steps.collects
   event_leaves e (Some stop) steps up goes_on =
-      kept e.step e.answer (ap (made_by e.step) steps.answer_is ∙ refused_none e.step (refusals.Stopped stop.at)) (ap (λ (t : Tables). t.held) steps.same.tables_are) steps.same.collection_is
+      kept e.step e.answer (ap (made_by e.step) steps.answer_is ∙ refused_none e.step (refusals.Stopped stop.at))
+      (ap (λ (t : Tables). t.held) steps.same.tables_are) steps.same.collection_is
 
 -- ---- steps, one after the other
 
@@ -211,7 +226,8 @@ module _ (C : Type 0) (state : C → CoreState) where
     more : length b.sweep.sources.items ≤ length c.sweep.sources.items
     few : made_in events + steps_to_come (length c.sweep.sources.items) (state new).tables.held c ≤ steps_to_come (length c.sweep.sources.items) (state mid).tables.held b
 
-  bounded : (events : List Event) (mid new : C) (b c : Collection) → IsRunning (state mid) → CoreRun C state events mid new → NoneEnds events → (state mid).collection ≡ Some b → (state new).collection ≡ Some c
+  bounded : (events : List Event) (mid new : C) (b c : Collection) → IsRunning (state mid) → CoreRun C state events mid new → NoneEnds events → (state mid).collection ≡ Some b
+      → (state new).collection ≡ Some c
       → (IsToChoose b.stage → b.sweep.sources.items ≡ []) → Bounded events b c mid new
   bounded [] mid new b c up run ends ran runs unchosen =
       let same : b ≡ c = same_some b c (state mid).collection ran (sym (ap (λ (x : C). (state x).collection) run) ∙ runs) in
@@ -220,7 +236,8 @@ module _ (C : Type 0) (state : C → CoreState) where
         few =
             let tables : (state new).tables.held ≡ (state mid).tables.held = ap (λ (x : C). (state x).tables.held) run in
             let steps : steps_to_come (length c.sweep.sources.items) (state new).tables.held c ≡ steps_to_come (length c.sweep.sources.items) (state mid).tables.held b =
-            ap (λ (t : SlotTable). steps_to_come (length c.sweep.sources.items) t c) tables ∙ ap (steps_to_come (length c.sweep.sources.items) (state mid).tables.held) (sym same) in
+            ap (λ (t : SlotTable). steps_to_come (length c.sweep.sources.items) t c) tables
+            ∙ ap (steps_to_come (length c.sweep.sources.items) (state mid).tables.held) (sym same) in
             omega (arith, steps);
       }
   bounded (e ∷ es) mid new b c up run ends ran runs unchosen =
@@ -237,9 +254,11 @@ module _ (C : Type 0) (state : C → CoreState) where
       let steps : Steps (starts actor percent snapshot buf) (state old) (state mid) = running_step (state old) (state mid) (starts actor percent snapshot buf) runs began in
       let begins : Begins percent snapshot (state old) (state mid) = steps.made.row.0 in
       let held : (state mid).tables.held ≡ (state old).tables.held = ap (λ (t : Tables). t.held) steps.made.effect.tables.tables_are in
-      let all = bounded events mid new begins.collection c (step_runs (state old) (state mid) (starts actor percent snapshot buf) began up) run ends begins.runs is (λ early. begins.nothing_yet.1.sources_are) in
+      let all = bounded events mid new begins.collection c (step_runs (state old) (state mid) (starts actor percent snapshot buf) began up) run ends begins.runs is
+      (λ early. begins.nothing_yet.1.sources_are) in
       let first = begins.steps (length c.sweep.sources.items) in
-      let at : steps_to_come (length c.sweep.sources.items) (state mid).tables.held begins.collection ≡ steps_to_come (length c.sweep.sources.items) (state old).tables.held begins.collection =
+      let at : steps_to_come (length c.sweep.sources.items) (state mid).tables.held begins.collection ≡ steps_to_come (length c.sweep.sources.items)
+      (state old).tables.held begins.collection =
       ap (λ (t : SlotTable). steps_to_come (length c.sweep.sources.items) t begins.collection) held in
       let t : SlotTable = (state old).tables.held in
       let counted : 6 * trees_from snapshot t 0 + old_from snapshot t 0 ≡ 6 * trees_from begins.collection.snapshot t 0 + old_from begins.collection.snapshot t 0 =

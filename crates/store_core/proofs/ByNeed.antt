@@ -130,7 +130,8 @@ selected_little snapshot percent r passes =
 -- ---- how much of a container is needed
 
 -- the sum is one
-pub sum_once : (P : List ℕ → Type 0) (held : List (Option HeaderValue)) (kind : Kind) (slot : ℕ) (es : List Entry) (a b : ℕ) → SumsNeeded P held kind slot es a → SumsNeeded P held kind slot es b → a ≡ b
+pub sum_once : (P : List ℕ → Type 0) (held : List (Option HeaderValue)) (kind : Kind) (slot : ℕ) (es : List Entry) (a b : ℕ) → SumsNeeded P held kind slot es a
+    → SumsNeeded P held kind slot es b → a ≡ b
 sum_once P held kind slot [] a b one other = one ∙ sym other
 sum_once P held kind slot (e ∷ es) a b (inl one) (inl other) = omega (arith, one.1.1, other.1.1, sum_once P held kind slot es one.1.0 other.1.0 one.1.2 other.1.2)
 sum_once P held kind slot (e ∷ es) a b (inl one) (inr other) = absurd (other.0 one.0)
@@ -157,7 +158,8 @@ module _ (P : List ℕ → Type 0) (index : PlaceMap) (held : List (Option Heade
   -- ---- what was recorded
 
   -- a record of an id
-  find_record : (rs : List ContainerLiveness) (id k : ℕ) → k < length (ids_of rs) → get_or (ids_of rs) k id ≡ id → (r : ContainerLiveness) × ((r.id ≡ id) × ((k < length rs) × (get_or rs k r ≡ r)))
+  find_record : (rs : List ContainerLiveness) (id k : ℕ) → k < length (ids_of rs) → get_or (ids_of rs) k id ≡ id → (r : ContainerLiveness)
+      × ((r.id ≡ id) × ((k < length rs) × (get_or rs k r ≡ r)))
   find_record [] id k below is = absurd (omega (arith, below))
   find_record (r ∷ rs) id zero below is = (r, (is, (omega arith, refl)))
   find_record (r ∷ rs) id (suc k) below is = let rest = find_record rs id k (omega (arith, below)) is in (rest.0, (rest.1.0, (omega (arith, rest.1.1.0), rest.1.1.1)))
@@ -166,7 +168,8 @@ module _ (P : List ℕ → Type 0) (index : PlaceMap) (held : List (Option Heade
       (low : (slot : ℕ) (h : HeaderValue) → slice_get held slot ≡ Some (Some h) → h.id < snapshot)
       (recorded : (slot : ℕ) (h : HeaderValue) → slice_get held slot ≡ Some (Some h) → Contains (ids_of rs) h.id) where
     -- one under a container's id is of it
-    of_header : (slot : ℕ) (h : HeaderValue) → slice_get held slot ≡ Some (Some h) → (r : ContainerLiveness) → Contains rs r → r.id ≡ h.id → Needs P held slot h r.live × (r.all ≡ bytes_of h.entries)
+    of_header : (slot : ℕ) (h : HeaderValue) → slice_get held slot ≡ Some (Some h) → (r : ContainerLiveness) → Contains rs r → r.id ≡ h.id → Needs P held slot h r.live
+        × (r.all ≡ bytes_of h.entries)
     of_header slot h there r contained same =
         let is : IsTold index live held r = of_each (IsTold index live held) rs r told contained in
         let slot_is : is.slot ≡ slot = one_slot held is.slot slot is.header h differ is.there there (sym is.id_is ∙ same) in
@@ -229,7 +232,8 @@ module _ (P : List ℕ → Type 0) (index : PlaceMap) (held : List (Option Heade
 
 module _ (C : Type 0) (state : C → CoreState) where
   -- what the whole made of the store it began at
-  module _ (among : ByteSet) (percent snapshot freed copied : ℕ) (steps : List FileEvent) (s : Store) (stored : Stored) (old begun new last : C) (run : FileRun C state (IsIn among) steps begun new)
+  module _ (among : ByteSet) (percent snapshot freed copied : ℕ) (steps : List FileEvent) (s : Store) (stored : Stored) (old begun new last : C)
+      (run : FileRun C state (IsIn among) steps begun new)
       (at : IsAt (IsIn among) s stored (state begun)) (began : Begins percent snapshot (state old) (state begun)) (tables : (state begun).tables ≡ (state old).tables)
       (did : Collected C state (IsIn among) percent snapshot freed copied steps s stored begun new last run) (stage : did.collection.stage ≡ SweepStage)
       (alone : IsAlone among s at.index did.changes did.collection did.store stored (state new)) where
@@ -265,7 +269,16 @@ module _ (C : Type 0) (state : C → CoreState) where
 
     low : (slot : ℕ) (h : HeaderValue) → slice_get s.held slot ≡ Some (Some h) → h.id < snapshot
     low slot h there =
-        omega (arith, id_below s.held slot h there, began.snapshot_is, began.next_is, ap (λ (t : Tables). t.held.last_id) tables, at.represents.slots_hold.last_id_is, last_within s.held (headers_of_right image s holds.right))
+        omega (
+          arith,
+          id_below s.held slot h there,
+          began.snapshot_is,
+          began.next_is,
+          ap
+              (λ (t : Tables). t.held.last_id) tables,
+          at.represents.slots_hold.last_id_is,
+          last_within s.held (headers_of_right image s holds.right),
+        )
 
     safe : SweepIsSafe alone.is_at.index did.store (state new).parts image_now c
     safe =
@@ -275,7 +288,8 @@ module _ (C : Type 0) (state : C → CoreState) where
     marked : (key : List ℕ) (place : Place) → P key → IsLiveAt c.live key place
     marked key place needed =
         let is : IsLive alone.is_at.index c.live key =
-        reachable_has alone.is_at.index did.store stored.files (state new).parts image_now holds_now (IsLive alone.is_at.index c.live) safe.roots_are_live safe.live_is_closed key needed in
+        reachable_has alone.is_at.index did.store stored.files (state new).parts image_now holds_now
+        (IsLive alone.is_at.index c.live) safe.roots_are_live safe.live_is_closed key needed in
         live_anywhere c.live key is.0 place is.1.1
 
     recorded : (slot : ℕ) (h : HeaderValue) → slice_get s.held slot ≡ Some (Some h) → Contains (ids_of c.liveness) h.id
@@ -287,7 +301,8 @@ module _ (C : Type 0) (state : C → CoreState) where
         subst (λ (ids : List ℕ). Contains ids h.id) (sym did.recorded)
         (let here = id_held s.held slot h there in contains_filter (is_old snapshot) (ids_held s.held) h.id slot here.0 here.1 old_is)
       where
-        id_held : (held : List (Option HeaderValue)) (at : ℕ) (g : HeaderValue) → slice_get held at ≡ Some (Some g) → (at < length (ids_held held)) × (get_or (ids_held held) at g.id ≡ g.id)
+        id_held : (held : List (Option HeaderValue)) (at : ℕ) (g : HeaderValue) → slice_get held at ≡ Some (Some g) → (at < length (ids_held held))
+            × (get_or (ids_held held) at g.id ≡ g.id)
         id_held [] at g there = absurd cc
         id_held (None ∷ cs) zero g there = absurd (let wrong : None ≡ Some g = some_same None (Some g) there in cc)
         id_held (Some x ∷ cs) zero g there = (omega arith, ap (λ (y : HeaderValue). y.id) (some_same x g (some_same (Some x) (Some g) there)))
@@ -297,7 +312,8 @@ module _ (C : Type 0) (state : C → CoreState) where
     indexed : (key : List ℕ) → P key → HasKey index key
     indexed key needed = invariant.files_are_indexed key needed
 
-    weigh : (slot : ℕ) (h : HeaderValue) → slice_get s.held slot ≡ Some (Some h) → IsWeighed P index s.held c.live invariant.index_is_newest alone.spares.within indexed marked snapshot percent c.liveness alone.lone.told
+    weigh : (slot : ℕ) (h : HeaderValue) → slice_get s.held slot ≡ Some (Some h)
+        → IsWeighed P index s.held c.live invariant.index_is_newest alone.spares.within indexed marked snapshot percent c.liveness alone.lone.told
         holds.right.different low recorded slot h
     weigh = weighed P index s.held c.live invariant.index_is_newest alone.spares.within indexed marked snapshot percent c.liveness alone.lone.told holds.right.different low recorded
 
@@ -310,7 +326,8 @@ module _ (C : Type 0) (state : C → CoreState) where
     swept : SweepsAlone index alone.is_at.index s.held did.store.held c.live c.snapshot c.sweep (copied_keys did.changes)
     swept = subst (λ (st : Stage). IsLoneAt st index alone.is_at.index s.held did.store.held c (copied_keys did.changes)) stage alone.lone.at
 
-    only_copied : (key : List ℕ) → Contains (copied_keys did.changes) key → P key × ((copy : Copy) × ((newest 0 s.held key ≡ Some copy) × IsChosen P percent s.held copy.place.slot))
+    only_copied : (key : List ℕ) → Contains (copied_keys did.changes) key → P key
+        × ((copy : Copy) × ((newest 0 s.held key ≡ Some copy) × IsChosen P percent s.held copy.place.slot))
     only_copied key there =
         let of : IsOfSource index s.held c.live c.sweep.sources.items key = swept.copied key (listed_of (copied_keys did.changes) key there) in
         let copy = copy_of s.held index invariant.index_is_newest key of.place of.found in
@@ -329,7 +346,8 @@ module _ (C : Type 0) (state : C → CoreState) where
           | inl written ↦ of_listed (copied_keys did.changes) key written
           | inr still ↦ absurd (
               let header_is : chosen.header ≡ still.header = one_header s.held copy.place.slot has.0.slot chosen.header still.header (sym place_is) chosen.there still.was in
-              did.gone has.0.slot still.header still.there (subst (λ (g : HeaderValue). IsSelectedId snapshot percent c.liveness g.id) header_is (selected_in copy.place.slot chosen)))
+              did.gone has.0.slot still.header still.there
+              (subst (λ (g : HeaderValue). IsSelectedId snapshot percent c.liveness g.id) header_is (selected_in copy.place.slot chosen)))
         ]
 
     chooses_so : Chooses P percent s.held did.store.held did.changes
@@ -356,7 +374,8 @@ module _ (C : Type 0) (state : C → CoreState) where
       let final : FileEvent = record { event = ends_with last_actor freed copied last_buf; bytes = [] } in
       let stays : (state new).stop ≡ None = ended_runs C state (state new).stop final.event freed copied (state new) (state last) refl refl ended in
       let on : (state begun).stop ≡ None = run_running C state among steps begun new run stays in
-      let begins : Steps first.event (state old) (state begun) = running_step (state old) (state begun) first.event (was_running (state old).stop first.event (state old) (state begun) refl began on) began in
+      let begins : Steps first.event (state old) (state begun) = running_step (state old) (state begun) first.event
+      (was_running (state old).stop first.event (state old) (state begun) refl began on) began in
       let led = any_step among distinct first s stored (state old) (state begun) (record { asked = tt; given = tt; made = began }) at on in
       let same_first : led.next.store ≡ s = subst (λ (changes : List StoreChange). ChangesTo changes s led.next.store) led.changes_are led.next.chain in
       let row_first : Begins percent snapshot (state old) (state begun) = begins.made.row.0 in
@@ -366,7 +385,8 @@ module _ (C : Type 0) (state : C → CoreState) where
       let ends : Steps final.event (state new) (state last) = running_step (state new) (state last) final.event stays ended in
       let row : HasEnded freed copied (state new) (state last) = ends.made.row.0 in
       let so : CollectedSo C state among (IsAlone among s here.index) percent snapshot freed copied steps s stored begun new last run =
-      collects_so C state among (IsAlone among s here.index) (alone_kept among s here.index) actor last_actor percent snapshot freed copied buf last_buf steps s stored old begun new last distinct at began run
+      collects_so C state among (IsAlone among s here.index)
+      (alone_kept among s here.index) actor last_actor percent snapshot freed copied buf last_buf steps s stored old begun new last distinct at began run
       (none_ended C state among steps s stored begun new row.before distinct here run all stays row.ran) ended in
       let did = so.collected in
       let same : stored_after steps stored ≡ stored = stored_same steps stored all in

@@ -54,7 +54,8 @@ module _ (actor : ℕ) (root : Root) (segments : List (List ℕ)) (old new : Cor
   still : (own : ℕ) → ChangesOne own old.parts new.parts → part_of new.parts actor ≡ part_of old.parts actor → Comes actor root (segments ++ []) new
   still own one same = record {
     below = subst (λ (n : ℕ). actor < n) (sym (length_on own old.parts new.parts one)) comes.below;
-    given = subst (λ (given : List (List ℕ)). GivesAsNamed root given actor new) (sym (append_none segments)) (record { rest = comes.given.rest; part_is = same ∙ comes.given.part_is; gives = comes.given.gives });
+    given = subst (λ (given : List (List ℕ)). GivesAsNamed root given actor new) (sym (append_none segments))
+        (record { rest = comes.given.rest; part_is = same ∙ comes.given.part_is; gives = comes.given.gives });
   }
 
   moves : (other : Root) (was rest : List Top) (given : List (List ℕ)) → part_of old.parts actor ≡ reading other was → new.parts ≡ with_part old.parts actor (reading other rest)
@@ -65,7 +66,8 @@ module _ (actor : ℕ) (root : Root) (segments : List (List ℕ)) (old new : Cor
         below = subst (λ (n : ℕ). actor < n) (sym (length_on actor old.parts new.parts (record { part = _; parts_are = parts_are }))) comes.below;
         given = record {
           rest = rest;
-          part_is = ap (λ (parts : List Part). part_of parts actor) parts_are ∙ apart.same old.parts actor (reading other rest) comes.below ∙ ap (λ (r : Root). reading r rest) same.0;
+          part_is = ap (λ (parts : List Part). part_of parts actor) parts_are ∙ apart.same old.parts actor (reading other rest) comes.below
+              ∙ ap (λ (r : Root). reading r rest) same.0;
           gives = goes (subst (λ (tops : List Top). GivesAll start segments tops) (sym same.1) comes.given.gives);
         };
       }
@@ -80,7 +82,8 @@ module _ (actor : ℕ) (root : Root) (segments : List (List ℕ)) (old new : Cor
   own_after (Ok answers.End) buf row =
       moves row.next.goes_on.root row.next.was row.next.rest [] row.next.goes_on.part_is row.next.goes_on.parts_are
       (λ gives. none_more row.next.rest (subst (λ (tops : List Top). GivesAll start segments tops) (row.next.given.0 ∙ sym row.next.given.1) gives))
-  own_after (Err (refusals.WrongPart kind)) buf row = still actor (record { part = _; parts_are = row.cause.same ∙ sym (apart.unchanged old.parts actor) }) (ap (λ (parts : List Part). part_of parts actor) row.cause.same)
+  own_after (Err (refusals.WrongPart kind)) buf row = still actor (record { part = _; parts_are = row.cause.same ∙ sym (apart.unchanged old.parts actor) })
+      (ap (λ (parts : List Part). part_of parts actor) row.cause.same)
   own_after (Err refusal) buf row =
       moves row.cause.goes_on.root row.cause.was row.cause.rest [] row.cause.goes_on.part_is row.cause.goes_on.parts_are
       (λ gives. none_more row.cause.rest (all_walked (WasRead old.known old.disk new.disk) start row.cause.was row.cause.rest segments gives row.cause.refused.walked))
@@ -106,7 +109,8 @@ module _ (actor : ℕ) (root : Root) (segments : List (List ℕ)) (old new : Cor
   by_stop None e alone steps = by_actor (e.actor == actor) e refl alone steps
   by_stop (Some stop) e alone steps =
       subst (λ (given : List (List ℕ)). Comes actor root (segments ++ given) new) (sym (none_given (e.actor == actor) e.answer e.buf stop.at steps.answer_is))
-      (still e.actor (record { part = _; parts_are = steps.same.parts_are ∙ sym (apart.unchanged old.parts e.actor) }) (ap (λ (parts : List Part). part_of parts actor) steps.same.parts_are))
+      (still e.actor (record { part = _; parts_are = steps.same.parts_are ∙ sym (apart.unchanged old.parts e.actor) })
+      (ap (λ (parts : List Part). part_of parts actor) steps.same.parts_are))
 
   pub step_after : (e : Event) → (e.actor ≡ actor → IsReadNext e.step) → StepsOr old.stop e old new → After (e.actor == actor) e.answer e.buf
   step_after e alone steps = by_stop old.stop e alone steps
@@ -177,7 +181,8 @@ module _ (C : Type 0) (state : C → CoreState) where
         whole = λ ended. whole_of C state actor began.root (given_to actor events) (state new) comes.given ended ∙ sym began.count_is;
       }
 
-  ended_by : (names : NameMap) (name : List ℕ) (old new : CoreState) (actor count : ℕ) (events : List Event) (buf : List ℕ) (stop : Option Stop) → GivesByTree names name actor count events old → old.stop ≡ stop → old.stop ≡ None → StepsOr stop (ends actor buf) old new
+  ended_by : (names : NameMap) (name : List ℕ) (old new : CoreState) (actor count : ℕ) (events : List Event) (buf : List ℕ) (stop : Option Stop)
+      → GivesByTree names name actor count events old → old.stop ≡ stop → old.stop ≡ None → StepsOr stop (ends actor buf) old new
       → sum_by length (given_to actor events) ≡ count
   ended_by names name old new actor count events buf None by is runs steps =
       let row = steps.made.row.next in

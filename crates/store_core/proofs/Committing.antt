@@ -27,12 +27,19 @@ use Rattle.store_core.specs.Core.{IndexesAll, Makes, Made, NamesOne, GivesHeld}
 use Rattle.store_core.specs.State.{CoreState}
 use Rattle.store_core.proofs.Sealing.{one_map}
 
-module _ (old new : CoreState) (name : List ℕ) (change : Change) (sequence : ℕ) (named : IsChanged old.tables name change new.tables sequence) (later : IsLater old.disk new.disk) (index : new.known ≡ old.known) where
+module _ (old new : CoreState) (name : List ℕ) (change : Change) (sequence : ℕ) (named : IsChanged old.tables name change new.tables sequence) (later : IsLater old.disk new.disk)
+    (index : new.known ≡ old.known) where
   pub makes_change : Makes (ChangeName name change) old new
   makes_change = record {
     can = record { store_has = λ store represents valid free. (named.can store represents.names_are, named.right) };
-    represents = record { store_has = λ store represents valid free. subst (λ (known : Option PlaceMap). Represents (with_change name change store) known new.tables) (sym index) (named.represents store old.known valid.follow represents) };
-    valid = record { store_has = λ store represents valid free. subst (λ (size : ℕ). IsValidFor size (with_change name change store)) (sym later.size_is) (valid_change old.disk.size name change store valid (named.can store represents.names_are) named.right) };
+    represents = record {
+      store_has = λ store represents valid free. subst (λ (known : Option PlaceMap). Represents (with_change name change store) known new.tables) (sym index)
+          (named.represents store old.known valid.follow represents);
+    };
+    valid = record {
+      store_has = λ store represents valid free. subst (λ (size : ℕ). IsValidFor size (with_change name change store)) (sym later.size_is)
+          (valid_change old.disk.size name change store valid (named.can store represents.names_are) named.right);
+    };
     tells = λ places is. (places, index ∙ is);
     keeps_keys = λ before is after after_is key has. subst (λ (m : PlaceMap). HasKey m key) (one_map before after (sym is ∙ sym index ∙ after_is)) has;
     adds_keys = λ before is after after_is. tt;
@@ -41,12 +48,14 @@ module _ (old new : CoreState) (name : List ℕ) (change : Change) (sequence : �
       store_has = λ store represents valid free. record {
         can = (named.can store represents.names_are, named.right);
         represents = named.represents store None valid.follow represents;
-        valid = subst (λ (size : ℕ). IsValidFor size (with_change name change store)) (sym later.size_is) (valid_change old.disk.size name change store valid (named.can store represents.names_are) named.right);
+        valid = subst (λ (size : ℕ). IsValidFor size (with_change name change store)) (sym later.size_is)
+            (valid_change old.disk.size name change store valid (named.can store represents.names_are) named.right);
       };
     };
     whole = record { store_has = λ store represents valid free whole. subst (IndexesAll (with_change name change store)) (sym index) whole };
     runs = λ runs. subst (λ (size : ℕ). Runs size None new.tables) (sym later.size_is) (named.runs old.disk.size None runs);
-    runs_indexed = λ runs. subst (λ (size : ℕ). Runs size new.known new.tables) (sym later.size_is) (subst (λ (known : Option PlaceMap). Runs old.disk.size known new.tables) (sym index) (named.runs old.disk.size old.known runs));
+    runs_indexed = λ runs. subst (λ (size : ℕ). Runs size new.known new.tables) (sym later.size_is)
+        (subst (λ (known : Option PlaceMap). Runs old.disk.size known new.tables) (sym index) (named.runs old.disk.size old.known runs));
   }
 
   -- what is held goes on
@@ -75,8 +84,10 @@ change_effect name change sequence answer old new changed acts moves keeps frame
   kept = tt;
 }
 
-pub made_put : (name : List ℕ) (root : Root) (actor sequence : ℕ) (buf : List ℕ) (old new : CoreState) → IsCommitted old.parts actor old.tables name root new.parts new.tables sequence → Acts Done old.disk new.disk
-    → ChangesName old.tables name (Put root) Done old.disk new.disk → KeepsButRecord old.tables.journal old.disk new.disk → ChangesJournalAlone old.tables name (Put root) old.disk new.disk → IsDurable new.disk → new.known ≡ old.known → (old.served → new.served)
+pub made_put : (name : List ℕ) (root : Root) (actor sequence : ℕ) (buf : List ℕ) (old new : CoreState)
+    → IsCommitted old.parts actor old.tables name root new.parts new.tables sequence → Acts Done old.disk new.disk
+    → ChangesName old.tables name (Put root) Done old.disk new.disk → KeepsButRecord old.tables.journal old.disk new.disk
+    → ChangesJournalAlone old.tables name (Put root) old.disk new.disk → IsDurable new.disk → new.known ≡ old.known → (old.served → new.served)
     → Made (asked.Commit name root) actor (Ok (answers.Committed sequence)) buf old new
 made_put name root actor sequence buf old new committed acts moves keeps frame durable index served = record {
   row = (committed.may, committed.named.number, committed.parts_are, ap (λ (t : Tables). t.held) committed.named.tables_are);
@@ -84,8 +95,10 @@ made_put name root actor sequence buf old new committed acts moves keeps frame d
   served = served;
 }
 
-pub made_delete : (name : List ℕ) (actor sequence : ℕ) (buf : List ℕ) (old new : CoreState) → IsDeleted old.tables name new.tables sequence → new.parts ≡ old.parts → Acts Done old.disk new.disk
-    → ChangesName old.tables name Delete Done old.disk new.disk → KeepsButRecord old.tables.journal old.disk new.disk → ChangesJournalAlone old.tables name Delete old.disk new.disk → IsDurable new.disk → new.known ≡ old.known → (old.served → new.served)
+pub made_delete : (name : List ℕ) (actor sequence : ℕ) (buf : List ℕ) (old new : CoreState) → IsDeleted old.tables name new.tables sequence → new.parts ≡ old.parts
+    → Acts Done old.disk new.disk
+    → ChangesName old.tables name Delete Done old.disk new.disk → KeepsButRecord old.tables.journal old.disk new.disk
+    → ChangesJournalAlone old.tables name Delete old.disk new.disk → IsDurable new.disk → new.known ≡ old.known → (old.served → new.served)
     → Made (asked.Delete name) actor (Ok (answers.Deleted sequence)) buf old new
 made_delete name actor sequence buf old new deleted parts acts moves keeps frame durable index served = record {
   row = (deleted.may, deleted.changed.number, parts, ap (λ (t : Tables). t.held) deleted.changed.tables_are);
@@ -94,7 +107,8 @@ made_delete name actor sequence buf old new deleted parts acts moves keeps frame
 }
 
 -- and a read that gave a segment
-pub made_bytes : (actor count : ℕ) (buf : List ℕ) (old new : CoreState) (given : Option ℕ) → given ≡ Some count → readers.GivesNext old.known old.disk new.disk actor old.parts new.parts buf given
+pub made_bytes : (actor count : ℕ) (buf : List ℕ) (old new : CoreState) (given : Option ℕ) → given ≡ Some count
+    → readers.GivesNext old.known old.disk new.disk actor old.parts new.parts buf given
     → GivesHeld (Ok given) buf actor old new → Reads Done old.disk new.disk → new.tables ≡ old.tables → new.known ≡ old.known → (old.served → new.served)
     → Made asked.ReadNext actor (Ok (answers.Bytes count)) buf old new
 made_bytes actor count buf old new given is next held reads tables index served = record {

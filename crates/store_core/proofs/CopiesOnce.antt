@@ -57,7 +57,8 @@ none_listed (k ∷ ks) key none = (differs (bytes_eq key k) refl, none_listed ks
     differs true same = absurd (none (listed_left (k ∷ []) ks key (subst (λ (x : List ℕ). listed (k ∷ []) x ≡ true) (sym ((bytes_eq-Decides key k).0 same)) (listed_one k))))
     differs false other = other
 
-pub distinct_then : (xs ys : List (List ℕ)) → IsDistinct bytes_eq xs → IsDistinct bytes_eq ys → ((key : List ℕ) → listed xs key ≡ true → IsNoneOf ys key) → IsDistinct bytes_eq (xs ++ ys)
+pub distinct_then : (xs ys : List (List ℕ)) → IsDistinct bytes_eq xs → IsDistinct bytes_eq ys → ((key : List ℕ) → listed xs key ≡ true → IsNoneOf ys key)
+    → IsDistinct bytes_eq (xs ++ ys)
 unfolding IsDistinct
 distinct_then [] ys one two apart = two
 distinct_then (x ∷ xs) ys one two apart = (
@@ -93,7 +94,8 @@ listed_found kind offset (x ∷ xs) key has = by_test (bytes_eq (segment_key kin
     rest = find (λ e. bytes_eq (key_of (kind_byte kind) e.digest) key) (entries_from (offset + length x.bytes) xs)
 
     by_test : (b : Bool) → b || listed (map (segment_key kind) xs) key ≡ true
-        → (listed (map (segment_key kind) xs) key ≡ true → (e : Entry) × (find (λ y. bytes_eq (key_of (kind_byte kind) y.digest) key) (entries_from (offset + length x.bytes) xs) ≡ Some e))
+        → (listed (map (segment_key kind) xs) key ≡ true → (e : Entry)
+        × (find (λ y. bytes_eq (key_of (kind_byte kind) y.digest) key) (entries_from (offset + length x.bytes) xs) ≡ Some e))
         → (e : Entry) × (cond b (Some here) (find (λ y. bytes_eq (key_of (kind_byte kind) y.digest) key) (entries_from (offset + length x.bytes) xs)) ≡ Some e)
     by_test true has later = (here, refl)
     by_test false has later = later has
@@ -121,7 +123,8 @@ newest_above from [] key slot h e there found = absurd cc
 newest_above from (c ∷ cs) key zero h e there found =
     let here : Copy = record { id = h.id; place = place_of from e } in
     let is : copy_in from c key ≡ Some here =
-    ap (λ (x : Option HeaderValue). copy_in from x key) (some_same c (Some h) there) ∙ ap (λ (x : Option Entry). option_map (λ y. (let copy : Copy = record { id = h.id; place = place_of from y } in copy)) x) found in
+    ap (λ (x : Option HeaderValue). copy_in from x key) (some_same c (Some h) there)
+    ∙ ap (λ (x : Option Entry). option_map (λ y. (let copy : Copy = record { id = h.id; place = place_of from y } in copy)) x) found in
     let above = first_above here (newest (from + 1) cs key) in
     (above.0, (ap (λ (x : Option Copy). newer x (newest (from + 1) cs key)) is ∙ above.1.0, above.1.1))
 newest_above from (c ∷ cs) key (suc slot) h e there found =
@@ -130,7 +133,8 @@ newest_above from (c ∷ cs) key (suc slot) h e there found =
     (above.0, (ap (newer (copy_in from c key)) rest.1.0 ∙ above.1.0, omega (arith, rest.1.1, above.1.1)))
 
 -- so its copy that the index has does not lie in an older one
-pub not_old : (held : List (Option HeaderValue)) (index : PlaceMap) (key : List ℕ) (snapshot : ℕ) → IsPartialIndexOf held index → HoldsNewer held snapshot key → LiesOld index held snapshot key → ⊥
+pub not_old : (held : List (Option HeaderValue)) (index : PlaceMap) (key : List ℕ) (snapshot : ℕ) → IsPartialIndexOf held index → HoldsNewer held snapshot key
+    → LiesOld index held snapshot key → ⊥
 not_old held index key snapshot partial newer_one (place, (has, (g, (there, below)))) =
     let c = copy_of held index partial key place has in
     let above = newest_above 0 held key newer_one.slot newer_one.header newer_one.entry newer_one.there newer_one.found in
@@ -143,7 +147,8 @@ not_old held index key snapshot partial newer_one (place, (has, (g, (there, belo
     omega (arith, below, ap (λ (x : HeaderValue). x.id) header_is, ap (λ (x : Copy). x.id) at.copy_is, ap (λ (x : Copy). x.id) same, above.1.1, newer_one.new)
 
 -- it stands on
-pub newer_on : (snapshot : ℕ) (sources : List ℕ) (changes : List StoreChange) (s t : Store) (key : List ℕ) → Sweeps snapshot sources changes s t → ((id : ℕ) → snapshot ≤ id → Contains sources id → ⊥)
+pub newer_on : (snapshot : ℕ) (sources : List ℕ) (changes : List StoreChange) (s t : Store) (key : List ℕ) → Sweeps snapshot sources changes s t
+    → ((id : ℕ) → snapshot ≤ id → Contains sources id → ⊥)
     → HoldsNewer s.held snapshot key → HoldsNewer t.held snapshot key
 newer_on snapshot sources changes s t key sweeps old is = record {
   slot = is.slot;

@@ -28,7 +28,8 @@ module _ (C : Type 0) (state : C → CoreState) where
       later_on (state old).disk (state run.0).disk (state new).disk (step_later (state old) (state run.0) e (state old).stop run.1.0) (run_later es run.0 new run.1.1)
 
   -- a core that is stopped only reads
-  pub stopped_reads : (stop : Stop) (events : List Event) (old new : C) → (state old).stop ≡ Some stop → CoreRun C state events old new → OnlyReads (state old).disk (state new).disk
+  pub stopped_reads : (stop : Stop) (events : List Event) (old new : C) → (state old).stop ≡ Some stop → CoreRun C state events old new
+      → OnlyReads (state old).disk (state new).disk
   stopped_reads stop [] old new is run = subst (λ (c : C). OnlyReads (state old).disk (state c).disk) (sym run) (reads_here (state old).disk)
   stopped_reads stop (e ∷ es) old new is run =
       let same = (subst (λ (o : Option Stop). StepsOr o e (state old) (state run.0)) is run.1.0).same in

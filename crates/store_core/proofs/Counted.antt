@@ -89,11 +89,19 @@ counts_copied : (t : SlotTable) (live : LiveKeys) (known after_known : Option Pl
     → CopiesSource t live known after_known old new source entry before after → CountsOn [] before after
 counts_copied t live known after_known old new source entry before after copies = by_found copies.found copies.plans copies.takes
   where
-    by_found : (found : Option Plan) → PlansSource t known live copies.slot entry copies.filling old new found → TakesBy t copies.slot source found before after → CountsOn [] before after
+    by_found : (found : Option Plan) → PlansSource t known live copies.slot entry copies.filling old new found → TakesBy t copies.slot source found before after
+        → CountsOn [] before after
     by_found None plans takes = record { freed_on = omega (arith, copies.others.freed_is); copied_on = omega (arith, takes.3, ap (λ (c : Contents). length c.segments) takes.0) }
     by_found (Some plan) plans takes = record {
       freed_on = omega (arith, copies.others.freed_is);
-      copied_on = omega (arith, takes.1, plans.plans.1.copied_is, filled_many before.buffer copies.filling copies.kind copies.is_source.filling_is, ap (λ (c : Contents). length c.segments) takes.0);
+      copied_on = omega (
+        arith,
+        takes.1,
+        plans.plans.1.copied_is,
+        filled_many before.buffer copies.filling copies.kind copies.is_source.filling_is,
+        ap
+            (λ (c : Contents). length c.segments) takes.0,
+      );
     }
 
 -- ---- a step of a collection
@@ -123,14 +131,19 @@ module _ (old new : CoreState) (c d : Collection) (quiet : IsQuiet c) where
     quiet = λ now. absurd (let none : ⊥ = subst IsToChoose (ap (λ (x : Collection). x.stage) same ∙ is) now in none);
   }
 
-  pub counts_step : (id : ℕ) (stage : Stage) (next : Next) → c.stage ≡ stage → StepsTo stage next (at_moment old c) (at_moment new d) → Counts (changed_by stage next c.sweep id) c d
+  pub counts_step : (id : ℕ) (stage : Stage) (next : Next) → c.stage ≡ stage → StepsTo stage next (at_moment old c) (at_moment new d)
+      → Counts (changed_by stage next c.sweep id) c d
   counts_step id (Mark level slot) next is steps = counts_early (Mark level slot) is tt (ap (λ (x : Collection). x.sweep) steps.0.collection_is)
   counts_step id (Filter slot) next is steps = counts_early (Filter slot) is tt (ap (λ (x : Collection). x.sweep) steps.0.collection_is)
   counts_step id Select next is steps =
       let was : CountsNone c.sweep = quiet (subst IsToChoose (sym is) tt) in
       let now : CountsNone d.sweep = counts_none old.tables.held d.sweep.sources.items d.sweep steps.0.begins in
       record {
-        on = record { freed_on = omega (arith, was.none_freed, now.none_freed); copied_on = omega (arith, was.none_copied, was.none_unwritten, now.none_copied, now.none_unwritten) };
+        on = record {
+          freed_on = omega (arith, was.none_freed, now.none_freed);
+          copied_on = omega
+              (arith, was.none_copied, was.none_unwritten, now.none_copied, now.none_unwritten);
+        };
         quiet = λ early. now;
       }
   counts_step id SweepStage (Copy source entry) is steps =
@@ -149,7 +162,8 @@ module _ (old new : CoreState) (c d : Collection) (quiet : IsQuiet c) where
 -- ---- what is refused
 
 -- it leaves a collection, but for its live keys
-pub refused_live : (old new : CoreState) (b : Collection) (stage : Stage) (next : Next) (refusal : Refusal) (a : Collection) → Keeps stage next (at_moment old b) (at_moment new a) refusal
+pub refused_live : (old new : CoreState) (b : Collection) (stage : Stage) (next : Next) (refusal : Refusal) (a : Collection)
+    → Keeps stage next (at_moment old b) (at_moment new a) refusal
     → (live : LiveKeys) × (a ≡ record b { live = live })
 refused_live old new b (Mark level slot) next refusals.Memory a (inl same, known) = (b.live, same)
 refused_live old new b (Mark level slot) next refusals.Memory a (inr only, known) = (a.live, only.collection_is)

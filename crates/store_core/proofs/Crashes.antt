@@ -88,7 +88,8 @@ image_at S s stored c at image left = record { store = s; stands = at.stands.eac
 abbrev Either : (List ℕ → Type 0) → StepValue → Result Answer Refusal → List ℕ → Stored → List ℕ → Type 0
 Either S step answer bytes stored image = OpensAs S stored image ⊎ OpensAs S (stored_tried step answer bytes stored) image
 
-module _ (among : ByteSet) (s : Store) (stored : Stored) (old new : CoreState) (bytes : List ℕ) (distinct : HasNoCollisions (IsIn among)) (at : IsAt (IsIn among) s stored old) where
+module _ (among : ByteSet) (s : Store) (stored : Stored) (old new : CoreState) (bytes : List ℕ) (distinct : HasNoCollisions (IsIn among))
+    (at : IsAt (IsIn among) s stored old) where
   abbrev S : List ℕ → Type 0
   S = IsIn among
 
@@ -134,14 +135,16 @@ module _ (among : ByteSet) (s : Store) (stored : Stored) (old new : CoreState) (
         | inl is ↦ inl (image_of s c opens last_here is)
         | inr is ↦ inl (image_of (with_sealed (next_id old) filled.kind filled.segments s) c (opens_sealed filled is.0) last_here is.1)
       ])
-      (effect.moves.moves among s stored.files at.index at.index_known at.represents core.files_are_indexed distinct (may_seal_all S filled.kind filled.segments right.1 given) at.stands).leaves
+      (effect.moves.moves among s stored.files at.index at.index_known at.represents core.files_are_indexed distinct
+      (may_seal_all S filled.kind filled.segments right.1 given) at.stands).leaves
 
   -- of a commit that came to its first write
   put_leaves : (name : List ℕ) (root : Root) (answer : Result Answer Refusal) → NamesOne name (Put root) answer old new → IsRootOf root bytes old
       → CrashLeaves (λ c. FilesStandStill S s stored.files c ⊎ Stands S (with_change name (Put root) s) (with_file stored.files name bytes) c) old.disk new.disk
   put_leaves name root answer effect given =
       let tree = given.tree s at.represents in
-      subst (λ (r : Root). CrashLeaves (λ c. FilesStandStill S s stored.files c ⊎ Stands S (with_change name (Put r) s) (with_file stored.files name bytes) c) old.disk new.disk) (sym given.root_is)
+      subst (λ (r : Root). CrashLeaves (λ c. FilesStandStill S s stored.files c ⊎ Stands S (with_change name (Put r) s) (with_file stored.files name bytes) c) old.disk new.disk)
+      (sym given.root_is)
       (effect.moves.moves among s stored.files (files.Put name bytes) at.represents.names_are refl (ap Put given.root_is)
       (record { known = at.stands.known; each = λ c is. (at.stands.each c is, tree.each c is) })).leaves
 
@@ -154,7 +157,15 @@ module _ (among : ByteSet) (s : Store) (stored : Stored) (old new : CoreState) (
       leaves_weaker (λ c. FilesStandStill S s stored.files c ⊎ Stands S (with_change name change s) after.files c) (Either S step answer bytes stored) old.disk new.disk
       (λ c stands. elim stands [
         | inl is ↦ inl (of_still c is)
-        | inr is ↦ inr (subst (λ (m : Stored). OpensAs S m c) (sym tried) (record { store = with_change name change s; stands = is; opens = opens_by at.index s after.files indexed core.reserve_holds; last_is = last_more name change ∙ sym last }))
+        | inr is ↦ inr
+            (subst (λ (m : Stored). OpensAs S m c) (sym tried)
+            (record {
+              store = with_change name change s;
+              stands = is;
+              opens = opens_by at.index s after.files indexed core.reserve_holds;
+              last_is = last_more name change
+                  ∙ sym last;
+            }))
       ]) leaves
 
   -- the index has the keys of what is put, and those of what is left once a name is deleted
@@ -167,9 +178,11 @@ module _ (among : ByteSet) (s : Store) (stored : Stored) (old new : CoreState) (
   by_commit : (name : List ℕ) (root : Root) (answer : Result Answer Refusal) → NamesOne name (Put root) answer old new → IsGivenRight S (asked.Commit name root) answer bytes old
       → CrashLeaves (Either S (asked.Commit name root) answer bytes stored) old.disk new.disk
   by_commit name root (Ok answer) effect given =
-      either_way name (Put root) (with_stored stored name bytes) (asked.Commit name root) (Ok answer) refl refl (put_indexed name root given) (put_leaves name root (Ok answer) effect given)
+      either_way name (Put root) (with_stored stored name bytes) (asked.Commit name root) (Ok answer) refl refl (put_indexed name root given)
+      (put_leaves name root (Ok answer) effect given)
   by_commit name root (Err refusals.DiskWrite) effect given =
-      either_way name (Put root) (with_stored stored name bytes) (asked.Commit name root) (Err refusals.DiskWrite) refl refl (put_indexed name root given) (put_leaves name root (Err refusals.DiskWrite) effect given)
+      either_way name (Put root) (with_stored stored name bytes) (asked.Commit name root) (Err refusals.DiskWrite) refl refl (put_indexed name root given)
+      (put_leaves name root (Err refusals.DiskWrite) effect given)
   by_commit name root (Err refusals.DiskRead) effect given = by_reads (asked.Commit name root) (Err refusals.DiskRead) effect.disk.ends
   by_commit name root (Err refusal) effect given = by_reads (asked.Commit name root) (Err refusal) effect.disk.ends
 
@@ -185,7 +198,8 @@ module _ (among : ByteSet) (s : Store) (stored : Stored) (old new : CoreState) (
   by_delete name (Ok answer) effect =
       either_way name Delete (without_stored stored name) (asked.Delete name) (Ok answer) refl refl (less_indexed name) (delete_leaves name (Ok answer) effect)
   by_delete name (Err refusals.DiskWrite) effect =
-      either_way name Delete (without_stored stored name) (asked.Delete name) (Err refusals.DiskWrite) refl refl (less_indexed name) (delete_leaves name (Err refusals.DiskWrite) effect)
+      either_way name Delete (without_stored stored name) (asked.Delete name) (Err refusals.DiskWrite) refl refl (less_indexed name)
+      (delete_leaves name (Err refusals.DiskWrite) effect)
   by_delete name (Err refusals.DiskRead) effect = by_reads (asked.Delete name) (Err refusals.DiskRead) effect.disk.ends
   by_delete name (Err refusal) effect = by_reads (asked.Delete name) (Err refusal) effect.disk.ends
 
@@ -199,7 +213,8 @@ module _ (among : ByteSet) (s : Store) (stored : Stored) (old new : CoreState) (
       opens_by at.index (with_freed slot s) stored.files core.files_are_indexed
       (reserve_freed (HasKey at.index) slot s.held (none_held s at.index slot core.index_is_newest none) core.reserve_holds)
 
-  by_changes : (answer : Result Answer Refusal) (e : Ending) → Changes (slot_at s.slots) e old.disk new.disk → CrashLeaves (Either S asked.GcStep answer bytes stored) old.disk new.disk
+  by_changes : (answer : Result Answer Refusal) (e : Ending) → Changes (slot_at s.slots) e old.disk new.disk
+      → CrashLeaves (Either S asked.GcStep answer bytes stored) old.disk new.disk
   by_changes answer e changes =
       leaves_weaker (SteppedFrom (SameBefore (slot_at s.slots)) old.disk) (Either S asked.GcStep answer bytes stored) old.disk new.disk
       (λ c from. elim from [
@@ -207,14 +222,17 @@ module _ (among : ByteSet) (s : Store) (stored : Stored) (old new : CoreState) (
         | inr stepped ↦ inl (of_same s c opens refl (stands_framed S s stored.files stepped.0 c (at.stands.each stepped.0 stepped.1) stepped.2.before stepped.2.size))
       ]) changes.leaves
 
-  by_release : (answer : Result Answer Refusal) (e : Ending) (slot : ℕ) → HasNoEntryIn at.index slot → GivesBack old.tables slot e old.disk new.disk → CrashLeaves (Either S asked.GcStep answer bytes stored) old.disk new.disk
+  by_release : (answer : Result Answer Refusal) (e : Ending) (slot : ℕ) → HasNoEntryIn at.index slot → GivesBack old.tables slot e old.disk new.disk
+      → CrashLeaves (Either S asked.GcStep answer bytes stored) old.disk new.disk
   by_release answer e slot none gives =
       leaves_weaker (λ c. Stands S s stored.files c ⊎ Stands S (with_freed slot s) stored.files c) (Either S asked.GcStep answer bytes stored) old.disk new.disk
       (λ c stands. elim stands [ inl is ↦ inl (of_same s c opens refl is) | inr is ↦ inl (of_same (with_freed slot s) c (opens_freed slot none) refl is) ])
-      (gives.moves among s at.index stored.files (subst (λ (known : Option PlaceMap). Represents s known old.tables) at.index_known at.represents) core.files_are_indexed none at.stands).leaves
+      (gives.moves among s at.index stored.files
+      (subst (λ (known : Option PlaceMap). Represents s known old.tables) at.index_known at.represents) core.files_are_indexed none at.stands).leaves
 
   -- a collection that sweeps
-  module _ (answer : Result Answer Refusal) (c : Collection) (source entry : ℕ) (under : IsSweeping old.tables.held c.snapshot c.sweep) (new_id : c.snapshot ≤ old.tables.held.last_id + 1)
+  module _ (answer : Result Answer Refusal) (c : Collection) (source entry : ℕ) (under : IsSweeping old.tables.held c.snapshot c.sweep)
+      (new_id : c.snapshot ≤ old.tables.held.last_id + 1)
       (holds : HoldsSweep at.index s.held at.stands.known.0 c.live c.snapshot c.sweep) where
     abbrev id : ℕ
     id = old.tables.held.last_id + 1
@@ -226,44 +244,53 @@ module _ (among : ByteSet) (s : Store) (stored : Stored) (old new : CoreState) (
     represents = subst (λ (known : Option PlaceMap). Represents s known old.tables) at.index_known at.represents
 
     -- what was copied is written: each image is of the same files, with its container, too
-    by_flush : c.sweep.next ≡ Flush source entry → (e : Ending) → SealsIndexed old.tables id copied e old.disk new.disk → CrashLeaves (Either S asked.GcStep answer bytes stored) old.disk new.disk
+    by_flush : c.sweep.next ≡ Flush source entry → (e : Ending) → SealsIndexed old.tables id copied e old.disk new.disk
+        → CrashLeaves (Either S asked.GcStep answer bytes stored) old.disk new.disk
     by_flush stage e seals =
         let here = at.stands.each at.stands.known.0 (old.disk.as_read at.stands.known.0 at.stands.known.1) in
         let may = may_flush at.index s.held at.stands.known.0 c.live c.snapshot c.sweep holds S here.holds.nodes here.among in
-        leaves_weaker (λ image. Stands S s stored.files image ⊎ Stands S (with_sealed id copied.kind copied.segments s) stored.files image) (Either S asked.GcStep answer bytes stored) old.disk new.disk
+        leaves_weaker (λ image. Stands S s stored.files image ⊎ Stands S (with_sealed id copied.kind copied.segments s) stored.files image)
+        (Either S asked.GcStep answer bytes stored) old.disk new.disk
         (λ image stands. elim stands [
           | inl is ↦ inl (of_same s image opens refl is)
           | inr is ↦ inl (of_same (with_sealed id copied.kind copied.segments s) image
               (opens_flushed old.tables.held at.index s stored.files at.stands.known.0 image c.live c.snapshot source entry id c.sweep at.represents.slots_hold at.valid.headers under stage holds core.index_is_newest
-              (omega (arith, at.represents.slots_hold.last_id_is)) new_id core.files_are_indexed (headers_of_right image (with_sealed id copied.kind copied.segments s) is.holds.right)) refl is)
+              (omega (arith, at.represents.slots_hold.last_id_is)) new_id core.files_are_indexed
+              (headers_of_right image (with_sealed id copied.kind copied.segments s) is.holds.right)) refl is)
         ])
         (seals.moves among s (Some at.index) at.index stored.files at.stands.known.0 represents at.stands.known.1 may core.files_are_indexed
         (inr (inr (are_newest at.index s.held at.stands.known.0 c.live c.snapshot c.sweep holds))) at.stands).leaves
 
     -- the source in turn is given back
-    by_turn : c.sweep.next ≡ Release source entry → (e : Ending) → GivesBack old.tables (slot_in_turn c.sweep) e old.disk new.disk → CrashLeaves (Either S asked.GcStep answer bytes stored) old.disk new.disk
+    by_turn : c.sweep.next ≡ Release source entry → (e : Ending) → GivesBack old.tables (slot_in_turn c.sweep) e old.disk new.disk
+        → CrashLeaves (Either S asked.GcStep answer bytes stored) old.disk new.disk
     by_turn stage e gives =
         by_release answer e (slot_in_turn c.sweep)
         (in_turn old.tables.held at.index s.held at.stands.known.0 c.live c.snapshot source entry c.sweep at.represents.slots_hold under stage holds).none gives
 
-  by_stage : (answer : Result Answer Refusal) (c : Collection) (stage : Stage) (next : Next) (e : Ending) → IsUnderWay old.tables.held c → IsSafeAt stage at.index s old.parts at.stands.known.0 c → c.stage ≡ stage → c.sweep.next ≡ next
+  by_stage : (answer : Result Answer Refusal) (c : Collection) (stage : Stage) (next : Next) (e : Ending) → IsUnderWay old.tables.held c
+      → IsSafeAt stage at.index s old.parts at.stands.known.0 c → c.stage ≡ stage → c.sweep.next ≡ next
       → Touches stage next c.sweep old.tables e old.disk new.disk → CrashLeaves (Either S asked.GcStep answer bytes stored) old.disk new.disk
   by_stage answer c (Mark level slot) next e under safe is at_next touches = by_reads asked.GcStep answer touches.only
   by_stage answer c (Filter slot) next e under safe is at_next touches = by_reads asked.GcStep answer touches.only
   by_stage answer c Select next e under safe is at_next touches = by_reads asked.GcStep answer touches.only
   by_stage answer c SweepStage (CopyNext source entry) e under safe is at_next touches = by_changes answer e (touches s.slots at.valid.size_is)
   by_stage answer c SweepStage (Flush source entry) e under safe is at_next touches =
-      by_flush answer c source entry (subst (HasStage old.tables.held c) is under.stage_is) under.began (subst (λ (stage : Stage). HoldsAt stage at.index s.held at.stands.known.0 c) is safe.sweep_holds).1 at_next e touches.1
+      by_flush answer c source entry (subst (HasStage old.tables.held c) is under.stage_is) under.began
+      (subst (λ (stage : Stage). HoldsAt stage at.index s.held at.stands.known.0 c) is safe.sweep_holds).1 at_next e touches.1
   by_stage answer c SweepStage (Release source entry) e under safe is at_next touches =
-      by_turn answer c source entry (subst (HasStage old.tables.held c) is under.stage_is) under.began (subst (λ (stage : Stage). HoldsAt stage at.index s.held at.stands.known.0 c) is safe.sweep_holds).1 at_next e touches.1
+      by_turn answer c source entry (subst (HasStage old.tables.held c) is under.stage_is) under.began
+      (subst (λ (stage : Stage). HoldsAt stage at.index s.held at.stands.known.0 c) is safe.sweep_holds).1 at_next e touches.1
   by_stage answer c SweepStage End e under safe is at_next touches = by_reads asked.GcStep answer touches.only
 
-  by_gc : (answer : Result Answer Refusal) (running : Option Collection) → IsUnderWayIn old.tables.held running → IsSafeIn at.index s old.parts at.stands.known.0 running → TouchesBy running answer old new.disk
+  by_gc : (answer : Result Answer Refusal) (running : Option Collection) → IsUnderWayIn old.tables.held running → IsSafeIn at.index s old.parts at.stands.known.0 running
+      → TouchesBy running answer old new.disk
       → CrashLeaves (Either S asked.GcStep answer bytes stored) old.disk new.disk
   by_gc answer None under safe touches = by_reads asked.GcStep answer touches.only
   by_gc answer (Some c) under safe touches = by_stage answer c c.stage c.sweep.next (ending blames answer) under safe refl refl touches
 
-  by_effect : (step : StepValue) (answer : Result Answer Refusal) → Effect step answer old new → IsStep step → IsGivenRight S step answer bytes old → CrashLeaves (Either S step answer bytes stored) old.disk new.disk
+  by_effect : (step : StepValue) (answer : Result Answer Refusal) → Effect step answer old new → IsStep step → IsGivenRight S step answer bytes old
+      → CrashLeaves (Either S step answer bytes stored) old.disk new.disk
   by_effect asked.Begin answer effect right given = by_reads asked.Begin answer effect.disk.only
   by_effect (asked.Claim seg) answer effect right given = by_reads (asked.Claim seg) answer effect.disk.only
   by_effect (asked.Seal filled) answer effect right given = by_seal filled answer effect right given
@@ -302,22 +329,27 @@ module _ (C : Type 0) (state : C → CoreState) (among : ByteSet) (distinct : Ha
   first_one f fs stored c (inr is) = inr (inl is)
 
   -- a step, and what follows where it didn't stop the core
-  step_leaves : (f : FileEvent) (fs : List FileEvent) (s : Store) (stored : Stored) (old mid new : C) → IsAt In s stored (state old) → FileStep In f (state old) (state mid) → FileRun C state In fs mid new
+  step_leaves : (f : FileEvent) (fs : List FileEvent) (s : Store) (stored : Stored) (old mid new : C) → IsAt In s stored (state old) → FileStep In f (state old) (state mid)
+      → FileRun C state In fs mid new
       → ((t : Store) → IsAt In t (stored_by f stored) (state mid) → CrashLeaves (IsOnTheWay In fs (stored_by f stored)) (state mid).disk (state new).disk)
       → (stop : Option Stop) → (state mid).stop ≡ stop → CrashLeaves (IsOnTheWay In (f ∷ fs) stored) (state old).disk (state new).disk
   step_leaves f fs s stored old mid new at step run others None is =
       let first = by_stop among s stored (state old) (state mid) f.bytes distinct at (state old).stop f refl step.made step.asked step.given in
       let later = step_later (state old) (state mid) f.event (state old).stop step.made in
       let next = (any_step among distinct f s stored (state old) (state mid) step at is).next in
-      leaves_on (Either In f.event.step f.event.answer f.bytes stored) (IsOnTheWay In fs (stored_by f stored)) (IsOnTheWay In (f ∷ fs) stored) (state old).disk (state mid).disk (state new).disk later.clock_is
+      leaves_on (Either In f.event.step f.event.answer f.bytes stored) (IsOnTheWay In fs (stored_by f stored)) (IsOnTheWay In (f ∷ fs) stored) (state old).disk (state mid).disk
+      (state new).disk later.clock_is
       first (others next.store next.is_at) (first_one f fs stored) (λ c is. inr (inr is))
   step_leaves f fs s stored old mid new at step run others (Some stop) is =
       let first = by_stop among s stored (state old) (state mid) f.bytes distinct at (state old).stop f refl step.made step.asked step.given in
       let later = step_later (state old) (state mid) f.event (state old).stop step.made in
-      leaves_on (Either In f.event.step f.event.answer f.bytes stored) (Either In f.event.step f.event.answer f.bytes stored) (IsOnTheWay In (f ∷ fs) stored) (state old).disk (state mid).disk (state new).disk later.clock_is
-      first (reads_leave (Either In f.event.step f.event.answer f.bytes stored) (state mid).disk (state new).disk first.now (still_reads stop fs mid new is run)) (first_one f fs stored) (first_one f fs stored)
+      leaves_on (Either In f.event.step f.event.answer f.bytes stored) (Either In f.event.step f.event.answer f.bytes stored) (IsOnTheWay In (f ∷ fs) stored) (state old).disk
+      (state mid).disk (state new).disk later.clock_is
+      first (reads_leave (Either In f.event.step f.event.answer f.bytes stored) (state mid).disk (state new).disk first.now (still_reads stop fs mid new is run))
+      (first_one f fs stored) (first_one f fs stored)
 
-  pub leaves : (steps : List FileEvent) (s : Store) (stored : Stored) (old new : C) → IsAt In s stored (state old) → FileRun C state In steps old new → CrashLeaves (IsOnTheWay In steps stored) (state old).disk (state new).disk
+  pub leaves : (steps : List FileEvent) (s : Store) (stored : Stored) (old new : C) → IsAt In s stored (state old) → FileRun C state In steps old new
+      → CrashLeaves (IsOnTheWay In steps stored) (state old).disk (state new).disk
   leaves [] s stored old new at run =
       reads_leave (IsOnTheWay In [] stored) (state old).disk (state new).disk (image_at In s stored (state old) at)
       (subst (λ (c : C). OnlyReads (state old).disk (state c).disk) (sym run) (reads_here (state old).disk))
@@ -374,7 +406,8 @@ tried_none asked.GcStep at bytes stored = refl
 tried_none asked.Stat at bytes stored = refl
 
 -- where a step didn't stop the core, what it tried is what it did
-tried_same : (step : StepValue) (answer : Result Answer Refusal) (count : ℕ) (stop : Option Stop) (bytes : List ℕ) (stored : Stored) → stop ≡ None → StopsAfter step answer count stop → stored_tried step answer bytes stored ≡ stored_with step answer bytes stored
+tried_same : (step : StepValue) (answer : Result Answer Refusal) (count : ℕ) (stop : Option Stop) (bytes : List ℕ) (stored : Stored) → stop ≡ None
+    → StopsAfter step answer count stop → stored_tried step answer bytes stored ≡ stored_with step answer bytes stored
 tried_same (asked.Commit name root) (Err refusals.DiskWrite) count stop bytes stored none stops = absurd (let both = sym none ∙ stops in cc)
 tried_same (asked.Delete name) (Err refusals.DiskWrite) count stop bytes stored none stops = absurd (let both = sym none ∙ stops in cc)
 tried_same step answer count stop bytes stored none stops = refl
@@ -395,22 +428,26 @@ put_refused asked.GcStep refusal bytes stored = refl
 put_refused asked.Stat refusal bytes stored = refl
 
 -- what stopped the core put no file
-stop_puts_none : (step : StepValue) (answer : Result Answer Refusal) (count : ℕ) (stop : Option Stop) (s : Stop) (bytes : List ℕ) (stored : Stored) → stop ≡ Some s → StopsAfter step answer count stop → stored_with step answer bytes stored ≡ stored
+stop_puts_none : (step : StepValue) (answer : Result Answer Refusal) (count : ℕ) (stop : Option Stop) (s : Stop) (bytes : List ℕ) (stored : Stored) → stop ≡ Some s
+    → StopsAfter step answer count stop → stored_with step answer bytes stored ≡ stored
 stop_puts_none (asked.Seal filled) (Ok answer) count stop s bytes stored is stops = refl
 stop_puts_none (asked.Commit name root) (Ok answer) count stop s bytes stored is stops = absurd (let both = sym is ∙ stops in cc)
 stop_puts_none (asked.Delete name) (Ok answer) count stop s bytes stored is stops = absurd (let both = sym is ∙ stops in cc)
 stop_puts_none step (Ok answer) count stop s bytes stored is stops = refl
 stop_puts_none step (Err refusal) count stop s bytes stored is stops = put_refused step refusal bytes stored
 
-by_old_tried : (old : Option Stop) (f : FileEvent) (before after : CoreState) (stored : Stored) → StepsOr old f.event before after → after.stop ≡ None → stored_tried f.event.step f.event.answer f.bytes stored ≡ stored_by f stored
+by_old_tried : (old : Option Stop) (f : FileEvent) (before after : CoreState) (stored : Stored) → StepsOr old f.event before after → after.stop ≡ None
+    → stored_tried f.event.step f.event.answer f.bytes stored ≡ stored_by f stored
 by_old_tried None f before after stored steps none = tried_same f.event.step f.event.answer before.acknowledged after.stop f.bytes stored none steps.stops
 by_old_tried (Some stop) f before after stored steps none =
     ap (λ (a : Result Answer Refusal). stored_tried f.event.step a f.bytes stored) steps.answer_is ∙ tried_none f.event.step stop.at f.bytes stored
     ∙ sym (ap (λ (a : Result Answer Refusal). stored_with f.event.step a f.bytes stored) steps.answer_is ∙ put_none f.event.step stop.at f.bytes stored)
 
-by_old_none : (old : Option Stop) (f : FileEvent) (before after : CoreState) (stored : Stored) (s : Stop) → StepsOr old f.event before after → after.stop ≡ Some s → stored_by f stored ≡ stored
+by_old_none : (old : Option Stop) (f : FileEvent) (before after : CoreState) (stored : Stored) (s : Stop) → StepsOr old f.event before after → after.stop ≡ Some s
+    → stored_by f stored ≡ stored
 by_old_none None f before after stored s steps is = stop_puts_none f.event.step f.event.answer before.acknowledged after.stop s f.bytes stored is steps.stops
-by_old_none (Some stop) f before after stored s steps is = ap (λ (a : Result Answer Refusal). stored_with f.event.step a f.bytes stored) steps.answer_is ∙ put_none f.event.step stop.at f.bytes stored
+by_old_none (Some stop) f before after stored s steps is = ap (λ (a : Result Answer Refusal). stored_with f.event.step a f.bytes stored) steps.answer_is
+    ∙ put_none f.event.step stop.at f.bytes stored
 
 module _ (C : Type 0) (state : C → CoreState) (among : ByteSet) where
   stopped_files : (stop : Stop) (steps : List FileEvent) (stored : Stored) (old new : C) → (state old).stop ≡ Some stop → FileRun C state (IsIn among) steps old new
@@ -419,8 +456,10 @@ module _ (C : Type 0) (state : C → CoreState) (among : ByteSet) where
   stopped_files stop (f ∷ fs) stored old new is run =
       let made = subst (λ (o : Option Stop). StepsOr o f.event (state old) (state run.0)) is run.1.0.made in
       let rest = stopped_files stop fs stored run.0 new (made.same.stop_is ∙ is) run.1.1 in
-      let by : stored_by f stored ≡ stored = ap (λ (a : Result Answer Refusal). stored_with f.event.step a f.bytes stored) made.answer_is ∙ put_none f.event.step stop.at f.bytes stored in
-      let tried : stored_tried f.event.step f.event.answer f.bytes stored ≡ stored = ap (λ (a : Result Answer Refusal). stored_tried f.event.step a f.bytes stored) made.answer_is ∙ tried_none f.event.step stop.at f.bytes stored in
+      let by : stored_by f stored ≡ stored = ap (λ (a : Result Answer Refusal). stored_with f.event.step a f.bytes stored) made.answer_is
+      ∙ put_none f.event.step stop.at f.bytes stored in
+      let tried : stored_tried f.event.step f.event.answer f.bytes stored ≡ stored = ap (λ (a : Result Answer Refusal). stored_tried f.event.step a f.bytes stored) made.answer_is
+      ∙ tried_none f.event.step stop.at f.bytes stored in
       (ap (stored_after fs) by ∙ rest.0, ap (stored_tried_by fs) tried ∙ rest.1)
 
 module _ (C : Type 0) (state : C → CoreState) (among : ByteSet) (distinct : HasNoCollisions (IsIn among)) where
@@ -428,7 +467,8 @@ module _ (C : Type 0) (state : C → CoreState) (among : ByteSet) (distinct : Ha
   Ends steps stored image = OpensAs (IsIn among) (stored_after steps stored) image ⊎ OpensAs (IsIn among) (stored_tried_by steps stored) image
 
   -- the first step, and the end of the others where it didn't stop the core
-  ends_by : (f : FileEvent) (fs : List FileEvent) (s : Store) (stored : Stored) (old mid new : C) → IsAt (IsIn among) s stored (state old) → FileStep (IsIn among) f (state old) (state mid) → FileRun C state (IsIn among) fs mid new
+  ends_by : (f : FileEvent) (fs : List FileEvent) (s : Store) (stored : Stored) (old mid new : C) → IsAt (IsIn among) s stored (state old)
+      → FileStep (IsIn among) f (state old) (state mid) → FileRun C state (IsIn among) fs mid new
       → (image : List ℕ) → (state new).disk.images image → ((t : Store) → IsAt (IsIn among) t (stored_by f stored) (state mid) → Ends fs (stored_by f stored) image)
       → (stop : Option Stop) → (state mid).stop ≡ stop → Ends (f ∷ fs) stored image
   ends_by f fs s stored old mid new at step run image there others None is =

@@ -136,7 +136,8 @@ module _ (among : ByteSet) (s : Store) (stored : Stored) (old new : CoreState) (
         differ = differ;
       }
 
-  by_length : (kind : Kind) (offered key : List ℕ) (mine other : ℕ) → IsAmong (IsIn among) kind offered → Unlike kind offered (refusals.Clash key (Length mine other)) → IsTwin kind offered
+  by_length : (kind : Kind) (offered key : List ℕ) (mine other : ℕ) → IsAmong (IsIn among) kind offered → Unlike kind offered (refusals.Clash key (Length mine other))
+      → IsTwin kind offered
   by_length kinds.Leaf offered key mine other is u =
       let r = refusals.Clash key (Length mine other) in
       absurd (u.refused.3 (u.refused.1 ∙ ap length (sym (same_data offered r u is)) ∙ long kinds.Leaf offered r u ∙ sym u.refused.2))
@@ -174,21 +175,24 @@ module _ (among : ByteSet) (s : Store) (stored : Stored) (old new : CoreState) (
   -- ---- each step
 
   module _ (actor : ℕ) (buf bytes : List ℕ) where
-    claim_harmless : (seg : KindSegment) (refusal : Refusal) → IsAmong (IsIn among) seg.kind seg.segment.bytes → ClaimRow seg actor (Err refusal) old new → IsHarmless (IsTwin seg.kind seg.segment.bytes) refusal
+    claim_harmless : (seg : KindSegment) (refusal : Refusal) → IsAmong (IsIn among) seg.kind seg.segment.bytes → ClaimRow seg actor (Err refusal) old new
+        → IsHarmless (IsTwin seg.kind seg.segment.bytes) refusal
     claim_harmless seg (refusals.Clash key d) is row = unlike seg.kind seg.segment.bytes (refusals.Clash key d) is row.0.1
     claim_harmless seg (refusals.Corrupt slot offset count want got) is row = unlike seg.kind seg.segment.bytes (refusals.Corrupt slot offset count want got) is row.0.1
     claim_harmless seg (refusals.Missing key) is row = unlike seg.kind seg.segment.bytes (refusals.Missing key) is row.0.1
     claim_harmless seg (refusals.Damaged at_byte why) is row = map_known row.0.1.0
     claim_harmless seg refusal is row = tt
 
-    seal_harmless : (filled : Contents) (refusal : Refusal) → AllByRecursion (λ s. IsAmong (IsIn among) filled.kind s.bytes) filled.segments → SealRow filled actor (Err refusal) old new
+    seal_harmless : (filled : Contents) (refusal : Refusal) → AllByRecursion (λ s. IsAmong (IsIn among) filled.kind s.bytes) filled.segments
+        → SealRow filled actor (Err refusal) old new
         → IsHarmless (MayClash (asked.Seal filled)) refusal
     seal_harmless filled (refusals.Clash key d) all row =
         let first = row.0.2 in
         record {
           number = first.number;
           within = first.within;
-          is_twin = unlike filled.kind (segment_at filled.segments first.number).bytes (refusals.Clash key d) (all_at (λ s. IsAmong (IsIn among) filled.kind s.bytes) filled.segments first.number first.within all) first.unlike;
+          is_twin = unlike filled.kind (segment_at filled.segments first.number).bytes (refusals.Clash key d)
+              (all_at (λ s. IsAmong (IsIn among) filled.kind s.bytes) filled.segments first.number first.within all) first.unlike;
         }
     seal_harmless filled (refusals.Corrupt slot offset count want got) all row =
         let first = row.0.2 in
@@ -244,7 +248,8 @@ module _ (among : ByteSet) (s : Store) (stored : Stored) (old new : CoreState) (
     stuck : (refusal : Refusal) → IsNotGiven refusal buf actor old new → IsStuck old.known old.breaks old.disk new.disk actor old.parts new.parts refusal
         → (counts : ByteSet) × ((rest : List Top) × ((segments : List (List ℕ)) × IsHeldAnswer counts s.held image rest segments buf (Err refusal)))
     stuck refusal row cause =
-        stuck_held among s stored.files image at.index actor buf old new here at.index_known (at.represents.index_is_newest at.index at.index_known) (at.invariant image here).files_are_indexed at.represents.names_are.names_are stands_here distinct
+        stuck_held among s stored.files image at.index actor buf old new here at.index_known (at.represents.index_is_newest at.index at.index_known)
+        (at.invariant image here).files_are_indexed at.represents.names_are.names_are stands_here distinct
         (at.invariant image here).pins_are_closed refusal row cause
 
     read_harmless : (refusal : Refusal) → ReadRow actor (Err refusal) buf old new → IsHarmless ⊥ refusal
@@ -268,7 +273,8 @@ module _ (among : ByteSet) (s : Store) (stored : Stored) (old new : CoreState) (
     gc_clean : (refusal : Refusal) → IsNotMade refusal old new → IsClean refusal
     gc_clean refusal row =
         let c = row.before in
-        no_damage at.index s stored.files old.parts image old.tables old.disk new.disk c refusal stands_here.holds (subst (λ (known : Option PlaceMap). Represents s known old.tables) at.index_known at.represents) here
+        no_damage at.index s stored.files old.parts image old.tables old.disk new.disk c refusal stands_here.holds
+        (subst (λ (known : Option PlaceMap). Represents s known old.tables) at.index_known at.represents) here
         (subst (IsUnderWayIn old.tables.held) row.ran at.under_way) (marked_at c c.stage (subst (IsSafeIn at.index s old.parts image) row.ran (at.safe image here)))
         (subst (λ (k : Option PlaceMap). IsStepRefusal c.stage c.sweep.next (moment old.tables k old.disk c) new.disk refusal) at.index_known row.cause)
 
@@ -279,7 +285,8 @@ module _ (among : ByteSet) (s : Store) (stored : Stored) (old new : CoreState) (
     gc_harmless (refusals.Damaged at_byte why) row = gc_clean (refusals.Damaged at_byte why) row.0
     gc_harmless refusal row = tt
 
-    step_harmless : (step : StepValue) (refusal : Refusal) → IsGivenRight (IsIn among) step (Err refusal) bytes old → Row step actor (Err refusal) buf old new → IsHarmless (MayClash step) refusal
+    step_harmless : (step : StepValue) (refusal : Refusal) → IsGivenRight (IsIn among) step (Err refusal) bytes old → Row step actor (Err refusal) buf old new
+        → IsHarmless (MayClash step) refusal
     step_harmless asked.Begin refusal given row = other_harmless part.Idle refusal row
     step_harmless (asked.Claim seg) refusal given row = claim_harmless seg refusal given row
     step_harmless (asked.Seal filled) refusal given row = seal_harmless filled refusal given row
@@ -301,7 +308,8 @@ module _ (among : ByteSet) (s : Store) (stored : Stored) (old new : CoreState) (
 
     -- ---- names
 
-    named_file : (named : Option Named) (file : Option (List ℕ)) (n : Named) → named ≡ Some n → IsFileOf s.held image named file → (bytes : List ℕ) × ((file ≡ Some bytes) × (n.root ≡ root_of bytes))
+    named_file : (named : Option Named) (file : Option (List ℕ)) (n : Named) → named ≡ Some n → IsFileOf s.held image named file → (bytes : List ℕ)
+        × ((file ≡ Some bytes) × (n.root ≡ root_of bytes))
     named_file None file n is f = absurd cc
     named_file (Some m) None n is f = absurd f
     named_file (Some m) (Some b) n is f = (b, (refl, ap (λ (x : Named). x.root) (sym (some_one m n is)) ∙ f.0))
@@ -321,17 +329,20 @@ module _ (among : ByteSet) (s : Store) (stored : Stored) (old new : CoreState) (
     open_finds : (name : List ℕ) (answer : Result Answer Refusal) → OpenRow name actor answer old new → FindsFile stored.files (asked.OpenRead name) answer
     open_finds name (Ok (answers.Opened count)) row =
         let has = row.opens.begins.has_root in
-        let file = named_file (named_of name) (finite.get stored.files name) (record { sequence = has.sequence; root = row.opens.root }) (ap (λ (names : NameMap). finite.get names name) (sym same_names) ∙ has.found) (stands_here.holds.files_are name) in
+        let file = named_file (named_of name) (finite.get stored.files name) (record { sequence = has.sequence; root = row.opens.root })
+        (ap (λ (names : NameMap). finite.get names name) (sym same_names) ∙ has.found) (stands_here.holds.files_are name) in
         (file.0, (file.1.0, row.opens.count_is ∙ ap (λ (r : Root). r.length) file.1.1))
     open_finds name (Err refusals.NoFile) row =
-        unnamed_file (named_of name) (finite.get stored.files name) (ap (λ (names : NameMap). finite.get names name) (sym same_names) ∙ row.0.1.1) (stands_here.holds.files_are name)
+        unnamed_file (named_of name) (finite.get stored.files name) (ap (λ (names : NameMap). finite.get names name) (sym same_names) ∙ row.0.1.1)
+        (stands_here.holds.files_are name)
     open_finds name answer row = tt
 
     -- a name that is there has a file
     has_file : (name : List ℕ) → IsSome (finite.get old.tables.names name) → (bytes : List ℕ) × (finite.get stored.files name ≡ Some bytes)
     has_file name is =
         let there = some_named (finite.get old.tables.names name) is in
-        let file = named_file (named_of name) (finite.get stored.files name) there.0 (ap (λ (names : NameMap). finite.get names name) (sym same_names) ∙ there.1) (stands_here.holds.files_are name) in
+        let file = named_file (named_of name) (finite.get stored.files name) there.0 (ap (λ (names : NameMap). finite.get names name) (sym same_names) ∙ there.1)
+        (stands_here.holds.files_are name) in
         (file.0, file.1.0)
 
     delete_finds : (name : List ℕ) (answer : Result Answer Refusal) → DeleteRow name answer old new → FindsFile stored.files (asked.Delete name) answer
@@ -368,24 +379,29 @@ stopped_finds files asked.ListNames at = tt
 stopped_finds files step at = tt
 
 module _ (C : Type 0) (state : C → CoreState) where
-  harmless_by : (among : ByteSet) (steps : List FileEvent) (f : FileEvent) (s : Store) (stored : Stored) (old mid new : C) → HasNoCollisions (IsIn among) → IsAt (IsIn among) s stored (state old) → FileRun C state (IsIn among) steps old mid
+  harmless_by : (among : ByteSet) (steps : List FileEvent) (f : FileEvent) (s : Store) (stored : Stored) (old mid new : C) → HasNoCollisions (IsIn among)
+      → IsAt (IsIn among) s stored (state old) → FileRun C state (IsIn among) steps old mid
       → FileStep (IsIn among) f (state mid) (state new) → (stop : Option Stop) → (state mid).stop ≡ stop → StepsOr stop f.event (state mid) (state new)
       → IfErr f.event.answer (λ refusal. IsHarmless (MayClash f.event.step) refusal)
   harmless_by among steps f s stored old mid new distinct at run step None is made =
       let reached = keeps_files C state among steps s stored old mid distinct at run is in
-      answer_harmless among reached.store (stored_after steps stored) (state mid) (state new) distinct reached.is_at f.event.actor f.event.buf f.bytes f.event.step f.event.answer step.given made.made.row
+      answer_harmless among reached.store (stored_after steps stored) (state mid)
+      (state new) distinct reached.is_at f.event.actor f.event.buf f.bytes f.event.step f.event.answer step.given made.made.row
   harmless_by among steps f s stored old mid new distinct at run step (Some stop) is made = stopped_harmless f.event.step f.event.answer stop.at made.answer_is
 
   pub never_damaged : NeverDamaged C state
   never_damaged among steps f s stored old mid new distinct at run step = harmless_by among steps f s stored old mid new distinct at run step (state mid).stop refl step.made
 
-  finds_by : (among : ByteSet) (steps : List FileEvent) (f : FileEvent) (s : Store) (stored : Stored) (old mid new : C) → HasNoCollisions (IsIn among) → IsAt (IsIn among) s stored (state old) → FileRun C state (IsIn among) steps old mid
+  finds_by : (among : ByteSet) (steps : List FileEvent) (f : FileEvent) (s : Store) (stored : Stored) (old mid new : C) → HasNoCollisions (IsIn among)
+      → IsAt (IsIn among) s stored (state old) → FileRun C state (IsIn among) steps old mid
       → (stop : Option Stop) → (state mid).stop ≡ stop → StepsOr stop f.event (state mid) (state new) → FindsFile (stored_after steps stored).files f.event.step f.event.answer
   finds_by among steps f s stored old mid new distinct at run None is made =
       let reached = keeps_files C state among steps s stored old mid distinct at run is in
-      step_finds among reached.store (stored_after steps stored) (state mid) (state new) distinct reached.is_at f.event.actor f.event.buf f.bytes f.event.step f.event.answer made.made.row
+      step_finds among reached.store (stored_after steps stored) (state mid)
+      (state new) distinct reached.is_at f.event.actor f.event.buf f.bytes f.event.step f.event.answer made.made.row
   finds_by among steps f s stored old mid new distinct at run (Some stop) is made =
-      subst (λ (a : Result Answer Refusal). FindsFile (stored_after steps stored).files f.event.step a) (sym made.answer_is) (stopped_finds (stored_after steps stored).files f.event.step stop.at)
+      subst (λ (a : Result Answer Refusal). FindsFile (stored_after steps stored).files f.event.step a) (sym made.answer_is)
+      (stopped_finds (stored_after steps stored).files f.event.step stop.at)
 
   pub finds_files : FindsFiles C state
   finds_files among steps f s stored old mid new distinct at run step = finds_by among steps f s stored old mid new distinct at run (state mid).stop refl step.made

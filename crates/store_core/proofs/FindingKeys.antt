@@ -67,7 +67,8 @@ module _ (s : Store) (index : PlaceMap) (headers : AreHeaders s.held) (partial :
     apart_here apart = λ slot h g there shown digest. apart slot h g there (since first old.disk new.disk m.reads shown) digest
 
     -- the tables, and the map of the index, are as they were, and the disk was only read
-    marking_on : (after : Collection) → new.collection ≡ Some after → KeepsTables old new → OnlyReads old.disk new.disk → (AreApart new → IsFinding index s headers partial after roots) → IsMarking new
+    marking_on : (after : Collection) → new.collection ≡ Some after → KeepsTables old new → OnlyReads old.disk new.disk
+        → (AreApart new → IsFinding index s headers partial after roots) → IsMarking new
     marking_on after runs keeps reads finding = record {
       c = after;
       runs = runs;
@@ -86,11 +87,14 @@ module _ (s : Store) (index : PlaceMap) (headers : AreHeaders s.held) (partial :
       gc_marks : (answer : Result Answer Refusal) → GcRow answer old new → GcEffect answer old new → IsMarking new
       gc_marks answer row effect = elim (gc_goes old new m.c m.runs early answer row) [
         | inl gone ↦ marking_on gone.after gone.now_runs gone.keeps reads
-            (λ apart. scan_finds index s headers partial old.tables.held m.slots old.disk new.disk level slot some_level m.c gone.after roots was (finding_then apart) (apart_here apart)
-            (subst (λ (k : Option PlaceMap). Scans old.tables.held k old.disk new.disk level slot m.c gone.after) m.known_is (has_scanned old new m.c m.runs early level slot was gone)))
+            (λ apart. scan_finds index s headers partial old.tables.held m.slots old.disk new.disk level slot some_level m.c gone.after roots was (finding_then apart)
+            (apart_here apart)
+            (subst (λ (k : Option PlaceMap). Scans old.tables.held k old.disk new.disk level slot m.c gone.after) m.known_is
+            (has_scanned old new m.c m.runs early level slot was gone)))
         | inr (refusal, refused) ↦ marking_on refused.after refused.now_runs refused.keeps reads
             (λ apart. refusal_finds index s headers partial old.tables.held m.slots old.disk new.disk level slot some_level m.c refused.after roots was (finding_then apart) refusal
-            (subst (λ (k : Option PlaceMap). KeepsMarks k old.disk new.disk level slot m.c refused.after refusal) m.known_is (has_not_scanned old new m.c m.runs early level slot was refusal refused)))
+            (subst (λ (k : Option PlaceMap). KeepsMarks k old.disk new.disk level slot m.c refused.after refusal) m.known_is
+            (has_not_scanned old new m.c m.runs early level slot was refusal refused)))
       ]
         where
           early : IsNoSweep m.c.stage
@@ -102,7 +106,8 @@ module _ (s : Store) (index : PlaceMap) (headers : AreHeaders s.held) (partial :
     all_found : HasMarkedAll m.c.stage → IsSoFar new
     all_found marked = inr (λ apart. found_all index s headers partial m.c roots (finding_then apart) marked)
 
-    by_stage : (stage : Stage) → m.c.stage ≡ stage → IsUnderWayIn old.tables.held old.collection → (answer : Result Answer Refusal) → GcRow answer old new → GcEffect answer old new → IsSoFar new
+    by_stage : (stage : Stage) → m.c.stage ≡ stage → IsUnderWayIn old.tables.held old.collection → (answer : Result Answer Refusal) → GcRow answer old new
+        → GcEffect answer old new → IsSoFar new
     by_stage (Mark level slot) was under_way answer row effect = inl (gc_marks level slot was under_way answer row effect)
     by_stage (Filter slot) was under_way answer row effect = all_found (subst HasMarkedAll (sym was) tt)
     by_stage Select was under_way answer row effect = all_found (subst HasMarkedAll (sym was) tt)
@@ -117,7 +122,8 @@ module _ (s : Store) (index : PlaceMap) (headers : AreHeaders s.held) (partial :
 
 -- ---- steps, one after the other
 
-module _ (C : Type 0) (state : C → CoreState) (s : Store) (index : PlaceMap) (headers : AreHeaders s.held) (partial : IsPartialIndexOf s.held index) (roots : RootKeys) (first : DiskView) where
+module _ (C : Type 0) (state : C → CoreState) (s : Store) (index : PlaceMap) (headers : AreHeaders s.held) (partial : IsPartialIndexOf s.held index) (roots : RootKeys)
+    (first : DiskView) where
   finds_on : (events : List Event) (mid new : C) → IsRunning (state mid) → CoreRun C state events mid new → AreItsSteps events → first.clock ≤ (state mid).disk.clock
       → IsSoFar s index headers partial roots first (state mid) → IsSoFar s index headers partial roots first (state new)
   finds_on [] mid new up run its clock so = subst (λ (c : C). IsSoFar s index headers partial roots first (state c)) (sym run) so
@@ -132,7 +138,8 @@ module _ (C : Type 0) (state : C → CoreState) (s : Store) (index : PlaceMap) (
       by_case (inr found) = inr (λ apart. found (apart_before s index headers partial roots first (state mid) (state run.0) clock later apart))
 
 module _ (C : Type 0) (state : C → CoreState) where
-  module _ (actor percent snapshot : ℕ) (buf : List ℕ) (events : List Event) (s : Store) (index : PlaceMap) (old begun new : C) (up : IsRunning (state old)) (runs : (state old).stop ≡ None) (indexed : IsIndexed s index (state old))
+  module _ (actor percent snapshot : ℕ) (buf : List ℕ) (events : List Event) (s : Store) (index : PlaceMap) (old begun new : C) (up : IsRunning (state old))
+      (runs : (state old).stop ≡ None) (indexed : IsIndexed s index (state old))
       (began : CoreStep (state old) (starts actor percent snapshot buf) (state begun)) (run : CoreRun C state events begun new) (its : AreItsSteps events) where
     abbrev roots : RootKeys
     roots = roots_of (state old).tables.names (state old).parts
@@ -145,7 +152,8 @@ module _ (C : Type 0) (state : C → CoreState) where
 
     so_far : IsSoFar s index indexed.headers partial roots first (state new)
     so_far =
-        finds_on C state s index indexed.headers partial roots first events begun new (step_runs (state old) (state begun) (starts actor percent snapshot buf) began up) run its (omega arith) (inl so)
+        finds_on C state s index indexed.headers partial roots first events begun new (step_runs (state old) (state begun) (starts actor percent snapshot buf) began up) run its
+        (omega arith) (inl so)
       where
         steps : Steps (starts actor percent snapshot buf) (state old) (state begun)
         steps = running_step (state old) (state begun) (starts actor percent snapshot buf) runs began
@@ -167,10 +175,12 @@ module _ (C : Type 0) (state : C → CoreState) where
         }
 
     -- However far it came, it only read, or had found all.
-    pub reads_or_finds : OnlyReads (state begun).disk (state new).disk ⊎ (HeadersAreApart s.held (state begun).disk (state new).disk → FindsAll index (roots_of (state old).tables.names (state old).parts))
+    pub reads_or_finds : OnlyReads (state begun).disk (state new).disk
+        ⊎ (HeadersAreApart s.held (state begun).disk (state new).disk → FindsAll index (roots_of (state old).tables.names (state old).parts))
     reads_or_finds = by_case so_far
       where
-        by_case : IsSoFar s index indexed.headers partial roots first (state new) → OnlyReads (state begun).disk (state new).disk ⊎ (HeadersAreApart s.held (state begun).disk (state new).disk → FindsAll index roots)
+        by_case : IsSoFar s index indexed.headers partial roots first (state new) → OnlyReads (state begun).disk (state new).disk
+            ⊎ (HeadersAreApart s.held (state begun).disk (state new).disk → FindsAll index roots)
         by_case (inl m) = inl m.reads
         by_case (inr found) = inr found
 
@@ -178,7 +188,8 @@ module _ (C : Type 0) (state : C → CoreState) where
   finds_keys actor percent snapshot buf events s index old begun new c up runs indexed began run its apart is marked =
       by_end (so_far actor percent snapshot buf events s index old begun new up runs indexed began run its)
     where
-      by_end : IsSoFar s index indexed.headers (indexed.represents.index_is_newest index indexed.known_is) (roots_of (state old).tables.names (state old).parts) (state begun).disk (state new)
+      by_end : IsSoFar s index indexed.headers (indexed.represents.index_is_newest index indexed.known_is) (roots_of (state old).tables.names (state old).parts) (state begun).disk
+          (state new)
           → FindsAll index (roots_of (state old).tables.names (state old).parts)
       by_end (inl m) =
           found_all index s indexed.headers (indexed.represents.index_is_newest index indexed.known_is) m.c (roots_of (state old).tables.names (state old).parts) (m.finding apart)

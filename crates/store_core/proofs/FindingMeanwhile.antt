@@ -85,7 +85,8 @@ tail_is a b xs ys same = cc
 -- ---- a segment that is sealed, by its key
 
 -- its children are pinned, so it is one of data, or a node whose children have Q
-sealed_node : (Q : List ℕ → Type 0) (pins : PinMap) → ((key : List ℕ) → IsPartKey (Writing pins) key → Q key) → (kind : Kind) (segments : List Segment) → AreStepSegments kind segments
+sealed_node : (Q : List ℕ → Type 0) (pins : PinMap) → ((key : List ℕ) → IsPartKey (Writing pins) key → Q key) → (kind : Kind) (segments : List Segment)
+    → AreStepSegments kind segments
     → first_unpinned_of kind segments pins ≡ None → (key : List ℕ) → Contains (map (segment_key kind) segments) key → IsDataKey key ⊎ HasChildren Q key
 sealed_node Q pins has kind [] right none key among = absurd (contains_none key among)
 sealed_node Q pins has kind (x ∷ xs) right none key among =
@@ -136,7 +137,8 @@ module _ (first : List (Option HeaderValue)) (roots : RootKeys) where
     abbrev Gaining : (List ℕ → Type 0) → Store → PlaceMap → LiveKeys → Type 1
     Gaining P store later live = Gains m.index m.store m.valid.headers partial P store.held later m.c live old.tables.names new.tables.names old.parts new.parts
 
-    goes_on : (P : List ℕ → Type 0) (store : Store) (later : PlaceMap) (live : LiveKeys) → new.collection ≡ Some (record m.c { live = live }) → new.known ≡ Some later → Represents store new.known new.tables
+    goes_on : (P : List ℕ → Type 0) (store : Store) (later : PlaceMap) (live : LiveKeys) → new.collection ≡ Some (record m.c { live = live }) → new.known ≡ Some later
+        → Represents store new.known new.tables
         → IsValidFor new.disk.size store → Gaining P store later live → IsFinding new
     goes_on P store later live runs known represents valid gains = record {
       c = record m.c { live = live };
@@ -151,13 +153,15 @@ module _ (first : List (Option HeaderValue)) (roots : RootKeys) where
 
     -- ---- a step that leaves tables and index as they were
 
-    rests_on : (P : List ℕ → Type 0) (live : LiveKeys) → new.collection ≡ Some (record m.c { live = live }) → IsLater old.disk new.disk → KeepsTables old new → Gaining P m.store m.index live → IsFinding new
+    rests_on : (P : List ℕ → Type 0) (live : LiveKeys) → new.collection ≡ Some (record m.c { live = live }) → IsLater old.disk new.disk → KeepsTables old new
+        → Gaining P m.store m.index live → IsFinding new
     rests_on P live runs later keeps gains =
         goes_on P m.store m.index live runs (keeps.index_is ∙ m.known_is)
         (subst (λ (known : Option PlaceMap). Represents m.store known new.tables) (sym keeps.index_is) (subst (Represents m.store old.known) (sym keeps.tables_are) m.represents))
         (subst (λ (size : ℕ). IsValidFor size m.store) (sym later.size_is) m.valid) gains
 
-    none_gained : (store : Store) (live : LiveKeys) → store.held ≡ m.store.held → Marks (λ key. ⊥) m.c.live live → ((key : List ℕ) → IsRoot new.tables.names new.parts key → IsRoot old.tables.names old.parts key)
+    none_gained : (store : Store) (live : LiveKeys) → store.held ≡ m.store.held → Marks (λ key. ⊥) m.c.live live
+        → ((key : List ℕ) → IsRoot new.tables.names new.parts key → IsRoot old.tables.names old.parts key)
         → Gaining (λ key. ⊥) store m.index live
     none_gained store live held marks fewer = record {
       marks = marks;
@@ -175,13 +179,16 @@ module _ (first : List (Option HeaderValue)) (roots : RootKeys) where
     unmarked = marks_none (λ key. ⊥) m.c.live (λ key none. none)
 
     -- it brings no root
-    still : KeepsTables old new → ((key : List ℕ) → IsRoot old.tables.names new.parts key → IsRoot old.tables.names old.parts key) → (key : List ℕ) → IsRoot new.tables.names new.parts key → IsRoot old.tables.names old.parts key
+    still : KeepsTables old new → ((key : List ℕ) → IsRoot old.tables.names new.parts key → IsRoot old.tables.names old.parts key) → (key : List ℕ)
+        → IsRoot new.tables.names new.parts key → IsRoot old.tables.names old.parts key
     still keeps fewer key root = fewer key (subst (λ (t : Tables). IsRoot t.names new.parts key) keeps.tables_are root)
 
-    none_brought : new.collection ≡ old.collection → IsLater old.disk new.disk → KeepsTables old new → ((key : List ℕ) → IsRoot old.tables.names new.parts key → IsRoot old.tables.names old.parts key) → IsFinding new
+    none_brought : new.collection ≡ old.collection → IsLater old.disk new.disk → KeepsTables old new
+        → ((key : List ℕ) → IsRoot old.tables.names new.parts key → IsRoot old.tables.names old.parts key) → IsFinding new
     none_brought collects later keeps fewer = rests_on (λ key. ⊥) m.c.live (collects ∙ m.runs) later keeps (none_gained m.store m.c.live refl unmarked (still keeps fewer))
 
-    part_rests : (answer : Result Answer Refusal) → new.collection ≡ old.collection → Rests answer old new → ((key : List ℕ) → IsRoot old.tables.names new.parts key → IsRoot old.tables.names old.parts key) → IsFinding new
+    part_rests : (answer : Result Answer Refusal) → new.collection ≡ old.collection → Rests answer old new
+        → ((key : List ℕ) → IsRoot old.tables.names new.parts key → IsRoot old.tables.names old.parts key) → IsFinding new
     part_rests answer collects effect fewer = none_brought collects effect.disk.only.later effect.tables fewer
 
     -- which keys became live, where a collection runs
@@ -203,12 +210,14 @@ module _ (first : List (Option HeaderValue)) (roots : RootKeys) where
       pin_root : (pins : PinMap) → part_of old.parts actor ≡ Writing pins → (key : List ℕ) → IsPartKey (Writing pins) key → IsRoot old.tables.names old.parts key
       pin_root pins writing key pinned = inr (actor, (below pins writing, subst (λ (p : Part). IsPartKey p key) (sym writing) pinned))
 
-      none_claimed : (seg : KindSegment) (answer : Result Answer Refusal) → new.parts ≡ old.parts → Rests answer old new → MarksIn (λ key. ⊥) old.collection new.collection → IsFinding new
+      none_claimed : (seg : KindSegment) (answer : Result Answer Refusal) → new.parts ≡ old.parts → Rests answer old new → MarksIn (λ key. ⊥) old.collection new.collection
+          → IsFinding new
       none_claimed seg answer parts effect marks =
           let is = marked_in (λ key. ⊥) marks in
           rests_on (λ key. ⊥) is.0 is.1.0 effect.disk.only.later effect.tables (none_gained m.store is.0 refl is.1.1 (still effect.tables (same_parts parts)))
 
-      claimed : (seg : KindSegment) (answer : Result Answer Refusal) → IsStepSegment seg → ClaimRow seg actor answer old new → Rests answer old new → Collects (asked.Claim seg) answer old new → IsFinding new
+      claimed : (seg : KindSegment) (answer : Result Answer Refusal) → IsStepSegment seg → ClaimRow seg actor answer old new → Rests answer old new
+          → Collects (asked.Claim seg) answer old new → IsFinding new
       claimed seg (Ok answers.Held) right row effect collects = rests_on P marks.0 marks.1.0 effect.disk.only.later effect.tables (record {
         marks = marks.1.1;
         decided = one_or_other segment;
@@ -240,7 +249,8 @@ module _ (first : List (Option HeaderValue)) (roots : RootKeys) where
 
           by_root : (key : List ℕ) → IsRoot old.tables.names old.parts key ⊎ IsPartKey (Writing more) key → IsRoot old.tables.names old.parts key ⊎ (key ≡ segment)
           by_root key (inl before) = inl before
-          by_root key (inr pinned) = elim ((one_more may.pins segment (pin_of seg) key).0 pinned) [ inl before ↦ inl (pin_root may.pins may.writing key before) | inr same ↦ inr same ]
+          by_root key (inr pinned) = elim
+              ((one_more may.pins segment (pin_of seg) key).0 pinned) [ inl before ↦ inl (pin_root may.pins may.writing key before) | inr same ↦ inr same ]
       claimed seg (Ok answers.Absent) right row effect collects = none_claimed seg (Ok answers.Absent) row.claimed.parts_are effect collects
       claimed seg (Err refusal) right row effect collects = none_claimed seg (Err refusal) row.1 effect collects
       claimed seg answer right row effect collects = absurd row
@@ -250,7 +260,8 @@ module _ (first : List (Option HeaderValue)) (roots : RootKeys) where
       free : HasFree m.store.held
       free = omega (arith, room_before old.tables.held m.c m.c.stage early under_way.stage_is, free_held m.store.held old.tables.held m.represents.slots_hold m.valid.headers)
 
-      sealed : (filled : Contents) (id : ℕ) → AreStepSegments filled.kind filled.segments → SealRow filled actor (Ok (answers.Sealed id)) old new → SealsOne filled (Ok (answers.Sealed id)) old new
+      sealed : (filled : Contents) (id : ℕ) → AreStepSegments filled.kind filled.segments → SealRow filled actor (Ok (answers.Sealed id)) old new
+          → SealsOne filled (Ok (answers.Sealed id)) old new
           → Collects (asked.Seal filled) (Ok (answers.Sealed id)) old new → IsFinding new
       sealed filled id right row effect collects = goes_on P t later.0 marks.0 marks.1.0 later.1 represents (made.valid.store_has m.store m.represents m.valid free) (record {
         marks = marks.1.1;
@@ -263,7 +274,8 @@ module _ (first : List (Option HeaderValue)) (roots : RootKeys) where
         stands = stays_there header m.store.held;
         came = λ at h there. by_slot at h (with_there (first_free m.store.held) header m.store.held at h there);
         roots_are = λ key root. by_root key (part_root old.tables.names old.parts actor (Writing more) key
-            (subst (λ (p : List Part). IsRoot old.tables.names p key) row.parts_are (subst (λ (n : NameMap). IsRoot n new.parts key) (represents.names_are.names_are ∙ sym names_are) root)));
+            (subst (λ (p : List Part). IsRoot old.tables.names p key) row.parts_are
+            (subst (λ (n : NameMap). IsRoot n new.parts key) (represents.names_are.names_are ∙ sym names_are) root)));
         nodes = λ Q have. sealed_node Q may.pins (λ k pinned. have k (pin_root may.pins may.writing k pinned)) filled.kind filled.segments right may.pinned;
       })
         where
@@ -303,10 +315,12 @@ module _ (first : List (Option HeaderValue)) (roots : RootKeys) where
 
           by_root : (key : List ℕ) → IsRoot old.tables.names old.parts key ⊎ IsPartKey (Writing more) key → IsRoot old.tables.names old.parts key ⊎ P key
           by_root key (inl before) = inl before
-          by_root key (inr pinned) = elim ((pins_more filled.kind filled.segments may.pins key).0 pinned) [ inl before ↦ inl (pin_root may.pins may.writing key before) | inr among ↦ inr among ]
+          by_root key (inr pinned) = elim
+              ((pins_more filled.kind filled.segments may.pins key).0 pinned) [ inl before ↦ inl (pin_root may.pins may.writing key before) | inr among ↦ inr among ]
 
       -- one that is refused stops the core, or leaves tables and index as they were
-      unsealed : (filled : Contents) (refusal : Refusal) → SealRow filled actor (Err refusal) old new → SealsOne filled (Err refusal) old new → Collects (asked.Seal filled) (Err refusal) old new
+      unsealed : (filled : Contents) (refusal : Refusal) → SealRow filled actor (Err refusal) old new → SealsOne filled (Err refusal) old new
+          → Collects (asked.Seal filled) (Err refusal) old new
           → StopsAfter (asked.Seal filled) (Err refusal) old.acknowledged new.stop → new.stop ≡ None → IsFinding new
       unsealed filled refusal row effect collects stops stays =
           let keeps = seal_kept old new stays filled refusal old.acknowledged stops effect.kept in
@@ -316,7 +330,8 @@ module _ (first : List (Option HeaderValue)) (roots : RootKeys) where
       -- ---- a name
 
       named : (name : List ℕ) (change : Change) (answer : Answer) → NamesOne name change (Ok answer) old new → new.collection ≡ old.collection
-          → ((key : List ℕ) → IsRoot (names_changed (suc (last_sequence m.store)) name change old.tables.names) new.parts key → IsRoot old.tables.names old.parts key) → IsFinding new
+          → ((key : List ℕ) → IsRoot (names_changed (suc (last_sequence m.store)) name change old.tables.names) new.parts key → IsRoot old.tables.names old.parts key)
+          → IsFinding new
       named name change answer effect collects fewer =
           let t : Store = with_change name change m.store in
           let represents = effect.made.represents.store_has m.store m.represents m.valid free in
@@ -325,16 +340,19 @@ module _ (first : List (Option HeaderValue)) (roots : RootKeys) where
           goes_on (λ key. ⊥) t m.index m.c.live (collects ∙ m.runs) (effect.index ∙ m.known_is) represents (effect.made.valid.store_has m.store m.represents m.valid free)
           (none_gained t m.c.live refl unmarked (λ key root. fewer key (subst (λ (n : NameMap). IsRoot n new.parts key) names root)))
 
-      committed : (name : List ℕ) (root : Root) (answer : Result Answer Refusal) → CommitRow name root actor answer old new → NamesOne name (Put root) answer old new → new.collection ≡ old.collection → IsFinding new
+      committed : (name : List ℕ) (root : Root) (answer : Result Answer Refusal) → CommitRow name root actor answer old new → NamesOne name (Put root) answer old new
+          → new.collection ≡ old.collection → IsFinding new
       committed name root (Ok (answers.Committed sequence)) row effect collects =
           let may = row.0 in
           named name (Put root) (answers.Committed sequence) effect collects (λ key is.
-          committed_root (suc (last_sequence m.store)) name root old.tables.names old.parts actor may.pins (below may.pins may.writing) may.writing (stored_pin may.pins root may.stored) key
+          committed_root (suc (last_sequence m.store)) name root old.tables.names old.parts actor may.pins (below may.pins may.writing) may.writing
+          (stored_pin may.pins root may.stored) key
           (subst (λ (p : List Part). IsRoot (names_changed (suc (last_sequence m.store)) name (Put root) old.tables.names) p key) row.2 is))
       committed name root (Err refusal) row effect collects = none_brought collects effect.disk.later effect.kept (same_parts row.1)
       committed name root answer row effect collects = absurd row
 
-      deleted : (name : List ℕ) (answer : Result Answer Refusal) → DeleteRow name answer old new → NamesOne name Delete answer old new → new.collection ≡ old.collection → IsFinding new
+      deleted : (name : List ℕ) (answer : Result Answer Refusal) → DeleteRow name answer old new → NamesOne name Delete answer old new → new.collection ≡ old.collection
+          → IsFinding new
       deleted name (Ok (answers.Deleted sequence)) row effect collects =
           named name Delete (answers.Deleted sequence) effect collects (λ key is.
           deleted_root (suc (last_sequence m.store)) name old.tables.names old.parts key
@@ -360,7 +378,8 @@ module _ (first : List (Option HeaderValue)) (roots : RootKeys) where
         store = m.store;
         index = m.index;
         known_is = keeps.index_is ∙ m.known_is;
-        represents = subst (λ (known : Option PlaceMap). Represents m.store known new.tables) (sym keeps.index_is) (subst (Represents m.store old.known) (sym keeps.tables_are) m.represents);
+        represents = subst (λ (known : Option PlaceMap). Represents m.store known new.tables) (sym keeps.index_is)
+            (subst (Represents m.store old.known) (sym keeps.tables_are) m.represents);
         valid = subst (λ (size : ℕ). IsValidFor size m.store) (sym later.size_is) m.valid;
         finds = subst (λ (t : Tables). FindsSoFar first m.store.held m.index after t.names new.parts roots) (sym keeps.tables_are)
             (subst (λ (p : List Part). FindsSoFar first m.store.held m.index after old.tables.names p roots) (sym parts) finds);
@@ -386,12 +405,14 @@ module _ (first : List (Option HeaderValue)) (roots : RootKeys) where
         scanned : (gone : HasGoneOn old new m.c m.runs early) → FindsAfter gone.after
         scanned gone =
             scan_finds m.index m.store m.valid.headers partial old.tables.held m.represents.slots_hold first old.tables.names old.parts roots old.disk new.disk level slot has.0 m.c gone.after was m.finds apart came_before
-            (subst (λ (k : Option PlaceMap). Scans old.tables.held k old.disk new.disk level slot m.c gone.after) m.known_is (has_scanned old new m.c m.runs early level slot was gone))
+            (subst (λ (k : Option PlaceMap). Scans old.tables.held k old.disk new.disk level slot m.c gone.after) m.known_is
+            (has_scanned old new m.c m.runs early level slot was gone))
 
         not_scanned : (refusal : Refusal) (refused : HasNotGoneOn old new m.c m.runs early refusal) → FindsAfter refused.after
         not_scanned refusal refused =
             refusal_finds m.index m.store m.valid.headers partial old.tables.held m.represents.slots_hold first old.tables.names old.parts roots old.disk new.disk level slot has.0 m.c refused.after was m.finds refusal
-            (subst (λ (k : Option PlaceMap). KeepsMarks k old.disk new.disk level slot m.c refused.after refusal) m.known_is (has_not_scanned old new m.c m.runs early level slot was refusal refused))
+            (subst (λ (k : Option PlaceMap). KeepsMarks k old.disk new.disk level slot m.c refused.after refusal) m.known_is
+            (has_not_scanned old new m.c m.runs early level slot was refusal refused))
 
       -- and from then on its live keys stay
       stays_so : HasMarkedAll m.c.stage → (after : Collection) → after.live ≡ m.c.live → after.snapshot ≡ m.c.snapshot → FindsAfter after
@@ -407,7 +428,8 @@ module _ (first : List (Option HeaderValue)) (roots : RootKeys) where
           stays_so (subst HasMarkedAll (sym was) tt) gone.after (ap (λ (c : Collection). c.live) steps.0.collection_is) (ap (λ (c : Collection). c.snapshot) steps.0.collection_is)
       gone_on apart Sweep was gone = absurd (subst IsNoSweep was early)
 
-      not_gone_on : HeadersAreApart first old.disk new.disk → (refusal : Refusal) (stage : Stage) → m.c.stage ≡ stage → (refused : HasNotGoneOn old new m.c m.runs early refusal) → FindsAfter refused.after
+      not_gone_on : HeadersAreApart first old.disk new.disk → (refusal : Refusal) (stage : Stage) → m.c.stage ≡ stage → (refused : HasNotGoneOn old new m.c m.runs early refusal)
+          → FindsAfter refused.after
       not_gone_on apart refusal (Mark level slot) was refused = not_scanned level slot was apart refusal refused
       not_gone_on apart refusal (Filter slot) was refused =
           let kept = subst (λ (stage : Stage). Keeps stage m.c.sweep.next (at_moment old m.c) (at_moment new refused.after) refusal) was refused.kept in
@@ -426,24 +448,32 @@ module _ (first : List (Option HeaderValue)) (roots : RootKeys) where
       -- ---- a step, whichever it is
 
       module _ (stays : new.stop ≡ None) where
-        seal_goes : (filled : Contents) (answer : Result Answer Refusal) → AreStepSegments filled.kind filled.segments → SealRow filled actor answer old new → SealsOne filled answer old new → Collects (asked.Seal filled) answer old new
+        seal_goes : (filled : Contents) (answer : Result Answer Refusal) → AreStepSegments filled.kind filled.segments → SealRow filled actor answer old new
+            → SealsOne filled answer old new → Collects (asked.Seal filled) answer old new
             → StopsAfter (asked.Seal filled) answer old.acknowledged new.stop → IsFinding new
         seal_goes filled (Ok (answers.Sealed id)) right row effect collects stops = sealed filled id right row effect collects
         seal_goes filled (Err refusal) right row effect collects stops = unsealed filled refusal row effect collects stops stays
         seal_goes filled answer right row effect collects stops = absurd row
 
-        step_goes : (step : StepValue) (answer : Result Answer Refusal) → IsStep step → (step ≡ asked.GcStep → HeadersAreApart first old.disk new.disk) → Row step actor answer buf old new → Effect step answer old new
+        step_goes : (step : StepValue) (answer : Result Answer Refusal) → IsStep step → (step ≡ asked.GcStep → HeadersAreApart first old.disk new.disk)
+            → Row step actor answer buf old new → Effect step answer old new
             → Collects step answer old new → StopsAfter step answer old.acknowledged new.stop → IsFinding new
-        step_goes asked.Begin answer right apart row effect collects stops = part_rests answer collects effect (begin_none old.tables.names old new actor buf refl up.many answer row)
+        step_goes asked.Begin answer right apart row effect collects stops = part_rests answer collects effect
+            (begin_none old.tables.names old new actor buf refl up.many answer row)
         step_goes (asked.Claim seg) answer right apart row effect collects stops = claimed seg answer right row effect collects
         step_goes (asked.Seal filled) answer right apart row effect collects stops = seal_goes filled answer right.1 row effect collects stops
         step_goes (asked.Commit name root) answer right apart row effect collects stops = committed name root answer row effect collects
-        step_goes asked.Abort answer right apart row effect collects stops = part_rests answer collects effect (abort_none old.tables.names old new actor buf refl up.many answer row)
-        step_goes (asked.OpenRead name) answer right apart row effect collects stops = part_rests answer collects effect (open_none old.tables.names old new actor buf refl up.many name answer row)
-        step_goes asked.ReadNext answer right apart row effect collects stops = part_rests answer collects effect (read_none old.tables.names old new actor buf refl up.many answer row)
-        step_goes asked.EndRead answer right apart row effect collects stops = part_rests answer collects effect (end_none old.tables.names old new actor buf refl up.many answer row)
+        step_goes asked.Abort answer right apart row effect collects stops = part_rests answer collects effect
+            (abort_none old.tables.names old new actor buf refl up.many answer row)
+        step_goes (asked.OpenRead name) answer right apart row effect collects stops = part_rests answer collects effect
+            (open_none old.tables.names old new actor buf refl up.many name answer row)
+        step_goes asked.ReadNext answer right apart row effect collects stops = part_rests answer collects effect
+            (read_none old.tables.names old new actor buf refl up.many answer row)
+        step_goes asked.EndRead answer right apart row effect collects stops = part_rests answer collects effect
+            (end_none old.tables.names old new actor buf refl up.many answer row)
         step_goes (asked.Delete name) answer right apart row effect collects stops = deleted name answer row effect collects
-        step_goes asked.ListNames answer right apart row effect collects stops = part_rests answer collects effect (list_none old.tables.names old new actor buf refl up.many answer row)
+        step_goes asked.ListNames answer right apart row effect collects stops = part_rests answer collects effect
+            (list_none old.tables.names old new actor buf refl up.many answer row)
         step_goes (asked.GcStart percent) answer right apart row effect collects stops = not_begun percent answer row effect
         step_goes asked.GcStep answer right apart row effect collects stops = own_step (apart refl) answer row effect
         step_goes asked.Stat answer right apart row effect collects stops = part_rests answer collects effect (stat_none old.tables.names old new actor buf refl up.many answer row)
@@ -455,11 +485,13 @@ module _ (first : List (Option HeaderValue)) (roots : RootKeys) where
     plain_run [] mid new run = run
     plain_run (e ∷ es) mid new run = (run.0, (run.1.0.made, plain_run es run.0 new run.1.1))
 
-    finds_on : (events : List Event) (mid new : C) → RunBeforeSweep C state first events mid new → IsRunning (state mid) → (state new).stop ≡ None → IsFinding (state mid) → IsFinding (state new)
+    finds_on : (events : List Event) (mid new : C) → RunBeforeSweep C state first events mid new → IsRunning (state mid) → (state new).stop ≡ None → IsFinding (state mid)
+        → IsFinding (state new)
     finds_on [] mid new run running stays m = subst (λ (c : C). IsFinding (state c)) (sym run) m
     finds_on (e ∷ es) mid new run running stays m =
         finds_on es run.0 new run.1.1 (step_runs (state mid) (state run.0) e run.1.0.made running) stays
-        (step_goes (state mid) (state run.0) m early up e.actor e.buf next_stays e.step e.answer run.1.0.is_step run.1.0.apart steps.made.row steps.made.effect steps.collects steps.stops)
+        (step_goes (state mid)
+        (state run.0) m early up e.actor e.buf next_stays e.step e.answer run.1.0.is_step run.1.0.apart steps.made.row steps.made.effect steps.collects steps.stops)
       where
         next_stays : (state run.0).stop ≡ None
         next_stays = runs_before C state es run.0 new (plain_run es run.0 new run.1.1) stays
@@ -474,7 +506,8 @@ module _ (first : List (Option HeaderValue)) (roots : RootKeys) where
         up = subst (λ (stop : Option Stop). UnlessStopped stop (IsUp (state mid))) stop_is running
 
         early : IsNoSweep m.c.stage
-        early = subst (λ (x : Collection). IsNoSweep x.stage) (same_running run.1.0.not_swept.collection m.c (state mid).collection run.1.0.not_swept.runs m.runs) run.1.0.not_swept.early
+        early = subst (λ (x : Collection). IsNoSweep x.stage)
+            (same_running run.1.0.not_swept.collection m.c (state mid).collection run.1.0.not_swept.runs m.runs) run.1.0.not_swept.early
 
 -- ---- slots of the same ids
 
@@ -500,7 +533,8 @@ different_by_ids (None ∷ cs) (None ∷ ds) right also same different = differe
 different_by_ids (None ∷ cs) (Some g ∷ ds) right also same different = absurd (omega (arith, head_is 0 g.id (ids_of cs) (ids_of ds) same, no_id g also.0))
 different_by_ids (Some h ∷ cs) (None ∷ ds) right also same different = absurd (omega (arith, head_is h.id 0 (ids_of cs) (ids_of ds) same, no_id h right.0))
 different_by_ids (Some h ∷ cs) (Some g ∷ ds) right also same different = (
-  unused_by_ids h.id cs ds right.1 also.1 (tail_is h.id g.id (ids_of cs) (ids_of ds) same) (subst (λ (id : ℕ). IsUnusedId id ds) (sym (head_is h.id g.id (ids_of cs) (ids_of ds) same)) different.0),
+  unused_by_ids h.id cs ds right.1 also.1 (tail_is h.id g.id (ids_of cs) (ids_of ds) same)
+      (subst (λ (id : ℕ). IsUnusedId id ds) (sym (head_is h.id g.id (ids_of cs) (ids_of ds) same)) different.0),
   different_by_ids cs ds right.1 also.1 (tail_is h.id g.id (ids_of cs) (ids_of ds) same) different.1,
 )
 
@@ -513,8 +547,10 @@ module _ (C : Type 0) (state : C → CoreState) where
       record {
         index = m.index;
         known_is = m.known_is;
-        found = subst (λ (x : Collection). FindsTrees m.index x.live (roots_of (state old).tables.names (state old).parts ++ roots_of (state new).tables.names (state new).parts)) one
-            (found_trees s.held m.store.held m.index m.c (state new).tables.names (state new).parts roots m.finds (subst (λ (x : Collection). HasMarkedAll x.stage) (sym one) marked));
+        found = subst
+            (λ (x : Collection). FindsTrees m.index x.live (roots_of (state old).tables.names (state old).parts ++ roots_of (state new).tables.names (state new).parts)) one
+            (found_trees s.held m.store.held m.index m.c (state new).tables.names (state new).parts roots m.finds
+            (subst (λ (x : Collection). HasMarkedAll x.stage) (sym one) marked));
       }
     where
       roots : RootKeys
@@ -566,11 +602,13 @@ module _ (C : Type 0) (state : C → CoreState) where
         store = store;
         index = index;
         known_is = keeps.index_is ∙ indexed.known_is;
-        represents = subst (λ (known : Option PlaceMap). Represents store known (state begun).tables) (sym keeps.index_is) (subst (Represents store (state old).known) (sym keeps.tables_are) represents);
+        represents = subst (λ (known : Option PlaceMap). Represents store known (state begun).tables) (sym keeps.index_is)
+            (subst (Represents store (state old).known) (sym keeps.tables_are) represents);
         valid = subst (λ (size : ℕ). IsValidFor size store) (sym steps.made.effect.disk.only.later.size_is) valid;
         finds = subst (λ (t : Tables). FindsSoFar s.held s.held index begins_so.collection t.names (state begun).parts roots) (sym keeps.tables_are)
             (subst (λ (p : List Part). FindsSoFar s.held s.held index begins_so.collection (state old).tables.names p roots) (sym steps.made.row.1)
-            (begins index store indexed.headers (indexed.represents.index_is_newest index indexed.known_is) (state old).tables.held begins_so.collection (state old).tables.names (state old).parts indexed.represents.slots_hold
+            (begins index store indexed.headers (indexed.represents.index_is_newest index indexed.known_is) (state old).tables.held begins_so.collection (state old).tables.names
+            (state old).parts indexed.represents.slots_hold
             (omega (arith, begins_so.next_is, indexed.represents.slots_hold.last_id_is, last_within s.held indexed.headers)) begins_so.stage_is
             (subst (λ (k : Option PlaceMap). AreFound k roots) indexed.known_is begins_so.found) begins_so.live));
       }

@@ -182,7 +182,8 @@ module _ (old new : CoreState) (b : Collection) (ran : old.collection ≡ Some b
   start_stays percent (Err refusal) row = absurd (let wrong : None ≡ Some b = sym row.none_ran ∙ ran in cc)
   start_stays percent answer row = absurd row
 
-  other_stays : (actor : ℕ) (buf : List ℕ) (step : StepValue) (answer : Result Answer Refusal) → IsNoGcStep step → Row step actor answer buf old new → Collects step answer old new → Stays
+  other_stays : (actor : ℕ) (buf : List ℕ) (step : StepValue) (answer : Result Answer Refusal) → IsNoGcStep step → Row step actor answer buf old new → Collects step answer old new
+      → Stays
   other_stays actor buf asked.GcStep answer other row collects = absurd other
   other_stays actor buf asked.Begin answer other row collects = same_stays collects
   other_stays actor buf (asked.Claim seg) answer other row collects = marked_stays (IsKeptKey (asked.Claim seg) answer) collects
@@ -209,7 +210,8 @@ module _ (P : Kind → List Segment → Type 0) (snapshot : ℕ) (sources : List
   nothing : t ≡ s → Adds P snapshot sources [] s t
   nothing same = record { sweeps = same; none_copied = tt; freed_is = refl; copied_is = refl; no_keys = refl }
 
-  adds : (step : StepValue) (answer : Result Answer Refusal) → IsNoGcStep step → Row step actor answer buf old new → ChangesTo (changes_by step answer) s t → Adds P snapshot sources (changes_by step answer) s t
+  adds : (step : StepValue) (answer : Result Answer Refusal) → IsNoGcStep step → Row step actor answer buf old new → ChangesTo (changes_by step answer) s t
+      → Adds P snapshot sources (changes_by step answer) s t
   adds asked.GcStep answer other row chain = absurd other
   adds (asked.Seal filled) (Ok (answers.Sealed id)) other row chain =
       record { sweeps = ((omega (arith, began, row.id_is), omega (arith, chain.0.slot)), chain.1); none_copied = (tt, tt); freed_is = refl; copied_is = refl; no_keys = refl }
@@ -229,7 +231,8 @@ module _ (P : Kind → List Segment → Type 0) (snapshot : ℕ) (sources : List
   adds (asked.GcStart percent) answer other row chain = nothing chain
   adds asked.Stat answer other row chain = nothing chain
 
-module _ (among : ByteSet) (distinct : HasNoCollisions (IsIn among)) (f : FileEvent) (s : Store) (stored : Stored) (old new : CoreState) (step : FileStep (IsIn among) f old new) (at : IsAt (IsIn among) s stored old)
+module _ (among : ByteSet) (distinct : HasNoCollisions (IsIn among)) (f : FileEvent) (s : Store) (stored : Stored) (old new : CoreState) (step : FileStep (IsIn among) f old new)
+    (at : IsAt (IsIn among) s stored old)
     (stays : new.stop ≡ None) (b : Collection) (ran : old.collection ≡ Some b) (quiet : IsQuiet b) where
   abbrev leads : Leads (IsIn among) s f (stored_by f stored) old new
   leads = any_step among distinct f s stored old new step at stays
@@ -264,13 +267,15 @@ module _ (among : ByteSet) (distinct : HasNoCollisions (IsIn among)) (f : FileEv
       omega (arith, above, below, here)
 
   -- a container that came after the collection began stands on
-  newer_then : (changes : List StoreChange) (key : List ℕ) → ((sources : List ℕ) → (b.stage ≡ SweepStage → sources ≡ b.sweep.sources.items) → Sweeps b.snapshot sources changes s t) → IsSettled s b key
+  newer_then : (changes : List StoreChange) (key : List ℕ)
+      → ((sources : List ℕ) → (b.stage ≡ SweepStage → sources ≡ b.sweep.sources.items) → Sweeps b.snapshot sources changes s t) → IsSettled s b key
       → HoldsNewer t.held b.snapshot key
   newer_then changes key sweeps settled =
       newer_on b.snapshot b.sweep.sources.items changes s t key (sweeps b.sweep.sources.items (λ stage. refl)) (sources_old settled.sweeps) settled.newer
 
   -- but for its live keys it is as it was
-  unchanged : (changes : List StoreChange) → AreChangesBy f.event.step f.event.answer changes → ChangesTo changes s t → ((sources : List ℕ) → Adds Copies b.snapshot sources changes s t)
+  unchanged : (changes : List StoreChange) → AreChangesBy f.event.step f.event.answer changes → ChangesTo changes s t
+      → ((sources : List ℕ) → Adds Copies b.snapshot sources changes s t)
       → (on : Stays old new b ran) → KeepsKeys changes b on.0 old new → (f.event.step ≡ asked.GcStep → IsOfStage b changes) → (IsDid phases.Copy f → ⊥)
       → Goes among f b s stored old new
   unchanged changes are chain adds on keys made other = record {
@@ -327,7 +332,8 @@ module _ (among : ByteSet) (distinct : HasNoCollisions (IsIn among)) (f : FileEv
 
   module _ (is : f.event.step ≡ asked.GcStep) where
     gc_steps : Steps (with_step f asked.GcStep).event old new
-    gc_steps = subst (λ (st : StepValue). Steps (with_step f st).event old new) is (running_step old new f.event (was_running old.stop f.event old new refl step.made stays) step.made)
+    gc_steps = subst (λ (st : StepValue). Steps (with_step f st).event old new) is
+        (running_step old new f.event (was_running old.stop f.event old new refl step.made stays) step.made)
 
     -- the files are those of before
     after_gc : IsAt (IsIn among) t stored new
@@ -359,7 +365,8 @@ module _ (among : ByteSet) (distinct : HasNoCollisions (IsIn among)) (f : FileEv
     unfolding copied_here
     written_here sweeps did = record { did = did; copies = copied_here sweeps; kind_is = refl; segments_are = refl }
 
-    makes : (stage : Stage) (next : Next) → b.stage ≡ stage → IsDid (phase_at stage next) f → IsStoreAfter stage next b.snapshot b.sweep at.index s t at.stands.known.0 → Makes stage next
+    makes : (stage : Stage) (next : Next) → b.stage ≡ stage → IsDid (phase_at stage next) f → IsStoreAfter stage next b.snapshot b.sweep at.index s t at.stands.known.0
+        → Makes stage next
     makes (Mark level slot) next stage_is did same = record { id = 0; changes_are = refl; chain = same; sweeps = λ sources chosen. same; copies = tt }
     makes (Filter slot) next stage_is did same = record { id = 0; changes_are = refl; chain = same; sweeps = λ sources chosen. same; copies = tt }
     makes Select next stage_is did same = record { id = 0; changes_are = refl; chain = same; sweeps = λ sources chosen. same; copies = tt }
@@ -405,7 +412,8 @@ module _ (among : ByteSet) (distinct : HasNoCollisions (IsIn among)) (f : FileEv
       unfilled = λ key has filled. (let wrong : false ≡ true = ap (λ (keys : List (List ℕ)). listed keys key) (sym none) ∙ has in cc);
     }
 
-    keys_by : (a : Collection) (id : ℕ) (stage : Stage) (next : Next) → b.stage ≡ stage → StepsTo stage next (at_moment old b) (at_moment new a) → ChangesTo (changed_by stage next b.sweep id) s t
+    keys_by : (a : Collection) (id : ℕ) (stage : Stage) (next : Next) → b.stage ≡ stage → StepsTo stage next (at_moment old b) (at_moment new a)
+        → ChangesTo (changed_by stage next b.sweep id) s t
         → Sweeps b.snapshot b.sweep.sources.items (changed_by stage next b.sweep id) s t → Keys (changed_by stage next b.sweep id) a
     keys_by a id (Mark level slot) next stage_is steps chain sweeps = no_keys [] a refl
     keys_by a id (Filter slot) next stage_is steps chain sweeps = no_keys [] a refl
@@ -437,7 +445,8 @@ module _ (among : ByteSet) (distinct : HasNoCollisions (IsIn among)) (f : FileEv
 
     well : (a : Collection) → StepsTo b.stage b.sweep.next (at_moment old b) (at_moment new a) → GoesWell at.index s.held b a
     well a steps =
-        goes_well old.tables new.tables at.index s.held image new.known old.disk new.disk b a at.represents.slots_hold at.valid.different (at.stands.each image (old.disk.as_read image told)).holds.right.slots_are
+        goes_well old.tables new.tables at.index s.held image new.known old.disk new.disk b a at.represents.slots_hold at.valid.different
+        (at.stands.each image (old.disk.as_read image told)).holds.right.slots_are
         (at.invariant image told).index_is_newest told under (holds_at image told)
         (subst (λ (k : Option PlaceMap). StepsTo b.stage b.sweep.next (moment old.tables k old.disk b) (at_moment new a)) at.index_known steps)
 
@@ -446,10 +455,12 @@ module _ (among : ByteSet) (distinct : HasNoCollisions (IsIn among)) (f : FileEv
 
     records_by : (a : Collection) (stage : Stage) (next : Next) → b.stage ≡ stage → StepsTo stage next (at_moment old b) (at_moment new a) → Records s b a
     records_by a (Mark level slot) next is steps =
-        no_sweep a (Mark level slot) is tt (subst IsToChoose (sym (ap (λ (x : Collection). x.stage) steps.0.collection_is)) (mark_early b.snapshot old.tables.held level (slot + 1)))
+        no_sweep a (Mark level slot) is tt
+        (subst IsToChoose (sym (ap (λ (x : Collection). x.stage) steps.0.collection_is)) (mark_early b.snapshot old.tables.held level (slot + 1)))
     records_by a (Filter slot) next is steps =
         no_sweep a (Filter slot) is tt
-        (subst IsToChoose (sym (ap (λ (x : Collection). x.stage) steps.0.collection_is)) (filter_early (first_slot old.tables.held (is_old_slot b.snapshot old.tables.held) (slot + 1))))
+        (subst IsToChoose (sym (ap (λ (x : Collection). x.stage) steps.0.collection_is))
+        (filter_early (first_slot old.tables.held (is_old_slot b.snapshot old.tables.held) (slot + 1))))
     records_by a Select next is steps = record {
       early = λ was. inr (
         ap (λ (x : Collection). x.stage) steps.0.collection_is,
@@ -464,7 +475,8 @@ module _ (among : ByteSet) (distinct : HasNoCollisions (IsIn among)) (f : FileEv
     records_by a SweepStage End is steps = records_same s b a (ap (λ (x : Collection). x.stage) steps.0) (ap (λ (x : Collection). x.liveness) steps.0)
 
     -- one was made
-    did_goes : (phase : Phase) → f.event.answer ≡ Ok (answers.Did phase) → GoesOn phase old new → TouchesBy old.collection (Ok (answers.Did phase)) old new.disk → IsLater old.disk new.disk → Goes among f b s stored old new
+    did_goes : (phase : Phase) → f.event.answer ≡ Ok (answers.Did phase) → GoesOn phase old new → TouchesBy old.collection (Ok (answers.Did phase)) old new.disk
+        → IsLater old.disk new.disk → Goes among f b s stored old new
     did_goes phase answer_is goes touches later =
         by_before goes.before (same_some goes.before b old.collection goes.ran ran) goes.steps (phase_of goes.before phase goes.phase_is)
         (led_to among s stored old new at t after_gc phase goes touches later)
@@ -494,7 +506,8 @@ module _ (among : ByteSet) (distinct : HasNoCollisions (IsIn among)) (f : FileEv
               is_at = leads.next.is_at;
               changes = changed_by b.stage b.sweep.next b.sweep made.id;
               changes_are = changes_so (changed_by b.stage b.sweep.next b.sweep made.id)
-                  (subst (λ (answer : Result Answer Refusal). AreChangesBy asked.GcStep answer (changed_by b.stage b.sweep.next b.sweep made.id)) (ap (λ (p : Phase). Ok (answers.Did p)) phase_here ∙ sym answer_is) made.changes_are);
+                  (subst (λ (answer : Result Answer Refusal). AreChangesBy asked.GcStep answer (changed_by b.stage b.sweep.next b.sweep made.id))
+                  (ap (λ (p : Phase). Ok (answers.Did p)) phase_here ∙ sym answer_is) made.changes_are);
               made = λ gc. inr (made.id, refl);
               chain = made.chain;
               sweeps = made.sweeps;
@@ -526,7 +539,8 @@ module _ (among : ByteSet) (distinct : HasNoCollisions (IsIn among)) (f : FileEv
         broken : StopsAfter asked.GcStep (Err refusals.DiskWrite) old.acknowledged new.stop → ⊥
         broken stops = let both = sym stays ∙ stops in cc
 
-    refused_goes : (refusal : Refusal) → f.event.answer ≡ Err refusal → leads.changes ≡ [] → IsNotMade refusal old new → StopsAfter asked.GcStep (Err refusal) old.acknowledged new.stop → Goes among f b s stored old new
+    refused_goes : (refusal : Refusal) → f.event.answer ≡ Err refusal → leads.changes ≡ [] → IsNotMade refusal old new
+        → StopsAfter asked.GcStep (Err refusal) old.acknowledged new.stop → Goes among f b s stored old new
     refused_goes refusal answer_is none row stops =
         let same = same_some row.before b old.collection row.ran ran in
         let keeps : Keeps b.stage b.sweep.next (at_moment old b) (at_moment new row.after) refusal =
@@ -535,13 +549,16 @@ module _ (among : ByteSet) (distinct : HasNoCollisions (IsIn among)) (f : FileEv
         let known : new.known ≡ old.known = refused_known among s stored old new at refusal row (unbroken refusal stops) ∙ sym at.index_known in
         let stands : t ≡ s = subst (λ (changes : List StoreChange). ChangesTo changes s t) none leads.next.chain in
         unchanged leads.changes leads.changes_are leads.next.chain
-        (λ sources. subst (λ (changes : List StoreChange). Adds Copies b.snapshot sources changes s t) (sym none) (record { sweeps = stands; none_copied = tt; freed_is = refl; copied_is = refl; no_keys = refl }))
+        (λ sources. subst (λ (changes : List StoreChange). Adds Copies b.snapshot sources changes s t) (sym none)
+        (record { sweeps = stands; none_copied = tt; freed_is = refl; copied_is = refl; no_keys = refl }))
         (live.0, row.runs ∙ ap Some live.1)
         (keys_same old new b live.0 ran (row.runs ∙ ap Some live.1) stays leads.changes known
-        (λ index key place index_is lacks is_live. refused_unmarked old new b row.after index index_is b.stage b.sweep.next refusal keeps key place lacks (subst (λ (x : Collection). IsLiveAt x.live key place) (sym live.1) is_live)))
+        (λ index key place index_is lacks is_live. refused_unmarked old new b row.after index index_is b.stage b.sweep.next refusal keeps key place lacks
+        (subst (λ (x : Collection). IsLiveAt x.live key place) (sym live.1) is_live)))
         (λ gc. inl none) (λ did. let both : Err refusal ≡ Ok (answers.Did phases.Copy) = sym answer_is ∙ did.1 in cc)
 
-    gc_by : (answer : Result Answer Refusal) → f.event.answer ≡ answer → IsNoEnd answer → GcRow answer old new → GcEffect answer old new → AreChangesBy asked.GcStep answer leads.changes
+    gc_by : (answer : Result Answer Refusal) → f.event.answer ≡ answer → IsNoEnd answer → GcRow answer old new → GcEffect answer old new
+        → AreChangesBy asked.GcStep answer leads.changes
         → StopsAfter asked.GcStep answer old.acknowledged new.stop → Goes among f b s stored old new
     gc_by (Ok (answers.Did phase)) answer_is goes_on row effect are stops = did_goes phase answer_is row.0 effect.touches effect.later
     gc_by (Ok (answers.Done freed copied)) answer_is goes_on row effect are stops = absurd goes_on
@@ -551,7 +568,8 @@ module _ (among : ByteSet) (distinct : HasNoCollisions (IsIn among)) (f : FileEv
 
     gc_goes : IsNoEnd f.event.answer → Goes among f b s stored old new
     gc_goes goes_on =
-        gc_by f.event.answer refl goes_on gc_steps.made.row gc_steps.made.effect (subst (λ (st : StepValue). AreChangesBy st f.event.answer leads.changes) is leads.changes_are) gc_steps.stops
+        gc_by f.event.answer refl goes_on gc_steps.made.row gc_steps.made.effect
+        (subst (λ (st : StepValue). AreChangesBy st f.event.answer leads.changes) is leads.changes_are) gc_steps.stops
 
   step_goes : IsNoEnd f.event.answer → Goes among f b s stored old new
   step_goes goes_on = elim (gc_or_not f.event.step) [
@@ -563,11 +581,14 @@ module _ (among : ByteSet) (distinct : HasNoCollisions (IsIn among)) (f : FileEv
 
 -- What steps of a collection keep of the changes so far, of the collection, and of what the core is at.
 abbrev pub IsKept : ByteSet → (List StoreChange → Collection → Store → Stored → CoreState → Type 0) → Type 1
-IsKept among Inv = (f : FileEvent) (s : Store) (stored : Stored) (old new : CoreState) (b : Collection) (before : List StoreChange) → FileStep (IsIn among) f old new → new.stop ≡ None
-    → old.collection ≡ Some b → f.event.step ≡ asked.GcStep → (one : Goes among f b s stored old new) → Inv before b s stored old → Inv (before ++ one.changes) one.a one.store (stored_by f stored) new
+IsKept among Inv = (f : FileEvent) (s : Store) (stored : Stored) (old new : CoreState) (b : Collection) (before : List StoreChange) → FileStep (IsIn among) f old new
+    → new.stop ≡ None
+    → old.collection ≡ Some b → f.event.step ≡ asked.GcStep → (one : Goes among f b s stored old new) → Inv before b s stored old
+    → Inv (before ++ one.changes) one.a one.store (stored_by f stored) new
 
 module _ (C : Type 0) (state : C → CoreState) where
-  record Went (among : ByteSet) (Inv : List StoreChange → Collection → Store → Stored → CoreState → Type 0) (steps : List FileEvent) (b c : Collection) (s : Store) (stored : Stored) (mid new : C) (run : FileRun C state (IsIn among) steps mid new) : Type 0 where
+  record Went (among : ByteSet) (Inv : List StoreChange → Collection → Store → Stored → CoreState → Type 0) (steps : List FileEvent) (b c : Collection) (s : Store)
+      (stored : Stored) (mid new : C) (run : FileRun C state (IsIn among) steps mid new) : Type 0 where
     store : Store
     is_at : IsAt (IsIn among) store (stored_after steps stored) (state new)
     changes : List StoreChange
@@ -588,8 +609,10 @@ module _ (C : Type 0) (state : C → CoreState) where
     others : (key : List ℕ) → IsSettled s b key → IsNoneOf (copied_keys changes) key
     along : (before : List StoreChange) → AreGcSteps steps → Inv before b s stored (state mid) → Inv (before ++ changes) c store (stored_after steps stored) (state new)
 
-  went : (among : ByteSet) (Inv : List StoreChange → Collection → Store → Stored → CoreState → Type 0) → IsKept among Inv → (steps : List FileEvent) (s : Store) (stored : Stored) (mid new : C) (b c : Collection) → HasNoCollisions (IsIn among) → IsAt (IsIn among) s stored (state mid)
-      → (run : FileRun C state (IsIn among) steps mid new) → NoneEnds (events_of steps) → (state new).stop ≡ None → (state mid).collection ≡ Some b → (state new).collection ≡ Some c → IsQuiet b
+  went : (among : ByteSet) (Inv : List StoreChange → Collection → Store → Stored → CoreState → Type 0) → IsKept among Inv
+      → (steps : List FileEvent) (s : Store) (stored : Stored) (mid new : C) (b c : Collection) → HasNoCollisions (IsIn among) → IsAt (IsIn among) s stored (state mid)
+      → (run : FileRun C state (IsIn among) steps mid new) → NoneEnds (events_of steps) → (state new).stop ≡ None → (state mid).collection ≡ Some b
+      → (state new).collection ≡ Some c → IsQuiet b
       → Went among Inv steps b c s stored mid new run
   went among Inv kept [] s stored mid new b c distinct at run ends stays ran runs quiet =
       let same : c ≡ b = same_some c b (state new).collection runs (ap (λ (x : C). (state x).collection) run ∙ ran) in
@@ -628,7 +651,8 @@ module _ (C : Type 0) (state : C → CoreState) where
         changes_are = (one.changes, rest.changes, refl, one.changes_are, rest.changes_are);
         chain = chain_on one.changes rest.changes s one.store rest.store one.chain rest.chain;
         sweeps = sweeps_then c.snapshot c.sweep.sources.items one.changes rest.changes s one.store rest.store
-            (subst (λ (n : ℕ). Sweeps n c.sweep.sources.items one.changes s one.store) (sym keeps.snapshot_is) (one.sweeps c.sweep.sources.items (λ stage. (keeps.chosen stage).1))) rest.sweeps;
+            (subst (λ (n : ℕ). Sweeps n c.sweep.sources.items one.changes s one.store) (sym keeps.snapshot_is)
+            (one.sweeps c.sweep.sources.items (λ stage. (keeps.chosen stage).1))) rest.sweeps;
         copies = copies_then C state (IsIn among) f fs mid new run one.changes rest.changes one.copies rest.copies;
         on = counts_then one.changes rest.changes b.sweep one.a.sweep c.sweep one.counts.on rest.on;
         keeps = keeps;
@@ -642,7 +666,8 @@ module _ (C : Type 0) (state : C → CoreState) where
         recorded_still = λ stage. rest.recorded_still (one.keeps.chosen stage).0 ∙ one.records.late stage;
         records = records_then C state (IsIn among) f fs mid new run b one.a c c.sweep.sources.items one.changes s one.store one.runs one.keeps.snapshot_is
             (one.sweeps c.sweep.sources.items (λ stage. (keeps.chosen stage).1)) one.recorded_on rest.records;
-        fates = fates_then one.changes rest.changes b one.a c s one.store rest.store (state mid) (state run.0) (state new) one.is_at.index one.is_at.index_known one.fates rest.fates;
+        fates = fates_then one.changes rest.changes b one.a c s one.store rest.store (state mid) (state run.0)
+            (state new) one.is_at.index one.is_at.index_known one.fates rest.fates;
         from = from_then one.changes rest.changes b one.a c s one.store (state mid) (state run.0) one.is_at.index one.is_at.index_known
             (one.is_at.invariant one.is_at.stands.known.0 one.is_at.stands.known.1).index_is_newest keeps.snapshot_is (λ stage. (keeps.chosen stage).1) c.sweep.sources.items
             (subst (λ (n : ℕ). Sweeps n c.sweep.sources.items one.changes s one.store) (sym keeps.snapshot_is) (one.sweeps c.sweep.sources.items (λ stage. (keeps.chosen stage).1)))
@@ -660,18 +685,21 @@ module _ (C : Type 0) (state : C → CoreState) where
       }
 
   -- a core that ends a collection isn't stopped
-  pub ended_runs : (stop : Option Stop) (e : Event) (freed copied : ℕ) (old new : CoreState) → old.stop ≡ stop → e.answer ≡ Ok (answers.Done freed copied) → StepsOr stop e old new → old.stop ≡ None
+  pub ended_runs : (stop : Option Stop) (e : Event) (freed copied : ℕ) (old new : CoreState) → old.stop ≡ stop → e.answer ≡ Ok (answers.Done freed copied) → StepsOr stop e old new
+      → old.stop ≡ None
   ended_runs None e freed copied old new is answer_is steps = is
   ended_runs (Some stop) e freed copied old new is answer_is steps = absurd (let wrong = sym answer_is ∙ steps.answer_is in cc)
 
   -- it collected, and what its steps keep is kept, where no others came between
-  pub record CollectedSo (among : ByteSet) (Inv : List StoreChange → Collection → Store → Stored → CoreState → Type 0) (percent snapshot freed copied : ℕ) (steps : List FileEvent) (s : Store) (stored : Stored)
+  pub record CollectedSo (among : ByteSet) (Inv : List StoreChange → Collection → Store → Stored → CoreState → Type 0) (percent snapshot freed copied : ℕ) (steps : List FileEvent)
+      (s : Store) (stored : Stored)
       (begun new last : C) (run : FileRun C state (IsIn among) steps begun new) : Type 0 where
     pub collected : Collected C state (IsIn among) percent snapshot freed copied steps s stored begun new last run
     pub along : (b : Collection) → (state begun).collection ≡ Some b → AreGcSteps steps → Inv [] b s stored (state begun)
         → Inv collected.changes collected.collection collected.store (stored_after steps stored) (state new)
 
-  pub collects_so : (among : ByteSet) (Inv : List StoreChange → Collection → Store → Stored → CoreState → Type 0) → IsKept among Inv → (actor last_actor percent snapshot freed copied : ℕ) (buf last_buf : List ℕ)
+  pub collects_so : (among : ByteSet) (Inv : List StoreChange → Collection → Store → Stored → CoreState → Type 0) → IsKept among Inv
+      → (actor last_actor percent snapshot freed copied : ℕ) (buf last_buf : List ℕ)
       (steps : List FileEvent) (s : Store) (stored : Stored) (old begun new last : C) → HasNoCollisions (IsIn among) → IsAt (IsIn among) s stored (state old)
       → CoreStep (state old) (starts actor percent snapshot buf) (state begun) → (run : FileRun C state (IsIn among) steps begun new) → NoneEnds (events_of steps)
       → CoreStep (state new) (ends_with last_actor freed copied last_buf) (state last) → CollectedSo among Inv percent snapshot freed copied steps s stored begun new last run
@@ -680,7 +708,8 @@ module _ (C : Type 0) (state : C → CoreState) where
       let final : FileEvent = record { event = ends_with last_actor freed copied last_buf; bytes = [] } in
       let stays : (state new).stop ≡ None = ended_runs (state new).stop final.event freed copied (state new) (state last) refl refl ended in
       let on : (state begun).stop ≡ None = run_running C state among steps begun new run stays in
-      let begins : Steps first.event (state old) (state begun) = running_step (state old) (state begun) first.event (was_running (state old).stop first.event (state old) (state begun) refl began on) began in
+      let begins : Steps first.event (state old) (state begun) = running_step (state old) (state begun) first.event
+      (was_running (state old).stop first.event (state old) (state begun) refl began on) began in
       let led = any_step among distinct first s stored (state old) (state begun) (record { asked = tt; given = tt; made = began }) at on in
       let same_first : led.next.store ≡ s = subst (λ (changes : List StoreChange). ChangesTo changes s led.next.store) led.changes_are led.next.chain in
       let row_first : Begins percent snapshot (state old) (state begun) = begins.made.row.0 in
@@ -690,9 +719,11 @@ module _ (C : Type 0) (state : C → CoreState) where
       let c : Collection = row.before in
       let none = counts_none (state old).tables.held [] b.sweep row_first.nothing_yet.1 in
       let begun_at : IsAt (IsIn among) s stored (state begun) = subst (λ (x : Store). IsAt (IsIn among) x stored (state begun)) same_first led.next.is_at in
-      let lies_from = lies_first (IsIn among) s stored (state begun) begun_at b row_first.runs (state old) at.represents.names_are.names_are begins.made.row.1 (λ key place. (row_first.live key place).0) in
+      let lies_from = lies_first (IsIn among) s stored (state begun) begun_at b row_first.runs (state old) at.represents.names_are.names_are begins.made.row.1
+      (λ key place. (row_first.live key place).0) in
       let all = went among Inv kept steps s stored begun new b c distinct begun_at run none_ends stays row_first.runs row.ran (λ early. none) in
-      let over = any_step among distinct final all.store (stored_after steps stored) (state new) (state last) (record { asked = tt; given = tt; made = ended }) all.is_at ends.stops in
+      let over = any_step among distinct final all.store (stored_after steps stored) (state new) (state last)
+      (record { asked = tt; given = tt; made = ended }) all.is_at ends.stops in
       let same_last : over.next.store ≡ all.store = subst (λ (changes : List StoreChange). ChangesTo changes all.store over.next.store) over.changes_are over.next.chain in
       let under : IsUnderWay (state new).tables.held c = subst (IsUnderWayIn (state new).tables.held) row.ran all.is_at.under_way in
       let sweeping : IsSweeping (state new).tables.held c.snapshot c.sweep = subst (HasStage (state new).tables.held c) row.at_end.0 under.stage_is in
@@ -701,7 +732,8 @@ module _ (C : Type 0) (state : C → CoreState) where
       let image : List ℕ = all.is_at.stands.known.0 in
       let holds : HoldsAt SweepStage all.is_at.index all.store.held image c =
       subst (λ (st : Stage). HoldsAt st all.is_at.index all.store.held image c) row.at_end.0
-      (held_at all.is_at.index all.store (state new).parts image c (subst (IsSafeIn all.is_at.index all.store (state new).parts image) row.ran (all.is_at.safe image all.is_at.stands.known.1))) in
+      (held_at all.is_at.index all.store (state new).parts image c
+      (subst (IsSafeIn all.is_at.index all.store (state new).parts image) row.ran (all.is_at.safe image all.is_at.stands.known.1))) in
       let snapshot_is : c.snapshot ≡ snapshot = all.keeps.snapshot_is ∙ sym row_first.snapshot_is in
       let percent_is : c.percent ≡ percent = all.keeps.percent_is ∙ row_first.percent_is in
       let chosen : c.sweep.sources.items ≡ sources_of (selected c.snapshot c.percent c.liveness) = subst (λ (st : Stage). HasChosen st c) row.at_end.0 under.sources_are in
@@ -709,7 +741,8 @@ module _ (C : Type 0) (state : C → CoreState) where
       subst (λ (n : ℕ). c.sweep.sources.items ≡ sources_of (selected n percent c.liveness)) snapshot_is
       (subst (λ (p : ℕ). c.sweep.sources.items ≡ sources_of (selected c.snapshot p c.liveness)) percent_is chosen) in
       let which = chosen_which snapshot percent c.liveness c.sweep.sources.items sources in
-      let sweeps : Sweeps snapshot c.sweep.sources.items all.changes s all.store = subst (λ (n : ℕ). Sweeps n c.sweep.sources.items all.changes s all.store) snapshot_is all.sweeps in
+      let sweeps : Sweeps snapshot c.sweep.sources.items all.changes s all.store = subst
+      (λ (n : ℕ). Sweeps n c.sweep.sources.items all.changes s all.store) snapshot_is all.sweeps in
       let gone = none_selected snapshot percent c (state new).tables.held all.is_at.index all.store.held image sources sweeping row.at_end.1 holds.1 in
       record {
         collected = record {
@@ -749,11 +782,13 @@ module _ (C : Type 0) (state : C → CoreState) where
             ]),
           );
           all_copied = λ key copy h copy_is there is_selected live.
-              written_at_end all.changes b c s all.store (state begun) (state new) begun_at.index all.is_at.index key copy.place h all.fates begun_at.index_known all.is_at.index_known
+              written_at_end all.changes b c s all.store (state begun)
+              (state new) begun_at.index all.is_at.index key copy.place h all.fates begun_at.index_known all.is_at.index_known
               (lies_from key copy h copy_is there) (λ still. gone copy.place.slot h still is_selected) live;
           from_sources = λ key there. elim (all.from begun_at.index key begun_at.index_known there) [
             | inl filled ↦ absurd (no_key b.sweep.buffer key row_first.nothing_yet.1.empty filled)
-            | inr from ↦ source_first (IsIn among) s stored (state begun) begun_at key c.snapshot c.sweep.sources.items (IsSelectedId snapshot percent c.liveness) (λ id. (which id).0) from
+            | inr from ↦ source_first (IsIn among) s stored (state begun) begun_at key c.snapshot c.sweep.sources.items (IsSelectedId snapshot percent c.liveness)
+                (λ id. (which id).0) from
           ];
           freed_is =
               let counted : IsCounted c.sweep = all.counted (begun_counted (state old).tables.held [] b.sweep row_first.nothing_yet.1) in
@@ -761,10 +796,12 @@ module _ (C : Type 0) (state : C → CoreState) where
           given_back = omega (arith, all.on.freed_on, none.none_freed, row.freed_is);
           copied_is = omega (arith, all.on.copied_on, none.none_copied, none.none_unwritten, written, row.copied_is);
         };
-        along = λ first_one runs gc inv. all.along [] gc (subst (λ (x : Collection). Inv [] x s stored (state begun)) (same_some first_one b (state begun).collection runs row_first.runs) inv);
+        along = λ first_one runs gc inv. all.along [] gc
+            (subst (λ (x : Collection). Inv [] x s stored (state begun)) (same_some first_one b (state begun).collection runs row_first.runs) inv);
       }
 
   pub collects_in_all : CollectsInAll C state
   collects_in_all among actor last_actor percent snapshot freed copied buf last_buf steps s stored old begun new last distinct at began run none_ends ended =
-      (collects_so among (λ changes c t files core. Unit {0}) (λ f t files before after b changes step stays ran is one inv. tt) actor last_actor percent snapshot freed copied buf last_buf steps s stored old begun new last
+      (collects_so among (λ changes c t files core. Unit {0})
+      (λ f t files before after b changes step stays ran is one inv. tt) actor last_actor percent snapshot freed copied buf last_buf steps s stored old begun new last
       distinct at began run none_ends ended).collected

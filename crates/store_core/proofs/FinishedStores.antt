@@ -37,7 +37,8 @@ Sweeps snapshot sources (FlushContainer id kind segments ∷ more) s t = IsNewer
 Sweeps snapshot sources (FreeContainer slot ∷ more) s t = IsOfSource sources slot s × Sweeps snapshot sources more (with_freed slot s) t
 
 module _ (snapshot : ℕ) (sources : List ℕ) where
-  pub sweeps_then : (changes more : List StoreChange) (s t u : Store) → Sweeps snapshot sources changes s t → Sweeps snapshot sources more t u → Sweeps snapshot sources (changes ++ more) s u
+  pub sweeps_then : (changes more : List StoreChange) (s t u : Store) → Sweeps snapshot sources changes s t → Sweeps snapshot sources more t u
+      → Sweeps snapshot sources (changes ++ more) s u
   sweeps_then [] more s t u first rest = subst (λ (x : Store). Sweeps snapshot sources more x u) first rest
   sweeps_then (SealContainer id kind segments ∷ changes) more s t u first rest = (first.0, sweeps_then changes more (with_sealed id kind segments s) t u first.1 rest)
   sweeps_then (ChangeName name change ∷ changes) more s t u first rest = sweeps_then changes more (with_change name change s) t u first rest
@@ -70,7 +71,8 @@ module _ (sources : List ℕ) (freed : ℕ) (s : Store) (of_source : IsOfSource 
     | inl is ↦
         absurd (
         other
-        (subst (λ (g : HeaderValue). Contains sources g.id) (some_same of_source.0 h (some_same (Some of_source.0) (Some h) (sym of_source.1.0 ∙ ap (slice_get s.held) is.1 ∙ there))) of_source.1.1)
+        (subst (λ (g : HeaderValue). Contains sources g.id)
+        (some_same of_source.0 h (some_same (Some of_source.0) (Some h) (sym of_source.1.0 ∙ ap (slice_get s.held) is.1 ∙ there))) of_source.1.1)
         )
     | inr differ ↦ other_there freed slot s.held differ.1 ∙ there
   ]
@@ -82,7 +84,8 @@ module _ (snapshot : ℕ) (sources : List ℕ) where
   stands_in s slot h = slice_get s.held slot ≡ Some (Some h)
 
   -- a container of no source stands
-  pub stands_on : (changes : List StoreChange) (s t : Store) (slot : ℕ) (h : HeaderValue) → Sweeps snapshot sources changes s t → (Contains sources h.id → ⊥) → stands_in s slot h → stands_in t slot h
+  pub stands_on : (changes : List StoreChange) (s t : Store) (slot : ℕ) (h : HeaderValue) → Sweeps snapshot sources changes s t → (Contains sources h.id → ⊥) → stands_in s slot h
+      → stands_in t slot h
   stands_on [] s t slot h sweeps other there = subst (λ (x : Store). stands_in x slot h) (sym sweeps) there
   stands_on (SealContainer id kind segments ∷ more) s t slot h sweeps other there =
       stands_on more (with_sealed id kind segments s) t slot h sweeps.1 other (still_there s.held (header_of id kind segments) sweeps.0.1 slot h there)
@@ -93,7 +96,8 @@ module _ (snapshot : ℕ) (sources : List ℕ) where
       stands_on more (with_freed freed s) t slot h sweeps.1 other (unfreed sources freed s sweeps.0 slot h other there)
 
   -- what stands stood, or was added
-  pub stood : (changes : List StoreChange) (s t : Store) (slot : ℕ) (h : HeaderValue) → Sweeps snapshot sources changes s t → stands_in t slot h → stands_in s slot h ⊎ IsAdded changes h
+  pub stood : (changes : List StoreChange) (s t : Store) (slot : ℕ) (h : HeaderValue) → Sweeps snapshot sources changes s t → stands_in t slot h → stands_in s slot h
+      ⊎ IsAdded changes h
   stood [] s t slot h sweeps there = inl (subst (λ (x : Store). stands_in x slot h) sweeps there)
   stood (SealContainer id kind segments ∷ more) s t slot h sweeps there =
       by_rest (stood more (with_sealed id kind segments s) t slot h sweeps.1 there)
@@ -127,7 +131,8 @@ module _ (snapshot : ℕ) (sources : List ℕ) where
     abbrev StandsNew : Store → HeaderValue → Type 0
     StandsNew t h = (snapshot ≤ h.id) × ((slot : ℕ) × stands_in t slot h)
 
-    added_first : (id : ℕ) (kind : Kind) (segments : List Segment) (more : List StoreChange) (s t : Store) (h : HeaderValue) → IsNewer snapshot id s → Sweeps snapshot sources more (with_sealed id kind segments s) t
+    added_first : (id : ℕ) (kind : Kind) (segments : List Segment) (more : List StoreChange) (s t : Store) (h : HeaderValue) → IsNewer snapshot id s
+        → Sweeps snapshot sources more (with_sealed id kind segments s) t
         → h ≡ header_of id kind segments → StandsNew t h
     added_first id kind segments more s t h new sweeps is =
         let g : HeaderValue = header_of id kind segments in

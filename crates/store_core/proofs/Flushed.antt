@@ -48,15 +48,18 @@ some_first [] some = absurd (some refl)
 some_first (x ∷ xs) some = Contains-get_or (x ∷ xs) 0 0 (omega arith)
 
 -- a slot that is closed, and another one that may be given back
-reserve_of : (P : List ℕ → Type 0) (held : List (Option HeaderValue)) (closed spare : ℕ) → closed ≢ spare → slice_get held closed ≡ Some None → IsSpare P held spare → HasReserve P held
+reserve_of : (P : List ℕ → Type 0) (held : List (Option HeaderValue)) (closed spare : ℕ) → closed ≢ spare → slice_get held closed ≡ Some None → IsSpare P held spare
+    → HasReserve P held
 reserve_of P held closed spare differ none is = by_order (leb_tells closed spare)
   where
     by_order : ((nat_le closed spare ≡ true) × (closed ≤ spare)) ⊎ ((nat_le closed spare ≡ false) × (spare < closed)) → HasReserve P held
     by_order (inl least) = record { first = closed; second = spare; differ = omega (arith, least.1, differ); first_is = inl none; second_is = inr is }
     by_order (inr more) = record { first = spare; second = closed; differ = more.1; first_is = inr is; second_is = inl none }
 
-module _ (t : SlotTable) (index : PlaceMap) (store : Store) (files : Files) (image now : List ℕ) (live : LiveKeys) (snapshot source entry id : ℕ) (s : Sweep) (slots : RepresentsSlots store.held t) (headers : AreHeaders store.held)
-    (under : IsSweeping t snapshot s) (stage : s.next ≡ Flush source entry) (holds : HoldsSweep index store.held image live snapshot s) (partial : IsPartialIndexOf store.held index) (above : last_id store.held < id)
+module _ (t : SlotTable) (index : PlaceMap) (store : Store) (files : Files) (image now : List ℕ) (live : LiveKeys) (snapshot source entry id : ℕ) (s : Sweep)
+    (slots : RepresentsSlots store.held t) (headers : AreHeaders store.held)
+    (under : IsSweeping t snapshot s) (stage : s.next ≡ Flush source entry) (holds : HoldsSweep index store.held image live snapshot s)
+    (partial : IsPartialIndexOf store.held index) (above : last_id store.held < id)
     (new : snapshot ≤ id) where
   abbrev held : List (Option HeaderValue)
   held = store.held
@@ -107,7 +110,8 @@ module _ (t : SlotTable) (index : PlaceMap) (store : Store) (files : Files) (ima
   was_closed = first_closed held (some_free held some)
 
   there : slice_get held_now first ≡ Some (Some stands.header)
-  there = other_with first h held (λ same. let wrong : None ≡ Some stands.header = some_same None (Some stands.header) (sym was_closed ∙ ap (slice_get held) (sym same) ∙ stands.there) in cc) ∙ stands.there
+  there = other_with first h held
+      (λ same. let wrong : None ≡ Some stands.header = some_same None (Some stands.header) (sym was_closed ∙ ap (slice_get held) (sym same) ∙ stands.there) in cc) ∙ stands.there
 
   -- The headers of the slots are such, the container's among them.
   pub opens_flushed : IndexesFiles index files → AreHeaders held_now → CanBeOpened (with_sealed id s.buffer.kind s.buffer.segments store) files
@@ -116,7 +120,8 @@ module _ (t : SlotTable) (index : PlaceMap) (store : Store) (files : Files) (ima
       let later : PlaceMap = with_entries s.buffer.kind place (entries_from 0 s.buffer.segments) index in
       let partial_now : IsPartialIndexOf held_now later = partial_with h held index partial right above some in
       let holds_now = holds_flushed t index held image now live snapshot source entry id s after slots under stage flushed right new some holds in
-      let spare : IsSpare (HasKey later) held_now first = record { header = stands.header; holds = there; none = none_newest held_now later first partial_now (holds_now.ready first waits) } in
+      let spare : IsSpare
+      (HasKey later) held_now first = record { header = stands.header; holds = there; none = none_newest held_now later first partial_now (holds_now.ready first waits) } in
       reserve_by (HasKey later) (IsReachable files) held_now
       (λ key need. keys_flushed t index held image now live snapshot source entry id s after slots under stage flushed right new some key (indexed key need).0 (indexed key need).1)
       (reserve_of (HasKey later) held_now (first_free held_now) first

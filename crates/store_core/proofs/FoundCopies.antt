@@ -82,7 +82,8 @@ module _ (s : Source) (S : (List ℕ → Type 0) → Type 0) (m : PlaceMap) (kno
   one_new e before after kind (inr (inr (live, inr (lacks, adds), dead))) key has =
       let added : Segment = record { level = e.level; bytes = adds.bytes } in
       let split : listed (keys_of before.buffer ++ map (segment_key before.buffer.kind) (added ∷ [])) key ≡ true =
-      ap (λ (ks : List (List ℕ)). listed ks key) (sym (keys_append before.buffer.kind before.buffer.segments (added ∷ []))) ∙ ap (λ (c : Contents). has_key c key) (sym adds.after_is) ∙ has in
+      ap (λ (ks : List (List ℕ)). listed ks key) (sym (keys_append before.buffer.kind before.buffer.segments (added ∷ [])))
+      ∙ ap (λ (c : Contents). has_key c key) (sym adds.after_is) ∙ has in
       let own : segment_key before.buffer.kind added ≡ entry_key s.kind e = ap (λ (k : Kind). segment_key k added) kind ∙ ap (key_of (kind_byte s.kind)) adds.digest_is in
       elim (listed_either (keys_of before.buffer) (map (segment_key before.buffer.kind) (added ∷ [])) key split) [
         | inl was ↦ inl was
@@ -93,25 +94,27 @@ module _ (s : Source) (S : (List ℕ → Type 0) → Type 0) (m : PlaceMap) (kno
   kind_on e before after one = (takes_gain s S m known (e ∷ []) before after 1 (inr (after, (0, (refl, one, (refl, refl)))))).kind_is
 
   -- and a key that they add is that of one of them
-  pub takes_new : (es : List Entry) (before after : Planned) (count : ℕ) → before.buffer.kind ≡ s.kind → Takes s S es before after count → (key : List ℕ) → has_key after.buffer key ≡ true
+  pub takes_new : (es : List Entry) (before after : Planned) (count : ℕ) → before.buffer.kind ≡ s.kind → Takes s S es before after count → (key : List ℕ)
+      → has_key after.buffer key ≡ true
       → (has_key before.buffer key ≡ true) ⊎ IsTaken s m es count key
   takes_new [] before after count kind none key has = inl (ap (λ (p : Planned). has_key p.buffer key) (sym none.0) ∙ has)
   takes_new (e ∷ es) before after count kind (inl full) key has = inl (ap (λ (p : Planned). has_key p.buffer key) (sym full.1) ∙ has)
-  takes_new (e ∷ es) before after count kind (inr (mid, (rest, (more, one, others)))) key has = elim (takes_new es mid after rest (kind_on e before mid one ∙ kind) others key has) [
-    | inl at_mid ↦ elim (one_new e before mid kind one key at_mid) [
-      | inl was ↦ inl was
-      | inr here ↦ inr (record { number = 0; below = omega (arith, more); entry = e; there = refl; copy = here.0.0 m known; live = here.0.1; key_is = here.1 })
-    ]
-    | inr later ↦ inr (record {
-      number = suc later.number;
-      below = omega (arith, more, later.below);
-      entry = later.entry;
-      there = later.there;
-      copy = later.copy;
-      live = later.live;
-      key_is = later.key_is;
-    })
-  ]
+  takes_new (e ∷ es) before after count kind (inr (mid, (rest, (more, one, others)))) key has = elim
+      (takes_new es mid after rest (kind_on e before mid one ∙ kind) others key has) [
+        | inl at_mid ↦ elim (one_new e before mid kind one key at_mid) [
+          | inl was ↦ inl was
+          | inr here ↦ inr (record { number = 0; below = omega (arith, more); entry = e; there = refl; copy = here.0.0 m known; live = here.0.1; key_is = here.1 })
+        ]
+        | inr later ↦ inr (record {
+          number = suc later.number;
+          below = omega (arith, more, later.below);
+          entry = later.entry;
+          there = later.there;
+          copy = later.copy;
+          live = later.live;
+          key_is = later.key_is;
+        })
+      ]
 
 dropped : (n : ℕ) (es : List Entry) (k : ℕ) → slice_get (drop n es) k ≡ slice_get es (n + k)
 dropped zero es k = ap (slice_get es) (let is : k ≡ zero + k = omega arith in is)
@@ -126,7 +129,8 @@ of_first P (suc n) (x ∷ xs) zero e all below there = subst P (some_same x e th
 of_first P (suc n) (x ∷ xs) (suc k) e all below there = of_first P n xs k e all.1 (omega (arith, below)) there
 
 -- what comes next tells how many sources were copied to their end, and the entry where the next goes on
-pub next_place : (t : SlotTable) (sources : List ℕ) (buffer : Contents) (source entry : ℕ) (s : Sweep) → length s.sources.items ≡ length sources → source ≤ length sources → (0 < entry → source < length sources) → (next : Next)
+pub next_place : (t : SlotTable) (sources : List ℕ) (buffer : Contents) (source entry : ℕ) (s : Sweep) → length s.sources.items ≡ length sources → source ≤ length sources
+    → (0 < entry → source < length sources) → (next : Next)
     → IsNext t sources buffer source entry next → (sources_before s next ≡ source) × (entry_in next ≡ entry)
 next_place t sources buffer source entry s many below some (Copy x e) is = (is.0, is.1)
 next_place t sources buffer source entry s many below some (Flush x e) is = (is.0, is.1)
@@ -139,7 +143,8 @@ next_place t sources buffer source entry s many below some End is = (omega (arit
 
 -- ---- a source is copied
 
-module _ (among : ByteSet) (s : Store) (stored : Stored) (old new : CoreState) (at : IsAt (IsIn among) s stored old) (b a : Collection) (ran : old.collection ≡ Some b) (runs : new.collection ≡ Some a)
+module _ (among : ByteSet) (s : Store) (stored : Stored) (old new : CoreState) (at : IsAt (IsIn among) s stored old) (b a : Collection) (ran : old.collection ≡ Some b)
+    (runs : new.collection ≡ Some a)
     (stage_is : b.stage ≡ SweepStage) (source entry : ℕ) (next_is : b.sweep.next ≡ Copy source entry)
     (copied : CopiesSource old.tables.held b.live old.known new.known old.disk new.disk source entry b.sweep a.sweep) where
   abbrev index : PlaceMap
@@ -232,9 +237,11 @@ module _ (among : ByteSet) (s : Store) (stored : Stored) (old new : CoreState) (
   -- what is filled then was before, or is the key of such an entry
   took_in : (key : List ℕ) → has_key a.sweep.buffer key ≡ true → (has_key b.sweep.buffer key ≡ true) ⊎ TookIn h copies.slot plan.next key
   took_in key has =
-      elim (takes_new src (Shows old.disk new.disk) index refl (drop entry h.entries) (planned copies.filling []) (planned plan.buffer plan.dead.items) is.passed read.kind_is is.takes key
+      elim (takes_new src (Shows old.disk new.disk) index refl (drop entry h.entries) (planned copies.filling [])
+      (planned plan.buffer plan.dead.items) is.passed read.kind_is is.takes key
       (ap (λ (c : Contents). has_key c key) (sym has_plan.buffer_is) ∙ has)) [
-        | inl was ↦ inl (filled_was index s.held image b.live b.snapshot source entry b.sweep copies.slot copies.kind copies.filling h core.partial read old.disk new.disk told plan is key was)
+        | inl was ↦ inl
+            (filled_was index s.held image b.live b.snapshot source entry b.sweep copies.slot copies.kind copies.filling h core.partial read old.disk new.disk told plan is key was)
         | inr taken ↦ inr (let one : TookIn h copies.slot plan.next key = record {
           number = entry + taken.number;
           found = taken.entry;
@@ -280,7 +287,8 @@ module _ (among : ByteSet) (s : Store) (stored : Stored) (old new : CoreState) (
       ]
 
   -- and what it finds is filled
-  module _ (slot number : ℕ) (header : HeaderValue) (found : Entry) (there : slice_get s.held slot ≡ Some (Some header)) (source_is : header.id ≡ get_or b.sweep.sources.items source 0)
+  module _ (slot number : ℕ) (header : HeaderValue) (found : Entry) (there : slice_get s.held slot ≡ Some (Some header))
+      (source_is : header.id ≡ get_or b.sweep.sources.items source 0)
       (found_is : slice_get header.entries number ≡ Some found) (passed : (stopped : ℕ) → a.sweep.next ≡ Flush source stopped → number < stopped)
       (copy : is_copy index header.kind slot found ≡ true) (live : IsLiveAt b.live (entry_key header.kind found) (place_of slot found)) where
     slot_is : slot ≡ copies.slot
@@ -304,12 +312,17 @@ module _ (among : ByteSet) (s : Store) (stored : Stored) (old new : CoreState) (
         let key_is : entry_key header.kind found ≡ entry_key h.kind found = ap (λ (g : HeaderValue). entry_key g.kind found) header_is in
         let was : finite.get index (entry_key h.kind found) ≡ Some (place_of copies.slot found) = copy_at index h.kind copies.slot found copy_here in
         let live_here : IsLiveAt b.live (entry_key h.kind found) (place_of copies.slot found) =
-        subst (λ (k : List ℕ). IsLiveAt b.live k (place_of copies.slot found)) key_is (subst (λ (n : ℕ). IsLiveAt b.live (entry_key header.kind found) (place_of n found)) slot_is live) in
-        let stays = keys_stay index s.held image b.live b.snapshot source entry b.sweep copies.slot copies.kind copies.filling h core.partial read old.disk new.disk told plan is (entry_key h.kind found)
+        subst (λ (k : List ℕ). IsLiveAt b.live k (place_of copies.slot found)) key_is
+        (subst (λ (n : ℕ). IsLiveAt b.live (entry_key header.kind found) (place_of n found)) slot_is live) in
+        let stays = keys_stay index s.held image b.live b.snapshot source entry b.sweep copies.slot copies.kind copies.filling h core.partial read old.disk new.disk told plan is
+        (entry_key h.kind found)
         (place_of copies.slot found, (was, live_here)) in
         let has : has_key plan.buffer (entry_key h.kind found) ≡ true =
-        of_first (λ (e : Entry). is_copy (without_keys plan.dead.items index) h.kind copies.slot e ≡ true → has_key plan.buffer (entry_key h.kind e) ≡ true) plan.next h.entries number found
-        (passed_copied index s.held image b.live b.snapshot source entry b.sweep copies.slot copies.kind copies.filling h core.partial read old.disk new.disk told plan is) (went_over plan.ended refl has_plan.ends) there_found
+        of_first
+        (λ (e : Entry). is_copy (without_keys plan.dead.items index) h.kind copies.slot e ≡ true
+        → has_key plan.buffer (entry_key h.kind e) ≡ true) plan.next h.entries number found
+        (passed_copied index s.held image b.live b.snapshot source entry b.sweep copies.slot copies.kind copies.filling h core.partial read old.disk new.disk told plan is)
+        (went_over plan.ended refl has_plan.ends) there_found
         (at_copy (without_keys plan.dead.items index) h.kind copies.slot found (stays ∙ was)) in
         ap (has_key a.sweep.buffer) key_is ∙ ap (λ (c : Contents). has_key c (entry_key h.kind found)) has_plan.buffer_is ∙ has
 
@@ -334,7 +347,8 @@ module _ (among : ByteSet) (s : Store) (stored : Stored) (old new : CoreState) (
     pub most : stop ≤ length header.entries
     pub goes : ((stop ≡ length header.entries) × (sources_before a.sweep a.sweep.next ≡ suc source) × (entry_in a.sweep.next ≡ 0))
         ⊎ ((sources_before a.sweep a.sweep.next ≡ source) × (entry_in a.sweep.next ≡ stop))
-    pub taken : (number : ℕ) (e : Entry) → number < stop → slice_get header.entries number ≡ Some e → is_copy index header.kind slot e ≡ true → IsLiveAt b.live (entry_key header.kind e) (place_of slot e)
+    pub taken : (number : ℕ) (e : Entry) → number < stop → slice_get header.entries number ≡ Some e → is_copy index header.kind slot e ≡ true
+        → IsLiveAt b.live (entry_key header.kind e) (place_of slot e)
         → has_key a.sweep.buffer (entry_key header.kind e) ≡ true
     pub only : (key : List ℕ) → has_key a.sweep.buffer key ≡ true → (has_key b.sweep.buffer key ≡ true) ⊎ TookIn header slot stop key
 
@@ -358,16 +372,23 @@ module _ (among : ByteSet) (s : Store) (stored : Stored) (old new : CoreState) (
           → ((plan.next ≡ length h.entries) × (sources_before a.sweep a.sweep.next ≡ suc source) × (entry_in a.sweep.next ≡ 0))
           ⊎ ((sources_before a.sweep a.sweep.next ≡ source) × (entry_in a.sweep.next ≡ plan.next))
       by_end true ended (inl (some, waits, ready, next)) =
-          let place = next_place old.tables.held b.sweep.sources.items plan.buffer (source + 1) 0 a.sweep (omega (arith, sources_same)) (omega (arith, source_below)) (λ none. absurd (omega (arith, none))) a.sweep.next next in
+          let place = next_place old.tables.held b.sweep.sources.items plan.buffer (source + 1) 0 a.sweep (omega (arith, sources_same)) (omega (arith, source_below))
+          (λ none. absurd (omega (arith, none))) a.sweep.next next in
           inl (eqb-true plan.next (length h.entries) (sym is.ended_is ∙ ended), omega (arith, place.0), place.1)
       by_end true ended (inr (none, waits, ready, next)) =
-          inl (eqb-true plan.next (length h.entries) (sym is.ended_is ∙ ended), ap (sources_before a.sweep) next ∙ (let one : source + 1 ≡ suc source = omega arith in one), ap entry_in next)
+          inl (
+            eqb-true plan.next (length h.entries) (sym is.ended_is ∙ ended),
+            ap (sources_before a.sweep) next
+                ∙ (let one : source + 1 ≡ suc source = omega arith in one),
+            ap entry_in next,
+          )
       by_end false ended (waits, ready, next) = inr (ap (sources_before a.sweep) next, ap entry_in next)
 
 -- ---- what a step found
 
 -- a step of a sweep that copies next
-pub finds_filled : (among : ByteSet) (old new : CoreState) (b a : Collection) → old.collection ≡ Some b → new.collection ≡ Some a → StepsTo b.stage b.sweep.next (at_moment old b) (at_moment new a) → (key : List ℕ)
+pub finds_filled : (among : ByteSet) (old new : CoreState) (b a : Collection) → old.collection ≡ Some b → new.collection ≡ Some a
+    → StepsTo b.stage b.sweep.next (at_moment old b) (at_moment new a) → (key : List ℕ)
     → FindsLive (IsIn among) old new key → has_key a.sweep.buffer key ≡ true
 finds_filled among old new b a ran runs steps key finds =
     let before_is : b ≡ finds.before = same_some b finds.before old.collection ran finds.runs in
@@ -378,5 +399,6 @@ finds_filled among old new b a ran runs steps key finds =
     subst (λ (n : Next). StepsTo SweepStage n (at_moment old finds.before) (at_moment new finds.after)) finds.next_is
     (subst (λ (st : Stage). StepsTo st finds.before.sweep.next (at_moment old finds.before) (at_moment new finds.after)) finds.sweeps here) in
     let filled = found_filled among finds.store finds.stored old new finds.is_at finds.before finds.after finds.runs finds.runs_then finds.sweeps finds.source finds.entry finds.next_is copied.0 finds.slot finds.number
-    finds.header finds.found finds.there finds.source_is finds.found_is finds.passed finds.copy (subst (λ (k : List ℕ). IsLiveAt finds.before.live k (place_of finds.slot finds.found)) (sym finds.key_is) finds.live) in
+    finds.header finds.found finds.there finds.source_is finds.found_is finds.passed finds.copy
+    (subst (λ (k : List ℕ). IsLiveAt finds.before.live k (place_of finds.slot finds.found)) (sym finds.key_is) finds.live) in
     ap (λ (c : Collection). has_key c.sweep.buffer key) after_is ∙ ap (has_key finds.after.sweep.buffer) (sym finds.key_is) ∙ filled

@@ -63,14 +63,16 @@ pub some_not_none : (h : HeaderValue) → Some (Some h) ≡ Some None → ⊥
 some_not_none h same = cc
 
 -- what a slot held it holds
-held_with : (slot : ℕ) (h g : HeaderValue) (held : List (Option HeaderValue)) → slice_get held slot ≡ Some (Some g) → slice_get (with_slot (first_free held) h held) slot ≡ Some (Some g)
+held_with : (slot : ℕ) (h g : HeaderValue) (held : List (Option HeaderValue)) → slice_get held slot ≡ Some (Some g)
+    → slice_get (with_slot (first_free held) h held) slot ≡ Some (Some g)
 held_with slot h g [] is = absurd cc
 held_with zero h g (None ∷ cs) is = absurd (some_not_none g (sym is))
 held_with (suc slot) h g (None ∷ cs) is = is
 held_with zero h g (Some x ∷ cs) is = is
 held_with (suc slot) h g (Some x ∷ cs) is = held_with slot h g cs is
 
-pub other_with : (slot : ℕ) (h : HeaderValue) (held : List (Option HeaderValue)) → slot ≢ first_free held → slice_get (with_slot (first_free held) h held) slot ≡ slice_get held slot
+pub other_with : (slot : ℕ) (h : HeaderValue) (held : List (Option HeaderValue)) → slot ≢ first_free held
+    → slice_get (with_slot (first_free held) h held) slot ≡ slice_get held slot
 other_with slot h [] differ = refl
 other_with zero h (None ∷ cs) differ = absurd (differ refl)
 other_with (suc slot) h (None ∷ cs) differ = refl
@@ -112,12 +114,15 @@ module _ (s : Store) (base : List ℕ) where
   }
 
   -- where a cell changes that comes after the records, and before the end
-  journal_put : (end place at : ℕ) (given new : List ℕ) → place ≡ s.selector.half → place ≤ 1 → length s.records ≤ at → at < end → at < half_cells → SameOutside (cell_at place at) CELL_BYTES given new
+  journal_put : (end place at : ℕ) (given new : List ℕ) → place ≡ s.selector.half → place ≤ 1 → length s.records ≤ at → at < end → at < half_cells
+      → SameOutside (cell_at place at) CELL_BYTES given new
       → KeepsJournal s end base given → KeepsJournal s end base new
   journal_put end place at given new place_is few after before room same keeps = record {
     head = same.before 0 FIRST_HALF (omega arith) ∙ keeps.head;
     cells = λ half cell low within other.
-        other_cell half cell (nat_lt (cell_at half cell) (cell_at place at)) refl (λ is. other (same_half half cell low within is ∙ place_is, omega (arith, same_cell half cell low within is, after), omega (arith, same_cell half cell low within is, before)))
+        other_cell half cell (nat_lt (cell_at half cell) (cell_at place at)) refl
+        (λ is. other
+        (same_half half cell low within is ∙ place_is, omega (arith, same_cell half cell low within is, after), omega (arith, same_cell half cell low within is, before)))
         ∙ keeps.cells half cell low within other;
   }
     where
@@ -128,12 +133,14 @@ module _ (s : Store) (base : List ℕ) where
       same_cell : (half cell : ℕ) → half ≤ 1 → cell < half_cells → cell_at half cell ≡ cell_at place at → cell ≡ at
       same_cell half cell low within is = omega (arith, low, within, is, few, room)
 
-      other_cell : (half cell : ℕ) (below : Bool) → nat_lt (cell_at half cell) (cell_at place at) ≡ below → (cell_at half cell ≡ cell_at place at → ⊥) → range (cell_at half cell) CELL_BYTES new ≡ range (cell_at half cell) CELL_BYTES given
+      other_cell : (half cell : ℕ) (below : Bool) → nat_lt (cell_at half cell) (cell_at place at) ≡ below → (cell_at half cell ≡ cell_at place at → ⊥)
+          → range (cell_at half cell) CELL_BYTES new ≡ range (cell_at half cell) CELL_BYTES given
       other_cell half cell true is differ = same.before (cell_at half cell) CELL_BYTES (omega (arith, ltb-true (cell_at half cell) (cell_at place at) is))
       other_cell half cell false is differ = same.after (cell_at half cell) CELL_BYTES (omega (arith, ltb-false (cell_at half cell) (cell_at place at) is, differ))
 
   module _ (end : ℕ) (Also : Type 0) (Stays : ℕ → Type 0) (given : List ℕ) (keeps : KeepsBytes s end Also Stays base given) where
-    keeps_fewer : (later : ℕ) (Then : Type 0) (Fewer : ℕ → Type 0) → (Then → Also × (end ≤ later)) → ((slot : ℕ) → Fewer slot → Stays slot) → KeepsBytes s later Then Fewer base given
+    keeps_fewer : (later : ℕ) (Then : Type 0) (Fewer : ℕ → Type 0) → (Then → Also × (end ≤ later)) → ((slot : ℕ) → Fewer slot → Stays slot)
+        → KeepsBytes s later Then Fewer base given
     keeps_fewer later Then Fewer more each = record {
       size_is = keeps.size_is;
       format = keeps.format;
@@ -159,7 +166,8 @@ module _ (s : Store) (base : List ℕ) where
       slots = λ slot within stays. other_slot slot within (nat_lt slot place) refl (others slot stays) ∙ keeps.slots slot within stays;
     }
       where
-        other_slot : (slot : ℕ) → slot < s.slots → (below : Bool) → nat_lt slot place ≡ below → slot ≢ place → range (slot_at slot) SLOT_BYTES new ≡ range (slot_at slot) SLOT_BYTES given
+        other_slot : (slot : ℕ) → slot < s.slots → (below : Bool) → nat_lt slot place ≡ below → slot ≢ place
+            → range (slot_at slot) SLOT_BYTES new ≡ range (slot_at slot) SLOT_BYTES given
         other_slot slot within true is differ = same.before (slot_at slot) SLOT_BYTES (omega (arith, ltb-true slot place is))
         other_slot slot within false is differ = same.after (slot_at slot) SLOT_BYTES (omega (arith, ltb-false slot place is, differ)) (omega (arith, within))
 
@@ -206,7 +214,8 @@ module _ (name : List ℕ) (change : Change) (t : Store) where
   grows free = record {
     free = free;
     same = ap (λ (u : Store). u.selector) (cell_here t free);
-    longer = subst (λ (u : Store). length (appended name change u).records ≡ length t.records + 1) (sym (cell_here t free)) (length-append t.records (record_of name change t ∷ []));
+    longer = subst (λ (u : Store). length (appended name change u).records ≡ length t.records + 1) (sym (cell_here t free))
+        (length-append t.records (record_of name change t ∷ []));
   }
 
   rises_on : t.selector.generation ≤ (with_change name change t).selector.generation
@@ -290,7 +299,8 @@ module _ (s : Store) (base : List ℕ) (t : Store) (old new : CoreState) (framed
   given_has has = stands_content (HasJournal t) old.disk (framed.journal has) given known
 
   -- a content of the same cells before the slots, of a settled disk
-  has_still : (bytes : List ℕ) → new.disk.content ≡ Some bytes → IsSettled old.tables.slots new.disk → SameTo FIRST_SLOT given bytes → HasJournal s base → StandsFor (HasJournal t) new.disk
+  has_still : (bytes : List ℕ) → new.disk.content ≡ Some bytes → IsSettled old.tables.slots new.disk → SameTo FIRST_SLOT given bytes → HasJournal s base
+      → StandsFor (HasJournal t) new.disk
   has_still bytes told calm same has = has_settled t new.disk old.tables.slots bytes told calm (has_kept t given bytes same (given_has has))
 
   -- each image is the content, in what counts
@@ -333,7 +343,8 @@ module _ (s : Store) (base : List ℕ) (t : Store) (old new : CoreState) (framed
 
     adds_written : (c : List ℕ) → AddsBytes s t base c → Written c
     adds_written c adds =
-        keeps_fewer s base (length t.records) Still Same c adds half_cells (HasCellsFor s count) Was (λ has. ((fits has).0, framed.on.valid.few)) (λ slot was. framed.held slot was.0 was.1 ∙ sym was.1)
+        keeps_fewer s base (length t.records) Still Same c adds half_cells (HasCellsFor s count) Was (λ has. ((fits has).0, framed.on.valid.few))
+        (λ slot was. framed.held slot was.0 was.1 ∙ sym was.1)
 
     image_written : (c : List ℕ) → old.disk.images c → Written c
     image_written c image = adds_written c (image_adds c image)
@@ -345,7 +356,8 @@ module _ (s : Store) (base : List ℕ) (t : Store) (old new : CoreState) (framed
     by_seal filled answer effect =
         let frame = frame_of (effect.moves.frame.store_has t framed.on.represents framed.on.valid framed.on.has_free) in
         leaves_weaker (SameButSlotOf s.slots place given) Written old.disk new.disk
-        (λ c same. keeps_sealed s base half_cells (HasCellsFor s count) Was given (adds_written given framed.content.2) place c not_place same) (frame.settled settled given known).1
+        (λ c same. keeps_sealed s base half_cells (HasCellsFor s count) Was given (adds_written given framed.content.2) place c not_place same)
+        (frame.settled settled given known).1
 
     record_written : 1 ≤ left → (d c : List ℕ) → Written d → SameButOne d c → Written c
     record_written some_left d c keeps same =
@@ -429,7 +441,8 @@ module _ (s : Store) (base : List ℕ) (t : Store) (old new : CoreState) (framed
     rests : (answer : Result Answer Refusal) → Rests answer old new → IsSettled old.tables.slots new.disk → Leads s base [] t new
     rests answer effect calm = still effect.tables effect.disk.only.later (reads_count effect.disk.only) calm
 
-    unsealed_counts : (filled : Contents) (refusal : Refusal) → StopsAfter (asked.Seal filled) (Err refusal) old.acknowledged new.stop → IsLater old.disk new.disk → Left old.tables.slots (ending_of (blames refusal)) old.disk new.disk → Counts
+    unsealed_counts : (filled : Contents) (refusal : Refusal) → StopsAfter (asked.Seal filled) (Err refusal) old.acknowledged new.stop → IsLater old.disk new.disk
+        → Left old.tables.slots (ending_of (blames refusal)) old.disk new.disk → Counts
     unsealed_counts filled refusals.DiskWrite stops later left = absurd (let both = sym stays ∙ stops in cc)
     unsealed_counts filled refusals.DiskRead stops later left = both_count later left.content_is
     unsealed_counts filled refusal stops later left = both_count later left.content_is
@@ -471,7 +484,8 @@ module _ (s : Store) (base : List ℕ) (t : Store) (old new : CoreState) (framed
               left.0,
               left.1,
               keeps_sealed s base (length t.records) Still (Now h) given
-                  (keeps_fewer s base (length t.records) Still Same given framed.content.2 (length t.records) Still (Now h) (λ so. (so, omega arith)) (λ slot now. sym (other_with slot h t.held (now_other h slot now)) ∙ now))
+                  (keeps_fewer s base (length t.records) Still Same given framed.content.2 (length t.records) Still (Now h) (λ so. (so, omega arith))
+                  (λ slot now. sym (other_with slot h t.held (now_other h slot now)) ∙ now))
                   place left.0 (now_other h) left.2,
             );
             journal = λ has. stands_weaker (HasJournal t) (HasJournal (changed change t)) new.disk (λ c so. record { holds = so.holds; other = so.other })
@@ -531,14 +545,16 @@ module _ (s : Store) (base : List ℕ) (t : Store) (old new : CoreState) (framed
             fits = λ count more fits. fits_changed name change t s count more (fits_fewer s count t (names_in (ChangeName name change ∷ []) + more) (suc more) (omega arith) fits);
           }
 
-    leads : (actor : ℕ) (buf : List ℕ) (step : StepValue) (answer : Result Answer Refusal) → IsNoGcStep step → Row step actor answer buf old new → Effect step answer old new → StopsAfter step answer old.acknowledged new.stop
+    leads : (actor : ℕ) (buf : List ℕ) (step : StepValue) (answer : Result Answer Refusal) → IsNoGcStep step → Row step actor answer buf old new → Effect step answer old new
+        → StopsAfter step answer old.acknowledged new.stop
         → IsSettled old.tables.slots new.disk → Leads s base (changes_by step answer) t new
     leads actor buf asked.Begin answer other row effect stops calm = rests answer effect calm
     leads actor buf (asked.Claim seg) answer other row effect stops calm = rests answer effect calm
     leads actor buf (asked.Seal filled) (Ok (answers.Sealed id)) other row effect stops calm = seals id filled (answers.Sealed id) effect row.id_is calm
     leads actor buf (asked.Seal filled) (Ok answer) other row effect stops calm = absurd row
     leads actor buf (asked.Seal filled) (Err refusal) other row effect stops calm =
-        still (seal_kept old new stays filled refusal old.acknowledged stops effect.kept) effect.disk.later (unsealed_counts filled refusal stops effect.disk.later effect.disk.left) calm
+        still (seal_kept old new stays filled refusal old.acknowledged stops effect.kept) effect.disk.later
+        (unsealed_counts filled refusal stops effect.disk.later effect.disk.left) calm
     leads actor buf (asked.Commit name root) (Ok (answers.Committed sequence)) other row effect stops calm = names name (Put root) (answers.Committed sequence) effect calm
     leads actor buf (asked.Commit name root) (Ok answer) other row effect stops calm = absurd row
     leads actor buf (asked.Commit name root) (Err refusal) other row effect stops calm =
@@ -571,7 +587,8 @@ record LeadsOn (s : Store) (base : List ℕ) (changes : List StoreChange) (t : S
 
 module _ (C : Type 0) (state : C → CoreState) where
   module _ (s : Store) (base : List ℕ) where
-    run_leads : (steps : List FileEvent) (t : Store) (old new : C) → IsFramed s base t (state old) → CoreRun C state (events_of steps) old new → AreNoGcSteps (events_of steps) → (state new).stop ≡ None → LeadsOn s base (changes_of steps) t (state new)
+    run_leads : (steps : List FileEvent) (t : Store) (old new : C) → IsFramed s base t (state old) → CoreRun C state (events_of steps) old new → AreNoGcSteps (events_of steps)
+        → (state new).stop ≡ None → LeadsOn s base (changes_of steps) t (state new)
     run_leads [] t old new framed run others stays = record { after = t; chain = refl; framed = subst (λ (c : C). IsFramed s base t (state c)) (sym run) framed }
     run_leads (f ∷ fs) t old new framed run others stays =
         let e : Event = f.event in
@@ -587,20 +604,29 @@ module _ (C : Type 0) (state : C → CoreState) where
       LeavesWritten old new = CrashLeaves (KeepsWritten s count base) (state old).disk (state new).disk
 
       -- a step, and what follows where it didn't stop the core
-      after_step : (e : Event) (es : List Event) (t : Store) (old mid new : C) → IsNoGcStep e.step → IsFramed s base t (state old) → Fits s count t (commands_of e.step + commands_in es) → CoreStep (state old) e (state mid) → CoreRun C state es mid new
-          → ((u : Store) → IsFramed s base u (state mid) → Fits s count u (commands_in es) → LeavesWritten mid new) → (stop : Option Stop) → (state mid).stop ≡ stop → LeavesWritten old new
+      after_step : (e : Event) (es : List Event) (t : Store) (old mid new : C) → IsNoGcStep e.step → IsFramed s base t (state old)
+          → Fits s count t (commands_of e.step + commands_in es) → CoreStep (state old) e (state mid) → CoreRun C state es mid new
+          → ((u : Store) → IsFramed s base u (state mid) → Fits s count u (commands_in es) → LeavesWritten mid new) → (stop : Option Stop) → (state mid).stop ≡ stop
+          → LeavesWritten old new
       after_step e es t old mid new other framed fits step run others None is =
           let was = was_running (state old).stop e (state old) (state mid) refl step is in
           let next = step_leads s base t (state old) (state mid) framed is e other (running_step (state old) (state mid) e was step) in
-          let rest = next.fits count (commands_in es) (fits_fewer s count t (commands_of e.step + commands_in es) (names_in (changes_by e.step e.answer) + commands_in es) (omega (arith, few_names e.step e.answer)) fits) in
-          leaves_on (KeepsWritten s count base) (KeepsWritten s count base) (KeepsWritten s count base) (state old).disk (state mid).disk (state new).disk (step_later (state old) (state mid) e (state old).stop step).clock_is
-          (step_leaves s base t (state old) (state mid) framed count (commands_of e.step + commands_in es) fits e (state old).stop other (omega arith) step) (others next.after next.framed rest) (λ c keeps. keeps) (λ c keeps. keeps)
+          let rest = next.fits count (commands_in es)
+          (fits_fewer s count t (commands_of e.step + commands_in es) (names_in (changes_by e.step e.answer) + commands_in es)
+          (omega (arith, few_names e.step e.answer)) fits) in
+          leaves_on (KeepsWritten s count base) (KeepsWritten s count base) (KeepsWritten s count base) (state old).disk (state mid).disk (state new).disk
+          (step_later (state old) (state mid) e (state old).stop step).clock_is
+          (step_leaves s base t (state old) (state mid) framed count (commands_of e.step + commands_in es) fits e (state old).stop other (omega arith) step)
+          (others next.after next.framed rest) (λ c keeps. keeps) (λ c keeps. keeps)
       after_step e es t old mid new other framed fits step run others (Some stop) is =
           let first = step_leaves s base t (state old) (state mid) framed count (commands_of e.step + commands_in es) fits e (state old).stop other (omega arith) step in
-          leaves_on (KeepsWritten s count base) (KeepsWritten s count base) (KeepsWritten s count base) (state old).disk (state mid).disk (state new).disk (step_later (state old) (state mid) e (state old).stop step).clock_is
-          first (reads_leave (KeepsWritten s count base) (state mid).disk (state new).disk first.now (stopped_reads C state stop es mid new is run)) (λ c keeps. keeps) (λ c keeps. keeps)
+          leaves_on (KeepsWritten s count base) (KeepsWritten s count base) (KeepsWritten s count base) (state old).disk (state mid).disk (state new).disk
+          (step_later (state old) (state mid) e (state old).stop step).clock_is
+          first (reads_leave (KeepsWritten s count base) (state mid).disk (state new).disk first.now (stopped_reads C state stop es mid new is run)) (λ c keeps. keeps)
+          (λ c keeps. keeps)
 
-      run_leaves : (events : List Event) (t : Store) (old new : C) → AreNoGcSteps events → IsFramed s base t (state old) → Fits s count t (commands_in events) → CoreRun C state events old new → LeavesWritten old new
+      run_leaves : (events : List Event) (t : Store) (old new : C) → AreNoGcSteps events → IsFramed s base t (state old) → Fits s count t (commands_in events)
+          → CoreRun C state events old new → LeavesWritten old new
       run_leaves [] t old new others framed fits run =
           reads_leave (KeepsWritten s count base) (state old).disk (state new).disk (image_written s base t (state old) (state old) framed count 0 fits)
           (subst (λ (c : C). OnlyReads (state old).disk (state c).disk) (sym run) (reads_here (state old).disk))

@@ -61,7 +61,8 @@ pub phase_of : (c : Collection) (phase : Phase) → answer_of c ≡ Did phase �
 phase_of c phase is = phase_is c.stage c.sweep.next c.sweep.freed c.sweep.copied phase is
 
 -- the changes of a step: a container is written, or that of a slot is given back, just where the sweep comes to that
-stage_changes : (stage : Stage) (next : Next) (snapshot : ℕ) (sweep : Sweep) (index : PlaceMap) (s t : Store) (image : List ℕ) → IsStoreAfter stage next snapshot sweep index s t image
+stage_changes : (stage : Stage) (next : Next) (snapshot : ℕ) (sweep : Sweep) (index : PlaceMap) (s t : Store) (image : List ℕ)
+    → IsStoreAfter stage next snapshot sweep index s t image
     → (changes : List StoreChange) × (AreChangesBy asked.GcStep (Ok (answers.Did (phase_at stage next))) changes × ChangesTo changes s t)
 stage_changes (Mark level slot) next snapshot sweep index s t image same = ([], (refl, same))
 stage_changes (Filter slot) next snapshot sweep index s t image same = ([], (refl, same))
@@ -71,10 +72,12 @@ stage_changes SweepStage (Flush source entry) snapshot sweep index s t image flu
   FlushContainer flushes.id sweep.buffer.kind sweep.buffer.segments ∷ [],
   ((flushes.id, sweep.buffer.kind, sweep.buffer.segments, refl), (flushes.can, flushes.now_is)),
 )
-stage_changes SweepStage (Release source entry) snapshot sweep index s t image frees = (FreeContainer (slot_in_turn sweep) ∷ [], ((slot_in_turn sweep, refl), ((frees.header, frees.there), frees.now_is)))
+stage_changes SweepStage (Release source entry) snapshot sweep index s t image frees =
+    (FreeContainer (slot_in_turn sweep) ∷ [], ((slot_in_turn sweep, refl), ((frees.header, frees.there), frees.now_is)))
 stage_changes SweepStage End snapshot sweep index s t image same = ([], (refl, same))
 
-did_changes : (c : Collection) (phase : Phase) (index : PlaceMap) (s t : Store) (image : List ℕ) → answer_of c ≡ Did phase → IsStoreAfter c.stage c.sweep.next c.snapshot c.sweep index s t image
+did_changes : (c : Collection) (phase : Phase) (index : PlaceMap) (s t : Store) (image : List ℕ) → answer_of c ≡ Did phase
+    → IsStoreAfter c.stage c.sweep.next c.snapshot c.sweep index s t image
     → (changes : List StoreChange) × (AreChangesBy asked.GcStep (Ok (answers.Did phase)) changes × ChangesTo changes s t)
 did_changes c phase index s t image is after =
     subst (λ (p : Phase). (changes : List StoreChange) × (AreChangesBy asked.GcStep (Ok (answers.Did p)) changes × ChangesTo changes s t)) (phase_of c phase is)
@@ -91,7 +94,8 @@ journal_same SweepStage (Release source entry) old new after = ap (λ (x : Table
 journal_same SweepStage End old new after = ap (λ (x : Tables). x.journal) after
 
 -- at its end it only reads
-pub end_reads : (c : Collection) (t : Tables) (e : Ending) (old new : DiskView) → c.stage ≡ SweepStage → c.sweep.next ≡ End → Touches c.stage c.sweep.next c.sweep t e old new → Reads e old new
+pub end_reads : (c : Collection) (t : Tables) (e : Ending) (old new : DiskView) → c.stage ≡ SweepStage → c.sweep.next ≡ End → Touches c.stage c.sweep.next c.sweep t e old new
+    → Reads e old new
 end_reads c t e old new stage next touches =
     subst (λ (n : Next). Touches SweepStage n c.sweep t e old new) next (subst (λ (s : Stage). Touches s c.sweep.next c.sweep t e old new) stage touches)
 
@@ -101,7 +105,8 @@ end_reads c t e old new stage next touches =
 abbrev gc_event : ℕ → Result Answer Refusal → List ℕ → List ℕ → FileEvent
 gc_event actor answer buf bytes = record { event = record { actor = actor; step = asked.GcStep; answer = answer; buf = buf }; bytes = bytes }
 
-module _ (among : ByteSet) (s : Store) (stored : Stored) (old new : CoreState) (actor : ℕ) (buf bytes : List ℕ) (at : IsAt (IsIn among) s stored old) (stays : new.stop ≡ None) where
+module _ (among : ByteSet) (s : Store) (stored : Stored) (old new : CoreState) (actor : ℕ) (buf bytes : List ℕ) (at : IsAt (IsIn among) s stored old)
+    (stays : new.stop ≡ None) where
   abbrev image : List ℕ
   image = at.stands.known.0
 
@@ -121,9 +126,12 @@ module _ (among : ByteSet) (s : Store) (stored : Stored) (old new : CoreState) (
   few = omega (arith, at.many)
 
   -- what holds afterwards, by the store, the map of the index and the content that there are then
-  module _ (now : List ℕ) (told : new.disk.content ≡ Some now) (goes : IsLater old.disk new.disk) (parts : new.parts ≡ old.parts) (under_way : IsUnderWayIn new.tables.held new.collection) where
-    at_now : (t : Store) (later : PlaceMap) → new.known ≡ Some later → Represents t (Some later) new.tables → IsValidFor new.disk.size t → StandsFor (Stands (IsIn among) t stored.files) new.disk
-        → new.tables.journal ≡ old.tables.journal → CoreInvariant later t stored.files old.parts now → IsSafeIn later t old.parts now new.collection → IsAt (IsIn among) t stored new
+  module _ (now : List ℕ) (told : new.disk.content ≡ Some now) (goes : IsLater old.disk new.disk) (parts : new.parts ≡ old.parts)
+      (under_way : IsUnderWayIn new.tables.held new.collection) where
+    at_now : (t : Store) (later : PlaceMap) → new.known ≡ Some later → Represents t (Some later) new.tables → IsValidFor new.disk.size t
+        → StandsFor (Stands (IsIn among) t stored.files) new.disk
+        → new.tables.journal ≡ old.tables.journal → CoreInvariant later t stored.files old.parts now → IsSafeIn later t old.parts now new.collection
+        → IsAt (IsIn among) t stored new
     at_now t later known is valid stands journal core safe = record {
       represents = subst (λ (k : Option PlaceMap). Represents t k new.tables) (sym known) is;
       index = later;
@@ -131,7 +139,8 @@ module _ (among : ByteSet) (s : Store) (stored : Stored) (old new : CoreState) (
       valid = valid;
       stands = stands;
       last_is = ap (λ (j : JournalValue). j.last) journal ∙ at.last_is;
-      invariant = λ c is. subst (CoreInvariant later t stored.files new.parts) (one_list now c (sym told ∙ is)) (subst (λ (p : List Part). CoreInvariant later t stored.files p now) (sym parts) core);
+      invariant = λ c is. subst (CoreInvariant later t stored.files new.parts) (one_list now c (sym told ∙ is))
+          (subst (λ (p : List Part). CoreInvariant later t stored.files p now) (sym parts) core);
       many = ap length parts ∙ at.many;
       under_way = under_way;
       safe = λ c is. subst (λ (bytes : List ℕ). IsSafeIn later t new.parts bytes new.collection) (one_list now c (sym told ∙ is))
@@ -139,7 +148,8 @@ module _ (among : ByteSet) (s : Store) (stored : Stored) (old new : CoreState) (
     }
 
     -- where the store and the index stay
-    same_led : (answer : Result Answer Refusal) → AreChangesBy asked.GcStep answer [] → new.known ≡ Some at.index → new.tables ≡ old.tables → StandsFor (Stands (IsIn among) s stored.files) new.disk
+    same_led : (answer : Result Answer Refusal) → AreChangesBy asked.GcStep answer [] → new.known ≡ Some at.index → new.tables ≡ old.tables
+        → StandsFor (Stands (IsIn among) s stored.files) new.disk
         → CoreInvariant at.index s stored.files old.parts now → IsSafeIn at.index s old.parts now new.collection
         → ((key : List ℕ) (level : ℕ) (text : List ℕ) → HasNewest s.held key level text image → HasNewest s.held key level text now) → Led answer
     same_led answer none known tables stands core safe keeps = record {
@@ -148,11 +158,14 @@ module _ (among : ByteSet) (s : Store) (stored : Stored) (old new : CoreState) (
       next = record {
         store = s;
         chain = refl;
-        is_at = at_now s at.index known (subst (Represents s (Some at.index)) (sym tables) represents) (subst (λ (size : ℕ). IsValidFor size s) (sym goes.size_is) at.valid) stands (ap (λ (t : Tables). t.journal) tables) core safe;
+        is_at = at_now s at.index known (subst (Represents s (Some at.index)) (sym tables) represents) (subst (λ (size : ℕ). IsValidFor size s) (sym goes.size_is) at.valid) stands
+            (ap (λ (t : Tables). t.journal) tables) core safe;
       };
-      keys = λ key before is spared first then first_is then_is has. subst (λ (m : PlaceMap). HasKey m key) (one_map_at first then (sym first_is ∙ at.index_known ∙ sym known ∙ then_is)) has;
+      keys = λ key before is spared first then first_is then_is has. subst (λ (m : PlaceMap). HasKey m key)
+          (one_map_at first then (sym first_is ∙ at.index_known ∙ sym known ∙ then_is)) has;
       copies = λ key before after is after_is spared first first_is has level text newest.
-          subst (HasNewest s.held key level text) (one_list now after (sym told ∙ after_is)) (keeps key level text (subst (HasNewest s.held key level text) (one_list before image (sym is ∙ here)) newest));
+          subst (HasNewest s.held key level text) (one_list now after (sym told ∙ after_is))
+          (keeps key level text (subst (HasNewest s.held key level text) (one_list before image (sym is ∙ here)) newest));
       whole = λ other. absurd other;
     }
 
@@ -166,7 +179,8 @@ module _ (among : ByteSet) (s : Store) (stored : Stored) (old new : CoreState) (
         subst (λ (k : Option PlaceMap). StepsTo c.stage c.sweep.next (moment old.tables k old.disk c) (at_moment new row.after)) at.index_known row.steps in
         let tables : TablesAfter c.stage c.sweep.next (moment old.tables (Some at.index) old.disk c) (at_moment new row.after) =
         subst (λ (k : Option PlaceMap). TablesAfter c.stage c.sweep.next (moment old.tables k old.disk c) (at_moment new row.after)) at.index_known row.tables in
-        let touched : Touches c.stage c.sweep.next c.sweep old.tables Done old.disk new.disk = subst (λ (o : Option Collection). TouchesBy o (Ok (answers.Did phase)) old new.disk) row.ran touches in
+        let touched : Touches c.stage c.sweep.next c.sweep old.tables Done old.disk new.disk = subst
+        (λ (o : Option Collection). TouchesBy o (Ok (answers.Did phase)) old new.disk) row.ran touches in
         let leaves = step_safe at.index s stored.files old.parts image now among old.tables new.tables new.known old.disk new.disk c row.after
         (at.invariant image here) few represents at.valid here told at.stands under (subst (IsUnderWayIn new.tables.held) row.runs under_way) safe steps tables touched goes in
         let changes = did_changes c phase at.index s leaves.store_now image row.phase_is leaves.store_is in
@@ -176,7 +190,8 @@ module _ (among : ByteSet) (s : Store) (stored : Stored) (old new : CoreState) (
           next = record {
             store = leaves.store_now;
             chain = changes.1.1;
-            is_at = at_now leaves.store_now leaves.later leaves.known_is leaves.represents leaves.valid leaves.stands (journal_same c.stage c.sweep.next (at_moment old c) (at_moment new row.after) row.tables)
+            is_at = at_now leaves.store_now leaves.later leaves.known_is leaves.represents leaves.valid leaves.stands
+                (journal_same c.stage c.sweep.next (at_moment old c) (at_moment new row.after) row.tables)
                 leaves.core
                 (subst (IsSafeIn leaves.later leaves.store_now old.parts now) (sym row.runs) leaves.safe);
           };
@@ -196,7 +211,8 @@ module _ (among : ByteSet) (s : Store) (stored : Stored) (old new : CoreState) (
     read_led answer none known tables reads safe =
         let same : image ≡ now = one_list image now (sym here ∙ sym reads.content_is ∙ told) in
         same_led answer none (known ∙ at.index_known) tables (stands_reads (Stands (IsIn among) s stored.files) old.disk new.disk at.stands reads)
-        (subst (CoreInvariant at.index s stored.files old.parts) same (at.invariant image here)) (subst (λ (bytes : List ℕ). IsSafeIn at.index s old.parts bytes new.collection) same (safe (at.safe image here)))
+        (subst (CoreInvariant at.index s stored.files old.parts) same (at.invariant image here))
+        (subst (λ (bytes : List ℕ). IsSafeIn at.index s old.parts bytes new.collection) same (safe (at.safe image here)))
         (λ key level text newest. subst (HasNewest s.held key level text) same newest)
 
     ended_led : (freed copied : ℕ) → HasEnded freed copied old new → TouchesBy old.collection (Ok (answers.Done freed copied)) old new.disk → Led (Ok (answers.Done freed copied))
@@ -211,15 +227,19 @@ module _ (among : ByteSet) (s : Store) (stored : Stored) (old new : CoreState) (
         read_led (Err refusals.NotCollecting) refl row.index_is row.tables_are reads.only (λ safe. subst (IsSafeIn at.index s old.parts image) (sym row.none_runs) tt)
 
     -- where one was refused
-    refused_led : (refusal : Refusal) → AreChangesBy asked.GcStep (Err refusal) [] → (refusal ≡ refusals.DiskWrite → ⊥) → IsNotMade refusal old new → TouchesBy old.collection (Err refusal) old new.disk → Led (Err refusal)
+    refused_led : (refusal : Refusal) → AreChangesBy asked.GcStep (Err refusal) [] → (refusal ≡ refusals.DiskWrite → ⊥) → IsNotMade refusal old new
+        → TouchesBy old.collection (Err refusal) old new.disk → Led (Err refusal)
     refused_led refusal none other row touches =
         let c = row.before in
         let safe : IsSafe at.index s old.parts image c = subst (IsSafeIn at.index s old.parts image) row.ran (at.safe image here) in
         let cause = subst (λ (k : Option PlaceMap). IsStepRefusal c.stage c.sweep.next (moment old.tables k old.disk c) new.disk refusal) at.index_known row.cause in
         let keeps = subst (λ (k : Option PlaceMap). Keeps c.stage c.sweep.next (moment old.tables k old.disk c) (at_moment new row.after) refusal) at.index_known row.kept in
-        let kept = subst (λ (t : Tables). Keeps c.stage c.sweep.next (moment old.tables (Some at.index) old.disk c) (moment t new.known new.disk row.after) refusal) row.tables_are keeps in
-        let touched : Touches c.stage c.sweep.next c.sweep old.tables (ending_of (blames refusal)) old.disk new.disk = subst (λ (o : Option Collection). TouchesBy o (Err refusal) old new.disk) row.ran touches in
-        let still = refused_safe at.index s stored.files old.parts image now among old.tables new.known old.disk new.disk c row.after (at.invariant image here) represents at.valid here told at.stands
+        let kept = subst
+        (λ (t : Tables). Keeps c.stage c.sweep.next (moment old.tables (Some at.index) old.disk c) (moment t new.known new.disk row.after) refusal) row.tables_are keeps in
+        let touched : Touches c.stage c.sweep.next c.sweep old.tables (ending_of (blames refusal)) old.disk new.disk = subst
+        (λ (o : Option Collection). TouchesBy o (Err refusal) old new.disk) row.ran touches in
+        let still = refused_safe at.index s stored.files old.parts image now among old.tables new.known old.disk new.disk c row.after
+        (at.invariant image here) represents at.valid here told at.stands
         refusal other safe cause kept touched in
         same_led (Err refusal) none still.known_is row.tables_are still.stands still.core (subst (IsSafeIn at.index s old.parts now) (sym row.runs) still.safe) still.keeps
 

@@ -82,7 +82,8 @@ gives_map true (Err refusals.DiskRead) buf segments P Q next gives = next segmen
 gives_map true answer buf segments P Q next gives = absurd gives
 
 -- a key of the file's tree is needed while the file is taken
-needed_key : (actor : ℕ) (s : Store) (segments : List (List ℕ)) (c : CoreState) (image : List ℕ) → c.disk.content ≡ Some image → length c.parts ≡ ACTORS → (reader : IsReader actor s segments c) → (key : List ℕ) → Contains (tree_keys reader.whole) key
+needed_key : (actor : ℕ) (s : Store) (segments : List (List ℕ)) (c : CoreState) (image : List ℕ) → c.disk.content ≡ Some image → length c.parts ≡ ACTORS
+    → (reader : IsReader actor s segments c) → (key : List ℕ) → Contains (tree_keys reader.whole) key
     → IsNeeded s c.parts image key
 needed_key actor s segments c image told many reader key there =
     let own : Reader = record { root = reader.root; cursor = reader.ahead } in
@@ -107,7 +108,8 @@ needed_key actor s segments c image told many reader key there =
     }
 
 -- what a step spares is spared of the file
-spared_key : (step : StepValue) (actor : ℕ) (s : Store) (segments : List (List ℕ)) (c : CoreState) (image : List ℕ) → c.disk.content ≡ Some image → length c.parts ≡ ACTORS → (reader : IsReader actor s segments c)
+spared_key : (step : StepValue) (actor : ℕ) (s : Store) (segments : List (List ℕ)) (c : CoreState) (image : List ℕ) → c.disk.content ≡ Some image → length c.parts ≡ ACTORS
+    → (reader : IsReader actor s segments c)
     → (key : List ℕ) → Contains (tree_keys reader.whole) key → IsSpared step s c.parts image key
 spared_key step actor s segments c image told many reader key there = by_step (gc_or_not step)
   where
@@ -115,7 +117,8 @@ spared_key step actor s segments c image told many reader key there = by_step (g
     by_step (inl gc) = subst (λ (st : StepValue). IsSpared st s c.parts image key) (sym gc) (needed_key actor s segments c image told many reader key there)
     by_step (inr other) = spared_other step s c.parts image key other
 
-module _ (among : ByteSet) (s : Store) (f : FileEvent) (stored later : Stored) (old new : CoreState) (actor : ℕ) (segments : List (List ℕ)) (at : IsAt (IsIn among) s stored old) (leads : Leads (IsIn among) s f later old new) (reader : IsReader actor s segments old) where
+module _ (among : ByteSet) (s : Store) (f : FileEvent) (stored later : Stored) (old new : CoreState) (actor : ℕ) (segments : List (List ℕ)) (at : IsAt (IsIn among) s stored old)
+    (leads : Leads (IsIn among) s f later old new) (reader : IsReader actor s segments old) where
   abbrev image : List ℕ
   image = at.stands.known.0
 
@@ -141,7 +144,8 @@ module _ (among : ByteSet) (s : Store) (f : FileEvent) (stored later : Stored) (
       leads.copies key image after here told (spared key has) at.index at.index_known (has_here key has) level text newest
 
   -- what is to come of its part, by the old store, is so by the new one
-  goes : (own : ℕ) (root : Root) (ahead : List Top) (rest : List (List ℕ)) → root ≡ reader.root → ChangesOne own old.parts new.parts → part_of new.parts actor ≡ reading root ahead → SegmentsAhead counts s.held image ahead rest → Still rest
+  goes : (own : ℕ) (root : Root) (ahead : List Top) (rest : List (List ℕ)) → root ≡ reader.root → ChangesOne own old.parts new.parts → part_of new.parts actor ≡ reading root ahead
+      → SegmentsAhead counts s.held image ahead rest → Still rest
   goes own root ahead rest same one is held = record {
     root = root;
     ahead = ahead;
@@ -158,7 +162,8 @@ module _ (among : ByteSet) (s : Store) (f : FileEvent) (stored later : Stored) (
 
   -- a step of another
   pub other_still : (own : ℕ) → ChangesOne own old.parts new.parts → actor ≢ own → Still segments
-  other_still own one differs = goes own reader.root reader.ahead segments refl one (other_part actor own old.parts new.parts one differs ∙ reader.part_is) (reader.ahead_is image here)
+  other_still own one differs = goes own reader.root reader.ahead segments refl one (other_part actor own old.parts new.parts one differs ∙ reader.part_is)
+      (reader.ahead_is image here)
 
   indexed : IsIndexed counts s.held old.known old.disk.content image
   indexed = record {
@@ -183,19 +188,22 @@ module _ (among : ByteSet) (s : Store) (f : FileEvent) (stored later : Stored) (
         held.given.others,
         (
           held.given.segments_are,
-          goes actor held.goes_on.root held.rest held.given.others (same_root held.goes_on.root reader.ahead held.goes_on.part_is) (record { part = _; parts_are = held.goes_on.parts_are }) (set_part held.goes_on.root held.rest held.goes_on.parts_are) held.given.ahead,
+          goes actor held.goes_on.root held.rest held.given.others (same_root held.goes_on.root reader.ahead held.goes_on.part_is)
+              (record { part = _; parts_are = held.goes_on.parts_are }) (set_part held.goes_on.root held.rest held.goes_on.parts_are) held.given.ahead,
         ),
       )
   own_still (Ok answers.End) buf row =
       let held = row.held reader.root reader.ahead counts s.held image segments reader.part_is indexed (reader.ahead_is image here) in
       let next_part = row.next.goes_on in (
         held.given,
-        goes actor next_part.root row.next.rest segments (same_root next_part.root row.next.was next_part.part_is) (record { part = _; parts_are = next_part.parts_are }) (set_part next_part.root row.next.rest next_part.parts_are)
+        goes actor next_part.root row.next.rest segments (same_root next_part.root row.next.was next_part.part_is) (record { part = _; parts_are = next_part.parts_are })
+            (set_part next_part.root row.next.rest next_part.parts_are)
             (record { trees = []; held_ahead = record { trees = record { tops = row.next.given.1; each = tt }; each = tt }; segments_are = held.given }),
       )
   own_still (Err refusals.DiskRead) buf row =
       let held = row.held reader.root reader.ahead counts s.held image segments reader.part_is indexed (reader.ahead_is image here) in
-      goes actor held.goes_on.root held.rest segments (same_root held.goes_on.root reader.ahead held.goes_on.part_is) (record { part = _; parts_are = held.goes_on.parts_are }) (set_part held.goes_on.root held.rest held.goes_on.parts_are) held.given
+      goes actor held.goes_on.root held.rest segments (same_root held.goes_on.root reader.ahead held.goes_on.part_is) (record { part = _; parts_are = held.goes_on.parts_are })
+      (set_part held.goes_on.root held.rest held.goes_on.parts_are) held.given
   own_still (Err refusal) buf row =
       absurd (row.held reader.root reader.ahead counts s.held image segments reader.part_is indexed (reader.ahead_is image here)).given
   own_still answer buf row = absurd row
@@ -211,7 +219,8 @@ module _ (among : ByteSet) (s : Store) (f : FileEvent) (stored later : Stored) (
   by_actor false e is alone steps =
       other_still e.actor (row_one e.actor e.buf old new e.step e.answer steps.made.row) (λ same. eqb-false e.actor actor is (sym same))
 
-  by_stop : (stop : Option Stop) (e : Event) → old.stop ≡ stop → old.stop ≡ None → (e.actor ≡ actor → IsReadNext e.step) → StepsOr stop e old new → GivesOne (e.actor == actor) e.answer e.buf segments Still
+  by_stop : (stop : Option Stop) (e : Event) → old.stop ≡ stop → old.stop ≡ None → (e.actor ≡ actor → IsReadNext e.step) → StepsOr stop e old new
+      → GivesOne (e.actor == actor) e.answer e.buf segments Still
   by_stop None e is runs alone steps = by_actor (e.actor == actor) e refl alone steps
   by_stop (Some stop) e is runs alone steps = absurd (let both = sym runs ∙ is in cc)
 
@@ -219,7 +228,8 @@ module _ (among : ByteSet) (s : Store) (f : FileEvent) (stored later : Stored) (
   read_step e runs alone steps = by_stop old.stop e refl runs alone steps
 
 module _ (C : Type 0) (state : C → CoreState) (among : ByteSet) (distinct : HasNoCollisions (IsIn among)) (actor : ℕ) where
-  gives_on : (steps : List FileEvent) (s : Store) (stored : Stored) (segments : List (List ℕ)) (old new : C) → IsAt (IsIn among) s stored (state old) → IsReader actor s segments (state old)
+  gives_on : (steps : List FileEvent) (s : Store) (stored : Stored) (segments : List (List ℕ)) (old new : C) → IsAt (IsIn among) s stored (state old)
+      → IsReader actor s segments (state old)
       → FileRun C state (IsIn among) steps old new → ReadsAlone actor (events_of steps) → (state new).stop ≡ None → GivesInOrder actor (events_of steps) segments
   gives_on [] s stored segments old new at reader run alone stays = tt
   gives_on (f ∷ fs) s stored segments old new at reader run alone stays =
@@ -228,13 +238,16 @@ module _ (C : Type 0) (state : C → CoreState) (among : ByteSet) (distinct : Ha
       let leads = any_step among distinct f s stored (state old) (state mid) run.1.0 at going in
       gives_map (f.event.actor == actor) f.event.answer f.event.buf segments (λ rest. IsReader actor leads.next.store rest (state mid)) (GivesInOrder actor (events_of fs))
       (λ rest still. gives_on fs leads.next.store (stored_by f stored) rest mid new leads.next.is_at still run.1.1 alone.1 stays)
-      (read_step among s f stored (stored_by f stored) (state old) (state mid) actor segments at leads reader f.event (run_running C state among (f ∷ []) old mid (mid, (run.1.0, refl)) going) alone.0 run.1.0.made)
+      (read_step among s f stored (stored_by f stored) (state old) (state mid) actor segments at leads reader f.event
+      (run_running C state among (f ∷ []) old mid (mid, (run.1.0, refl)) going) alone.0 run.1.0.made)
 
 -- ---- it is opened
 
-module _ (among : ByteSet) (s t : Store) (stored : Stored) (old new : CoreState) (actor : ℕ) (name bytes : List ℕ) (count : ℕ) (buf : List ℕ) (at : IsAt (IsIn among) s stored old) (filed : finite.get stored.files name ≡ Some bytes)
+module _ (among : ByteSet) (s t : Store) (stored : Stored) (old new : CoreState) (actor : ℕ) (name bytes : List ℕ) (count : ℕ) (buf : List ℕ) (at : IsAt (IsIn among) s stored old)
+    (filed : finite.get stored.files name ≡ Some bytes)
     (below : actor < length old.parts) (keys : (first then : PlaceMap) → old.known ≡ Some first → new.known ≡ Some then → (key : List ℕ) → HasKey first key → HasKey then key)
-    (copies : (first : PlaceMap) (before after : List ℕ) → old.known ≡ Some first → old.disk.content ≡ Some before → new.disk.content ≡ Some after → KeepsCopies (HasKey first) s before t after) where
+    (copies : (first : PlaceMap) (before after : List ℕ) → old.known ≡ Some first → old.disk.content ≡ Some before → new.disk.content ≡ Some after
+    → KeepsCopies (HasKey first) s before t after) where
   -- the index has the keys of the file
   has_file : (key : List ℕ) → Contains (tree_keys (file_tree bytes)) key → HasKey at.index key
   has_file key there = (at.invariant at.stands.known.0 at.stands.known.1).files_are_indexed key (name, (bytes, (filed, there)))
@@ -259,8 +272,14 @@ module _ (among : ByteSet) (s t : Store) (stored : Stored) (old new : CoreState)
         whole = file_tree bytes;
         right = subst (λ (b : List ℕ). AllByRecursion IsTree (trees_in (file_tree b))) same opened.file.held_ahead.trees.each;
         top_is = ap top_of (opened.file.root_is ∙ ap root_of same ∙ root_of_tree bytes few);
-        is_held = λ after told. (tree_on (IsIn (key_set (tree_keys (file_tree bytes)))) (IsIn (key_set (tree_keys (file_tree bytes)))) s t image after (goes_on_file after told) (λ key there. there) (file_tree bytes)
-            (record { tree_is_held = subst (λ (b : List ℕ). HoldsTree s.held image (file_tree b)) same opened.file.tree_is_held; count = λ key there. in_set key (tree_keys (file_tree bytes)) there })).tree_is_held;
+        is_held = λ after told.
+            (tree_on (IsIn (key_set (tree_keys (file_tree bytes)))) (IsIn (key_set (tree_keys (file_tree bytes)))) s t image after (goes_on_file after told) (λ key there. there)
+            (file_tree bytes)
+            (record {
+              tree_is_held = subst (λ (b : List ℕ). HoldsTree s.held image (file_tree b)) same opened.file.tree_is_held;
+              count = λ key there. in_set key
+                  (tree_keys (file_tree bytes)) there;
+            })).tree_is_held;
         has = λ then is_known key there. keys at.index then at.index_known is_known key (has_file key there);
         ahead_is = λ after told. segments_on (key_set (tree_keys (file_tree bytes))) s t image after (goes_on_file after told) opened.ahead (segments_of bytes)
             (subst (λ (b : List ℕ). SegmentsAhead (key_set (tree_keys (file_tree b))) s.held image opened.ahead (segments_of b)) same opened.file.segments_ahead);

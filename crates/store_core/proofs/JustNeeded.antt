@@ -72,7 +72,8 @@ module _ (old new : CoreState) (index : PlaceMap) (held : List (Option HeaderVal
   kept_takes SweepStage (Release source entry) refusal is keeps = same_takes keeps
   kept_takes SweepStage End refusal is keeps = same_takes keeps.0
 
-module _ (among : ByteSet) (distinct : HasNoCollisions (IsIn among)) (f : FileEvent) (s : Store) (stored : Stored) (old new : CoreState) (is : f.event.step ≡ asked.GcStep) (step : FileStep (IsIn among) f old new)
+module _ (among : ByteSet) (distinct : HasNoCollisions (IsIn among)) (f : FileEvent) (s : Store) (stored : Stored) (old new : CoreState) (is : f.event.step ≡ asked.GcStep)
+    (step : FileStep (IsIn among) f old new)
     (at : IsAt (IsIn among) s stored old) (stays : new.stop ≡ None) where
   abbrev Needs : List ℕ → Type 0
   Needs = IsReachable stored.files
@@ -93,7 +94,8 @@ module _ (among : ByteSet) (distinct : HasNoCollisions (IsIn among)) (f : FileEv
   steps = subst (λ (st : StepValue). Steps (with_step f st).event old new) is (running_step old new f.event (was_running old.stop f.event old new refl step.made stays) step.made)
 
   are : AreChangesBy asked.GcStep f.event.answer (leads among distinct f s stored old new is step at stays).changes
-  are = subst (λ (st : StepValue). AreChangesBy st f.event.answer (leads among distinct f s stored old new is step at stays).changes) is (leads among distinct f s stored old new is step at stays).changes_are
+  are = subst (λ (st : StepValue). AreChangesBy st f.event.answer (leads among distinct f s stored old new is step at stays).changes) is
+      (leads among distinct f s stored old new is step at stays).changes_are
 
   same_store : (leads among distinct f s stored old new is step at stays).changes ≡ [] → t ≡ s
   same_store none = subst (λ (changes : List StoreChange). ChangesTo changes s t) none (leads among distinct f s stored old new is step at stays).next.chain
@@ -102,17 +104,20 @@ module _ (among : ByteSet) (distinct : HasNoCollisions (IsIn among)) (f : FileEv
   shows = subst (λ (known : Option PlaceMap). Represents s known old.tables) at.index_known at.represents
 
   -- that was made
-  did_takes : (phase : Phase) (goes : GoesOn phase old new) → TouchesBy old.collection (Ok (answers.Did phase)) old new.disk → IsLater old.disk new.disk → TakesIn Needs at.index s old.collection
+  did_takes : (phase : Phase) (goes : GoesOn phase old new) → TouchesBy old.collection (Ok (answers.Did phase)) old new.disk → IsLater old.disk new.disk
+      → TakesIn Needs at.index s old.collection
       → TakesIn Needs then.index t new.collection
   did_takes phase goes touches later was =
       let c : Collection = goes.before in
       let before = subst (TakesIn Needs at.index s) goes.ran was in
       subst (TakesIn Needs then.index t) (sym goes.runs) (
         did_spares among s stored old new at t then phase goes touches later then.index then.index_known before.0,
-        takes_step Needs at.index s stored.files content old.tables new.known old.disk new.disk c goes.after (at.stands.each content (old.disk.as_read content told)).holds shows told before.0 before.1 at.valid
+        takes_step Needs at.index s stored.files content old.tables new.known old.disk new.disk c goes.after
+            (at.stands.each content (old.disk.as_read content told)).holds shows told before.0 before.1 at.valid
             (at.invariant content told).has_free (subst (IsUnderWayIn old.tables.held) goes.ran at.under_way) new.tables
             (held_at at.index s old.parts content c (subst (IsSafeIn at.index s old.parts content) goes.ran (at.safe content told)))
-            (subst (λ (k : Option PlaceMap). StepsTo c.stage c.sweep.next (moment old.tables k old.disk c) (at_moment new goes.after)) at.index_known goes.steps) then.index then.index_known t
+            (subst (λ (k : Option PlaceMap). StepsTo c.stage c.sweep.next (moment old.tables k old.disk c)
+            (at_moment new goes.after)) at.index_known goes.steps) then.index then.index_known t
             (led_to among s stored old new at t then phase goes touches later),
       )
 
@@ -123,7 +128,8 @@ module _ (among : ByteSet) (distinct : HasNoCollisions (IsIn among)) (f : FileEv
       broken : StopsAfter asked.GcStep (Err refusals.DiskWrite) old.acknowledged new.stop → ⊥
       broken stops = let both = sym stays ∙ stops in cc
 
-  refused_takes : (refusal : Refusal) → (leads among distinct f s stored old new is step at stays).changes ≡ [] → IsNotMade refusal old new → StopsAfter asked.GcStep (Err refusal) old.acknowledged new.stop
+  refused_takes : (refusal : Refusal) → (leads among distinct f s stored old new is step at stays).changes ≡ [] → IsNotMade refusal old new
+      → StopsAfter asked.GcStep (Err refusal) old.acknowledged new.stop
       → TakesIn Needs at.index s old.collection → TakesIn Needs then.index t new.collection
   refused_takes refusal none row stops was =
       let before = subst (TakesIn Needs at.index s) row.ran was in
@@ -146,7 +152,8 @@ module _ (among : ByteSet) (distinct : HasNoCollisions (IsIn among)) (f : FileEv
 
 -- ---- at its end
 
-module _ (S : List ℕ → Type 0) (store : Store) (stored : Stored) (core : CoreState) (at : IsAt S store stored core) (c : Collection) (runs : core.collection ≡ Some c) (sweeps : c.stage ≡ SweepStage) (ended : c.sweep.next ≡ End) where
+module _ (S : List ℕ → Type 0) (store : Store) (stored : Stored) (core : CoreState) (at : IsAt S store stored core) (c : Collection) (runs : core.collection ≡ Some c)
+    (sweeps : c.stage ≡ SweepStage) (ended : c.sweep.next ≡ End) where
   pub just_needed : Spares (IsReachable stored.files) at.index store.held c → TakesAll at.index store.held c → HoldsJustNeeded stored.files store.held
   just_needed spares takes =
       let image : List ℕ = at.stands.known.0 in
@@ -156,7 +163,8 @@ module _ (S : List ℕ → Type 0) (store : Store) (stored : Stored) (core : Cor
       subst (λ (st : Stage). HoldsAt st at.index store.held image c) sweeps
       (held_at at.index store core.parts image c (subst (IsSafeIn at.index store core.parts image) runs (at.safe image told))) in
       record {
-        each = ended_whole (IsReachable stored.files) at.index store.held image core.tables.held c (subst (IsUnderWayIn core.tables.held) runs at.under_way) sweeps ended holds.1 spares.within invariant.index_is_newest takes;
+        each = ended_whole (IsReachable stored.files) at.index store.held image core.tables.held c
+            (subst (IsUnderWayIn core.tables.held) runs at.under_way) sweeps ended holds.1 spares.within invariant.index_is_newest takes;
         all = λ key needed.
             let has = invariant.files_are_indexed key needed in
             let copy = copy_of store.held at.index invariant.index_is_newest key has.0 has.1 in (copy.0, copy.1.0);
@@ -171,15 +179,18 @@ module _ (C : Type 0) (state : C → CoreState) where
     takes : TakesIn (IsReachable stored.files) is_at.index store (state c).collection
 
   taken : (among : ByteSet) (steps : List FileEvent) (s : Store) (stored : Stored) (mid new : C) → HasNoCollisions (IsIn among) → (at : IsAt (IsIn among) s stored (state mid))
-      → TakesIn (IsReachable stored.files) at.index s (state mid).collection → FileRun C state (IsIn among) steps mid new → AreGcSteps steps → (state new).stop ≡ None → Taken (IsIn among) stored new
+      → TakesIn (IsReachable stored.files) at.index s (state mid).collection → FileRun C state (IsIn among) steps mid new → AreGcSteps steps → (state new).stop ≡ None
+      → Taken (IsIn among) stored new
   taken among [] s stored mid new distinct at takes run all stays = subst (Taken (IsIn among) stored) (sym run) (record { store = s; is_at = at; takes = takes })
   taken among (f ∷ fs) s stored mid new distinct at takes run all stays =
       let on : (state run.0).stop ≡ None = run_running C state among fs run.0 new run.1.1 stays in
-      taken among fs (leads among distinct f s stored (state mid) (state run.0) all.0 run.1.0 at on).next.store stored run.0 new distinct (after among distinct f s stored (state mid) (state run.0) all.0 run.1.0 at on)
+      taken among fs (leads among distinct f s stored (state mid) (state run.0) all.0 run.1.0 at on).next.store stored run.0 new distinct
+      (after among distinct f s stored (state mid) (state run.0) all.0 run.1.0 at on)
       (takes_on among distinct f s stored (state mid) (state run.0) all.0 run.1.0 at on takes) run.1.1 all.1 stays
 
   -- as it begins
-  begun_all : (S : List ℕ → Type 0) (store : Store) (stored : Stored) (old new : CoreState) (at : IsAt S store stored new) (snapshot : ℕ) (begun : Begins 100 snapshot old new) → new.tables ≡ old.tables
+  begun_all : (S : List ℕ → Type 0) (store : Store) (stored : Stored) (old new : CoreState) (at : IsAt S store stored new) (snapshot : ℕ) (begun : Begins 100 snapshot old new)
+      → new.tables ≡ old.tables
       → TakesAll at.index store.held begun.collection
   begun_all S store stored old new at snapshot begun tables =
       begun_takes at.index store image new.tables.held begun.collection holds.right.slots_are at.represents.slots_hold begun.percent_is
@@ -192,7 +203,8 @@ module _ (C : Type 0) (state : C → CoreState) where
       holds = (at.stands.each image (new.disk.as_read image at.stands.known.1)).holds
 
       above : last_id store.held < begun.collection.snapshot
-      above = omega (arith, begun.next_is, ap (λ (t : Tables). t.held.last_id) tables, at.represents.slots_hold.last_id_is, last_within store.held (headers_of_right image store holds.right))
+      above = omega
+          (arith, begun.next_is, ap (λ (t : Tables). t.held.last_id) tables, at.represents.slots_hold.last_id_is, last_within store.held (headers_of_right image store holds.right))
 
   pub leaves_just_needed : LeavesJustNeeded C state
   leaves_just_needed among actor last_actor snapshot freed copied buf last_buf steps s t stored old begun new last distinct at idle began run all ended there =
@@ -200,11 +212,13 @@ module _ (C : Type 0) (state : C → CoreState) where
       let final : FileEvent = record { event = ends_with last_actor freed copied last_buf; bytes = [] } in
       let stays : (state new).stop ≡ None = ended_runs C state (state new).stop final.event freed copied (state new) (state last) refl refl ended in
       let on : (state begun).stop ≡ None = run_running C state among steps begun new run stays in
-      let begins : Steps first.event (state old) (state begun) = running_step (state old) (state begun) first.event (was_running (state old).stop first.event (state old) (state begun) refl began on) began in
+      let begins : Steps first.event (state old) (state begun) = running_step (state old) (state begun) first.event
+      (was_running (state old).stop first.event (state old) (state begun) refl began on) began in
       let led = any_step among distinct first s stored (state old) (state begun) (record { asked = tt; given = tt; made = began }) at on in
       let row_first : Begins 100 snapshot (state old) (state begun) = begins.made.row.0 in
       let tables : (state begun).tables ≡ (state old).tables = begins.made.effect.tables.tables_are in
-      let spares = begun_spares (IsIn among) led.next.store stored (state old) (state begun) led.next.is_at 100 snapshot row_first tables idle led.next.is_at.index row_first.collection row_first.runs in
+      let spares = begun_spares (IsIn among) led.next.store stored (state old)
+      (state begun) led.next.is_at 100 snapshot row_first tables idle led.next.is_at.index row_first.collection row_first.runs in
       let takes = begun_all (IsIn among) led.next.store stored (state old) (state begun) led.next.is_at snapshot row_first tables in
       let so = taken among steps led.next.store stored begun new distinct led.next.is_at
       (subst (TakesIn (IsReachable stored.files) led.next.is_at.index led.next.store) (sym row_first.runs) (spares, takes)) run all stays in

@@ -65,7 +65,8 @@ pub record Next (S : List ℕ → Type 0) (s : Store) (changes : List StoreChang
 pub record NextOn (S : List ℕ → Type 0) (s : Store) (changes : List StoreChange) (stored : Stored) (old new : CoreState) : Type 0 where
   pub next : Next S s changes stored old new
   pub keys : (first then : PlaceMap) → old.known ≡ Some first → new.known ≡ Some then → (key : List ℕ) → HasKey first key → HasKey then key
-  pub copies : (first : PlaceMap) (before after : List ℕ) → old.known ≡ Some first → old.disk.content ≡ Some before → new.disk.content ≡ Some after → KeepsCopies (HasKey first) s before next.store after
+  pub copies : (first : PlaceMap) (before after : List ℕ) → old.known ≡ Some first → old.disk.content ≡ Some before → new.disk.content ≡ Some after
+      → KeepsCopies (HasKey first) s before next.store after
   pub whole : IndexesAll s old.known → IndexesAll next.store new.known
 
 one_some : {A : Type 0} (x y : A) → Some x ≡ Some y → x ≡ y
@@ -75,7 +76,8 @@ one_some x y same = cc
 
 module _ (S : List ℕ → Type 0) (store : Store) (stored : Stored) (new : CoreState) where
   -- from what the tables are, what each image is, and what the actors are at
-  pub arrive : (places : PlaceMap) → HasReserve (HasKey places) store.held → HasFree store.held → Represents store new.known new.tables → new.known ≡ Some places → IsValidFor new.disk.size store → StandsFor (Stands S store stored.files) new.disk
+  pub arrive : (places : PlaceMap) → HasReserve (HasKey places) store.held → HasFree store.held → Represents store new.known new.tables → new.known ≡ Some places
+      → IsValidFor new.disk.size store → StandsFor (Stands S store stored.files) new.disk
       → new.tables.journal.last ≡ stored.last → IndexesFiles places stored.files
       → ((image : List ℕ) → new.disk.content ≡ Some image → AllByRecursion (HoldsPart (HasKey places) store.held image) new.parts)
       → length new.parts ≡ ACTORS → IsUnderWayIn new.tables.held new.collection → IsSafeFor places store stored new → IsAt S store stored new
@@ -155,9 +157,11 @@ module _ (among : ByteSet) (s : Store) (stored : Stored) (old new : CoreState) (
       store = s;
       chain = refl;
       is_at = arrive (IsIn among) s stored new at.index invariant.reserve_holds free (same_tables kept) (kept.index_is ∙ at.index_known)
-          (subst (λ (size : ℕ). IsValidFor size s) (sym reads.later.size_is) at.valid) (stands_reads (Stands (IsIn among) s stored.files) old.disk new.disk at.stands reads) (same_last kept) invariant.files_are_indexed
+          (subst (λ (size : ℕ). IsValidFor size s) (sym reads.later.size_is) at.valid) (stands_reads (Stands (IsIn among) s stored.files) old.disk new.disk at.stands reads)
+          (same_last kept) invariant.files_are_indexed
           (λ image is. let same : content ≡ image = one_some content image (sym told ∙ sym reads.content_is ∙ is) in
-          subst (λ (bytes : List ℕ). AllByRecursion (HoldsPart (HasKey at.index) s.held bytes) new.parts) same (all_hold at.index s content (λ key has. has) (λ key level bytes counts has. has) own)) many_here under_way safe;
+          subst (λ (bytes : List ℕ). AllByRecursion (HoldsPart (HasKey at.index) s.held bytes) new.parts) same
+          (all_hold at.index s content (λ key has. has) (λ key level bytes counts has. has) own)) many_here under_way safe;
     };
     keys = kept_keys kept;
     copies = λ first before after is is_before is_after. let same : before ≡ after = one_some before after (sym is_before ∙ sym reads.content_is ∙ is_after) in
@@ -167,13 +171,15 @@ module _ (among : ByteSet) (s : Store) (stored : Stored) (old new : CoreState) (
 
   -- a step after which each image is the same store
   pub still : KeepsTables old new → IsLater old.disk new.disk → StandsFor (Stands (IsIn among) s stored.files) new.disk
-      → ((after : List ℕ) → new.disk.content ≡ Some after → KeepsCopies (HasKey at.index) s content s after × HoldsPart (HasKey at.index) s.held after (part_of new.parts actor)) → IsSafeFor at.index s stored new
+      → ((after : List ℕ) → new.disk.content ≡ Some after → KeepsCopies (HasKey at.index) s content s after × HoldsPart (HasKey at.index) s.held after (part_of new.parts actor))
+      → IsSafeFor at.index s stored new
       → NextOn (IsIn among) s [] stored old new
   still kept goes stands keeps safe = record {
     next = record {
       store = s;
       chain = refl;
-      is_at = arrive (IsIn among) s stored new at.index invariant.reserve_holds free (same_tables kept) (kept.index_is ∙ at.index_known) (subst (λ (size : ℕ). IsValidFor size s) (sym goes.size_is) at.valid) stands (same_last kept) invariant.files_are_indexed
+      is_at = arrive (IsIn among) s stored new at.index invariant.reserve_holds free (same_tables kept) (kept.index_is ∙ at.index_known)
+          (subst (λ (size : ℕ). IsValidFor size s) (sym goes.size_is) at.valid) stands (same_last kept) invariant.files_are_indexed
           (λ image is. let kept_here = keeps image is in all_hold at.index s image (λ key has. has) kept_here.0 kept_here.1) many_here under_way safe;
     };
     keys = kept_keys kept;
@@ -185,7 +191,8 @@ module _ (among : ByteSet) (s : Store) (stored : Stored) (old new : CoreState) (
 
   -- a step that makes a change
   pub makes : (change : StoreChange) (later : Stored) → last_sequence (changed change s) ≡ later.last → Makes change old new
-      → ((then : PlaceMap) → new.known ≡ Some then → HasReserve (HasKey then) (changed change s).held) → HasFree (changed change s).held → IsLater old.disk new.disk → StandsFor (Stands (IsIn among) (changed change s) later.files) new.disk
+      → ((then : PlaceMap) → new.known ≡ Some then → HasReserve (HasKey then) (changed change s).held) → HasFree (changed change s).held → IsLater old.disk new.disk
+      → StandsFor (Stands (IsIn among) (changed change s) later.files) new.disk
       → ((then : PlaceMap) → new.known ≡ Some then → IndexesFiles then stored.files → IndexesFiles then later.files)
       → ((then : PlaceMap) (after : List ℕ) → new.known ≡ Some then → new.disk.content ≡ Some after
       → KeepsCopies (HasKey at.index) s content (changed change s) after × HoldsPart (HasKey then) (changed change s).held after (part_of new.parts actor))
@@ -198,7 +205,8 @@ module _ (among : ByteSet) (s : Store) (stored : Stored) (old new : CoreState) (
         next = record {
           store = changed change s;
           chain = (made.can.store_has s at.represents at.valid free, refl);
-          is_at = arrive (IsIn among) (changed change s) later new known.0 (reserve known.0 known.1) free_then represents known.1 (made.valid.store_has s at.represents at.valid free) stands (represents.names_are.last_is ∙ last)
+          is_at = arrive (IsIn among) (changed change s) later new known.0 (reserve known.0 known.1) free_then represents known.1
+              (made.valid.store_has s at.represents at.valid free) stands (represents.names_are.last_is ∙ last)
               (files_on known.0 known.1 (λ key need. keys key (invariant.files_are_indexed key need)))
               (λ image is. let kept = keeps known.0 image known.1 is in all_hold known.0 (changed change s) image keys kept.0 kept.1) many_here under_way (safe known.0 known.1);
         };
@@ -212,7 +220,8 @@ module _ (among : ByteSet) (s : Store) (stored : Stored) (old new : CoreState) (
 -- ---- refusals that are no failed writes
 
 module _ (old new : CoreState) (stays : new.stop ≡ None) where
-  pub only_reads : (step : StepValue) (refusal : Refusal) → StopsAfter step (Err refusal) old.acknowledged new.stop → Ends OnlyReads (ending_of (blames refusal)) old.disk new.disk → OnlyReads old.disk new.disk
+  pub only_reads : (step : StepValue) (refusal : Refusal) → StopsAfter step (Err refusal) old.acknowledged new.stop → Ends OnlyReads (ending_of (blames refusal)) old.disk new.disk
+      → OnlyReads old.disk new.disk
   only_reads step refusals.DiskWrite stops ends = absurd (let both = sym stays ∙ stops in cc)
   only_reads step refusals.DiskRead stops ends = ends
   only_reads step refusal stops ends = ends
@@ -233,7 +242,8 @@ nothing_stands v stands = stands.each stands.known.0 (v.as_read stands.known.0 s
 
 -- ---- each step
 
-module _ (among : ByteSet) (s : Store) (stored : Stored) (old new : CoreState) (actor : ℕ) (buf bytes : List ℕ) (distinct : HasNoCollisions (IsIn among)) (at : IsAt (IsIn among) s stored old) (stays : new.stop ≡ None) where
+module _ (among : ByteSet) (s : Store) (stored : Stored) (old new : CoreState) (actor : ℕ) (buf bytes : List ℕ) (distinct : HasNoCollisions (IsIn among))
+    (at : IsAt (IsIn among) s stored old) (stays : new.stop ≡ None) where
   abbrev image : List ℕ
   image = at.stands.known.0
 
@@ -267,21 +277,26 @@ module _ (among : ByteSet) (s : Store) (stored : Stored) (old new : CoreState) (
   tables_run : Runs old.disk.size None old.tables
   tables_run = runs_alone (IsIn among) s stored old at
 
-  goes_under_way : (step : StepValue) (answer : Result Answer Refusal) → Row step actor answer buf old new → Effect step answer old new → Collects step answer old new → IsUnderWayIn new.tables.held new.collection
+  goes_under_way : (step : StepValue) (answer : Result Answer Refusal) → Row step actor answer buf old new → Effect step answer old new → Collects step answer old new
+      → IsUnderWayIn new.tables.held new.collection
   goes_under_way step answer row effect collects = under_way_on old new step actor answer buf row effect collects tables_run at.under_way
 
   -- what holds of the collection, where nothing but the parts changes
-  rested_safe : (answer : Result Answer Refusal) → Rests answer old new → (IsSafeIn at.index s old.parts image old.collection → IsSafeIn at.index s new.parts image new.collection) → IsSafeFor at.index s stored new
+  rested_safe : (answer : Result Answer Refusal) → Rests answer old new → (IsSafeIn at.index s old.parts image old.collection → IsSafeIn at.index s new.parts image new.collection)
+      → IsSafeFor at.index s stored new
   rested_safe answer effect safe after told core is_store =
       let same : image ≡ after = one_some image after (sym here ∙ sym effect.disk.only.content_is ∙ told) in
       subst (λ (bytes : List ℕ). IsSafeIn at.index s new.parts bytes new.collection) same (safe (at.safe image here))
 
-  rests_by : (step : StepValue) (answer : Result Answer Refusal) → Row step actor answer buf old new → Rests answer old new → IsUnderWayIn new.tables.held new.collection → IsSafeFor at.index s stored new → Own
+  rests_by : (step : StepValue) (answer : Result Answer Refusal) → Row step actor answer buf old new → Rests answer old new → IsUnderWayIn new.tables.held new.collection
+      → IsSafeFor at.index s stored new → Own
       → NextOn (IsIn among) s [] stored old new
-  rests_by step answer row effect under_way safe own = rests among s stored old new actor at (row_one actor buf old new step answer row) under_way effect.tables effect.disk.only own safe
+  rests_by step answer row effect under_way safe own = rests among s stored old new actor at
+      (row_one actor buf old new step answer row) under_way effect.tables effect.disk.only own safe
 
   -- nothing but the actor's part changes
-  part_rests : (step : StepValue) (answer : Result Answer Refusal) → Row step actor answer buf old new → Rests answer old new → IsUnderWayIn new.tables.held new.collection → new.collection ≡ old.collection
+  part_rests : (step : StepValue) (answer : Result Answer Refusal) → Row step actor answer buf old new → Rests answer old new → IsUnderWayIn new.tables.held new.collection
+      → new.collection ≡ old.collection
       → ((c : Collection) → KeepsBoth at.index at.index s s old.parts new.parts image image c c) → Own → NextOn (IsIn among) s [] stored old new
   part_rests step answer row effect under_way same both own =
       rests_by step answer row effect under_way
@@ -289,7 +304,8 @@ module _ (among : ByteSet) (s : Store) (stored : Stored) (old new : CoreState) (
 
   begin_next : (answer : Result Answer Refusal) → Goes asked.Begin answer
   begin_next answer row effect collects stops right given =
-      part_rests asked.Begin answer row effect (goes_under_way asked.Begin answer row effect collects) collects (none_rested among s stored old new actor buf at (begin_none (names_of s) old new actor buf at.represents.names_are.names_are at.many answer row))
+      part_rests asked.Begin answer row effect (goes_under_way asked.Begin answer row effect collects) collects
+      (none_rested among s stored old new actor buf at (begin_none (names_of s) old new actor buf at.represents.names_are.names_are at.many answer row))
       (own_begin among s stored.files image at.index actor buf old new here at.index_known newest_index invariant_here.files_are_indexed at.represents.names_are.names_are stands_here distinct holds answer row)
 
   claim_next : (seg : KindSegment) (answer : Result Answer Refusal) → Goes (asked.Claim seg) answer
@@ -300,43 +316,53 @@ module _ (among : ByteSet) (s : Store) (stored : Stored) (old new : CoreState) (
 
   abort_next : (answer : Result Answer Refusal) → Goes asked.Abort answer
   abort_next answer row effect collects stops right given =
-      part_rests asked.Abort answer row effect (goes_under_way asked.Abort answer row effect collects) collects (none_rested among s stored old new actor buf at (abort_none (names_of s) old new actor buf at.represents.names_are.names_are at.many answer row))
+      part_rests asked.Abort answer row effect (goes_under_way asked.Abort answer row effect collects) collects
+      (none_rested among s stored old new actor buf at (abort_none (names_of s) old new actor buf at.represents.names_are.names_are at.many answer row))
       (own_abort among s stored.files image at.index actor buf old new here at.index_known newest_index invariant_here.files_are_indexed at.represents.names_are.names_are stands_here distinct holds answer row)
 
   open_next : (name : List ℕ) (answer : Result Answer Refusal) → Goes (asked.OpenRead name) answer
   open_next name answer row effect collects stops right given =
-      part_rests (asked.OpenRead name) answer row effect (goes_under_way (asked.OpenRead name) answer row effect collects) collects (none_rested among s stored old new actor buf at (open_none (names_of s) old new actor buf at.represents.names_are.names_are at.many name answer row))
+      part_rests (asked.OpenRead name) answer row effect (goes_under_way (asked.OpenRead name) answer row effect collects) collects
+      (none_rested among s stored old new actor buf at (open_none (names_of s) old new actor buf at.represents.names_are.names_are at.many name answer row))
       (own_open among s stored.files image at.index actor buf old new here at.index_known newest_index invariant_here.files_are_indexed at.represents.names_are.names_are stands_here distinct holds name answer row)
 
   read_next : (answer : Result Answer Refusal) → Goes asked.ReadNext answer
   read_next answer row effect collects stops right given =
-      part_rests asked.ReadNext answer row effect (goes_under_way asked.ReadNext answer row effect collects) collects (none_rested among s stored old new actor buf at (read_none (names_of s) old new actor buf at.represents.names_are.names_are at.many answer row))
+      part_rests asked.ReadNext answer row effect (goes_under_way asked.ReadNext answer row effect collects) collects
+      (none_rested among s stored old new actor buf at (read_none (names_of s) old new actor buf at.represents.names_are.names_are at.many answer row))
       (own_read among s stored.files image at.index actor buf old new here at.index_known newest_index invariant_here.files_are_indexed at.represents.names_are.names_are stands_here distinct holds answer row)
 
   drop_next : (answer : Result Answer Refusal) → Goes asked.EndRead answer
   drop_next answer row effect collects stops right given =
-      part_rests asked.EndRead answer row effect (goes_under_way asked.EndRead answer row effect collects) collects (none_rested among s stored old new actor buf at (end_none (names_of s) old new actor buf at.represents.names_are.names_are at.many answer row))
+      part_rests asked.EndRead answer row effect (goes_under_way asked.EndRead answer row effect collects) collects
+      (none_rested among s stored old new actor buf at (end_none (names_of s) old new actor buf at.represents.names_are.names_are at.many answer row))
       (own_drop among s stored.files image at.index actor buf old new here at.index_known newest_index invariant_here.files_are_indexed at.represents.names_are.names_are stands_here distinct holds answer row)
 
   stat_next : (answer : Result Answer Refusal) → Goes asked.Stat answer
   stat_next answer row effect collects stops right given =
-      part_rests asked.Stat answer row effect (goes_under_way asked.Stat answer row effect collects) collects (none_rested among s stored old new actor buf at (stat_none (names_of s) old new actor buf at.represents.names_are.names_are at.many answer row))
+      part_rests asked.Stat answer row effect (goes_under_way asked.Stat answer row effect collects) collects
+      (none_rested among s stored old new actor buf at (stat_none (names_of s) old new actor buf at.represents.names_are.names_are at.many answer row))
       (own_stat among s stored.files image at.index actor buf old new here at.index_known newest_index invariant_here.files_are_indexed at.represents.names_are.names_are stands_here distinct holds answer row)
 
   own_still : new.parts ≡ old.parts → Own
   own_still = own_refused among s stored.files image at.index actor buf old new here at.index_known newest_index invariant_here.files_are_indexed at.represents.names_are.names_are stands_here distinct holds
 
   -- a container
-  seal_moves : (filled : Contents) (answer : Result Answer Refusal) → SealsOne filled answer old new → IsStep (asked.Seal filled) → IsGivenRight (IsIn among) (asked.Seal filled) answer bytes old
+  seal_moves : (filled : Contents) (answer : Result Answer Refusal) → SealsOne filled answer old new → IsStep (asked.Seal filled)
+      → IsGivenRight (IsIn among) (asked.Seal filled) answer bytes old
       → Moved (sealing_compared (IsIn among) (next_id old) filled s stored.files) (ending blames answer) old.disk new.disk
-  seal_moves filled answer effect right given = effect.moves.moves among s stored.files at.index at.index_known at.represents invariant_here.files_are_indexed distinct (may_seal_all (IsIn among) filled.kind filled.segments right.1 given) at.stands
+  seal_moves filled answer effect right given = effect.moves.moves among s stored.files at.index at.index_known at.represents invariant_here.files_are_indexed distinct
+      (may_seal_all (IsIn among) filled.kind filled.segments right.1 given) at.stands
 
-  pub seal_holds : (filled : Contents) (answer : Result Answer Refusal) (after : List ℕ) → new.disk.content ≡ Some after → SealsOne filled answer old new → IsStep (asked.Seal filled) → IsGivenRight (IsIn among) (asked.Seal filled) answer bytes old
+  pub seal_holds : (filled : Contents) (answer : Result Answer Refusal) (after : List ℕ) → new.disk.content ≡ Some after → SealsOne filled answer old new
+      → IsStep (asked.Seal filled) → IsGivenRight (IsIn among) (asked.Seal filled) answer bytes old
       → KeepsHeld at.index (ending blames answer) (next_id old) filled s image after
-  seal_holds filled answer after is effect right given = effect.moves.holds among s stored.files at.index image after at.index_known at.represents here is stands_here distinct (may_seal_all (IsIn among) filled.kind filled.segments right.1 given)
+  seal_holds filled answer after is effect right given = effect.moves.holds among s stored.files at.index image after at.index_known at.represents here is stands_here distinct
+      (may_seal_all (IsIn among) filled.kind filled.segments right.1 given)
 
   -- with the container, whatever there was to spare
-  unspared : (filled : Contents) (v : DiskView) → StandsFor (StandsSealed (IsIn among) (next_id old) filled s stored.files) v → StandsFor (Stands (IsIn among) (with_sealed (next_id old) filled.kind filled.segments s) stored.files) v
+  unspared : (filled : Contents) (v : DiskView) → StandsFor (StandsSealed (IsIn among) (next_id old) filled s stored.files) v
+      → StandsFor (Stands (IsIn among) (with_sealed (next_id old) filled.kind filled.segments s) stored.files) v
   unspared filled v stands = record { known = stands.known; each = λ c left. (stands.each c left).1 }
 
   -- a refusal that is no failed write
@@ -345,12 +371,14 @@ module _ (among : ByteSet) (s : Store) (stored : Stored) (old new : CoreState) (
   stands_still (inr stands) = stands
 
   seal_stands : (filled : Contents) (refusal : Refusal) → StopsAfter (asked.Seal filled) (Err refusal) old.acknowledged new.stop
-      → Arrives (sealing_compared (IsIn among) (next_id old) filled s stored.files) (ending_of (blames refusal)) old.disk new.disk → StandsFor (Stands (IsIn among) s stored.files) new.disk
+      → Arrives (sealing_compared (IsIn among) (next_id old) filled s stored.files) (ending_of (blames refusal)) old.disk new.disk
+      → StandsFor (Stands (IsIn among) s stored.files) new.disk
   seal_stands filled refusals.DiskWrite stops arrives = absurd (let both = sym stays ∙ stops in cc)
   seal_stands filled refusals.DiskRead stops arrives = stands_still arrives
   seal_stands filled refusal stops arrives = stands_still arrives
 
-  seal_copies : (filled : Contents) (refusal : Refusal) (after : List ℕ) → StopsAfter (asked.Seal filled) (Err refusal) old.acknowledged new.stop → KeepsHeld at.index (ending_of (blames refusal)) (next_id old) filled s image after → KeepsCopies AnyKey s image s after
+  seal_copies : (filled : Contents) (refusal : Refusal) (after : List ℕ) → StopsAfter (asked.Seal filled) (Err refusal) old.acknowledged new.stop
+      → KeepsHeld at.index (ending_of (blames refusal)) (next_id old) filled s image after → KeepsCopies AnyKey s image s after
   seal_copies filled refusals.DiskWrite after stops keeps = absurd (let both = sym stays ∙ stops in cc)
   seal_copies filled refusals.DiskRead after stops keeps = keeps
   seal_copies filled refusal after stops keeps = keeps
@@ -361,19 +389,24 @@ module _ (among : ByteSet) (s : Store) (stored : Stored) (old new : CoreState) (
       let moved = (seal_moves filled (Ok (answers.Sealed id)) effect right given).arrives in
       let can = effect.made.can.store_has s at.represents at.valid invariant_here.has_free in
       let next : NextOn (IsIn among) s (SealContainer (next_id old) filled.kind filled.segments ∷ []) stored old new =
-      makes among s stored old new actor at (row_one actor buf old new (asked.Seal filled) (Ok (answers.Sealed id)) row) (goes_under_way (asked.Seal filled) (Ok (answers.Sealed id)) row effect collects) (SealContainer (next_id old) filled.kind filled.segments) stored last_here effect.made
-      (λ then then_is. free_reserve (HasKey then) (with_sealed (next_id old) filled.kind filled.segments s).held (omega (arith, can.slot, free_sealed (next_id old) filled.kind filled.segments s can)))
+      makes among s stored old new actor at (row_one actor buf old new (asked.Seal filled) (Ok (answers.Sealed id)) row)
+      (goes_under_way (asked.Seal filled) (Ok (answers.Sealed id)) row effect collects) (SealContainer (next_id old) filled.kind filled.segments) stored last_here effect.made
+      (λ then then_is. free_reserve (HasKey then) (with_sealed (next_id old) filled.kind filled.segments s).held
+      (omega (arith, can.slot, free_sealed (next_id old) filled.kind filled.segments s can)))
       (omega (arith, can.slot, free_sealed (next_id old) filled.kind filled.segments s can)) effect.disk.later
       (unspared filled new.disk moved) (λ then then_is files. files)
       (λ then after then_is is. (
         (seal_holds filled (Ok (answers.Sealed id)) after is effect right given).0,
         subst (λ (n : ℕ). HoldsPart (HasKey then) (with_sealed n filled.kind filled.segments s).held after (part_of new.parts actor)) row.id_is
-            (row.kept among s stored.files at.index then image after at.index_known then_is at.represents here is stands_here distinct may (all_part (HoldsPart (HasKey at.index) s.held image) old.parts actor tt holds)),
+            (row.kept among s stored.files at.index then image after at.index_known then_is at.represents here is stands_here distinct may
+            (all_part (HoldsPart (HasKey at.index) s.held image) old.parts actor tt holds)),
       ))
-      (λ then then_is after is core holds_now. sealed_safe_in among s stored old new actor buf at filled id row effect collects then then_is after core holds_now (seal_holds filled (Ok (answers.Sealed id)) after is effect right given).0) in
+      (λ then then_is after is core holds_now. sealed_safe_in among s stored old new actor buf at filled id row effect collects then then_is after core holds_now
+      (seal_holds filled (Ok (answers.Sealed id)) after is effect right given).0) in
       subst (λ (n : ℕ). NextOn (IsIn among) s (SealContainer n filled.kind filled.segments ∷ []) stored old new) (sym row.id_is) next
   seal_next filled (Err refusal) row effect collects stops right given =
-      still among s stored old new actor at (row_one actor buf old new (asked.Seal filled) (Err refusal) row) (goes_under_way (asked.Seal filled) (Err refusal) row effect collects) (seal_kept old new stays filled refusal old.acknowledged stops effect.kept) effect.disk.later
+      still among s stored old new actor at (row_one actor buf old new (asked.Seal filled) (Err refusal) row)
+      (goes_under_way (asked.Seal filled) (Err refusal) row effect collects) (seal_kept old new stays filled refusal old.acknowledged stops effect.kept) effect.disk.later
       (seal_stands filled refusal stops (seal_moves filled (Err refusal) effect right given).arrives)
       (λ after is. let copies = seal_copies filled refusal after stops (seal_holds filled (Err refusal) after is effect right given) in
       let mine : KeepsCopies (HasKey at.index) s image s after = λ key level bytes counts has. copies key level bytes tt has in
@@ -387,7 +420,8 @@ module _ (among : ByteSet) (s : Store) (stored : Stored) (old new : CoreState) (
   refused_safe reads parts same after told core holds_now =
       let bytes : image ≡ after = one_some image after (sym here ∙ sym reads.content_is ∙ told) in
       subst (λ (b : List ℕ). IsSafeIn at.index s new.parts b new.collection) bytes
-      (unchanged_safe at.index at.index s s old.parts new.parts image image old.collection new.collection (still_rested among s stored old new actor buf at parts) same (at.safe image here))
+      (unchanged_safe at.index at.index s s old.parts new.parts image image old.collection new.collection (still_rested among s stored old new actor buf at parts) same
+      (at.safe image here))
 
   -- where the index is the same, the reserve is
   reserve_still : new.known ≡ old.known → (then : PlaceMap) → new.known ≡ Some then → HasReserve (HasKey then) s.held
@@ -397,45 +431,61 @@ module _ (among : ByteSet) (s : Store) (stored : Stored) (old new : CoreState) (
   commit_next : (name : List ℕ) (root : Root) (answer : Result Answer Refusal) → Goes (asked.Commit name root) answer
   commit_next name root (Ok (answers.Committed sequence)) row effect collects stops right given =
       let tree = given.tree s at.represents in
-      let moved = effect.moves.moves among s stored.files (files.Put name bytes) at.represents.names_are refl (ap Put given.root_is) (record { known = at.stands.known; each = λ c is. (at.stands.each c is, tree.each c is) }) in
+      let moved = effect.moves.moves among s stored.files (files.Put name bytes) at.represents.names_are refl (ap Put given.root_is)
+      (record { known = at.stands.known; each = λ c is. (at.stands.each c is, tree.each c is) }) in
       let copies = effect.copies s at.represents image here stands_here.holds.right in
-      makes among s stored old new actor at (row_one actor buf old new (asked.Commit name root) (Ok (answers.Committed sequence)) row) (goes_under_way (asked.Commit name root) (Ok (answers.Committed sequence)) row effect collects) (ChangeName name (Put root)) (with_stored stored name bytes) (last_changed name (Put root) s at.valid.follow ∙ ap suc last_here) effect.made (reserve_still effect.index) invariant_here.has_free effect.disk.later
+      makes among s stored old new actor at (row_one actor buf old new (asked.Commit name root) (Ok (answers.Committed sequence)) row)
+      (goes_under_way (asked.Commit name root) (Ok (answers.Committed sequence)) row effect collects) (ChangeName name (Put root)) (with_stored stored name bytes)
+      (last_changed name (Put root) s at.valid.follow ∙ ap suc last_here) effect.made (reserve_still effect.index) invariant_here.has_free effect.disk.later
       (subst (λ (r : Root). StandsFor (Stands (IsIn among) (with_change name (Put r) s) (with_stored stored name bytes).files) new.disk) (sym given.root_is) moved.arrives)
-      (λ then then_is all. reached_put (HasKey then) stored.files all name bytes (λ key there. effect.made.keeps_keys at.index at.index_known then then_is key (given.indexed at.index at.index_known key there)))
+      (λ then then_is all. reached_put (HasKey then) stored.files all name bytes
+      (λ key there. effect.made.keeps_keys at.index at.index_known then then_is key (given.indexed at.index at.index_known key there)))
       (λ then after then_is is. (
-        (λ key level text counts has. subst (KeepsCopies AnyKey s image (with_change name (Put root) s)) (one_some copies.0 after (sym copies.1 ∙ is)) copies.2 key level text tt has),
-        subst (λ (parts : List Part). HoldsPart (HasKey then) s.held after (part_of parts actor)) (sym row.2) (own_set (HoldsPart (HasKey then) s.held after) old.parts actor Idle tt tt),
+        (λ key level text counts has. subst (KeepsCopies AnyKey s image (with_change name (Put root) s))
+            (one_some copies.0 after (sym copies.1 ∙ is)) copies.2 key level text tt has),
+        subst (λ (parts : List Part). HoldsPart (HasKey then) s.held after (part_of parts actor)) (sym row.2)
+            (own_set (HoldsPart (HasKey then) s.held after) old.parts actor Idle tt tt),
       ))
       (λ then then_is after is core holds_now. committed_safe among s stored old new actor buf at name root (row.0, refl, row.2, row.3) effect.index collects then then_is after
-      (λ key level text counts has. subst (KeepsCopies AnyKey s image (with_change name (Put root) s)) (one_some copies.0 after (sym copies.1 ∙ is)) copies.2 key level text tt has))
+      (λ key level text counts has. subst (KeepsCopies AnyKey s image (with_change name (Put root) s))
+      (one_some copies.0 after (sym copies.1 ∙ is)) copies.2 key level text tt has))
   commit_next name root (Err refusal) row effect collects stops right given =
       let reads = only_reads old new stays (asked.Commit name root) refusal stops effect.disk.ends in
-      rests among s stored old new actor at (row_one actor buf old new (asked.Commit name root) (Err refusal) row) (goes_under_way (asked.Commit name root) (Err refusal) row effect collects) effect.kept
+      rests among s stored old new actor at (row_one actor buf old new (asked.Commit name root) (Err refusal) row)
+      (goes_under_way (asked.Commit name root) (Err refusal) row effect collects) effect.kept
       reads (own_still row.1) (refused_safe reads row.1 collects)
   commit_next name root answer row effect collects stops right given = absurd row
 
   -- a name that is deleted
   delete_next : (name : List ℕ) (answer : Result Answer Refusal) → Goes (asked.Delete name) answer
   delete_next name (Ok (answers.Deleted sequence)) row effect collects stops right given =
-      let moved = effect.moves.moves among s stored.files (files.Delete name) at.represents.names_are refl refl (record { known = at.stands.known; each = λ c is. (at.stands.each c is, tt) }) in
+      let moved = effect.moves.moves among s stored.files (files.Delete name) at.represents.names_are refl refl
+      (record { known = at.stands.known; each = λ c is. (at.stands.each c is, tt) }) in
       let copies = effect.copies s at.represents image here stands_here.holds.right in
-      makes among s stored old new actor at (row_one actor buf old new (asked.Delete name) (Ok (answers.Deleted sequence)) row) (goes_under_way (asked.Delete name) (Ok (answers.Deleted sequence)) row effect collects) (ChangeName name Delete) (without_stored stored name) (last_changed name Delete s at.valid.follow ∙ ap suc last_here) effect.made (reserve_still effect.index) invariant_here.has_free effect.disk.later
+      makes among s stored old new actor at (row_one actor buf old new (asked.Delete name) (Ok (answers.Deleted sequence)) row)
+      (goes_under_way (asked.Delete name) (Ok (answers.Deleted sequence)) row effect collects) (ChangeName name Delete) (without_stored stored name)
+      (last_changed name Delete s at.valid.follow ∙ ap suc last_here) effect.made (reserve_still effect.index) invariant_here.has_free effect.disk.later
       moved.arrives (λ then then_is all. reached_less (HasKey then) stored.files all name)
       (λ then after then_is is.
       let any = subst (KeepsCopies AnyKey s image (with_change name Delete s)) (one_some copies.0 after (sym copies.1 ∙ is)) copies.2 in
-      let kept : KeepsCopies (HasKey at.index) s image (with_change name Delete s) after = λ key level text counts has. any key level text tt has in
-      (kept, part_kept (HasKey at.index) (HasKey then) s (with_change name Delete s) image after kept (effect.made.keeps_keys at.index at.index_known then then_is) (part_of new.parts actor) (own_still row.2)))
+      let kept : KeepsCopies (HasKey at.index) s image (with_change name Delete s) after = λ key level text counts has. any key level text tt has in (
+        kept,
+        part_kept (HasKey at.index) (HasKey then) s (with_change name Delete s) image after kept (effect.made.keeps_keys at.index at.index_known then then_is)
+            (part_of new.parts actor) (own_still row.2),
+      ))
       (λ then then_is after is core holds_now. deleted_safe among s stored old new actor buf at name row.2 effect.index collects then then_is after
       (λ key level text counts has. subst (KeepsCopies AnyKey s image (with_change name Delete s)) (one_some copies.0 after (sym copies.1 ∙ is)) copies.2 key level text tt has))
   delete_next name (Err refusal) row effect collects stops right given =
       let reads = only_reads old new stays (asked.Delete name) refusal stops effect.disk.ends in
-      rests among s stored old new actor at (row_one actor buf old new (asked.Delete name) (Err refusal) row) (goes_under_way (asked.Delete name) (Err refusal) row effect collects) effect.kept
+      rests among s stored old new actor at (row_one actor buf old new (asked.Delete name) (Err refusal) row)
+      (goes_under_way (asked.Delete name) (Err refusal) row effect collects) effect.kept
       reads (own_still row.1) (refused_safe reads row.1 collects)
   delete_next name answer row effect collects stops right given = absurd row
 
   list_next : (answer : Result Answer Refusal) → Goes asked.ListNames answer
   list_next answer row effect collects stops right given =
-      part_rests asked.ListNames answer row effect (goes_under_way asked.ListNames answer row effect collects) collects (none_rested among s stored old new actor buf at (list_none (names_of s) old new actor buf at.represents.names_are.names_are at.many answer row))
+      part_rests asked.ListNames answer row effect (goes_under_way asked.ListNames answer row effect collects) collects
+      (none_rested among s stored old new actor buf at (list_none (names_of s) old new actor buf at.represents.names_are.names_are at.many answer row))
       (own_list among s stored.files image at.index actor buf old new here at.index_known newest_index invariant_here.files_are_indexed at.represents.names_are.names_are stands_here distinct holds answer row)
 
   -- a collection begins
@@ -462,14 +512,17 @@ module _ (among : ByteSet) (s : Store) (stored : Stored) (old new : CoreState) (
 -- ---- a run
 
 module _ (among : ByteSet) (distinct : HasNoCollisions (IsIn among)) where
-  by_stop : (stop : Option Stop) (f : FileEvent) (s : Store) (stored : Stored) (old new : CoreState) → old.stop ≡ stop → StepsOr stop f.event old new → IsStep f.event.step → IsNoGcStep f.event.step
-      → IsGivenRight (IsIn among) f.event.step f.event.answer f.bytes old → IsAt (IsIn among) s stored old → new.stop ≡ None → NextOn (IsIn among) s (changes_by f.event.step f.event.answer) (stored_by f stored) old new
+  by_stop : (stop : Option Stop) (f : FileEvent) (s : Store) (stored : Stored) (old new : CoreState) → old.stop ≡ stop → StepsOr stop f.event old new → IsStep f.event.step
+      → IsNoGcStep f.event.step
+      → IsGivenRight (IsIn among) f.event.step f.event.answer f.bytes old → IsAt (IsIn among) s stored old → new.stop ≡ None
+      → NextOn (IsIn among) s (changes_by f.event.step f.event.answer) (stored_by f stored) old new
   by_stop None f s stored old new is steps right other given at stays =
       step_next among s stored old new f.event.actor f.event.buf f.bytes distinct at stays f.event.step f.event.answer other steps.made.row steps.made.effect steps.collects steps.stops right given
   by_stop (Some stop) f s stored old new is steps right other given at stays = absurd (let both = sym stays ∙ steps.same.stop_is ∙ is in cc)
 
   -- a step that no collection makes
-  pub file_step : (f : FileEvent) (s : Store) (stored : Stored) (old new : CoreState) → IsNoGcStep f.event.step → FileStep (IsIn among) f old new → IsAt (IsIn among) s stored old → new.stop ≡ None
+  pub file_step : (f : FileEvent) (s : Store) (stored : Stored) (old new : CoreState) → IsNoGcStep f.event.step → FileStep (IsIn among) f old new → IsAt (IsIn among) s stored old
+      → new.stop ≡ None
       → NextOn (IsIn among) s (changes_by f.event.step f.event.answer) (stored_by f stored) old new
   file_step f s stored old new other step at stays = by_stop old.stop f s stored old new refl step.made step.asked other step.given at stays
 

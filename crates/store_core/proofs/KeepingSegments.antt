@@ -98,13 +98,15 @@ module _ (S : List ℕ → Type 0) (store : Store) (files : Files) (image : List
       distinct (bytes_at copy.place image) x.bytes so.so mine (copy_digest store.held 0 (sha256 x.bytes) image copy stands.holds.copies is)
 
   -- of a node the copy's bytes are read, and they have one level
-  node_level : (x : Segment) (copy : Copy) → IsOfKind Tree x → newest 0 store.held (segment_key Tree x) ≡ Some copy → bytes_at copy.place image ≡ x.bytes → copy.place.level ≡ x.level
+  node_level : (x : Segment) (copy : Copy) → IsOfKind Tree x → newest 0 store.held (segment_key Tree x) ≡ Some copy → bytes_at copy.place image ≡ x.bytes
+      → copy.place.level ≡ x.level
   node_level x copy right is same =
       let so = newest_so IsNodeEntry store.held Tree (sha256 x.bytes) image copy (nodes_so 0 store.held image stands.holds.nodes) is in
       so.level_is ∙ one_level so.entry.level x.level (bytes_at copy.place image) x.bytes so.so (node_of x right) same
 
   -- a copy that fits a segment is the segment
-  fits_held : HasNoCollisions S → (kind : Kind) (x : Segment) (copy : Copy) → IsOfKind kind x → IsAmong S kind x.bytes → newest 0 store.held (segment_key kind x) ≡ Some copy → FitsBytes kind x.bytes copy.place image
+  fits_held : HasNoCollisions S → (kind : Kind) (x : Segment) (copy : Copy) → IsOfKind kind x → IsAmong S kind x.bytes → newest 0 store.held (segment_key kind x) ≡ Some copy
+      → FitsBytes kind x.bytes copy.place image
       → IsNewestIn store image (record { kind = kind; segment = x })
   fits_held distinct Leaf x copy right mine is fits = record { copy = copy; copy_is = is; level_is = data_level x copy is; bytes_are = data_bytes distinct x copy mine is }
   fits_held distinct Tree x copy right mine is fits = record { copy = copy; copy_is = is; level_is = node_level x copy right is fits; bytes_are = fits }
@@ -124,7 +126,8 @@ module _ (old new : CoreState) (stays : new.stop ≡ None) (given : List ℕ) (h
   reads_settled reads bytes is c image = settled bytes (sym reads.content_is ∙ is) c (reads.images_are c image)
 
   durable_settled : IsDurable new.disk → Settled
-  durable_settled durable bytes is c image = subst (SameBefore (slot_at old.tables.slots) bytes) (sym (durable bytes is c image)) (record { size = refl; before = λ p n within. refl })
+  durable_settled durable bytes is c image = subst (SameBefore (slot_at old.tables.slots) bytes) (sym (durable bytes is c image))
+      (record { size = refl; before = λ p n within. refl })
 
   -- each image is, in what counts, as the content was
   counts_given : KeepsWhatCounts old.tables.slots old.disk new.disk → (c : List ℕ) → new.disk.images c → SameBefore (slot_at old.tables.slots) given c
@@ -140,12 +143,14 @@ module _ (old new : CoreState) (stays : new.stop ≡ None) (given : List ℕ) (h
       let other = counts_given keeps c image in
       record { size = other.size ∙ sym mine.size; before = λ p n within. other.before p n within ∙ sym (mine.before p n within) }
 
-  seal_settled : (filled : Contents) (refusal : Refusal) → StopsAfter (asked.Seal filled) (Err refusal) old.acknowledged new.stop → Left old.tables.slots (ending_of (blames refusal)) old.disk new.disk → Settled
+  seal_settled : (filled : Contents) (refusal : Refusal) → StopsAfter (asked.Seal filled) (Err refusal) old.acknowledged new.stop
+      → Left old.tables.slots (ending_of (blames refusal)) old.disk new.disk → Settled
   seal_settled filled refusals.DiskWrite stops left = absurd (let both = sym stays ∙ stops in cc)
   seal_settled filled refusals.DiskRead stops left = counts_settled left
   seal_settled filled refusal stops left = counts_settled left
 
-  pub effect_settled : (step : StepValue) (answer : Result Answer Refusal) → IsNoGcStep step → StopsAfter step answer old.acknowledged new.stop → Effect step answer old new → Settled
+  pub effect_settled : (step : StepValue) (answer : Result Answer Refusal) → IsNoGcStep step → StopsAfter step answer old.acknowledged new.stop → Effect step answer old new
+      → Settled
   effect_settled asked.Begin answer other stops effect = reads_settled effect.disk.only
   effect_settled (asked.Claim seg) answer other stops effect = reads_settled effect.disk.only
   effect_settled (asked.Seal filled) (Ok answer) other stops effect = effect.disk.left settled
@@ -168,7 +173,8 @@ module _ (old new : CoreState) (stays : new.stop ≡ None) (given : List ℕ) (h
   changes_settled : (e : Ending) → old.disk.size ≡ size_of old.tables.slots → ((slots : ℕ) → old.disk.size ≡ size_of slots → Changes (slot_at slots) e old.disk new.disk) → Settled
   changes_settled e sized changes = let changed = changes old.tables.slots sized in counts_settled (record { content_is = changed.content_is; leaves = changed.leaves })
 
-  did_settled : (before after : Collection) (stage : Stage) (next : Next) → old.disk.size ≡ size_of old.tables.slots → StepsTo stage next (at_moment old before) (at_moment new after)
+  did_settled : (before after : Collection) (stage : Stage) (next : Next) → old.disk.size ≡ size_of old.tables.slots
+      → StepsTo stage next (at_moment old before) (at_moment new after)
       → Touches stage next before.sweep old.tables Done old.disk new.disk → Settled
   did_settled before after (Mark level slot) next sized steps touches = reads_settled touches.only
   did_settled before after (Filter slot) next sized steps touches = reads_settled touches.only
@@ -181,30 +187,37 @@ module _ (old new : CoreState) (stays : new.stop ≡ None) (given : List ℕ) (h
   broken : StopsAfter asked.GcStep (Err refusals.DiskWrite) old.acknowledged new.stop → ⊥
   broken is = let both = sym stays ∙ is in cc
 
-  flush_settled : (refusal : Refusal) → StopsAfter asked.GcStep (Err refusal) old.acknowledged new.stop → Left old.tables.slots (ending_of (blames refusal)) old.disk new.disk → Settled
+  flush_settled : (refusal : Refusal) → StopsAfter asked.GcStep (Err refusal) old.acknowledged new.stop → Left old.tables.slots (ending_of (blames refusal)) old.disk new.disk
+      → Settled
   flush_settled refusals.DiskWrite stops left = absurd (broken stops)
   flush_settled refusals.DiskRead stops left = counts_settled left
   flush_settled refusal stops left = counts_settled left
 
-  refused_settled : (before : Collection) (stage : Stage) (next : Next) (refusal : Refusal) → StopsAfter asked.GcStep (Err refusal) old.acknowledged new.stop → old.disk.size ≡ size_of old.tables.slots
+  refused_settled : (before : Collection) (stage : Stage) (next : Next) (refusal : Refusal) → StopsAfter asked.GcStep (Err refusal) old.acknowledged new.stop
+      → old.disk.size ≡ size_of old.tables.slots
       → IsStepRefusal stage next (at_moment old before) new.disk refusal → Touches stage next before.sweep old.tables (ending_of (blames refusal)) old.disk new.disk → Settled
   refused_settled before (Mark level slot) next refusal stops sized cause touches = reads_settled touches.only
   refused_settled before (Filter slot) next refusal stops sized cause touches = reads_settled touches.only
   refused_settled before Select next refusal stops sized cause touches = reads_settled touches.only
   refused_settled before SweepStage (CopyNext source entry) refusal stops sized cause touches = changes_settled (ending_of (blames refusal)) sized touches
   refused_settled before SweepStage (Flush source entry) refusal stops sized cause touches = flush_settled refusal stops touches.0.left
-  refused_settled before SweepStage (Release source entry) refusal stops sized cause touches = absurd (broken (subst (λ (x : Refusal). StopsAfter asked.GcStep (Err x) old.acknowledged new.stop) cause stops))
+  refused_settled before SweepStage (Release source entry) refusal stops sized cause touches = absurd
+      (broken (subst (λ (x : Refusal). StopsAfter asked.GcStep (Err x) old.acknowledged new.stop) cause stops))
   refused_settled before SweepStage End refusal stops sized cause touches = absurd cause
 
-  pub gc_settled : (answer : Result Answer Refusal) → old.disk.size ≡ size_of old.tables.slots → StopsAfter asked.GcStep answer old.acknowledged new.stop → GcRow answer old new → GcEffect answer old new → Settled
+  pub gc_settled : (answer : Result Answer Refusal) → old.disk.size ≡ size_of old.tables.slots → StopsAfter asked.GcStep answer old.acknowledged new.stop → GcRow answer old new
+      → GcEffect answer old new → Settled
   gc_settled (Ok (answers.Did phase)) sized stops row effect =
-      did_settled row.0.before row.0.after row.0.before.stage row.0.before.sweep.next sized row.0.steps (subst (λ (o : Option Collection). TouchesBy o (Ok (answers.Did phase)) old new.disk) row.0.ran effect.touches)
+      did_settled row.0.before row.0.after row.0.before.stage row.0.before.sweep.next sized row.0.steps
+      (subst (λ (o : Option Collection). TouchesBy o (Ok (answers.Did phase)) old new.disk) row.0.ran effect.touches)
   gc_settled (Ok (answers.Done freed copied)) sized stops row effect =
       let touched = subst (λ (o : Option Collection). TouchesBy o (Ok (answers.Done freed copied)) old new.disk) row.0.ran effect.touches in
       reads_settled (end_reads row.0.before old.tables Done old.disk new.disk row.0.at_end.0 row.0.at_end.1 touched).only
-  gc_settled (Err refusals.NotCollecting) sized stops row effect = reads_settled (subst (λ (o : Option Collection). TouchesBy o (Err refusals.NotCollecting) old new.disk) row.0.none_ran effect.touches).only
+  gc_settled (Err refusals.NotCollecting) sized stops row effect = reads_settled
+      (subst (λ (o : Option Collection). TouchesBy o (Err refusals.NotCollecting) old new.disk) row.0.none_ran effect.touches).only
   gc_settled (Err refusal) sized stops row effect =
-      refused_settled row.0.before row.0.before.stage row.0.before.sweep.next refusal stops sized row.0.cause (subst (λ (o : Option Collection). TouchesBy o (Err refusal) old new.disk) row.0.ran effect.touches)
+      refused_settled row.0.before row.0.before.stage row.0.before.sweep.next refusal stops sized row.0.cause
+      (subst (λ (o : Option Collection). TouchesBy o (Err refusal) old new.disk) row.0.ran effect.touches)
   gc_settled answer sized stops row effect = absurd row
 
 -- changes leave the number of slots
@@ -223,7 +236,8 @@ record Keeps (S : List ℕ → Type 0) (s : Store) (stored : Stored) (segs : Lis
   pub settled : IsSettled c.tables.slots c.disk
   pub held : (index : PlaceMap) → c.known ≡ Some index → (image : List ℕ) → c.disk.content ≡ Some image → AllByRecursion (HoldsSegment index s image) segs
 
-module _ (among : ByteSet) (s : Store) (stored later : Stored) (old new : CoreState) (actor : ℕ) (buf bytes : List ℕ) (distinct : HasNoCollisions (IsIn among)) (at : IsAt (IsIn among) s stored old) (stays : new.stop ≡ None) where
+module _ (among : ByteSet) (s : Store) (stored later : Stored) (old new : CoreState) (actor : ℕ) (buf bytes : List ℕ) (distinct : HasNoCollisions (IsIn among))
+    (at : IsAt (IsIn among) s stored old) (stays : new.stop ≡ None) where
   abbrev image : List ℕ
   image = at.stands.known.0
 
@@ -235,7 +249,8 @@ module _ (among : ByteSet) (s : Store) (stored later : Stored) (old new : CoreSt
 
   -- what a step kept, by the store that it leads to
   abbrev Kept : StepValue → Result Answer Refusal → Type 0
-  Kept step answer = (next : NextOn (IsIn among) s (changes_by step answer) later old new) → (then : PlaceMap) → new.known ≡ Some then → (after : List ℕ) → new.disk.content ≡ Some after → Effect step answer old new
+  Kept step answer = (next : NextOn (IsIn among) s (changes_by step answer) later old new) → (then : PlaceMap) → new.known ≡ Some then → (after : List ℕ)
+      → new.disk.content ≡ Some after → Effect step answer old new
       → IsStep step → IsGivenRight (IsIn among) step answer bytes old → AllByRecursion (HoldsSegment then next.next.store after) (kept_by step answer)
 
   claim_kept : (seg : KindSegment) (answer : Result Answer Refusal) → ClaimRow seg actor answer old new → Kept (asked.Claim seg) answer
@@ -246,8 +261,14 @@ module _ (among : ByteSet) (s : Store) (stored later : Stored) (old new : CoreSt
       let found = finds s at.index key was.place (at.represents.index_is_newest at.index at.index_known) (was.found at.index at.index_known) in
       let fits = shown_content old.disk new.disk (FitsBytes seg.kind seg.segment.bytes was.place) image was.same here in
       let has = fits_held (IsIn among) s stored.files image stands_here distinct seg.kind seg.segment found.0 right given found.1
-      (subst (λ (place : Place). FitsBytes seg.kind seg.segment.bytes place image) (sym found.2) fits) in
-      ((next.keys at.index then at.index_known then_is key has_key, next.copies at.index image after at.index_known here is key (pin_of seg).level seg.segment.bytes has_key has), tt)
+      (subst (λ (place : Place). FitsBytes seg.kind seg.segment.bytes place image) (sym found.2) fits) in (
+        (
+          next.keys at.index then at.index_known then_is key has_key,
+          next.copies at.index image after at.index_known here is key
+              (pin_of seg).level seg.segment.bytes has_key has,
+        ),
+        tt,
+      )
   claim_kept seg (Ok answers.Absent) row next then then_is after is effect right given = tt
   claim_kept seg (Err refusal) row next then then_is after is effect right given = tt
   claim_kept seg answer row next then then_is after is effect right given = absurd row
@@ -255,10 +276,12 @@ module _ (among : ByteSet) (s : Store) (stored later : Stored) (old new : CoreSt
   seal_kept : (filled : Contents) (answer : Result Answer Refusal) → SealRow filled actor answer old new → Kept (asked.Seal filled) answer
   seal_kept filled (Ok (answers.Sealed id)) row next then then_is after is effect right given =
       let holds = (seal_holds among s stored old new actor buf bytes distinct at stays filled (Ok (answers.Sealed id)) after is effect right given).1 in
-      let store : next.next.store ≡ with_sealed (next_id old) filled.kind filled.segments s = next.next.chain.1 ∙ ap (λ (n : ℕ). with_sealed n filled.kind filled.segments s) row.id_is in
+      let store : next.next.store ≡ with_sealed (next_id old) filled.kind filled.segments s = next.next.chain.1
+      ∙ ap (λ (n : ℕ). with_sealed n filled.kind filled.segments s) row.id_is in
       let there = subst (λ (t : Store). AllByRecursion (λ x. HasNewest t.held (segment_key filled.kind x) x.level x.bytes after) filled.segments) (sym store) holds in
       let keys = effect.made.adds_keys at.index at.index_known then then_is in
-      all_map (λ x. HasKey then (segment_key filled.kind x) × HasNewest next.next.store.held (segment_key filled.kind x) x.level x.bytes after) (HoldsSegment then next.next.store after) (λ x. record { kind = filled.kind; segment = x })
+      all_map (λ x. HasKey then (segment_key filled.kind x) × HasNewest next.next.store.held (segment_key filled.kind x) x.level x.bytes after)
+      (HoldsSegment then next.next.store after) (λ x. record { kind = filled.kind; segment = x })
       filled.segments
       (λ x both. (both.0, sealed_held (IsIn among) next.next.store later.files after (next.next.is_at.stands.each after (new.disk.as_read after is)) filled.kind x both.1))
       (all_two (λ x. HasKey then (segment_key filled.kind x)) (λ x. HasNewest next.next.store.held (segment_key filled.kind x) x.level x.bytes after) filled.segments keys there)
@@ -271,11 +294,13 @@ module _ (among : ByteSet) (s : Store) (stored later : Stored) (old new : CoreSt
   step_kept step answer row = λ next then then_is after is effect right given. tt
 
 -- a disk that was settled is settled, whatever the step
-pub settled_step : (among : ByteSet) (distinct : HasNoCollisions (IsIn among)) (f : FileEvent) (s : Store) (stored : Stored) (old new : CoreState) → IsAt (IsIn among) s stored old → IsSettled old.tables.slots old.disk
+pub settled_step : (among : ByteSet) (distinct : HasNoCollisions (IsIn among)) (f : FileEvent) (s : Store) (stored : Stored) (old new : CoreState) → IsAt (IsIn among) s stored old
+    → IsSettled old.tables.slots old.disk
     → FileStep (IsIn among) f old new → (leads : Leads (IsIn among) s f (stored_by f stored) old new) → old.stop ≡ None → new.stop ≡ None → IsSettled new.tables.slots new.disk
 settled_step among distinct f s stored old new at settled step leads runs stays =
     let steps = running_step old new f.event runs step.made in
-    let slots : old.tables.slots ≡ new.tables.slots = at.represents.slots_are ∙ sym (same_slots leads.changes s leads.next.store leads.next.chain) ∙ sym leads.next.is_at.represents.slots_are in
+    let slots : old.tables.slots ≡ new.tables.slots = at.represents.slots_are ∙ sym (same_slots leads.changes s leads.next.store leads.next.chain)
+    ∙ sym leads.next.is_at.represents.slots_are in
     let sized : old.disk.size ≡ size_of old.tables.slots = at.valid.size_is ∙ ap size_of (sym at.represents.slots_are) in
     subst (λ (n : ℕ). IsSettled n new.disk) slots
     (elim (gc_or_not f.event.step) [
@@ -286,7 +311,8 @@ settled_step among distinct f s stored old new at settled step leads runs stays 
 
 module _ (among : ByteSet) (distinct : HasNoCollisions (IsIn among)) where
   -- a step more, of no collection
-  keeps_step : (f : FileEvent) (s : Store) (stored : Stored) (segs : List KindSegment) (old new : CoreState) → IsNoGcStep f.event.step → Keeps (IsIn among) s stored segs old → FileStep (IsIn among) f old new → old.stop ≡ None → new.stop ≡ None
+  keeps_step : (f : FileEvent) (s : Store) (stored : Stored) (segs : List KindSegment) (old new : CoreState) → IsNoGcStep f.event.step → Keeps (IsIn among) s stored segs old
+      → FileStep (IsIn among) f old new → old.stop ≡ None → new.stop ≡ None
       → (t : Store) × Keeps (IsIn among) t (stored_by f stored) (segs ++ kept_by f.event.step f.event.answer) new
   keeps_step f s stored segs old new other keeps step runs stays =
       let at = keeps.is_at in
@@ -300,7 +326,8 @@ module _ (among : ByteSet) (distinct : HasNoCollisions (IsIn among)) where
               (all_weaker (HoldsSegment at.index s at.stands.known.0) (HoldsSegment then next.next.store after) segs
               (λ seg has. (
                 next.keys at.index then at.index_known then_is (segment_key seg.kind seg.segment) has.0,
-                next.copies at.index at.stands.known.0 after at.index_known at.stands.known.1 is (segment_key seg.kind seg.segment) (pin_of seg).level seg.segment.bytes has.0 has.1,
+                next.copies at.index at.stands.known.0 after at.index_known at.stands.known.1 is (segment_key seg.kind seg.segment)
+                    (pin_of seg).level seg.segment.bytes has.0 has.1,
               ))
               (keeps.held at.index at.index_known at.stands.known.0 at.stands.known.1))
               (step_kept among s stored (stored_by f stored) old new f.event.actor f.event.buf f.bytes distinct at stays f.event.step f.event.answer steps.made.row next then then_is after is steps.made.effect step.asked step.given);
@@ -323,7 +350,8 @@ module _ (S : List ℕ → Type 0) (s : Store) (stored : Stored) (c : CoreState)
           known = at.stands.known;
           each = λ left leaves.
               let same = subst (λ (n : ℕ). SameBefore (slot_at n) image left) at.represents.slots_are (settled image here left leaves) in
-              same_copies s t at.index left (at.represents.index_is_newest at.index at.index_known) (represents.index_is_newest at.index at.index_known) key (pin_of seg).level seg.segment.bytes has.0
+              same_copies s t at.index left (at.represents.index_is_newest at.index at.index_known) (represents.index_is_newest at.index at.index_known) key
+              (pin_of seg).level seg.segment.bytes has.0
               (newest_framed s image left right same.before key (pin_of seg).level seg.segment.bytes has.1);
         };
       }
@@ -344,7 +372,8 @@ held_after S stored segs c kept =
     all_held S kept.store stored c at kept.keeps.settled segs (kept.keeps.held at.index at.index_known at.stands.known.0 at.stands.known.1)
 
 module _ (C : Type 0) (state : C → CoreState) (among : ByteSet) (distinct : HasNoCollisions (IsIn among)) where
-  keeps_on : (steps : List FileEvent) (s : Store) (stored : Stored) (segs : List KindSegment) (old new : C) → Keeps (IsIn among) s stored segs (state old) → FileRun C state (IsIn among) steps old new → AreNoGcSteps (events_of steps)
+  keeps_on : (steps : List FileEvent) (s : Store) (stored : Stored) (segs : List KindSegment) (old new : C) → Keeps (IsIn among) s stored segs (state old)
+      → FileRun C state (IsIn among) steps old new → AreNoGcSteps (events_of steps)
       → (state new).stop ≡ None → KeepsAll (IsIn among) (stored_after steps stored) (segs ++ kept_of steps) (state new)
   keeps_on [] s stored segs old new keeps run others stays =
       subst (λ (all : List KindSegment). KeepsAll (IsIn among) stored all (state new)) (sym (append-nil segs))
@@ -359,7 +388,8 @@ module _ (C : Type 0) (state : C → CoreState) (among : ByteSet) (distinct : Ha
       (keeps_on fs next.0 (stored_by f stored) (segs ++ more) mid new next.1 run.1.1 others.1 stays)
 
   -- where a run leads, and its disk is settled
-  pub settled_on : (steps : List FileEvent) (s : Store) (stored : Stored) (old new : C) → IsAt (IsIn among) s stored (state old) → IsSettled (state old).tables.slots (state old).disk → FileRun C state (IsIn among) steps old new
+  pub settled_on : (steps : List FileEvent) (s : Store) (stored : Stored) (old new : C) → IsAt (IsIn among) s stored (state old)
+      → IsSettled (state old).tables.slots (state old).disk → FileRun C state (IsIn among) steps old new
       → (state new).stop ≡ None → IsSettled (state new).tables.slots (state new).disk
   settled_on [] s stored old new at settled run stays = subst (λ (c : C). IsSettled (state c).tables.slots (state c).disk) (sym run) settled
   settled_on (f ∷ fs) s stored old new at settled run stays =
@@ -367,7 +397,8 @@ module _ (C : Type 0) (state : C → CoreState) (among : ByteSet) (distinct : Ha
       let going = run_running C state among fs mid new run.1.1 stays in
       let runs = run_running C state among (f ∷ fs) old new run stays in
       let leads = any_step among distinct f s stored (state old) (state mid) run.1.0 at going in
-      settled_on fs leads.next.store (stored_by f stored) mid new leads.next.is_at (settled_step among distinct f s stored (state old) (state mid) at settled run.1.0 leads runs going) run.1.1 stays
+      settled_on fs leads.next.store (stored_by f stored) mid new leads.next.is_at
+      (settled_step among distinct f s stored (state old) (state mid) at settled run.1.0 leads runs going) run.1.1 stays
 
 module _ (C : Type 0) (state : C → CoreState) where
   pub keeps_segments : KeepsSegments C state
@@ -380,7 +411,8 @@ module _ (C : Type 0) (state : C → CoreState) where
 
   pub stays_held : StaysHeld C state
   stays_held among steps s stored seg old new distinct at settled run others stays held =
-      let here : (index : PlaceMap) → (state old).known ≡ Some index → (image : List ℕ) → (state old).disk.content ≡ Some image → AllByRecursion (HoldsSegment index s image) (seg ∷ []) =
+      let here : (index : PlaceMap) → (state old).known ≡ Some index → (image : List ℕ) → (state old).disk.content ≡ Some image
+      → AllByRecursion (HoldsSegment index s image) (seg ∷ []) =
       λ index known image is. ((held.indexed index known, (held.newest s at.represents).each image ((state old).disk.as_read image is)), tt) in
       (held_after (IsIn among) (stored_after steps stored) (seg ∷ kept_of steps) (state new)
       (keeps_on C state among distinct steps s stored (seg ∷ []) old new (record { is_at = at; settled = settled; held = here }) run others stays)).0

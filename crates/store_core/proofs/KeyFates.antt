@@ -135,15 +135,17 @@ fates_none b c s old new same known index later key place h index_is later_is li
     inr (subst (λ (x : Collection). Lies later s.held x key place h) (sym same)
     (subst (λ (m : PlaceMap). Lies m s.held b key place h) (one_map_at index later (sym index_is ∙ sym known ∙ later_is)) lies))
 
-pub fates_then : (first rest : List StoreChange) (b a c : Collection) (s t u : Store) (old mid new : CoreState) (middle : PlaceMap) → mid.known ≡ Some middle → KeepsFates first b a s t old mid
+pub fates_then : (first rest : List StoreChange) (b a c : Collection) (s t u : Store) (old mid new : CoreState) (middle : PlaceMap) → mid.known ≡ Some middle
+    → KeepsFates first b a s t old mid
     → KeepsFates rest a c t u mid new → KeepsFates (first ++ rest) b c s u old new
-fates_then first rest b a c s t u old mid new middle middle_is now then index later key place h index_is later_is lies = elim (now index middle key place h index_is middle_is lies) [
-  | inl written ↦ inl (written_first first rest key written)
-  | inr still ↦ elim (then middle later key place h middle_is later_is still) [
-    | inl written ↦ inl (written_later first rest key written)
-    | inr on ↦ inr on
-  ]
-]
+fates_then first rest b a c s t u old mid new middle middle_is now then index later key place h index_is later_is lies = elim
+    (now index middle key place h index_is middle_is lies) [
+      | inl written ↦ inl (written_first first rest key written)
+      | inr still ↦ elim (then middle later key place h middle_is later_is still) [
+        | inl written ↦ inl (written_later first rest key written)
+        | inr on ↦ inr on
+      ]
+    ]
 
 -- ---- what a scan marks
 
@@ -160,19 +162,23 @@ first_ones of (x ∷ xs) ys key (zero, below, is) = (zero, omega arith, is)
 first_ones of (x ∷ xs) ys key (suc k, below, is) = let rest = first_ones of xs ys key (k, omega (arith, below), is) in (suc rest.0, omega (arith, rest.1), rest.2)
 
 module _ (index : PlaceMap) (old new : DiskView) (slot level : ℕ) (h : HeaderValue) (before after : LiveKeys) where
-  scan_unmarked : ScansEntries (Some index) old new slot level h before after → (key : List ℕ) (place : Place) → finite.get index key ≡ None → IsLiveAt after key place → IsLiveAt before key place
+  scan_unmarked : ScansEntries (Some index) old new slot level h before after → (key : List ℕ) (place : Place) → finite.get index key ≡ None → IsLiveAt after key place
+      → IsLiveAt before key place
   scan_unmarked scanned key place none is_live = elim ((scanned.marks.marks key place).0 is_live) [
     | inl was ↦ was
     | inr among ↦ absurd (
-        let has = placed_has index (level - 1) key scanned.marks.found (λ f. f.key) (λ f. f.place) (recursion_from_All _ scanned.marks.found scanned.marks.finds.placed) (among_keys key place scanned.marks.found among) in
+        let has = placed_has index (level - 1) key scanned.marks.found (λ f. f.key) (λ f. f.place) (recursion_from_All _ scanned.marks.found scanned.marks.finds.placed)
+        (among_keys key place scanned.marks.found among) in
         let wrong : None ≡ Some has.0 = sym none ∙ has.1 in cc)
   ]
 
-  some_unmarked : ScansSome (Some index) old new slot level h before after → (key : List ℕ) (place : Place) → finite.get index key ≡ None → IsLiveAt after key place → IsLiveAt before key place
+  some_unmarked : ScansSome (Some index) old new slot level h before after → (key : List ℕ) (place : Place) → finite.get index key ≡ None → IsLiveAt after key place
+      → IsLiveAt before key place
   some_unmarked scanned key place none is_live = elim ((scanned.marks.1.1.1 key place).0 is_live) [
     | inl was ↦ was
     | inr among ↦ absurd (
-        let some : Contains (keys_of (scanned.marks.0 ++ scanned.marks.1.0)) key = first_ones _ scanned.marks.0 scanned.marks.1.0 key (among_keys key place scanned.marks.0 among) in
+        let some : Contains (keys_of (scanned.marks.0 ++ scanned.marks.1.0)) key = first_ones _ scanned.marks.0 scanned.marks.1.0 key
+        (among_keys key place scanned.marks.0 among) in
         let all : Contains (keys_of scanned.found) key = subst (λ found. Contains (keys_of found) key) (sym scanned.marks.1.1.0) some in
         let has = placed_has index (level - 1) key scanned.found (λ f. f.key) (λ f. f.place) (recursion_from_All _ scanned.found scanned.finds.placed) all in
         let wrong : None ≡ Some has.0 = sym none ∙ has.1 in cc)
@@ -180,7 +186,8 @@ module _ (index : PlaceMap) (old new : DiskView) (slot level : ℕ) (h : HeaderV
 
 -- ---- a step that was made
 
-module _ (among : ByteSet) (s : Store) (stored : Stored) (old new : CoreState) (at : IsAt (IsIn among) s stored old) (t : Store) (b a : Collection) (under : IsUnderWay old.tables.held b) where
+module _ (among : ByteSet) (s : Store) (stored : Stored) (old new : CoreState) (at : IsAt (IsIn among) s stored old) (t : Store) (b a : Collection)
+    (under : IsUnderWay old.tables.held b) where
   abbrev index : PlaceMap
   index = at.index
 
@@ -203,7 +210,8 @@ module _ (among : ByteSet) (s : Store) (stored : Stored) (old new : CoreState) (
       (fates key place h (subst (λ (x : PlaceMap). Lies x s.held b key place h) (one_map_at m index (sym m_is ∙ at.index_known)) lies))
 
   -- store and index stay, and only keys became live that the index has
-  fates_kept : new.known ≡ Some index → t ≡ s → ((key : List ℕ) (place : Place) → finite.get index key ≡ None → IsLiveAt a.live key place → IsLiveAt b.live key place) → KeepsFates [] b a s t old new
+  fates_kept : new.known ≡ Some index → t ≡ s → ((key : List ℕ) (place : Place) → finite.get index key ≡ None → IsLiveAt a.live key place → IsLiveAt b.live key place)
+      → KeepsFates [] b a s t old new
   fates_kept known same unmarked = by_map [] index known kept_on
     where
       kept_on : Fates [] index
@@ -233,7 +241,8 @@ module _ (among : ByteSet) (s : Store) (stored : Stored) (old new : CoreState) (
           copied_leaves old.tables.held index s.held image b.live b.snapshot source entry b.sweep a.sweep new.known old.disk new.disk core.shows.slots_hold core.stands.right.different core.stands.right.slots_are core.partial told
           sweeping next_is holds.1 copies
 
-      still_in : (key : List ℕ) (place : Place) (h : HeaderValue) (got : Option Place) → finite.get leaves.later key ≡ got → finite.get index key ≡ Some place → slice_get s.held place.slot ≡ Some (Some h)
+      still_in : (key : List ℕ) (place : Place) (h : HeaderValue) (got : Option Place) → finite.get leaves.later key ≡ got → finite.get index key ≡ Some place
+          → slice_get s.held place.slot ≡ Some (Some h)
           → Lies leaves.later s.held a key place h
       still_in key place h (Some p) is found there = inl (is ∙ sym (leaves.were key p is) ∙ found, there)
       still_in key place h None is found there =
@@ -252,7 +261,8 @@ module _ (among : ByteSet) (s : Store) (stored : Stored) (old new : CoreState) (
       fates_copied = by_map [] leaves.later leaves.known_is copied_on
 
     -- what was copied was written
-    module _ (source entry id : ℕ) (flushes : Flushes source entry (moment old.tables (Some index) old.disk b) (at_moment new a)) (flushing : IsFlushing b.snapshot b.sweep.buffer s t image) where
+    module _ (source entry id : ℕ) (flushes : Flushes source entry (moment old.tables (Some index) old.disk b) (at_moment new a))
+        (flushing : IsFlushing b.snapshot b.sweep.buffer s t image) where
       abbrev buffer : Contents
       buffer = b.sweep.buffer
 
@@ -260,7 +270,8 @@ module _ (among : ByteSet) (s : Store) (stored : Stored) (old new : CoreState) (
       written = with_entries buffer.kind flushes.slot (entries_from 0 buffer.segments) index
 
       -- a key that was not filled
-      other_lies : (key : List ℕ) (place : Place) (h : HeaderValue) → finite.get written key ≡ finite.get index key → Lies index s.held b key place h → Lies written t.held a key place h
+      other_lies : (key : List ℕ) (place : Place) (h : HeaderValue) → finite.get written key ≡ finite.get index key → Lies index s.held b key place h
+          → Lies written t.held a key place h
       other_lies key place h as_was (inl (found, there)) = inl (
         as_was ∙ found,
         subst (λ (x : Store). slice_get x.held place.slot ≡ Some (Some h)) (sym flushing.now_is)
@@ -295,7 +306,8 @@ module _ (among : ByteSet) (s : Store) (stored : Stored) (old new : CoreState) (
       fates_released = by_map (FreeContainer freed ∷ []) index known released_on
 
   -- by the next stage
-  fates_by : (id : ℕ) (stage : Stage) (next : Next) → b.stage ≡ stage → b.sweep.next ≡ next → HoldsAt stage index s.held image b → StepsTo stage next (moment old.tables (Some index) old.disk b) (at_moment new a)
+  fates_by : (id : ℕ) (stage : Stage) (next : Next) → b.stage ≡ stage → b.sweep.next ≡ next → HoldsAt stage index s.held image b
+      → StepsTo stage next (moment old.tables (Some index) old.disk b) (at_moment new a)
       → IsStoreAfter stage next b.snapshot b.sweep index s t image → KeepsFates (changed_by stage next b.sweep id) b a s t old new
   fates_by id (Mark level slot) next is next_is holds steps same =
       fates_kept steps.1 same (λ key place none is_live. scan_unmarked index old.disk new.disk slot level steps.0.header b.live a.live steps.0.scanned key place none is_live)
@@ -307,7 +319,8 @@ module _ (among : ByteSet) (s : Store) (stored : Stored) (old new : CoreState) (
   fates_by id SweepStage End is next_is holds steps same =
       subst (λ (x : Store). KeepsFates [] b a s x old new) (sym same) (fates_none b a s old new steps.0 (steps.1 ∙ sym at.index_known))
 
-  pub fates_made : (id : ℕ) → HoldsAt b.stage index s.held image b → StepsTo b.stage b.sweep.next (at_moment old b) (at_moment new a) → IsStoreAfter b.stage b.sweep.next b.snapshot b.sweep index s t image
+  pub fates_made : (id : ℕ) → HoldsAt b.stage index s.held image b → StepsTo b.stage b.sweep.next (at_moment old b) (at_moment new a)
+      → IsStoreAfter b.stage b.sweep.next b.snapshot b.sweep index s t image
       → KeepsFates (changed_by b.stage b.sweep.next b.sweep id) b a s t old new
   fates_made id holds steps after =
       fates_by id b.stage b.sweep.next refl refl holds
@@ -325,7 +338,8 @@ abbrev pub KeepsKeys : List StoreChange → Collection → LiveKeys → CoreStat
 KeepsKeys changes b live old new = (index later : PlaceMap) (key : List ℕ) (place : Place) → old.known ≡ Some index → new.known ≡ Some later
     → IsWritten changes key ⊎ IsUntouched b live index later key place
 
-pub fates_left : (changes : List StoreChange) (b : Collection) (live : LiveKeys) (s t : Store) (old new : CoreState) → KeepsKeys changes b live old new → Sweeps b.snapshot [] changes s t
+pub fates_left : (changes : List StoreChange) (b : Collection) (live : LiveKeys) (s t : Store) (old new : CoreState) → KeepsKeys changes b live old new
+    → Sweeps b.snapshot [] changes s t
     → KeepsFates changes b (record b { live = live }) s t old new
 fates_left changes b live s t old new keeps sweeps index later key place h index_is later_is lies = elim (keeps index later key place index_is later_is) [
   | inl written ↦ inl written
@@ -345,7 +359,8 @@ absent kind [] key others (k, below, is) = absurd (omega (arith, below))
 absent kind (x ∷ xs) key others (zero, below, is) = others.0 is
 absent kind (x ∷ xs) key others (suc k, below, is) = absent kind xs key others.1 (k, omega (arith, below), is)
 
-module _ (old new : CoreState) (b : Collection) (live : LiveKeys) (ran : old.collection ≡ Some b) (runs : new.collection ≡ Some (record b { live = live })) (stays : new.stop ≡ None) where
+module _ (old new : CoreState) (b : Collection) (live : LiveKeys) (ran : old.collection ≡ Some b) (runs : new.collection ≡ Some (record b { live = live }))
+    (stays : new.stop ≡ None) where
   -- its live keys stay, too
   same_live : new.collection ≡ old.collection → live ≡ b.live
   same_live same = ap (λ (x : Collection). x.live) (same_some (record b { live = live }) b new.collection runs (same ∙ ran))
@@ -357,7 +372,8 @@ module _ (old new : CoreState) (b : Collection) (live : LiveKeys) (ran : old.col
       let same : live ≡ so.0 = ap (λ (x : Collection). x.live) (same_some (record b { live = live }) (record b { live = so.0 }) new.collection runs so.1.0) in
       (so.1.1 key place).0 (subst (λ (l : LiveKeys). IsLiveAt l key place) same is_live)
 
-  pub keys_same : (changes : List StoreChange) → new.known ≡ old.known → ((index : PlaceMap) (key : List ℕ) (place : Place) → old.known ≡ Some index → finite.get index key ≡ None → IsLiveAt live key place → IsLiveAt b.live key place)
+  pub keys_same : (changes : List StoreChange) → new.known ≡ old.known
+      → ((index : PlaceMap) (key : List ℕ) (place : Place) → old.known ≡ Some index → finite.get index key ≡ None → IsLiveAt live key place → IsLiveAt b.live key place)
       → KeepsKeys changes b live old new
   keys_same changes known unmarked index later key place index_is later_is =
       inr (let is : IsUntouched b live index later key place = record {
@@ -369,27 +385,32 @@ module _ (old new : CoreState) (b : Collection) (live : LiveKeys) (ran : old.col
   keys_rest changes known same = keys_same changes known (λ index key place index_is none is_live. subst (λ (l : LiveKeys). IsLiveAt l key place) (same_live same) is_live)
 
   -- just the keys became live of which P holds, and the index has each of them
-  keys_marked : (P : List ℕ → Type 0) → ((index : PlaceMap) (key : List ℕ) → old.known ≡ Some index → finite.get index key ≡ None → P key → ⊥) → new.known ≡ old.known → MarksIn P old.collection new.collection
+  keys_marked : (P : List ℕ → Type 0) → ((index : PlaceMap) (key : List ℕ) → old.known ≡ Some index → finite.get index key ≡ None → P key → ⊥) → new.known ≡ old.known
+      → MarksIn P old.collection new.collection
       → KeepsKeys [] b live old new
   keys_marked P has known marks = keys_same [] known (λ index key place index_is none is_live. elim (came_live P marks key place is_live) [
     | inl before ↦ before
     | inr now ↦ absurd (has index key index_is none now)
   ])
 
-  keys_claimed : (seg : KindSegment) (actor : ℕ) (answer : Result Answer Refusal) → ClaimRow seg actor answer old new → new.known ≡ old.known → Collects (asked.Claim seg) answer old new → KeepsKeys [] b live old new
+  keys_claimed : (seg : KindSegment) (actor : ℕ) (answer : Result Answer Refusal) → ClaimRow seg actor answer old new → new.known ≡ old.known
+      → Collects (asked.Claim seg) answer old new → KeepsKeys [] b live old new
   keys_claimed seg actor (Ok answers.Held) row known marks =
       keys_marked (IsKeptKey (asked.Claim seg) (Ok answers.Held))
-      (λ index key index_is none same. let wrong : None ≡ Some row.claimed.looked_up.place = sym none ∙ ap (finite.get index) same ∙ row.claimed.looked_up.found index index_is in cc) known marks
+      (λ index key index_is none same. let wrong : None ≡ Some row.claimed.looked_up.place = sym none ∙ ap (finite.get index) same
+      ∙ row.claimed.looked_up.found index index_is in cc) known marks
   keys_claimed seg actor (Ok answers.Absent) row known marks = keys_marked (IsKeptKey (asked.Claim seg) (Ok answers.Absent)) (λ index key index_is none is. is) known marks
   keys_claimed seg actor (Err refusal) row known marks = keys_marked (IsKeptKey (asked.Claim seg) (Err refusal)) (λ index key index_is none is. is) known marks
   keys_claimed seg actor answer row known marks = absurd row
 
-  unbroken : (filled : Contents) (count : ℕ) (refusal : Refusal) → KeepsUnlessBroken refusal old new → StopsAfter (asked.Seal filled) (Err refusal) count new.stop → new.known ≡ old.known
+  unbroken : (filled : Contents) (count : ℕ) (refusal : Refusal) → KeepsUnlessBroken refusal old new → StopsAfter (asked.Seal filled) (Err refusal) count new.stop
+      → new.known ≡ old.known
   unbroken filled count refusals.DiskWrite kept stops = absurd (let both = sym stays ∙ stops in cc)
   unbroken filled count (refusals.Damaged at why) kept stops = absurd (let both = sym stays ∙ stops in cc)
   unbroken filled count refusal kept stops = kept.index_is
 
-  keys_added : (filled : Contents) (id actor : ℕ) → SealRow filled actor (Ok (answers.Sealed id)) old new → SealsOne filled (Ok (answers.Sealed id)) old new → Collects (asked.Seal filled) (Ok (answers.Sealed id)) old new
+  keys_added : (filled : Contents) (id actor : ℕ) → SealRow filled actor (Ok (answers.Sealed id)) old new → SealsOne filled (Ok (answers.Sealed id)) old new
+      → Collects (asked.Seal filled) (Ok (answers.Sealed id)) old new
       → KeepsKeys (SealContainer id filled.kind filled.segments ∷ []) b live old new
   keys_added filled id actor row effect marks m later key place m_is later_is = elim (tells filled.kind filled.segments key) [
     | inl sealed ↦ inl (inr (Contains-append_left (map (segment_key filled.kind) filled.segments) [] key sealed))
@@ -402,14 +423,16 @@ module _ (old new : CoreState) (b : Collection) (live : LiveKeys) (ran : old.col
     } in is)
   ]
 
-  keys_sealed : (filled : Contents) (actor count : ℕ) (answer : Result Answer Refusal) → SealRow filled actor answer old new → SealsOne filled answer old new → Collects (asked.Seal filled) answer old new
+  keys_sealed : (filled : Contents) (actor count : ℕ) (answer : Result Answer Refusal) → SealRow filled actor answer old new → SealsOne filled answer old new
+      → Collects (asked.Seal filled) answer old new
       → StopsAfter (asked.Seal filled) answer count new.stop → KeepsKeys (changes_by (asked.Seal filled) answer) b live old new
   keys_sealed filled actor count (Ok (answers.Sealed id)) row effect marks stops = keys_added filled id actor row effect marks
   keys_sealed filled actor count (Err refusal) row effect marks stops =
       keys_marked (IsKeptKey (asked.Seal filled) (Err refusal)) (λ m key m_is none is. is) (unbroken filled count refusal effect.kept stops) marks
   keys_sealed filled actor count answer row effect marks stops = absurd row
 
-  keys_named : (name : List ℕ) (change : Change) (answer : Result Answer Refusal) (changes : List StoreChange) → NamesOne name change answer old new → new.collection ≡ old.collection → KeepsKeys changes b live old new
+  keys_named : (name : List ℕ) (change : Change) (answer : Result Answer Refusal) (changes : List StoreChange) → NamesOne name change answer old new
+      → new.collection ≡ old.collection → KeepsKeys changes b live old new
   keys_named name change (Ok answer) changes effect same = keys_rest changes effect.index same
   keys_named name change (Err refusal) changes effect same = keys_rest changes effect.kept.index_is same
 
@@ -420,7 +443,8 @@ module _ (old new : CoreState) (b : Collection) (live : LiveKeys) (ran : old.col
   keys_started percent answer row known = absurd row
 
   -- a step that is none of a collection
-  pub keys_other : (actor count : ℕ) (buf : List ℕ) (step : StepValue) (answer : Result Answer Refusal) → IsNoGcStep step → Row step actor answer buf old new → Effect step answer old new → Collects step answer old new
+  pub keys_other : (actor count : ℕ) (buf : List ℕ) (step : StepValue) (answer : Result Answer Refusal) → IsNoGcStep step → Row step actor answer buf old new
+      → Effect step answer old new → Collects step answer old new
       → StopsAfter step answer count new.stop → KeepsKeys (changes_by step answer) b live old new
   keys_other actor count buf asked.GcStep answer other row effect collects stops = absurd other
   keys_other actor count buf (asked.Claim seg) answer other row effect collects stops = keys_claimed seg actor answer row effect.tables.index_is collects
@@ -463,7 +487,8 @@ module _ (old new : CoreState) (b a : Collection) (index : PlaceMap) (known : ol
 -- ---- as a collection begins
 
 module _ (S : List ℕ → Type 0) (s : Store) (stored : Stored) (core : CoreState) (at : IsAt S s stored core) (c : Collection) (runs : core.collection ≡ Some c) (old : CoreState)
-    (names : old.tables.names ≡ names_of s) (parts : core.parts ≡ old.parts) (roots : (key : List ℕ) (place : Place) → IsLiveAt c.live key place → IsRoot old.tables.names old.parts key) where
+    (names : old.tables.names ≡ names_of s) (parts : core.parts ≡ old.parts)
+    (roots : (key : List ℕ) (place : Place) → IsLiveAt c.live key place → IsRoot old.tables.names old.parts key) where
   abbrev image_first : List ℕ
   image_first = at.stands.known.0
 
@@ -480,12 +505,14 @@ module _ (S : List ℕ → Type 0) (s : Store) (stored : Stored) (core : CoreSta
       (subst (λ (n : NameMap). IsRoot n core.parts key) names (subst (λ (p : List Part). IsRoot old.tables.names p key) (sym parts) (roots key place is_live)))
 
   -- the newest copy of a key lies where the index has it, or the key is dead
-  pub lies_first : (key : List ℕ) (copy : HeldCopy) (h : HeaderValue) → newest 0 s.held key ≡ Some copy → slice_get s.held copy.place.slot ≡ Some (Some h) → Lies at.index s.held c key copy.place h
+  pub lies_first : (key : List ℕ) (copy : HeldCopy) (h : HeaderValue) → newest 0 s.held key ≡ Some copy → slice_get s.held copy.place.slot ≡ Some (Some h)
+      → Lies at.index s.held c key copy.place h
   lies_first key copy h copy_is there = by_found (finite.get at.index key) refl
     where
       by_found : (got : Option Place) → finite.get at.index key ≡ got → Lies at.index s.held c key copy.place h
       by_found (Some place) found =
-          let newest_is : Some copy.place ≡ Some place = ap (option_map (λ (x : HeldCopy). x.place)) (sym copy_is) ∙ (at.invariant image_first at.stands.known.1).index_is_newest key place found in
+          let newest_is : Some copy.place ≡ Some place = ap (option_map (λ (x : HeldCopy). x.place)) (sym copy_is)
+          ∙ (at.invariant image_first at.stands.known.1).index_is_newest key place found in
           inl (found ∙ sym newest_is, there)
       by_found None none =
           inr (let out : IsOut at.index c key copy.place = record {
@@ -496,8 +523,10 @@ module _ (S : List ℕ → Type 0) (s : Store) (stored : Stored) (core : CoreSta
 -- ---- as it ends
 
 -- a key that is live, and lay in a container that stands no more, was written
-pub written_at_end : (changes : List StoreChange) (b c : Collection) (s t : Store) (old new : CoreState) (index later : PlaceMap) (key : List ℕ) (place : Place) (h : HeaderValue) → KeepsFates changes b c s t old new
-    → old.known ≡ Some index → new.known ≡ Some later → Lies index s.held b key place h → (slice_get t.held place.slot ≡ Some (Some h) → ⊥) → IsLiveAt c.live key place → IsWritten changes key
+pub written_at_end : (changes : List StoreChange) (b c : Collection) (s t : Store) (old new : CoreState) (index later : PlaceMap) (key : List ℕ) (place : Place) (h : HeaderValue)
+    → KeepsFates changes b c s t old new
+    → old.known ≡ Some index → new.known ≡ Some later → Lies index s.held b key place h → (slice_get t.held place.slot ≡ Some (Some h) → ⊥) → IsLiveAt c.live key place
+    → IsWritten changes key
 written_at_end changes b c s t old new index later key place h fates index_is later_is lies gone is_live = elim (fates index later key place h index_is later_is lies) [
   | inl written ↦ written
   | inr now ↦ elim now [
@@ -507,8 +536,10 @@ written_at_end changes b c s t old new index later key place h fates index_is la
 ]
 
 -- no container of a selected id stands
-pub none_selected : (snapshot percent : ℕ) (c : Collection) (t : SlotTable) (index : PlaceMap) (held : List (Option HeaderValue)) (image : List ℕ) → c.sweep.sources.items ≡ sources_of (selected snapshot percent c.liveness)
-    → IsSweeping t c.snapshot c.sweep → c.sweep.next ≡ End → HoldsSweep index held image c.live c.snapshot c.sweep → (slot : ℕ) (h : HeaderValue) → slice_get held slot ≡ Some (Some h)
+pub none_selected : (snapshot percent : ℕ) (c : Collection) (t : SlotTable) (index : PlaceMap) (held : List (Option HeaderValue)) (image : List ℕ)
+    → c.sweep.sources.items ≡ sources_of (selected snapshot percent c.liveness)
+    → IsSweeping t c.snapshot c.sweep → c.sweep.next ≡ End → HoldsSweep index held image c.live c.snapshot c.sweep → (slot : ℕ) (h : HeaderValue)
+    → slice_get held slot ≡ Some (Some h)
     → IsSelectedId snapshot percent c.liveness h.id → ⊥
 none_selected snapshot percent c t index held image sources_are sweeping at_end holds slot h there is_selected =
     let source : Contains c.sweep.sources.items h.id = (chosen_which snapshot percent c.liveness c.sweep.sources.items sources_are h.id).1 is_selected in

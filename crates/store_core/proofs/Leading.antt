@@ -28,5 +28,6 @@ pub record Leads (S : List ℕ → Type 0) (s : Store) (f : FileEvent) (stored :
   pub keys : (key before : List ℕ) → old.disk.content ≡ Some before → IsSpared f.event.step s old.parts before key
       → (first then : PlaceMap) → old.known ≡ Some first → new.known ≡ Some then → HasKey first key → HasKey then key
   pub copies : (key before after : List ℕ) → old.disk.content ≡ Some before → new.disk.content ≡ Some after → IsSpared f.event.step s old.parts before key
-      → (first : PlaceMap) → old.known ≡ Some first → HasKey first key → (level : ℕ) (bytes : List ℕ) → HasNewest s.held key level bytes before → HasNewest next.store.held key level bytes after
+      → (first : PlaceMap) → old.known ≡ Some first → HasKey first key → (level : ℕ) (bytes : List ℕ) → HasNewest s.held key level bytes before
+      → HasNewest next.store.held key level bytes after
   pub whole : IsNoGcStep f.event.step → IndexesAll s old.known → IndexesAll next.store new.known

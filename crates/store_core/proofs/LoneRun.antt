@@ -50,7 +50,8 @@ use Rattle.store_core.proofs.SparedRest.{did_spares, led_to, refused_known, refu
 
 -- What holds of the changes so far, where the collection began at a store and an index: they give back what is spare; and the collection is
 -- lone.
-pub record IsAlone (among : ByteSet) (begun : Store) (index : PlaceMap) (changes : List StoreChange) (c : Collection) (s : Store) (stored : Stored) (core : CoreState) : Type 0 where
+pub record IsAlone (among : ByteSet) (begun : Store) (index : PlaceMap) (changes : List StoreChange) (c : Collection) (s : Store) (stored : Stored)
+    (core : CoreState) : Type 0 where
   pub is_at : IsAt (IsIn among) s stored core
   pub spares : Spares (IsReachable stored.files) is_at.index s.held c
   pub lone : IsLone index is_at.index begun.held s.held c (copied_keys changes)
@@ -58,7 +59,8 @@ pub record IsAlone (among : ByteSet) (begun : Store) (index : PlaceMap) (changes
 
 -- ---- a step
 
-module _ (among : ByteSet) (f : FileEvent) (s : Store) (stored : Stored) (old new : CoreState) (b : Collection) (step : FileStep (IsIn among) f old new) (stays : new.stop ≡ None) (ran : old.collection ≡ Some b)
+module _ (among : ByteSet) (f : FileEvent) (s : Store) (stored : Stored) (old new : CoreState) (b : Collection) (step : FileStep (IsIn among) f old new) (stays : new.stop ≡ None)
+    (ran : old.collection ≡ Some b)
     (is : f.event.step ≡ asked.GcStep) (one : Goes among f b s stored old new) (at : IsAt (IsIn among) s stored old) where
   abbrev Needs : List ℕ → Type 0
   Needs = IsReachable stored.files
@@ -92,7 +94,8 @@ module _ (among : ByteSet) (f : FileEvent) (s : Store) (stored : Stored) (old ne
     before_is = same_some goes.before b old.collection goes.ran ran
 
     led : IsStoreAfter b.stage b.sweep.next b.snapshot b.sweep at.index s one.store content
-    led = subst (λ (x : Collection). IsStoreAfter x.stage x.sweep.next x.snapshot x.sweep at.index s one.store content) before_is (led_to among s stored old new at one.store then phase goes touches later)
+    led = subst (λ (x : Collection). IsStoreAfter x.stage x.sweep.next x.snapshot x.sweep at.index s one.store content) before_is
+        (led_to among s stored old new at one.store then phase goes touches later)
 
     phase_is : phase_at b.stage b.sweep.next ≡ phase
     phase_is = subst (λ (x : Collection). phase_at x.stage x.sweep.next ≡ phase) before_is (phase_of goes.before phase goes.phase_is)
@@ -100,7 +103,8 @@ module _ (among : ByteSet) (f : FileEvent) (s : Store) (stored : Stored) (old ne
     abbrev Changed : Stage → Next → Type 0
     Changed stage next = (id : ℕ) × (one.changes ≡ changed_by stage next b.sweep id)
 
-    changed_at : (stage : Stage) (next : Next) → AreChangesBy asked.GcStep (Ok (answers.Did (phase_at stage next))) one.changes → (one.changes ≡ []) ⊎ Changed stage next → Changed stage next
+    changed_at : (stage : Stage) (next : Next) → AreChangesBy asked.GcStep (Ok (answers.Did (phase_at stage next))) one.changes → (one.changes ≡ []) ⊎ Changed stage next
+        → Changed stage next
     changed_at stage next by_stage (inr is) = is
     changed_at (Mark level slot) next by_stage (inl none) = (0, none)
     changed_at (Filter slot) next by_stage (inl none) = (0, none)
@@ -113,15 +117,19 @@ module _ (among : ByteSet) (f : FileEvent) (s : Store) (stored : Stored) (old ne
     changed : Changed b.stage b.sweep.next
     changed = changed_at b.stage b.sweep.next (subst (λ (p : Phase). AreChangesBy asked.GcStep (Ok (answers.Did p)) one.changes) (sym phase_is) by_phase) (one.made is)
 
-    chain_at : (id : ℕ) (stage : Stage) (next : Next) → IsStoreAfter stage next b.snapshot b.sweep at.index s one.store content → ChangesTo (changed_by stage next b.sweep id) s one.store
+    chain_at : (id : ℕ) (stage : Stage) (next : Next) → IsStoreAfter stage next b.snapshot b.sweep at.index s one.store content
+        → ChangesTo (changed_by stage next b.sweep id) s one.store
         → SweepsSpare Needs (changed_by stage next b.sweep id) s one.store
     chain_at id (Mark level slot) next store_is chain = chain
     chain_at id (Filter slot) next store_is chain = chain
     chain_at id Select next store_is chain = chain
     chain_at id SweepStage (Copy source entry) store_is chain = chain
     chain_at id SweepStage (Flush source entry) store_is chain = (chain.0, chain.1)
-    chain_at id SweepStage (Release source entry) frees chain =
-        (ready_is_spare (IsReachable stored.files) at.index s (slot_in_turn b.sweep) frees.header frees.there invariant.index_is_newest invariant.files_are_indexed frees.none, chain.1)
+    chain_at id SweepStage (Release source entry) frees chain = (
+      ready_is_spare (IsReachable stored.files) at.index s
+          (slot_in_turn b.sweep) frees.header frees.there invariant.index_is_newest invariant.files_are_indexed frees.none,
+      chain.1,
+    )
     chain_at id SweepStage End store_is chain = chain
 
     did_chain : SweepsSpare Needs one.changes s one.store
@@ -130,12 +138,14 @@ module _ (among : ByteSet) (f : FileEvent) (s : Store) (stored : Stored) (old ne
         (chain_at changed.0 b.stage b.sweep.next led (subst (λ (changes : List StoreChange). ChangesTo changes s one.store) changed.1 one.chain))
 
   -- it gives back what is spare, or writes copies
-  chain_by : (answer : Result Answer Refusal) → AreChangesBy asked.GcStep answer one.changes → GcRow answer old new → GcEffect answer old new → SweepsSpare Needs one.changes s one.store
+  chain_by : (answer : Result Answer Refusal) → AreChangesBy asked.GcStep answer one.changes → GcRow answer old new → GcEffect answer old new
+      → SweepsSpare Needs one.changes s one.store
   chain_by (Ok (answers.Did phase)) by_answer row effect = did_chain phase row.0 effect.touches effect.later by_answer
   chain_by (Ok (answers.Done freed copied)) by_answer row effect = absurd (let wrong : None ≡ Some one.a = sym row.0.ended ∙ one.runs in cc)
   chain_by (Err refusals.NotCollecting) by_answer row effect = absurd (let wrong : None ≡ Some b = sym row.0.none_ran ∙ ran in cc)
   chain_by (Err refusal) none row effect =
-      subst (λ (changes : List StoreChange). SweepsSpare Needs changes s one.store) (sym none) (subst (λ (changes : List StoreChange). ChangesTo changes s one.store) none one.chain)
+      subst (λ (changes : List StoreChange). SweepsSpare Needs changes s one.store) (sym none)
+      (subst (λ (changes : List StoreChange). ChangesTo changes s one.store) none one.chain)
   chain_by answer by_answer row effect = absurd row
 
   pub chain_on : SweepsSpare Needs one.changes s one.store
@@ -143,7 +153,8 @@ module _ (among : ByteSet) (f : FileEvent) (s : Store) (stored : Stored) (old ne
 
   -- ---- of a collection that is alone
 
-  module _ (begun : Store) (index : PlaceMap) (before : List StoreChange) (spares : Spares Needs at.index s.held b) (lone : IsLone index at.index begun.held s.held b (copied_keys before))
+  module _ (begun : Store) (index : PlaceMap) (before : List StoreChange) (spares : Spares Needs at.index s.held b)
+      (lone : IsLone index at.index begun.held s.held b (copied_keys before))
       (chain : SweepsSpare Needs before begun s) where
     shows : Represents s (Some at.index) old.tables
     shows = subst (λ (known : Option PlaceMap). Represents s known old.tables) at.index_known at.represents
@@ -185,7 +196,8 @@ module _ (among : ByteSet) (f : FileEvent) (s : Store) (stored : Stored) (old ne
 
       lone_now : IsLone index then.index begun.held one.store.held one.a (keys_after b.stage b.sweep.next b.sweep (copied_keys before))
       lone_now =
-          lone_step index begun.held at.index s stored.files content old.tables new.known old.disk new.disk b one.a (copied_keys before) stands shows told lone under at.valid invariant.has_free new.tables
+          lone_step index begun.held at.index s stored.files content old.tables new.known old.disk new.disk b one.a
+          (copied_keys before) stands shows told lone under at.valid invariant.has_free new.tables
           holds steps_here then.index then.index_known one.store (led phase goes touches later by_phase)
 
       keys_at : (keys : List (List ℕ)) (id : ℕ) (stage : Stage) (next : Next) → keys ++ copied_keys (changed_by stage next b.sweep id) ≡ keys_after stage next b.sweep keys
@@ -240,7 +252,8 @@ module _ (among : ByteSet) (f : FileEvent) (s : Store) (stored : Stored) (old ne
     refused_alone refusal none row stops =
         let before_same : row.before ≡ b = same_some row.before b old.collection row.ran ran in
         let after_same : row.after ≡ one.a = same_some row.after one.a new.collection row.runs one.runs in
-        let index_is : at.index ≡ then.index = one_map_at at.index then.index (sym (refused_known among s stored old new at refusal row (whole refusal stops)) ∙ then.index_known) in
+        let index_is : at.index ≡ then.index = one_map_at at.index then.index
+        (sym (refused_known among s stored old new at refusal row (whole refusal stops)) ∙ then.index_known) in
         let same_store : one.store ≡ s = subst (λ (changes : List StoreChange). ChangesTo changes s one.store) none one.chain in
         let same_changes : before ++ one.changes ≡ before = ap (λ (more : List StoreChange). before ++ more) none ∙ append-nil before in
         let spares_then : Spares Needs at.index s.held one.a =
@@ -259,7 +272,8 @@ module _ (among : ByteSet) (f : FileEvent) (s : Store) (stored : Stored) (old ne
         }
 
     -- whatever the answer
-    alone_by : (answer : Result Answer Refusal) → AreChangesBy asked.GcStep answer one.changes → GcRow answer old new → GcEffect answer old new → StopsAfter asked.GcStep answer old.acknowledged new.stop → Result_now
+    alone_by : (answer : Result Answer Refusal) → AreChangesBy asked.GcStep answer one.changes → GcRow answer old new → GcEffect answer old new
+        → StopsAfter asked.GcStep answer old.acknowledged new.stop → Result_now
     alone_by (Ok (answers.Did phase)) by_answer row effect stops = did_alone phase row.0 effect.touches effect.later by_answer
     alone_by (Ok (answers.Done freed copied)) by_answer row effect stops = absurd (let wrong : None ≡ Some one.a = sym row.0.ended ∙ one.runs in cc)
     alone_by (Err refusals.NotCollecting) by_answer row effect stops = absurd (let wrong : None ≡ Some b = sym row.0.none_ran ∙ ran in cc)
@@ -283,7 +297,8 @@ pub record GivesSpare (among : ByteSet) (begun : Store) (changes : List StoreCha
 
 pub spare_kept : (among : ByteSet) (begun : Store) → IsKept among (GivesSpare among begun)
 spare_kept among begun f s stored old new b before step stays ran is one was =
-    subst (λ (x : Stored). GivesSpare among begun (before ++ one.changes) one.a one.store x new) (sym (same_stored among f s stored old new b step stays ran is one was.is_at)) (record {
+    subst (λ (x : Stored). GivesSpare among begun (before ++ one.changes) one.a one.store x new) (sym (same_stored among f s stored old new b step stays ran is one was.is_at))
+    (record {
       is_at = then among f s stored old new b step stays ran is one was.is_at;
       chain = sweeps_then (IsReachable stored.files) before one.changes begun s one.store was.chain (chain_on among f s stored old new b step stays ran is one was.is_at);
     })

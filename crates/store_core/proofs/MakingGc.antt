@@ -74,7 +74,8 @@ stop_runs (faults.Corrupt slot offset count want got) is = let wrong = is in cc
 stop_runs (faults.Missing key) is = let wrong = is in cc
 stop_runs faults.Memory is = let wrong = is in cc
 
-mark_runs : (t : SlotTable) (known : Option PlaceMap) (old new : DiskView) (level slot : ℕ) (live : LiveKeys) → IsMarkRefusal t known old new level slot live refusals.NotCollecting → ⊥
+mark_runs : (t : SlotTable) (known : Option PlaceMap) (old new : DiskView) (level slot : ℕ) (live : LiveKeys)
+    → IsMarkRefusal t known old new level slot live refusals.NotCollecting → ⊥
 mark_runs t known old new level slot live (inl none) = none
 mark_runs t known old new level slot live (inr stops) = stop_runs stops.fault stops.refusal_is
 
@@ -83,9 +84,11 @@ stuck_runs s shown [] before is = is
 stuck_runs s shown (e ∷ es) before (inl one) = one.1.1
 stuck_runs s shown (e ∷ es) before (inr more) = stuck_runs s shown es more.0 more.1.1
 
-copy_runs : (t : SlotTable) (known : Option PlaceMap) (live : LiveKeys) (slot from : ℕ) (buffer : Contents) (old new : DiskView) → IsCopyRefusal t known live slot from buffer old new refusals.NotCollecting → ⊥
+copy_runs : (t : SlotTable) (known : Option PlaceMap) (live : LiveKeys) (slot from : ℕ) (buffer : Contents) (old new : DiskView)
+    → IsCopyRefusal t known live slot from buffer old new refusals.NotCollecting → ⊥
 copy_runs t known live slot from buffer old new (inl (inl header)) = header
-copy_runs t known live slot from buffer old new (inl (inr (h, tabled, shown, kind, within, stuck))) = stuck_runs (source_of known live slot h.kind) (Shows old new) (drop from h.entries) (planned buffer []) stuck
+copy_runs t known live slot from buffer old new (inl (inr (h, tabled, shown, kind, within, stuck))) = stuck_runs (source_of known live slot h.kind) (Shows old new)
+    (drop from h.entries) (planned buffer []) stuck
 copy_runs t known live slot from buffer old new (inr remove) = remove
 
 runs_still : (stage : Stage) (next : Next) (old : Moment) (new : DiskView) → IsStepRefusal stage next old new refusals.NotCollecting → ⊥
@@ -105,11 +108,13 @@ refused_row refusal old new is parts = (is, parts)
 
 module _ (actor : ℕ) (buf : List ℕ) (old new : CoreState) (c after : Collection) (ran : old.collection ≡ Some c) (parts : new.parts ≡ old.parts) (served : old.served → new.served)
     (tells : (places : PlaceMap) × (new.known ≡ Some places)) where
-  touched : (answer : Result Answer Refusal) → Touches c.stage c.sweep.next c.sweep old.tables (ending blames answer) old.disk new.disk → TouchesBy old.collection answer old new.disk
+  touched : (answer : Result Answer Refusal) → Touches c.stage c.sweep.next c.sweep old.tables (ending blames answer) old.disk new.disk
+      → TouchesBy old.collection answer old new.disk
   touched answer touches = subst (λ (o : Option Collection). TouchesBy o answer old new.disk) (sym ran) touches
 
   module _ (runs : new.collection ≡ Some after) (under_way : IsUnderWay new.tables.held after) where
-    pub made_did : (phase : Phase) (done : StepDone) → done ≡ Did phase → Makes (at_moment old c) (at_moment new after) done → GoesBy c old.tables Done old.disk new.disk → Made asked.GcStep actor (Ok (answers.Did phase)) buf old new
+    pub made_did : (phase : Phase) (done : StepDone) → done ≡ Did phase → Makes (at_moment old c) (at_moment new after) done → GoesBy c old.tables Done old.disk new.disk
+        → Made asked.GcStep actor (Ok (answers.Did phase)) buf old new
     made_did phase done did made goes = record {
       row = (
         record {
@@ -120,7 +125,8 @@ module _ (actor : ℕ) (buf : List ℕ) (old new : CoreState) (c after : Collect
           phase_is = sym made.answer_is ∙ did;
           steps = made.steps;
           tables = made.tables;
-          nearer = λ chosen fits. subst (λ (d : StepDone). Nears d (steps_to_come chosen old.tables.held c) (steps_to_come chosen new.tables.held after)) did (made.nearer chosen fits);
+          nearer = λ chosen fits. subst (λ (d : StepDone). Nears d (steps_to_come chosen old.tables.held c) (steps_to_come chosen new.tables.held after)) did
+              (made.nearer chosen fits);
         },
         parts,
       );
@@ -134,7 +140,8 @@ module _ (actor : ℕ) (buf : List ℕ) (old new : CoreState) (c after : Collect
       served = served;
     }
 
-    pub made_refused : (refusal : Refusal) → Refuses (at_moment old c) (at_moment new after) refusal → GoesBy c old.tables (ending_of (blames refusal)) old.disk new.disk → Made asked.GcStep actor (Err refusal) buf old new
+    pub made_refused : (refusal : Refusal) → Refuses (at_moment old c) (at_moment new after) refusal → GoesBy c old.tables (ending_of (blames refusal)) old.disk new.disk
+        → Made asked.GcStep actor (Err refusal) buf old new
     made_refused refusal is goes = record {
       row = refused_row refusal old new (record { before = c; ran = ran; after = after; runs = runs; cause = is.cause; kept = is.kept; tables_are = is.tables_kept }) parts;
       effect = record {
@@ -148,7 +155,8 @@ module _ (actor : ℕ) (buf : List ℕ) (old new : CoreState) (c after : Collect
     }
 
   -- it ran to its end, and runs no more
-  pub made_done : (freed copied : ℕ) (done : StepDone) → new.collection ≡ None → done ≡ EndsWith freed copied → Makes (at_moment old c) (at_moment new after) done → GoesBy c old.tables Done old.disk new.disk
+  pub made_done : (freed copied : ℕ) (done : StepDone) → new.collection ≡ None → done ≡ EndsWith freed copied → Makes (at_moment old c) (at_moment new after) done
+      → GoesBy c old.tables Done old.disk new.disk
       → Made asked.GcStep actor (Ok (answers.Done freed copied)) buf old new
   made_done freed copied done ended ends made goes = record {
     row = (
@@ -160,7 +168,9 @@ module _ (actor : ℕ) (buf : List ℕ) (old new : CoreState) (c after : Collect
         freed_is = end.freed_is;
         copied_is = end.copied_is;
         tables_are = tables;
-        index_is = (let at : StepsTo Sweep End (at_moment old c) (at_moment new after) = by_end (λ stage next. StepsTo stage next (at_moment old c) (at_moment new after)) made.steps in at.1);
+        index_is =
+            (let at : StepsTo Sweep End (at_moment old c) (at_moment new after) = by_end
+            (λ stage next. StepsTo stage next (at_moment old c) (at_moment new after)) made.steps in at.1);
       },
       parts,
     );
@@ -168,7 +178,8 @@ module _ (actor : ℕ) (buf : List ℕ) (old new : CoreState) (c after : Collect
       later = goes.later;
       faults_are = goes.faults_are;
       touches = touched (Ok (answers.Done freed copied)) goes.touches;
-      under_way = λ was. subst (IsUnderWayIn new.tables.held) (sym ended) (subst (λ (t : Tables). HasRoom t.held) (sym tables) (room_ended old.tables.held c end.stage_is end.next_is (subst (IsUnderWayIn old.tables.held) ran was)));
+      under_way = λ was. subst (IsUnderWayIn new.tables.held) (sym ended)
+          (subst (λ (t : Tables). HasRoom t.held) (sym tables) (room_ended old.tables.held c end.stage_is end.next_is (subst (IsUnderWayIn old.tables.held) ran was)));
       tells = λ before is. tells;
     };
     served = served;
@@ -200,7 +211,8 @@ made_none actor buf old none stop count = record {
   served = λ served. served;
 }
 
-pub made_running : (percent actor : ℕ) (phase : Phase) (c : Collection) (buf : List ℕ) (old : CoreState) → old.collection ≡ Some c → phase ≡ phase_at c.stage c.sweep.next → (stop : Option Stop) (count : ℕ)
+pub made_running : (percent actor : ℕ) (phase : Phase) (c : Collection) (buf : List ℕ) (old : CoreState) → old.collection ≡ Some c → phase ≡ phase_at c.stage c.sweep.next
+    → (stop : Option Stop) (count : ℕ)
     → Made (asked.GcStart percent) actor (Err (refusals.Collecting phase)) buf old (record old { stop = stop; acknowledged = count })
 made_running percent actor phase c buf old runs is stop count = record {
   row = ((c, (runs, is)), refl, refl);

@@ -36,7 +36,8 @@ module _ (old new : CoreState) (was now : Option Collection) where
   claim_row seg actor (Err refusal) row = row
   claim_row seg actor answer row = absurd row
 
-  pub claim_alike : (seg : KindSegment) (actor : ℕ) (answer : Result Answer Refusal) (buf : List ℕ) → Made (asked.Claim seg) actor answer buf before after → Made (asked.Claim seg) actor answer buf old new
+  pub claim_alike : (seg : KindSegment) (actor : ℕ) (answer : Result Answer Refusal) (buf : List ℕ) → Made (asked.Claim seg) actor answer buf before after
+      → Made (asked.Claim seg) actor answer buf old new
   claim_alike seg actor answer buf made = record {
     row = claim_row seg actor answer made.row;
     effect = record { disk = made.effect.disk; tables = keeps_alike made.effect.tables };
@@ -44,7 +45,8 @@ module _ (old new : CoreState) (was now : Option Collection) where
   }
 
   seal_row : (filled : Contents) (actor : ℕ) (answer : Result Answer Refusal) → SealRow filled actor answer before after → SealRow filled actor answer old new
-  seal_row filled actor (Ok (answers.Sealed id)) row = record { may = row.may; compared = row.compared; id_is = row.id_is; last_is = row.last_is; parts_are = row.parts_are; kept = row.kept }
+  seal_row filled actor
+      (Ok (answers.Sealed id)) row = record { may = row.may; compared = row.compared; id_is = row.id_is; last_is = row.last_is; parts_are = row.parts_are; kept = row.kept }
   seal_row filled actor (Err refusal) row = row
   seal_row filled actor answer row = absurd row
 
@@ -69,10 +71,12 @@ module _ (old new : CoreState) (was now : Option Collection) where
   unless_broken refusal keeps = keeps_alike keeps
 
   seal_effect : (filled : Contents) (answer : Result Answer Refusal) → SealsOne filled answer before after → SealsOne filled answer old new
-  seal_effect filled (Ok x) effect = record { disk = effect.disk; moves = effect.moves; made = makes_alike (SealContainer (next_id old) filled.kind filled.segments) effect.made; kept = tt }
+  seal_effect filled
+      (Ok x) effect = record { disk = effect.disk; moves = effect.moves; made = makes_alike (SealContainer (next_id old) filled.kind filled.segments) effect.made; kept = tt }
   seal_effect filled (Err refusal) effect = record { disk = effect.disk; moves = effect.moves; made = tt; kept = unless_broken refusal effect.kept }
 
-  pub seal_alike : (filled : Contents) (actor : ℕ) (answer : Result Answer Refusal) (buf : List ℕ) → Made (asked.Seal filled) actor answer buf before after → Made (asked.Seal filled) actor answer buf old new
+  pub seal_alike : (filled : Contents) (actor : ℕ) (answer : Result Answer Refusal) (buf : List ℕ) → Made (asked.Seal filled) actor answer buf before after
+      → Made (asked.Seal filled) actor answer buf old new
   seal_alike filled actor answer buf made = record { row = seal_row filled actor answer made.row; effect = seal_effect filled answer made.effect; served = made.served }
 
 -- ---- no memory for the marks
@@ -84,7 +88,8 @@ seal_without_memory filled actor buf old now stop count = record {
   row = (tt, refl);
   effect = record {
     disk = steps_here old.tables.slots _ old.disk refl;
-    moves = seals_refused_by old.tables (next_id old) filled old.disk old.disk (reads_here old.disk) {T = Answer} old.known (Err refusals.Memory) (λ refusal. refusal ≡ refusals.Memory) refl;
+    moves = seals_refused_by old.tables (next_id old) filled old.disk old.disk (reads_here old.disk) {T = Answer} old.known (Err refusals.Memory)
+        (λ refusal. refusal ≡ refusals.Memory) refl;
     made = tt;
     kept = record { tables_are = refl; index_is = refl };
   };
@@ -110,7 +115,8 @@ module _ (old marked new : Option Collection) (fresh : List (List ℕ)) (restore
   not_kept true wrong undone = absurd (wrong refl)
   not_kept false wrong undone = undone refl old restores
 
-  pub claim_collects : (seg : KindSegment) (answer : Result Answer Refusal) (key : List ℕ) (kept : Bool) → key ≡ segment_key seg.kind seg.segment → MarksIn (λ k. k ≡ key) old marked → IsTrue kept ↔ IsHeldAnswer answer
+  pub claim_collects : (seg : KindSegment) (answer : Result Answer Refusal) (key : List ℕ) (kept : Bool) → key ≡ segment_key seg.kind seg.segment
+      → MarksIn (λ k. k ≡ key) old marked → IsTrue kept ↔ IsHeldAnswer answer
       → (kept ≡ true → new ≡ marked) → Undone kept → MarksIn (IsKeptKey (asked.Claim seg) answer) old new
   claim_collects seg (Ok answers.Held) key kept is marks tells same undone =
       subst (λ (x : Option Collection). MarksIn (λ k. k ≡ segment_key seg.kind seg.segment) old x) (sym (same (tells.1 tt)))
@@ -126,10 +132,12 @@ module _ (old marked new : Option Collection) (fresh : List (List ℕ)) (restore
   seal_collects filled actor answer s t kept row marks is same undone = absurd row
 
 -- none did, where a step is refused
-pub claim_refused : (seg : KindSegment) (answer : Result Answer Refusal) (old new : Option Collection) → IsErr answer → MarksIn (λ k. ⊥) old new → MarksIn (IsKeptKey (asked.Claim seg) answer) old new
+pub claim_refused : (seg : KindSegment) (answer : Result Answer Refusal) (old new : Option Collection) → IsErr answer → MarksIn (λ k. ⊥) old new
+    → MarksIn (IsKeptKey (asked.Claim seg) answer) old new
 claim_refused seg (Ok x) old new is marks = absurd cc
 claim_refused seg (Err refusal) old new is marks = marks
 
-pub seal_refused : (filled : Contents) (answer : Result Answer Refusal) (old new : Option Collection) → IsErr answer → MarksIn (λ k. ⊥) old new → MarksIn (IsKeptKey (asked.Seal filled) answer) old new
+pub seal_refused : (filled : Contents) (answer : Result Answer Refusal) (old new : Option Collection) → IsErr answer → MarksIn (λ k. ⊥) old new
+    → MarksIn (IsKeptKey (asked.Seal filled) answer) old new
 seal_refused filled (Ok x) old new is marks = absurd cc
 seal_refused filled (Err refusal) old new is marks = marks

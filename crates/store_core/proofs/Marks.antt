@@ -41,7 +41,8 @@ module _ (old : Option Collection) (c new : Collection) (ran : old ≡ Some c) (
   some_marks P marks = subst (λ (o : Option Collection). MarksIn P o (Some new)) (sym ran) (new.live, (ap (λ (x : Collection). Some x) others, marks))
 
   -- keys were marked
-  pub marks_all : (keys : List (List ℕ)) {T E : Type 0} (result : Result T E) (P : List ℕ → Type 0) → ((key : List ℕ) → Contains keys key ↔ P key) → OnOk result (Marks (Contains keys) c.live new.live)
+  pub marks_all : (keys : List (List ℕ)) {T E : Type 0} (result : Result T E) (P : List ℕ → Type 0) → ((key : List ℕ) → Contains keys key ↔ P key)
+      → OnOk result (Marks (Contains keys) c.live new.live)
       → OnOk result (MarksIn P old (Some new))
   marks_all keys (Ok x) P same marks = some_marks P (marks_as (Contains keys) P c.live new.live same marks)
   marks_all keys (Err e) P same marks = tt
@@ -68,7 +69,8 @@ marks_same (Err e) old c ran = some_marks old c c ran refl (λ k. ⊥) (marks_no
 
 -- ---- marks that are taken away
 
-pub unmarks_some : (before now : Option Collection) (fresh : List (List ℕ)) (mid new : Collection) → now ≡ Some mid → new ≡ record mid { live = new.live } → Unmarks fresh mid.live new.live
+pub unmarks_some : (before now : Option Collection) (fresh : List (List ℕ)) (mid new : Collection) → now ≡ Some mid → new ≡ record mid { live = new.live }
+    → Unmarks fresh mid.live new.live
     → Restores before now fresh → MarksIn (λ k. ⊥) before (Some new)
 unmarks_some None now fresh mid new ran others unmarks restores = absurd (let wrong : None ≡ Some mid = sym restores ∙ ran in cc)
 unmarks_some (Some c) now fresh mid new ran others unmarks restores =
@@ -93,6 +95,7 @@ entry_keys kind offset [] = refl
 entry_keys kind offset (s ∷ ss) = ap (λ (ks : List (List ℕ)). segment_key kind s ∷ ks) (entry_keys kind (offset + length s.bytes) ss)
 
 -- the loop's end
-pub keys_whole : (kind : Kind) (entries : List Entry) (i : ℕ) (ss : List Segment) (keys : List (List ℕ)) → length entries ≤ i → keys ≡ map (entry_key kind) (take i entries) → entries ≡ entries_from 0 ss
+pub keys_whole : (kind : Kind) (entries : List Entry) (i : ℕ) (ss : List Segment) (keys : List (List ℕ)) → length entries ≤ i → keys ≡ map (entry_key kind) (take i entries)
+    → entries ≡ entries_from 0 ss
     → keys ≡ map (segment_key kind) ss
 keys_whole kind entries i ss keys past are is = are ∙ ap (map (entry_key kind)) (take_all i entries past ∙ is) ∙ entry_keys kind 0 ss

@@ -42,7 +42,8 @@ use Rattle.store_core.proofs.SafeSteps.{alone}
 
 pub new_core : (shown : (List ℕ → Type 0) → Type 0) (size : ℕ) (o : OpenStore) (c : CoreState) → IsOpened shown size o → c.disk.size ≡ size
     → ((store : Store) → opened.Represents store o → Represents store c.known c.tables) → ((store : Store) → opened.Represents store o → IsValidFor size store → c.served)
-    → ((store : Store) → opened.Represents store o → IndexesAll store c.known) → c.tables.held.last_id ≡ o.containers.last_id → ((places : PlaceMap) × (c.known ≡ Some places)) → c.parts ≡ replicate ACTORS Idle → c.collection ≡ None → c.stop ≡ None → c.acknowledged ≡ 0 → IsNew shown size c
+    → ((store : Store) → opened.Represents store o → IndexesAll store c.known) → c.tables.held.last_id ≡ o.containers.last_id → ((places : PlaceMap) × (c.known ≡ Some places))
+    → c.parts ≡ replicate ACTORS Idle → c.collection ≡ None → c.stop ≡ None → c.acknowledged ≡ 0 → IsNew shown size c
 new_core shown size o c is same represents serves whole last told parts none stop count = record {
   store = is.found.store;
   right = is.found.right;
@@ -61,7 +62,13 @@ new_core shown size o c is same represents serves whole last told parts none sto
 
 pub new_runs : (shown : (List ℕ → Type 0) → Type 0) (size : ℕ) (c : CoreState) → c.disk.size ≡ size → IsNew shown size c → IsRunning c
 new_runs shown size c same is = subst (λ (stop : Option Stop). UnlessStopped stop (IsUp c)) (sym is.stop_is) (record {
-  runs = record { store = is.store; represents = alone is.store c.known c.tables is.represents; valid = subst (λ (n : ℕ). IsValidFor n is.store) (sym same) is.valid; has_free = omega (arith, is.reserve) };
+  runs = record {
+    store = is.store;
+    represents = alone is.store c.known c.tables is.represents;
+    valid = subst (λ (n : ℕ). IsValidFor n is.store)
+        (sym same) is.valid;
+    has_free = omega (arith, is.reserve);
+  };
   many = ap length is.parts_are ∙ length-replicate ACTORS Idle;
   served = is.served;
   under_way = subst (IsUnderWayIn c.tables.held) (sym is.collection_is) (has_room is.store.held c.tables.held is.represents.slots_hold is.valid.headers is.reserve);
@@ -76,7 +83,8 @@ module _ (D : Type 0) (view : D → DiskView) (old new : D) where
       → ((store : Store) → opened.Represents store found → IndexesAll store known)
       → tables.held.last_id ≡ found.containers.last_id → ((places : PlaceMap) × (known ≡ Some places)) → parts ≡ replicate ACTORS Idle
       → (mid : D) → ReadsStore (Ok found) (view mid) (view new)
-      → IsReadFrom (view mid) (record { disk = view new; tables = tables; known = known; served = served; breaks = breaks; parts = parts; collection = None; stop = None; acknowledged = 0 })
+      → IsReadFrom (view mid)
+      (record { disk = view new; tables = tables; known = known; served = served; breaks = breaks; parts = parts; collection = None; stop = None; acknowledged = 0 })
   read_core found tables known served breaks parts represents serves whole last told are mid reads =
       let same : (view new).size ≡ (view mid).size = reads.reads.only.later.size_is in
       record {
@@ -93,7 +101,8 @@ module _ (D : Type 0) (view : D → DiskView) (old new : D) where
       → ((store : Store) → opened.Represents store found → IsValidFor (view new).size store → served)
       → ((store : Store) → opened.Represents store found → IndexesAll store known)
       → tables.held.last_id ≡ found.containers.last_id → ((places : PlaceMap) × (known ≡ Some places)) → parts ≡ replicate ACTORS Idle
-      → OpensCore D view (view old) (record { disk = view new; tables = tables; known = known; served = served; breaks = breaks; parts = parts; collection = None; stop = None; acknowledged = 0 })
+      → OpensCore D view (view old)
+      (record { disk = view new; tables = tables; known = known; served = served; breaks = breaks; parts = parts; collection = None; stop = None; acknowledged = 0 })
   core_read found tables known served breaks parts (inl is) represents serves whole last told are =
       inl (read_core found tables known served breaks parts represents serves whole last told are old is.0)
   core_read found tables known served breaks parts (inr (inl is)) represents serves whole last told are =

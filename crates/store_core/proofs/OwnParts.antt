@@ -61,7 +61,8 @@ module _ (P : Part → Type 0) where
   own_set (p ∷ ps) zero part idle is = is
   own_set (p ∷ ps) (suc actor) part idle is = own_set ps actor part idle is
 
-  pub all_own : (parts : List Part) (actor : ℕ) (part : Part) → AllByRecursion P parts → P (part_of (with_part parts actor part) actor) → AllByRecursion P (with_part parts actor part)
+  pub all_own : (parts : List Part) (actor : ℕ) (part : Part) → AllByRecursion P parts → P (part_of (with_part parts actor part) actor)
+      → AllByRecursion P (with_part parts actor part)
   unfolding part_of with_part
   all_own [] actor part all is = all
   all_own (p ∷ ps) zero part all is = (is, all.1)
@@ -70,7 +71,8 @@ module _ (P : Part → Type 0) where
 -- ---- a step that changes nothing of the store
 
 module _ (among : ByteSet) (store : Store) (files : Files) (image : List ℕ) (places : PlaceMap) (actor : ℕ) (buf : List ℕ) (old new : CoreState)
-    (told : old.disk.content ≡ Some image) (known : old.known ≡ Some places) (index : IsPartialIndexOf store.held places) (files_indexed : IndexesFiles places files) (names : old.tables.names ≡ names_of store)
+    (told : old.disk.content ≡ Some image) (known : old.known ≡ Some places) (index : IsPartialIndexOf store.held places) (files_indexed : IndexesFiles places files)
+    (names : old.tables.names ≡ names_of store)
     (stands : Stands (IsIn among) store files image) (distinct : HasNoCollisions (IsIn among)) (hold : AllByRecursion (HoldsPart (HasKey places) store.held image) old.parts) where
   abbrev Holds : Part → Type 0
   Holds part = HoldsPart (HasKey places) store.held image part
@@ -145,7 +147,8 @@ module _ (among : ByteSet) (store : Store) (files : Files) (image : List ℕ) (p
   some_ahead root ahead rest = record { trees = rest.trees; held_ahead = record { trees = rest.ahead; each = rest.are_held }; segments_are = refl }
 
   -- another rest of the same file
-  rest_on : (root other : Root) (was ahead : List Top) (rest : Rest root was) (segments : List (List ℕ)) → root ≡ other → SegmentsAhead (keys_of rest.whole) store.held image ahead segments → Holds (readers.reading other ahead)
+  rest_on : (root other : Root) (was ahead : List Top) (rest : Rest root was) (segments : List (List ℕ)) → root ≡ other
+      → SegmentsAhead (keys_of rest.whole) store.held image ahead segments → Holds (readers.reading other ahead)
   rest_on root other was ahead rest segments same is = record {
     whole = rest.whole;
     right = rest.right;
@@ -163,9 +166,11 @@ module _ (among : ByteSet) (store : Store) (files : Files) (image : List ℕ) (p
   own_given count row =
       let before = row.next.goes_on in
       let rest = ahead_is before.root row.next.was before.part_is in
-      let held = row.held before.root row.next.was (keys_of rest.whole) store.held image (segments_in rest.trees) before.part_is (indexed before.root row.next.was rest) (some_ahead before.root row.next.was rest) in
+      let held = row.held before.root row.next.was (keys_of rest.whole) store.held image (segments_in rest.trees) before.part_is (indexed before.root row.next.was rest)
+      (some_ahead before.root row.next.was rest) in
       own_one (readers.reading held.goes_on.root held.rest) held.goes_on.parts_are
-      (rest_on before.root held.goes_on.root row.next.was held.rest rest held.given.others (same_root before.root held.goes_on.root row.next.was row.next.was before.part_is held.goes_on.part_is) held.given.ahead)
+      (rest_on before.root held.goes_on.root row.next.was held.rest rest held.given.others
+      (same_root before.root held.goes_on.root row.next.was row.next.was before.part_is held.goes_on.part_is) held.given.ahead)
 
   own_end : IsGiven None buf actor old new → Own
   own_end row =
@@ -181,7 +186,8 @@ module _ (among : ByteSet) (store : Store) (files : Files) (image : List ℕ) (p
   stuck_held refusal row cause =
       let before = cause.goes_on in
       let rest = ahead_is before.root cause.was before.part_is in
-      let held = row.held before.root cause.was (keys_of rest.whole) store.held image (segments_in rest.trees) before.part_is (indexed before.root cause.was rest) (some_ahead before.root cause.was rest) in
+      let held = row.held before.root cause.was (keys_of rest.whole) store.held image (segments_in rest.trees) before.part_is (indexed before.root cause.was rest)
+      (some_ahead before.root cause.was rest) in
       (keys_of rest.whole, (held.rest, (segments_in rest.trees, held.given)))
 
   own_stuck : (refusal : Refusal) → IsNotGiven refusal buf actor old new → Own
@@ -189,9 +195,11 @@ module _ (among : ByteSet) (store : Store) (files : Files) (image : List ℕ) (p
   own_stuck refusals.DiskRead row =
       let before = row.cause.goes_on in
       let rest = ahead_is before.root row.cause.was before.part_is in
-      let held = row.held before.root row.cause.was (keys_of rest.whole) store.held image (segments_in rest.trees) before.part_is (indexed before.root row.cause.was rest) (some_ahead before.root row.cause.was rest) in
+      let held = row.held before.root row.cause.was (keys_of rest.whole) store.held image (segments_in rest.trees) before.part_is (indexed before.root row.cause.was rest)
+      (some_ahead before.root row.cause.was rest) in
       own_one (readers.reading held.goes_on.root held.rest) held.goes_on.parts_are
-      (rest_on before.root held.goes_on.root row.cause.was held.rest rest (segments_in rest.trees) (same_root before.root held.goes_on.root row.cause.was row.cause.was before.part_is held.goes_on.part_is) held.given)
+      (rest_on before.root held.goes_on.root row.cause.was held.rest rest (segments_in rest.trees)
+      (same_root before.root held.goes_on.root row.cause.was row.cause.was before.part_is held.goes_on.part_is) held.given)
   own_stuck refusal row = absurd (stuck_held refusal row row.cause).1.1.1
 
   pub own_read : (answer : Result Answer Refusal) → ReadRow actor answer buf old new → Own

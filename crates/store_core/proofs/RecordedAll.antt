@@ -23,7 +23,8 @@ not_old snapshot id above = by_test (is_old snapshot id) refl
     by_test true old = absurd (omega (arith, above, ltb-true id snapshot (second (not (id == 0)) (nat_lt id snapshot) old)))
     by_test false new = refl
 
-old_with : (snapshot : ℕ) (h : HeaderValue) (held : List (Option HeaderValue)) → snapshot ≤ h.id → old_ids snapshot (ids_of (with_slot (first_free held) h held)) ≡ old_ids snapshot (ids_of held)
+old_with : (snapshot : ℕ) (h : HeaderValue) (held : List (Option HeaderValue)) → snapshot ≤ h.id
+    → old_ids snapshot (ids_of (with_slot (first_free held) h held)) ≡ old_ids snapshot (ids_of held)
 old_with snapshot h [] above = refl
 old_with snapshot h (None ∷ cs) above = ap (λ (b : Bool). cond b (h.id ∷ old_ids snapshot (ids_of cs)) (old_ids snapshot (ids_of cs))) (not_old snapshot h.id above)
 old_with snapshot h (Some g ∷ cs) above = ap (λ (rest : List ℕ). cond (is_old snapshot g.id) (g.id ∷ rest) rest) (old_with snapshot h cs above)

@@ -55,8 +55,10 @@ kind_by id count live found is = ap (λ (o : Option SlotCount). (recorded_by id 
 all_by : (id : ℕ) (count : SlotCount) (live : ℕ) (found : Option SlotCount) → found ≡ Some count → (recorded_by id found live).all ≡ count.bytes
 all_by id count live found is = ap (λ (o : Option SlotCount). (recorded_by id o live).all) is
 
-module _ (among : ByteSet) (f : FileEvent) (s : Store) (stored : Stored) (old new : CoreState) (at : IsAt (IsIn among) s stored old) (b a : Collection) (ran : old.collection ≡ Some b) where
-  module _ (slot : ℕ) (stage_is : b.stage ≡ Filter slot) (has : HasStage old.tables.held b (Filter slot)) (records : Records old.tables.held old.known old.disk new.disk slot b a) where
+module _ (among : ByteSet) (f : FileEvent) (s : Store) (stored : Stored) (old new : CoreState) (at : IsAt (IsIn among) s stored old) (b a : Collection)
+    (ran : old.collection ≡ Some b) where
+  module _ (slot : ℕ) (stage_is : b.stage ≡ Filter slot) (has : HasStage old.tables.held b (Filter slot))
+      (records : Records old.tables.held old.known old.disk new.disk slot b a) where
     slots : RepresentsSlots s.held old.tables.held
     slots = at.represents.slots_hold
 
@@ -113,7 +115,8 @@ module _ (among : ByteSet) (f : FileEvent) (s : Store) (stored : Stored) (old ne
     }
 
   -- by the next stage
-  pub records_on : (stage : Stage) (next : Next) → b.stage ≡ stage → HasStage old.tables.held b stage → StepsTo stage next (at_moment old b) (at_moment new a) → IsDid (phase_at stage next) f
+  pub records_on : (stage : Stage) (next : Next) → b.stage ≡ stage → HasStage old.tables.held b stage → StepsTo stage next (at_moment old b) (at_moment new a)
+      → IsDid (phase_at stage next) f
       → RecordsOn (IsIn among) f old s.held b a
   records_on (Mark level slot) next is has steps did = inl (ap (λ (x : Collection). x.liveness) steps.0.collection_is)
   records_on (Filter slot) next is has steps did =
@@ -127,14 +130,16 @@ module _ (among : ByteSet) (f : FileEvent) (s : Store) (stored : Stored) (old ne
 -- ---- steps, one after the other
 
 -- They add so many containers to what was recorded, and of each of them that was so.
-pub record RecordsAll (C : Type 0) (state : C → CoreState) (S : List ℕ → Type 0) (steps : List FileEvent) (mid new : C) (run : FileRun C state S steps mid new) (held : List (Option HeaderValue)) (b c : Collection) : Type 0 where
+pub record RecordsAll (C : Type 0) (state : C → CoreState) (S : List ℕ → Type 0) (steps : List FileEvent) (mid new : C) (run : FileRun C state S steps mid new)
+    (held : List (Option HeaderValue)) (b c : Collection) : Type 0 where
   pub more : List ContainerLiveness
   pub adds : c.liveness ≡ b.liveness ++ more
   pub each : AllByRecursion (WasRecorded C state S steps mid new run held) more
   pub low : AllByRecursion (λ r. r.id < b.snapshot) more
 
 -- a container that was added has an id from the snapshot on
-added_new : (snapshot : ℕ) (sources : List ℕ) (changes : List StoreChange) (s t : Store) (h : HeaderValue) → Sweeps snapshot sources changes s t → IsAdded changes h → snapshot ≤ h.id
+added_new : (snapshot : ℕ) (sources : List ℕ) (changes : List StoreChange) (s t : Store) (h : HeaderValue) → Sweeps snapshot sources changes s t → IsAdded changes h
+    → snapshot ≤ h.id
 added_new snapshot sources [] s t h sweeps added = absurd added
 added_new snapshot sources (SealContainer id kind segments ∷ more) s t h sweeps (inl is) = omega (arith, sweeps.0.0, ap (λ (x : HeaderValue). x.id) is)
 added_new snapshot sources (SealContainer id kind segments ∷ more) s t h sweeps (inr later) = added_new snapshot sources more (with_sealed id kind segments s) t h sweeps.1 later
@@ -144,19 +149,22 @@ added_new snapshot sources (FlushContainer id kind segments ∷ more) s t h swee
 added_new snapshot sources (FreeContainer slot ∷ more) s t h sweeps added = added_new snapshot sources more (with_freed slot s) t h sweeps.1 added
 
 -- what stands after these and was there when the collection began stood before them
-pub stood_low : (snapshot : ℕ) (sources : List ℕ) (changes : List StoreChange) (s t : Store) (slot : ℕ) (h : HeaderValue) → Sweeps snapshot sources changes s t → h.id < snapshot → slice_get t.held slot ≡ Some (Some h)
+pub stood_low : (snapshot : ℕ) (sources : List ℕ) (changes : List StoreChange) (s t : Store) (slot : ℕ) (h : HeaderValue) → Sweeps snapshot sources changes s t → h.id < snapshot
+    → slice_get t.held slot ≡ Some (Some h)
     → slice_get s.held slot ≡ Some (Some h)
 stood_low snapshot sources changes s t slot h sweeps low there = elim (stood snapshot sources changes s t slot h sweeps there) [
   | inl was ↦ was
   | inr added ↦ absurd (let new_id = added_new snapshot sources changes s t h sweeps added in omega (arith, low, new_id))
 ]
 
-module _ (C : Type 0) (state : C → CoreState) (S : List ℕ → Type 0) (f : FileEvent) (fs : List FileEvent) (mid new : C) (run : FileRun C state S (f ∷ fs) mid new) (b a c : Collection) (sources : List ℕ) (changes : List StoreChange)
+module _ (C : Type 0) (state : C → CoreState) (S : List ℕ → Type 0) (f : FileEvent) (fs : List FileEvent) (mid new : C) (run : FileRun C state S (f ∷ fs) mid new)
+    (b a c : Collection) (sources : List ℕ) (changes : List StoreChange)
     (s t : Store) (runs : (state run.0).collection ≡ Some a) (snapshot_is : a.snapshot ≡ b.snapshot) (sweeps : Sweeps b.snapshot sources changes s t) where
   abbrev Was : ContainerLiveness → Type 0
   Was = WasRecorded C state S (f ∷ fs) mid new run s.held
 
-  later : (more : List ContainerLiveness) → AllByRecursion (WasRecorded C state S fs run.0 new run.1.1 t.held) more → AllByRecursion (λ r. r.id < a.snapshot) more → AllByRecursion Was more
+  later : (more : List ContainerLiveness) → AllByRecursion (WasRecorded C state S fs run.0 new run.1.1 t.held) more → AllByRecursion (λ r. r.id < a.snapshot) more
+      → AllByRecursion Was more
   later [] each old = tt
   later (r ∷ rs) (was, each) (low, old) = (
     (let now : Was r = record {

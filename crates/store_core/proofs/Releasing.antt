@@ -65,7 +65,8 @@ abbrev SparesIn : (List ℕ → Type 0) → PlaceMap → Store → Option Collec
 SparesIn P index store None = Unit {0}
 SparesIn P index store (Some c) = Spares P index store.held c
 
-module _ (among : ByteSet) (distinct : HasNoCollisions (IsIn among)) (f : FileEvent) (s : Store) (stored : Stored) (old new : CoreState) (is : f.event.step ≡ asked.GcStep) (step : FileStep (IsIn among) f old new)
+module _ (among : ByteSet) (distinct : HasNoCollisions (IsIn among)) (f : FileEvent) (s : Store) (stored : Stored) (old new : CoreState) (is : f.event.step ≡ asked.GcStep)
+    (step : FileStep (IsIn among) f old new)
     (at : IsAt (IsIn among) s stored old) (stays : new.stop ≡ None) where
   abbrev Needs : List ℕ → Type 0
   Needs = IsReachable stored.files
@@ -115,7 +116,11 @@ module _ (among : ByteSet) (distinct : HasNoCollisions (IsIn among)) (f : FileEv
     by_stage SweepStage (Release source entry) frees = record {
       changes = FreeContainer (slot_in_turn c.sweep) ∷ [];
       many = refl;
-      chain = (ready_is_spare (IsReachable stored.files) at.index s (slot_in_turn c.sweep) frees.header frees.there was.index_is_newest was.files_are_indexed frees.none, frees.now_is);
+      chain = (
+        ready_is_spare (IsReachable stored.files) at.index s
+            (slot_in_turn c.sweep) frees.header frees.there was.index_is_newest was.files_are_indexed frees.none,
+        frees.now_is,
+      );
     }
     by_stage SweepStage End same = none_given phases.End refl same
 
@@ -157,12 +162,14 @@ module _ (among : ByteSet) (distinct : HasNoCollisions (IsIn among)) (f : FileEv
       broken : StopsAfter asked.GcStep (Err refusals.DiskWrite) old.acknowledged new.stop → ⊥
       broken stops = let both = sym stays ∙ stops in cc
 
-  refused_on : (refusal : Refusal) → AreChangesBy asked.GcStep (Err refusal) leads.changes → IsNotMade refusal old new → StopsAfter asked.GcStep (Err refusal) old.acknowledged new.stop
+  refused_on : (refusal : Refusal) → AreChangesBy asked.GcStep (Err refusal) leads.changes → IsNotMade refusal old new
+      → StopsAfter asked.GcStep (Err refusal) old.acknowledged new.stop
       → SparesIn Needs at.index s old.collection → SparesIn Needs after.index t new.collection
   refused_on refusal are row stops spares =
       subst (SparesIn Needs after.index t) (sym row.runs)
       (subst (λ (x : Store). Spares Needs after.index x.held row.after) (sym (same_store are))
-      (subst (λ (m : PlaceMap). Spares Needs m s.held row.after) (one_map_at at.index after.index (sym (refused_known among s stored old new at refusal row (whole refusal stops)) ∙ after.index_known))
+      (subst (λ (m : PlaceMap). Spares Needs m s.held row.after)
+      (one_map_at at.index after.index (sym (refused_known among s stored old new at refusal row (whole refusal stops)) ∙ after.index_known))
       (refused_spares among s stored old new at refusal row (subst (SparesIn Needs at.index s) row.ran spares))))
 
   spares_by : (a : Result Answer Refusal) → AreChangesBy asked.GcStep a leads.changes → GcRow a old new → GcEffect a old new → StopsAfter asked.GcStep a old.acknowledged new.stop
@@ -191,13 +198,15 @@ module _ (C : Type 0) (state : C → CoreState) where
       let on : (state run.0).stop ≡ None = run_running C state among fs run.0 new run.1.1 stays in
       let one = gives among distinct f s stored (state old) (state run.0) all.0 run.1.0 at on in
       let next = after among distinct f s stored (state old) (state run.0) all.0 run.1.0 at on in
-      let rest = releases_spare among fs (leads among distinct f s stored (state old) (state run.0) all.0 run.1.0 at on).next.store stored run.0 new distinct next run.1.1 all.1 stays in
+      let rest = releases_spare among fs
+      (leads among distinct f s stored (state old) (state run.0) all.0 run.1.0 at on).next.store stored run.0 new distinct next run.1.1 all.1 stays in
       record {
         store = rest.store;
         is_at = rest.is_at;
         changes = one.changes ++ rest.changes;
         many = freed_then one.changes rest.changes ∙ ap₂ (λ (a b : ℕ). a + b) one.many rest.many;
-        chain = sweeps_then (IsReachable stored.files) one.changes rest.changes s (leads among distinct f s stored (state old) (state run.0) all.0 run.1.0 at on).next.store rest.store one.chain rest.chain;
+        chain = sweeps_then (IsReachable stored.files) one.changes rest.changes s
+            (leads among distinct f s stored (state old) (state run.0) all.0 run.1.0 at on).next.store rest.store one.chain rest.chain;
       }
 
   -- where the steps lead the collection that runs spares what is needed
@@ -207,7 +216,8 @@ module _ (C : Type 0) (state : C → CoreState) where
     spares : SparesIn (IsReachable stored.files) is_at.index store (state c).collection
 
   spared : (among : ByteSet) (steps : List FileEvent) (s : Store) (stored : Stored) (mid new : C) → HasNoCollisions (IsIn among) → (at : IsAt (IsIn among) s stored (state mid))
-      → SparesIn (IsReachable stored.files) at.index s (state mid).collection → FileRun C state (IsIn among) steps mid new → AreGcSteps steps → (state new).stop ≡ None → Spared (IsIn among) stored new
+      → SparesIn (IsReachable stored.files) at.index s (state mid).collection → FileRun C state (IsIn among) steps mid new → AreGcSteps steps → (state new).stop ≡ None
+      → Spared (IsIn among) stored new
   spared among [] s stored mid new distinct at spares run all stays =
       subst (Spared (IsIn among) stored) (sym run) (record { store = s; is_at = at; spares = spares })
   spared among (f ∷ fs) s stored mid new distinct at spares run all stays =
@@ -222,13 +232,18 @@ module _ (C : Type 0) (state : C → CoreState) where
       let begins : Steps first.event (state old) (state mid) = running_step (state old) (state mid) first.event runs began in
       let on : (state mid).stop ≡ None = run_running C state among steps mid new run stays in
       let led = any_step among distinct first s stored (state old) (state mid) (record { asked = tt; given = tt; made = began }) at on in
-      let spares = begun_spares (IsIn among) led.next.store stored (state old) (state mid) led.next.is_at percent snapshot begins.made.row.0 begins.made.effect.tables.tables_are idle in
+      let spares = begun_spares (IsIn among) led.next.store stored (state old)
+      (state mid) led.next.is_at percent snapshot begins.made.row.0 begins.made.effect.tables.tables_are idle in
       let all_on = spared among steps led.next.store stored mid new distinct led.next.is_at
-      (subst (SparesIn (IsReachable stored.files) led.next.is_at.index led.next.store) (sym begins.made.row.0.runs) (spares led.next.is_at.index begins.made.row.0.collection begins.made.row.0.runs)) run all stays in
-      let ends : Steps (ends_with last_actor freed copied last_buf) (state new) (state last) = running_step (state new) (state last) (ends_with last_actor freed copied last_buf) stays ended in
+      (subst (SparesIn (IsReachable stored.files) led.next.is_at.index led.next.store) (sym begins.made.row.0.runs)
+      (spares led.next.is_at.index begins.made.row.0.collection begins.made.row.0.runs)) run all stays in
+      let ends : Steps (ends_with last_actor freed copied last_buf) (state new) (state last) = running_step (state new) (state last)
+      (ends_with last_actor freed copied last_buf) stays ended in
       let row : HasEnded freed copied (state new) (state last) = ends.made.row.0 in
       let image : List ℕ = there.stands.known.0 in
       let told : (state new).disk.content ≡ Some image = there.stands.known.1 in
-      let same = store_once image all_on.store t (all_on.is_at.stands.each image ((state new).disk.as_read image told)).holds.right (there.stands.each image ((state new).disk.as_read image told)).holds.right in
+      let same = store_once image all_on.store t (all_on.is_at.stands.each image ((state new).disk.as_read image told)).holds.right
+      (there.stands.each image ((state new).disk.as_read image told)).holds.right in
       ended_spares among all_on.store stored (state new) (state last) all_on.is_at freed copied row
-      (subst (SparesIn (IsReachable stored.files) all_on.is_at.index all_on.store) row.ran all_on.spares) slot (subst (λ (x : Store). IsSpare (IsReachable stored.files) x.held slot) (sym same) spare)
+      (subst (SparesIn (IsReachable stored.files) all_on.is_at.index all_on.store) row.ran all_on.spares) slot
+      (subst (λ (x : Store). IsSpare (IsReachable stored.files) x.held slot) (sym same) spare)

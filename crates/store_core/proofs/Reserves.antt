@@ -68,9 +68,11 @@ but_one zero (None ∷ cs) (None ∷ os) many each = omega (arith, as_free cs os
 but_one zero (None ∷ cs) (Some h ∷ os) many each = omega (arith, as_free cs os (omega (arith, many)) (λ slot is. each (suc slot) is (omega arith)))
 but_one zero (Some g ∷ cs) (None ∷ os) many each = omega (arith, as_free cs os (omega (arith, many)) (λ slot is. each (suc slot) is (omega arith)))
 but_one zero (Some g ∷ cs) (Some h ∷ os) many each = omega (arith, as_free cs os (omega (arith, many)) (λ slot is. each (suc slot) is (omega arith)))
-but_one (suc place) (None ∷ cs) (None ∷ os) many each = omega (arith, but_one place cs os (omega (arith, many)) (λ slot is differ. each (suc slot) is (λ same. differ (omega (arith, same)))))
+but_one (suc place) (None ∷ cs) (None ∷ os) many each = omega
+    (arith, but_one place cs os (omega (arith, many)) (λ slot is differ. each (suc slot) is (λ same. differ (omega (arith, same)))))
 but_one (suc place) (None ∷ cs) (Some h ∷ os) many each = absurd (some_not_none h (each 0 refl (omega arith)))
-but_one (suc place) (Some g ∷ cs) (None ∷ os) many each = omega (arith, but_one place cs os (omega (arith, many)) (λ slot is differ. each (suc slot) is (λ same. differ (omega (arith, same)))))
+but_one (suc place) (Some g ∷ cs) (None ∷ os) many each = omega
+    (arith, but_one place cs os (omega (arith, many)) (λ slot is differ. each (suc slot) is (λ same. differ (omega (arith, same)))))
 but_one (suc place) (Some g ∷ cs) (Some h ∷ os) many each = but_one place cs os (omega (arith, many)) (λ slot is differ. each (suc slot) is (λ same. differ (omega (arith, same))))
 
 -- ---- closed slots of an image
@@ -114,7 +116,8 @@ record IsRoomy (t : Store) (given : List ℕ) (c : CoreState) : Type 0 where
   pub closed : Closed (λ slot. ⊥) t given
   pub enough : RESERVE ≤ free_slots t.held
 
-many_of : (t : Store) (given : List ℕ) (c : CoreState) → IsRoomy t given c → (image : List ℕ) → length image ≡ length given → (u : Store) → Encodes image u → length u.held ≡ length t.held
+many_of : (t : Store) (given : List ℕ) (c : CoreState) → IsRoomy t given c → (image : List ℕ) → length image ≡ length given → (u : Store) → Encodes image u
+    → length u.held ≡ length t.held
 many_of t given c roomy image size u right =
     right.many ∙ one_size u.slots t.slots (sym right.size ∙ size ∙ roomy.size) ∙ sym roomy.on.valid.many
 
@@ -122,14 +125,25 @@ many_of t given c roomy image size u right =
 has_all : (t : Store) (given : List ℕ) (c : CoreState) → IsRoomy t given c → (image : List ℕ) → length image ≡ length given → Closed (λ slot. ⊥) t image → HasReserveIn image
 has_all t given c roomy image size closed u right =
     let many = many_of t given c roomy image size u right in
-    omega (arith, roomy.enough, as_free t.held u.held many (λ slot is. closed_in u image right slot (omega (arith, within t.held slot None is, many)) (closed slot is (λ none. none))))
+    omega (
+      arith,
+      roomy.enough,
+      as_free t.held u.held many
+          (λ slot is. closed_in u image right slot (omega (arith, within t.held slot None is, many)) (closed slot is (λ none. none))),
+    )
 
 -- all but one are, and there was one to spare
-has_but_one : (place : ℕ) (t : Store) (given : List ℕ) (c : CoreState) → IsRoomy t given c → RESERVE < free_slots t.held → (image : List ℕ) → length image ≡ length given → Closed (λ slot. slot ≡ place) t image
+has_but_one : (place : ℕ) (t : Store) (given : List ℕ) (c : CoreState) → IsRoomy t given c → RESERVE < free_slots t.held → (image : List ℕ) → length image ≡ length given
+    → Closed (λ slot. slot ≡ place) t image
     → HasReserveIn image
 has_but_one place t given c roomy spare image size closed u right =
     let many = many_of t given c roomy image size u right in
-    omega (arith, spare, but_one place t.held u.held many (λ slot is differ. closed_in u image right slot (omega (arith, within t.held slot None is, many)) (closed slot is differ)))
+    omega (
+      arith,
+      spare,
+      but_one place t.held u.held many
+          (λ slot is differ. closed_in u image right slot (omega (arith, within t.held slot None is, many)) (closed slot is differ)),
+    )
 
 -- ---- a step
 
@@ -206,12 +220,14 @@ module _ (t : Store) (given : List ℕ) (old new : CoreState) (roomy : IsRoomy t
         ),
       )
     where
-      was_by : (after : Store) (slot : ℕ) (c : Option HeaderValue) → ((h : HeaderValue) → slice_get t.held slot ≡ Some (Some h) → slice_get after.held slot ≡ Some (Some h)) → slice_get after.held slot ≡ Some None
+      was_by : (after : Store) (slot : ℕ) (c : Option HeaderValue) → ((h : HeaderValue) → slice_get t.held slot ≡ Some (Some h) → slice_get after.held slot ≡ Some (Some h))
+          → slice_get after.held slot ≡ Some None
           → slice_get t.held slot ≡ Some c → slice_get t.held slot ≡ Some None
       was_by after slot None held is here = here
       was_by after slot (Some h) held is here = absurd (some_not_none h (sym (held h here) ∙ is))
 
-      was_closed : (next : Leads t given (changes_by e.step e.answer) t new) (slot : ℕ) → slice_get next.after.held slot ≡ Some None → (c : Option HeaderValue) × (slice_get t.held slot ≡ Some c) → slice_get t.held slot ≡ Some None
+      was_closed : (next : Leads t given (changes_by e.step e.answer) t new) (slot : ℕ) → slice_get next.after.held slot ≡ Some None → (c : Option HeaderValue)
+          × (slice_get t.held slot ≡ Some c) → slice_get t.held slot ≡ Some None
       was_closed next slot is here = was_by next.after slot here.0 (next.framed.held slot) is here.1
 
   -- a container that was to be stored may stand in the closed slot of least number, beside which there were two
@@ -224,7 +240,8 @@ module _ (t : Store) (given : List ℕ) (old new : CoreState) (roomy : IsRoomy t
         left.0,
         left.1,
         has_but_one place t given old roomy spare left.0 left.2.size
-            (closed_by (λ slot. slot ≡ place) left.0 (keeps_sealed t given half_cells ⊥ Stays given (keeps_here t given half_cells ⊥ Stays) place left.0 (λ slot stays. stays.1) left.2)),
+            (closed_by (λ slot. slot ≡ place) left.0
+            (keeps_sealed t given half_cells ⊥ Stays given (keeps_here t given half_cells ⊥ Stays) place left.0 (λ slot stays. stays.1) left.2)),
       )
 
   abbrev journal : JournalValue
@@ -240,7 +257,9 @@ module _ (t : Store) (given : List ℕ) (old new : CoreState) (roomy : IsRoomy t
   named_room : (name : List ℕ) (change : Change) (answer : Result Answer Refusal) → NamesOne name change answer old new → KnownWith new.disk.content HasReserveIn
   named_room name change answer effect =
       let now = effect.disk.later.tells given roomy.told in
-      let counted : (c : List ℕ) → old.disk.images c → KeepsBytes t half_cells ⊥ AllStay given c = λ c image. keeps_counted t given half_cells ⊥ AllStay given (keeps_here t given half_cells ⊥ AllStay) c (settled given roomy.told c image) in
+      let counted : (c : List ℕ) → old.disk.images c
+      → KeepsBytes t half_cells ⊥ AllStay given c = λ c image. keeps_counted t given half_cells ⊥ AllStay given (keeps_here t given half_cells ⊥ AllStay) c
+      (settled given roomy.told c image) in
       let keeps = λ (c : List ℕ) (from : SteppedFrom (ChangesBytes old.tables name change given) old.disk c). elim from as (λ _. KeepsBytes t half_cells ⊥ AllStay given c) [
         | inl image ↦ counted c image
         | inr step ↦ keeps_record t given half_cells ⊥ AllStay step.0 (counted step.0 step.1) half_cells ⊥ c (record_alone journal step.0 c low step.2.same) (λ none. absurd none)
@@ -253,13 +272,15 @@ module _ (t : Store) (given : List ℕ) (old new : CoreState) (roomy : IsRoomy t
     runs_not : new.stop ≡ None → ⊥
     runs_not runs = let both = sym runs ∙ stopped in absurd cc
 
-    unsealed_room : (actor : ℕ) (buf : List ℕ) (filled : _) (refusal : Refusal) → Row (asked.Seal filled) actor (Err refusal) buf old new → SealsOne filled (Err refusal) old new → StopsAfter (asked.Seal filled) (Err refusal) old.acknowledged new.stop
+    unsealed_room : (actor : ℕ) (buf : List ℕ) (filled : _) (refusal : Refusal) → Row (asked.Seal filled) actor (Err refusal) buf old new → SealsOne filled (Err refusal) old new
+        → StopsAfter (asked.Seal filled) (Err refusal) old.acknowledged new.stop
         → KnownWith new.disk.content HasReserveIn
     unsealed_room actor buf filled refusals.DiskWrite row effect stops = sealed_room filled (Err refusals.DiskWrite) effect row.0.1
     unsealed_room actor buf filled (refusals.Damaged at why) row effect stops = sealed_room filled (Err (refusals.Damaged at why)) effect row.0.1
     unsealed_room actor buf filled refusal row effect stops = absurd (runs_not stops)
 
-    by_effect : (actor : ℕ) (buf : List ℕ) (step : StepValue) (answer : Result Answer Refusal) → IsNoGcStep step → Row step actor answer buf old new → Effect step answer old new → StopsAfter step answer old.acknowledged new.stop
+    by_effect : (actor : ℕ) (buf : List ℕ) (step : StepValue) (answer : Result Answer Refusal) → IsNoGcStep step → Row step actor answer buf old new → Effect step answer old new
+        → StopsAfter step answer old.acknowledged new.stop
         → KnownWith new.disk.content HasReserveIn
     by_effect actor buf asked.Begin answer other row effect stops = by_reads effect.disk.only
     by_effect actor buf (asked.Claim seg) answer other row effect stops = by_reads effect.disk.only
@@ -287,7 +308,8 @@ module _ (C : Type 0) (state : C → CoreState) where
   HasAtEnd new = KnownWith (state new).disk.content HasReserveIn
 
   -- a step, and what follows where it didn't stop the core
-  after_step : (e : Event) (es : List Event) (t : Store) (given : List ℕ) (old mid new : C) → IsNoGcStep e.step → IsRoomy t given (state old) → CoreStep (state old) e (state mid) → CoreRun C state es mid new
+  after_step : (e : Event) (es : List Event) (t : Store) (given : List ℕ) (old mid new : C) → IsNoGcStep e.step → IsRoomy t given (state old) → CoreStep (state old) e (state mid)
+      → CoreRun C state es mid new
       → ((u : Store) (bytes : List ℕ) → IsRoomy u bytes (state mid) → HasAtEnd new) → (stop : Option Stop) → (state mid).stop ≡ stop → HasAtEnd new
   after_step e es t given old mid new other roomy step run others None is =
       let was = was_running (state old).stop e (state old) (state mid) refl step is in

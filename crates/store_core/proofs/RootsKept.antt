@@ -61,7 +61,8 @@ module _ (names : NameMap) (old new : CoreState) (actor : ℕ) (buf : List ℕ) 
   goes_none before after goes =
       let within = within_parts old.parts actor (λ idle. (let wrong = sym goes.part_is ∙ idle in cc)) in
       by_parts (with_part old.parts actor (readers.reading goes.root after)) goes.parts_are
-      (reading_root names old.parts actor (record { root = goes.root; cursor = before }) (record { root = goes.root; cursor = after }) (omega (arith, within, many)) goes.part_is refl)
+      (reading_root names old.parts actor (record { root = goes.root; cursor = before }) (record { root = goes.root; cursor = after })
+      (omega (arith, within, many)) goes.part_is refl)
 
   stuck_none : (refusal : Refusal) → readers.IsReadRefusal old.known old.breaks old.disk new.disk actor old.parts new.parts refusal → BringsNone
   stuck_none (refusals.WrongPart kind) cause = none_same cause.same

@@ -53,7 +53,8 @@ module _ (old new : CoreState) where
   tables_kept refusal kept = kept.tables_are
 
   -- a step of a collection, by its stage
-  stage_runs : (stage : Stage) (next : Next) (c d : Collection) → IsLater old.disk new.disk → TablesAfter stage next (at_moment old c) (at_moment new d) → Runs old.disk.size None old.tables → Runs new.disk.size None new.tables
+  stage_runs : (stage : Stage) (next : Next) (c d : Collection) → IsLater old.disk new.disk → TablesAfter stage next (at_moment old c) (at_moment new d)
+      → Runs old.disk.size None old.tables → Runs new.disk.size None new.tables
   stage_runs (Mark level slot) next c d later after runs = same_runs later after runs
   stage_runs (Filter slot) next c d later after runs = same_runs later after runs
   stage_runs Select next c d later after runs = same_runs later after runs
@@ -72,7 +73,8 @@ module _ (old new : CoreState) where
   gc_runs answer later row = absurd row
 
   module _ (actor : ℕ) (buf : List ℕ) where
-    pub effect_runs : (step : StepValue) (answer : Result Answer Refusal) → Row step actor answer buf old new → Effect step answer old new → Runs old.disk.size None old.tables → Runs new.disk.size None new.tables
+    pub effect_runs : (step : StepValue) (answer : Result Answer Refusal) → Row step actor answer buf old new → Effect step answer old new → Runs old.disk.size None old.tables
+        → Runs new.disk.size None new.tables
     effect_runs asked.Begin answer row effect = same_runs effect.disk.only.later effect.tables.tables_are
     effect_runs (asked.Claim seg) answer row effect = same_runs effect.disk.only.later effect.tables.tables_are
     effect_runs (asked.Seal filled) (Ok answer) row effect = effect.made.runs
@@ -91,7 +93,8 @@ module _ (old new : CoreState) where
     effect_runs asked.Stat answer row effect = same_runs effect.disk.only.later effect.tables.tables_are
 
 module _ (old new : CoreState) (stays : new.stop ≡ None) where
-  pub seal_kept : (filled : Contents) (refusal : Refusal) (count : ℕ) → StopsAfter (asked.Seal filled) (Err refusal) count new.stop → KeepsUnlessBroken refusal old new → KeepsTables old new
+  pub seal_kept : (filled : Contents) (refusal : Refusal) (count : ℕ) → StopsAfter (asked.Seal filled) (Err refusal) count new.stop → KeepsUnlessBroken refusal old new
+      → KeepsTables old new
   seal_kept filled refusals.DiskWrite count stops kept = absurd (let both = sym stays ∙ stops in cc)
   seal_kept filled (refusals.Damaged at_byte why) count stops kept = absurd (let both = sym stays ∙ stops in cc)
   seal_kept filled refusal count stops kept = kept
@@ -115,7 +118,8 @@ first_closed (None ∷ cs) some = refl
 first_closed (Some h ∷ cs) some = first_closed cs some
 
 -- a container that is sealed, of any store that the tables alone are of
-module _ (filled : Contents) (id : ℕ) (old new : CoreState) (runs : Runs old.disk.size None old.tables) (made : Makes (SealContainer (next_id old) filled.kind filled.segments) old new) where
+module _ (filled : Contents) (id : ℕ) (old new : CoreState) (runs : Runs old.disk.size None old.tables)
+    (made : Makes (SealContainer (next_id old) filled.kind filled.segments) old new) where
   abbrev s : Store
   s = runs.store
 
@@ -139,7 +143,8 @@ module _ (filled : Contents) (id : ℕ) (old new : CoreState) (runs : Runs old.d
   sealed_on None id_is last under_way =
       room_on s.held old.tables.held new.tables.held (first_free s.held) h first runs.valid.headers now.can.right runs.represents.slots_hold now.represents.slots_hold spare
   sealed_on (Some c) id_is last under_way =
-      sealed s.held old.tables.held new.tables.held c (first_free s.held) h first runs.valid.headers now.can.right runs.represents.slots_hold now.represents.slots_hold (omega (arith, id_is, last)) (omega arith) spare under_way
+      sealed s.held old.tables.held new.tables.held c (first_free s.held) h first runs.valid.headers now.can.right runs.represents.slots_hold now.represents.slots_hold
+      (omega (arith, id_is, last)) (omega arith) spare under_way
 
 module _ (old new : CoreState) where
   -- nothing of it changes
@@ -150,26 +155,33 @@ module _ (old new : CoreState) where
   kept_on : KeepsTables old new → new.collection ≡ old.collection → IsUnderWayIn old.tables.held old.collection → IsUnderWayIn new.tables.held new.collection
   kept_on kept = unchanged_on (ap (λ (t : Tables). t.held) kept.tables_are)
 
-  claimed_on : (seg : KindSegment) (answer : Result Answer Refusal) → Rests answer old new → Collects (asked.Claim seg) answer old new → IsUnderWayIn old.tables.held old.collection → IsUnderWayIn new.tables.held new.collection
+  claimed_on : (seg : KindSegment) (answer : Result Answer Refusal) → Rests answer old new → Collects (asked.Claim seg) answer old new
+      → IsUnderWayIn old.tables.held old.collection → IsUnderWayIn new.tables.held new.collection
   claimed_on seg answer effect collects under_way =
-      subst (λ (t : Tables). IsUnderWayIn t.held new.collection) (sym effect.tables.tables_are) (marked_on (IsKeptKey (asked.Claim seg) answer) old.tables.held old.collection new.collection collects under_way)
+      subst (λ (t : Tables). IsUnderWayIn t.held new.collection) (sym effect.tables.tables_are)
+      (marked_on (IsKeptKey (asked.Claim seg) answer) old.tables.held old.collection new.collection collects under_way)
 
-  sealed_answer : (filled : Contents) (actor : ℕ) (answer : Result Answer Refusal) → Runs old.disk.size None old.tables → SealRow filled actor answer old new → SealsOne filled answer old new → Collects (asked.Seal filled) answer old new
+  sealed_answer : (filled : Contents) (actor : ℕ) (answer : Result Answer Refusal) → Runs old.disk.size None old.tables → SealRow filled actor answer old new
+      → SealsOne filled answer old new → Collects (asked.Seal filled) answer old new
       → IsUnderWayIn old.tables.held old.collection → IsUnderWayIn new.tables.held new.collection
   sealed_answer filled actor (Ok (answers.Sealed id)) runs row effect collects under_way =
-      marked_on (IsKeptKey (asked.Seal filled) (Ok (answers.Sealed id))) new.tables.held old.collection new.collection collects (sealed_on filled id old new runs effect.made old.collection row.id_is row.last_is under_way)
+      marked_on (IsKeptKey (asked.Seal filled) (Ok (answers.Sealed id))) new.tables.held old.collection new.collection collects
+      (sealed_on filled id old new runs effect.made old.collection row.id_is row.last_is under_way)
   sealed_answer filled actor (Err refusal) runs row effect collects under_way =
-      subst (λ (t : Tables). IsUnderWayIn t.held new.collection) (sym (tables_kept old new refusal effect.kept)) (marked_on (IsKeptKey (asked.Seal filled) (Err refusal)) old.tables.held old.collection new.collection collects under_way)
+      subst (λ (t : Tables). IsUnderWayIn t.held new.collection) (sym (tables_kept old new refusal effect.kept))
+      (marked_on (IsKeptKey (asked.Seal filled) (Err refusal)) old.tables.held old.collection new.collection collects under_way)
   sealed_answer filled actor answer runs row effect collects under_way = absurd row
 
-  begun_on : (percent : ℕ) (answer : Result Answer Refusal) → StartRow percent answer old new → KeepsTables old new → IsUnderWayIn old.tables.held old.collection → IsUnderWayIn new.tables.held new.collection
+  begun_on : (percent : ℕ) (answer : Result Answer Refusal) → StartRow percent answer old new → KeepsTables old new → IsUnderWayIn old.tables.held old.collection
+      → IsUnderWayIn new.tables.held new.collection
   begun_on percent (Ok (answers.Started snapshot)) row kept under_way =
       subst (λ (t : Tables). IsUnderWayIn t.held new.collection) (sym kept.tables_are) (subst (IsUnderWayIn old.tables.held) (sym row.0.runs) row.0.under_way)
   begun_on percent (Err (refusals.Collecting phase)) row kept under_way = kept_on kept row.1 under_way
   begun_on percent (Err refusal) row kept under_way = kept_on kept row.none_runs under_way
   begun_on percent answer row kept under_way = absurd row
 
-  pub commit_held : (name : List ℕ) (root : Root) (actor : ℕ) (answer : Result Answer Refusal) → CommitRow name root actor answer old new → NamesOne name (Put root) answer old new → new.tables.held ≡ old.tables.held
+  pub commit_held : (name : List ℕ) (root : Root) (actor : ℕ) (answer : Result Answer Refusal) → CommitRow name root actor answer old new → NamesOne name (Put root) answer old new
+      → new.tables.held ≡ old.tables.held
   commit_held name root actor (Ok (answers.Committed sequence)) row effect = row.3
   commit_held name root actor (Err refusal) row effect = ap (λ (t : Tables). t.held) effect.kept.tables_are
   commit_held name root actor answer row effect = absurd row
@@ -180,7 +192,8 @@ module _ (old new : CoreState) where
   delete_held name answer row effect = absurd row
 
   -- it stays under way
-  pub under_way_on : (step : StepValue) (actor : ℕ) (answer : Result Answer Refusal) (buf : List ℕ) → Row step actor answer buf old new → Effect step answer old new → Collects step answer old new
+  pub under_way_on : (step : StepValue) (actor : ℕ) (answer : Result Answer Refusal) (buf : List ℕ) → Row step actor answer buf old new → Effect step answer old new
+      → Collects step answer old new
       → Runs old.disk.size None old.tables → IsUnderWayIn old.tables.held old.collection → IsUnderWayIn new.tables.held new.collection
   under_way_on asked.Begin actor answer buf row effect collects runs = kept_on effect.tables collects
   under_way_on (asked.Claim seg) actor answer buf row effect collects runs = claimed_on seg answer effect collects

@@ -78,7 +78,8 @@ IsSafeFor places store stored new = (image : List ℕ) → new.disk.content ≡ 
 pub same_both : (index : PlaceMap) (store : Store) (parts : List Part) (image : List ℕ) (c : Collection) → KeepsBoth index index store store parts parts image image c c
 same_both index store parts image c = (λ marks. marks, λ safe. safe)
 
-pub both_on : (index mid later : PlaceMap) (s m t : Store) (before between after : List Part) (old then new : List ℕ) (c d e : Collection) → KeepsBoth index mid s m before between old then c d
+pub both_on : (index mid later : PlaceMap) (s m t : Store) (before between after : List Part) (old then new : List ℕ) (c d e : Collection)
+    → KeepsBoth index mid s m before between old then c d
     → KeepsBoth mid later m t between after then new d e → KeepsBoth index later s t before after old new c e
 both_on index mid later s m t before between after old then new c d e first second = (λ marks. second.0 (first.0 marks), λ safe. second.1 (first.1 safe))
 
@@ -91,12 +92,14 @@ module _ (index later : PlaceMap) (s t : Store) (before after : List Part) (old 
   safe_at Sweep c d both = both.1
 
   -- the collection is the same
-  pub unchanged_safe : (was now : Option Collection) → ((c : Collection) → KeepsBoth index later s t before after old new c c) → now ≡ was → IsSafeIn index s before old was → IsSafeIn later t after new now
+  pub unchanged_safe : (was now : Option Collection) → ((c : Collection) → KeepsBoth index later s t before after old new c c) → now ≡ was → IsSafeIn index s before old was
+      → IsSafeIn later t after new now
   unchanged_safe None now both same safe = subst (IsSafeIn later t after new) (sym same) tt
   unchanged_safe (Some c) now both same safe = subst (IsSafeIn later t after new) (sym same) (safe_at c.stage c c (both c) safe)
 
   -- some keys became live
-  pub marked_safe : (P : List ℕ → Type 0) (was now : Option Collection) → ((c : Collection) (live : LiveKeys) → was ≡ Some c → Marks P c.live live → KeepsBoth index later s t before after old new c (record c { live = live })) → MarksIn P was now
+  pub marked_safe : (P : List ℕ → Type 0) (was now : Option Collection)
+      → ((c : Collection) (live : LiveKeys) → was ≡ Some c → Marks P c.live live → KeepsBoth index later s t before after old new c (record c { live = live })) → MarksIn P was now
       → IsSafeIn index s before old was → IsSafeIn later t after new now
   marked_safe P None now both marks safe = subst (IsSafeIn later t after new) (sym marks) tt
   marked_safe P (Some c) now both marks safe =
@@ -105,7 +108,8 @@ module _ (index later : PlaceMap) (s t : Store) (before after : List Part) (old 
 -- no key became live
 unseen : (index : PlaceMap) (store : Store) (parts : List Part) (image : List ℕ) (c : Collection) (live : LiveKeys) → Marks (λ key. ⊥) c.live live
     → KeepsBoth index index store store parts parts image image c (record c { live = live })
-unseen index store parts image c live marks = marked_unseen index store image parts c live (λ key place is. (λ now. was (key) (place) ((marks key place).0 now), λ before. (marks key place).1 (inl before)))
+unseen index store parts image c live marks = marked_unseen index store image parts c live
+    (λ key place is. (λ now. was (key) (place) ((marks key place).0 now), λ before. (marks key place).1 (inl before)))
   where
     was : (key : List ℕ) (place : Place) → IsLiveAt c.live key place ⊎ ⊥ → IsLiveAt c.live key place
     was key place (inl is) = is
@@ -121,7 +125,8 @@ pins_more kind (x ∷ xs) pins key =
       λ is. elim (rest.0 is) [
         | inl was ↦ elim (one.0 was) [
           | inl before ↦ inl before
-          | inr same ↦ inr (subst (λ (k : List ℕ). Contains (segment_key kind x ∷ map (segment_key kind) xs) k) (sym same) (contains_head (segment_key kind x) (map (segment_key kind) xs)))
+          | inr same ↦ inr
+              (subst (λ (k : List ℕ). Contains (segment_key kind x ∷ map (segment_key kind) xs) k) (sym same) (contains_head (segment_key kind x) (map (segment_key kind) xs)))
         ]
         | inr later ↦ inr (contains_next (segment_key kind x) key (map (segment_key kind) xs) later)
       ],
@@ -135,7 +140,8 @@ pins_more kind (x ∷ xs) pins key =
     )
 
 -- a key that no segment has is none that is added
-pub none_added : (kind : Kind) (key : List ℕ) (segments : List Segment) → (Contains (map (segment_key kind) segments) key → ⊥) → AllByRecursion (λ s. segment_key kind s ≢ key) segments
+pub none_added : (kind : Kind) (key : List ℕ) (segments : List Segment) → (Contains (map (segment_key kind) segments) key → ⊥)
+    → AllByRecursion (λ s. segment_key kind s ≢ key) segments
 none_added kind key [] none = tt
 none_added kind key (x ∷ xs) none = (
   λ same. none (subst (λ (k : List ℕ). Contains (segment_key kind x ∷ map (segment_key kind) xs) k) same (contains_head (segment_key kind x) (map (segment_key kind) xs))),
@@ -143,7 +149,8 @@ none_added kind key (x ∷ xs) none = (
 )
 
 -- a root that is stored is that of the empty file, or is pinned
-pub stored_pin : (pins : PinMap) (root : Root) → IsStored pins root → (root.length ≡ 0) ⊎ (has_pin pins (root_key root) (record { level = root.level; length = root.length }) ≡ true)
+pub stored_pin : (pins : PinMap) (root : Root) → IsStored pins root → (root.length ≡ 0)
+    ⊎ (has_pin pins (root_key root) (record { level = root.level; length = root.length }) ≡ true)
 stored_pin pins root (inl empty) = inl (ap (λ (r : Root). r.length) empty)
 stored_pin pins root (inr pinned) = inr pinned
 
@@ -175,7 +182,8 @@ module _ (among : ByteSet) (s : Store) (stored : Stored) (old new : CoreState) (
 
   -- ---- a claim
 
-  none_marked : (c : Collection) (live : LiveKeys) → Marks (λ key. ⊥) c.live live → new.parts ≡ old.parts → KeepsBoth at.index at.index s s old.parts new.parts image image c (record c { live = live })
+  none_marked : (c : Collection) (live : LiveKeys) → Marks (λ key. ⊥) c.live live → new.parts ≡ old.parts
+      → KeepsBoth at.index at.index s s old.parts new.parts image image c (record c { live = live })
   none_marked c live marks same =
       subst (λ (p : List Part). KeepsBoth at.index at.index s s old.parts p image image c (record c { live = live })) (sym same) (unseen at.index s old.parts image c live marks)
 
@@ -201,25 +209,32 @@ module _ (among : ByteSet) (s : Store) (stored : Stored) (old new : CoreState) (
       (λ c live ran marks. none_marked c live marks row.1) collects
   claimed_here seg answer row collects core holds = absurd row
 
-  pub claim_safe : (seg : KindSegment) (answer : Result Answer Refusal) → ClaimRow seg actor answer old new → Rests answer old new → Collects (asked.Claim seg) answer old new → IsSafeFor at.index s stored new
+  pub claim_safe : (seg : KindSegment) (answer : Result Answer Refusal) → ClaimRow seg actor answer old new → Rests answer old new → Collects (asked.Claim seg) answer old new
+      → IsSafeFor at.index s stored new
   claim_safe seg answer row effect collects after told core holds =
       let same : image ≡ after = one_list image after (sym here ∙ sym effect.disk.only.content_is ∙ told) in
       subst (λ (bytes : List ℕ). IsSafeIn at.index s new.parts bytes new.collection) same
-      (claimed_here seg answer row collects (subst (CoreInvariant at.index s stored.files new.parts) (sym same) core) (subst (IsStoreOf s stored.files) (sym same) holds) (at.safe image here))
+      (claimed_here seg answer row collects (subst (CoreInvariant at.index s stored.files new.parts) (sym same) core) (subst (IsStoreOf s stored.files) (sym same) holds)
+      (at.safe image here))
 
   -- ---- a seal
 
   -- one that is refused changes the image alone
-  pub unsealed_safe : (filled : Contents) (refusal : Refusal) → SealRow filled actor (Err refusal) old new → Collects (asked.Seal filled) (Err refusal) old new → (after : List ℕ) → KeepsCopies (HasKey at.index) s image s after
+  pub unsealed_safe : (filled : Contents) (refusal : Refusal) → SealRow filled actor (Err refusal) old new → Collects (asked.Seal filled) (Err refusal) old new → (after : List ℕ)
+      → KeepsCopies (HasKey at.index) s image s after
       → IsSafeIn at.index s new.parts after new.collection
   unsealed_safe filled refusal row collects after keeps =
       marked_safe at.index at.index s s old.parts new.parts image after (IsKeptKey (asked.Seal filled) (Err refusal)) old.collection new.collection
-      (λ c live ran marks. both_on at.index at.index at.index s s s old.parts old.parts new.parts image after after c c (record c { live = live }) (kept at.index s image after old.parts c keeps)
-      (subst (λ (p : List Part). KeepsBoth at.index at.index s s old.parts p after after c (record c { live = live })) (sym row.1) (unseen at.index s old.parts after c live marks))) collects (at.safe image here)
+      (λ c live ran marks. both_on at.index at.index at.index s s s old.parts old.parts new.parts image after after c c (record c { live = live })
+      (kept at.index s image after old.parts c keeps)
+      (subst (λ (p : List Part). KeepsBoth at.index at.index s s old.parts p after after c (record c { live = live })) (sym row.1)
+      (unseen at.index s old.parts after c live marks))) collects (at.safe image here)
 
-  pub sealed_safe_in : (filled : Contents) (id : ℕ) → SealRow filled actor (Ok (answers.Sealed id)) old new → SealsOne filled (Ok (answers.Sealed id)) old new → Collects (asked.Seal filled) (Ok (answers.Sealed id)) old new
+  pub sealed_safe_in : (filled : Contents) (id : ℕ) → SealRow filled actor (Ok (answers.Sealed id)) old new → SealsOne filled (Ok (answers.Sealed id)) old new
+      → Collects (asked.Seal filled) (Ok (answers.Sealed id)) old new
       → (then : PlaceMap) → new.known ≡ Some then → (after : List ℕ) → CoreInvariant then (with_sealed (next_id old) filled.kind filled.segments s) stored.files new.parts after
-      → IsStoreOf (with_sealed (next_id old) filled.kind filled.segments s) stored.files after → KeepsCopies (HasKey at.index) s image (with_sealed (next_id old) filled.kind filled.segments s) after
+      → IsStoreOf (with_sealed (next_id old) filled.kind filled.segments s) stored.files after
+      → KeepsCopies (HasKey at.index) s image (with_sealed (next_id old) filled.kind filled.segments s) after
       → IsSafeIn then (with_sealed (next_id old) filled.kind filled.segments s) new.parts after new.collection
   sealed_safe_in filled id row effect collects then then_is after core holds keeps =
       let may = row.may in
@@ -229,13 +244,16 @@ module _ (among : ByteSet) (s : Store) (stored : Stored) (old new : CoreState) (
       let here_core = subst (λ (p : List Part). CoreInvariant then t stored.files p after) row.parts_are core in
       marked_safe at.index then s t old.parts new.parts image after (IsKeptKey (asked.Seal filled) (Ok (answers.Sealed id))) old.collection new.collection
       (λ c live ran marks. subst (λ (p : List Part). KeepsBoth at.index then s t old.parts p image after c (record c { live = live })) (sym row.parts_are)
-      (sealed_safe s (next_id old) filled (effect.made.can.store_has s at.represents at.valid (at.invariant image here).has_free) at.index then (effect.made.keeps_keys at.index at.index_known then then_is)
+      (sealed_safe s (next_id old) filled (effect.made.can.store_has s at.represents at.valid (at.invariant image here).has_free) at.index then
+      (effect.made.keeps_keys at.index at.index_known then then_is)
       (λ key none. effect.made.keeps_others at.index at.index_known then then_is key (none_added filled.kind key filled.segments none)) core.index_is_newest
-      image after stored.files old.parts c live actor may.pins more (subst (IsUnderWayIn old.tables.held) ran at.under_way).began (omega (arith, within, at.many)) within may.writing marks (pins_more filled.kind filled.segments may.pins) keeps here_core holds)) collects (at.safe image here)
+      image after stored.files old.parts c live actor may.pins more (subst (IsUnderWayIn old.tables.held) ran at.under_way).began
+      (omega (arith, within, at.many)) within may.writing marks (pins_more filled.kind filled.segments may.pins) keeps here_core holds)) collects (at.safe image here)
 
   -- ---- a name
 
-  pub committed_safe : (name : List ℕ) (root : Root) → CommitRow name root actor (Ok (answers.Committed (suc old.tables.journal.last))) old new → new.known ≡ old.known → new.collection ≡ old.collection
+  pub committed_safe : (name : List ℕ) (root : Root) → CommitRow name root actor (Ok (answers.Committed (suc old.tables.journal.last))) old new → new.known ≡ old.known
+      → new.collection ≡ old.collection
       → (then : PlaceMap) → new.known ≡ Some then → (after : List ℕ) → KeepsCopies (HasKey at.index) s image (with_change name (Put root) s) after
       → IsSafeIn then (with_change name (Put root) s) new.parts after new.collection
   committed_safe name root row index collects then then_is after keeps =
@@ -246,7 +264,8 @@ module _ (among : ByteSet) (s : Store) (stored : Stored) (old new : CoreState) (
       subst (λ (m : PlaceMap). IsSafeIn m t new.parts after new.collection) same
       (unchanged_safe at.index at.index s t old.parts new.parts image after old.collection new.collection
       (λ c. subst (λ (p : List Part). KeepsBoth at.index at.index s t old.parts p image after c c) (sym row.2)
-      (committed at.index s image after old.parts c name at.valid.follow root actor may.pins (omega (arith, within, at.many)) may.writing (stored_pin may.pins root may.stored) keeps)) collects (at.safe image here))
+      (committed at.index s image after old.parts c name at.valid.follow root actor may.pins (omega (arith, within, at.many)) may.writing
+      (stored_pin may.pins root may.stored) keeps)) collects (at.safe image here))
 
   pub deleted_safe : (name : List ℕ) → new.parts ≡ old.parts → new.known ≡ old.known → new.collection ≡ old.collection
       → (then : PlaceMap) → new.known ≡ Some then → (after : List ℕ) → KeepsCopies (HasKey at.index) s image (with_change name Delete s) after
@@ -256,7 +275,8 @@ module _ (among : ByteSet) (s : Store) (stored : Stored) (old new : CoreState) (
       let same : at.index ≡ then = one_map_at at.index then (sym at.index_known ∙ sym index ∙ then_is) in
       subst (λ (m : PlaceMap). IsSafeIn m t new.parts after new.collection) same
       (unchanged_safe at.index at.index s t old.parts new.parts image after old.collection new.collection
-      (λ c. subst (λ (p : List Part). KeepsBoth at.index at.index s t old.parts p image after c c) (sym parts) (deleted at.index s image after old.parts c name at.valid.follow keeps)) collects (at.safe image here))
+      (λ c. subst (λ (p : List Part). KeepsBoth at.index at.index s t old.parts p image after c c) (sym parts)
+      (deleted at.index s image after old.parts c name at.valid.follow keeps)) collects (at.safe image here))
 
   -- ---- a collection begins
 
@@ -282,4 +302,5 @@ module _ (among : ByteSet) (s : Store) (stored : Stored) (old new : CoreState) (
   pub begun_safe : (percent : ℕ) (answer : Result Answer Refusal) → StartRow percent answer old new → Rests answer old new → IsSafeFor at.index s stored new
   begun_safe percent answer row effect after told core holds =
       let same : image ≡ after = one_list image after (sym here ∙ sym effect.disk.only.content_is ∙ told) in
-      subst (λ (bytes : List ℕ). IsSafeIn at.index s new.parts bytes new.collection) same (begun_here percent answer row (subst (IsStoreOf s stored.files) (sym same) holds) (at.safe image here))
+      subst (λ (bytes : List ℕ). IsSafeIn at.index s new.parts bytes new.collection) same
+      (begun_here percent answer row (subst (IsStoreOf s stored.files) (sym same) holds) (at.safe image here))

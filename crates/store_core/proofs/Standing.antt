@@ -75,7 +75,8 @@ rises_here : (s : Store) (last : ℕ) (given : List ℕ) → Rises s s last last
 rises_here s last given = record { rises = omega arith; there = λ slot h there. inl there; bytes = λ slot h there still. refl }
 
 -- What stands at the end stood between: it is not newer than the last id of the first.
-rises_on : (s m t : Store) (last mid then : ℕ) (given between new : List ℕ) → last_id s.held ≤ last → Rises s m last mid given between → Rises m t mid then between new → Rises s t last then given new
+rises_on : (s m t : Store) (last mid then : ℕ) (given between new : List ℕ) → last_id s.held ≤ last → Rises s m last mid given between → Rises m t mid then between new
+    → Rises s t last then given new
 rises_on s m t last mid then given between new below first rest = record {
   rises = omega (arith, first.rises, rest.rises);
   there = λ slot h there. elim (rest.there slot h there) [
@@ -101,8 +102,14 @@ module _ (s t : Store) (last then : ℕ) (given new : List ℕ) (many : length s
   }
 
   -- a container is written to the first that was closed
-  filled_rises : (h : HeaderValue) → t.held ≡ with_slot (first_free s.held) h s.held → HasFree s.held → last < h.id → SameButSlotOf s.slots (first_free s.held) given new → Rises s t last then given new
-  filled_rises h held free newer same = record { rises = rises; there = by_slot; bytes = λ slot g there still. other_slot slot (within slot g there) (nat_lt slot (first_free s.held)) refl (not_place slot g there) }
+  filled_rises : (h : HeaderValue) → t.held ≡ with_slot (first_free s.held) h s.held → HasFree s.held → last < h.id → SameButSlotOf s.slots (first_free s.held) given new
+      → Rises s t last then given new
+  filled_rises h held free newer same = record {
+    rises = rises;
+    there = by_slot;
+    bytes = λ slot g there still. other_slot slot (within slot g there)
+        (nat_lt slot (first_free s.held)) refl (not_place slot g there);
+  }
     where
       by_slot : (slot : ℕ) (g : HeaderValue) → slice_get t.held slot ≡ Some (Some g) → (slice_get s.held slot ≡ Some (Some g)) ⊎ (last < g.id)
       by_slot slot g there = elim (was_or_is s.held h free slot g (ap (λ (cs : List (Option HeaderValue)). slice_get cs slot) (sym held) ∙ there)) [
@@ -113,7 +120,8 @@ module _ (s t : Store) (last then : ℕ) (given new : List ℕ) (many : length s
       not_place : (slot : ℕ) (g : HeaderValue) → slice_get s.held slot ≡ Some (Some g) → slot ≢ first_free s.held
       not_place slot g there is = some_not_none g (sym there ∙ ap (slice_get s.held) is ∙ first_none s.held free)
 
-      other_slot : (slot : ℕ) → slot < s.slots → (below : Bool) → nat_lt slot (first_free s.held) ≡ below → slot ≢ first_free s.held → range (slot_at slot) SLOT_BYTES new ≡ range (slot_at slot) SLOT_BYTES given
+      other_slot : (slot : ℕ) → slot < s.slots → (below : Bool) → nat_lt slot (first_free s.held) ≡ below → slot ≢ first_free s.held
+          → range (slot_at slot) SLOT_BYTES new ≡ range (slot_at slot) SLOT_BYTES given
       other_slot slot low true is differ = same.before (slot_at slot) SLOT_BYTES (omega (arith, ltb-true slot (first_free s.held) is))
       other_slot slot low false is differ = same.after (slot_at slot) SLOT_BYTES (omega (arith, ltb-false slot (first_free s.held) is, differ)) (omega (arith, low))
 
@@ -134,7 +142,8 @@ module _ (s t : Store) (last then : ℕ) (given new : List ℕ) (many : length s
 
 -- ---- one step
 
-module _ (among : ByteSet) (s t : Store) (stored later : Stored) (old new : CoreState) (at : IsAt (IsIn among) s stored old) (settled : IsSettled old.tables.slots old.disk) (after : IsAt (IsIn among) t later new) (stays : new.stop ≡ None) where
+module _ (among : ByteSet) (s t : Store) (stored later : Stored) (old new : CoreState) (at : IsAt (IsIn among) s stored old) (settled : IsSettled old.tables.slots old.disk)
+    (after : IsAt (IsIn among) t later new) (stays : new.stop ≡ None) where
   abbrev given : List ℕ
   given = at.stands.known.0
 
@@ -162,7 +171,8 @@ module _ (among : ByteSet) (s t : Store) (stored later : Stored) (old new : Core
   -- where store and tables stay, and all that counts of the disk
   counts_rose : t ≡ s → new.tables ≡ old.tables → Counts → Rose
   counts_rose store tables same =
-      same_rises s t old.tables.held.last_id new.tables.held.last_id given now at.valid.many (omega (arith, ap (λ (x : Tables). x.held.last_id) tables)) (ap (λ (x : Store). x.held) store)
+      same_rises s t old.tables.held.last_id new.tables.held.last_id given now at.valid.many (omega (arith, ap (λ (x : Tables). x.held.last_id) tables))
+      (ap (λ (x : Store). x.held) store)
       (λ slot low. same.before (slot_at slot) SLOT_BYTES (omega (arith, low)))
 
   reads_count : OnlyReads old.disk new.disk → Counts
@@ -177,16 +187,19 @@ module _ (among : ByteSet) (s t : Store) (stored later : Stored) (old new : Core
       (subst (λ (o : Option (List ℕ)). Both (SameBefore (slot_at s.slots)) o new.disk.content) known both_are)
 
   -- where a container was refused
-  left_count : (step : StepValue) (refusal : Refusal) → StopsAfter step (Err refusal) old.acknowledged new.stop → Left old.tables.slots (ending_of (blames refusal)) old.disk new.disk → Counts
+  left_count : (step : StepValue) (refusal : Refusal) → StopsAfter step (Err refusal) old.acknowledged new.stop
+      → Left old.tables.slots (ending_of (blames refusal)) old.disk new.disk → Counts
   left_count step refusal stops left = by_refusal step refusal stops (subst (λ (n : ℕ). Left n (ending_of (blames refusal)) old.disk new.disk) at.represents.slots_are left)
     where
-      by_refusal : (step : StepValue) (refusal : Refusal) → StopsAfter step (Err refusal) old.acknowledged new.stop → Left s.slots (ending_of (blames refusal)) old.disk new.disk → Counts
+      by_refusal : (step : StepValue) (refusal : Refusal) → StopsAfter step (Err refusal) old.acknowledged new.stop → Left s.slots (ending_of (blames refusal)) old.disk new.disk
+          → Counts
       by_refusal step refusals.DiskWrite stops left = absurd (let both = sym stays ∙ stops in cc)
       by_refusal step refusals.DiskRead stops left = both_count left.content_is
       by_refusal step refusal stops left = both_count left.content_is
 
   -- a container is written
-  slot_rose : (h : HeaderValue) → t.held ≡ with_slot (first_free s.held) h s.held → old.tables.held.last_id < h.id → old.tables.held.last_id ≤ new.tables.held.last_id → ChangesSlotAlone old.tables.slots (first_free s.held) old.disk new.disk → Rose
+  slot_rose : (h : HeaderValue) → t.held ≡ with_slot (first_free s.held) h s.held → old.tables.held.last_id < h.id → old.tables.held.last_id ≤ new.tables.held.last_id
+      → ChangesSlotAlone old.tables.slots (first_free s.held) old.disk new.disk → Rose
   slot_rose h held newer rises frame =
       let here = subst (λ (n : ℕ). ChangesSlotAlone n (first_free s.held) old.disk new.disk) at.represents.slots_are frame in
       let same = (here.settled settled_here given known).0 in
@@ -194,7 +207,8 @@ module _ (among : ByteSet) (s t : Store) (stored later : Stored) (old new : Core
       (subst (SameButSlotOf s.slots (first_free s.held) given) (one_list same.0 now (sym same.1 ∙ told)) same.2)
 
   -- a name is given a root, or taken away
-  names_rose : (name : List ℕ) (change : Change) (answer : Answer) → NamesOne name change (Ok answer) old new → t ≡ with_change name change s → new.tables.held ≡ old.tables.held → Rose
+  names_rose : (name : List ℕ) (change : Change) (answer : Answer) → NamesOne name change (Ok answer) old new → t ≡ with_change name change s → new.tables.held ≡ old.tables.held
+      → Rose
   names_rose name change answer effect store held =
       same_rises s t old.tables.held.last_id new.tables.held.last_id given now at.valid.many (omega (arith, ap (λ x. x.last_id) held)) (ap (λ (x : Store). x.held) store)
       (by_image ((effect.frame.leaves given known).now now (new.disk.as_read now told)))
@@ -202,7 +216,8 @@ module _ (among : ByteSet) (s t : Store) (stored later : Stored) (old new : Core
       low : old.tables.journal.half ≤ 1
       low = subst (λ (n : ℕ). n ≤ 1) (sym at.represents.names_are.half) at.valid.selector_right.half
 
-      by_image : SteppedFrom (ChangesBytes old.tables name change given) old.disk now → (slot : ℕ) → slot < s.slots → range (slot_at slot) SLOT_BYTES now ≡ range (slot_at slot) SLOT_BYTES given
+      by_image : SteppedFrom (ChangesBytes old.tables name change given) old.disk now → (slot : ℕ) → slot < s.slots
+          → range (slot_at slot) SLOT_BYTES now ≡ range (slot_at slot) SLOT_BYTES given
       by_image (inl image) slot below = (settled_here given known now image).before (slot_at slot) SLOT_BYTES (omega (arith, below))
       by_image (inr stepped) slot below =
           (record_alone old.tables.journal stepped.0 now low stepped.2.same).slots (slot_at slot) SLOT_BYTES (omega arith)
@@ -211,13 +226,15 @@ module _ (among : ByteSet) (s t : Store) (stored later : Stored) (old new : Core
   rests_rose : (answer : Result Answer Refusal) → Rests answer old new → t ≡ s → Rose
   rests_rose answer effect store = reads_rose store effect.tables.tables_are effect.disk.only
 
-  seal_rose : (id : ℕ) (filled : Contents) (answer : Answer) → SealsOne filled (Ok answer) old new → t.held ≡ with_slot (first_free s.held) (header_of id filled.kind filled.segments) s.held → id ≡ old.tables.held.last_id + 1
+  seal_rose : (id : ℕ) (filled : Contents) (answer : Answer) → SealsOne filled (Ok answer) old new
+      → t.held ≡ with_slot (first_free s.held) (header_of id filled.kind filled.segments) s.held → id ≡ old.tables.held.last_id + 1
       → new.tables.held.last_id ≡ id → Rose
   seal_rose id filled answer effect held id_is last_is =
       slot_rose (header_of id filled.kind filled.segments) held (omega (arith, id_is)) (omega (arith, id_is, last_is)) (effect.moves.frame.store_has s at.represents at.valid free)
 
   -- of another kind than those of a collection
-  other_rose : (actor : ℕ) (buf : List ℕ) (step : StepValue) (answer : Result Answer Refusal) → IsNoGcStep step → Row step actor answer buf old new → Effect step answer old new → StopsAfter step answer old.acknowledged new.stop
+  other_rose : (actor : ℕ) (buf : List ℕ) (step : StepValue) (answer : Result Answer Refusal) → IsNoGcStep step → Row step actor answer buf old new → Effect step answer old new
+      → StopsAfter step answer old.acknowledged new.stop
       → ChangesTo (changes_by step answer) s t → Rose
   other_rose actor buf asked.GcStep answer other row effect stops chain = absurd other
   other_rose actor buf (asked.Seal filled) (Ok (answers.Sealed id)) other row effect stops chain =
@@ -225,7 +242,8 @@ module _ (among : ByteSet) (s t : Store) (stored later : Stored) (old new : Core
   other_rose actor buf (asked.Seal filled) (Err refusal) other row effect stops chain =
       counts_rose chain (seal_kept old new stays filled refusal old.acknowledged stops effect.kept).tables_are (left_count (asked.Seal filled) refusal stops effect.disk.left)
   other_rose actor buf (asked.Seal filled) answer other row effect stops chain = absurd row
-  other_rose actor buf (asked.Commit name root) (Ok (answers.Committed sequence)) other row effect stops chain = names_rose name (Put root) (answers.Committed sequence) effect chain.1 row.3
+  other_rose actor buf (asked.Commit name root) (Ok (answers.Committed sequence)) other row effect stops chain = names_rose name (Put root)
+      (answers.Committed sequence) effect chain.1 row.3
   other_rose actor buf (asked.Commit name root) (Err refusal) other row effect stops chain =
       reads_rose chain effect.kept.tables_are (only_reads old new stays (asked.Commit name root) refusal stops effect.disk.ends)
   other_rose actor buf (asked.Commit name root) answer other row effect stops chain = absurd row
@@ -256,7 +274,8 @@ module _ (among : ByteSet) (s t : Store) (stored later : Stored) (old new : Core
   id_in c id = id_there (with_copies c id) (first_free s.held) (copies_of c id) (first_with (copies_of c id) s.held free)
 
   -- copies are written: the tables are those of the store with a container of the next id
-  flush_rose : (c : Collection) (id slot : ℕ) → t.held ≡ with_copies c id → WritesCopies old.tables old.disk.size old.known slot c.sweep.buffer new.tables → ChangesSlotAlone old.tables.slots (first_free s.held) old.disk new.disk → Rose
+  flush_rose : (c : Collection) (id slot : ℕ) → t.held ≡ with_copies c id → WritesCopies old.tables old.disk.size old.known slot c.sweep.buffer new.tables
+      → ChangesSlotAlone old.tables.slots (first_free s.held) old.disk new.disk → Rose
   flush_rose c id slot held writes frame = slot_rose (copies_of c id) held (omega (arith, next_is)) (omega (arith, writes.written.last_is)) frame
     where
       ids : ids_of (with_copies c (old.tables.held.last_id + 1)) ≡ ids_of t.held
@@ -267,7 +286,8 @@ module _ (among : ByteSet) (s t : Store) (stored later : Stored) (old new : Core
           sym (id_in c id) ∙ ap (λ (cs : List (Option HeaderValue)). get_or (ids_of cs) (first_free s.held) 0) (sym held)
           ∙ ap (λ (l : List ℕ). get_or l (first_free s.held) 0) (sym ids) ∙ id_in c (old.tables.held.last_id + 1)
 
-  stage_rose : (c a : Collection) (stage : Stage) (next : Next) → IsStoreAfter stage next c.snapshot c.sweep at.index s t given → TablesAfter stage next (at_moment old c) (at_moment new a) → Touches stage next c.sweep old.tables Done old.disk new.disk
+  stage_rose : (c a : Collection) (stage : Stage) (next : Next) → IsStoreAfter stage next c.snapshot c.sweep at.index s t given
+      → TablesAfter stage next (at_moment old c) (at_moment new a) → Touches stage next c.sweep old.tables Done old.disk new.disk
       → Rose
   stage_rose c a (Mark level slot) next same tables touches = reads_rose same tables touches.only
   stage_rose c a (Filter slot) next same tables touches = reads_rose same tables touches.only
@@ -284,7 +304,8 @@ module _ (among : ByteSet) (s t : Store) (stored later : Stored) (old new : Core
   gc_broken : StopsAfter asked.GcStep (Err refusals.DiskWrite) old.acknowledged new.stop → ⊥
   gc_broken is = let both = sym stays ∙ is in cc
 
-  refused_count : (c : Collection) (stage : Stage) (next : Next) (refusal : Refusal) → StopsAfter asked.GcStep (Err refusal) old.acknowledged new.stop → IsStepRefusal stage next (at_moment old c) new.disk refusal
+  refused_count : (c : Collection) (stage : Stage) (next : Next) (refusal : Refusal) → StopsAfter asked.GcStep (Err refusal) old.acknowledged new.stop
+      → IsStepRefusal stage next (at_moment old c) new.disk refusal
       → Touches stage next c.sweep old.tables (ending_of (blames refusal)) old.disk new.disk → Counts
   refused_count c (Mark level slot) next refusal stops cause touches = reads_count touches.only
   refused_count c (Filter slot) next refusal stops cause touches = reads_count touches.only
@@ -295,24 +316,28 @@ module _ (among : ByteSet) (s t : Store) (stored later : Stored) (old new : Core
       absurd (gc_broken (subst (λ (x : Refusal). StopsAfter asked.GcStep (Err x) old.acknowledged new.stop) cause stops))
   refused_count c SweepStage End refusal stops cause touches = absurd cause
 
-  refused_rose : (refusal : Refusal) → StopsAfter asked.GcStep (Err refusal) old.acknowledged new.stop → t ≡ s → IsNotMade refusal old new → TouchesBy old.collection (Err refusal) old new.disk → Rose
+  refused_rose : (refusal : Refusal) → StopsAfter asked.GcStep (Err refusal) old.acknowledged new.stop → t ≡ s → IsNotMade refusal old new
+      → TouchesBy old.collection (Err refusal) old new.disk → Rose
   refused_rose refusal stops store row touches =
       let c = row.before in
       counts_rose store row.tables_are
       (refused_count c c.stage c.sweep.next refusal stops row.cause (subst (λ (o : Option Collection). TouchesBy o (Err refusal) old new.disk) row.ran touches))
 
 -- the files are those of before
-module _ (among : ByteSet) (s t : Store) (stored : Stored) (old new : CoreState) (at : IsAt (IsIn among) s stored old) (settled : IsSettled old.tables.slots old.disk) (after : IsAt (IsIn among) t stored new) (stays : new.stop ≡ None) where
+module _ (among : ByteSet) (s t : Store) (stored : Stored) (old new : CoreState) (at : IsAt (IsIn among) s stored old) (settled : IsSettled old.tables.slots old.disk)
+    (after : IsAt (IsIn among) t stored new) (stays : new.stop ≡ None) where
   abbrev GcRose : Type 0
   GcRose = Rises s t old.tables.held.last_id new.tables.held.last_id at.stands.known.0 after.stands.known.0
 
   did_rose : (phase : Phase) → GoesOn phase old new → GcEffect (Ok (answers.Did phase)) old new → GcRose
   did_rose phase goes effect =
       let c = goes.before in
-      stage_rose among s t stored stored old new at settled after stays c goes.after c.stage c.sweep.next (led_to among s stored old new at t after phase goes effect.touches effect.later) goes.tables
+      stage_rose among s t stored stored old new at settled after stays c goes.after c.stage c.sweep.next
+      (led_to among s stored old new at t after phase goes effect.touches effect.later) goes.tables
       (subst (λ (o : Option Collection). TouchesBy o (Ok (answers.Did phase)) old new.disk) goes.ran effect.touches)
 
-  gc_rose : (answer : Result Answer Refusal) (changes : List StoreChange) → GcRow answer old new → GcEffect answer old new → StopsAfter asked.GcStep answer old.acknowledged new.stop → AreChangesBy asked.GcStep answer changes → ChangesTo changes s t → GcRose
+  gc_rose : (answer : Result Answer Refusal) (changes : List StoreChange) → GcRow answer old new → GcEffect answer old new
+      → StopsAfter asked.GcStep answer old.acknowledged new.stop → AreChangesBy asked.GcStep answer changes → ChangesTo changes s t → GcRose
   gc_rose (Ok (answers.Did phase)) changes row effect stops are chain = did_rose phase row.0 effect
   gc_rose (Ok (answers.Done freed copied)) changes row effect stops are chain =
       let touched = subst (λ (o : Option Collection). TouchesBy o (Ok (answers.Done freed copied)) old new.disk) row.0.ran effect.touches in
@@ -326,20 +351,24 @@ module _ (among : ByteSet) (s t : Store) (stored : Stored) (old new : CoreState)
   gc_rose answer changes row effect stops are chain = absurd row
 
 -- a step of a run, whichever it is
-step_rose : (among : ByteSet) (f : FileEvent) (s : Store) (stored : Stored) (old new : CoreState) (at : IsAt (IsIn among) s stored old) → IsSettled old.tables.slots old.disk → FileStep (IsIn among) f old new
+step_rose : (among : ByteSet) (f : FileEvent) (s : Store) (stored : Stored) (old new : CoreState) (at : IsAt (IsIn among) s stored old) → IsSettled old.tables.slots old.disk
+    → FileStep (IsIn among) f old new
     → (leads : Leads (IsIn among) s f (stored_by f stored) old new) → new.stop ≡ None
     → Rises s leads.next.store old.tables.held.last_id new.tables.held.last_id at.stands.known.0 leads.next.is_at.stands.known.0
 step_rose among f s stored old new at settled step leads stays = elim (gc_or_not f.event.step) [
   | inl gc ↦ by_gc f.event.step gc steps leads.next.is_at leads.changes_are
   | inr other ↦
-      other_rose among s leads.next.store stored (stored_by f stored) old new at settled leads.next.is_at stays f.event.actor f.event.buf f.event.step f.event.answer other steps.made.row steps.made.effect steps.stops
-      (subst (λ (changes : List StoreChange). ChangesTo changes s leads.next.store) (changes_only f.event.step f.event.answer leads.changes other leads.changes_are) leads.next.chain)
+      other_rose among s leads.next.store stored
+      (stored_by f stored) old new at settled leads.next.is_at stays f.event.actor f.event.buf f.event.step f.event.answer other steps.made.row steps.made.effect steps.stops
+      (subst (λ (changes : List StoreChange). ChangesTo changes s leads.next.store)
+      (changes_only f.event.step f.event.answer leads.changes other leads.changes_are) leads.next.chain)
 ]
   where
     steps : Steps f.event old new
     steps = running_step old new f.event (was_running old.stop f.event old new refl step.made stays) step.made
 
-    by_gc : (st : StepValue) → st ≡ asked.GcStep → Steps (with_step f st).event old new → (after : IsAt (IsIn among) leads.next.store (stored_with st f.event.answer f.bytes stored) new)
+    by_gc : (st : StepValue) → st ≡ asked.GcStep → Steps (with_step f st).event old new
+        → (after : IsAt (IsIn among) leads.next.store (stored_with st f.event.answer f.bytes stored) new)
         → AreChangesBy st f.event.answer leads.changes → Rises s leads.next.store old.tables.held.last_id new.tables.held.last_id at.stands.known.0 after.stands.known.0
     by_gc asked.GcStep is made after are =
         gc_rose among s leads.next.store stored old new at settled after stays f.event.answer leads.changes made.made.row made.made.effect made.stops are leads.next.chain
@@ -354,8 +383,10 @@ record RisesOn (among : ByteSet) (s : Store) (stored : Stored) (last : ℕ) (giv
   pub rose : Rises s store last c.tables.held.last_id given is_at.stands.known.0
 
 module _ (C : Type 0) (state : C → CoreState) where
-  run_rose : (among : ByteSet) (steps : List FileEvent) (s : Store) (stored : Stored) (old new : C) → HasNoCollisions (IsIn among) → (at : IsAt (IsIn among) s stored (state old)) → IsSettled (state old).tables.slots (state old).disk
-      → FileRun C state (IsIn among) steps old new → (state new).stop ≡ None → RisesOn among s (stored_after steps stored) (state old).tables.held.last_id at.stands.known.0 (state new)
+  run_rose : (among : ByteSet) (steps : List FileEvent) (s : Store) (stored : Stored) (old new : C) → HasNoCollisions (IsIn among) → (at : IsAt (IsIn among) s stored (state old))
+      → IsSettled (state old).tables.slots (state old).disk
+      → FileRun C state (IsIn among) steps old new → (state new).stop ≡ None
+      → RisesOn among s (stored_after steps stored) (state old).tables.held.last_id at.stands.known.0 (state new)
   run_rose among [] s stored old new distinct at settled run stays =
       subst (λ (c : C). RisesOn among s stored (state old).tables.held.last_id at.stands.known.0 (state c)) (sym run)
       (record { store = s; is_at = at; rose = rises_here s (state old).tables.held.last_id at.stands.known.0 })
@@ -365,11 +396,13 @@ module _ (C : Type 0) (state : C → CoreState) where
       let runs = run_running C state among (f ∷ fs) old new run stays in
       let leads = any_step among distinct f s stored (state old) (state mid) run.1.0 at going in
       let first = step_rose among f s stored (state old) (state mid) at settled run.1.0 leads going in
-      let rest = run_rose among fs leads.next.store (stored_by f stored) mid new distinct leads.next.is_at (settled_step among distinct f s stored (state old) (state mid) at settled run.1.0 leads runs going) run.1.1 stays in
+      let rest = run_rose among fs leads.next.store (stored_by f stored) mid new distinct leads.next.is_at
+      (settled_step among distinct f s stored (state old) (state mid) at settled run.1.0 leads runs going) run.1.1 stays in
       record {
         store = rest.store;
         is_at = rest.is_at;
-        rose = rises_on s leads.next.store rest.store (state old).tables.held.last_id (state mid).tables.held.last_id (state new).tables.held.last_id at.stands.known.0 leads.next.is_at.stands.known.0 rest.is_at.stands.known.0
+        rose = rises_on s leads.next.store rest.store (state old).tables.held.last_id (state mid).tables.held.last_id
+            (state new).tables.held.last_id at.stands.known.0 leads.next.is_at.stands.known.0 rest.is_at.stands.known.0
             at.represents.slots_hold.last_id_is first rest.rose;
       }
 
@@ -380,5 +413,6 @@ module _ (C : Type 0) (state : C → CoreState) where
       let here = on.is_at.stands.known.1 in
       let image = (state new).disk.as_read now here in
       let same : on.store ≡ t = store_once now on.store t (on.is_at.stands.each now image).holds.right (after.stands.each now image).holds.right in
-      let bytes : KeepsStanding s on.store base now = subst (λ (b : List ℕ). KeepsStanding s on.store b now) (one_list at.stands.known.0 base (sym at.stands.known.1 ∙ told)) on.rose.bytes in
+      let bytes : KeepsStanding s on.store base now = subst (λ (b : List ℕ). KeepsStanding s on.store b now)
+      (one_list at.stands.known.0 base (sym at.stands.known.1 ∙ told)) on.rose.bytes in
       (now, here, subst (λ (u : Store). KeepsStanding s u base now) same bytes)

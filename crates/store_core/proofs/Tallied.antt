@@ -31,16 +31,19 @@ stored_same (f ∷ fs) stored all =
 
 module _ (C : Type 0) (state : C → CoreState) where
   -- none runs once it has ended
-  idle_run : (among : ByteSet) (steps : List FileEvent) (s : Store) (stored : Stored) (mid new : C) → HasNoCollisions (IsIn among) → IsAt (IsIn among) s stored (state mid) → FileRun C state (IsIn among) steps mid new
+  idle_run : (among : ByteSet) (steps : List FileEvent) (s : Store) (stored : Stored) (mid new : C) → HasNoCollisions (IsIn among) → IsAt (IsIn among) s stored (state mid)
+      → FileRun C state (IsIn among) steps mid new
       → AreGcSteps steps → (state new).stop ≡ None → (state mid).collection ≡ None → (state new).collection ≡ None
   idle_run among [] s stored mid new distinct at run all stays none = ap (λ (x : C). (state x).collection) run ∙ none
   idle_run among (f ∷ fs) s stored mid new distinct at run all stays none =
       let on : (state run.0).stop ≡ None = run_running C state among fs run.0 new run.1.1 stays in
       idle_run among fs (leads among distinct f s stored (state mid) (state run.0) all.0 run.1.0 at on).next.store stored run.0 new distinct
-      (after among distinct f s stored (state mid) (state run.0) all.0 run.1.0 at on) run.1.1 all.1 stays (idle_on among distinct f s stored (state mid) (state run.0) all.0 run.1.0 at on none)
+      (after among distinct f s stored (state mid) (state run.0) all.0 run.1.0 at on) run.1.1 all.1 stays
+      (idle_on among distinct f s stored (state mid) (state run.0) all.0 run.1.0 at on none)
 
   -- where one runs at the end, none ended
-  pub none_ended : (among : ByteSet) (steps : List FileEvent) (s : Store) (stored : Stored) (mid new : C) (c : Collection) → HasNoCollisions (IsIn among) → IsAt (IsIn among) s stored (state mid)
+  pub none_ended : (among : ByteSet) (steps : List FileEvent) (s : Store) (stored : Stored) (mid new : C) (c : Collection) → HasNoCollisions (IsIn among)
+      → IsAt (IsIn among) s stored (state mid)
       → FileRun C state (IsIn among) steps mid new → AreGcSteps steps → (state new).stop ≡ None → (state new).collection ≡ Some c → NoneEnds (events_of steps)
   none_ended among [] s stored mid new c distinct at run all stays runs = tt
   none_ended among (f ∷ fs) s stored mid new c distinct at run all stays runs =
@@ -74,13 +77,16 @@ module _ (C : Type 0) (state : C → CoreState) where
       let same_first : led.next.store ≡ s = subst (λ (changes : List StoreChange). ChangesTo changes s led.next.store) led.changes_are led.next.chain in
       let here : IsAt (IsIn among) s stored (state mid) = subst (λ (x : Store). IsAt (IsIn among) x stored (state mid)) same_first led.next.is_at in
       let row_first : Begins percent snapshot (state old) (state mid) = begins.made.row.0 in
-      let ends : Steps (ends_with last_actor freed copied last_buf) (state new) (state last) = running_step (state new) (state last) (ends_with last_actor freed copied last_buf) stays ended in
+      let ends : Steps (ends_with last_actor freed copied last_buf) (state new) (state last) = running_step (state new) (state last)
+      (ends_with last_actor freed copied last_buf) stays ended in
       let row : HasEnded freed copied (state new) (state last) = ends.made.row.0 in
       let so : CollectedSo C state among (GivesSpare among s) percent snapshot freed copied steps s stored mid new last run =
-      collects_so C state among (GivesSpare among s) (spare_kept among s) actor last_actor percent snapshot freed copied buf last_buf steps s stored old mid new last distinct at began run
+      collects_so C state among (GivesSpare among s)
+      (spare_kept among s) actor last_actor percent snapshot freed copied buf last_buf steps s stored old mid new last distinct at began run
       (none_ended among steps s stored mid new row.before distinct here run all stays row.ran) ended in
       let did = so.collected in
-      let gives : GivesSpare among s did.changes did.collection did.store (stored_after steps stored) (state new) = so.along row_first.collection row_first.runs all (record { is_at = here; chain = refl }) in
+      let gives : GivesSpare among s did.changes did.collection did.store (stored_after steps stored) (state new) = so.along row_first.collection row_first.runs all
+      (record { is_at = here; chain = refl }) in
       let same : stored_after steps stored ≡ stored = stored_same steps stored all in
       record {
         released = record {

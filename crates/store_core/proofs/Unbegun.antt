@@ -14,7 +14,8 @@ use Rattle.store_core.specs.Collecting.{IsUnbegun}
 use Rattle.store_core.specs.Runs.{IsAt}
 use Rattle.store_core.specs.State.{CoreState}
 
-pub unbegun_memory : (S : List ℕ → Type 0) (s : Store) (stored : Stored) (old new : CoreState) → IsAt S s stored old → (refusal : Refusal) → IsUnbegun refusal old new → refusal ≡ Memory
+pub unbegun_memory : (S : List ℕ → Type 0) (s : Store) (stored : Stored) (old new : CoreState) → IsAt S s stored old → (refusal : Refusal) → IsUnbegun refusal old new
+    → refusal ≡ Memory
 unbegun_memory S s stored old new at refusal row =
     let image : List ℕ = at.stands.known.0 in
     let here : old.disk.content ≡ Some image = at.stands.known.1 in

@@ -19,7 +19,8 @@ pub record WritesCopies (S : List ℕ → Type 0) (f : FileEvent) (old : CoreSta
   pub segments_are : copies.collection.sweep.buffer.segments ≡ segments
 
 -- what one container of copies was, another may be called
-copies_so : (P Q : Kind → List Segment → Type 0) → ((kind : Kind) (segments : List Segment) → P kind segments → Q kind segments) → (change : StoreChange) → IsOfCopies P change → IsOfCopies Q change
+copies_so : (P Q : Kind → List Segment → Type 0) → ((kind : Kind) (segments : List Segment) → P kind segments → Q kind segments) → (change : StoreChange) → IsOfCopies P change
+    → IsOfCopies Q change
 copies_so P Q so (SealContainer id kind segments) is = tt
 copies_so P Q so (ChangeName name change) is = tt
 copies_so P Q so (FlushContainer id kind segments) is = so kind segments is
@@ -57,7 +58,8 @@ module _ (C : Type 0) (state : C → CoreState) (S : List ℕ → Type 0) (f : F
     segments_are = were.segments_are;
   }
 
-  pub copies_then : (first rest : List StoreChange) → AllByRecursion (IsOfCopies First) first → AllByRecursion (IsOfCopies Rest) rest → AllByRecursion (IsOfCopies All) (first ++ rest)
+  pub copies_then : (first rest : List StoreChange) → AllByRecursion (IsOfCopies First) first → AllByRecursion (IsOfCopies Rest) rest
+      → AllByRecursion (IsOfCopies All) (first ++ rest)
   copies_then first rest now then =
       all_then (IsOfCopies All) first rest (each_so (IsOfCopies First) (IsOfCopies All) first (copies_so First All first_were) now)
       (each_so (IsOfCopies Rest) (IsOfCopies All) rest (copies_so Rest All later_were) then)

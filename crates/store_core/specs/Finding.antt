@@ -30,8 +30,8 @@ pub record IsIndexed (s : Store) (index : PlaceMap) (c : CoreState) : Type 0 whe
 abbrev pub AreItsSteps : List Event → Type 0
 AreItsSteps events = AllByRecursion (λ e. e.step ≡ asked.GcStep) events
 
--- A collection frees and copies nothing before it has marked. Once it has, with no other steps between, the index had, as it began, each key
--- of the trees of all names, readers and pins, where no header but the store's was shown in a slot with its digest.
+-- A collection frees and copies nothing before it has marked. Once it has, with no other steps between, the index had, as it began, each
+-- key of the trees of all names, readers and pins, where no header but the store's was shown in a slot with its digest.
 abbrev pub FindsKeys : (C : Type 0) → (C → CoreState) → Type 0
 FindsKeys C state = (actor percent snapshot : ℕ) (buf : List ℕ) (events : List Event) (s : Store) (index : PlaceMap) (old begun new : C)
     (c : Collection) → IsRunning (state old) → (state old).stop ≡ None → IsIndexed s index (state old)
@@ -57,8 +57,8 @@ abbrev pub OnlyReadsBeforeSweep : (C : Type 0) → (C → CoreState) → Type 0
 OnlyReadsBeforeSweep C state = (e : Event) (old new : C) → HasNotSwept (state old) → e.step ≡ asked.GcStep
     → CoreStep (state old) e (state new) → OnlyReads (state old).disk (state new).disk × KeepsTables (state old) (state new)
 
--- A step of anyone while a collection runs that has not begun to sweep: a segment of a tree is a node of its level; and where the step is one
--- of the collection, no header but one of these was shown in its slot with its digest.
+-- A step of anyone while a collection runs that has not begun to sweep: a segment of a tree is a node of its level; and where the step is
+-- one of the collection, no header but one of these was shown in its slot with its digest.
 pub record StepBeforeSweep (held : List (Option HeaderValue)) (e : Event) (old new : CoreState) : Type 0 where
   pub not_swept : HasNotSwept old
   pub is_step : IsStep e.step
@@ -76,9 +76,10 @@ pub record HasFound (roots : RootKeys) (live : LiveKeys) (c : CoreState) : Type 
   pub known_is : c.known ≡ Some index
   pub found : FindsTrees index live (roots ++ roots_of c.tables.names c.parts)
 
--- A collection frees and copies nothing before it sweeps (`OnlyReadsBeforeSweep`). At each moment until then, once it has marked, and also as it
--- begins to sweep, whatever steps others made meanwhile, the index has each key of the trees of all names, readers and pins: of those as it
--- began, and of those at that moment. In no step of it was a header but the store's shown with its digest in a slot that had one as it began.
+-- A collection frees and copies nothing before it sweeps (`OnlyReadsBeforeSweep`). At each moment until then, once it has marked, and also
+-- as it begins to sweep, whatever steps others made meanwhile, the index has each key of the trees of all names, readers and pins: of those
+-- as it began, and of those at that moment. In no step of it was a header but the store's shown with its digest in a slot that had one as
+-- it began.
 abbrev pub FindsKeysMeanwhile : (C : Type 0) → (C → CoreState) → Type 0
 FindsKeysMeanwhile C state = (actor percent snapshot : ℕ) (buf : List ℕ) (events : List Event) (s : Store) (index : PlaceMap)
     (old begun new : C) (c : Collection) → IsRunning (state old) → (state old).stop ≡ None → IsIndexed s index (state old)

@@ -13,7 +13,9 @@ use Rattle.session_turns.proofs.turns.make_turn.Goals as goal
 pub returns-in_err-due-clause-turn : goal.returns-in_err-due-clause-turn
 returns-in_err-due-clause-turn g c =
     let core = c.args.core.now in
-    by_error (λ (r : Result (Option Answer) Refusal). TakesTurn _ g.C.HasState.state c.args.actor r c.args.session.now c.due.new.self core core) c.from_residual.result Memory c.from_residual.ensures.1
+    by_error
+    (λ (r : Result
+    (Option Answer) Refusal). TakesTurn _ g.C.HasState.state c.args.actor r c.args.session.now c.due.new.self core core) c.from_residual.result Memory c.from_residual.ensures.1
     (inl (refl, record { places = c.due.ensures.places; keeps = c.due.ensures.keeps }, refl))
 
 pub returns-in-Nothing-clause-turn : goal.returns-in-Nothing-clause-turn
@@ -44,7 +46,8 @@ pub returns-clause-turn : goal.returns-clause-turn
 returns-clause-turn g c =
     let state = g.C.HasState.state in
     let t = c.due.new.self in
-    let asks = subst (λ (d : _). Asks c.args.actor d t (Ok c.in_ok-answer.answer) (state c.args.core.now) (state c.ask.new.core)) c.in_ok-due.ensures.due c.in_ok-answer.ensures.asks in
+    let asks = subst
+    (λ (d : _). Asks c.args.actor d t (Ok c.in_ok-answer.answer) (state c.args.core.now) (state c.ask.new.core)) c.in_ok-due.ensures.due c.in_ok-answer.ensures.asks in
     record {
       before = t;
       paused = record { places = c.due.ensures.places; keeps = c.due.ensures.keeps };

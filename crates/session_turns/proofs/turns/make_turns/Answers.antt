@@ -18,7 +18,8 @@ returns-in_err-make_turn-clause-turns g c =
 
 pub returns-clause-turns : goal.returns-clause-turns
 returns-clause-turns g c =
-    turns_then_any _ g.C.HasState.state c.args.actor (Unit {0}) (Unit {0}) tt tt c.args.session.now c.loop.session c.make_turn.new.session c.args.core.now c.loop.core c.make_turn.new.core c.loop.invariant.turns
+    turns_then_any _ g.C.HasState.state c.args.actor (Unit {0})
+    (Unit {0}) tt tt c.args.session.now c.loop.session c.make_turn.new.session c.args.core.now c.loop.core c.make_turn.new.core c.loop.invariant.turns
     c.in_ok-make_turn.field-0 c.in_ok-make_turn.ensures.turn
 
 pub loop-preserved : goal.loop-preserved
@@ -27,6 +28,7 @@ loop-preserved g c =
       running = c.in_ok-make_turn.ensures.running;
       ended = c.in_ok-make_turn.ensures.ended ∙ c.loop.invariant.ended;
       count = c.in_ok-make_turn.ensures.count ∙ c.loop.invariant.count;
-      turns = turns_then_any _ g.C.HasState.state c.args.actor (Unit {0}) (Unit {0}) tt tt c.args.session.now c.loop.session c.make_turn.new.session c.args.core.now c.loop.core c.make_turn.new.core c.loop.invariant.turns
+      turns = turns_then_any _ g.C.HasState.state c.args.actor (Unit {0})
+          (Unit {0}) tt tt c.args.session.now c.loop.session c.make_turn.new.session c.args.core.now c.loop.core c.make_turn.new.core c.loop.invariant.turns
           c.in_ok-make_turn.field-0 c.in_ok-make_turn.ensures.turn;
     }

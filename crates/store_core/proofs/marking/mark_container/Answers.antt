@@ -12,7 +12,8 @@ returns-in_ok-keys-in-Some-clause-marks c =
 
 pub returns-in_ok-keys-in-Some-clause-fresh : goal.returns-in_ok-keys-in-Some-clause-fresh
 returns-in_ok-keys-in-Some-clause-fresh c =
-    restores_ok c.args.collection.now c.in-Some.running c.mark_fresh.new.collection c.in-Some.is c.mark_fresh.ensures.others c.deref.result.now c.mark_fresh.result (λ fresh. fresh.items) c.mark_fresh.ensures.ok c.mark_fresh.ensures.fresh
+    restores_ok c.args.collection.now c.in-Some.running c.mark_fresh.new.collection c.in-Some.is c.mark_fresh.ensures.others c.deref.result.now c.mark_fresh.result
+    (λ fresh. fresh.items) c.mark_fresh.ensures.ok c.mark_fresh.ensures.fresh
 
 pub returns-in_ok-keys-in-Some-clause-kept : goal.returns-in_ok-keys-in-Some-clause-kept
 returns-in_ok-keys-in-Some-clause-kept c = marks_kept c.args.collection.now c.in-Some.running c.mark_fresh.new.collection c.in-Some.is c.mark_fresh.ensures.others c.mark_fresh.result c.mark_fresh.ensures.kept

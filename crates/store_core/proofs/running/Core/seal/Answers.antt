@@ -13,7 +13,8 @@ returns-in_err-fresh-clause-collects g c = seal_refused c.args.filled.now c.from
 
 pub returns-clause-made : goal.returns-clause-made
 returns-clause-made g c = λ bytes stop count.
-    seal_alike _ _ c.mark_container.new.collection c.seal_alone-answer.new.self.collection c.args.filled.now c.args.actor c.seal_alone-answer.result bytes (c.seal_alone-answer.ensures.made bytes stop count)
+    seal_alike _ _ c.mark_container.new.collection c.seal_alone-answer.new.self.collection c.args.filled.now c.args.actor c.seal_alone-answer.result bytes
+    (c.seal_alone-answer.ensures.made bytes stop count)
 
 pub returns-clause-collects : goal.returns-clause-collects
 returns-clause-collects g c =
@@ -21,6 +22,8 @@ returns-clause-collects g c =
     let marked = c.mark_container.new.collection in
     let moved = c.seal_alone-answer.new.self.collection in
     let same = c.seal_alone-answer.ensures.collection in
-    seal_collects old moved c.unmark_unless.new.collection c.deref.result.now (restores_moved old marked moved c.in_ok-fresh.fresh.items c.deref.result.now same c.deref.ensures.value c.in_ok-fresh.ensures.fresh)
-    c.args.filled.now c.args.actor c.seal_alone-answer.result _ _ c.is_ok.result (c.seal_alone-answer.ensures.made [] None 0).row (marks_moved _ old marked moved same c.in_ok-fresh.ensures.marks) c.is_ok.ensures.value
+    seal_collects old moved c.unmark_unless.new.collection c.deref.result.now
+    (restores_moved old marked moved c.in_ok-fresh.fresh.items c.deref.result.now same c.deref.ensures.value c.in_ok-fresh.ensures.fresh)
+    c.args.filled.now c.args.actor c.seal_alone-answer.result _ _ c.is_ok.result (c.seal_alone-answer.ensures.made [] None 0).row
+    (marks_moved _ old marked moved same c.in_ok-fresh.ensures.marks) c.is_ok.ensures.value
     c.unmark_unless.ensures.kept c.unmark_unless.ensures.undone

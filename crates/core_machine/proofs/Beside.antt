@@ -54,7 +54,7 @@ module _ (held : List (Option HeaderValue)) (t now : SlotTable) (slot : ℕ) (h 
         let other : w ≢ slot = λ same. some (sym taken.id_is ∙ ap (λ (n : ℕ). get_or t.ids.items n 0) same ∙ closed) in
         ap (λ (ids : List ℕ). get_or ids w 0) (ids_set held t now slot h free was is) ∙ get_or-set_other t.ids.items slot w h.id 0 other
 
-    ids_same : (ws : List ℕ) → AllByRecursion (IsTaken t s.sources.items (sources_before s s.next)) ws → ids_at now ws ≡ ids_at t ws
+    pub ids_same : (ws : List ℕ) → AllByRecursion (IsTaken t s.sources.items (sources_before s s.next)) ws → ids_at now ws ≡ ids_at t ws
     ids_same [] all = refl
     ids_same (w ∷ ws) all =
         ap (λ (id : ℕ). id ∷ ids_at now ws) (id_same w all.0) ∙ ap (λ (ids : List ℕ). get_or t.ids.items w 0 ∷ ids) (ids_same ws all.1)

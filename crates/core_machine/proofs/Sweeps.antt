@@ -21,15 +21,15 @@ use Rattle.store_machine.specs.Collecting.{Ends}
 use Rattle.store_machine.specs.Machine.{Collection, Machine, Sweeping}
 use Rattle.store_machine.specs.Values.{of_roots}
 use Rattle.core_machine.specs.Collections.{SameRun}
-use Rattle.core_machine.proofs.CopiedSources.{copies_so, no_keys}
+use Rattle.core_machine.proofs.CopiedSources.{copies_so}
 use Rattle.core_machine.proofs.FlushedCopies.{flushes_so}
 use Rattle.core_machine.proofs.FreedSources.{releases_so}
-use Rattle.core_machine.proofs.SweptOn.{AtSweep, Swept, at_sweep, is_sweeping}
+use Rattle.core_machine.proofs.SweptOn.{AtSweep, Swept, at_sweep, is_sweeping, no_keys}
 
 abbrev M : Type 0
 M = Machine Root (List Top)
 
-did_same : (a b : Phase) → Did a ≡ Did b → a ≡ b
+pub did_same : (a b : Phase) → Did a ≡ Did b → a ≡ b
 did_same a b is = cc
 
 -- ---- a step

@@ -62,7 +62,7 @@ impl Suite {
     // Does what a line says: a name, a row, or what is to be done before rows.
     fn follow(&mut self, rt: &HostRuntime, line: &str) -> io::Result<()> {
         if let Some(words) = line.strip_prefix("let ") {
-            return Ok(self.add_name(rt.alloc(), words)?);
+            return self.follow_name(rt, line, words);
         }
         if let Some((row, wanted)) = line.split_once(" => ") {
             return self.run_rows(rt, row, wanted);
@@ -76,18 +76,33 @@ impl Suite {
         }
     }
 
-    // `NAME TEXT`, or `NAME TEXT*COUNT` for a text so many times.
-    fn add_name(&mut self, alloc: Global, words: &str) -> Result<(), AllocError> {
+    // A name that cannot be taken fails.
+    fn follow_name(&mut self, rt: &HostRuntime, line: &str, words: &str) -> io::Result<()> {
+        match self.add_name(rt.alloc(), words) {
+            Ok(()) => Ok(()),
+            Err(fault) => {
+                self.failed = self.failed.saturating_add(1);
+                println!(rt; "FAILED {line}\n  {}", fault.text())
+            }
+        }
+    }
+
+    // `NAME TEXT`, or `NAME TEXT*COUNT` for a text so many times. All transcripts share their names, so none may stand already.
+    fn add_name(&mut self, alloc: Global, words: &str) -> Result<(), Fault> {
         let (name, value) = words.split_once(' ').unwrap_or((words, ""));
-        let (piece, count) = value.split_once('*').unwrap_or((value, "1"));
+        let (piece, count) = match value.split_once('*') {
+            Some((piece, count)) => (piece, number(count)?),
+            None => (value, 1),
+        };
+        let mark = format!(in alloc; "{{{name}}}")?;
+        if stands(&self.names, mark.as_str()) {
+            return Err(Fault::Name);
+        }
         let mut text = String::new(alloc);
-        for _ in 0..number(count).unwrap_or(1) {
+        for _ in 0..count {
             text.push_str(piece)?;
         }
-        self.names.push(Name {
-            mark: format!(in alloc; "{{{name}}}")?,
-            text,
-        })?;
+        self.names.push(Name { mark, text })?;
         Ok(())
     }
 
@@ -146,6 +161,16 @@ impl Suite {
             None => codec_answer(rt.alloc(), row),
         }
     }
+}
+
+// One of the names has this mark.
+fn stands(names: &[Name], mark: &str) -> bool {
+    for name in names {
+        if name.mark.as_str() == mark {
+            return true;
+        }
+    }
+    false
 }
 
 // A line, with `{NAME}` replaced by what the name stands for.

@@ -11,6 +11,8 @@ pub(crate) enum Fault {
     Place,
     /// A file that it needs could not be made.
     File,
+    /// The name stands for a text already.
+    Name,
 }
 
 impl Fault {
@@ -20,6 +22,7 @@ impl Fault {
             Fault::Line => "no such line",
             Fault::Place => "no such place",
             Fault::File => "no such file",
+            Fault::Name => "this name stands already",
         }
     }
 }

@@ -1,5 +1,5 @@
 -- What a `collect` keeps, whatever the disk holds.
-use Rattle.std.proofs.Common.{◌≡◌, inr, ◌+◌, ◌≤◌, ℕ, List, [], ◌∷◌, length, Option, None, Some, Result, Ok, Err, refl, sym, ◌∙◌, ap, subst, arith}
+use Rattle.std.proofs.Common.{◌≡◌, ◌⊎◌, inl, inr, ◌+◌, ◌≤◌, ℕ, List, [], ◌∷◌, length, Option, None, Some, Result, Ok, Err, refl, sym, ◌∙◌, ap, subst, arith}
 use Rattle.actor_parts.specs.declared.part.Part.{Part}
 use Rattle.actor_parts.specs.declared.step.Answer.{Answer}
 use Rattle.actor_parts.specs.declared.step.Answer.TheVariants as answers
@@ -35,16 +35,16 @@ use Rattle.store_state.specs.Settled.{IsSettled}
 use Rattle.store_state.specs.declared.tables.Tables.{Tables}
 use Rattle.store_core.specs.Collecting.{Begins, GcRow, HasEnded, IsNotMade, StartRow, TouchesBy, at_moment}
 use Rattle.store_core.specs.Core.{CoreStep, Rests, Steps}
-use Rattle.store_core.specs.Finding.{AreItsSteps}
+use Rattle.store_core.specs.Finding.{AreItsSteps, IsIndexed}
 use Rattle.store_core.specs.Runs.{CoreRun}
-use Rattle.store_core.proofs.FindingKeys.{finds_keys}
+use Rattle.store_core.proofs.FindingKeys.{finds_keys, reads_or_finds}
 use Rattle.store_core.specs.State.{CoreState, Event}
 use Rattle.store_core.specs.Releases.{copied_in, freed_in}
 use Rattle.store_core.proofs.CoreRuns.{running_step}
 use Rattle.store_core.proofs.GcSteps.{end_reads}
 use Rattle.store_core.proofs.RunningOn.{step_runs}
 use Rattle.store_core.proofs.SafeSteps.{alone}
-use Rattle.backup_engine.specs.AnyDisk.{EndsDurable, HasSwept, Holds, IsCaused, IsSettledDisk, IsUnwritten, OnAnyDisk, WroteOnAny, disk_ending}
+use Rattle.backup_engine.specs.AnyDisk.{EndsDurable, HasSwept, Holds, IsCaused, IsSettledDisk, IsUnwritten, OnAnyDisk, FindsBeforeWriting, WroteOnAny, disk_ending}
 use Rattle.backup_engine.specs.Collected.{collected_line, written_in}
 use Rattle.backup_engine.specs.Frame.{KeepsButSweep, KeepsOthers, KeepsRest, SameButSlotsOf}
 use Rattle.backup_engine.specs.Line.{Collect}
@@ -59,7 +59,7 @@ use Rattle.backup_engine.proofs.SweptBytes.{IsFramed, framed_reads, same_slots}
 use Rattle.backup_engine.proofs.SweptSlots.{no_slots}
 use Rattle.backup_engine.proofs.FirstActor.{represents_still}
 use Rattle.backup_engine.proofs.NotDone.{holds}
-use Rattle.backup_engine.proofs.Reading.{reads_frame}
+use Rattle.backup_engine.proofs.Reading.{reads_frame, unchanged}
 use Rattle.backup_engine.proofs.Replied.{IsReplied, replied_faults}
 use Rattle.backup_engine.proofs.WholeCall.{all_counted, all_reads, leaves_more, leaves_of, to_end}
 
@@ -76,6 +76,17 @@ own_run : (C : Type 0) (state : C → CoreState) (phases : List Phase) (mid last
 own_run C state [] mid last run = record { events = []; run = run; its = tt }
 own_run C state (phase ∷ phases) mid last run =
     let rest = own_run C state phases run.0 last run.1.1 in
+    record { events = gc_event (Ok (answers.Did phase)) run.1.0.0 ∷ rest.events; run = (run.0, (run.1.0.1, rest.run)); its = (refl, rest.its) }
+
+-- and one more, however it is answered
+own_last : (C : Type 0) (state : C → CoreState) (answer : Result Answer Refusal) (phases : List Phase) (mid last new : C) → CollectionRun C state phases mid last → Collects C state answer last new → OwnRun C state mid new
+own_last C state answer [] mid last new run collects = record {
+  events = gc_event answer collects.0 ∷ [];
+  run = (new, (subst (λ (c : C). CoreStep (state c) (gc_event answer collects.0) (state new)) run collects.1, refl));
+  its = (refl, tt);
+}
+own_last C state answer (phase ∷ phases) mid last new run collects =
+    let rest = own_last C state answer phases run.0 last new run.1.1 collects in
     record { events = gc_event (Ok (answers.Did phase)) run.1.0.0 ∷ rest.events; run = (run.0, (run.1.0.1, rest.run)); its = (refl, rest.its) }
 
 module _ (C : Type 0) (state : C → CoreState) (v w : DiskView) (old new : C) (called : Called C state v w old new) (percent : ℕ) where
@@ -128,6 +139,9 @@ module _ (C : Type 0) (state : C → CoreState) (v w : DiskView) (old new : C) (
       source_faults = λ other. refl;
       sink_faults = λ other. refl;
     }
+
+    pub unbegun_found : FindsBeforeWriting (Collect percent) v w
+    unbegun_found = inl (unchanged v w (all_reads C state v w old new called unbegun.disk.only))
 
     pub unbegun_frame : KeepsOthers (Collect percent) (Some (Refused refusal)) v w
     unbegun_frame = reads_frame (Collect percent) (Some (Refused refusal)) v w (all_reads C state v w old new called unbegun.disk.only)
@@ -190,6 +204,21 @@ module _ (C : Type 0) (state : C → CoreState) (v w : DiskView) (old new : C) (
         let here : (state old).disk.content ≡ Some base = called.first.only.content_is ∙ told in
         reads_leave (IsBut store base) (state old).disk (state mid).disk (λ c image. subst (IsBut store base) (sym (called.durable base here c image)) (but_here store base)) rested.disk.only
 
+    begun_reads : OnlyReads v (state mid).disk
+    begun_reads = reads_on v (state old).disk (state mid).disk called.first.only rested.disk.only
+
+    -- what was shown since it began was shown in the call
+    apart_to : (end : C) → v.clock ≤ (state end).disk.clock → IsLater (state end).disk w → HeadersAreApart store.held v w → HeadersAreApart store.held (state mid).disk (state end).disk
+    apart_to end clock later apart = λ slot h g there shown digest.
+        apart slot h g there (until v (state end).disk w (since v (state mid).disk (state end).disk begun_reads shown) clock later) digest
+
+    indexed : IsIndexed store index (state old)
+    indexed = record { headers = called.opened.valid.headers; represents = called.opened.represents; known_is = called.opened.told.1 }
+
+    -- the roots as it began are those of names
+    of_names : FindsAll index (roots_of (state old).tables.names (state old).parts) → FindsAll index (keys_of_names (names_of store))
+    of_names found = subst (λ roots. FindsAll index roots) names_only found
+
     -- ---- its steps, and the last one
 
     module _ (answer : Result Answer Refusal) (sweeps : Sweeps C state answer mid new) where
@@ -215,6 +244,27 @@ module _ (C : Type 0) (state : C → CoreState) (v w : DiskView) (old new : C) (
 
       abbrev pub ends_holds : Holds v w
       ends_holds = holds C state v w old new called (to_end C state v w old new called since_old)
+
+      -- it only read, or had found all keys
+      pub ends_found : FindsBeforeWriting (Collect percent) v w
+      ends_found = by_case (reads_or_finds C state 0 percent snapshot start.0 whole.events store index old mid new called.running called.opened.stop_is indexed start.1 whole.run whole.its)
+        where
+          whole : OwnRun C state mid new
+          whole = own_last C state answer phases mid last new sweeps.1.1.0 collects
+
+          later : IsLater v (state new).disk
+          later = later_on v (state old).disk (state new).disk called.first.only.later since_old
+
+          by_case : OnlyReads (state mid).disk (state new).disk ⊎ (HeadersAreApart store.held (state mid).disk (state new).disk → FindsAll index (roots_of (state old).tables.names (state old).parts)) → FindsBeforeWriting (Collect percent) v w
+          by_case (inl reads) = inl (unchanged v w (reads_on v (state mid).disk w begun_reads (reads_on (state mid).disk (state new).disk w reads called.last.only)))
+          by_case (inr found) = inr (
+            ends_holds,
+            record {
+              index = index;
+              index_is = called.opened.whole index called.opened.told.1;
+              found = λ apart. of_names (found (apart_to new later.clock_is called.last.only.later apart));
+            },
+          )
 
       -- the disk's count of faults, by the last step
       pub ends_faults : CountsFault (ending blames answer) v.faults w.faults
@@ -271,18 +321,11 @@ module _ (C : Type 0) (state : C → CoreState) (v w : DiskView) (old new : C) (
       abbrev own : OwnRun C state mid sweeps.1.0
       own = own_run C state sweeps.0 mid sweeps.1.0 sweeps.1.1.0
 
-      apart_since : HeadersAreApart store.held v w → HeadersAreApart store.held (state mid).disk (state sweeps.1.0).disk
-      apart_since apart = λ slot h g there shown digest.
-          let read : OnlyReads v (state mid).disk = reads_on v (state old).disk (state mid).disk called.first.only rested.disk.only in
-          let later : IsLater (state sweeps.1.0).disk w = later_on (state sweeps.1.0).disk (state new).disk w (ends done sweeps).made.effect.later called.last.only.later in
-          apart slot h g there (until v (state sweeps.1.0).disk w (since v (state mid).disk (state sweeps.1.0).disk read shown) so_done.later.clock_is later) digest
-
       all_found : HeadersAreApart store.held v w → FindsAll index (keys_of_names (names_of store))
       all_found apart =
-          subst (λ roots. FindsAll index roots) names_only
-          (finds_keys C state 0 percent snapshot start.0 own.events store index old mid sweeps.1.0 as_many.0.before called.running called.opened.stop_is
-          (record { headers = called.opened.valid.headers; represents = called.opened.represents; known_is = called.opened.told.1 }) start.1 own.run own.its (apart_since apart) as_many.0.ran
-          (subst HasMarkedAll (sym as_many.0.at_end.0) tt))
+          let later : IsLater (state sweeps.1.0).disk w = later_on (state sweeps.1.0).disk (state new).disk w (ends done sweeps).made.effect.later called.last.only.later in
+          of_names (finds_keys C state 0 percent snapshot start.0 own.events store index old mid sweeps.1.0 as_many.0.before called.running called.opened.stop_is indexed start.1 own.run own.its
+          (apart_to sweeps.1.0 so_done.later.clock_is later apart) as_many.0.ran (subst HasMarkedAll (sym as_many.0.at_end.0) tt))
 
       swept : HasSwept freed copied v w
       swept = record {
@@ -291,9 +334,7 @@ module _ (C : Type 0) (state : C → CoreState) (v w : DiskView) (old new : C) (
         sweeps = record { each = so_done.each; after = so_done.after; chain = so_done.chain };
         freed_are = as_many.1;
         copied_are = as_many.2;
-        index = index;
-        index_is = called.opened.whole index called.opened.told.1;
-        found = all_found;
+        names = record { index = index; index_is = called.opened.whole index called.opened.told.1; found = all_found };
       }
 
       -- the last step only read

@@ -18,7 +18,7 @@ use Rattle.backup_engine.specs.Saying.{RunsSingle}
 use Rattle.backup_engine.specs.Singles.{IsCollect}
 use Rattle.backup_engine.specs.TopCall.{Keeps, ending_in}
 use Rattle.backup_engine.proofs.Called.{Called}
-use Rattle.backup_engine.proofs.CollectKept.{done_any, ends_frame, so_begun, stopped_any, unbegun_any, unbegun_frame, untold_any}
+use Rattle.backup_engine.proofs.CollectKept.{done_any, ends_found, ends_frame, so_begun, stopped_any, unbegun_any, unbegun_found, unbegun_frame, untold_any}
 use Rattle.backup_engine.proofs.CollectLines.{stopped_run, swept_run, unbegun_run}
 use Rattle.backup_engine.proofs.CollectMap.{done_map, stopped_map, unbegun_map, untold_map}
 use Rattle.backup_engine.proofs.CollectSteps.{collection_later}
@@ -41,6 +41,7 @@ module _ (C : Type 0) (state : C → CoreState) (v w : DiskView) (old new : C) (
     map = unbegun_map C state v w old new called percent refusal start sink;
     any = unbegun_any C state v w old new called percent refusal start source sink;
     frame = unbegun_frame C state v w old new called percent refusal start;
+    found = unbegun_found C state v w old new called percent refusal start;
     blank = tt;
     untouched = tt;
   }
@@ -51,6 +52,7 @@ module _ (C : Type 0) (state : C → CoreState) (v w : DiskView) (old new : C) (
       map = stopped_map C state v w old new called percent snapshot mid start refusal sweeps sink;
       any = stopped_any C state v w old new called percent snapshot mid start refusal sweeps source sink;
       frame = ends_frame C state v w old new called percent snapshot mid start (Err refusal) sweeps (Some (Refused refusal));
+      found = ends_found C state v w old new called percent snapshot mid start (Err refusal) sweeps;
       blank = tt;
       untouched = tt;
     }
@@ -65,6 +67,7 @@ module _ (C : Type 0) (state : C → CoreState) (v w : DiskView) (old new : C) (
             map = done_map C state v w old new called percent snapshot mid start freed copied sweeps ending sink sink_now (is_done ending sink sink_now replied) wrote;
             any = done_any C state v w old new called percent snapshot mid start freed copied sweeps ending source sink sink_now replied wrote;
             frame = ends_frame C state v w old new called percent snapshot mid start (Ok (answers.Done freed copied)) sweeps ending;
+            found = ends_found C state v w old new called percent snapshot mid start (Ok (answers.Done freed copied)) sweeps;
             blank = tt;
             untouched = tt;
           }
@@ -74,6 +77,7 @@ module _ (C : Type 0) (state : C → CoreState) (v w : DiskView) (old new : C) (
         map = untold_map C state v w old new called percent snapshot mid start freed copied sweeps sink;
         any = untold_any C state v w old new called percent snapshot mid start freed copied sweeps source sink;
         frame = ends_frame C state v w old new called percent snapshot mid start (Ok (answers.Done freed copied)) sweeps (Some (Refused Memory));
+        found = ends_found C state v w old new called percent snapshot mid start (Ok (answers.Done freed copied)) sweeps;
         blank = tt;
         untouched = tt;
       }

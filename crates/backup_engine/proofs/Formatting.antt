@@ -163,6 +163,7 @@ module _ (slots : ℕ) (v w : DiskView) where
         sink_faults = λ other. refl;
       };
       frame = frame (Some (Refused refusal)) store acts_left;
+      found = tt;
       blank = blank acts_left crash;
       untouched = untouched refusal acts;
     }
@@ -182,6 +183,7 @@ module _ (slots : ℕ) (v w : DiskView) where
         sink_faults = replied_faults ending sink sink_now replied;
       };
       frame = frame ending store acts_left;
+      found = tt;
       blank = blank acts_left crash;
       untouched = done_untouched ending sink sink_now replied;
     }

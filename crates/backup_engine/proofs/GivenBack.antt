@@ -94,6 +94,7 @@ module _ (C : Type 0) (state : C → CoreState) (v w : DiskView) (old new : C) (
         map = reads_restore name [] (ending_in result) v w sink sink_now reads.only durable answers;
         any = given_on_any C state v w old new was name source sink sink_now result out;
         frame = reads_frame (Restore name) (ending_in result) v w reads.only;
+        found = tt;
         blank = tt;
         untouched = tt;
       }

@@ -58,6 +58,7 @@ module _ (C : Type 0) (state : C → CoreState) (v w : DiskView) (old new : C) (
     ];
     any = ingest_any C state v w old new called name result source source_now sink sink_now run (heard_in result source source_now run.heard);
     frame = ingest_frame C state v w old new called name result source source_now sink sink_now run;
+    found = tt;
     blank = tt;
     untouched = tt;
   }

@@ -131,6 +131,7 @@ module _ (C : Type 0) (state : C → CoreState) (v w : DiskView) (old new : C) (
         sink_faults = replied_faults ending sink sink_now replied;
       };
       frame = reads_frame table.List ending v w (all_reads C state v w old new called reads.only);
+      found = tt;
       blank = tt;
       untouched = tt;
     }

@@ -63,6 +63,7 @@ module _ (D : Type 0) (view : D → DiskView) (C : Type 0) (state : C → CoreSt
             map = deleted_map name number ending v w sink sink_now (each_map ending) (is_done ending sink sink_now replied) wrote;
             any = done_any C state v w old new called name answer step.0 step.1 ending source sink sink_now replied wrote;
             frame = done_frame C state v w old new called name answer step.0 step.1 ending sink sink_now replied;
+            found = tt;
             blank = tt;
             untouched = tt;
           }
@@ -78,6 +79,7 @@ module _ (D : Type 0) (view : D → DiskView) (C : Type 0) (state : C → CoreSt
           map = undeleted_map name refusal v w sink each;
           any = undone_any C state v w old new called name refusal step.0 step.1 source sink;
           frame = undone_frame C state v w old new called name refusal step.0 step.1;
+          found = tt;
           blank = tt;
           untouched = tt;
         }

@@ -21,10 +21,10 @@ use Rattle.store_core.specs.State.{CoreState}
 use Rattle.backup_engine.specs.Line.{CommandLine, Format, Ingest, Restore, Delete, Collect}
 use Rattle.backup_engine.specs.Line as table
 use Rattle.backup_engine.specs.Promise.{EndsBy, IsLeftWith}
-use Rattle.backup_engine.specs.AnyDisk.{Holds, IsCaused, Took, WroteOnAny, EndsDurable}
+use Rattle.backup_engine.specs.AnyDisk.{FindsBeforeWriting, Holds, IsCaused, Took, WroteOnAny, EndsDurable}
 use Rattle.backup_engine.specs.TopCall.{Keeps, IsLeftBlank, IsUntouched}
 use Rattle.backup_engine.proofs.Called.{Called}
-use Rattle.backup_engine.proofs.Reading.{AnswersEach, since_start, reads_frame, reads_map, wrote_nothing}
+use Rattle.backup_engine.proofs.Reading.{AnswersEach, since_start, reads_frame, reads_map, unchanged, wrote_nothing}
 
 -- ---- over a map
 
@@ -166,6 +166,7 @@ unopened_ingest v w refusal is name given source sink took = record {
     sink_faults = λ other. refl;
   };
   frame = reads_frame (Ingest name) (Some (Refused refusal)) v w is.reads.only;
+  found = tt;
   blank = tt;
   untouched = tt;
 }
@@ -184,6 +185,7 @@ unopened_restore v w refusal is name source sink = record {
     sink_faults = λ other. refl;
   };
   frame = reads_frame (Restore name) (Some (Refused refusal)) v w is.reads.only;
+  found = tt;
   blank = tt;
   untouched = tt;
 }
@@ -223,6 +225,7 @@ unopened_delete v w refusal is name source sink = record {
     sink_faults = λ other. refl;
   };
   frame = reads_frame (Delete name) (Some (Refused refusal)) v w is.reads.only;
+  found = tt;
   blank = tt;
   untouched = tt;
 }
@@ -241,6 +244,7 @@ unopened_list v w refusal is source sink = record {
     sink_faults = λ other. refl;
   };
   frame = reads_frame table.List (Some (Refused refusal)) v w is.reads.only;
+  found = tt;
   blank = tt;
   untouched = tt;
 }
@@ -259,6 +263,7 @@ unopened_collect v w refusal is percent source sink = record {
     sink_faults = λ other. refl;
   };
   frame = reads_frame (Collect percent) (Some (Refused refusal)) v w is.reads.only;
+  found = inl (unchanged v w is.reads.only);
   blank = tt;
   untouched = tt;
 }
@@ -272,6 +277,14 @@ left_blank (Restore name) v w reads = tt
 left_blank (Delete name) v w reads = tt
 left_blank table.List v w reads = tt
 left_blank (Collect percent) v w reads = tt
+
+memory_found : (command : CommandLine) (v w : DiskView) → OnlyReads v w → FindsBeforeWriting command v w
+memory_found (Format slots) v w reads = tt
+memory_found (Ingest name) v w reads = tt
+memory_found (Restore name) v w reads = tt
+memory_found (Delete name) v w reads = tt
+memory_found table.List v w reads = tt
+memory_found (Collect percent) v w reads = inl (unchanged v w reads)
 
 memory_untouched : (command : CommandLine) (v w : DiskView) → OnlyReads v w → IsUntouched command (Some (Refused Memory)) v w
 memory_untouched (Format slots) v w reads = (reads.content_is, λ old known. reads.images_are)
@@ -312,6 +325,7 @@ without_memory command given v w source source_now sink reads took faults = reco
     sink_faults = λ other. refl;
   };
   frame = reads_frame command (Some (Refused Memory)) v w reads.only;
+  found = memory_found command v w reads.only;
   blank = left_blank command v w reads.only;
   untouched = memory_untouched command v w reads.only;
 }

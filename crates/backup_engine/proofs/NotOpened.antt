@@ -114,6 +114,7 @@ module _ (C : Type 0) (state : C → CoreState) (v w : DiskView) (old new : C) (
         sink_faults = λ other. refl;
       };
       frame = reads_frame (Restore name) (Some (endings.Refused refusal)) v w of_call.only;
+      found = tt;
       blank = tt;
       untouched = tt;
     }

@@ -14,6 +14,7 @@ use Rattle.store_model.specs.Files.{Files, Stored}
 use Rattle.store_model.specs.Image.{Store, Encodes}
 use Rattle.store_model.specs.Standing.{IsSegmentOf}
 use Rattle.backup_engine.specs.Adding.{Adds}
+use Rattle.backup_engine.specs.AnyDisk.{IsUnchanged}
 use Rattle.backup_engine.specs.Line.{CommandLine, Format, Ingest, Restore, Delete, Collect}
 use Rattle.backup_engine.specs.Line as table
 use Rattle.backup_engine.specs.Promise as promise
@@ -65,6 +66,9 @@ pub since_began : (P : List ℕ → Type 0) (v w : DiskView) → LeavesMeanwhile
 since_began P v w leaves c (inl now) = leaves.now c now
 since_began P v w leaves c (inr since) =
     elim (leaves.since v.clock c (omega arith) since.0 since.1) [ inl was ↦ inl (v.only_now c since.0 was) | inr there ↦ inr there ]
+
+pub unchanged : (v w : DiskView) → OnlyReads v w → IsUnchanged v w
+unchanged v w reads = record { content = reads.content_is; images = reads.images_are; between = reads.since_are }
 
 pub reads_frame : (command : CommandLine) (ending : Option Ending) (v w : DiskView) → OnlyReads v w → KeepsOthers command ending v w
 reads_frame command ending v w reads = record {

@@ -7,6 +7,7 @@ use Rattle.dd_io.specs.Flow.{SourceView, SinkView}
 use Rattle.container_meta.specs.Places.{PlaceMap}
 use Rattle.merkle_file.specs.declared.top.Top.{Top}
 use Rattle.refusals.specs.declared.refusal.Refusal.{Refusal}
+use Rattle.store_model.specs.Image.{Store}
 use Rattle.refusals.specs.declared.refusal.Refusal.TheVariants.{Memory, DiskRead, DiskWrite, Corrupt, Missing, Damaged, WrongSize, NotAStore, Version, Full}
 use Rattle.reply_text.specs.declared.ending.Ending.{Ending}
 use Rattle.reply_text.specs.declared.ending.Ending.TheVariants.{Source, Sink, Refused}
@@ -15,7 +16,7 @@ use Rattle.journal_cells.specs.declared.fault.CellFault.{CellFault}
 use Rattle.recovery.specs.Opening.{IsOpenRefusal, IsSized, BreaksFormat, BreaksJournal, BreaksSlots, HasWrongSize}
 use Rattle.recovery.specs.Slots.{IsDamagedSlot}
 use Rattle.read_steps.specs.Walking.{WasRead, IsNextRefusal, IsTopRefusal, IsCopyRefusal, top_key}
-use Rattle.backup_engine.specs.AnyDisk.{Holds, HasAdded, HasSwept, ReadsSince, GivesBack, IsDeleted, IsStuck, IsRefused, IsStored, IsCaused, IsUncollected, SaysSwept, ShownSince, WroteOnAny, EndsDurable}
+use Rattle.backup_engine.specs.AnyDisk.{FindsBeforeWriting, FindsNames, Holds, HasAdded, HasSwept, ReadsSince, GivesBack, IsDeleted, IsStuck, IsRefused, IsStored, IsCaused, IsUncollected, SaysSwept, ShownSince, WroteOnAny, EndsDurable}
 use Rattle.backup_engine.specs.Frame.{KeepsOthers}
 use Rattle.backup_engine.specs.Line.{CommandLine, Ingest, Restore, Delete, Collect}
 use Rattle.backup_engine.specs.Line as table
@@ -255,6 +256,9 @@ module _ (loans loans_now : List ℕ) (v w : DiskView) where
     list_wrote (Some Sink) is = (holds is.0, is.1)
     list_wrote (Some ending) is = is
 
+    names_so : (store : Store) → FindsNames store lent lent_now → FindsNames store v w
+    names_so store is = record { index = is.index; index_is = is.index_is; found = λ apart. is.found (λ slot h g there shown digest. apart slot h g there (on _ shown) digest) }
+
     swept_so : (freed copied : ℕ) → HasSwept freed copied lent lent_now → HasSwept freed copied v w
     swept_so freed copied is = record {
       holds = holds is.holds;
@@ -262,9 +266,7 @@ module _ (loans loans_now : List ℕ) (v w : DiskView) where
       sweeps = is.sweeps;
       freed_are = is.freed_are;
       copied_are = is.copied_are;
-      index = is.index;
-      index_is = is.index_is;
-      found = λ apart. is.found (λ slot h g there shown digest. apart slot h g there (on _ shown) digest);
+      names = names_so is.holds.store is.names;
     }
 
     says_swept : (ending : Option Ending) → SaysSwept ending lent lent_now sink sink_now → SaysSwept ending v w sink sink_now
@@ -308,6 +310,10 @@ module _ (loans loans_now : List ℕ) (v w : DiskView) where
     kept_left command ending among m (inl is) = inl is
     kept_left command ending among m (inr is) = inr (record { not_done = is.not_done; content = is.content; images = is.images })
 
+    found_so : {percent : ℕ} → FindsBeforeWriting (Collect percent) lent lent_now → FindsBeforeWriting (Collect percent) v w
+    found_so (inl same) = inl (record { content = same.content; images = same.images; between = same.between })
+    found_so (inr (is, names)) = inr (holds is, names_so is.store names)
+
     map_kept : (command : CommandLine) (ending : Option Ending) → KeepsEachMap command given ending lent lent_now sink sink_now → KeepsEachMap command given ending v w sink sink_now
     map_kept command ending each = λ old told among m apart segments is.
         let kept = each old told among m apart segments is in
@@ -329,6 +335,7 @@ module _ (loans loans_now : List ℕ) (v w : DiskView) where
         sink_faults = is.any.sink_faults;
       };
       frame = frame_kept (Ingest name) ending is.frame;
+      found = tt;
       blank = is.blank;
       untouched = is.untouched;
     }
@@ -346,6 +353,7 @@ module _ (loans loans_now : List ℕ) (v w : DiskView) where
         sink_faults = is.any.sink_faults;
       };
       frame = frame_kept (Restore name) ending is.frame;
+      found = tt;
       blank = is.blank;
       untouched = is.untouched;
     }
@@ -363,6 +371,7 @@ module _ (loans loans_now : List ℕ) (v w : DiskView) where
         sink_faults = is.any.sink_faults;
       };
       frame = frame_kept (Delete name) ending is.frame;
+      found = tt;
       blank = is.blank;
       untouched = is.untouched;
     }
@@ -380,6 +389,7 @@ module _ (loans loans_now : List ℕ) (v w : DiskView) where
         sink_faults = is.any.sink_faults;
       };
       frame = frame_kept table.List ending is.frame;
+      found = tt;
       blank = is.blank;
       untouched = is.untouched;
     }
@@ -397,6 +407,7 @@ module _ (loans loans_now : List ℕ) (v w : DiskView) where
         sink_faults = is.any.sink_faults;
       };
       frame = frame_kept (Collect percent) ending is.frame;
+      found = found_so is.found;
       blank = is.blank;
       untouched = is.untouched;
     }

@@ -146,17 +146,33 @@ pub record SweepsTo (store : Store) (changes : List StoreChange) : Type 0 where
   pub after : Store
   pub chain : ChangesTo changes store after
 
--- So many containers were given back, and so many segments copied. Before that each key of the trees of all names was found in the index of
--- the store, where no header but the store's was shown in a slot with its digest.
+-- Each key of the trees of all names was found in the index of the store, where no header but the store's was shown in a slot with its
+-- digest.
+pub record FindsNames (store : Store) (disk disk_now : DiskView) : Type 0 where
+  pub index : PlaceMap
+  pub index_is : IsIndexOf store.held index
+  pub found : HeadersAreApart store.held disk disk_now → FindsAll index (keys_of_names (names_of store))
+
+-- nothing was written: reads give what they gave, and a crash leaves, also at each moment between, what it might have left before
+pub record IsUnchanged (disk disk_now : DiskView) : Type 0 where
+  pub content : disk_now.content ≡ disk.content
+  pub images : (c : List ℕ) → disk_now.images c → disk.images c
+  pub between : (t : ℕ) (c : List ℕ) → t ≤ disk.clock → disk_now.images_since t c → disk.images_since t c ⊎ disk.images c
+
+-- However a `collect` ends, refused or done: it wrote nothing, or it had found all these keys before.
+abbrev pub FindsBeforeWriting : CommandLine → DiskView → DiskView → Type 0
+FindsBeforeWriting (Collect percent) disk disk_now =
+    IsUnchanged disk disk_now ⊎ ((holds : Holds disk disk_now) × FindsNames holds.store disk disk_now)
+FindsBeforeWriting command disk disk_now = Unit {0}
+
+-- So many containers were given back, and so many segments copied, once all these keys were found.
 pub record HasSwept (freed copied : ℕ) (disk disk_now : DiskView) : Type 0 where
   pub holds : Holds disk disk_now
   pub changes : List StoreChange
   pub sweeps : SweepsTo holds.store changes
   pub freed_are : freed ≡ freed_in changes
   pub copied_are : copied ≡ copied_in changes
-  pub index : PlaceMap
-  pub index_is : IsIndexOf holds.store.held index
-  pub found : HeadersAreApart holds.store.held disk disk_now → FindsAll index (keys_of_names (names_of holds.store))
+  pub names : FindsNames holds.store disk disk_now
 
 -- Reads since a moment returned parts by which each image of the disk's size that has them has P; where the disk tells its content
 -- now, the content has P.

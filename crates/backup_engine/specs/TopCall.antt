@@ -16,7 +16,7 @@ use Rattle.reply_text.specs.Table.{status_of}
 use Rattle.reply_text.specs.Text.{fault_line}
 use Rattle.recovery.specs.Formatting.{IsLeftByFormat, IsBlankOrFormatted}
 use Rattle.recovery.specs.Room.{RoomMade, RoomUnmade}
-use Rattle.backup_engine.specs.AnyDisk.{Holds, OnAnyDisk, Took}
+use Rattle.backup_engine.specs.AnyDisk.{Holds, OnAnyDisk, FindsBeforeWriting, Took}
 use Rattle.backup_engine.specs.Frame.{KeepsOthers}
 use Rattle.backup_engine.specs.Line.{CommandLine, Format, Ingest, Restore, Delete, Collect, TableLine, Single, Run}
 use Rattle.backup_engine.specs.Line as table
@@ -74,6 +74,8 @@ pub record Keeps (command : CommandLine) (given : List ℕ) (ending : Option End
   pub any : OnAnyDisk command given ending disk disk_now source source_now sink sink_now
   -- And whatever the disk holds, what was open stays.
   pub frame : KeepsOthers command ending disk disk_now
+  -- A `collect` writes only once it has found the keys of the trees of all names, also where it is refused then.
+  pub found : FindsBeforeWriting command disk disk_now
   pub blank : IsLeftBlank command disk disk_now
   pub untouched : IsUntouched command ending disk disk_now
 

@@ -10,7 +10,7 @@ use Rattle.std.proofs.lemmas.Bool.Decides.{eqb_tells}
 use Rattle.std.proofs.lemmas.Option.{slice_get-get_or}
 use Rattle.std.proofs.lemmas.List.Elements.{All-weaker, Contains-get_or, recursion_from_All}
 use Rattle.std.proofs.lemmas.Slice.Eq.{bytes_eq-Decides}
-use Rattle.base_model.specs.Bytes.{key_of}
+use Rattle.base_model.specs.Bytes.{byte_at, key_of}
 use Rattle.disk_format.specs.declared.numbers.TheConstants.{MOST_LEVEL}
 use Rattle.container_meta.specs.declared.entry.Entry.{Entry}
 use Rattle.container_meta.specs.declared.kind.Kind.{Kind}
@@ -39,7 +39,7 @@ use Rattle.gc_steps.specs.declared.collection.Collection.{Collection}
 use Rattle.gc_steps.specs.declared.collection.Stage.{Stage}
 use Rattle.gc_steps.specs.declared.collection.Stage.TheVariants.{Mark, Filter, Select, Sweep}
 use Rattle.gc_steps.specs.declared.roots.RootKey.{RootKey}
-use Rattle.gc_steps.specs.Finding.{FindsAll, FindsTree, HasAt, HasMarkedAll, HasNode, HeadersAreApart}
+use Rattle.gc_steps.specs.Finding.{FindsAll, FindsTree, HasAt, HasMarkedAll, HasNode, HeadersAreApart, IsDataKey}
 use Rattle.gc_steps.specs.Stages.{is_tree_slot, mark_from, mark_level}
 use Rattle.gc_steps.specs.Starting.{AreFound}
 use Rattle.gc_steps.proofs.FirstStage.{id_below, not_first, tree_of, tree_slot}
@@ -60,6 +60,10 @@ second_true : (a b : Bool) → a && b ≡ true → b ≡ true
 second_true true b e = e
 second_true false b e = absurd cc
 
+none_asked : (entries : List Entry) → AllByRecursion (λ e. Unit {0}) entries
+none_asked [] = tt
+none_asked (e ∷ es) = (tt, none_asked es)
+
 header_right : (held : List (Option HeaderValue)) (slot : ℕ) (h : HeaderValue) → AreHeaders held → slice_get held slot ≡ Some (Some h) → IsHeader h
 header_right [] slot h right there = absurd cc
 header_right (None ∷ cs) zero h right there = absurd (let wrong : None ≡ Some h = some_same None (Some h) there in cc)
@@ -67,7 +71,7 @@ header_right (Some g ∷ cs) zero h right there = subst IsHeader (some_same g h 
 header_right (None ∷ cs) (suc slot) h right there = header_right cs slot h right there
 header_right (Some g ∷ cs) (suc slot) h right there = header_right cs slot h right.1 there
 
-tree_levels : (kind : Kind) (level : ℕ) → 1 ≤ level → is_level kind level ≡ true → (kind ≡ Tree) × (level ≤ MOST_LEVEL)
+pub tree_levels : (kind : Kind) (level : ℕ) → 1 ≤ level → is_level kind level ≡ true → (kind ≡ Tree) × (level ≤ MOST_LEVEL)
 tree_levels Leaf level some is = let zero_level : level ≡ 0 = eqb-true level 0 is in absurd (omega (arith, some, zero_level))
 tree_levels Tree level some is = (refl, leb-true level MOST_LEVEL (second_true (nat_le 1 level) (nat_le level MOST_LEVEL) is))
 
@@ -83,6 +87,13 @@ first_ones of [] ys key (k, below, is) = absurd (omega (arith, below))
 first_ones of (x ∷ xs) ys key (zero, below, is) = (zero, omega arith, is)
 first_ones of (x ∷ xs) ys key (suc k, below, is) = let rest = first_ones of xs ys key (k, omega (arith, below), is) in (suc rest.0, omega (arith, rest.1), rest.2)
 
+-- once it has marked, all was scanned
+pub all_passed : (stage : Stage) → HasMarkedAll stage → (level slot : ℕ) → WasScanned stage level slot
+all_passed (Mark at next) marking level slot = absurd marking
+all_passed (Filter at) marked level slot = tt
+all_passed Select marked level slot = tt
+all_passed Sweep marked level slot = tt
+
 -- another P of the children
 node_weaker : (P Q : List ℕ → Type 0) (level : ℕ) (key : List ℕ) → ((k : List ℕ) → P k → Q k) → HasNode P level key → HasNode Q level key
 node_weaker P Q level key on has = record {
@@ -94,7 +105,7 @@ node_weaker P Q level key on has = record {
 }
 
 -- what the table says of a header is said of the one that is held
-tabled_held : (held : List (Option HeaderValue)) (slot : ℕ) (g : HeaderValue) → IsHeader g → slice_get (map count_of held) slot ≡ Some (count_of (Some g))
+pub tabled_held : (held : List (Option HeaderValue)) (slot : ℕ) (g : HeaderValue) → IsHeader g → slice_get (map count_of held) slot ≡ Some (count_of (Some g))
     → (h : HeaderValue) × (slice_get held slot ≡ Some (Some h)) × (header_digest h ≡ header_digest g)
 tabled_held [] slot g right is = absurd cc
 tabled_held (None ∷ cs) zero g right is =
@@ -106,15 +117,15 @@ tabled_held (Some h ∷ cs) (suc slot) g right is = tabled_held cs slot g right 
 
 module _ (index : PlaceMap) (store : Store) (headers : AreHeaders store.held) (partial : IsPartialIndexOf store.held index) where
   -- the entry of a key that the index has
-  record Entered (key : List ℕ) (place : Place) : Type 0 where
-    header : HeaderValue
-    there : slice_get store.held place.slot ≡ Some (Some header)
-    within : place.slot < length store.held
-    entry : Entry
-    found : find (λ e. bytes_eq (key_of (kind_byte header.kind) e.digest) key) header.entries ≡ Some entry
-    place_is : place ≡ place_of place.slot entry
+  pub record Entered (key : List ℕ) (place : Place) : Type 0 where
+    pub header : HeaderValue
+    pub there : slice_get store.held place.slot ≡ Some (Some header)
+    pub within : place.slot < length store.held
+    pub entry : Entry
+    pub found : find (λ e. bytes_eq (key_of (kind_byte header.kind) e.digest) key) header.entries ≡ Some entry
+    pub place_is : place ≡ place_of place.slot entry
 
-  entered : (key : List ℕ) (place : Place) → finite.get index key ≡ Some place → Entered key place
+  pub entered : (key : List ℕ) (place : Place) → finite.get index key ≡ Some place → Entered key place
   entered key place has =
       let copy = finds store index key place partial has in
       let l = lies 0 store.held key copy.0 copy.1 in
@@ -134,23 +145,34 @@ module _ (index : PlaceMap) (store : Store) (headers : AreHeaders store.held) (p
       let so = found_so (λ (x : Entry). is_level e.header.kind x.level ≡ true) _ e.header.entries e.entry (have_levels e.header.kind e.header.kind [] e.header.entries refl right.entries) e.found in
       ap (λ (p : Place). is_level e.header.kind p.level) e.place_is ∙ so.0
 
+  -- a key of level 0 is that of data
+  pub data_or_node : (key : List ℕ) (place : Place) → Entered key place → IsDataKey key ⊎ (1 ≤ place.level)
+  data_or_node key place e = by_kind e.header.kind (entry_right key place e) ((bytes_eq-Decides (key_of (kind_byte e.header.kind) e.entry.digest) key).0 (found_so (λ (x : Entry). Unit {0}) _ e.header.entries e.entry (none_asked e.header.entries) e.found).1)
+    where
+      by_kind : (kind : Kind) → is_level kind place.level ≡ true → key_of (kind_byte kind) e.entry.digest ≡ key → IsDataKey key ⊎ (1 ≤ place.level)
+      by_kind Leaf is same = inl (ap (byte_at 0) (sym same))
+      by_kind Tree is same = inr (leb-true 1 place.level (first_true (nat_le 1 place.level) (nat_le place.level MOST_LEVEL) is))
+
   -- a node lies in a tree container, which the collection goes over
-  module _ (t : SlotTable) (slots : RepresentsSlots store.held t) (snapshot : ℕ) (above : last_id store.held < snapshot) where
-    in_table : (key : List ℕ) (place : Place) → Entered key place → place.slot < length t.ids.items
+  module _ (t : SlotTable) (slots : RepresentsSlots store.held t) (snapshot : ℕ) where
+    pub in_table : (key : List ℕ) (place : Place) → Entered key place → place.slot < length t.ids.items
     in_table key place e = omega (arith, e.within, ap length slots.ids_are, as_many store.held)
 
-    in_tree : (key : List ℕ) (place : Place) → 1 ≤ place.level → Entered key place → is_tree_slot snapshot t place.slot ≡ true
-    in_tree key place some e =
+    pub in_tree : (key : List ℕ) (place : Place) → 1 ≤ place.level → (e : Entered key place) → e.header.id < snapshot → is_tree_slot snapshot t place.slot ≡ true
+    in_tree key place some e low =
         let right = header_right store.held place.slot e.header headers e.there in
         let kind = (tree_levels e.header.kind place.level some (entry_right key place e)).0 in
-        let low : e.header.id < snapshot = omega (arith, id_below store.held place.slot e.header e.there, above) in
         tree_slot store.held t snapshot slots place.slot e.header.id low (tree_of store.held place.slot e.header e.within e.there right kind)
 
     -- as it begins no node was passed
-    none_yet : (key : List ℕ) (place : Place) → 1 ≤ place.level → Entered key place → WasScanned (mark_level snapshot t MOST_LEVEL) place.level place.slot → ⊥
-    none_yet key place some e scanned =
-        let low = (tree_levels e.header.kind place.level some (entry_right key place e)).1 in
-        not_first t snapshot place.slot (in_table key place e) (in_tree key place some e) place.level low scanned
+    pub none_yet : (key : List ℕ) (place : Place) → 1 ≤ place.level → (e : Entered key place) → e.header.id < snapshot → WasScanned (mark_level snapshot t MOST_LEVEL) place.level place.slot → ⊥
+    none_yet key place some e low scanned =
+        let most = (tree_levels e.header.kind place.level some (entry_right key place e)).1 in
+        not_first t snapshot place.slot (in_table key place e) (in_tree key place some e low) place.level most scanned
+
+  -- all that it holds came before a collection that has a greater number
+  all_before : (snapshot : ℕ) → last_id store.held < snapshot → (key : List ℕ) (place : Place) (e : Entered key place) → e.header.id < snapshot
+  all_before snapshot above key place e = omega (arith, id_below store.held place.slot e.header e.there, above)
 
   -- a live key, which the index has at a level
   pub record HasLive (live : LiveKeys) (level : ℕ) (key : List ℕ) : Type 0 where
@@ -190,7 +212,8 @@ module _ (index : PlaceMap) (store : Store) (headers : AreHeaders store.held) (p
   module _ (t : SlotTable) (slots : RepresentsSlots store.held t) (c : Collection) (above : last_id store.held < c.snapshot) where
     begun_closed : c.stage ≡ mark_level c.snapshot t MOST_LEVEL → IsClosed c
     begun_closed stage key place has is_live some scanned =
-        absurd (none_yet t slots c.snapshot above key place some (entered key place has) (subst (λ (s : Stage). WasScanned s place.level place.slot) stage scanned))
+        let e = entered key place has in
+        absurd (none_yet t slots c.snapshot key place some e (all_before c.snapshot above key place e) (subst (λ (s : Stage). WasScanned s place.level place.slot) stage scanned))
 
   roots_begun : (live : LiveKeys) (roots : List RootKey) → AreFound (Some index) roots → ((r : RootKey) (place : Place) → Contains roots r → IsLiveAt live r.key place) → (c : Collection) → c.live ≡ live → AreLive c roots
   roots_begun live roots found are c same = λ k d within.
@@ -213,23 +236,17 @@ module _ (index : PlaceMap) (store : Store) (headers : AreHeaders store.held) (p
     level_of_place : (key : List ℕ) → HasAt index (level - 1) key → (place : Place) → finite.get index key ≡ Some place → place.level ≡ level - 1
     level_of_place key has place place_is = ap (λ (p : Place). p.level) (some_same place has.place (sym place_is ∙ has.place_is)) ∙ has.level_is
 
-    not_later : (l at : ℕ) → l ≡ level - 1 → WasScanned (Mark level slot) l at ⊎ ((l ≡ level) × (at ≡ slot)) → ⊥
+    pub below_it : {X : Type 0} (found : List X) (of : X → List ℕ) (at : X → Place) → All (λ x. IsPlaceOf (Some index) (of x) (at x) × ((at x).level ≡ level - 1)) found
+        → (key : List ℕ) (place : Place) → finite.get index key ≡ Some place → Contains (map of found) key → place.level ≡ level - 1
+    below_it found of at placed key place has among = level_of_place key (placed_at index (level - 1) key found of at (recursion_from_All _ found placed) among) place has
+
+    pub not_later : (l at : ℕ) → l ≡ level - 1 → WasScanned (Mark level slot) l at ⊎ ((l ≡ level) × (at ≡ slot)) → ⊥
     not_later l at low (inl (inl above)) = omega (arith, low, above)
     not_later l at low (inl (inr here)) = omega (arith, low, here.0, some_level)
     not_later l at low (inr here) = omega (arith, low, here.0, some_level)
 
-    -- all of it
-    module _ (t : SlotTable) (slots : RepresentsSlots store.held t) (above : last_id store.held < before.snapshot) (there : slice_get store.held slot ≡ Some (Some h))
-        (now : after.stage ≡ mark_from before.snapshot t level (slot + 1)) (scanned : ScansEntries (Some index) old new slot level h before.live after.live) where
-      abbrev scan : Scan
-      scan = scan_for (Some index) before.live slot level h
-
-      grows : (key : List ℕ) (place : Place) → IsLiveAt before.live key place → IsLiveAt after.live key place
-      grows key place is = (scanned.marks.marks key place).1 (inl is)
-
-      wider : (l : ℕ) (key : List ℕ) → HasNode (HasLive before.live (l - 1)) l key → HasNode (HasLive after.live (l - 1)) l key
-      wider l key = node_weaker (HasLive before.live (l - 1)) (HasLive after.live (l - 1)) l key (grown before.live after.live grows (l - 1))
-
+    -- what was passed then
+    module _ (t : SlotTable) (slots : RepresentsSlots store.held t) (now : after.stage ≡ mark_from before.snapshot t level (slot + 1)) where
       up_to : (l at : ℕ) → (level < l) ⊎ ((l ≡ level) × (at ≤ slot)) → WasScanned (Mark level slot) l at ⊎ ((l ≡ level) × (at ≡ slot))
       up_to l at (inl high) = inl (inl high)
       up_to l at (inr here) = elim (eqb_tells at slot) [
@@ -237,15 +254,26 @@ module _ (index : PlaceMap) (store : Store) (headers : AreHeaders store.held) (p
         | inr differ ↦ inl (inr (here.0, omega (arith, here.1, differ.1)))
       ]
 
-      passed : (key : List ℕ) (place : Place) → 1 ≤ place.level → Entered key place → WasScanned after.stage place.level place.slot
+      pub passed : (key : List ℕ) (place : Place) → 1 ≤ place.level → (e : Entered key place) → e.header.id < before.snapshot → WasScanned after.stage place.level place.slot
           → WasScanned (Mark level slot) place.level place.slot ⊎ ((place.level ≡ level) × (place.slot ≡ slot))
-      passed key place some e is =
+      passed key place some e low is =
           up_to place.level place.slot
-          (scanned_to t before.snapshot level slot place.level place.slot some (in_table t slots before.snapshot above key place e) (in_tree t slots before.snapshot above key place some e)
+          (scanned_to t before.snapshot level slot place.level place.slot some (in_table t slots before.snapshot key place e) (in_tree t slots before.snapshot key place some e low)
           (subst (λ (s : Stage). WasScanned s place.level place.slot) now is))
 
+    -- all of it
+    module _ (there : slice_get store.held slot ≡ Some (Some h)) (scanned : ScansEntries (Some index) old new slot level h before.live after.live) where
+      abbrev scan : Scan
+      scan = scan_for (Some index) before.live slot level h
+
+      pub grows : (key : List ℕ) (place : Place) → IsLiveAt before.live key place → IsLiveAt after.live key place
+      grows key place is = (scanned.marks.marks key place).1 (inl is)
+
+      wider : (l : ℕ) (key : List ℕ) → HasNode (HasLive before.live (l - 1)) l key → HasNode (HasLive after.live (l - 1)) l key
+      wider l key = node_weaker (HasLive before.live (l - 1)) (HasLive after.live (l - 1)) l key (grown before.live after.live grows (l - 1))
+
       -- the node of an entry of it
-      node_here : (key : List ℕ) (place : Place) → finite.get index key ≡ Some place → IsLiveAt before.live key place → 1 ≤ place.level → Entered key place → place.level ≡ level → place.slot ≡ slot
+      pub node_here : (key : List ℕ) (place : Place) → finite.get index key ≡ Some place → IsLiveAt before.live key place → 1 ≤ place.level → Entered key place → place.level ≡ level → place.slot ≡ slot
           → HasNode (HasLive after.live (place.level - 1)) place.level key
       node_here key place has is_live some e level_is slot_is =
           let header : e.header ≡ h = some_same e.header h (some_same (Some e.header) (Some h) (sym e.there ∙ ap (slice_get store.held) slot_is ∙ there)) in
@@ -273,8 +301,9 @@ module _ (index : PlaceMap) (store : Store) (headers : AreHeaders store.held) (p
                 (λ k is. record { place = is.0; place_is = is.1.0 index refl; is_live = is.1.1; level_is = is.1.2 }) (child_keys node.0) node.1.1);
           }
 
-      scanned_closed : IsClosed before → IsClosed after
-      scanned_closed closed key place has is_live some is = by_case ((scanned.marks.marks key place).0 is_live) (passed key place some e is)
+      scanned_closed : (t : SlotTable) → RepresentsSlots store.held t → last_id store.held < before.snapshot → after.stage ≡ mark_from before.snapshot t level (slot + 1) → IsClosed before → IsClosed after
+      scanned_closed t slots above now closed key place has is_live some is =
+          by_case ((scanned.marks.marks key place).0 is_live) (passed t slots now key place some e (all_before before.snapshot above key place e) is)
         where
           e : Entered key place
           e = entered key place has
@@ -284,14 +313,17 @@ module _ (index : PlaceMap) (store : Store) (headers : AreHeaders store.held) (p
           by_case (inl earlier) (inl before_is) = wider place.level key (closed key place has earlier some (subst (λ (s : Stage). WasScanned s place.level place.slot) (sym was) before_is))
           by_case (inl earlier) (inr here) = node_here key place has earlier some e here.0 here.1
           by_case (inr among) where_is =
-              let found = placed_at index (level - 1) key scanned.marks.found (λ f. f.key) (λ f. f.place)
-              (recursion_from_All _ scanned.marks.found scanned.marks.finds.placed) (among_keys key place scanned.marks.found among) in
-              absurd (not_later place.level place.slot (level_of_place key found place has) where_is)
+              absurd (not_later place.level place.slot (below_it scanned.marks.found (λ f. f.key) (λ f. f.place) scanned.marks.finds.placed key place has (among_keys key place scanned.marks.found among)) where_is)
 
     -- some of it, as memory ran out
     module _ (now : after.stage ≡ before.stage) (scanned : ScansSome (Some index) old new slot level h before.live after.live) where
-      some_grows : (key : List ℕ) (place : Place) → IsLiveAt before.live key place → IsLiveAt after.live key place
+      pub some_grows : (key : List ℕ) (place : Place) → IsLiveAt before.live key place → IsLiveAt after.live key place
       some_grows key place is = (scanned.marks.1.1.1 key place).1 (inl is)
+
+      -- those that became live are some of the children
+      pub some_among : (key : List ℕ) (place : Place) → IsAmong key place scanned.marks.0 → Contains (keys_of scanned.found) key
+      some_among key place among =
+          subst (λ found. Contains (keys_of found) key) (sym scanned.marks.1.1.0) (first_ones _ scanned.marks.0 scanned.marks.1.0 key (among_keys key place scanned.marks.0 among))
 
       some_closed : IsClosed before → IsClosed after
       some_closed closed key place has is_live some is = by_case ((scanned.marks.1.1.1 key place).0 is_live)
@@ -301,10 +333,8 @@ module _ (index : PlaceMap) (store : Store) (headers : AreHeaders store.held) (p
               node_weaker (HasLive before.live (place.level - 1)) (HasLive after.live (place.level - 1)) place.level key (grown before.live after.live some_grows (place.level - 1))
               (closed key place has earlier some (subst (λ (s : Stage). WasScanned s place.level place.slot) now is))
           by_case (inr among) =
-              let first : Contains (keys_of (scanned.marks.0 ++ scanned.marks.1.0)) key = first_ones _ scanned.marks.0 scanned.marks.1.0 key (among_keys key place scanned.marks.0 among) in
-              let all : Contains (keys_of scanned.found) key = subst (λ found. Contains (keys_of found) key) (sym scanned.marks.1.1.0) first in
-              let found = placed_at index (level - 1) key scanned.found (λ f. f.key) (λ f. f.place) (recursion_from_All _ scanned.found scanned.finds.placed) all in
-              absurd (not_later place.level place.slot (level_of_place key found place has) (inl (subst (λ (s : Stage). WasScanned s place.level place.slot) (now ∙ was) is)))
+              absurd (not_later place.level place.slot (below_it scanned.found (λ f. f.key) (λ f. f.place) scanned.finds.placed key place has (some_among key place among))
+              (inl (subst (λ (s : Stage). WasScanned s place.level place.slot) (now ∙ was) is)))
 
   -- ---- the whole
 
@@ -331,7 +361,7 @@ module _ (index : PlaceMap) (store : Store) (headers : AreHeaders store.held) (p
         let there : slice_get store.held slot ≡ Some (Some scans.header) = held.1 ∙ ap (λ (h : HeaderValue). Some (Some h)) (sym same) in
         record {
           above = omega (arith, finding.above, ap (λ (c : Collection). c.snapshot) scans.collection_is);
-          closed = scanned_closed old new level slot some scans.header before after was t slots finding.above there (ap (λ (c : Collection). c.stage) scans.collection_is) scans.scanned finding.closed;
+          closed = scanned_closed old new level slot some scans.header before after was there scans.scanned t slots finding.above (ap (λ (c : Collection). c.stage) scans.collection_is) finding.closed;
           live = still_live before after roots (λ key place is. (scans.scanned.marks.marks key place).1 (inl is)) finding.live;
         }
 
@@ -353,10 +383,4 @@ module _ (index : PlaceMap) (store : Store) (headers : AreHeaders store.held) (p
 
   -- once it has marked
   pub found_all : (c : Collection) (roots : List RootKey) → IsFinding c roots → HasMarkedAll c.stage → FindsAll index roots
-  found_all c roots finding marked = roots_found_all c finding.closed (λ level slot. by_stage c.stage marked level slot) roots finding.live
-    where
-      by_stage : (stage : Stage) → HasMarkedAll stage → (level slot : ℕ) → WasScanned stage level slot
-      by_stage (Mark at next) marking level slot = absurd marking
-      by_stage (Filter at) marked level slot = tt
-      by_stage Select marked level slot = tt
-      by_stage Sweep marked level slot = tt
+  found_all c roots finding marked = roots_found_all c finding.closed (λ level slot. all_passed c.stage marked level slot) roots finding.live

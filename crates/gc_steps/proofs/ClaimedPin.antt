@@ -24,7 +24,7 @@ use Rattle.gc_steps.proofs.Carried.{KeepsBoth, moves_none}
 use Rattle.gc_steps.proofs.GainedPins.{Gains, Grows, gained}
 
 -- one key is another, or not
-one_or_other : (key other : List ℕ) → (other ≡ key) ⊎ (other ≡ key → ⊥)
+pub one_or_other : (key other : List ℕ) → (other ≡ key) ⊎ (other ≡ key → ⊥)
 one_or_other key other = by_test (bytes_eq other key) refl
   where
     by_test : (b : Bool) → bytes_eq other key ≡ b → (other ≡ key) ⊎ (other ≡ key → ⊥)

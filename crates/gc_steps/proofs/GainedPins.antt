@@ -43,7 +43,7 @@ use Rattle.gc_steps.proofs.RootsAfter.{part_root}
 use Rattle.gc_steps.proofs.Started.{part_holds}
 
 -- a key that is live at one place is at any
-live_anywhere : (live : LiveKeys) (key : List ℕ) (place other : Place) → IsLiveAt live key place → IsLiveAt live key other
+pub live_anywhere : (live : LiveKeys) (key : List ℕ) (place other : Place) → IsLiveAt live key place → IsLiveAt live key other
 unfolding IsLiveAt
 live_anywhere live key place other is = is
 

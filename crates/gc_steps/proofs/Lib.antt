@@ -9,6 +9,7 @@ pub mod FewSources
 pub mod FewerRoots
 pub mod FileKeys
 pub mod FirstStage
+pub mod FoundMeanwhile
 pub mod FoundNodes
 pub mod FreshMarks
 pub mod GainedPins

@@ -23,32 +23,7 @@ use Rattle.gc_steps.specs.declared.collection.Collection.{Collection}
 use Rattle.gc_steps.specs.Roots.{IsRoot}
 use Rattle.gc_steps.proofs.Carried.{KeepsBoth}
 use Rattle.gc_steps.proofs.FewerRoots.{fewer_roots}
-use Rattle.gc_steps.proofs.RootsAfter.{begun_root, committed_root, deleted_root, idle_root, opened_root, reading_root}
-
--- ---- the part of an actor alone changes
-
-module _ (index : PlaceMap) (store : Store) (image : List ℕ) (parts : List Part) (c : Collection) (actor : ℕ) where
-  abbrev Keeps : Part → Type 0
-  Keeps part = KeepsBoth index index store store parts (with_part parts actor part) image image c c
-
-  none_more : (part : Part) → ((key : List ℕ) → IsRoot (names_of store) (with_part parts actor part) key → IsRoot (names_of store) parts key) → Keeps part
-  none_more part fewer = fewer_roots index store store image image parts (with_part parts actor part) c refl (λ key level bytes has is. is) fewer
-
-  -- It gives up what it was at: an abort, or the end of a read.
-  pub ended : Keeps Idle
-  ended = none_more Idle (idle_root (names_of store) parts actor)
-
-  -- It begins to store a file.
-  pub began : Keeps (Writing finite.empty)
-  began = none_more (Writing finite.empty) (λ key is. begun_root (names_of store) parts actor key is)
-
-  -- It reads on.
-  pub read_on : (old new : Reader) → actor < ACTORS → part_of parts actor ≡ Reading old → new.root ≡ old.root → Keeps (Reading new)
-  read_on old new below was same = none_more (Reading new) (reading_root (names_of store) parts actor old new below was same)
-
-  -- It begins to read the file of a name.
-  pub opened : (reader : Reader) (name : List ℕ) (named : Named) → finite.get (names_of store) name ≡ Some named → named.root ≡ reader.root → Keeps (Reading reader)
-  opened reader name named found same = none_more (Reading reader) (opened_root (names_of store) parts actor reader name named found same)
+use Rattle.gc_steps.proofs.RootsAfter.{committed_root, deleted_root}
 
 -- ---- names and parts stay
 

@@ -89,7 +89,7 @@ with_there (suc at) h (c ∷ cs) zero g is = inl is
 with_there (suc at) h (c ∷ cs) (suc slot) g is = with_there at h cs slot g is
 
 -- one that was there stays there
-stays_there : (h : HeaderValue) (held : List (Option HeaderValue)) (slot : ℕ) (g : HeaderValue) → slice_get held slot ≡ Some (Some g) → slice_get (with_slot (first_free held) h held) slot ≡ Some (Some g)
+pub stays_there : (h : HeaderValue) (held : List (Option HeaderValue)) (slot : ℕ) (g : HeaderValue) → slice_get held slot ≡ Some (Some g) → slice_get (with_slot (first_free held) h held) slot ≡ Some (Some g)
 stays_there h [] slot g is = absurd cc
 stays_there h (None ∷ cs) zero g is = absurd (let wrong : None ≡ Some g = some_same None (Some g) is in cc)
 stays_there h (None ∷ cs) (suc slot) g is = is
@@ -111,7 +111,7 @@ module _ (store : Store) (id : ℕ) (filled : Contents) (can : CanSeal id filled
   abbrev sealed_store : Store
   sealed_store = with_sealed id filled.kind filled.segments store
 
-  decided : (key : List ℕ) → IsSealedKey filled key ⊎ (IsSealedKey filled key → ⊥)
+  pub decided : (key : List ℕ) → IsSealedKey filled key ⊎ (IsSealedKey filled key → ⊥)
   decided key = by_found (entry_of filled.kind entries key) refl
     where
       by_found : (found : Option Entry) → entry_of filled.kind entries key ≡ found → IsSealedKey filled key ⊎ (IsSealedKey filled key → ⊥)

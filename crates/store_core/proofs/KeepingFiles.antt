@@ -24,7 +24,7 @@ use Rattle.refusals.specs.declared.refusal.Refusal.TheVariants as refusals
 use Rattle.store_model.specs.Collisions.{HasNoCollisions, ByteSet, IsIn, IsAmong, Stands}
 use Rattle.store_model.specs.Files.{Stored, with_stored, without_stored}
 use Rattle.store_model.specs.Files as files
-use Rattle.store_model.specs.Image.{Store, IsValidFor, last_sequence}
+use Rattle.store_model.specs.Image.{Store, IsValidFor, last_sequence, names_of}
 use Rattle.store_model.specs.Slots.{HasFree, HasKey, IsPartialIndexOf}
 use Rattle.store_model.specs.Reserve.{HasReserve}
 use Rattle.store_model.proofs.FreedFiles.{free_reserve}
@@ -48,7 +48,8 @@ use Rattle.store_core.proofs.Stepping.{ChangesOne, row_one}
 use Rattle.actor_parts.specs.declared.actor.TheConstants.{ACTORS}
 use Rattle.gc_steps.specs.declared.collection.Collection.{Collection}
 use Rattle.store_core.specs.Collecting.{Collects}
-use Rattle.store_core.proofs.SafeSteps.{IsSafeFor, abort_rested, begin_rested, begun_safe, claim_safe, committed_safe, deleted_safe, drop_rested, list_rested, open_rested, read_rested, runs_alone, sealed_safe_in, start_parts, stat_rested, still_rested, unchanged_safe, unsealed_safe}
+use Rattle.store_core.proofs.RootsKept.{abort_none, begin_none, end_none, list_none, open_none, read_none, stat_none}
+use Rattle.store_core.proofs.SafeSteps.{IsSafeFor, begun_safe, claim_safe, committed_safe, deleted_safe, none_rested, runs_alone, sealed_safe_in, start_parts, still_rested, unchanged_safe, unsealed_safe}
 use Rattle.gc_steps.proofs.Carried.{KeepsBoth}
 use Rattle.base_model.specs.Known.{Known}
 use Rattle.actor_parts.proofs.Apart.{apart}
@@ -288,7 +289,7 @@ module _ (among : ByteSet) (s : Store) (stored : Stored) (old new : CoreState) (
 
   begin_next : (answer : Result Answer Refusal) → Goes asked.Begin answer
   begin_next answer row effect collects stops right given =
-      part_rests asked.Begin answer row effect (goes_under_way asked.Begin answer row effect collects) collects (begin_rested among s stored old new actor buf at answer row)
+      part_rests asked.Begin answer row effect (goes_under_way asked.Begin answer row effect collects) collects (none_rested among s stored old new actor buf at (begin_none (names_of s) old new actor buf at.represents.names_are.names_are at.many answer row))
       (own_begin among s stored.files image at.index actor buf old new here at.index_known newest_index invariant_here.files_are_indexed at.represents.names_are.names_are stands_here distinct holds answer row)
 
   claim_next : (seg : KindSegment) (answer : Result Answer Refusal) → Goes (asked.Claim seg) answer
@@ -299,27 +300,27 @@ module _ (among : ByteSet) (s : Store) (stored : Stored) (old new : CoreState) (
 
   abort_next : (answer : Result Answer Refusal) → Goes asked.Abort answer
   abort_next answer row effect collects stops right given =
-      part_rests asked.Abort answer row effect (goes_under_way asked.Abort answer row effect collects) collects (abort_rested among s stored old new actor buf at answer row)
+      part_rests asked.Abort answer row effect (goes_under_way asked.Abort answer row effect collects) collects (none_rested among s stored old new actor buf at (abort_none (names_of s) old new actor buf at.represents.names_are.names_are at.many answer row))
       (own_abort among s stored.files image at.index actor buf old new here at.index_known newest_index invariant_here.files_are_indexed at.represents.names_are.names_are stands_here distinct holds answer row)
 
   open_next : (name : List ℕ) (answer : Result Answer Refusal) → Goes (asked.OpenRead name) answer
   open_next name answer row effect collects stops right given =
-      part_rests (asked.OpenRead name) answer row effect (goes_under_way (asked.OpenRead name) answer row effect collects) collects (open_rested among s stored old new actor buf at name answer row)
+      part_rests (asked.OpenRead name) answer row effect (goes_under_way (asked.OpenRead name) answer row effect collects) collects (none_rested among s stored old new actor buf at (open_none (names_of s) old new actor buf at.represents.names_are.names_are at.many name answer row))
       (own_open among s stored.files image at.index actor buf old new here at.index_known newest_index invariant_here.files_are_indexed at.represents.names_are.names_are stands_here distinct holds name answer row)
 
   read_next : (answer : Result Answer Refusal) → Goes asked.ReadNext answer
   read_next answer row effect collects stops right given =
-      part_rests asked.ReadNext answer row effect (goes_under_way asked.ReadNext answer row effect collects) collects (read_rested among s stored old new actor buf at answer row)
+      part_rests asked.ReadNext answer row effect (goes_under_way asked.ReadNext answer row effect collects) collects (none_rested among s stored old new actor buf at (read_none (names_of s) old new actor buf at.represents.names_are.names_are at.many answer row))
       (own_read among s stored.files image at.index actor buf old new here at.index_known newest_index invariant_here.files_are_indexed at.represents.names_are.names_are stands_here distinct holds answer row)
 
   drop_next : (answer : Result Answer Refusal) → Goes asked.EndRead answer
   drop_next answer row effect collects stops right given =
-      part_rests asked.EndRead answer row effect (goes_under_way asked.EndRead answer row effect collects) collects (drop_rested among s stored old new actor buf at answer row)
+      part_rests asked.EndRead answer row effect (goes_under_way asked.EndRead answer row effect collects) collects (none_rested among s stored old new actor buf at (end_none (names_of s) old new actor buf at.represents.names_are.names_are at.many answer row))
       (own_drop among s stored.files image at.index actor buf old new here at.index_known newest_index invariant_here.files_are_indexed at.represents.names_are.names_are stands_here distinct holds answer row)
 
   stat_next : (answer : Result Answer Refusal) → Goes asked.Stat answer
   stat_next answer row effect collects stops right given =
-      part_rests asked.Stat answer row effect (goes_under_way asked.Stat answer row effect collects) collects (stat_rested among s stored old new actor buf at answer row)
+      part_rests asked.Stat answer row effect (goes_under_way asked.Stat answer row effect collects) collects (none_rested among s stored old new actor buf at (stat_none (names_of s) old new actor buf at.represents.names_are.names_are at.many answer row))
       (own_stat among s stored.files image at.index actor buf old new here at.index_known newest_index invariant_here.files_are_indexed at.represents.names_are.names_are stands_here distinct holds answer row)
 
   own_still : new.parts ≡ old.parts → Own
@@ -434,7 +435,7 @@ module _ (among : ByteSet) (s : Store) (stored : Stored) (old new : CoreState) (
 
   list_next : (answer : Result Answer Refusal) → Goes asked.ListNames answer
   list_next answer row effect collects stops right given =
-      part_rests asked.ListNames answer row effect (goes_under_way asked.ListNames answer row effect collects) collects (list_rested among s stored old new actor buf at answer row)
+      part_rests asked.ListNames answer row effect (goes_under_way asked.ListNames answer row effect collects) collects (none_rested among s stored old new actor buf at (list_none (names_of s) old new actor buf at.represents.names_are.names_are at.many answer row))
       (own_list among s stored.files image at.index actor buf old new here at.index_known newest_index invariant_here.files_are_indexed at.represents.names_are.names_are stands_here distinct holds answer row)
 
   -- a collection begins

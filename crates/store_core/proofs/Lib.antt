@@ -1,5 +1,6 @@
 pub mod AnySteps
 pub mod AtStore
+pub mod BeforeSweep
 pub mod Bounded
 pub mod ByNeed
 pub mod CheckedReads
@@ -11,6 +12,7 @@ pub mod Counted
 pub mod Crashes
 pub mod Damage
 pub mod FindingKeys
+pub mod FindingMeanwhile
 pub mod Finished
 pub mod FinishedStores
 pub mod Flushed
@@ -37,6 +39,7 @@ pub mod RecordedAll
 pub mod RecordedSums
 pub mod Reserves
 pub mod Rooms
+pub mod RootsKept
 pub mod SafeSteps
 pub mod Sealing
 pub mod SparedRest

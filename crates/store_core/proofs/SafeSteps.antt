@@ -46,7 +46,9 @@ use Rattle.store_state.specs.declared.tables.Tables.{Tables}
 use Rattle.merkle_file.specs.declared.top.Top.{Top}
 use Rattle.gc_steps.proofs.ClaimedPin.{claimed_key, one_more}
 use Rattle.gc_steps.proofs.Marked.{contains_first, contains_head, contains_next, contains_none}
-use Rattle.gc_steps.proofs.OtherSteps.{deleted, kept, began, committed, ended, opened, read_on}
+use Rattle.gc_steps.proofs.FewerRoots.{fewer_roots}
+use Rattle.gc_steps.proofs.OtherSteps.{deleted, kept, committed}
+use Rattle.store_core.proofs.RootsKept.{BringsNone, none_same, within_parts}
 use Rattle.gc_steps.proofs.Unseen.{marked_unseen}
 use Rattle.actor_parts.specs.Parts.{part_of, with_part}
 use Rattle.actor_parts.specs.Segments.{pin_by, pin_of}
@@ -114,15 +116,8 @@ unseen index store parts image c live marks = marked_unseen index store image pa
     was key place (inl is) = is
     was key place (inr none) = absurd none
 
--- an actor that is at something is one that there is
-within_parts : (parts : List Part) (actor : ℕ) → (part_of parts actor ≡ Idle → ⊥) → actor < length parts
-unfolding part_of
-within_parts [] actor some = absurd (some refl)
-within_parts (p ∷ ps) zero some = omega arith
-within_parts (p ∷ ps) (suc actor) some = let rest = within_parts ps actor some in omega (arith, rest)
-
 -- the pins after a container is sealed are those before, and its keys
-pins_more : (kind : Kind) (segments : List Segment) (pins : PinMap) (key : List ℕ)
+pub pins_more : (kind : Kind) (segments : List Segment) (pins : PinMap) (key : List ℕ)
     → IsPartKey (Writing (with_pins kind segments pins)) key ↔ (IsPartKey (Writing pins) key ⊎ Contains (map (segment_key kind) segments) key)
 pins_more kind [] pins key = (λ is. inl is, λ is. elim is [ inl was ↦ was | inr none ↦ absurd (contains_none key none) ])
 pins_more kind (x ∷ xs) pins key =
@@ -145,7 +140,7 @@ pins_more kind (x ∷ xs) pins key =
     )
 
 -- a key that no segment has is none that is added
-none_added : (kind : Kind) (key : List ℕ) (segments : List Segment) → (Contains (map (segment_key kind) segments) key → ⊥) → AllByRecursion (λ s. segment_key kind s ≢ key) segments
+pub none_added : (kind : Kind) (key : List ℕ) (segments : List Segment) → (Contains (map (segment_key kind) segments) key → ⊥) → AllByRecursion (λ s. segment_key kind s ≢ key) segments
 none_added kind key [] none = tt
 none_added kind key (x ∷ xs) none = (
   λ same. none (subst (λ (k : List ℕ). Contains (segment_key kind x ∷ map (segment_key kind) xs) k) same (contains_head (segment_key kind x) (map (segment_key kind) xs))),
@@ -153,7 +148,7 @@ none_added kind key (x ∷ xs) none = (
 )
 
 -- a root that is stored is that of the empty file, or is pinned
-stored_pin : (pins : PinMap) (root : Root) → IsStored pins root → (root.length ≡ 0) ⊎ (has_pin pins (root_key root) (record { level = root.level; length = root.length }) ≡ true)
+pub stored_pin : (pins : PinMap) (root : Root) → IsStored pins root → (root.length ≡ 0) ⊎ (has_pin pins (root_key root) (record { level = root.level; length = root.length }) ≡ true)
 stored_pin pins root (inl empty) = inl (ap (λ (r : Root). r.length) empty)
 stored_pin pins root (inr pinned) = inr pinned
 
@@ -173,64 +168,15 @@ module _ (among : ByteSet) (s : Store) (stored : Stored) (old new : CoreState) (
   abbrev Safe : Type 0
   Safe = IsSafeIn at.index s old.parts image old.collection → IsSafeIn at.index s new.parts image new.collection
 
-  by_parts : (parts : List Part) → new.parts ≡ parts → ((c : Collection) → KeepsBoth at.index at.index s s old.parts parts image image c c) → Rested
-  by_parts parts is both c = subst (λ (p : List Part). KeepsBoth at.index at.index s s old.parts p image image c c) (sym is) (both c)
+  -- where it brings no root
+  pub none_rested : BringsNone (names_of s) old new actor buf at.represents.names_are.names_are at.many → Rested
+  none_rested none c = fewer_roots at.index s s image image old.parts new.parts c refl (λ key level bytes has is. is) none
 
   pub still_rested : new.parts ≡ old.parts → Rested
-  still_rested is = by_parts old.parts is (λ c. same_both at.index s old.parts image c)
+  still_rested is = none_rested (none_same (names_of s) old new actor buf at.represents.names_are.names_are at.many is)
 
   there : (part : Part) → part_of old.parts actor ≡ part → (part ≡ Idle → ⊥) → actor < length old.parts
   there part is some = within_parts old.parts actor (λ idle. some (sym is ∙ idle))
-
-  pub begin_rested : (answer : Result Answer Refusal) → BeginRow actor answer old new → Rested
-  begin_rested (Ok answers.Begun) row = by_parts (with_part old.parts actor (Writing finite.empty)) row.1 (λ c. began at.index s image old.parts c actor)
-  begin_rested (Err refusal) row = still_rested row.1
-  begin_rested answer row = absurd row
-
-  pub abort_rested : (answer : Result Answer Refusal) → AbortRow actor answer old new → Rested
-  abort_rested (Ok answers.Aborted) row = by_parts (with_part old.parts actor Idle) row.1 (λ c. ended at.index s image old.parts c actor)
-  abort_rested (Err refusal) row = still_rested row.1
-  abort_rested answer row = absurd row
-
-  pub open_rested : (name : List ℕ) (answer : Result Answer Refusal) → OpenRow name actor answer old new → Rested
-  open_rested name (Ok (answers.Opened count)) row =
-      let opens = row.opens in
-      let reader : Reader = record { root = opens.root; cursor = opens.ahead } in
-      let named : Named = record { sequence = opens.begins.has_root.sequence; root = opens.root } in
-      let found : finite.get (names_of s) name ≡ Some named = subst (λ (names : NameMap). finite.get names name ≡ Some named) at.represents.names_are.names_are opens.begins.has_root.found in
-      by_parts (with_part old.parts actor (readers.reading opens.root opens.ahead)) opens.parts_are (λ c. opened at.index s image old.parts c actor reader name named found refl)
-  open_rested name (Err refusal) row = still_rested row.1
-  open_rested name answer row = absurd row
-
-  goes_rested : (before after : List Top) → readers.GoesOn actor old.parts new.parts before after → Rested
-  goes_rested before after goes =
-      let within = there (readers.reading goes.root before) goes.part_is (λ is. cc) in
-      by_parts (with_part old.parts actor (readers.reading goes.root after)) goes.parts_are
-      (λ c. read_on at.index s image old.parts c actor (record { root = goes.root; cursor = before }) (record { root = goes.root; cursor = after }) (omega (arith, within, at.many)) goes.part_is refl)
-
-  stuck_rested : (refusal : Refusal) → readers.IsReadRefusal old.known old.breaks old.disk new.disk actor old.parts new.parts refusal → Rested
-  stuck_rested (refusals.WrongPart kind) cause = still_rested cause.same
-  stuck_rested refusal cause = goes_rested cause.was cause.rest cause.goes_on
-
-  pub read_rested : (answer : Result Answer Refusal) → ReadRow actor answer buf old new → Rested
-  read_rested (Ok (answers.Bytes count)) row = goes_rested row.next.was row.next.rest row.next.goes_on
-  read_rested (Ok answers.End) row = goes_rested row.next.was row.next.rest row.next.goes_on
-  read_rested (Err refusal) row = stuck_rested refusal row.cause
-  read_rested answer row = absurd row
-
-  pub drop_rested : (answer : Result Answer Refusal) → EndRow actor answer old new → Rested
-  drop_rested (Ok answers.Dropped) row = by_parts (with_part old.parts actor Idle) row.parts_are (λ c. ended at.index s image old.parts c actor)
-  drop_rested (Err (refusals.WrongPart kind)) row = still_rested row.same
-  drop_rested answer row = absurd row
-
-  pub stat_rested : (answer : Result Answer Refusal) → StatRow answer old new → Rested
-  stat_rested (Ok answer) row = still_rested row.1
-  stat_rested (Err refusal) row = absurd row
-
-  pub list_rested : (answer : Result Answer Refusal) → ListRow answer old new → Rested
-  list_rested (Ok (answers.Listed listed)) row = still_rested row.1
-  list_rested (Err refusals.Memory) row = still_rested row
-  list_rested answer row = absurd row
 
   -- ---- a claim
 

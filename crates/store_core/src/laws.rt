@@ -1,7 +1,7 @@
 //! Laws of steps of a core, one after the other (docs/MODEL.md, 'The core').
 ghost use Rattle.store_core.specs.Bounds.{BoundsSteps};
 ghost use Rattle.store_core.specs.Chosen.{CollectsByNeed};
-ghost use Rattle.store_core.specs.Finding.{FindsKeys};
+ghost use Rattle.store_core.specs.Finding.{FindsKeys, FindsKeysMeanwhile, OnlyReadsBeforeSweep};
 ghost use Rattle.store_core.specs.Finished.{CollectsInAll, LeavesJustNeeded};
 ghost use Rattle.store_core.specs.Frame.{AddsAlone, ContainersStay, ReserveStays, WrittenStays};
 ghost use Rattle.store_core.specs.Keeping.{KeepsSegments, StaysHeld, StaysSettled};
@@ -32,10 +32,14 @@ pub fn a_core_bounds_collections<C: HasState>()
 {}
 
 /// Whatever the disk of a core holds, of one whose tables and index are those of a store: a collection that has marked, with no steps of
-/// others between, found each key of the trees of all names, readers and pins in the index, where no header but the store's was shown in a
-/// slot with its digest. Before that it frees and copies nothing. The function does nothing.
+/// others between, found each key of the trees of all names, readers and pins in the index as it began; and whatever steps others make
+/// between, once it has marked, and until it begins to sweep, the index has each key of the trees of all that there are at that moment, too.
+/// No header but the store's was shown in a slot with its digest. A step of one that has not begun to sweep only reads, and so frees and
+/// copies nothing. The function does nothing.
 pub fn a_core_finds_all_keys<C: HasState>()
-    ensures { FindsKeys C C.state }
+    ensures alone { FindsKeys C C.state }
+    ensures meanwhile { FindsKeysMeanwhile C C.state }
+    ensures reads { OnlyReadsBeforeSweep C C.state }
 {}
 
 /// Over data without collisions, of a core that began at a store: steps of a collection alone give back just containers that the files

@@ -127,7 +127,10 @@ module _ {V R : Type 0} (v : Values V R) (known : v.Known) (m : Machine V R) (id
         by keys runs (inr (h, seal, room, id_is, held, last)) = (
           _,
           sealed m k n c S _ T _ since keys runs h (omega (arith, room)) id_is held last
-              (λ g. ((λ is. ⊎_elim (λ was. inl was) (λ one. inr (seal_once s g h one seal)) is), (λ is. ⊎_elim (λ was. inl was) (λ same. inr (subst (IsSealOf s) (sym same) seal)) is))) none_taken,
+              (λ g. (
+                (λ is. ⊎_elim (λ was. inl was) (λ one. inr (seal_once s g h one seal)) is),
+                (λ is. ⊎_elim (λ was. inl was) (λ same. inr (subst (IsSealOf s) (sym same) seal)) is),
+              )) none_taken,
         )
 
     pub one_step : IsBetween s → Legal v s k n → Next s k n S T
@@ -135,8 +138,11 @@ module _ {V R : Type 0} (v : Values V R) (known : v.Known) (m : Machine V R) (id
 
   pub after_all : (ss : List (Stepped V)) (k n : Machine V R) (run : Run v ss k n) (c : Collection V) (S : HeaderValue → Type 0) (T : List ℕ → Type 0)
       → Since m k c S T → AreBetween ss → (d : Collection V) × Since m n d (λ h. S h ⊎ IsSealedBy ss h) (λ key. T key ⊎ WasTaken v ss k n run key)
-  after_all [] k n is c S T since between =
-      (c, still m k n c S _ T _ since (λ h. (inl, (λ x. ⊎_elim (λ was. was) (λ none. absurd none) x))) (λ key. (inl, (λ x. ⊎_elim (λ was. was) (λ none. absurd none) x))) (same_of k n is))
+  after_all [] k n is c S T since between = (
+    c,
+    still m k n c S _ T _ since (λ h. (inl, (λ x. ⊎_elim (λ was. was) (λ none. absurd none) x))) (λ key. (inl, (λ x. ⊎_elim (λ was. was) (λ none. absurd none) x)))
+        (same_of k n is),
+  )
   after_all (s ∷ ss) k n (mid, (legal, run)) c S T since (one, more) =
       let first = one_step s k mid c S T since one legal in
       let rest = after_all ss mid n run first.0 _ _ first.1 more in
@@ -250,7 +256,8 @@ module _ {V R : Type 0} (v : Values V R) where
         copied_is = ends.copied_is ∙ ap (λ (x : Collection V). length (keys_written x.changes)) same;
         keys_are = λ key. (
           (λ one. none_left ((since.keys key).1 (inl one))),
-          (λ taken. ⊎_elim (λ one. one) (λ filled. absurd (none_in key (subst (λ (ks : List (List ℕ)). Contains ks key) (ap filled_at stage ∙ (swept.ends refl).0) filled))) ((since.keys key).0 (inr taken))),
+          (λ taken. ⊎_elim (λ one. one) (λ filled. absurd (none_in key (subst (λ (ks : List (List ℕ)). Contains ks key) (ap filled_at stage ∙ (swept.ends refl).0) filled)))
+              ((since.keys key).0 (inr taken))),
         );
         once = since.once;
       }

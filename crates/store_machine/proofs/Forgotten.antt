@@ -138,8 +138,20 @@ module _ (m : F) (r : G) (same : Forgets m r) where
       let keys = keys_of filled.kind filled.segments in
       let part : PinMap = with_pins filled.kind filled.segments c.may.pins in
       let t : G =
-      record (put_at r a (Writing part)) { store = with_sealed id filled.kind filled.segments r.store; last_id = id; forgotten = forgotten_beside keys r.forgotten; collection = keeping keys r.collection } in
-      goes (λ t. Seals of_roots a filled id r t) n (record (put_at m a (Writing part)) { store = with_sealed id filled.kind filled.segments m.store; last_id = id; forgotten = forgotten_beside keys m.forgotten; collection = keeping keys m.collection }) t c.others
+      record (put_at r a (Writing part)) {
+        store = with_sealed id filled.kind filled.segments r.store;
+        last_id = id;
+        forgotten = forgotten_beside keys r.forgotten;
+        collection = keeping keys r.collection;
+      } in
+      let before : F =
+      record (put_at m a (Writing part)) {
+        store = with_sealed id filled.kind filled.segments m.store;
+        last_id = id;
+        forgotten = forgotten_beside keys m.forgotten;
+        collection = keeping keys m.collection;
+      } in
+      goes (λ t. Seals of_roots a filled id r t) n before t c.others
       (record {
         may = keeps_same a _ filled.kind c.may;
         fits = λ told. absurd told;
@@ -179,9 +191,19 @@ module _ (m : F) (r : G) (same : Forgets m r) where
   committed : (a : ℕ) (name file : List ℕ) (sequence : ℕ) (n : F) → Commits of_files a name file sequence m n → Left (λ t. Commits of_roots a name (root_of file) sequence r t) n
   committed a name file sequence n c =
       let t : G =
-      record (put_at r a Idle) { now = with_name of_roots name (root_of file) r.now; store = with_change name (Put (root_of file)) r.store; acknowledged = one_more r.acknowledged } in
+      record (put_at r a Idle) {
+        now = with_name of_roots name (root_of file) r.now;
+        store = with_change name
+            (Put (root_of file)) r.store;
+        acknowledged = one_more r.acknowledged;
+      } in
       goes (λ t. Commits of_roots a name (root_of file) sequence r t) n
-      (record (put_at m a Idle) { now = with_name of_files name file m.now; store = with_change name (Put (root_of file)) m.store; acknowledged = one_more m.acknowledged }) t c.others
+      (record (put_at m a Idle) {
+        now = with_name of_files name file m.now;
+        store = with_change name
+            (Put (root_of file)) m.store;
+        acknowledged = one_more m.acknowledged;
+      }) t c.others
       (record {
         may = may_commit a name file c.may;
         right = tt;
@@ -285,7 +307,8 @@ module _ (m : F) (r : G) (same : Forgets m r) where
       ap (λ (vs : List Root). vs ++ values_read r.parts) (values_same m.now r.now same.now)
       ∙ ap (λ (vs : List Root). map root_of (finite.values m.now.names) ++ vs) (read_same m.parts r.parts same.parts)
       ∙ sym (map_two (finite.values m.now.names) (values_read m.parts)) in
-      goes (λ t. Begins of_roots percent snapshot r t) n (record m { collection = Some (started percent snapshot) }) (record r { collection = Some (root_started percent snapshot) }) others
+      goes (λ t. Begins of_roots percent snapshot r t) n (record m { collection = Some (started percent snapshot) })
+      (record r { collection = Some (root_started percent snapshot) }) others
       (none_runs none, is ∙ ap suc (sym same.last_id), refl)
       (record {
         now = same.now;
@@ -342,10 +365,36 @@ module _ (m : F) (r : G) (same : Forgets m r) where
   more_left filled now after (more, gone, filled_is, gone_is) = (more, gone, filled_is, gone_is ∙ ap (λ (fs : List (List ℕ)). fs ++ gone) (sym same.forgotten))
 
   copies_same : (c : Collection (List ℕ)) (w : Went) → Copies of_files c m w → Copies of_roots (forget_collection c) r w
-  copies_same c w (s, t, next, stage, after, recorded, changes, left, ready, more, over, inl (source, entry, next_is, inl ends)) =
-      (s, t, next, stage, after, recorded, changes, left, ready, more_left s.filled t.filled w.forgotten more, (λ known. absurd known), inl (source, entry, on_store (λ (x : Store). next ≡ next_of x.held (sources_in c) t) next_is, inl ends))
-  copies_same c w (s, t, next, stage, after, recorded, changes, left, ready, more, over, inl (source, entry, next_is, inr (inl ends))) =
-      (s, t, next, stage, after, recorded, changes, left, ready, more_left s.filled t.filled w.forgotten more, (λ known. absurd known), inl (source, entry, on_store (λ (x : Store). next ≡ next_of x.held (sources_in c) t) next_is, inr (inl ends)))
+  copies_same c w (s, t, next, stage, after, recorded, changes, left, ready, more, over, inl (source, entry, next_is, inl ends)) = (
+    s,
+    t,
+    next,
+    stage,
+    after,
+    recorded,
+    changes,
+    left,
+    ready,
+    more_left s.filled t.filled w.forgotten more,
+    (λ known. absurd known),
+    inl
+        (source, entry, on_store (λ (x : Store). next ≡ next_of x.held (sources_in c) t) next_is, inl ends),
+  )
+  copies_same c w (s, t, next, stage, after, recorded, changes, left, ready, more, over, inl (source, entry, next_is, inr (inl ends))) = (
+    s,
+    t,
+    next,
+    stage,
+    after,
+    recorded,
+    changes,
+    left,
+    ready,
+    more_left s.filled t.filled w.forgotten more,
+    (λ known. absurd known),
+    inl
+        (source, entry, on_store (λ (x : Store). next ≡ next_of x.held (sources_in c) t) next_is, inr (inl ends)),
+  )
   copies_same c w (s, t, next, stage, after, recorded, changes, left, ready, more, over, inl (source, entry, next_is, inr (inr ends))) = absurd (ends.0 tt)
   copies_same c w (s, t, next, stage, after, recorded, changes, left, ready, more, over, inr stops) =
       (s, t, next, stage, after, recorded, changes, left, ready, more_left s.filled t.filled w.forgotten more, (λ known. absurd known), inr stops)
@@ -456,10 +505,12 @@ module _ (m : F) (r : G) (same : Forgets m r) where
 
   done_same : (a : ℕ) (step : Asked (List ℕ)) (answer : Done) (n : F) → Does of_files a step answer m n → Left (λ t. Does of_roots a (asked_of step) answer r t) n
   done_same a asked.Begin done.Begun n (is, others) =
-      goes (λ t. Does of_roots a asked.Begin done.Begun r t) n (put_at m a (Writing finite.empty)) (put_at r a (Writing finite.empty)) others (idle a is, refl) (put a (Writing finite.empty) (Writing finite.empty) refl)
+      goes (λ t. Does of_roots a asked.Begin done.Begun r t) n (put_at m a (Writing finite.empty)) (put_at r a (Writing finite.empty)) others (idle a is, refl)
+      (put a (Writing finite.empty) (Writing finite.empty) refl)
   done_same a (asked.Claim seg) done.Held n does = claimed a seg n does
   done_same a (asked.Claim seg) done.Absent n (keeps, told, others) =
-      stays (λ t. Does of_roots a (asked.Claim seg) done.Absent r t) n others (keeps_same a _ seg.kind keeps, (λ indexed. lacks_same (segment_key seg.kind seg.segment) (told (inl tt))), refl)
+      stays (λ t. Does of_roots a (asked.Claim seg) done.Absent r t) n others
+      (keeps_same a _ seg.kind keeps, (λ indexed. lacks_same (segment_key seg.kind seg.segment) (told (inl tt))), refl)
   done_same a (asked.Seal filled) (done.Sealed id) n does = sealed a filled id n does
   done_same a (asked.Commit name file) (done.Committed sequence) n does = committed a name file sequence n does
   done_same a asked.Abort done.Aborted n does = given_up a kinds.Writing n does
@@ -543,7 +594,8 @@ module _ (m : F) (r : G) (same : Forgets m r) where
   uncommitted a name file refusals.Numbers n (may, lacks, others) =
       stays (λ t. RefusesCommit of_roots a name (root_of file) refusals.Numbers r t) n others (may_commit a name file may, no_numbers lacks, refl)
   uncommitted a name file refusals.DiskWrite n (may, has, right, whole, others) =
-      stop (λ t. RefusesCommit of_roots a name (root_of file) refusals.DiskWrite r t) n (Some (with_name of_files name file m.now)) (Some (with_name of_roots name (root_of file) r.now))
+      stop (λ t. RefusesCommit of_roots a name (root_of file) refusals.DiskWrite r t) n (Some (with_name of_files name file m.now))
+      (Some (with_name of_roots name (root_of file) r.now))
       (broken_by of_files name (Put (root_of file)) m.store) (broken_by of_roots name (Put (root_of file)) r.store) others
       (put_same m.now r.now same.now name file right, ap (broken_by of_files name (Put (root_of file))) same.store)
       (may_commit a name file may, numbers has, tt, (λ key needs. absurd needs), refl)

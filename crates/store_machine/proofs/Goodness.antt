@@ -43,7 +43,12 @@ stopped_fit : (name given : List ℕ) (a : ℕ) (s t : Session) (reply : ReplyVa
 stopped_fit name given a s t reply ss (made, turns, (refusal, reply_is, inl (memory, is))) =
     inr (subst (Good name given) (sym is) (ok_all name given made (turns_ok a made s t turns).0), none_after name reply refusal reply_is)
 stopped_fit name given a s t reply ss (made, turns, (refusal, reply_is, inr (step, due, (told, is, by)))) =
-    inr (subst (Good name given) (sym is) (ok_good name given made (step_of of_files a step told ∷ []) (turns_ok a made s t turns).0 (inl (fine_of step (due_is_quiet t step due)))), none_after name reply refusal reply_is)
+    inr (
+      subst (Good name given) (sym is)
+          (ok_good name given made (step_of of_files a step told ∷ []) (turns_ok a made s t turns).0
+          (inl (fine_of step (due_is_quiet t step due)))),
+      none_after name reply refusal reply_is,
+    )
 
 push_fit : (name given bytes : List ℕ) (reply : ReplyValue) (ss : List Step) (d e : D) → Pushes of_files 0 bytes reply ss d e → Fit name given reply ss
 push_fit name given bytes reply ss d e (s, t, moves, room, inl (turns, how)) = inl (turns_ok 0 ss s t turns).0
@@ -105,7 +110,11 @@ module _ (name : List ℕ) (now : Found (List ℕ)) where
       → Line of_files one.line one.reply ss d mid → Does one given last d mid ss
   does (replies.Opened files) one given last d mid ss ready is line =
       let made : Line of_files (lines.Begin 0) one.reply ss d mid = subst (λ (l : LineValue). Line of_files l one.reply ss d mid) is line in
-      inl (subst (λ (l : LineValue). Went now one.reply (given_after 0 l one.reply given) mid) (sym is) (begin_went now d mid ss one.reply given ready made), begin_fit name last one.reply ss d mid made)
+      inl (
+        subst (λ (l : LineValue). Went now one.reply (given_after 0 l one.reply given) mid) (sym is)
+            (begin_went now d mid ss one.reply given ready made),
+        begin_fit name last one.reply ss d mid made,
+      )
   does (replies.Begun a) one given last d mid ss stage follows line =
       inl (pushes now one.line one.reply ss d mid given stage.0 stage.1 follows line, either_fit name last one.line one.reply ss d mid follows line)
   does (replies.Pushed a count) one given last d mid ss stage follows line =

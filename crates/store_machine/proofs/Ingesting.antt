@@ -32,7 +32,7 @@ D = Desk (List ℕ) (List (List ℕ))
 pub run_one : (x : Step) (ss : List Step) (m n : F) → ss ≡ x ∷ [] → Run of_files ss m n → Legal of_files x m n
 run_one x ss m n is run = let one = subst (λ (xs : List Step). Run of_files xs m n) is run in subst (Legal of_files x m) (sym one.1.1) one.1.0
 
-run_parts : (xs ys : List Step) (m n : F) → Run of_files (xs ++ ys) m n → (mid : F) × Run of_files xs m mid × Run of_files ys mid n
+pub run_parts : (xs ys : List Step) (m n : F) → Run of_files (xs ++ ys) m n → (mid : F) × Run of_files xs m mid × Run of_files ys mid n
 run_parts [] ys m n run = (m, refl, run)
 run_parts (x ∷ xs) ys m n (next, (legal, run)) = let rest = run_parts xs ys next n run in (rest.0, (next, (legal, rest.1)), rest.2)
 
@@ -67,7 +67,12 @@ pub record Went (now : Found (List ℕ)) (reply : ReplyValue) (given : List ℕ)
 refused_went : (now : Found (List ℕ)) (refusal : Refusal) (reply : ReplyValue) (given : List ℕ) (d e : D) → reply ≡ replies.Refused refusal → d.machine.now ≡ now
     → Quiet d.machine e.machine → Went now reply given e
 refused_went now refusal reply given d e is same quiet =
-    record { quiet = (quiet.now ∙ same, quiet.state); stage = subst (λ (r : ReplyValue). Stage now r given e) (sym is) tt; undone = λ name done. subst (IsDone (Ingest name)) is done }
+    record {
+      quiet = (quiet.now ∙ same, quiet.state);
+      stage = subst (λ (r : ReplyValue). Stage now r given e) (sym is) tt;
+      undone = λ name done. subst
+          (IsDone (Ingest name)) is done;
+    }
 
 none_made : (d e : D) (ss : List Step) → d.machine.state ≡ Running → ss ≡ [] → Run of_files ss d.machine e.machine → Goes d.machine e.machine
 none_made d e ss runs is run =
@@ -101,7 +106,8 @@ module _ (now : Found (List ℕ)) (d e : D) (ss : List Step) (run : Run of_files
       refused_went now refusal reply given d e reply_is ready.same (record { now = last.now ∙ turned.goes.now; state = last.state })
 
   pushed_went : (bytes given : List ℕ) (reply : ReplyValue) → Gives given false d → Pushes of_files 0 bytes reply ss d e
-      → ((count : ℕ) × (reply ≡ replies.Pushed 0 count) × ((given_now : List ℕ) → given_now ≡ given ++ bytes → Went now reply given_now e)) ⊎ ((given_now : List ℕ) → Went now reply given_now e)
+      → ((count : ℕ) × (reply ≡ replies.Pushed 0 count) × ((given_now : List ℕ) → given_now ≡ given ++ bytes → Went now reply given_now e))
+      ⊎ ((given_now : List ℕ) → Went now reply given_now e)
   pushed_went bytes given reply gives (s, t, (was, sessions), room, inr stop) = inr (λ given_now. stopped_went 0 s t reply given_now stop)
   pushed_went bytes given reply gives (s, t, (was, sessions), room, inl (turns, inr (is, long))) =
       let turned = turns_go 0 ss s t d.machine e.machine ready.runs turns run in
@@ -120,7 +126,13 @@ module _ (now : Found (List ℕ)) (d e : D) (ss : List Step) (run : Run of_files
             record {
               quiet = (turned.goes.now ∙ ready.same, running_sure e.machine.state turned.goes.state);
               stage = subst (λ (r : ReplyValue). Stage now r given_now e) (sym reply_is) (
-                record { same = turned.goes.now ∙ ready.same; runs = turned.goes.state; some = subst (λ (l : List (Option Session)). 0 < length l) (sym sessions_are) (length_set d.sessions (Some after) ready.some) },
+                record {
+                  same = turned.goes.now
+                      ∙ ready.same;
+                  runs = turned.goes.state;
+                  some = subst (λ (l : List (Option Session)). 0 < length l) (sym sessions_are)
+                      (length_set d.sessions (Some after) ready.some);
+                },
                 record {
                   session = after;
                   is = ap (λ (l : List (Option Session)). slice_index_or l 0 None) sessions_are ∙ index_set d.sessions (Some after) ready.some;
@@ -136,7 +148,8 @@ module _ (now : Found (List ℕ)) (d e : D) (ss : List Step) (run : Run of_files
       → Went now reply (given_after 0 (lines.Push 0 digits) reply given) e
   push_line digits given reply gives pushes = by (pushed_went (pushed_bytes digits) given reply gives pushes)
     where
-      by : ((count : ℕ) × (reply ≡ replies.Pushed 0 count) × ((given_now : List ℕ) → given_now ≡ given ++ pushed_bytes digits → Went now reply given_now e)) ⊎ ((given_now : List ℕ) → Went now reply given_now e)
+      by : ((count : ℕ) × (reply ≡ replies.Pushed 0 count) × ((given_now : List ℕ) → given_now ≡ given ++ pushed_bytes digits → Went now reply given_now e))
+          ⊎ ((given_now : List ℕ) → Went now reply given_now e)
           → Went now reply (given_after 0 (lines.Push 0 digits) reply given) e
       by (inl (count, is, goes)) = goes (given_after 0 (lines.Push 0 digits) reply given) (ap (λ (r : ReplyValue). given_after 0 (lines.Push 0 digits) r given) is)
       by (inr goes) = goes (given_after 0 (lines.Push 0 digits) reply given)
@@ -154,7 +167,12 @@ module _ (now : Found (List ℕ)) (d e : D) (ss : List Step) (run : Run of_files
       record {
         quiet = (goes.now ∙ ready.same, running_sure e.machine.state goes.state);
         stage = subst (λ (r : ReplyValue). Stage now r given e) (sym is) (
-          record { same = goes.now ∙ ready.same; runs = goes.state; some = subst (λ (l : List (Option Session)). 0 < length l) (sym sessions_are) (length_set d.sessions (Some after) ready.some) },
+          record {
+            same = goes.now
+                ∙ ready.same;
+            runs = goes.state;
+            some = subst (λ (l : List (Option Session)). 0 < length l) (sym sessions_are) (length_set d.sessions (Some after) ready.some);
+          },
           record {
             session = after;
             is = ap (λ (l : List (Option Session)). slice_index_or l 0 None) sessions_are ∙ index_set d.sessions (Some after) ready.some;
@@ -169,7 +187,8 @@ module _ (now : Found (List ℕ)) (d e : D) (ss : List Step) (run : Run of_files
       → ss ≡ step_of of_files 0 asked.Begin told ∷ [] → reply ≡ reply_of 0 told → (given : List ℕ) → Went now reply (given_after 0 (lines.Begin 0) reply given) e
   begun_by (Err refusal) reply sessions is reply_is given =
       let legal = run_one (step_of of_files 0 asked.Begin (Err refusal)) ss d.machine e.machine is run in
-      refused_went now refusal reply (given_after 0 (lines.Begin 0) reply given) d e reply_is ready.same (step_quiet 0 asked.Begin (Err refusal) d.machine e.machine tt ready.runs legal)
+      refused_went now refusal reply (given_after 0 (lines.Begin 0) reply given) d e reply_is ready.same
+      (step_quiet 0 asked.Begin (Err refusal) d.machine e.machine tt ready.runs legal)
   begun_by (Ok answer) reply sessions is reply_is given =
       begun_ok answer reply sessions reply_is given (subst (λ (st : RunState (List ℕ)). ByState of_files st 0 asked.Begin (Ok answer) d.machine e.machine) ready.runs
       (run_one (step_of of_files 0 asked.Begin (Ok answer)) ss d.machine e.machine is run))
@@ -185,8 +204,19 @@ module _ (now : Found (List ℕ)) (d e : D) (ss : List Step) (run : Run of_files
           record {
             quiet = (own, running_sure e.machine.state runs);
             stage = subst (λ (r : ReplyValue). Stage now r (given_after 0 (lines.Begin 0) r given) e) (sym reply_is) (
-              record { same = own; runs = runs; some = subst (λ (l : List (Option Session)). 0 < length l) (sym sessions_are) (length_set d.sessions (Some new_session) ready.some) },
-              record { session = new_session; is = ap (λ (l : List (Option Session)). slice_index_or l 0 None) sessions_are ∙ index_set d.sessions (Some new_session) ready.some; given_is = refl; ended_is = refl },
+              record {
+                same = own;
+                runs = runs;
+                some = subst (λ (l : List (Option Session)). 0 < length l) (sym sessions_are)
+                    (length_set d.sessions (Some new_session) ready.some);
+              },
+              record {
+                session = new_session;
+                is = ap (λ (l : List (Option Session)). slice_index_or l 0 None) sessions_are
+                    ∙ index_set d.sessions (Some new_session) ready.some;
+                given_is = refl;
+                ended_is = refl;
+              },
             );
             undone = λ name done. subst (IsDone (Ingest name)) reply_is done;
           }
@@ -340,7 +370,8 @@ pushes now (lines.Push a digits) reply ss d e given ready gives (inl is) line =
     subst (λ (l : LineValue). Went now reply (given_after 0 l reply given) e) (ap (λ (x : ℕ). lines.Push x digits) (sym is))
     (push_went now d e ss reply digits given ready gives (subst (λ (x : ℕ). Line of_files (lines.Push x digits) reply ss d e) is line))
 pushes now line reply ss d e given ready gives (inr is) made =
-    subst (λ (l : LineValue). Went now reply (given_after 0 l reply given) e) (sym is) (finish_went now d e ss reply given ready gives (subst (λ (l : LineValue). Line of_files l reply ss d e) is made))
+    subst (λ (l : LineValue). Went now reply (given_after 0 l reply given) e) (sym is)
+    (finish_went now d e ss reply given ready gives (subst (λ (l : LineValue). Line of_files l reply ss d e) is made))
 pushes now line reply ss d e given ready gives (inl is) made = absurd is
 
 module _ (name : List ℕ) (now : Found (List ℕ)) where
@@ -366,7 +397,8 @@ module _ (name : List ℕ) (now : Found (List ℕ)) where
   pub next : (reply : ReplyValue) (one : Replied) (given : List ℕ) (d mid : D) (ss : List Step) → Stage now reply given d → Follows (Ingest name) reply one.line
       → Line of_files one.line one.reply ss d mid → Next one given d mid ss
   next (replies.Opened files) one given d mid ss ready is line =
-      inl (subst (λ (l : LineValue). Went now one.reply (given_after 0 l one.reply given) mid) (sym is) (begin_went now d mid ss one.reply given ready (subst (λ (l : LineValue). Line of_files l one.reply ss d mid) is line)))
+      inl (subst (λ (l : LineValue). Went now one.reply (given_after 0 l one.reply given) mid) (sym is)
+      (begin_went now d mid ss one.reply given ready (subst (λ (l : LineValue). Line of_files l one.reply ss d mid) is line)))
   next (replies.Begun a) one given d mid ss stage follows line = inl (pushes now one.line one.reply ss d mid given stage.0 stage.1 follows line)
   next (replies.Pushed a count) one given d mid ss stage follows line = inl (pushes now one.line one.reply ss d mid given stage.0 stage.1 follows line)
   next (replies.Finished a count) one given d mid ss stage is line =
@@ -420,9 +452,11 @@ pub opened_went : (m : F) (mid : D) (ss : List Step) (reply : ReplyValue) (told 
     → Reopens of_files told m mid.machine
     → mid.sessions ≡ unless_refused reply (all_none (desk m).sessions) (desk m).sessions → Went m.now reply [] mid
 opened_went m mid ss reply (Err refusal) runs is (may, inl others) sessions =
-    refused_went m.now refusal reply [] (desk m) mid is refl (record { now = ap (λ (x : F). x.now) others; state = running_sure mid.machine.state (ap (λ (x : F). x.state) others ∙ runs) })
+    refused_went m.now refusal reply [] (desk m) mid is refl
+    (record { now = ap (λ (x : F). x.now) others; state = running_sure mid.machine.state (ap (λ (x : F). x.state) others ∙ runs) })
 opened_went m mid ss reply (Err refusal) runs is (may, inr (stores, others, known)) sessions =
-    refused_went m.now refusal reply [] (desk m) mid is refl (record { now = ap (λ (x : F). x.now) others; state = subst IsSure (sym (ap (λ (x : F). x.state) others ∙ ap (freeing of_files stores) runs)) tt })
+    refused_went m.now refusal reply [] (desk m) mid is refl
+    (record { now = ap (λ (x : F). x.now) others; state = subst IsSure (sym (ap (λ (x : F). x.state) others ∙ ap (freeing of_files stores) runs)) tt })
 opened_went m mid ss reply (Ok (done.Reopened files)) runs is opens sessions =
     let found : opens.found ≡ m.now = subst (λ (st : RunState (List ℕ)). MayBeFound of_files st m.now opens.found) runs (opens.may tt) in
     let now_is : mid.machine.now ≡ m.now = ap (λ (x : F). x.now) opens.others ∙ found in
@@ -431,7 +465,8 @@ opened_went m mid ss reply (Ok (done.Reopened files)) runs is opens sessions =
     record {
       quiet = (now_is, running_sure mid.machine.state state_is);
       stage =
-          subst (λ (r : ReplyValue). Stage m.now r [] mid) (sym is) (record { same = now_is; runs = state_is; some = subst (λ (l : List (Option Session)). 0 < length l) (sym sessions_are) (omega arith) });
+          subst (λ (r : ReplyValue). Stage m.now r [] mid) (sym is)
+          (record { same = now_is; runs = state_is; some = subst (λ (l : List (Option Session)). 0 < length l) (sym sessions_are) (omega arith) });
       undone = λ name done. subst (IsDone (Ingest name)) is done;
     }
 opened_went m mid ss reply (Ok answer) runs is opens sessions = absurd opens
@@ -454,4 +489,5 @@ ingests_by_map name (one ∷ more) ss m e runs (first, follow) (made, later, mid
     let went = opened_went m mid made one.reply told runs (opened.1.0.1.2 ∙ reply_by a 0 told m mid.machine legal) legal opened.1.1 in
     let given_is : given_after 0 one.line one.reply [] ≡ [] = ap (λ (l : LineValue). given_after 0 l one.reply []) first in
     let rest = all name m.now more one [] mid e later went follow ran in
-    subst (λ (g : List ℕ). Ingested name (given_by 0 g more) (one ∷ more) m.now e.machine) (sym given_is) (all_of name m.now (given_by 0 [] more) one more e.machine (went.undone name) rest)
+    subst (λ (g : List ℕ). Ingested name (given_by 0 g more) (one ∷ more) m.now e.machine) (sym given_is)
+    (all_of name m.now (given_by 0 [] more) one more e.machine (went.undone name) rest)

@@ -1,5 +1,5 @@
 -- What a crash may find at any moment of an `ingest`: the steps that its lines make are quiet, but for one commit at their end.
-use Rattle.std.proofs.Common.{◌≡◌, ◌⊎◌, inl, inr, ℕ, List, [], ◌∷◌, ◌++◌, Some, None, Result, Ok, Err, ◌∙◌, ap, subst, sym}
+use Rattle.std.proofs.Common.{◌≡◌, ◌⊎◌, inl, inr, ℕ, List, [], ◌∷◌, ◌++◌, Some, None, Result, Ok, Err, refl, ◌∙◌, ap, subst, sym}
 use Rattle.actor_parts.specs.declared.step.Answer.{Answer}
 use Rattle.refusals.specs.declared.refusal.Refusal.{Refusal}
 use Rattle.refusals.specs.declared.refusal.Refusal.TheVariants as refusals
@@ -7,23 +7,31 @@ use Rattle.store_machine.specs.Asked.{Asked}
 use Rattle.store_machine.specs.Asked as asked
 use Rattle.store_machine.specs.Done.{Done}
 use Rattle.store_machine.specs.Done as done
-use Rattle.store_machine.specs.Legal.{Answers, ByState, Legal, RefusesCommit, with_name}
+use Rattle.store_machine.specs.Legal.{Answers, ByState, Does, Legal, Refuses, RefusesCommit, RefusesGcStep, RefusesOn, with_name}
 use Rattle.store_machine.specs.Lines.{AreTurns, Session, answer_of}
-use Rattle.store_machine.specs.Machine.{Found, RunState, Running, Stopped}
+use Rattle.store_machine.specs.Machine.{Found, Idle, Reading, RunState, Running, Stopped, put_at}
 use Rattle.store_machine.specs.Opening.{MayBeFound, Reopens, freeing}
 use Rattle.store_machine.specs.Runs.{IsPassedFrom, Run}
 use Rattle.store_machine.specs.Values.{of_files}
-use Rattle.store_machine.proofs.Quiet.{IsSure, running_sure, F, Goes, IsQuiet, Quiet, Step, due_is_quiet, step_done, step_quiet}
+use Rattle.store_machine.proofs.Quiet.{IsSure, running_sure, F, Goes, IsQuiet, Quiet, Step, due_is_quiet, quiet_of, step_done, step_quiet}
 
 -- ---- lists of steps
 
--- a step that puts no name
+-- a step that changes no name
 abbrev pub IsFine : Asked (List ℕ) → Type 0
-IsFine asked.Begin = Unit {0}
-IsFine (asked.Claim seg) = Unit {0}
-IsFine (asked.Seal filled) = Unit {0}
-IsFine asked.Reopen = Unit {0}
-IsFine step = ⊥
+IsFine (asked.Commit name file) = ⊥
+IsFine (asked.Delete name) = ⊥
+IsFine step = Unit {0}
+
+-- one that neither begins, claims or seals, nor opens the store again
+abbrev pub IsRead : Asked (List ℕ) → Type 0
+IsRead asked.Begin = ⊥
+IsRead (asked.Claim seg) = ⊥
+IsRead (asked.Seal filled) = ⊥
+IsRead (asked.Commit name file) = ⊥
+IsRead (asked.Delete name) = ⊥
+IsRead asked.Reopen = ⊥
+IsRead step = Unit {0}
 
 abbrev pub IsTold : Result Done Refusal → Type 0
 IsTold (Ok answer) = Unit {0}
@@ -33,17 +41,27 @@ abbrev pub AllOk : List Step → Type 0
 AllOk [] = Unit {0}
 AllOk (x ∷ xs) = IsFine x.asked × IsTold x.answer × AllOk xs
 
--- all but the last are such, and were done; the last is such, or a commit of this file
+-- all but the last are such, and were done; the last is such, or one of these
+abbrev pub GoodTo : (Asked (List ℕ) → Type 0) → List Step → Type 0
+GoodTo Last [] = Unit {0}
+GoodTo Last (x ∷ []) = IsFine x.asked ⊎ Last x.asked
+GoodTo Last (x ∷ y ∷ more) = IsFine x.asked × IsTold x.answer × GoodTo Last (y ∷ more)
+
+pub ok_good_to : (Last : Asked (List ℕ) → Type 0) (xs ys : List Step) → AllOk xs → GoodTo Last ys → GoodTo Last (xs ++ ys)
+ok_good_to Last [] ys ok good = good
+ok_good_to Last (x ∷ []) [] ok good = inl ok.0
+ok_good_to Last (x ∷ []) (y ∷ ys) ok good = (ok.0, ok.1, good)
+ok_good_to Last (x ∷ z ∷ xs) ys ok good = (ok.0, ok.1, ok_good_to Last (z ∷ xs) ys ok.2 good)
+
+-- the last may be a commit of this file
+abbrev pub IsCommit : (name given : List ℕ) → Asked (List ℕ) → Type 0
+IsCommit name given step = step ≡ asked.Commit name given
+
 abbrev pub Good : (name given : List ℕ) → List Step → Type 0
-Good name given [] = Unit {0}
-Good name given (x ∷ []) = IsFine x.asked ⊎ (x.asked ≡ asked.Commit name given)
-Good name given (x ∷ y ∷ more) = IsFine x.asked × IsTold x.answer × Good name given (y ∷ more)
+Good name given = GoodTo (IsCommit name given)
 
 pub ok_good : (name given : List ℕ) (xs ys : List Step) → AllOk xs → Good name given ys → Good name given (xs ++ ys)
-ok_good name given [] ys ok good = good
-ok_good name given (x ∷ []) [] ok good = inl ok.0
-ok_good name given (x ∷ []) (y ∷ ys) ok good = (ok.0, ok.1, good)
-ok_good name given (x ∷ z ∷ xs) ys ok good = (ok.0, ok.1, ok_good name given (z ∷ xs) ys ok.2 good)
+ok_good name given = ok_good_to (IsCommit name given)
 
 pub fine_of : (step : Asked (List ℕ)) → IsQuiet step → IsFine step
 fine_of asked.Begin quiet = tt
@@ -61,58 +79,189 @@ turns_ok a (x ∷ xs) s t (actor, due, (answer, told, more)) =
     let rest = turns_ok a xs (record s { answers = s.answers ++ answer ∷ [] }) t more in
     ((fine_of x.asked (due_is_quiet s x.asked due), is_told x.answer answer told, rest.0), rest.1)
 
+-- ---- steps that store nothing
+
+stays_so : (m n : F) → m.state ≡ Running → n ≡ m → Goes m n
+stays_so m n runs is = record { now = ap (λ (x : F). x.now) is; state = ap (λ (x : F). x.state) is ∙ runs }
+
+puts_part : (a : ℕ) (part : _) (m n : F) → m.state ≡ Running → n ≡ put_at m a part → Goes m n
+puts_part a part m n runs is = record { now = ap (λ (x : F). x.now) is; state = ap (λ (x : F). x.state) is ∙ runs }
+
+rests_so : (m n : F) → m.state ≡ Running → n ≡ m → Quiet m n
+rests_so m n runs is = quiet_of m n (stays_so m n runs is)
+
+-- done
+reads_go : (a : ℕ) (step : Asked (List ℕ)) (answer : Done) (m n : F) → IsRead step → m.state ≡ Running → Does of_files a step answer m n → Goes m n
+reads_go a (asked.OpenRead name) (done.Opened count) m n read runs (named, idle, (value, rest, has, starts, count_is, others)) = puts_part a (Reading value rest) m n runs others
+reads_go a asked.ReadNext (done.Bytes bytes) m n read runs (value, rest, after, was, gives, others) = puts_part a (Reading value after) m n runs others
+reads_go a asked.ReadNext done.End m n read runs (value, rest, was, ends, others) = stays_so m n runs others
+reads_go a asked.EndRead done.Dropped m n read runs (was, others) = puts_part a Idle m n runs others
+reads_go a asked.Abort done.Aborted m n read runs (was, others) = puts_part a Idle m n runs others
+reads_go a asked.ListNames (done.Listed files) m n read runs (is, others) = stays_so m n runs others
+reads_go a asked.Stat (done.Counted files segments bytes used free) m n read runs (is, others) = stays_so m n runs others
+reads_go a (asked.GcStart percent) (done.Started snapshot) m n read runs (none, is, others) =
+    record { now = ap (λ (x : F). x.now) others; state = ap (λ (x : F). x.state) others ∙ runs }
+reads_go a asked.GcStep (done.Did phase) m n read runs goes = record { now = ap (λ (x : F). x.now) goes.others; state = ap (λ (x : F). x.state) goes.others ∙ runs }
+reads_go a asked.GcStep (done.Collected freed copied) m n read runs ends = record { now = ap (λ (x : F). x.now) ends.others; state = ap (λ (x : F). x.state) ends.others ∙ runs }
+reads_go a (asked.OpenRead name) answer m n read runs does = absurd does
+reads_go a asked.ReadNext answer m n read runs does = absurd does
+reads_go a asked.EndRead answer m n read runs does = absurd does
+reads_go a asked.Abort answer m n read runs does = absurd does
+reads_go a asked.ListNames answer m n read runs does = absurd does
+reads_go a asked.Stat answer m n read runs does = absurd does
+reads_go a (asked.GcStart percent) answer m n read runs does = absurd does
+reads_go a asked.GcStep answer m n read runs does = absurd does
+reads_go a step answer m n read runs does = absurd read
+
+-- refused
+gc_rests : (refusal : Refusal) (m n : F) → m.state ≡ Running → RefusesGcStep of_files refusal m n → Quiet m n
+gc_rests refusals.NotCollecting m n runs (none, is) = rests_so m n runs is
+gc_rests refusals.Memory m n runs (some, is) = rests_so m n runs is
+gc_rests refusals.Numbers m n runs (at, last, is) = rests_so m n runs is
+gc_rests refusals.DiskRead m n runs (at, is) = rests_so m n runs is
+gc_rests refusals.DiskWrite m n runs (stores, may, is) = record { now = ap (λ (x : F). x.now) is; state = subst IsSure (sym (ap (λ (x : F). x.state) is)) tt }
+gc_rests (refusals.Corrupt slot offset count want got) m n runs (at, (unknown, is)) = rests_so m n runs is
+gc_rests (refusals.Missing key) m n runs (at, (unknown, is)) = rests_so m n runs is
+gc_rests (refusals.Damaged at why) m n runs (where_at, (unknown, is)) = rests_so m n runs is
+gc_rests refusal m n runs refuses = absurd refuses
+
+start_rests : (a percent : ℕ) (refusal : Refusal) (m n : F) → m.state ≡ Running → RefusesOn of_files a (asked.GcStart percent) refusal m n → Quiet m n
+start_rests a percent refusals.Memory m n runs (none, is) = rests_so m n runs is
+start_rests a percent (refusals.Missing key) m n runs (none, (unknown, is)) = rests_so m n runs is
+start_rests a percent (refusals.Damaged at why) m n runs (none, (unknown, is)) = rests_so m n runs is
+start_rests a percent (refusals.Collecting phase) m n runs (at, is) = rests_so m n runs is
+start_rests a percent refusal m n runs refuses = absurd refuses
+
+open_rests : (a : ℕ) (name : List ℕ) (refusal : Refusal) (m n : F) → m.state ≡ Running → RefusesOn of_files a (asked.OpenRead name) refusal m n → Quiet m n
+open_rests a name refusals.Memory m n runs is = rests_so m n runs is
+open_rests a name refusals.BadName m n runs (bad, is) = rests_so m n runs is
+open_rests a name refusals.NoFile m n runs (named, none, is) = rests_so m n runs is
+open_rests a name refusal m n runs refuses = absurd refuses
+
+list_rests : (a : ℕ) (refusal : Refusal) (m n : F) → m.state ≡ Running → RefusesOn of_files a asked.ListNames refusal m n → Quiet m n
+list_rests a refusals.Memory m n runs is = rests_so m n runs is
+list_rests a refusal m n runs refuses = absurd refuses
+
+reads_rest_on : (a : ℕ) (step : Asked (List ℕ)) (refusal : Refusal) (m n : F) → IsRead step → m.state ≡ Running → RefusesOn of_files a step refusal m n → Quiet m n
+reads_rest_on a (asked.OpenRead name) refusal m n read runs refuses = open_rests a name refusal m n runs refuses
+reads_rest_on a asked.ReadNext refusal m n read runs (value, rest, after, was, stays, is) = quiet_of m n (puts_part a (Reading value after) m n runs is)
+reads_rest_on a asked.ListNames refusal m n read runs refuses = list_rests a refusal m n runs refuses
+reads_rest_on a (asked.GcStart percent) refusal m n read runs refuses = start_rests a percent refusal m n runs refuses
+reads_rest_on a asked.GcStep refusal m n read runs refuses = gc_rests refusal m n runs refuses
+reads_rest_on a asked.EndRead refusal m n read runs refuses = absurd refuses
+reads_rest_on a asked.Abort refusal m n read runs refuses = absurd refuses
+reads_rest_on a asked.Stat refusal m n read runs refuses = absurd refuses
+reads_rest_on a step refusal m n read runs refuses = absurd read
+
+reads_rest : (a : ℕ) (step : Asked (List ℕ)) (refusal : Refusal) (m n : F) → IsRead step → m.state ≡ Running → Refuses of_files a step refusal m n → Quiet m n
+reads_rest a step (refusals.WrongPart kind) m n read runs (wrong, is) = rests_so m n runs is
+reads_rest a step refusals.Memory m n read runs on = reads_rest_on a step refusals.Memory m n read runs on
+reads_rest a step refusal m n read runs (right, on) = reads_rest_on a step refusal m n read runs on
+
+by_running : (a : ℕ) (step : Asked (List ℕ)) (told : Result Done Refusal) (m n : F) → m.state ≡ Running → ByState of_files m.state a step told m n
+    → Answers of_files a step told m n
+by_running a step told m n runs by = subst (λ (st : RunState (List ℕ)). ByState of_files st a step told m n) runs by
+
+read_quiet : (a : ℕ) (step : Asked (List ℕ)) (told : Result Done Refusal) (m n : F) → IsRead step → Answers of_files a step told m n → m.state ≡ Running → Quiet m n
+read_quiet a step (Ok answer) m n read does runs = quiet_of m n (reads_go a step answer m n read runs does)
+read_quiet a step (Err refusal) m n read refuses runs = reads_rest a step refusal m n read runs refuses
+
+-- ---- fine steps
+
+-- an opening of one that ran
+reopen_quiet : (told : Result Done Refusal) (m n : F) → m.state ≡ Running → Reopens of_files told m n → Quiet m n
+reopen_quiet (Ok (done.Reopened files)) m n runs o = record {
+  now = ap (λ (x : F). x.now) o.others ∙ subst (λ (st : RunState (List ℕ)). MayBeFound of_files st m.now o.found) runs (o.may tt);
+  state = running_sure n.state (ap (λ (x : F). x.state) o.others);
+}
+reopen_quiet (Ok answer) m n runs o = absurd o
+reopen_quiet (Err refusal) m n runs (may, inl is) = record { now = ap (λ (x : F). x.now) is; state = running_sure n.state (ap (λ (x : F). x.state) is ∙ runs) }
+reopen_quiet (Err refusal) m n runs (may, inr (stores, is, known)) =
+    record { now = ap (λ (x : F). x.now) is; state = subst IsSure (sym (ap (λ (x : F). x.state) is ∙ ap (freeing of_files stores) runs)) tt }
+
+reopen_goes : (answer : Done) (m n : F) → m.state ≡ Running → Reopens of_files (Ok answer) m n → Goes m n
+reopen_goes (done.Reopened files) m n runs o = record {
+  now = ap (λ (x : F). x.now) o.others ∙ subst (λ (st : RunState (List ℕ)). MayBeFound of_files st m.now o.found) runs (o.may tt);
+  state = ap (λ (x : F). x.state) o.others;
+}
+reopen_goes answer m n runs o = absurd o
+
+fine_quiet : (a : ℕ) (step : Asked (List ℕ)) (told : Result Done Refusal) (m n : F) → IsFine step → m.state ≡ Running
+    → Legal of_files (record { actor = a; asked = step; answer = told }) m n → Quiet m n
+fine_quiet a asked.Begin told m n fine runs legal = step_quiet a asked.Begin told m n tt runs legal
+fine_quiet a (asked.Claim seg) told m n fine runs legal = step_quiet a (asked.Claim seg) told m n tt runs legal
+fine_quiet a (asked.Seal filled) told m n fine runs legal = step_quiet a (asked.Seal filled) told m n tt runs legal
+fine_quiet a asked.Reopen told m n fine runs legal = reopen_quiet told m n runs legal
+fine_quiet a (asked.OpenRead name) told m n fine runs legal = read_quiet a (asked.OpenRead name) told m n tt (by_running a (asked.OpenRead name) told m n runs legal) runs
+fine_quiet a asked.ReadNext told m n fine runs legal = read_quiet a asked.ReadNext told m n tt (by_running a asked.ReadNext told m n runs legal) runs
+fine_quiet a asked.ListNames told m n fine runs legal = read_quiet a asked.ListNames told m n tt (by_running a asked.ListNames told m n runs legal) runs
+fine_quiet a asked.EndRead told m n fine runs legal = read_quiet a asked.EndRead told m n tt (by_running a asked.EndRead told m n runs legal) runs
+fine_quiet a asked.Abort told m n fine runs legal = read_quiet a asked.Abort told m n tt (by_running a asked.Abort told m n runs legal) runs
+fine_quiet a asked.Stat told m n fine runs legal = read_quiet a asked.Stat told m n tt (by_running a asked.Stat told m n runs legal) runs
+fine_quiet a (asked.GcStart percent) told m n fine runs legal = read_quiet a (asked.GcStart percent) told m n tt (by_running a (asked.GcStart percent) told m n runs legal) runs
+fine_quiet a asked.GcStep told m n fine runs legal = read_quiet a asked.GcStep told m n tt (by_running a asked.GcStep told m n runs legal) runs
+fine_quiet a step told m n fine runs legal = absurd fine
+
+fine_goes : (a : ℕ) (step : Asked (List ℕ)) (told : Result Done Refusal) (m n : F) → IsFine step → IsTold told → m.state ≡ Running
+    → Legal of_files (record { actor = a; asked = step; answer = told }) m n → Goes m n
+fine_goes a asked.Begin (Ok answer) m n fine ok runs legal = step_done a asked.Begin answer m n tt runs legal
+fine_goes a (asked.Claim seg) (Ok answer) m n fine ok runs legal = step_done a (asked.Claim seg) answer m n tt runs legal
+fine_goes a (asked.Seal filled) (Ok answer) m n fine ok runs legal = step_done a (asked.Seal filled) answer m n tt runs legal
+fine_goes a asked.Reopen (Ok answer) m n fine ok runs legal = reopen_goes answer m n runs legal
+fine_goes a (asked.OpenRead name) (Ok answer) m n fine ok runs legal = reads_go a (asked.OpenRead name) answer m n tt runs
+    (by_running a (asked.OpenRead name) (Ok answer) m n runs legal)
+fine_goes a asked.ReadNext (Ok answer) m n fine ok runs legal = reads_go a asked.ReadNext answer m n tt runs (by_running a asked.ReadNext (Ok answer) m n runs legal)
+fine_goes a asked.ListNames (Ok answer) m n fine ok runs legal = reads_go a asked.ListNames answer m n tt runs (by_running a asked.ListNames (Ok answer) m n runs legal)
+fine_goes a asked.EndRead (Ok answer) m n fine ok runs legal = reads_go a asked.EndRead answer m n tt runs (by_running a asked.EndRead (Ok answer) m n runs legal)
+fine_goes a asked.Abort (Ok answer) m n fine ok runs legal = reads_go a asked.Abort answer m n tt runs (by_running a asked.Abort (Ok answer) m n runs legal)
+fine_goes a asked.Stat (Ok answer) m n fine ok runs legal = reads_go a asked.Stat answer m n tt runs (by_running a asked.Stat (Ok answer) m n runs legal)
+fine_goes a (asked.GcStart percent) (Ok answer) m n fine ok runs legal = reads_go a (asked.GcStart percent) answer m n tt runs
+    (by_running a (asked.GcStart percent) (Ok answer) m n runs legal)
+fine_goes a asked.GcStep (Ok answer) m n fine ok runs legal = reads_go a asked.GcStep answer m n tt runs (by_running a asked.GcStep (Ok answer) m n runs legal)
+fine_goes a step (Ok answer) m n fine ok runs legal = absurd fine
+fine_goes a step (Err refusal) m n fine ok runs legal = absurd ok
+
 -- ---- what may be found on the way
+
+pub sure_found : (state : RunState (List ℕ)) (now x : Found (List ℕ)) → IsSure state → MayBeFound of_files state now x → x ≡ now
+sure_found Running now x sure may = may
+sure_found (Stopped None stores) now x sure may = may
+sure_found (Stopped (Some other) stores) now x sure may = absurd sure
+
+-- P holds of these names, and of what may be found after a last step
+module _ (now : Found (List ℕ)) (Last : Asked (List ℕ) → Type 0) (P : Found (List ℕ) → Type 0) (rests : P now)
+    (last : (s : Step) (m n : F) → m.now ≡ now → m.state ≡ Running → Last s.asked → Legal of_files s m n → (x : Found (List ℕ)) → MayBeFound of_files n.state n.now x → P x) where
+  quiet_found : (m n : F) → m.now ≡ now → Quiet m n → (x : Found (List ℕ)) → MayBeFound of_files n.state n.now x → P x
+  quiet_found m n same quiet x may = subst P (sym (sure_found n.state n.now x quiet.state may ∙ quiet.now ∙ same)) rests
+
+  runs_found : (m : F) → m.now ≡ now → m.state ≡ Running → (x : Found (List ℕ)) → MayBeFound of_files m.state m.now x → P x
+  runs_found m same runs x may = subst P (sym (sure_found m.state m.now x (running_sure m.state runs) may ∙ same)) rests
+
+  last_found : (s : Step) (m n : F) → m.now ≡ now → m.state ≡ Running → IsFine s.asked ⊎ Last s.asked → Legal of_files s m n → (x : Found (List ℕ))
+      → MayBeFound of_files n.state n.now x → P x
+  last_found s m n same runs (inl fine) legal = quiet_found m n same (fine_quiet s.actor s.asked s.answer m n fine runs legal)
+  last_found s m n same runs (inr is) legal = last s m n same runs is legal
+
+  -- at each moment of a run of such steps
+  pub passes_to : (first : ℕ) (xs : List Step) (m n : F) (run : Run of_files xs m n) → GoodTo Last xs → m.now ≡ now → m.state ≡ Running → (x : Found (List ℕ))
+      → IsPassedFrom of_files first xs m n run x → P x
+  passes_to first [] m n run good same runs x (later, may) = runs_found m same runs x may
+  passes_to first (s ∷ []) m n run good same runs x (inl (later, may)) = runs_found m same runs x may
+  passes_to first (s ∷ []) m n run good same runs x (inr (later, may)) = last_found s m run.0 same runs good run.1.0 x may
+  passes_to first (s ∷ t ∷ more) m n run good same runs x (inl (later, may)) = runs_found m same runs x may
+  passes_to first (s ∷ t ∷ more) m n run good same runs x (inr passed) =
+      let goes = fine_goes s.actor s.asked s.answer m run.0 good.0 good.1 runs run.1.0 in
+      passes_to first (t ∷ more) run.0 n run.1.1 good.2 (goes.now ∙ same) goes.state x passed
+
+-- ---- a commit comes last
 
 module _ (name given : List ℕ) (now : Found (List ℕ)) where
   abbrev pub Either : Found (List ℕ) → Type 0
   Either x = (x ≡ now) ⊎ (x ≡ with_name of_files name given now)
 
-  by_state : (m : F) → m.now ≡ now → (st : RunState (List ℕ)) → IsSure st → (x : Found (List ℕ)) → MayBeFound of_files st m.now x → Either x
-  by_state m same Running sure x may = inl (may ∙ same)
-  by_state m same (Stopped None stores) sure x may = inl (may ∙ same)
-  by_state m same (Stopped (Some other) stores) sure x may = absurd sure
-
-  quiet_found : (m n : F) → m.now ≡ now → Quiet m n → (x : Found (List ℕ)) → MayBeFound of_files n.state n.now x → Either x
-  quiet_found m n same quiet x may = by_state n (quiet.now ∙ same) n.state quiet.state x may
-
-  -- an opening of one that ran
-  reopen_quiet : (told : Result Done Refusal) (m n : F) → m.state ≡ Running → Reopens of_files told m n → Quiet m n
-  reopen_quiet (Ok (done.Reopened files)) m n runs o = record {
-    now = ap (λ (x : F). x.now) o.others ∙ subst (λ (st : RunState (List ℕ)). MayBeFound of_files st m.now o.found) runs (o.may tt);
-    state = running_sure n.state (ap (λ (x : F). x.state) o.others);
-  }
-  reopen_quiet (Ok answer) m n runs o = absurd o
-  reopen_quiet (Err refusal) m n runs (may, inl is) = record { now = ap (λ (x : F). x.now) is; state = running_sure n.state (ap (λ (x : F). x.state) is ∙ runs) }
-  reopen_quiet (Err refusal) m n runs (may, inr (stores, is, known)) =
-      record { now = ap (λ (x : F). x.now) is; state = subst IsSure (sym (ap (λ (x : F). x.state) is ∙ ap (freeing of_files stores) runs)) tt }
-
-  reopen_goes : (answer : Done) (m n : F) → m.state ≡ Running → Reopens of_files (Ok answer) m n → Goes m n
-  reopen_goes (done.Reopened files) m n runs o = record {
-    now = ap (λ (x : F). x.now) o.others ∙ subst (λ (st : RunState (List ℕ)). MayBeFound of_files st m.now o.found) runs (o.may tt);
-    state = ap (λ (x : F). x.state) o.others;
-  }
-  reopen_goes answer m n runs o = absurd o
-
-  fine_quiet : (a : ℕ) (step : Asked (List ℕ)) (told : Result Done Refusal) (m n : F) → IsFine step → m.state ≡ Running
-      → Legal of_files (record { actor = a; asked = step; answer = told }) m n → Quiet m n
-  fine_quiet a asked.Begin told m n fine runs legal = step_quiet a asked.Begin told m n tt runs legal
-  fine_quiet a (asked.Claim seg) told m n fine runs legal = step_quiet a (asked.Claim seg) told m n tt runs legal
-  fine_quiet a (asked.Seal filled) told m n fine runs legal = step_quiet a (asked.Seal filled) told m n tt runs legal
-  fine_quiet a asked.Reopen told m n fine runs legal = reopen_quiet told m n runs legal
-  fine_quiet a step told m n fine runs legal = absurd fine
-
-  fine_goes : (a : ℕ) (step : Asked (List ℕ)) (told : Result Done Refusal) (m n : F) → IsFine step → IsTold told → m.state ≡ Running
-      → Legal of_files (record { actor = a; asked = step; answer = told }) m n → Goes m n
-  fine_goes a asked.Begin (Ok answer) m n fine ok runs legal = step_done a asked.Begin answer m n tt runs legal
-  fine_goes a (asked.Claim seg) (Ok answer) m n fine ok runs legal = step_done a (asked.Claim seg) answer m n tt runs legal
-  fine_goes a (asked.Seal filled) (Ok answer) m n fine ok runs legal = step_done a (asked.Seal filled) answer m n tt runs legal
-  fine_goes a asked.Reopen (Ok answer) m n fine ok runs legal = reopen_goes answer m n runs legal
-  fine_goes a step (Ok answer) m n fine ok runs legal = absurd fine
-  fine_goes a step (Err refusal) m n fine ok runs legal = absurd ok
-
   -- the commit
   still : (m n : F) → m.now ≡ now → m.state ≡ Running → n ≡ m → (x : Found (List ℕ)) → MayBeFound of_files n.state n.now x → Either x
-  still m n same runs is x may = quiet_found m n same (record { now = ap (λ (y : F). y.now) is; state = running_sure n.state (ap (λ (y : F). y.state) is ∙ runs) }) x may
+  still m n same runs is x may = inl (sure_found n.state n.now x (running_sure n.state (ap (λ (y : F). y.state) is ∙ runs)) may ∙ ap (λ (y : F). y.now) is ∙ same)
 
   put_is : (m : F) → m.now ≡ now → with_name of_files name given m.now ≡ with_name of_files name given now
   put_is m same = ap (λ (y : Found (List ℕ)). with_name of_files name given y) same
@@ -141,20 +290,12 @@ module _ (name given : List ℕ) (now : Found (List ℕ)) where
   commit_found a (Err refusals.Memory) m n same runs on x found = unput a refusals.Memory m n same runs on x found
   commit_found a (Err refusal) m n same runs (right, on) x found = unput a refusal m n same runs on x found
 
-  last_found : (s : Step) (m n : F) → m.now ≡ now → m.state ≡ Running → IsFine s.asked ⊎ (s.asked ≡ asked.Commit name given) → Legal of_files s m n → (x : Found (List ℕ))
+  commits_last : (s : Step) (m n : F) → m.now ≡ now → m.state ≡ Running → IsCommit name given s.asked → Legal of_files s m n → (x : Found (List ℕ))
       → MayBeFound of_files n.state n.now x → Either x
-  last_found s m n same runs (inl fine) legal = quiet_found m n same (fine_quiet s.actor s.asked s.answer m n fine runs legal)
-  last_found s m n same runs (inr is) legal =
+  commits_last s m n same runs is legal =
       commit_found s.actor s.answer m n same runs (subst (λ (st : RunState (List ℕ)). ByState of_files st s.actor (asked.Commit name given) s.answer m n) runs
       (subst (λ (step : Asked (List ℕ)). Legal of_files (record { actor = s.actor; asked = step; answer = s.answer }) m n) is legal))
 
-  -- at each moment of a run of such steps
   pub passes : (first : ℕ) (xs : List Step) (m n : F) (run : Run of_files xs m n) → Good name given xs → m.now ≡ now → m.state ≡ Running → (x : Found (List ℕ))
       → IsPassedFrom of_files first xs m n run x → Either x
-  passes first [] m n run good same runs x (later, may) = by_state m same m.state (running_sure m.state runs) x may
-  passes first (s ∷ []) m n run good same runs x (inl (later, may)) = by_state m same m.state (running_sure m.state runs) x may
-  passes first (s ∷ []) m n run good same runs x (inr (later, may)) = last_found s m run.0 same runs good run.1.0 x may
-  passes first (s ∷ t ∷ more) m n run good same runs x (inl (later, may)) = by_state m same m.state (running_sure m.state runs) x may
-  passes first (s ∷ t ∷ more) m n run good same runs x (inr passed) =
-      let goes = fine_goes s.actor s.asked s.answer m run.0 good.0 good.1 runs run.1.0 in
-      passes first (t ∷ more) run.0 n run.1.1 good.2 (goes.now ∙ same) goes.state x passed
+  passes = passes_to now (IsCommit name given) Either (inl refl) commits_last

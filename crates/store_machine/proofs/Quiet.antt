@@ -153,6 +153,7 @@ turns_go a [] s t m n runs is run = record { goes = stays m n runs run; given = 
 turns_go a (x ∷ xs) s t m n runs (actor, due, (answer, told, more)) (mid, (legal, run)) =
     let d = told_ok x.answer answer told in
     let one : Goes m mid =
-    step_done x.actor x.asked d.0 m mid (due_is_quiet s x.asked due) runs (subst (λ (r : Result Done Refusal). Legal of_files (record { actor = x.actor; asked = x.asked; answer = r }) m mid) d.1 legal) in
+    step_done x.actor x.asked d.0 m mid (due_is_quiet s x.asked due) runs
+    (subst (λ (r : Result Done Refusal). Legal of_files (record { actor = x.actor; asked = x.asked; answer = r }) m mid) d.1 legal) in
     let rest = turns_go a xs (record s { answers = s.answers ++ answer ∷ [] }) t mid n one.state more run in
     record { goes = record { now = rest.goes.now ∙ one.now; state = rest.goes.state }; given = rest.given; ended = rest.ended }

@@ -190,7 +190,8 @@ module _ {V R : Type 0} where
         let made = none_made changes in
         let gone : since.gone ≡ [] = subst (AtStage c since.gone) stage since.stage in
         unchanged m k n c S S' T T' since w.stage w.recorded made.0 made.1 (ran_so w.stage w.recorded changes refl refl)
-        (ap filled_at stage) (ap filled_at next ∙ none_filled left) (subst (AtStage (record c { stage = w.stage; recorded = w.recorded }) since.gone) (sym next) (at_left left gone))
+        (ap filled_at stage) (ap filled_at next ∙ none_filled left)
+        (subst (AtStage (record c { stage = w.stage; recorded = w.recorded }) since.gone) (sym next) (at_left left gone))
         words (none_taken (λ copying. subst IsCopying stage copying))
       where
         none_filled : (l : ℕ) → filled_at (marking l) ≡ []
@@ -320,7 +321,8 @@ module _ {V R : Type 0} where
           into_by : (i : ℕ) → (i ≡ s.source) ⊎ (i ≢ s.source) → i < t.source
               → Contains since.gone (get_or (sources_in c) i 0) ⊎ Contains t.waiting (get_or (sources_in c) i 0) ⊎ Contains t.ready (get_or (sources_in c) i 0)
           into_by i (inl same) few = inr (subst (λ (j : ℕ). Contains t.waiting (get_or (sources_in c) j 0) ⊎ Contains t.ready (get_or (sources_in c) j 0)) (sym same)
-              (⊎_elim (λ one. inl (subst (λ (ids : List ℕ). Contains ids id) (sym waiting_is) one)) (λ one. inr (subst (λ (ids : List ℕ). Contains ids id) (sym ready_is) one)) here))
+              (⊎_elim (λ one. inl (subst (λ (ids : List ℕ). Contains ids id) (sym waiting_is) one))
+              (λ one. inr (subst (λ (ids : List ℕ). Contains ids id) (sym ready_is) one)) here))
           into_by i (inr other) few = to_now (get_or (sources_in c) i 0) (swept.into i (omega (arith, few, source, other)))
 
           from_by : (x : ℕ) → Contains since.gone x ⊎ Contains t.waiting x ⊎ Contains t.ready x → Contains (sources_in c) x
@@ -364,7 +366,8 @@ module _ {V R : Type 0} where
         → AllByRecursion (λ x. ¬ (Contains written (segment_key kind x)) × P x) segments → (key : List ℕ) → Contains (keys_of kind segments) key → ¬ (Contains written key)
     none_of kind written [] P all key is = absurd (none_in key is)
     none_of kind written (x ∷ xs) P all key is =
-        ⊎_elim (λ same. subst (λ (q : List ℕ). ¬ (Contains written q)) same all.0.0) (λ rest. none_of kind written xs P all.1 key rest) (in_cases (segment_key kind x) (keys_of kind xs) key is)
+        ⊎_elim (λ same. subst (λ (q : List ℕ). ¬ (Contains written q)) same all.0.0) (λ rest. none_of kind written xs P all.1 key rest)
+        (in_cases (segment_key kind x) (keys_of kind xs) key is)
 
     pub flushed : Flushes v c k w → Since m n after S' T'
     flushed (s, t, kind, segments, was, changes, keys, t_is, next, recorded, forgotten, held) =
@@ -393,7 +396,8 @@ module _ {V R : Type 0} where
               subst EachOnce (sym written) (once_both (keys_written c.changes) s.filled since.once (subst (λ (st : Stage). EachOnce (filled_at st)) was since.filled_once) apart);
           filled_once = subst (λ (st : Stage). EachOnce (filled_at st)) (sym next) (subst (λ (x : Sweep). EachOnce x.filled) (sym t_is) tt);
           stage = subst (λ (st : Stage). AtStage after since.gone st) (sym next)
-              (subst (λ (rs : List ContainerLiveness). SweepsSince (sources_in (record after { recorded = rs })) since.gone (next_of k.store.held (sources_in c) t) t) (sym recorded) (swept_now s t t_is so));
+              (subst (λ (rs : List ContainerLiveness). SweepsSince (sources_in (record after { recorded = rs })) since.gone (next_of k.store.held (sources_in c) t) t)
+              (sym recorded) (swept_now s t t_is so));
         }
       where
         append_none : (xs : List (List ℕ)) → xs ++ [] ≡ xs
@@ -432,7 +436,8 @@ module _ {V R : Type 0} where
 
             to : T' key → Contains (keys_written (c.changes ++ w.changes)) key ⊎ Contains (filled_at w.stage) key
             to one = inl (subst (λ (ks : List (List ℕ)). Contains ks key) (sym written)
-                (⊎_elim (λ a. Contains-append_left (keys_written c.changes) s.filled key a) (λ b. Contains-append_right (keys_written c.changes) s.filled key b) (had.0 (kept.1 one))))
+                (⊎_elim (λ a. Contains-append_left (keys_written c.changes) s.filled key a) (λ b. Contains-append_right (keys_written c.changes) s.filled key b)
+                (had.0 (kept.1 one))))
 
             from : Contains (keys_written (c.changes ++ w.changes)) key ⊎ Contains (filled_at w.stage) key → T' key
             from (inl one) = kept.0 (had.1 (Contains-append_cases (keys_written c.changes) s.filled key (subst (λ (ks : List (List ℕ)). Contains ks key) written one)))
@@ -444,7 +449,9 @@ module _ {V R : Type 0} where
           before = so.before;
           counted = omega (arith, so.counted, ap length (so.flushes refl));
           into =
-              λ i few. ⊎_elim (λ a. inl a) (λ b. inr (inr (⊎_elim (λ one. one) (λ one. absurd (none_in _ (subst (λ (ids : List ℕ). Contains ids (get_or (sources_in c) i 0)) (so.flushes refl) one))) b))) (so.into i few);
+              λ i few. ⊎_elim (λ a. inl a)
+              (λ b. inr (inr (⊎_elim (λ one. one) (λ one. absurd (none_in _ (subst (λ (ids : List ℕ). Contains ids (get_or (sources_in c) i 0)) (so.flushes refl) one))) b)))
+              (so.into i few);
           from = λ id one. so.from id (⊎_elim (λ a. inl a) (λ b. ⊎_elim (λ none. absurd (none_in id none)) (λ ready. inr (inl ready)) b) one);
           waits = λ none. refl;
           flushes = λ flush. none_ready k.store.held (sources_in c) s.source s.waiting [] flush;
@@ -467,15 +474,24 @@ module _ {V R : Type 0} where
               (old_source id source) (ap (λ (x : Store). x.held) made.1) (steps.last ∙ ap (λ (ch : List StoreChange). last_by ch k.last_id) changes)
               (λ g. subst (λ (ch : List StoreChange). (S g ⊎ IsWrittenBy c.changes g) ↔ (S' g ⊎ IsWrittenBy (c.changes ++ ch) g)) (sym changes) (same_written g slot));
           freed =
-              omega (arith, ap (λ (ch : List StoreChange). freed_in (c.changes ++ ch)) changes, freed_more c.changes (FreeContainer slot ∷ []), since.freed, length_push since.gone id);
+              omega (
+                arith,
+                ap (λ (ch : List StoreChange). freed_in (c.changes ++ ch)) changes,
+                freed_more c.changes
+                    (FreeContainer slot ∷ []),
+                since.freed,
+                length_push since.gone id,
+              );
           keys = λ key. subst (λ (ks : List (List ℕ)). T' key ↔ (Contains ks key ⊎ Contains (filled_at w.stage) key)) (sym written)
               (subst (λ (ks : List (List ℕ)). T' key ↔ (Contains (keys_written c.changes) key ⊎ Contains ks key)) (sym filled)
               (flip (none_taken (λ copying. subst IsCopying was copying) key) (since.keys key)));
           once = subst EachOnce (sym written) since.once;
           filled_once = subst EachOnce (sym filled) since.filled_once;
           stage = subst (λ (st : Stage). AtStage after (since.gone ++ id ∷ []) st) (sym next)
-              (subst (λ (rs : List ContainerLiveness). SweepsSince (sources_in (record after { recorded = rs })) (since.gone ++ id ∷ []) (next_of k.store.held (sources_in c) t) t) (sym recorded)
-              (subst (λ (x : Sweep). SweepsSince (sources_in c) (since.gone ++ id ∷ []) (next_of k.store.held (sources_in c) x) x) (sym t_is) (swept_now s id rest ready source so)));
+              (subst (λ (rs : List ContainerLiveness). SweepsSince (sources_in (record after { recorded = rs })) (since.gone ++ id ∷ []) (next_of k.store.held (sources_in c) t) t)
+              (sym recorded)
+              (subst (λ (x : Sweep). SweepsSince (sources_in c) (since.gone ++ id ∷ []) (next_of k.store.held (sources_in c) x) x) (sym t_is)
+              (swept_now s id rest ready source so)));
         }
       where
         no_keys : (xs : List (List ℕ)) → xs ++ [] ≡ xs
@@ -513,7 +529,8 @@ module _ {V R : Type 0} where
               (λ one. ⊎_elim (λ same. inl (subst (Contains (since.gone ++ id ∷ [])) same (Contains-push since.gone id))) (λ later. inr (inr later))
               (in_cases id rest _ (subst (λ (ids : List ℕ). Contains ids (get_or (sources_in c) i 0)) ready one))) b) (so.into i few);
           from = λ x one. ⊎_elim (λ a. ⊎_elim (λ old. so.from x (inl old)) (λ same. subst (Contains (sources_in c)) same source) (Contains-push_cases since.gone id x a))
-              (λ b. ⊎_elim (λ waiting. so.from x (inr (inl waiting))) (λ later. so.from x (inr (inr (subst (λ (ids : List ℕ). Contains ids x) (sym ready) (in_tail id rest x later))))) b) one;
+              (λ b. ⊎_elim (λ waiting. so.from x (inr (inl waiting)))
+              (λ later. so.from x (inr (inr (subst (λ (ids : List ℕ). Contains ids x) (sym ready) (in_tail id rest x later))))) b) one;
           waits = so.waits;
           flushes = λ flush. none_ready k.store.held (sources_in c) s.source rest s.filled flush;
           ends = λ end. ends_by k.store.held (sources_in c) s.source rest s.filled end;

@@ -82,7 +82,8 @@ module _ (files : Found (List ℕ)) (roots : Found Root) (same : SameNow files r
   len_same = len_changed (List ℕ) Root root_of files.names roots.names same.get_is
 
   list_map : (es : List (List ℕ × List ℕ))
-      → map (λ (e : List ℕ × Root). let n : NamedRoot = record { name = e.0; root = e.1 } in n) (rooted es) ≡ map (λ (e : List ℕ × List ℕ). record { name = e.0; root = root_of e.1 }) es
+      → map (λ (e : List ℕ × Root). let n : NamedRoot = record { name = e.0; root = e.1 } in n) (rooted es) ≡ map
+      (λ (e : List ℕ × List ℕ). record { name = e.0; root = root_of e.1 }) es
   list_map [] = refl
   list_map (e ∷ es) = ap (λ (ns : List NamedRoot). record { name = e.0; root = root_of e.1 } ∷ ns) (list_map es)
 
@@ -128,7 +129,8 @@ module _ (files : Found (List ℕ)) (roots : Found Root) (same : SameNow files r
     get_is = λ q. finite.get-insert nat_list_cmp_total roots.names name (root_of file) q ∙ ap (cond (eq_by_cmp order q name) (Some (root_of file))) (same.get_is q)
         ∙ get_put (eq_by_cmp order q name) file (finite.get files.names q) ∙ ap (option_map root_of) (sym (finite.get-insert nat_list_cmp_total files.names name file q));
     few =
-        λ q other is. few_put (eq_by_cmp order q name) file other (finite.get files.names q) few (same.few q other) (sym (finite.get-insert nat_list_cmp_total files.names name file q) ∙ is);
+        λ q other is. few_put (eq_by_cmp order q name) file other (finite.get files.names q) few (same.few q other)
+        (sym (finite.get-insert nat_list_cmp_total files.names name file q) ∙ is);
     last_is = ap suc same.last_is;
   }
 

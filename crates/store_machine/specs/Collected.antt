@@ -76,8 +76,9 @@ module _ {V R : Type 0} where
     WasTaken (s ∷ ss) m n run key = ((s.asked ≡ asked.GcStep) × TakesKey m run.0 key) ⊎ WasTaken ss run.0 n run.1.1 key
 
     -- From the machine at which a collection had begun to that of its end, with the steps between: no container that was selected is there;
-    -- each other one that was there when it began is, where it was; and so is each that an actor sealed or that it wrote since, and no other.
-    -- It wrote just the keys that copying steps took, each once; and it tells how many of them, and how many containers it gave back.
+    -- each other one that was there when it began is, where it was; and so is each that an actor sealed or that it wrote since, and no
+    -- other. It wrote just the keys that copying steps took, each once; and it tells how many of them, and how many containers it gave
+    -- back.
     pub record Collected (freed copied : ℕ) (ss : List (Stepped V)) (m k n : Machine V R) (run : Run v ss m k) : Type 0 where
       pub c : Collection V
       pub ran : k.collection ≡ Some c

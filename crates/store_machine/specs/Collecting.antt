@@ -80,8 +80,8 @@ abbrev pub is_of_kind : List ℕ → Option Kind → Bool
 is_of_kind key None = false
 is_of_kind key (Some kind) = byte_at 0 key == kind_byte kind
 
--- What comes next in a sweep of these sources: one that is ready is given back. Where none is, the next source is copied, if nothing is to be
--- written, or segments of its kind; else that is written.
+-- What comes next in a sweep of these sources: one that is ready is given back. Where none is, the next source is copied, if nothing is to
+-- be written, or segments of its kind; else that is written.
 abbrev pub next_by : List (Option HeaderValue) → List ℕ → (source : ℕ) → (ready : List ℕ) (filled : List (List ℕ)) → Phase
 next_by held sources source (id ∷ ids) filled = Release
 next_by held sources source [] [] = if nat_lt source (length sources) then Copy else End
@@ -154,8 +154,8 @@ pub record Went : Type 0 where
   pub forgotten : List (List ℕ)
 
 module _ {V R : Type 0} (v : Values V R) where
-  -- The entry of a source is passed over, since the index has not it as the copy of its key, or a copy of that is to be written already; its
-  -- key is forgotten, since nothing needs it; or a copy of it is to be written.
+  -- The entry of a source is passed over, since the index has not it as the copy of its key, or a copy of that is to be written already;
+  -- its key is forgotten, since nothing needs it; or a copy of it is to be written.
   abbrev pub TakesOne : Collection V → Store → (slot : ℕ) (kind : Kind) → Entry → Gathered → Gathered → Type 0
   TakesOne c store slot kind e g after =
       (¬ (IndexHas store g.forgotten (entry_key kind e) (place_of slot e)) × (after ≡ g))
@@ -224,9 +224,9 @@ module _ {V R : Type 0} (v : Values V R) where
   Chooses c m w = (c.stage ≡ Recording) × (ids_of c.recorded ≡ ids_before c.snapshot m.store.held)
       × (w.stage ≡ Sweeping (next_of m.store.held (sources_in c) no_sweep) no_sweep) × JustGoes c m w
 
-  -- A source was copied: to its end, so that it waits, if copies of it are to be written, and else is ready; or in part, where something was
-  -- to be written before, and then that comes next. On a disk that tells nothing it may be left alone: where what it gives is no container of
-  -- before.
+  -- A source was copied: to its end, so that it waits, if copies of it are to be written, and else is ready; or in part, where something
+  -- was to be written before, and then that comes next. On a disk that tells nothing it may be left alone: where what it gives is no
+  -- container of before.
   abbrev pub Copies : Collection V → Machine V R → Went → Type 0
   Copies c m w = (s t : Sweep) × (next : Phase) × (c.stage ≡ Sweeping Copy s) × (w.stage ≡ Sweeping next t)
       × (w.recorded ≡ c.recorded) × (w.changes ≡ []) × (s.source < length (sources_in c)) × (s.ready ≡ [])
@@ -236,7 +236,8 @@ module _ {V R : Type 0} (v : Values V R) where
       × (((length s.filled < length t.filled) × (t.waiting ≡ s.waiting ++ get_or (sources_in c) s.source 0 ∷ []) × (t.ready ≡ []))
       ⊎ ((t.filled ≡ s.filled) × (t.waiting ≡ s.waiting) × (t.ready ≡ get_or (sources_in c) s.source 0 ∷ []))
       ⊎ (¬ v.Known × (t.filled ≡ s.filled) × (t.waiting ≡ s.waiting) × (t.ready ≡ []))))
-      ⊎ ((t.source ≡ s.source) × (s.entry ≤ t.entry) × (next ≡ Flush) × (s.filled ≢ []) × (t.filled ≢ []) × (t.waiting ≡ s.waiting) × (t.ready ≡ [])))
+      ⊎ ((t.source ≡ s.source) × (s.entry ≤ t.entry) × (next ≡ Flush) × (s.filled ≢ []) × (t.filled ≢ []) × (t.waiting ≡ s.waiting)
+      × (t.ready ≡ [])))
 
   -- What is to be written is, in a container of the next id: just these keys, in their order, of which none was written before. Then the
   -- sources that waited are ready.
@@ -251,7 +252,8 @@ module _ {V R : Type 0} (v : Values V R) where
   -- The first source that is ready is given back: it holds the newest copy of no key that is needed, or was since the collection began.
   abbrev pub Releases : Collection V → Machine V R → Went → Type 0
   Releases c m w = (s t : Sweep) × (id slot : ℕ) × (rest : List ℕ) × (c.stage ≡ Sweeping Release s) × (s.ready ≡ id ∷ rest)
-      × (w.changes ≡ FreeContainer slot ∷ []) × ((header : HeaderValue) × (slice_get m.store.held slot ≡ Some (Some header)) × (header.id ≡ id))
+      × (w.changes ≡ FreeContainer slot ∷ [])
+      × ((header : HeaderValue) × (slice_get m.store.held slot ≡ Some (Some header)) × (header.id ≡ id))
       × (t ≡ record s { ready = rest }) × (w.stage ≡ Sweeping (next_of m.store.held (sources_in c) t) t)
       × (w.recorded ≡ c.recorded) × (w.forgotten ≡ m.forgotten) × (v.Known → IsSpare (IsNeeded v m) m.store.held slot)
 

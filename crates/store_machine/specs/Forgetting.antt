@@ -98,5 +98,6 @@ StepsAreForgotten =
 
 abbrev pub RunsAreForgotten : Type 0
 RunsAreForgotten =
-    (ss : List (Stepped (List ℕ))) (m n : Machine (List ℕ) (List (List ℕ))) (r : Machine Root (List Top)) → Forgets m r → Run of_files ss m n
+    (ss : List (Stepped (List ℕ))) (m n : Machine (List ℕ) (List (List ℕ))) (r : Machine Root (List Top)) → Forgets m r
+    → Run of_files ss m n
     → (t : Machine Root (List Top)) × (Run of_roots (map forget_step ss) r t × Forgets n t)

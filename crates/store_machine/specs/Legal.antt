@@ -92,7 +92,8 @@ IsKept pins root = (root ≡ empty_root) ⊎ (has_pin pins (root_key root) (reco
 -- counts of the store
 abbrev pub counted : ℕ → Store → Done
 counted files store =
-    done.Counted files (entries_in store.held) (bytes_in_slots store.held) (length store.held - free_slots store.held) (free_slots store.held)
+    done.Counted files (entries_in store.held) (bytes_in_slots store.held) (length store.held - free_slots store.held)
+    (free_slots store.held)
 
 module _ {V R : Type 0} (v : Values V R) where
   abbrev pub HasName : List ℕ → Machine V R → Type 0
@@ -187,7 +188,8 @@ module _ {V R : Type 0} (v : Values V R) where
 
   abbrev pub OpensValue : ℕ → List ℕ → ℕ → Machine V R → Machine V R → Type 0
   OpensValue actor name count m n = IsName name × (part_in m actor ≡ Idle) × ((value : V) × (rest : R)
-      × (finite.get m.now.names name ≡ Some value) × v.Starts value rest × (count ≡ (v.root value).length) × (n ≡ put_at m actor (Reading value rest)))
+      × (finite.get m.now.names name ≡ Some value) × v.Starts value rest × (count ≡ (v.root value).length)
+      × (n ≡ put_at m actor (Reading value rest)))
 
   abbrev pub GivesBytes : ℕ → List ℕ → Machine V R → Machine V R → Type 0
   GivesBytes actor bytes m n = (value : V) × (rest after : R) × (part_in m actor ≡ Reading value rest) × v.Gives rest bytes after
@@ -299,8 +301,8 @@ module _ {V R : Type 0} (v : Values V R) where
   RefusesRead a refusal m n = (value : V) × (rest after : R) × (part_in m a ≡ Reading value rest) × v.Stays rest refusal after
       × (n ≡ put_at m a (Reading value after))
 
-  -- a step of a collection that writes may break off: a flush, so that its container may be there; a release; or a copying step, by its change
-  -- of an index that lies on the disk
+  -- a step of a collection that writes may break off: a flush, so that its container may be there; a release; or a copying step, by its
+  -- change of an index that lies on the disk
   abbrev pub MayBreak : Machine V R → List Store → Type 0
   MayBreak m stores = (IsCollecting phases.Copy m.store m.collection × (stores ≡ []))
       ⊎ (IsCollecting phases.Flush m.store m.collection × (m.last_id < LAST_ID)

@@ -180,7 +180,8 @@ module _ {V R : Type 0} (v : Values V R) where
 
   abbrev pub Pushes : ℕ → List ℕ → ReplyValue → List (Stepped V) → Desk V R → Desk V R → Type 0
   Pushes a bytes reply ss d e = (s t : Session) × Moves a s (Some (unless_refused reply (record t { given = t.given ++ bytes }) t)) d e
-      × AreForRoom s ss × ((AreTurns a ss s t × (((reply ≡ replies.Pushed a (length (t.given ++ bytes))) × (length (t.given ++ bytes) ≤ MOST_FILE))
+      × AreForRoom s ss
+      × ((AreTurns a ss s t × (((reply ≡ replies.Pushed a (length (t.given ++ bytes))) × (length (t.given ++ bytes) ≤ MOST_FILE))
       ⊎ ((reply ≡ replies.Refused TooLong) × (MOST_FILE < length (t.given ++ bytes)))))
       ⊎ TurnsStop a s reply ss t)
 

@@ -42,8 +42,9 @@ kind_of (Reading value rest) = kinds.Reading
 
 -- ---- a collection
 
--- How far a sweep has come: so many sources were copied to their end, and the next one goes on at this entry; copies of these keys are to be
--- written; and of the sources that came to their end and are not given back, those that wait for that, and those that are ready, by their ids.
+-- How far a sweep has come: so many sources were copied to their end, and the next one goes on at this entry; copies of these keys are to
+-- be written; and of the sources that came to their end and are not given back, those that wait for that, and those that are ready, by
+-- their ids.
 pub record Sweep : Type 0 where
   pub source : ℕ
   pub entry : ℕ
@@ -93,7 +94,8 @@ pub record Machine (V R : Type 0) : Type 0 where
   pub last_id : ℕ
   -- the keys that the index lacks though containers had them when they left it: collections found nothing that needs them
   pub forgotten : List (List ℕ)
-  -- a collection has copied since the opening: on a disk that tells nothing the index may be another than that of the containers from then on
+  -- a collection has copied since the opening: on a disk that tells nothing the index may be another than that of the containers from then
+  -- on
   pub swept : Bool
   pub collection : Option (Collection V)
   -- how many commands were acknowledged since the opening

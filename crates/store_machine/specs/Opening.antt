@@ -25,8 +25,8 @@ module _ {V R : Type 0} (v : Values V R) where
   Stands Running store before = before ≡ store
   Stands (Stopped other stores) store before = Contains (store ∷ stores) before
 
-  -- All actors end. The store is what it was, where no write had failed; where fewer than two slots are closed, containers that nothing needs
-  -- are given back, the one of the least id first, until two are, or no such is left.
+  -- All actors end. The store is what it was, where no write had failed; where fewer than two slots are closed, containers that nothing
+  -- needs are given back, the one of the least id first, until two are, or no such is left.
   pub record Opens (files : ℕ) (m n : Machine V R) : Type 0 where
     pub found : Found V
     pub may : v.Known → MayBeFound m.state m.now found

@@ -1,4 +1,6 @@
 //! Laws of runs of the plain store.
+ghost use Rattle.store_machine.specs.ByMap.{DeletesByMap, DeletesThrough, ListsByMap, ListsThrough, RestoresByMap, RestoresThrough};
+ghost use Rattle.store_machine.specs.CollectsAlone.{CollectsByMap, CollectsThrough};
 ghost use Rattle.store_machine.specs.Collected.{CollectsWhatItSelected};
 ghost use Rattle.store_machine.specs.Forgetting.{RunsAreForgotten, StepsAreForgotten};
 ghost use Rattle.store_machine.specs.Ingests.{IngestsByMap, IngestsThrough};
@@ -20,8 +22,39 @@ pub fn an_ingest_puts_its_file()
 {}
 
 /// A collection that comes to its end, whatever steps of others came between: none of the containers that it selected is left, each other
-/// one is where it was, and so is each that was sealed or written since, and no other; and what it wrote are just the keys that its copying
-/// steps took, each once. The function does nothing.
+/// one is where it was, and so is each that was sealed or written since, and no other; and what it wrote are just the keys that its
+/// copying steps took, each once. The function does nothing.
 pub fn a_collection_does_what_it_selected()
     ensures { CollectsWhatItSelected of_files }
+{}
+
+/// After the lines of a `restore`, and whatever they were refused by, the names are what they were, also at each moment of their steps;
+/// what is printed is a first part of the name's file, and where the last line was done all of it; and each refusal has its cause. The
+/// function does nothing.
+pub fn a_restore_gives_its_file()
+    ensures ended { RestoresByMap }
+    ensures through { RestoresThrough }
+{}
+
+/// After the line of a `delete`, done or refused, the names that may be found are those of before, or these without its name, and so it is
+/// at each moment of its steps; where it was done they are the latter, and the name had a file; each refusal has its cause, and only a
+/// write that failed leaves a doubt. The function does nothing.
+pub fn a_delete_takes_its_name()
+    ensures ended { DeletesByMap }
+    ensures through { DeletesThrough }
+{}
+
+/// After the line of a `list` the names are what they were, also at each moment of its steps, and where it was done just these are
+/// printed, each with its length and root. The function does nothing.
+pub fn a_list_tells_the_names()
+    ensures ended { ListsByMap }
+    ensures through { ListsThrough }
+{}
+
+/// After the lines of a `collect` the names are what they were, also at each moment of its steps; where it was done it is printed how many
+/// containers were given back, each of which held the newest copy of nothing that the names need, and how many segments were copied; and
+/// each refusal has its cause. The function does nothing.
+pub fn a_collect_keeps_the_names()
+    ensures ended { CollectsByMap }
+    ensures through { CollectsThrough }
 {}

@@ -1,0 +1,256 @@
+-- What may be found at each moment of a `restore`, a `delete` or a `list`: each line is one step, and at most the last changes a name.
+use Rattle.std.proofs.Common.{◌≡◌, ◌⊎◌, inl, inr, ℕ, List as ListOf, [], ◌∷◌, ◌++◌, Result, Ok, Err, refl, sym, ◌∙◌, ap, subst}
+use Rattle.std.proofs.lemmas.List.{append-nil}
+use Rattle.refusals.specs.declared.refusal.Refusal.{Refusal}
+use Rattle.refusals.specs.declared.refusal.Refusal.TheVariants as refusals
+use Rattle.script_lines.specs.Grammar.{LineValue}
+use Rattle.script_lines.specs.Grammar as lines
+use Rattle.script_lines.specs.ReplyValue.{ReplyValue}
+use Rattle.script_lines.specs.ReplyValue as replies
+use Rattle.store_machine.specs.Asked.{Asked}
+use Rattle.store_machine.specs.Asked as asked
+use Rattle.store_machine.specs.ByMap.{DeletesThrough, FileMachine, ListsThrough, RestoresThrough}
+use Rattle.store_machine.specs.CollectsAlone.{CollectsThrough}
+use Rattle.store_machine.specs.Commands.{AllFollow, AreLinesOf, Collect, Command, Delete, Follows, Lines, List, Replied, Restore, desk, run_of}
+use Rattle.store_machine.specs.Done.{Done}
+use Rattle.store_machine.specs.Done as done
+use Rattle.store_machine.specs.Legal.{Answers, ByState, Does, Legal, Refuses, RefusesDelete, without_name}
+use Rattle.store_machine.specs.Lines.{AreDid, Ends, Line, reply_of, step_of}
+use Rattle.store_machine.specs.Machine.{Found, RunState, Running, Stopped}
+use Rattle.store_machine.specs.Opening.{MayBeFound}
+use Rattle.store_machine.specs.Values.{of_files}
+use Rattle.store_machine.proofs.Ingesting.{run_one}
+use Rattle.store_machine.proofs.Passing.{AllOk, GoodTo, IsFine, IsTold, ok_good_to, passes_to, sure_found}
+use Rattle.store_machine.proofs.Quiet.{F, Step, running_sure}
+use Rattle.store_machine.proofs.Stepwise.{Desks}
+
+-- ---- the steps that lines make
+
+all_ok : (xs : ListOf Step) (x : Step) → AllOk xs → IsFine x.asked → IsTold x.answer → AllOk (xs ++ x ∷ [])
+all_ok [] x ok fine told = (fine, told, tt)
+all_ok (y ∷ ys) x (own, was, ok) fine told = (own, was, all_ok ys x ok fine told)
+
+module _ (command : Command) (Last : Asked (ListOf ℕ) → Type 0) where
+  -- all were done, and may be followed; or no line comes after this one
+  abbrev pub Fits : ReplyValue → ListOf Step → Type 0
+  Fits reply ss = AllOk ss ⊎ (GoodTo Last ss × ((line : LineValue) → Follows command reply line → ⊥))
+
+  module _ (refused : (refusal : Refusal) (line : LineValue) → Follows command (replies.Refused refusal) line → ⊥) where
+    -- a step that changes no name
+    pub fine_fits : (a : ℕ) (step : Asked (ListOf ℕ)) (reply : ReplyValue) (ss : ListOf Step) → IsFine step → Ends of_files a [] step reply ss → Fits reply ss
+    fine_fits a step reply ss fine (Ok answer, is, reply_is) = inl (subst AllOk (sym is) (fine, tt, tt))
+    fine_fits a step reply ss fine (Err refusal, is, reply_is) =
+        inr (subst (GoodTo Last) (sym is) (inl fine), λ line follows. refused refusal line (subst (λ (r : ReplyValue). Follows command r line) reply_is follows))
+
+    module _
+        (fits : (prev : ReplyValue) (one : Replied) (d mid : Desks) (ss : ListOf Step) → Follows command prev one.line → Line of_files one.line one.reply ss d mid
+        → Fits one.reply ss) where
+      good_after : (first later : ListOf Step) (one : Replied) (more : ListOf Replied) (mid e : Desks) → Fits one.reply first → AllFollow command one more
+          → Lines of_files more later mid e
+          → GoodTo Last later → GoodTo Last (first ++ later)
+      good_after first later one more mid e (inl ok) follow ran good = ok_good_to Last first later ok good
+      good_after first later one [] mid e (inr (own, none)) follow (is, same) good =
+          subst (λ (ys : ListOf Step). GoodTo Last (first ++ ys)) (sym is) (subst (GoodTo Last) (sym (append-nil first)) own)
+      good_after first later one (x ∷ xs) mid e (inr (own, none)) (ends, follows, rest) ran good = absurd (none x.line follows)
+
+      good_lines : (rs : ListOf Replied) (prev : Replied) (d e : Desks) (ss : ListOf Step) → AllFollow command prev rs → Lines of_files rs ss d e → GoodTo Last ss
+      good_lines [] prev d e ss follow (none, is) = subst (GoodTo Last) (sym none) tt
+      good_lines (one ∷ more) prev d e ss (ends, follows, rest) (first, later, mid, is, line, ran) =
+          subst (GoodTo Last) (sym is) (good_after first later one more mid e (fits prev.reply one d mid first follows line) rest ran (good_lines more one mid e later rest ran))
+
+      pub all_good : (rs : ListOf Replied) (ss : ListOf Step) (d e : Desks) → AreLinesOf command rs → Lines of_files rs ss d e → GoodTo Last ss
+      all_good [] ss d e lines_are (none, is) = subst (GoodTo Last) (sym none) tt
+      all_good (one ∷ more) ss d e (first, follow) (made, later, mid, is, line, ran) =
+          let opening : Line of_files lines.Reopen one.reply made d mid = subst (λ (l : LineValue). Line of_files l one.reply made d mid) first line in
+          subst (GoodTo Last) (sym is)
+          (good_after made later one more mid e (fine_fits opening.1.0.0 asked.Reopen one.reply made tt opening.1.0.1) follow ran (good_lines more one mid e later follow ran))
+
+-- ---- restore and list
+
+-- no step changes a name
+abbrev NoStep : Asked (ListOf ℕ) → Type 0
+NoStep step = ⊥
+
+module _ (name : ListOf ℕ) where
+  restore_ends : (refusal : Refusal) (line : LineValue) → Follows (Restore name) (replies.Refused refusal) line → ⊥
+  restore_ends refusal line follows = follows
+
+  restore_fits : (prev : ReplyValue) (one : Replied) (d mid : Desks) (ss : ListOf Step) → Follows (Restore name) prev one.line → Line of_files one.line one.reply ss d mid
+      → Fits (Restore name) NoStep one.reply ss
+  restore_fits prev one d mid ss follows line = by prev follows
+    where
+      reads : Line of_files (lines.Read 0 name) one.reply ss d mid → Fits (Restore name) NoStep one.reply ss
+      reads (run, inl (admits, (a, step, (a_is, step_is), ends, sessions))) =
+          fine_fits (Restore name) NoStep restore_ends a (asked.OpenRead name) one.reply ss tt (subst (λ (s : Asked (ListOf ℕ)). Ends of_files a [] s one.reply ss) step_is ends)
+      reads (run, inr (refusal, bars, is, no_steps, sessions)) = inl (subst AllOk (sym no_steps) tt)
+
+      nexts : Line of_files (lines.Next 0) one.reply ss d mid → Fits (Restore name) NoStep one.reply ss
+      nexts (run, inl (admits, (a, step, (a_is, step_is), ends, sessions))) =
+          fine_fits (Restore name) NoStep restore_ends a asked.ReadNext one.reply ss tt (subst (λ (s : Asked (ListOf ℕ)). Ends of_files a [] s one.reply ss) step_is ends)
+      nexts (run, inr (refusal, bars, is, no_steps, sessions)) = inl (subst AllOk (sym no_steps) tt)
+
+      next_so : one.line ≡ lines.Next 0 → Fits (Restore name) NoStep one.reply ss
+      next_so is = nexts (subst (λ (l : LineValue). Line of_files l one.reply ss d mid) is line)
+
+      by : (prev : ReplyValue) → Follows (Restore name) prev one.line → Fits (Restore name) NoStep one.reply ss
+      by (replies.Opened files) is = reads (subst (λ (l : LineValue). Line of_files l one.reply ss d mid) is line)
+      by (replies.Reading a count) is = next_so is
+      by (replies.Bytes a bytes) is = next_so is
+      by reply follows = absurd follows
+
+pub restores_through : RestoresThrough
+restores_through name first rs ss m e runs lines_are ran x passed =
+    passes_to m.now NoStep (λ y. y ≡ m.now) refl (λ s old new same up last. absurd last) first ss m e.machine (run_of of_files rs ss (desk m) e ran)
+    (all_good (Restore name) NoStep (restore_ends name) (restore_fits name) rs ss (desk m) e lines_are ran) refl runs x passed
+
+list_ends : (refusal : Refusal) (line : LineValue) → Follows List (replies.Refused refusal) line → ⊥
+list_ends refusal line follows = follows
+
+list_fits : (prev : ReplyValue) (one : Replied) (d mid : Desks) (ss : ListOf Step) → Follows List prev one.line → Line of_files one.line one.reply ss d mid
+    → Fits List NoStep one.reply ss
+list_fits prev one d mid ss follows line = by prev follows
+  where
+    lists : Line of_files lines.ListNames one.reply ss d mid → Fits List NoStep one.reply ss
+    lists (run, inl (admits, (a, step, step_is, ends, sessions))) =
+        fine_fits List NoStep list_ends a asked.ListNames one.reply ss tt (subst (λ (s : Asked (ListOf ℕ)). Ends of_files a [] s one.reply ss) step_is ends)
+    lists (run, inr (refusal, bars, is, no_steps, sessions)) = inl (subst AllOk (sym no_steps) tt)
+
+    by : (prev : ReplyValue) → Follows List prev one.line → Fits List NoStep one.reply ss
+    by (replies.Opened files) is = lists (subst (λ (l : LineValue). Line of_files l one.reply ss d mid) is line)
+    by reply follows = absurd follows
+
+pub lists_through : ListsThrough
+lists_through first rs ss m e runs lines_are ran x passed =
+    passes_to m.now NoStep (λ y. y ≡ m.now) refl (λ s old new same up last. absurd last) first ss m e.machine (run_of of_files rs ss (desk m) e ran)
+    (all_good List NoStep list_ends list_fits rs ss (desk m) e lines_are ran) refl runs x passed
+
+-- ---- delete
+
+module _ (name : ListOf ℕ) where
+  abbrev Takes : Asked (ListOf ℕ) → Type 0
+  Takes step = step ≡ asked.Delete name
+
+  delete_ends : (refusal : Refusal) (line : LineValue) → Follows (Delete name) (replies.Refused refusal) line → ⊥
+  delete_ends refusal line follows = follows
+
+  -- nothing follows the one line
+  only_one : (a : ℕ) (told : Result Done Refusal) (m n : FileMachine) → Legal of_files (step_of of_files a (asked.Delete name) told) m n → m.state ≡ Running → (line : LineValue)
+      → Follows (Delete name) (reply_of a told) line → ⊥
+  only_one a (Err refusal) m n legal runs line follows = follows
+  only_one a (Ok answer) m n legal runs line follows =
+      by answer (subst (λ (st : RunState (ListOf ℕ)). ByState of_files st a (asked.Delete name) (Ok answer) m n) runs legal) follows
+    where
+      by : (answer : Done) → Does of_files a (asked.Delete name) answer m n → Follows (Delete name) (reply_of a (Ok answer)) line → ⊥
+      by (done.Deleted sequence) does follows = follows
+      by answer does follows = absurd does
+
+  delete_fits : (prev : ReplyValue) (one : Replied) (d mid : Desks) (ss : ListOf Step) → Follows (Delete name) prev one.line → Line of_files one.line one.reply ss d mid
+      → Fits (Delete name) Takes one.reply ss
+  delete_fits prev one d mid ss follows line = by prev follows
+    where
+      deletes : Line of_files (lines.Delete name) one.reply ss d mid → Fits (Delete name) Takes one.reply ss
+      deletes (run, inl (admits, (a, step, step_is, ends, sessions))) =
+          let own = subst (λ (s : Asked (ListOf ℕ)). Ends of_files a [] s one.reply ss) step_is ends in
+          let legal = run_one (step_of of_files a (asked.Delete name) own.0) ss d.machine mid.machine own.1 run in
+          inr (
+            subst (GoodTo Takes) (sym own.1) (inr refl),
+            λ line follows. only_one a own.0 d.machine mid.machine legal admits.0 line (subst (λ (r : ReplyValue). Follows (Delete name) r line) own.2 follows),
+          )
+      deletes (run, inr (refusal, bars, is, no_steps, sessions)) = inl (subst AllOk (sym no_steps) tt)
+
+      by : (prev : ReplyValue) → Follows (Delete name) prev one.line → Fits (Delete name) Takes one.reply ss
+      by (replies.Opened files) is = deletes (subst (λ (l : LineValue). Line of_files l one.reply ss d mid) is line)
+      by reply follows = absurd follows
+
+  module _ (now : Found (ListOf ℕ)) where
+    abbrev Either : Found (ListOf ℕ) → Type 0
+    Either x = (x ≡ now) ⊎ (x ≡ without_name of_files name now)
+
+    module _ (m n : F) (same : m.now ≡ now) (runs : m.state ≡ Running) (x : Found (ListOf ℕ)) where
+      abbrev MayBe : Type 0
+      MayBe = MayBeFound of_files n.state n.now x
+
+      gone_is : without_name of_files name m.now ≡ without_name of_files name now
+      gone_is = ap (λ (f : Found (ListOf ℕ)). without_name of_files name f) same
+
+      still : n ≡ m → MayBe → Either x
+      still is may = inl (sure_found n.state n.now x (running_sure n.state (ap (λ (y : F). y.state) is ∙ runs)) may ∙ ap (λ (y : F). y.now) is ∙ same)
+
+      doubted : (x ≡ m.now) ⊎ (x ≡ without_name of_files name m.now) → Either x
+      doubted (inl is) = inl (is ∙ same)
+      doubted (inr is) = inr (is ∙ gone_is)
+
+      refused_found : (refusal : Refusal) → RefusesDelete of_files name refusal m n → MayBe → Either x
+      refused_found refusals.Memory is may = still is may
+      refused_found refusals.BadName (bad, is) may = still is may
+      refused_found refusals.NoFile (named, none, is) may = still is may
+      refused_found refusals.Numbers (named, there, lacks, is) may = still is may
+      refused_found refusals.DiskWrite (named, there, numbers, is) may = doubted (subst (λ (y : F). MayBeFound of_files y.state y.now x) is may)
+      refused_found refusal refuses may = absurd refuses
+
+      delete_refused : (a : ℕ) (refusal : Refusal) → Refuses of_files a (asked.Delete name) refusal m n → MayBe → Either x
+      delete_refused a (refusals.WrongPart kind) (wrong, is) may = still is may
+      delete_refused a refusals.Memory refuses may = refused_found refusals.Memory refuses may
+      delete_refused a refusal (right, refuses) may = refused_found refusal refuses may
+
+      delete_done : (a : ℕ) (answer : Done) → Does of_files a (asked.Delete name) answer m n → MayBe → Either x
+      delete_done a (done.Deleted sequence) does may =
+          inr (sure_found n.state n.now x (running_sure n.state (ap (λ (y : F). y.state) does.others ∙ runs)) may ∙ ap (λ (y : F). y.now) does.others ∙ gone_is)
+      delete_done a answer does may = absurd does
+
+      delete_found : (a : ℕ) (told : Result Done Refusal) → Answers of_files a (asked.Delete name) told m n → MayBe → Either x
+      delete_found a (Ok answer) does may = delete_done a answer does may
+      delete_found a (Err refusal) refuses may = delete_refused a refusal refuses may
+
+    deletes_last : (s : Step) (m n : F) → m.now ≡ now → m.state ≡ Running → Takes s.asked → Legal of_files s m n → (x : Found (ListOf ℕ)) → MayBeFound of_files n.state n.now x
+        → Either x
+    deletes_last s m n same runs is legal x may =
+        delete_found m n same runs x s.actor s.answer (subst (λ (st : RunState (ListOf ℕ)). ByState of_files st s.actor (asked.Delete name) s.answer m n) runs
+        (subst (λ (step : Asked (ListOf ℕ)). Legal of_files (record { actor = s.actor; asked = step; answer = s.answer }) m n) is legal)) may
+
+pub deletes_through : DeletesThrough
+deletes_through name first rs ss m e runs lines_are ran x passed =
+    passes_to m.now (Takes name) (Either name m.now) (inl refl) (deletes_last name m.now) first ss m e.machine (run_of of_files rs ss (desk m) e ran)
+    (all_good (Delete name) (Takes name) (delete_ends name) (delete_fits name) rs ss (desk m) e lines_are ran) refl runs x passed
+
+-- ---- collect
+
+module _ (percent : ℕ) where
+  collect_ends : (refusal : Refusal) (line : LineValue) → Follows (Collect percent) (replies.Refused refusal) line → ⊥
+  collect_ends refusal line follows = follows
+
+  did_ok : (made : ListOf Step) → AreDid of_files made → AllOk made
+  did_ok [] did = tt
+  did_ok (x ∷ xs) (asked_is, (phase, answer_is), more) = (subst IsFine (sym asked_is) tt, subst IsTold (sym answer_is) tt, did_ok xs more)
+
+  collect_fits : (prev : ReplyValue) (one : Replied) (d mid : Desks) (ss : ListOf Step) → Follows (Collect percent) prev one.line → Line of_files one.line one.reply ss d mid
+      → Fits (Collect percent) NoStep one.reply ss
+  collect_fits prev one d mid ss follows line = by prev follows
+    where
+      begins : Line of_files (lines.Gc percent) one.reply ss d mid → Fits (Collect percent) NoStep one.reply ss
+      begins (run, inl (admits, (a, step, step_is, ends, sessions))) =
+          fine_fits (Collect percent) NoStep collect_ends a (asked.GcStart percent) one.reply ss tt
+          (subst (λ (s : Asked (ListOf ℕ)). Ends of_files a [] s one.reply ss) step_is ends)
+      begins (run, inr (refusal, bars, is, no_steps, sessions)) = inl (subst AllOk (sym no_steps) tt)
+
+      -- the last of them
+      with_last : (made : ListOf Step) (a : ℕ) → AllOk made → Ends of_files a made asked.GcStep one.reply ss → Fits (Collect percent) NoStep one.reply ss
+      with_last made a ok (Ok answer, is, reply_is) = inl (subst AllOk (sym is) (all_ok made (step_of of_files a asked.GcStep (Ok answer)) ok tt tt))
+      with_last made a ok (Err refusal, is, reply_is) = inr (
+        subst (GoodTo NoStep) (sym is) (ok_good_to NoStep made (step_of of_files a asked.GcStep (Err refusal) ∷ []) ok (inl tt)),
+        λ line follows. subst (λ (r : ReplyValue). Follows (Collect percent) r line) reply_is follows,
+      )
+
+      sweeps : Line of_files lines.Sweep one.reply ss d mid → Fits (Collect percent) NoStep one.reply ss
+      sweeps (run, inl (admits, (made, a, did, ends, last, sessions))) = with_last made a (did_ok made did) ends
+      sweeps (run, inr (refusal, bars, is, no_steps, sessions)) = inl (subst AllOk (sym no_steps) tt)
+
+      by : (prev : ReplyValue) → Follows (Collect percent) prev one.line → Fits (Collect percent) NoStep one.reply ss
+      by (replies.Opened files) is = begins (subst (λ (l : LineValue). Line of_files l one.reply ss d mid) is line)
+      by (replies.Collecting snapshot) is = sweeps (subst (λ (l : LineValue). Line of_files l one.reply ss d mid) is line)
+      by reply follows = absurd follows
+
+pub collects_through : CollectsThrough
+collects_through percent first rs ss m e runs lines_are ran x passed =
+    passes_to m.now NoStep (λ y. y ≡ m.now) refl (λ s old new same up last. absurd last) first ss m e.machine (run_of of_files rs ss (desk m) e ran)
+    (all_good (Collect percent) NoStep (collect_ends percent) (collect_fits percent) rs ss (desk m) e lines_are ran) refl runs x passed

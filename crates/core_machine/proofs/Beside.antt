@@ -1,6 +1,7 @@
 -- A container of a later id in a closed slot leaves what a collection that runs has of the table.
-use Rattle.std.proofs.Common.{◌≡◌, ℕ, ◌+◌, ◌-◌, ◌*◌, ◌<◌, ◌≤◌, Bool, List, length, Option, Some, None, sym, ◌∙◌, ap, refl, arith}
+use Rattle.std.proofs.Common.{◌≡◌, ◌≢◌, ℕ, ◌+◌, ◌-◌, ◌*◌, ◌<◌, ◌≤◌, Bool, List, [], ◌∷◌, length, get_or, Option, Some, None, sym, ◌∙◌, ap, refl, arith}
 use Rattle.std.specs.List.{AllByRecursion}
+use Rattle.std.proofs.lemmas.List.{get_or-set_other}
 use Rattle.disk_format.specs.Cells.{Root}
 use Rattle.container_meta.specs.Spelling.{HeaderValue}
 use Rattle.store_model.specs.Slots.{with_slot}
@@ -11,7 +12,7 @@ use Rattle.store_state.specs.Tables.{IsFirstFree, RepresentsSlots, count_of}
 use Rattle.store_state.specs.declared.slot_table.SlotTable.{SlotTable}
 use Rattle.gc_sweep.specs.declared.sweep.Sweep.{Sweep as CoreSweep}
 use Rattle.gc_sweep.specs.UnderWay.{IsSweeping, IsTaken, sources_before}
-use Rattle.gc_sweep.proofs.Taken.{counts_set, ids_set, slot_closed}
+use Rattle.gc_sweep.proofs.Taken.{counts_set, ids_set, old_not_zero, slot_closed}
 use Rattle.gc_steps.specs.declared.collection.Collection.{Collection as CoreCollection}
 use Rattle.gc_steps.specs.declared.collection.Stage.{Stage as CoreStage}
 use Rattle.gc_steps.specs.declared.collection.Stage.TheVariants as core
@@ -22,7 +23,6 @@ use Rattle.refusals.specs.declared.refusal.Phase.{Phase}
 use Rattle.store_core.specs.State.{IsUnderWayIn}
 use Rattle.store_machine.specs.Collecting.{sources_in}
 use Rattle.store_machine.specs.Machine.{Collection, Stage, Marking, Recording, Sweeping, Sweep}
-use Rattle.core_machine.proofs.SweptOn.{all_stay, ids_same, others_stay}
 use Rattle.core_machine.specs.Collections.{SameCollection, SameStage, SameSweep, ids_at}
 
 module _ (held : List (Option HeaderValue)) (t now : SlotTable) (slot : ℕ) (h : HeaderValue) (free : IsFirstFree slot held) (was : RepresentsSlots held t)
@@ -45,9 +45,19 @@ module _ (held : List (Option HeaderValue)) (t now : SlotTable) (slot : ℕ) (h 
   -- ---- sources that came to their end
 
   module _ (snapshot : ℕ) (s : CoreSweep) (sweeping : IsSweeping t snapshot s) where
-    -- each of them keeps its id
-    stays : (ws : List ℕ) → AllByRecursion (IsTaken t s.sources.items (sources_before s s.next)) ws → ids_at t ws ≡ ids_at now ws
-    stays ws all = ids_same t now ws (all_stay t snapshot s sweeping now (others_stay held t now slot h free was is) ws all)
+    -- they are in other slots
+    id_same : (w : ℕ) → IsTaken t s.sources.items (sources_before s s.next) w → get_or now.ids.items w 0 ≡ get_or t.ids.items w 0
+    id_same w taken =
+        let closed = slot_closed held t now slot h free was is in
+        let below : taken.number < length s.sources.items = omega (arith, taken.taken, sweeping.before) in
+        let some : get_or s.sources.items taken.number 0 ≢ 0 = old_not_zero snapshot (get_or s.sources.items taken.number 0) (sweeping.left.old taken.number below) in
+        let other : w ≢ slot = λ same. some (sym taken.id_is ∙ ap (λ (n : ℕ). get_or t.ids.items n 0) same ∙ closed) in
+        ap (λ (ids : List ℕ). get_or ids w 0) (ids_set held t now slot h free was is) ∙ get_or-set_other t.ids.items slot w h.id 0 other
+
+    pub ids_same : (ws : List ℕ) → AllByRecursion (IsTaken t s.sources.items (sources_before s s.next)) ws → ids_at now ws ≡ ids_at t ws
+    ids_same [] all = refl
+    ids_same (w ∷ ws) all =
+        ap (λ (id : ℕ). id ∷ ids_at now ws) (id_same w all.0) ∙ ap (λ (ids : List ℕ). get_or t.ids.items w 0 ∷ ids) (ids_same ws all.1)
 
     pub same_sweep_beside : (swept : Bool) (sources : List ℕ) (changes : List StoreChange) (next : Phase) (p : Sweep) → SameSweep t swept sources changes next p s
         → SameSweep now swept sources changes next p s
@@ -57,8 +67,8 @@ module _ (held : List (Option HeaderValue)) (t now : SlotTable) (slot : ℕ) (h 
       source_is = same.source_is;
       entry_is = same.entry_is;
       filled_is = same.filled_is;
-      waiting_is = same.waiting_is ∙ stays s.waiting.items (all_first (IsTaken t s.sources.items (sources_before s s.next)) s.waiting.items s.ready.items sweeping.taken);
-      ready_is = same.ready_is ∙ stays s.ready.items (all_second (IsTaken t s.sources.items (sources_before s s.next)) s.waiting.items s.ready.items sweeping.taken);
+      waiting_is = same.waiting_is ∙ sym (ids_same s.waiting.items (all_first (IsTaken t s.sources.items (sources_before s s.next)) s.waiting.items s.ready.items sweeping.taken));
+      ready_is = same.ready_is ∙ sym (ids_same s.ready.items (all_second (IsTaken t s.sources.items (sources_before s s.next)) s.waiting.items s.ready.items sweeping.taken));
       freed_is = same.freed_is;
       copied_is = same.copied_is;
       swept_is = same.swept_is;

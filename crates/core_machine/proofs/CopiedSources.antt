@@ -34,7 +34,7 @@ use Rattle.store_machine.specs.Machine.{Collection, Sweeping, Sweep}
 use Rattle.store_machine.specs.Values.{of_roots}
 use Rattle.core_machine.specs.Collections.{SameRun, SameSweep, ids_at}
 use Rattle.core_machine.proofs.NextSteps.{has_each, next_so}
-use Rattle.core_machine.proofs.SweptOn.{AtSweep, Swept, at_sweep, copied_so, entry_next, is_sweeping, run_on, source_next}
+use Rattle.core_machine.proofs.SweptOn.{AtSweep, Swept, at_sweep, copied_so, entry_next, is_sweeping, no_keys, run_on, source_next}
 use Rattle.core_machine.proofs.Rows.{M}
 
 -- ---- what is filled
@@ -63,10 +63,6 @@ module _ (s : Source) (S : (List ℕ → Type 0) → Type 0) where
             ∙ ap (λ (c : Contents). record c { segments = c.segments ++ last_grow.0 }) first.1
             ∙ ap (λ (xs : List Segment). record before.buffer { segments = xs }) (append_assoc before.buffer.segments first.0 last_grow.0),
       )
-
--- an empty one has no keys, of whatever kind it is
-pub no_keys : (c : Contents) → c.segments ≡ [] → keys_of c ≡ []
-no_keys c none = ap (map (segment_key c.kind)) none
 
 filling_keys : (buffer filling : Contents) (kind : Kind) → IsFilling buffer kind filling → (keys_of filling ≡ keys_of buffer) × (length filling.segments ≡ length buffer.segments)
 filling_keys buffer filling kind (inl (none, is)) =

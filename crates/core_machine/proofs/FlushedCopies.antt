@@ -1,5 +1,5 @@
 -- A step of a core's sweep that writes what was copied, as one of the machine's, on any disk.
-use Rattle.std.proofs.Common.{◌≡◌, ◌≢◌, ℕ, suc, ◌+◌, List, [], ◌∷◌, ◌++◌, get_or, length, None, refl, sym, ◌∙◌, ap, subst, arith, length-append}
+use Rattle.std.proofs.Common.{◌≡◌, ◌≢◌, ℕ, suc, ◌+◌, List, [], ◌∷◌, ◌++◌, length, None, refl, sym, ◌∙◌, ap, subst, arith, length-append}
 use Rattle.container_meta.specs.declared.kind.Kind.{Kind}
 use Rattle.container_meta.specs.Segments.{Segment, keys_of}
 use Rattle.container_meta.specs.Spelling.{HeaderValue, header_of}
@@ -10,12 +10,13 @@ use Rattle.store_model.specs.Image.{IsValidFor, Store}
 use Rattle.store_model.specs.Slots.{HasFree, first_free}
 use Rattle.store_model.specs.Steps.{CanFlush, FlushContainer, StoreChange, with_sealed}
 use Rattle.store_model.proofs.Free.{first_closed, some_free}
+use Rattle.store_model.proofs.HeldTrees.{all_first}
 use Rattle.store_model.proofs.Valid.{free_sealed, valid_sealed}
 use Rattle.store_state.specs.declared.slot_table.SlotTable.{SlotTable}
 use Rattle.store_state.specs.Tables.{IsFirstFree, Represents}
 use Rattle.gc_sweep.specs.declared.sweep.Next.TheVariants as nexts
 use Rattle.gc_sweep.specs.declared.sweep.Sweep.{Sweep as CoreSweep}
-use Rattle.gc_sweep.specs.UnderWay.{HasNext, IsSweeping, entry_in, sources_before}
+use Rattle.gc_sweep.specs.UnderWay.{HasNext, IsSweeping, IsTaken, entry_in, sources_before}
 use Rattle.gc_steps.specs.declared.collection.Stage.TheVariants as stages
 use Rattle.gc_steps.specs.Stepping.{Flushes as CoreFlushes, Moment, phase_at}
 use Rattle.gc_steps.specs.UnderWay.{IsUnderWay}
@@ -23,8 +24,8 @@ use Rattle.store_machine.specs.Collecting.{keys_written, next_of, sources_in}
 use Rattle.store_machine.specs.Machine.{Collection, Sweeping, Sweep}
 use Rattle.store_machine.proofs.Swept.{freed_more, written_more}
 use Rattle.core_machine.specs.Collections.{HasCopied, SameRun, SameSweep, ids_at}
-use Rattle.core_machine.proofs.CopiedSources.{no_keys}
-use Rattle.core_machine.proofs.SweptOn.{AtSweep, Swept, at_sweep, is_sweeping, next_ready, others_stay, run_on, waiting_stay}
+use Rattle.core_machine.proofs.Beside.{ids_same}
+use Rattle.core_machine.proofs.SweptOn.{AtSweep, Swept, at_sweep, is_sweeping, next_ready, no_keys, run_on}
 use Rattle.core_machine.proofs.Rows.{M}
 
 module _ (m : M) (c : Collection Root) (source entry : ℕ) (old new : Moment) (represents : Represents m.store None old.tables) (valid : IsValidFor old.disk.size m.store)
@@ -89,8 +90,12 @@ module _ (m : M) (c : Collection Root) (source entry : ℕ) (old new : Moment) (
       let within = some_free m.store.held free in
       record { first = refl; within = within; closed = first_closed m.store.held within }
 
-  stay : (w : ℕ) → get_or t.ids.items w 0 ≢ 0 → get_or now.ids.items w 0 ≡ get_or t.ids.items w 0
-  stay = others_stay m.store.held t now (first_free m.store.held) h free_first represents.slots_hold wrote.1.slots_hold
+  -- the sources that wait keep their ids
+  waiting_stay : ids_at t k.waiting.items ≡ ids_at now k.waiting.items
+  waiting_stay = sym (
+      ids_same m.store.held t now (first_free m.store.held) h free_first represents.slots_hold wrote.1.slots_hold old.collection.snapshot k sweeping k.waiting.items
+      (all_first (IsTaken t k.sources.items (sources_before k k.next)) k.waiting.items k.ready.items sweeping.taken)
+      )
 
   -- ---- the sweep
 
@@ -131,7 +136,7 @@ module _ (m : M) (c : Collection Root) (source entry : ℕ) (old new : Moment) (
     entry_is = at.same.entry_is ∙ ap entry_in next_was ∙ sym (ap entry_in flushes.flushed.next_is);
     filled_is = sym (no_keys k'.buffer flushes.flushed.emptied);
     waiting_is = ap (ids_at now) (sym flushes.flushed.none_waits);
-    ready_is = at.same.waiting_is ∙ waiting_stay t old.collection.snapshot k sweeping now stay ∙ ap (ids_at now) (sym flushes.flushed.ready_is);
+    ready_is = at.same.waiting_is ∙ waiting_stay ∙ ap (ids_at now) (sym flushes.flushed.ready_is);
     freed_is = omega (arith, flushes.flushed.freed_is, at.same.freed_is, freed_more c.changes (FlushContainer (suc m.last_id) kind segments ∷ []));
     copied_is = omega (arith, flushes.flushed.copied_is, at.same.copied_is, many_written);
     swept_is = subst (λ (p : Phase). HasCopied p m.swept) (sym is_ready) (subst (λ (p : Phase). HasCopied p m.swept) phase_was at.same.swept_is);

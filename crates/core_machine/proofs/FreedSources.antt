@@ -31,7 +31,7 @@ use Rattle.store_machine.specs.Machine.{Collection, Sweeping, Sweep}
 use Rattle.store_machine.proofs.Swept.{freed_more, written_more}
 use Rattle.core_machine.specs.Collections.{HasCopied, SameRun, SameSweep, ids_at}
 use Rattle.core_machine.proofs.NextSteps.{has_before, next_so}
-use Rattle.core_machine.proofs.SweptOn.{AtSweep, Swept, at_sweep, entry_next, ids_same, is_sweeping, run_on, source_next}
+use Rattle.core_machine.proofs.SweptOn.{AtSweep, Swept, at_sweep, entry_next, ids_kept, is_sweeping, run_on, source_next}
 use Rattle.core_machine.proofs.Rows.{M}
 
 -- ---- slots that differ
@@ -131,7 +131,7 @@ module _ (m : M) (c : Collection Root) (source entry : ℕ) (old new : Moment) (
   ids_now = represents_now.slots_hold.ids_are ∙ ids_without slot m.store.held ∙ ap (λ (ids : List ℕ). set ids slot 0) (sym represents.slots_hold.ids_are)
 
   stay : (ws : List ℕ) → AllByRecursion (λ w. w ≢ slot) ws → ids_at t ws ≡ ids_at now ws
-  stay ws apart = ids_same t now ws (each ws apart)
+  stay ws apart = ids_kept t now ws (each ws apart)
     where
       each : (ws : List ℕ) → AllByRecursion (λ w. w ≢ slot) ws → AllByRecursion (λ w. get_or now.ids.items w 0 ≡ get_or t.ids.items w 0) ws
       each [] all = tt

@@ -3,7 +3,6 @@ use Rattle.std.proofs.Common.{◌≡◌, ℕ, suc, ◌+◌, ◌-◌, ◌*◌, �
 use Rattle.std.specs.Prelude.{if◌then◌else◌, nat_lt, slice_get}
 use Rattle.std.proofs.lemmas.Bool.{le-ltb, lt-ltb, ltb-true}
 use Rattle.disk_format.specs.Cells.{Root}
-use Rattle.container_meta.specs.Segments.{Contents, Segment, keys_of}
 use Rattle.container_meta.specs.Spelling.{HeaderValue}
 use Rattle.copy_forward.specs.Headers.{IsTabled}
 use Rattle.copy_forward.proofs.Tabled.{held_tabled}
@@ -15,7 +14,7 @@ use Rattle.gc_sweep.specs.declared.sweep.Next.TheVariants as nexts
 use Rattle.gc_sweep.specs.declared.sweep.Sweep.{Sweep as CoreSweep}
 use Rattle.gc_sweep.specs.Beginning as beginning
 use Rattle.gc_sweep.specs.Next.{IsNext}
-use Rattle.gc_sweep.specs.UnderWay.{entry_in, is_old, sources_before}
+use Rattle.gc_sweep.specs.UnderWay.{is_old}
 use Rattle.gc_sweep.proofs.Released.{open_slot}
 use Rattle.gc_sweep.proofs.Taken.{old_not_zero}
 use Rattle.gc_steps.specs.declared.collection.Collection.{Collection as CoreCollection}
@@ -47,6 +46,7 @@ use Rattle.core_machine.proofs.Marked.{left_mark, one_fewer, same_marking}
 use Rattle.core_machine.proofs.OldIds.{all_recorded, old_is, recorded_to, right_at}
 use Rattle.core_machine.proofs.Phases.{Runs, phase_so}
 use Rattle.core_machine.proofs.Rows.{M, goes_on}
+use Rattle.core_machine.proofs.SweptOn.{entry_next, no_keys, source_next}
 
 -- one more is recorded, and these come after it
 push_id : (rs : List ContainerLiveness) (r : ContainerLiveness) (rest : List ℕ) → selecting.ids_of (rs ++ r ∷ []) ++ rest ≡ selecting.ids_of rs ++ r.id ∷ rest
@@ -66,21 +66,6 @@ module _ (held : List (Option HeaderValue)) (t : SlotTable) (swept : Bool) (sour
   same_next (nexts.Release source entry) is = absurd is
   same_next nexts.End is = ap (λ (b : Bool). if b then phases.Copy else phases.End) (le-ltb 0 (length sources) is.1)
 
-  at_first : (next : Next) → IsNext t sources s.buffer 0 0 next → 0 ≡ sources_before s next
-  at_first (nexts.Copy source entry) is = sym is.0
-  at_first (nexts.Flush source entry) is = sym is.0
-  at_first (nexts.Release source entry) is = absurd is
-  at_first nexts.End is = omega (arith, is.1, ap length begins.sources_are)
-
-  at_entry : (next : Next) → IsNext t sources s.buffer 0 0 next → 0 ≡ entry_in next
-  at_entry (nexts.Copy source entry) is = sym is.1
-  at_entry (nexts.Flush source entry) is = sym is.1
-  at_entry (nexts.Release source entry) is = absurd is
-  at_entry nexts.End is = refl
-
-  no_keys : (buffer : Contents) → buffer.segments ≡ [] → [] ≡ keys_of buffer
-  no_keys buffer none = sym (ap (λ (ss : List Segment). let b : Contents = record { kind = buffer.kind; segments = ss } in keys_of b) none)
-
   no_copy : (b : Bool) → HasCopied (if b then phases.Copy else phases.End) swept
   no_copy true = tt
   no_copy false = tt
@@ -89,9 +74,9 @@ module _ (held : List (Option HeaderValue)) (t : SlotTable) (swept : Bool) (sour
   begun_so changes none = record {
     next_is = same_next s.next begins.next_is;
     sources_are = begins.sources_are;
-    source_is = at_first s.next begins.next_is;
-    entry_is = at_entry s.next begins.next_is;
-    filled_is = no_keys s.buffer begins.empty;
+    source_is = sym (source_next t sources s.buffer 0 0 s begins.sources_are (omega arith) (λ end. refl) s.next begins.next_is);
+    entry_is = sym (entry_next t sources s.buffer 0 0 s begins.sources_are (omega arith) (λ end. refl) s.next begins.next_is);
+    filled_is = sym (no_keys s.buffer begins.empty);
     waiting_is = sym (ap (ids_at t) begins.none_waits);
     ready_is = sym (ap (ids_at t) begins.none_ready);
     freed_is = begins.none_freed ∙ sym (ap freed_in none);

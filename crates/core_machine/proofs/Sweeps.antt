@@ -20,10 +20,10 @@ use Rattle.store_machine.specs.Collecting.{Ends}
 use Rattle.store_machine.specs.Machine.{Collection, Sweeping}
 use Rattle.store_machine.specs.Values.{of_roots}
 use Rattle.core_machine.specs.Collections.{SameRun}
-use Rattle.core_machine.proofs.CopiedSources.{copies_so, no_keys}
+use Rattle.core_machine.proofs.CopiedSources.{copies_so}
 use Rattle.core_machine.proofs.FlushedCopies.{flushes_so}
 use Rattle.core_machine.proofs.FreedSources.{releases_so}
-use Rattle.core_machine.proofs.SweptOn.{AtSweep, Swept, at_sweep, is_sweeping}
+use Rattle.core_machine.proofs.SweptOn.{AtSweep, Swept, at_sweep, is_sweeping, no_keys}
 use Rattle.core_machine.proofs.Rows.{M}
 
 pub did_same : (a b : Phase) → Did a ≡ Did b → a ≡ b

@@ -1,26 +1,23 @@
 -- What a step of a sweep leaves of the machine: common to its steps, whatever they do.
-use Rattle.std.proofs.Common.{◌≡◌, ◌≢◌, ◌≤◌, ℕ, Bool, true, List, [], ◌∷◌, ◌++◌, length, get_or, Option, Some, None, refl, sym, ◌∙◌, ap, subst, arith}
+use Rattle.std.proofs.Common.{◌≡◌, ◌≢◌, ◌≤◌, ℕ, Bool, true, List, [], ◌∷◌, ◌++◌, length, get_or, map, Option, Some, None, refl, sym, ◌∙◌, ap, subst, arith}
 use Rattle.std.specs.List.{AllByRecursion}
-use Rattle.std.proofs.lemmas.List.{get_or-set_other}
-use Rattle.container_meta.specs.Segments.{Contents}
+use Rattle.container_meta.specs.Segments.{Contents, keys_of, segment_key}
 use Rattle.container_meta.specs.Spelling.{HeaderValue}
 use Rattle.disk_format.specs.Cells.{Root}
 use Rattle.disk_format.specs.declared.numbers.TheConstants.{LAST_ID}
 use Rattle.refusals.specs.declared.refusal.Phase.{Phase}
 use Rattle.refusals.specs.declared.refusal.Phase.TheVariants as phases
 use Rattle.store_model.specs.Image.{IsValidFor, Store, last_sequence, names_of}
-use Rattle.store_model.specs.Slots.{HasFree, with_slot}
+use Rattle.store_model.specs.Slots.{HasFree}
 use Rattle.store_model.specs.Steps.{StoreChange}
-use Rattle.store_model.proofs.HeldTrees.{all_first}
 use Rattle.store_state.specs.declared.slot_table.SlotTable.{SlotTable}
 use Rattle.store_state.specs.declared.tables.Tables.{Tables}
-use Rattle.store_state.specs.Tables.{IsFirstFree, Represents, RepresentsSlots}
+use Rattle.store_state.specs.Tables.{Represents}
 use Rattle.gc_sweep.specs.declared.sweep.Next.{Next}
 use Rattle.gc_sweep.specs.declared.sweep.Next.TheVariants as nexts
 use Rattle.gc_sweep.specs.declared.sweep.Sweep.{Sweep as CoreSweep}
 use Rattle.gc_sweep.specs.Next.{IsNext}
-use Rattle.gc_sweep.specs.UnderWay.{IsSweeping, IsTaken, entry_in, sources_before}
-use Rattle.gc_sweep.proofs.Taken.{ids_set, old_not_zero, slot_closed}
+use Rattle.gc_sweep.specs.UnderWay.{IsSweeping, entry_in, sources_before}
 use Rattle.gc_steps.specs.declared.collection.Collection.{Collection as CoreCollection}
 use Rattle.gc_steps.specs.declared.collection.Stage.TheVariants as stages
 use Rattle.gc_steps.specs.UnderWay.{IsUnderWay}
@@ -128,37 +125,15 @@ pub next_ready : (held : List (Option HeaderValue)) (sources : List ℕ) (source
 next_ready held sources source [] filled some = absurd (some refl)
 next_ready held sources source (id ∷ ids) filled some = refl
 
--- ---- the ids of slots, by another table
+-- ---- lists
 
-pub ids_same : (t now : SlotTable) (slots : List ℕ) → AllByRecursion (λ w. get_or now.ids.items w 0 ≡ get_or t.ids.items w 0) slots → ids_at t slots ≡ ids_at now slots
-ids_same t now [] all = refl
-ids_same t now (w ∷ ws) all = ap (λ (n : ℕ). n ∷ ids_at t ws) (sym all.0) ∙ ap (λ (ids : List ℕ). get_or now.ids.items w 0 ∷ ids) (ids_same t now ws all.1)
+-- a container that is filled with nothing has no keys, of whatever kind it is
+pub no_keys : (c : Contents) → c.segments ≡ [] → keys_of c ≡ []
+no_keys c none = ap (map (segment_key c.kind)) none
 
-module _ (t : SlotTable) (snapshot : ℕ) (k : CoreSweep) (under : IsSweeping t snapshot k) where
-  -- the slot of a source that came to its end has an id
-  pub taken_some : (w : ℕ) → IsTaken t k.sources.items (sources_before k k.next) w → get_or t.ids.items w 0 ≢ 0
-  taken_some w taken none =
-      old_not_zero snapshot (get_or k.sources.items taken.number 0) (under.left.old taken.number (omega (arith, taken.taken, under.before))) (sym taken.id_is ∙ none)
-
-  -- slots that wait or are ready keep their ids where no id is lost
-  module _ (now : SlotTable) (stay : (w : ℕ) → get_or t.ids.items w 0 ≢ 0 → get_or now.ids.items w 0 ≡ get_or t.ids.items w 0) where
-    pub all_stay : (slots : List ℕ) → AllByRecursion (IsTaken t k.sources.items (sources_before k k.next)) slots
-        → AllByRecursion (λ w. get_or now.ids.items w 0 ≡ get_or t.ids.items w 0) slots
-    all_stay [] all = tt
-    all_stay (w ∷ ws) all = (stay w (taken_some w all.0), all_stay ws all.1)
-
-    -- those that wait alone
-    pub waiting_stay : ids_at t k.waiting.items ≡ ids_at now k.waiting.items
-    waiting_stay =
-        ids_same t now k.waiting.items
-        (all_stay k.waiting.items (all_first (IsTaken t k.sources.items (sources_before k k.next)) k.waiting.items k.ready.items under.taken))
-
--- ---- a container more
-
--- by a table that has a container more, in the closed slot of least number, each id stays
-pub others_stay : (held : List (Option HeaderValue)) (t now : SlotTable) (slot : ℕ) (h : HeaderValue) → IsFirstFree slot held → RepresentsSlots held t
-    → RepresentsSlots (with_slot slot h held) now → (w : ℕ) → get_or t.ids.items w 0 ≢ 0 → get_or now.ids.items w 0 ≡ get_or t.ids.items w 0
-others_stay held t now slot h free was is w some =
-    let closed : get_or t.ids.items slot 0 ≡ 0 = slot_closed held t now slot h free was is in
-    ap (λ (ids : List ℕ). get_or ids w 0) (ids_set held t now slot h free was is)
-    ∙ get_or-set_other t.ids.items slot w h.id 0 (λ same. some (ap (λ (n : ℕ). get_or t.ids.items n 0) same ∙ closed))
+-- ids stay where the table has the same ones in their slots
+pub ids_kept : (t now : SlotTable) (slots : List ℕ) → AllByRecursion (λ w. get_or now.ids.items w 0 ≡ get_or t.ids.items w 0) slots
+    → ids_at t slots ≡ ids_at now slots
+ids_kept t now [] all = refl
+ids_kept t now (w ∷ ws) all =
+    ap (λ (n : ℕ). n ∷ ids_at t ws) (sym all.0) ∙ ap (λ (ids : List ℕ). get_or now.ids.items w 0 ∷ ids) (ids_kept t now ws all.1)

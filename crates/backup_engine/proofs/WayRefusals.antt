@@ -29,6 +29,7 @@ use Rattle.ingest_steps.proofs.PinList.{all_at}
 use Rattle.store_core.specs.Core.{CoreStep, IndexesAll, IsDamage, KeepsTables, KeepsUnlessBroken}
 use Rattle.store_core.specs.Keeping.{kept_of}
 use Rattle.store_core.specs.State.{CoreState}
+use Rattle.store_core.proofs.SafeSteps.{alone}
 use Rattle.backup_engine.specs.AnyDisk.{room_in}
 use Rattle.backup_engine.specs.Line.{Ingest}
 use Rattle.backup_engine.specs.PlainMap.{HasTwins, LacksPiece}
@@ -114,14 +115,14 @@ module _ (C : Type 0) (state : C → CoreState) (files : List ℕ → Type 0) (o
       seal_cause (refusals.Full free) kept cause = record {
         store_has = λ store represents valid free whole.
             let before = kept_represents (state old) (state new) kept store represents in
-            let so = cause.1.store_has store before (subst (λ (n : ℕ). IsValidFor n store) size_is valid) free in
+            let so = cause.1.store_has store (alone store (state old).known (state old).tables before) (subst (λ (n : ℕ). IsValidFor n store) size_is valid) free in
             inl (lacks_one store (subst (IndexesAll store) kept.index_is whole), so.0, so.1);
       }
       seal_cause refusals.Numbers kept cause = record {
         store_has = λ store represents valid free whole.
             let before = kept_represents (state old) (state new) kept store represents in
             let sized = subst (λ (n : ℕ). IsValidFor n store) size_is valid in
-            let so = cause.1.0.store_has store before sized free in
+            let so = cause.1.0.store_has store (alone store (state old).known (state old).tables before) sized free in
             inl (inl (lacks_one store (subst (IndexesAll store) kept.index_is whole), so, omega (arith, last_within store.held valid.headers, w.ids.store_has store before sized free, cause.1.1)));
       }
       seal_cause refusal kept cause = absurd (none_unlike refusal cause.2)

@@ -52,7 +52,8 @@ change_refused k l unlike same DiskWrite has = tt
 change_refused k l unlike same (Damaged at why) has = sym same ∙ has
 change_refused k l unlike same refusal has = absurd has
 
-pub map_kept : {T : Type 0} (result : Result T Refusal) (k l new : Option PlaceMap) → k ≡ l → IfErr result (IsChangeRefusal k) → (result ≡ Err Memory → new ≡ k) → IfErr result (KeepsMap l new)
+pub map_kept : {T : Type 0} (result : Result T Refusal) (k l new : Option PlaceMap) → k ≡ l → IfErr result (IsChangeRefusal k) → (result ≡ Err Memory → new ≡ k)
+    → IfErr result (KeepsMap l new)
 map_kept (Ok x) k l new same refused memory = tt
 map_kept (Err Memory) k l new same refused memory = memory refl ∙ same
 map_kept (Err DiskWrite) k l new same refused memory = tt
@@ -60,8 +61,10 @@ map_kept (Err (Damaged at why)) k l new same refused memory = tt
 map_kept (Err refusal) k l new same refused memory = absurd refused
 
 -- and what was compared was so on the disk of before
-pub compared_and_sealed : (result : Result ℕ Refusal) (t new : Tables) (slot : ℕ) (filled : Contents) (size mid_size : ℕ) (known mid_known : Option PlaceMap) (compared : Type 0) → mid_size ≡ size
-    → mid_known ≡ known → compared → HasSlot t slot → IfOk result (λ id. (spares : ℕ) → HasSlotBeside spares t slot → HasWritten spares t mid_size mid_known slot filled new id) → IfOk result (λ id. HasSealed t size known slot filled new id × compared)
+pub compared_and_sealed : (result : Result ℕ Refusal) (t new : Tables) (slot : ℕ) (filled : Contents) (size mid_size : ℕ) (known mid_known : Option PlaceMap) (compared : Type 0)
+    → mid_size ≡ size
+    → mid_known ≡ known → compared → HasSlot t slot → IfOk result (λ id. (spares : ℕ) → HasSlotBeside spares t slot → HasWritten spares t mid_size mid_known slot filled new id)
+    → IfOk result (λ id. HasSealed t size known slot filled new id × compared)
 compared_and_sealed (Ok id) t new slot filled size mid_size known mid_known compared same_size same_known has slot_is sealed = (
   subst (λ (n : ℕ). HasSealed t n known slot filled new id) same_size
       (subst (λ (k : Option PlaceMap). HasSealed t mid_size k slot filled new id) same_known (sealed RESERVE slot_is)),
@@ -85,7 +88,8 @@ module _ (slots : ℕ) (old mid new : DiskView) (reads : Reads Done old mid) whe
   counts_after : KeepsWhatCounts slots mid new → KeepsWhatCounts slots old new
   counts_after keep = record {
     content_is = subst (λ (x : Option (List ℕ)). Both (SameBefore (slot_at slots)) x new.content) reads.only.content_is keep.content_is;
-    leaves = leaves_on (SteppedFrom (SameBefore (slot_at slots)) old) (SteppedFrom (SameBefore (slot_at slots)) mid) (SteppedFrom (SameBefore (slot_at slots)) old) old mid new reads.only.later.clock_is
+    leaves = leaves_on (SteppedFrom (SameBefore (slot_at slots)) old) (SteppedFrom (SameBefore (slot_at slots)) mid)
+        (SteppedFrom (SameBefore (slot_at slots)) old) old mid new reads.only.later.clock_is
         (reads_leave (SteppedFrom (SameBefore (slot_at slots)) old) old mid (λ c image. inl image) reads.only) keep.leaves (λ c has. has)
         (λ c from. elim from [
           | inl image ↦ inl (reads.only.images_are c image)
@@ -117,7 +121,8 @@ module _ (old mid new : DiskView) (reads : OnlyReads old mid) (P Q : List ℕ �
   arrives_after Unread (inr rests) = inr rests
   arrives_after Broken arrives = arrives
 
-module _ (t : Tables) (id : ℕ) (filled : Contents) (e : Ending) (old mid new : DiskView) (reads : OnlyReads old mid) (later : IsLater mid new) (seals : SealsIndexed t id filled e mid new) where
+module _ (t : Tables) (id : ℕ) (filled : Contents) (e : Ending) (old mid new : DiskView) (reads : OnlyReads old mid) (later : IsLater mid new)
+    (seals : SealsIndexed t id filled e mid new) where
   pub indexed_after : SealsIndexed t id filled e old new
   indexed_after = record {
     frame = λ known. first_after known t old mid new reads later (seals.frame known);
@@ -129,14 +134,17 @@ module _ (t : Tables) (id : ℕ) (filled : Contents) (e : Ending) (old mid new :
           leaves = leaves_on P way.between way.between old mid new reads.later.clock_is (reads_leave P old mid stands.each reads) moved.leaves (λ c has. inl has) (λ c has. has);
           arrives = arrives_after old mid new reads P way.after e moved.arrives;
         };
-    holds = λ among store known index files given held is content now stands may fit. seals.holds among store known index files given held is (reads.content_is ∙ content) now stands may fit;
+    holds = λ among store known index files given held is content now stands may fit. seals.holds among store known index files given held is
+        (reads.content_is ∙ content) now stands may fit;
   }
 
 -- One that was compared before, in a slot with others to spare.
 module _ (t : Tables) (known : Option PlaceMap) (id : ℕ) (filled : Contents) (e : Ending) (old mid new : DiskView) (reads : Reads Done old mid)
-    (held : Shows old mid (λ image. (store : Store) (m : PlaceMap) → known ≡ Some m → IsPartialIndexOf store.held m → AllByRecursion (FitsHeld (HasKey m) filled.kind store image) filled.segments))
+    (held : Shows old mid
+    (λ image. (store : Store) (m : PlaceMap) → known ≡ Some m → IsPartialIndexOf store.held m → AllByRecursion (FitsHeld (HasKey m) filled.kind store image) filled.segments))
     (later : IsLater mid new) (seals : SealsIndexed t id filled e mid new)
-    (spare : (among : ByteSet) (store : Store) (files : Files) (given : List ℕ) → Represents store known t → Stands (IsIn among) store files given → RESERVE < free_slots store.held) where
+    (spare : (among : ByteSet) (store : Store) (files : Files) (given : List ℕ) → Represents store known t → Stands (IsIn among) store files given
+    → RESERVE < free_slots store.held) where
   abbrev indexed : SealsIndexed t id filled e old new
   indexed = indexed_after t id filled e old mid new reads.only later seals
 
@@ -185,7 +193,8 @@ module _ (t : Tables) (id : ℕ) (filled : Contents) (old new : DiskView) (reads
     moved_read : (b : Blame) → Moved (index_first P Q) (ending_of b) old new
     moved_read b = record { leaves = reads_leave (index_first P Q).between old new (λ c image. inl (stands.each c image)) reads; arrives = arrives_read b }
 
-  holds_read : (map : PlaceMap) (store : Store) (given held : List ℕ) (b : Blame) → old.content ≡ Some given → new.content ≡ Some held → KeepsHeld map (ending_of b) id filled store given held
+  holds_read : (map : PlaceMap) (store : Store) (given held : List ℕ) (b : Blame) → old.content ≡ Some given → new.content ≡ Some held
+      → KeepsHeld map (ending_of b) id filled store given held
   holds_read map store given held NoCall content now = same_keeps store given held (same_content held given (sym now ∙ reads.content_is ∙ content))
   holds_read map store given held ReadCall content now = same_keeps store given held (same_content held given (sym now ∙ reads.content_is ∙ content))
   holds_read map store given held WriteCall content now = tt
@@ -193,19 +202,22 @@ module _ (t : Tables) (id : ℕ) (filled : Contents) (old new : DiskView) (reads
   seals_read : (known : Option PlaceMap) (b : Blame) → SealsCompared t known id filled (ending_of b) old new
   seals_read known b = record {
     frame = first_reads known t old new reads;
-    moves = λ among store files map known_is is all distinct may stands. moved_read (Stands (IsIn among) store files) (sealing_compared (IsIn among) id filled store files).after stands b;
+    moves = λ among store files map known_is is all distinct may stands. moved_read (Stands (IsIn among) store files)
+        (sealing_compared (IsIn among) id filled store files).after stands b;
     holds = λ among store files map given held known_is is content now stands distinct may. holds_read map store given held b content now;
   }
 
   indexed_read : (b : Blame) → SealsIndexed t id filled (ending_of b) old new
   indexed_read b = record {
     frame = λ known. first_reads known t old new reads;
-    moves = λ among store known index files given is content may all fit stands. moved_read (Stands (IsIn among) store files) (sealing_indexed (IsIn among) id filled store files).after stands b;
+    moves = λ among store known index files given is content may all fit stands. moved_read (Stands (IsIn among) store files)
+        (sealing_indexed (IsIn among) id filled store files).after stands b;
     holds = λ among store known index files given held is content now stands may fit. holds_read index store given held b content now;
   }
 
   -- whatever was refused
-  pub seals_refused_by : {T : Type 0} (known : Option PlaceMap) (result : Result T Refusal) (P : Refusal → Type 0) → IsErrAnd result P → SealsCompared t known id filled (ending blames result) old new
+  pub seals_refused_by : {T : Type 0} (known : Option PlaceMap) (result : Result T Refusal) (P : Refusal → Type 0) → IsErrAnd result P
+      → SealsCompared t known id filled (ending blames result) old new
   seals_refused_by known (Ok x) P is = absurd is
   seals_refused_by known (Err e) P is = seals_read known (blames e)
 

@@ -8,7 +8,8 @@ use Rattle.store_state.specs.declared.tables.Tables.{Tables}
 use Rattle.ingest_steps.specs.Writers.{IsUncommitted, IsCommitRefusal}
 
 -- by what the actor is at, by the name or by the root
-pub uncommitted_refused : (part : Part) (t : Tables) (name : List ℕ) (root : Root) (refusal : Refusal) → IsUncommitted part t name root refusal → IsCommitRefusal part t name root refusal
+pub uncommitted_refused : (part : Part) (t : Tables) (name : List ℕ) (root : Root) (refusal : Refusal) → IsUncommitted part t name root refusal
+    → IsCommitRefusal part t name root refusal
 uncommitted_refused part t name root Memory is = tt
 uncommitted_refused part t name root Numbers is = absurd is.1
 uncommitted_refused part t name root DiskWrite is = absurd is.1

@@ -50,7 +50,8 @@ use Rattle.ingest_steps.proofs.Pinned.{all_pinned, pins_with, pin_right}
 pub node_of : (s : Segment) → IsNodeSegment s → IsNodeOf s.level s.bytes
 node_of s right = record { node = contents_in s.bytes; right = right.bytes.node; level_is = sym right.level; spelled = right.bytes.spelled }
 
-module _ (S : List ℕ → Type 0) (store : Store) (files : Files) (image : List ℕ) (stands : Stands S store files image) (places : PlaceMap) (index : IsPartialIndexOf store.held places) where
+module _ (S : List ℕ → Type 0) (store : Store) (files : Files) (image : List ℕ) (stands : Stands S store files image) (places : PlaceMap)
+    (index : IsPartialIndexOf store.held places) where
   headers : AreHeaders store.held
   headers = headers_of_right image store stands.holds.right
 
@@ -89,7 +90,8 @@ module _ (S : List ℕ → Type 0) (store : Store) (files : Files) (image : List
       → first_unpinned (record { kind = kind; segment = s }) pins ≡ None → ArePinsOf (HasKey places) store.held image pins
       → ArePinsOf (HasKey places) store.held image (finite.insert pins (segment_key kind s) (pin_of (record { kind = kind; segment = s })))
   pins_claimed distinct Leaf s place pins right among found long fits none are =
-      pins_with (HasKey places) store.held image pins (record { kind = Leaf; segment = record { level = 0; bytes = s.bytes } }) are tt (leaf_newest distinct s place among found long) (place, found) tt
+      pins_with (HasKey places) store.held image pins (record { kind = Leaf; segment = record { level = 0; bytes = s.bytes } }) are tt
+      (leaf_newest distinct s place among found long) (place, found) tt
   pins_claimed distinct Tree s place pins right among found long fits none are =
       pins_with (HasKey places) store.held image pins (record { kind = Tree; segment = s }) are right (node_newest s place right found fits) (place, found)
       (all_pinned pins (children_of (record { kind = Tree; segment = s })) none)
@@ -139,7 +141,8 @@ set_after parts taken new actor part left set =
     set ∙ ap (λ (p : List Part). with_part p actor part) left ∙ apart.replaced parts actor Idle part
 
 -- or is given back
-pub taken_back : (parts taken new : List Part) (actor : ℕ) (part : Part) → taken ≡ with_part parts actor Idle → new ≡ with_part taken actor part → part ≡ part_of parts actor → new ≡ parts
+pub taken_back : (parts taken new : List Part) (actor : ℕ) (part : Part) → taken ≡ with_part parts actor Idle → new ≡ with_part taken actor part → part ≡ part_of parts actor
+    → new ≡ parts
 taken_back parts taken new actor part left set is =
     set_after parts taken new actor part left set ∙ ap (with_part parts actor) is ∙ apart.unchanged parts actor
 

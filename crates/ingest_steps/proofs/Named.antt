@@ -78,7 +78,8 @@ module _ (name : List ℕ) (change : Change) (t : Tables) (may : MayChange t nam
     number = omega (arith, keeps.last_is, numbers.sequence);
   }
 
-  represents_with : (store : Store) (known : Option PlaceMap) → Follow 0 finite.empty store.records → Represents store known t → Represents (with_change name change store) known (tables_with (record_after_last t name change) t)
+  represents_with : (store : Store) (known : Option PlaceMap) → Follow 0 finite.empty store.records → Represents store known t
+      → Represents (with_change name change store) known (tables_with (record_after_last t name change) t)
   represents_with store known follow is = record {
     slots_are = is.slots_are;
     names_are = names_told store t is.names_are follow name change;
@@ -86,7 +87,8 @@ module _ (name : List ℕ) (change : Change) (t : Tables) (may : MayChange t nam
     index_is_newest = is.index_is_newest;
   }
 
-  pub is_changed : (new : Tables) (number : ℕ) → IsChange change → number ≡ suc t.journal.last → new ≡ tables_with (record_after_last t name change) t → IsChanged t name change new number
+  pub is_changed : (new : Tables) (number : ℕ) → IsChange change → number ≡ suc t.journal.last → new ≡ tables_with (record_after_last t name change) t
+      → IsChanged t name change new number
   is_changed new number right is tables = record {
     number = is;
     numbers = numbers;
@@ -147,7 +149,8 @@ module _ (name : List ℕ) (change : Change) (Base : Store → List ℕ → Type
 
     between_here : (given d c : List ℕ) → Before given → Before d → Appends t.journal r given d c → Base store c ⊎ After (with_cell store) c
     between_here given d c before was of =
-        elim (append_between name change Base makes.above store t.journal t.names keeps room_here r (r_here (follow_of given before.0)) can.named can.place given d c before.0 was.0 of) [
+        elim (append_between name change Base makes.above store t.journal t.names keeps room_here r
+        (r_here (follow_of given before.0)) can.named can.place given d c before.0 was.0 of) [
           | inl still ↦ inl still
           | inr with ↦ inr (made_here given c before with.0 with.1)
         ]
@@ -189,12 +192,15 @@ module _ (name : List ℕ) (change : Change) (Base : Store → List ℕ → Type
       module _ (room : journal_anew.count < half_cells) where
         after_mid : (c : List ℕ) → IsAppended journal_anew r mid c → After (with_cell store) c
         after_mid c of = made_anew mid c came asks_mid
-            (alone name change Base makes.above anew journal_anew t.names (checkpoint_told store t keeps follow) room r (r_anew follow) can.named (place_anew follow) mid c has_mid of.same)
-            (append_after name change Base makes.above anew journal_anew t.names (checkpoint_told store t keeps follow) room r (r_anew follow) can.named (place_anew follow) mid c has_mid of)
+            (alone name change Base makes.above anew journal_anew t.names (checkpoint_told store t keeps follow) room r (r_anew follow) can.named
+            (place_anew follow) mid c has_mid of.same)
+            (append_after name change Base makes.above anew journal_anew t.names (checkpoint_told store t keeps follow) room r (r_anew follow) can.named
+            (place_anew follow) mid c has_mid of)
 
         between_mid : (c : List ℕ) → Appends journal_anew r mid mid c → Base anew c ⊎ After (with_cell store) c
         between_mid c of =
-            elim (append_between name change Base makes.above anew journal_anew t.names (checkpoint_told store t keeps follow) room r (r_anew follow) can.named (place_anew follow) mid mid c came came of) [
+            elim (append_between name change Base makes.above anew journal_anew t.names (checkpoint_told store t keeps follow) room r (r_anew follow) can.named
+            (place_anew follow) mid mid c came came of) [
               | inl still ↦ inl still
               | inr with ↦ inr (made_anew mid c came asks_mid with.0 with.1)
             ]
@@ -224,7 +230,8 @@ module _ (name : List ℕ) (change : Change) (Base : Store → List ℕ → Type
       → Moves (step Before (λ c. StandsStill Base store c ⊎ After (with_cell store) c) (After (with_cell store))) e old new
   moves_recorded e old new writes =
       let same : store_has_cell store ≡ has_cell t.journal = sym (same_cell store t keeps) in
-      moves_written Before (λ c. StandsStill Base store c ⊎ After (with_cell store) c) (After (with_cell store)) (Records t.names t.journal r) (IsRecorded t.names t.journal r) old new
+      moves_written Before (λ c. StandsStill Base store c ⊎ After (with_cell store) c) (After (with_cell store)) (Records t.names t.journal r)
+      (IsRecorded t.names t.journal r) old new
       (recorded (has_cell t.journal) same) e (λ c before. inl (inl (store.other_open, before.0))) (recording (has_cell t.journal) same) writes
 
 -- ---- of a journal, and of files
@@ -253,7 +260,8 @@ pub journal_between : (name : List ℕ) (change : Change) (store : Store) (t : T
     → HasJournal store given → HasJournal store d → Records t.names t.journal (record_after_last t name change) given d c
     → StandsStill HasJournal store c ⊎ HasJournal (with_change name change store) c
 journal_between name change store t keeps can given d c has was of =
-    recording name change HasJournal store (λ c. Unit {0}) (λ base. HasJournal (appended name change base)) (makes_journal name change store) t keeps can (has_cell t.journal) (sym (same_cell store t keeps))
+    recording name change HasJournal store (λ c. Unit {0}) (λ base. HasJournal (appended name change base)) (makes_journal name change store) t keeps can (has_cell t.journal)
+    (sym (same_cell store t keeps))
     given d c (has, tt) (was, tt) of
 
 module _ (t : Tables) (e : Ending) (old new : DiskView) where
@@ -265,7 +273,8 @@ module _ (t : Tables) (e : Ending) (old new : DiskView) where
   moves_journal name change store keeps can written =
       let Asks = λ (c : List ℕ). Unit {0} in
       let After = λ (base : Store). HasJournal (appended name change base) in
-      let first = step (λ c. HasJournal store c × Unit {0}) (λ c. StandsStill HasJournal store c ⊎ HasJournal (with_change name change store) c) (HasJournal (with_change name change store)) in
+      let first = step (λ c. HasJournal store c × Unit {0}) (λ c. StandsStill HasJournal store c ⊎ HasJournal (with_change name change store) c)
+      (HasJournal (with_change name change store)) in
       moves_wider first (changing_journal name change store) old new
       (record { before = λ c has. (has, tt); between = λ c has. has; rest = λ c has. has }) (λ c has. has) e
       (moves_recorded name change HasJournal store Asks After (makes_journal name change store) t keeps can e old new written)
@@ -302,7 +311,8 @@ reads_name t name change old new reads = record {
 }
 
 -- it was refused: before the first write, or a write or a sync failed
-pub unwritten_name : (t : Tables) (old new : DiskView) (name : List ℕ) (change : Change) (r : RecordValue) (refusal : Refusal) → r ≡ record_after_last t name change → MayChange t name change
+pub unwritten_name : (t : Tables) (old new : DiskView) (name : List ℕ) (change : Change) (r : RecordValue) (refusal : Refusal) → r ≡ record_after_last t name change
+    → MayChange t name change
     → t.journal.last < 2 ^ 64 - 1 → IsWriteRefusal t refusal → Writes (Records t.names t.journal r) (IsRecorded t.names t.journal r) (ending_of (blames refusal)) old new
     → ChangesName t name change (ending_of (blames refusal)) old new
 unwritten_name t old new n x r Memory is may below refused writes = reads_name t n x old new writes.written

@@ -25,7 +25,8 @@ all_at P [] i within all = absurd (omega (arith, within))
 all_at P (s ∷ ss) zero within all = all.0
 all_at P (s ∷ ss) (suc i) within all = all_at P ss i (omega (arith, within)) all.1
 
-pub length_at : (kind : Kind) (before : List Entry) (offset : ℕ) (ss : List Segment) (i : ℕ) → i < length ss → Follow kind before (entries_from offset ss) → is_length kind (length (segment_at ss i).bytes) ≡ true
+pub length_at : (kind : Kind) (before : List Entry) (offset : ℕ) (ss : List Segment) (i : ℕ) → i < length ss → Follow kind before (entries_from offset ss)
+    → is_length kind (length (segment_at ss i).bytes) ≡ true
 length_at kind before offset [] i within follow = absurd (omega (arith, within))
 length_at kind before offset (s ∷ ss) zero within follow = follow.0.length
 length_at kind before offset (s ∷ ss) (suc i) within follow =
@@ -39,7 +40,8 @@ right_at kind ss i within all long =
 
 -- ---- one more pin
 
-with_pins_push : (kind : Kind) (ss : List Segment) (s : Segment) (pins : PinMap) → with_pins kind (ss ++ s ∷ []) pins ≡ finite.insert (with_pins kind ss pins) (segment_key kind s) (pin_by kind s)
+with_pins_push : (kind : Kind) (ss : List Segment) (s : Segment) (pins : PinMap)
+    → with_pins kind (ss ++ s ∷ []) pins ≡ finite.insert (with_pins kind ss pins) (segment_key kind s) (pin_by kind s)
 with_pins_push kind [] s pins = refl
 with_pins_push kind (t ∷ ss) s pins = with_pins_push kind ss s (finite.insert pins (segment_key kind t) (pin_by kind t))
 
@@ -109,7 +111,9 @@ pin_back m key pin had is =
     finite.same_map nat_list_cmp_total (finite.slice_cmp-IsAntisymmetric finite.nat_cmp-IsAntisymmetric) (had_again had key (finite.insert m key pin)) m
     (λ q. seen had q ∙ by_test q (eq_by_cmp (slice_cmp nat_cmp) q key) refl)
   where
-    seen : (o : Option Pin) (q : List ℕ) → finite.get (had_again o key (finite.insert m key pin)) q ≡ cond (eq_by_cmp (slice_cmp nat_cmp) q key) o (cond (eq_by_cmp (slice_cmp nat_cmp) q key) (Some pin) (finite.get m q))
+    seen : (o : Option Pin) (q : List ℕ)
+        → finite.get (had_again o key (finite.insert m key pin)) q ≡ cond (eq_by_cmp (slice_cmp nat_cmp) q key) o
+        (cond (eq_by_cmp (slice_cmp nat_cmp) q key) (Some pin) (finite.get m q))
     seen (Some p) q =
         finite.get-insert nat_list_cmp_total (finite.insert m key pin) key p q
         ∙ ap (λ (o : Option Pin). cond (eq_by_cmp (slice_cmp nat_cmp) q key) (Some p) o) (finite.get-insert nat_list_cmp_total m key pin q)

@@ -45,7 +45,8 @@ above_data false level count is above some = le-leb 1 count some
 pub pin_right : (kind : Kind) (s : Segment) → IsOfKind kind s → 1 ≤ length s.bytes → length s.bytes ≤ MOST_SEGMENT → IsPin (pin_by kind s)
 pin_right Leaf s right some few = record {
   some = some;
-  length_is = both (nat_le (length s.bytes) MOST_FILE) (nat_le (length s.bytes) MOST_SEGMENT) (le-leb (length s.bytes) MOST_FILE (omega (arith, few))) (le-leb (length s.bytes) MOST_SEGMENT few);
+  length_is = both (nat_le (length s.bytes) MOST_FILE) (nat_le (length s.bytes) MOST_SEGMENT) (le-leb (length s.bytes) MOST_FILE (omega (arith, few)))
+      (le-leb (length s.bytes) MOST_SEGMENT few);
   level_is = le-leb 0 MOST_LEVEL (omega arith);
 }
 pin_right Tree s right some few =

@@ -28,7 +28,8 @@ half_on half old mid new first second = record {
 }
 
 -- a cell of the new half
-next_in : (names : NameMap) (journal : JournalValue) (old new : List ℕ) → (checkpointed names journal).count < half_cells → SameButNext (checkpointed names journal) old new → SameButHalf (1 - journal.half) old new
+next_in : (names : NameMap) (journal : JournalValue) (old new : List ℕ) → (checkpointed names journal).count < half_cells → SameButNext (checkpointed names journal) old new
+    → SameButHalf (1 - journal.half) old new
 next_in names journal old new room same = record {
   size = same.size;
   same = λ p n outside apart. elim apart [ inl before ↦ same.before p n (omega (arith, before)) | inr after ↦ same.after p n (omega (arith, after, room)) ];
@@ -53,10 +54,12 @@ but_record true names journal r given old new is Q from_old from_given = but_app
 but_record false names journal r given old new (inl (inl stays)) Q from_old from_given = from_old stays.same
 but_record false names journal r given old new (inl (inr either)) Q from_old from_given = from_given either.same (inl (inr either))
 but_record false names journal r given old new (inr after) Q from_old from_given =
-    let on = λ (same : SameButNext (checkpointed names journal) after.mid new). from_given (half_on (1 - journal.half) given after.mid new after.is.same (next_in names journal after.mid new after.room same)) (inr after) in
+    let on = λ (same : SameButNext (checkpointed names journal) after.mid new). from_given
+    (half_on (1 - journal.half) given after.mid new after.is.same (next_in names journal after.mid new after.room same)) (inr after) in
     but_appends (checkpointed names journal) r after.mid after.mid new after.appends Q on (λ same appends. on same)
 
-recorded_same : (free : Bool) (names : NameMap) (journal : JournalValue) (r : RecordValue) (given new : List ℕ) → IsRecordedBy free names journal r given new → SameButRecordBy free journal given new
+recorded_same : (free : Bool) (names : NameMap) (journal : JournalValue) (r : RecordValue) (given new : List ℕ) → IsRecordedBy free names journal r given new
+    → SameButRecordBy free journal given new
 recorded_same true names journal r given new is = is.same
 recorded_same false names journal r given new is = half_on (1 - journal.half) given is.mid new is.is.same (next_in names journal is.mid new is.room is.appended.same)
 
@@ -115,7 +118,8 @@ pub journal_here : (t : Tables) (name : List ℕ) (change : Change) (v : DiskVie
 journal_here t name change v = reads_journal t name change v v (reads_here v)
 
 -- it was refused: before the first write, or a write or a sync failed
-pub unwritten_journal : (t : Tables) (old new : DiskView) (name : List ℕ) (change : Change) (refusal : Refusal) → MayChange t name change → t.journal.last < 2 ^ 64 - 1 → IsWriteRefusal t refusal
+pub unwritten_journal : (t : Tables) (old new : DiskView) (name : List ℕ) (change : Change) (refusal : Refusal) → MayChange t name change → t.journal.last < 2 ^ 64 - 1
+    → IsWriteRefusal t refusal
     → Writes (Records t.names t.journal (record_after_last t name change)) (IsRecorded t.names t.journal (record_after_last t name change)) (ending_of (blames refusal)) old new
     → ChangesJournalAlone t name change old new
 unwritten_journal t old new n x Memory may below refused writes = reads_journal t n x old new writes.written
@@ -123,13 +127,15 @@ unwritten_journal t old new n x Numbers may below refused writes = reads_journal
 unwritten_journal t old new n x DiskWrite may below refused writes = changes_journal t n x may (record { sequence = below; generation = refused }) Broken old new writes
 unwritten_journal t old new n x _ may below refused writes = absurd refused
 
-pub same_but_record : (names : NameMap) (journal : JournalValue) (r : RecordValue) (old new : DiskView) → Writes (Records names journal r) (IsRecorded names journal r) Done old new → KeepsButRecord journal old new
+pub same_but_record : (names : NameMap) (journal : JournalValue) (r : RecordValue) (old new : DiskView)
+    → Writes (Records names journal r) (IsRecorded names journal r) Done old new → KeepsButRecord journal old new
 same_but_record names journal r old new writes = λ given known.
     let written = writes.written.0 given known in
     (written.0, written.1, recorded_same (has_cell journal) names journal r given written.0 written.2)
 
 -- the format cell and the slots are as they were
-pub record_alone_by : (free : Bool) (journal : JournalValue) (old new : List ℕ) → has_cell journal ≡ free → journal.half ≤ 1 → SameButRecordBy free journal old new → SameButJournal old new
+pub record_alone_by : (free : Bool) (journal : JournalValue) (old new : List ℕ) → has_cell journal ≡ free → journal.half ≤ 1 → SameButRecordBy free journal old new
+    → SameButJournal old new
 record_alone_by true journal old new is low same = next_alone journal old new low (count_of_cell journal is) same
 record_alone_by false journal old new is low same = half_alone (1 - journal.half) old new (omega arith) same
 

@@ -32,12 +32,14 @@ use Rattle.ingest_steps.specs.Recording.{IsHalfFull, RecordsBy, IsRecordedBy, Re
 
 module _ (names : NameMap) (journal : JournalValue) (r : RecordValue) (e : Ending) (old new : DiskView) where
   -- both
-  pub both_written : (mid : DiskView) → (checkpointed names journal).count < half_cells → Writes (Checkpoints journal names) (IsCheckpointed journal names) Done old mid → IsUnrefused e
+  pub both_written : (mid : DiskView) → (checkpointed names journal).count < half_cells → Writes (Checkpoints journal names) (IsCheckpointed journal names) Done old mid
+      → IsUnrefused e
       → Writes (Appends (checkpointed names journal) r) (IsAppended (checkpointed names journal) r) e mid new
       → Writes (RecordsBy false names journal r) (IsRecordedBy false names journal r) e old new
   both_written mid room first un second =
       writes_on (Checkpoints journal names) (Appends (checkpointed names journal) r) (RecordsBy false names journal r) (IsCheckpointed journal names)
-      (IsAppended (checkpointed names journal) r) (IsRecordedBy false names journal r) old mid new first (λ given m c known is rest. record { mid = m; is = is; room = room; appended = rest }) e un second
+      (IsAppended (checkpointed names journal) r) (IsRecordedBy false names journal r) old mid new first
+      (λ given m c known is rest. record { mid = m; is = is; room = room; appended = rest }) e un second
       (λ given d c known is. inl is) (λ given m c known is after. inr (record { mid = m; is = is; room = room; appends = after }))
 
   -- the same by whether the half is full
@@ -46,7 +48,8 @@ module _ (names : NameMap) (journal : JournalValue) (r : RecordValue) (e : Endin
   records_by free is writes = subst (λ (b : Bool). Writes (RecordsBy b names journal r) (IsRecordedBy b names journal r) e old new) (sym is) writes
 
 -- the checkpoint broke
-pub checkpoint_broke : (names : NameMap) (journal : JournalValue) (r : RecordValue) (old new : DiskView) → Writes (Checkpoints journal names) (IsCheckpointed journal names) Broken old new
+pub checkpoint_broke : (names : NameMap) (journal : JournalValue) (r : RecordValue) (old new : DiskView)
+    → Writes (Checkpoints journal names) (IsCheckpointed journal names) Broken old new
     → Writes (RecordsBy false names journal r) (IsRecordedBy false names journal r) Broken old new
 checkpoint_broke names journal r old new writes = record {
   later = writes.later;
@@ -84,7 +87,8 @@ module _ (store : Store) (t : Tables) (keeps : RepresentsNames store t) where
   same_cell = ap (λ (n : ℕ). nat_lt n half_cells) keeps.count
 
   module _ (follow : Follow 0 finite.empty store.records) where
-    pub checkpoint_told : IsTold true (with_checkpoint store).selector (with_checkpoint store).records (checkpointed t.names t.journal) t.names (checkpointed t.names t.journal).last
+    pub checkpoint_told : IsTold true (with_checkpoint store).selector (with_checkpoint store).records (checkpointed t.names t.journal) t.names
+        (checkpointed t.names t.journal).last
     checkpoint_told = record {
       half = ap (λ (h : ℕ). 1 - h) keeps.half;
       generation = ap (λ (g : ℕ). g + 1) keeps.generation;
@@ -96,15 +100,20 @@ module _ (store : Store) (t : Tables) (keeps : RepresentsNames store t) where
       last_is = ap (λ (l : ℕ). max l (last_of 0 (puts_of t.names))) keeps.last_is ∙ ap (λ (n : NameMap). max (last_sequence store) (last_of 0 (puts_of n))) keeps.names_are;
     }
 
-    pub cell_told : IsTold (with_cell store).other_open (with_cell store).selector (with_cell store).records (journal_with_cell t.names t.journal) t.names (journal_with_cell t.names t.journal).last
+    pub cell_told : IsTold (with_cell store).other_open (with_cell store).selector (with_cell store).records (journal_with_cell t.names t.journal) t.names
+        (journal_with_cell t.names t.journal).last
     cell_told = elim (store_has_cell store) as (λ b. store_has_cell store ≡ b
-        → IsTold (with_cell store).other_open (with_cell store).selector (with_cell store).records (journal_with_cell t.names t.journal) t.names (journal_with_cell t.names t.journal).last) [
+        → IsTold (with_cell store).other_open (with_cell store).selector (with_cell store).records (journal_with_cell t.names t.journal) t.names
+        (journal_with_cell t.names t.journal).last) [
           | true ↦ λ is.
-              subst (λ (s : Store). IsTold s.other_open s.selector s.records (journal_with_cell t.names t.journal) t.names (journal_with_cell t.names t.journal).last) (sym (cell_here store is))
+              subst (λ (s : Store). IsTold s.other_open s.selector s.records (journal_with_cell t.names t.journal) t.names (journal_with_cell t.names t.journal).last)
+              (sym (cell_here store is))
               (subst (λ (j : JournalValue). IsTold store.other_open store.selector store.records j t.names j.last) (sym (journal_here t.names t.journal (same_cell ∙ is))) keeps)
           | false ↦ λ is.
-              subst (λ (s : Store). IsTold s.other_open s.selector s.records (journal_with_cell t.names t.journal) t.names (journal_with_cell t.names t.journal).last) (sym (cell_anew store is))
-              (subst (λ (j : JournalValue). IsTold true (with_checkpoint store).selector (with_checkpoint store).records j t.names j.last) (sym (journal_anew t.names t.journal (same_cell ∙ is))) checkpoint_told)
+              subst (λ (s : Store). IsTold s.other_open s.selector s.records (journal_with_cell t.names t.journal) t.names (journal_with_cell t.names t.journal).last)
+              (sym (cell_anew store is))
+              (subst (λ (j : JournalValue). IsTold true (with_checkpoint store).selector (with_checkpoint store).records j t.names j.last)
+              (sym (journal_anew t.names t.journal (same_cell ∙ is))) checkpoint_told)
         ] refl
 
     module _ (name : List ℕ) (change : Change) where

@@ -80,7 +80,8 @@ module _ (name : List ℕ) (change : Change) (Base : Store → List ℕ → Type
       (has_these base.records old new has same of.holds)
 
   -- and one more
-  more : (old new : List ℕ) → HasJournal base old → SameButNext journal old new → IsJournalOf (with_record r journal) (base.records ++ r ∷ []) new → HasJournal (appended name change base) new
+  more : (old new : List ℕ) → HasJournal base old → SameButNext journal old new → IsJournalOf (with_record r journal) (base.records ++ r ∷ []) new
+      → HasJournal (appended name change base) new
   more old new has same of =
       has_these (appended name change base).records old new has same
       (subst (λ (v : RecordValue). HoldsRecords journal.half (base.records ++ v ∷ []) new) is of.holds)
@@ -133,7 +134,8 @@ module _ (Base : Store → List ℕ → Type 0) (above : IsAbove Base) (store : 
       let selector_is : next_selector journal ≡ after.selector = cc in
       let puts_are : puts_of names ≡ after.records = ap puts_of told.names_are in
       let found = moved.found in
-      let has : HasJournal (record store { selector = next_selector journal; other_open = true; records = puts_of names }) new = record { holds = found.holds; other = found.other } in
+      let has : HasJournal
+      (record store { selector = next_selector journal; other_open = true; records = puts_of names }) new = record { holds = found.holds; other = found.other } in
       above.still store old new was (half_of old new same) after.selector true after.records
       (names_checkpoint store (above.journal store old was).holds.records_are.right)
       (subst (λ (s : SelectorValue). HasJournal (record store { selector = s; other_open = true; records = after.records }) new) selector_is

@@ -39,7 +39,8 @@ same_keeps store given held is = λ key level bytes counts has. subst (HasNewest
 
 -- ---- in terms of the store
 
-all_of_none : (P : List ℕ → Type 0) (kind : Kind) (store : Store) (image : List ℕ) (segments : List Segment) → AllByRecursion (λ s. newest 0 store.held (segment_key kind s) ≡ None) segments
+all_of_none : (P : List ℕ → Type 0) (kind : Kind) (store : Store) (image : List ℕ) (segments : List Segment)
+    → AllByRecursion (λ s. newest 0 store.held (segment_key kind s) ≡ None) segments
     → AllByRecursion (IsNewestOf P kind store image image) segments
 all_of_none P kind store image [] none = tt
 all_of_none P kind store image (s ∷ ss) none = (newest_of_none P kind store image image s none.0, all_of_none P kind store image ss none.1)
@@ -105,7 +106,8 @@ module _ {spares : ℕ} (S : List ℕ → Type 0) (index : PlaceMap) (id : ℕ) 
   abbrev Whole : List ℕ → List ℕ → Type 0
   Whole = IsSealed (first_free store.held) id filled.kind filled.segments
 
-  pub moves_sealed : IndexesFiles index files → (e : Ending) (old new : DiskView) → old.content ≡ Some given → Writes Steps Whole e old new → Moves (sealing S id filled store files) e old new
+  pub moves_sealed : IndexesFiles index files → (e : Ending) (old new : DiskView) → old.content ≡ Some given → Writes Steps Whole e old new
+      → Moves (sealing S id filled store files) e old new
   moves_sealed indexed e old new known writes =
       let P : List ℕ → Type 0 = Stands S store files in
       let Q : List ℕ → Type 0 = Stands S (with_sealed id filled.kind filled.segments store) files in
@@ -139,20 +141,23 @@ free_by size known t runs store other keeps headers =
     omega (arith, runs.has_free, same_free runs.store.held store.held runs.valid.headers headers (sym runs.represents.slots_hold.ids_are ∙ keeps.slots_hold.ids_are))
 
 -- that of a store that the content stands for
-pub slot_in : {spares : ℕ} (size : ℕ) (one : Option PlaceMap) (t : Tables) (slot : ℕ) → Runs size one t → HasSlotBeside spares t slot → (among : ByteSet) (store : Store) (known : Option PlaceMap) (files : Files) (given : List ℕ)
+pub slot_in : {spares : ℕ} (size : ℕ) (one : Option PlaceMap) (t : Tables) (slot : ℕ) → Runs size one t → HasSlotBeside spares t slot
+    → (among : ByteSet) (store : Store) (known : Option PlaceMap) (files : Files) (given : List ℕ)
     → Represents store known t → Stands (IsIn among) store files given → IsSlotOf spares slot store
 slot_in size one t slot runs has among store known files given keeps stands =
     let valid = sound_of_right (length given) given store refl stands.holds.right in
     (has.slot_is (length given) known).store_has store keeps valid (free_by size one t runs store known keeps valid.headers)
 
 -- the container that is written is the one that the store is to have
-pub seals_container : {spares : ℕ} (size : ℕ) (one : Option PlaceMap) (t : Tables) (slot id : ℕ) (filled : Contents) → Runs size one t → HasSlotBeside spares t slot → id ≡ t.held.last_id + 1 → (e : Ending) (old new : DiskView)
+pub seals_container : {spares : ℕ} (size : ℕ) (one : Option PlaceMap) (t : Tables) (slot id : ℕ) (filled : Contents) → Runs size one t → HasSlotBeside spares t slot
+    → id ≡ t.held.last_id + 1 → (e : Ending) (old new : DiskView)
     → Writes (Seals slot id filled.kind filled.segments) (IsSealed slot id filled.kind filled.segments) e old new → SealsContainer t id filled e old new
 seals_container size one t slot id filled runs has next e old new writes = record {
   moves = λ among store known index files given keeps content may indexed fit stands.
       let holds : Stands (IsIn among) store files given = stands_content (Stands (IsIn among) store files) old stands given content in
       let at = slot_in size one t slot runs has among store known files given keeps holds in
-      moves_sealed (IsIn among) index id filled store files given at.spare (omega (arith, next, keeps.slots_hold.last_id_is)) may fit indexed e old new content (of_slot at.first) stands;
+      moves_sealed (IsIn among) index id filled store files given at.spare (omega (arith, next, keeps.slots_hold.last_id_is)) may fit indexed e old new content
+      (of_slot at.first) stands;
   holds = λ among store known index files given held keeps content now holds may fit.
       let at = slot_in size one t slot runs has among store known files given keeps holds in
       holds_written (IsIn among) index id filled store files given at.spare (omega (arith, next, keeps.slots_hold.last_id_is)) may fit e old new held content now holds

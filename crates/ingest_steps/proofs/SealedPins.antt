@@ -42,7 +42,8 @@ all_children kind (s ∷ ss) pins none =
     (all_pinned pins (children_by kind s) parts.0, all_children kind ss pins parts.1)
 
 module _ (P : List ℕ → Type 0) (held : List (Option HeaderValue)) (image : List ℕ) (kind : Kind) where
-  children_still : (pins more : PinMap) (ss : List Segment) → ((cs : List KeyPin) → AllByRecursion (λ c. has_pin pins c.key c.pin ≡ true) cs → AllByRecursion (λ c. has_pin more c.key c.pin ≡ true) cs)
+  children_still : (pins more : PinMap) (ss : List Segment)
+      → ((cs : List KeyPin) → AllByRecursion (λ c. has_pin pins c.key c.pin ≡ true) cs → AllByRecursion (λ c. has_pin more c.key c.pin ≡ true) cs)
       → AllChildren kind pins ss → AllChildren kind more ss
   children_still pins more [] each all = tt
   children_still pins more (s ∷ ss) each all = (each (children_by kind s) all.0, children_still pins more ss each all.1)
@@ -54,15 +55,18 @@ module _ (P : List ℕ → Type 0) (held : List (Option HeaderValue)) (image : L
   pins_of_all (s ∷ ss) pins are right newest children count =
       pins_of_all ss (finite.insert pins (segment_key kind s) (pin_by kind s))
       (pins_with P held image pins (record { kind = kind; segment = s }) are right.0 newest.0 count.0 children.0) right.1 newest.1
-      (children_still pins (finite.insert pins (segment_key kind s) (pin_by kind s)) ss (pinned_still P held image pins (record { kind = kind; segment = s }) are right.0 newest.0 count.0) children.1) count.1
+      (children_still pins (finite.insert pins (segment_key kind s) (pin_by kind s)) ss
+      (pinned_still P held image pins (record { kind = kind; segment = s }) are right.0 newest.0 count.0) children.1) count.1
 
 one_map : (a b : PlaceMap) → Some a ≡ Some b → a ≡ b
 one_map a b is = cc
 
-pub keeps_sealed : (old new : DiskView) (known known_new : Option PlaceMap) (slot : ℕ) (t : Tables) (parts parts_new : List Part) (actor : ℕ) (filled : Contents) (id : ℕ) → id ≡ t.held.last_id + 1 → actor < length parts
+pub keeps_sealed : (old new : DiskView) (known known_new : Option PlaceMap) (slot : ℕ) (t : Tables) (parts parts_new : List Part) (actor : ℕ) (filled : Contents) (id : ℕ)
+    → id ≡ t.held.last_id + 1 → actor < length parts
     → AllByRecursion (λ s. IsOfKind filled.kind s) filled.segments → (may : MayKeep (part_of parts actor) filled)
     → parts_new ≡ with_part parts actor (Writing (with_pins filled.kind filled.segments may.pins)) → SealsCompared t known (t.held.last_id + 1) filled Done old new
-    → ((before : List ℕ) (m : PlaceMap) → old.content ≡ Some before → known ≡ Some m → known_new ≡ places_with filled slot (Some m)) → KeepsSealed old new known known_new t parts actor filled parts_new id
+    → ((before : List ℕ) (m : PlaceMap) → old.content ≡ Some before → known ≡ Some m → known_new ≡ places_with filled slot (Some m))
+    → KeepsSealed old new known known_new t parts actor filled parts_new id
 keeps_sealed old new known known_new slot t parts parts_new actor filled id next there step may parts_are seals places = λ among store files map more_map given now known_is more_is is content content_now stands distinct sealable holds.
     let kept = seals.holds among store files map given now known_is is content content_now stands distinct sealable in
     let last : ℕ = t.held.last_id + 1 in

@@ -89,7 +89,8 @@ pub slot_in_table : {spares : ℕ} (size : ℕ) (known : Option PlaceMap) (t : T
 slot_in_table size known t slot has runs =
     omega (arith, ((has.slot_is size known).store_has runs.store runs.represents runs.valid runs.has_free).within, ap length runs.represents.slots_hold.ids_are, as_many runs.store.held, runs.valid.many)
 
-module _ {spares : ℕ} (t new : Tables) (slot id : ℕ) (filled : Contents) (has : HasSlotBeside spares t slot) (next : id ≡ t.held.last_id + 1) (right : IsHeader (header_of id filled.kind filled.segments))
+module _ {spares : ℕ} (t new : Tables) (slot id : ℕ) (filled : Contents) (has : HasSlotBeside spares t slot) (next : id ≡ t.held.last_id + 1)
+    (right : IsHeader (header_of id filled.kind filled.segments))
     (last : new.held.last_id ≡ id) (slots_are : new.slots ≡ t.slots) (journal_is : new.journal ≡ t.journal) (names_are : new.names ≡ t.names)
     (taken : (held : List (Option HeaderValue)) → RepresentsSlots held t.held → RepresentsSlots (with_slot slot (header_of id filled.kind filled.segments) held) new.held) where
   can_seal : (store : Store) (known : Option PlaceMap) → Represents store known t → IsSlotOf spares slot store → CanHold spares id filled.kind filled.segments store
@@ -99,11 +100,13 @@ module _ {spares : ℕ} (t new : Tables) (slot id : ℕ) (filled : Contents) (ha
       → KnownMap (places_with filled slot known) (IsPartialIndexOf (with_sealed id filled.kind filled.segments store).held)
   indexed store known is at = by_known known is.index_is_newest
     where
-      by_known : (k : Option PlaceMap) → KnownMap k (IsPartialIndexOf store.held) → KnownMap (places_with filled slot k) (IsPartialIndexOf (with_sealed id filled.kind filled.segments store).held)
+      by_known : (k : Option PlaceMap) → KnownMap k (IsPartialIndexOf store.held)
+          → KnownMap (places_with filled slot k) (IsPartialIndexOf (with_sealed id filled.kind filled.segments store).held)
       by_known None newest_is m e = absurd cc
       by_known (Some places) newest_is m e =
           subst (IsPartialIndexOf (with_sealed id filled.kind filled.segments store).held)
-          (ap (λ (i : ℕ). with_entries filled.kind i (entries_from 0 filled.segments) places) (sym at.first) ∙ some_same (with_entries filled.kind slot (entries_from 0 filled.segments) places) m e)
+          (ap (λ (i : ℕ). with_entries filled.kind i (entries_from 0 filled.segments) places) (sym at.first)
+          ∙ some_same (with_entries filled.kind slot (entries_from 0 filled.segments) places) m e)
           (partial_sealed id filled.kind filled.segments store (can_seal store known is at) places (newest_is places refl) right)
 
   represents_sealed : (store : Store) (known : Option PlaceMap) → Represents store known t → IsSlotOf spares slot store
@@ -162,7 +165,8 @@ module _ (store : Store) (slots : ℕ) (slots_are : slots ≡ store.slots) where
   stands_before S files old new stands same = stands_framed S store files old new stands (to_slots old new same) same.size
 
   -- what fits in one image fits in the other
-  fits_before : (S : List ℕ → Type 0) (files : Files) (old new : List ℕ) → Stands S store files old → SameBefore (slot_at slots) old new → (P : List ℕ → Type 0) (kind : Kind) (ss : List Segment)
+  fits_before : (S : List ℕ → Type 0) (files : Files) (old new : List ℕ) → Stands S store files old → SameBefore (slot_at slots) old new
+      → (P : List ℕ → Type 0) (kind : Kind) (ss : List Segment)
       → AllByRecursion (FitsHeld P kind store old) ss → AllByRecursion (FitsHeld P kind store new) ss
   fits_before S files old new stands same P kind [] all = tt
   fits_before S files old new stands same P kind (s ∷ ss) all = (one kind all.0, fits_before S files old new stands same P kind ss all.1)
@@ -178,14 +182,16 @@ module _ (store : Store) (slots : ℕ) (slots_are : slots ≡ store.slots) where
 
   -- what is held in one is held in the other
   copies_before : (S : List ℕ → Type 0) (files : Files) (old new : List ℕ) → Stands S store files old → SameBefore (slot_at slots) old new → (kind : Kind) (ss : List Segment)
-      → AllByRecursion (λ s. HasNewest store.held (segment_key kind s) s.level s.bytes old) ss → AllByRecursion (λ s. HasNewest store.held (segment_key kind s) s.level s.bytes new) ss
+      → AllByRecursion (λ s. HasNewest store.held (segment_key kind s) s.level s.bytes old) ss
+      → AllByRecursion (λ s. HasNewest store.held (segment_key kind s) s.level s.bytes new) ss
   copies_before S files old new stands same kind [] all = tt
   copies_before S files old new stands same kind (s ∷ ss) all = (
     newest_framed store old new stands.holds.right (to_slots old new same) (segment_key kind s) s.level s.bytes all.0,
     copies_before S files old new stands same kind ss all.1,
   )
 
-  fit_before : (S : List ℕ → Type 0) (index : PlaceMap) (files : Files) (old new : List ℕ) → Stands S store files old → SameBefore (slot_at slots) old new → (kind : Kind) (ss : List Segment)
+  fit_before : (S : List ℕ → Type 0) (index : PlaceMap) (files : Files) (old new : List ℕ) → Stands S store files old → SameBefore (slot_at slots) old new
+      → (kind : Kind) (ss : List Segment)
       → FitBeside S index kind ss store old → FitBeside S index kind ss store new
   fit_before S index files old new stands same kind ss fit = elim fit [
     | inl each ↦ inl (each.0, fits_before S files old new stands same (HasKey index) kind ss each.1)
@@ -193,7 +199,8 @@ module _ (store : Store) (slots : ℕ) (slots_are : slots ≡ store.slots) where
     | inr (inr copies) ↦ inr (inr (copies_before S files old new stands same kind ss copies))
   ]
 
-  module _ (S : List ℕ → Type 0) (files : Files) (e : Ending) (old mid : DiskView) (changes : Changes (slot_at slots) e old mid) (stands : StandsFor (Stands S store files) old) where
+  module _ (S : List ℕ → Type 0) (files : Files) (e : Ending) (old mid : DiskView) (changes : Changes (slot_at slots) e old mid)
+      (stands : StandsFor (Stands S store files) old) where
     leaves_before : CrashLeaves (Stands S store files) old mid
     leaves_before = leaves_weaker (SteppedFrom (SameBefore (slot_at slots)) old) (Stands S store files) old mid (λ c from. elim from [
       | inl image ↦ stands.each c image
@@ -218,12 +225,14 @@ steps_refused slots b old new changes = record {
 
 -- the index was not changed
 module _ (t : Tables) (id : ℕ) (filled : Contents) (b : Blame) (old new : DiskView) (changes : Changes (slot_at t.slots) (ending_of b) old new) where
-  arrives_refused : (S : List ℕ → Type 0) (store : Store) (files : Files) (a : Blame) → StandsFor (Stands S store files) new → Arrives (sealing_indexed S id filled store files) (ending_of a) old new
+  arrives_refused : (S : List ℕ → Type 0) (store : Store) (files : Files) (a : Blame) → StandsFor (Stands S store files) new
+      → Arrives (sealing_indexed S id filled store files) (ending_of a) old new
   arrives_refused S store files NoCall stands = inr stands
   arrives_refused S store files ReadCall stands = inr stands
   arrives_refused S store files WriteCall stands = record { known = stands.known; each = λ c image. inl (stands.each c image) }
 
-  holds_refused : (store : Store) (given held : List ℕ) (a : Blame) → ((key : List ℕ) (level : ℕ) (bytes : List ℕ) → HasNewest store.held key level bytes given → HasNewest store.held key level bytes held)
+  holds_refused : (store : Store) (given held : List ℕ) (a : Blame)
+      → ((key : List ℕ) (level : ℕ) (bytes : List ℕ) → HasNewest store.held key level bytes given → HasNewest store.held key level bytes held)
       → (index : PlaceMap) → KeepsHeld index (ending_of a) id filled store given held
   holds_refused store given held NoCall each index = λ key level bytes counts has. each key level bytes has
   holds_refused store given held ReadCall each index = λ key level bytes counts has. each key level bytes has
@@ -239,11 +248,13 @@ module _ (t : Tables) (id : ℕ) (filled : Contents) (b : Blame) (old new : Disk
     };
     holds = λ among store known index files given held is content now stands may fit.
         holds_refused store given held b
-        (newest_framed store given held stands.holds.right (to_slots store t.slots is.slots_are given held (both_known (SameBefore (slot_at t.slots)) old.content new.content given held changes.content_is content now))) index;
+        (newest_framed store given held stands.holds.right
+        (to_slots store t.slots is.slots_are given held (both_known (SameBefore (slot_at t.slots)) old.content new.content given held changes.content_is content now))) index;
   }
 
 -- it was, and then the container was written
-module _ (t : Tables) (id : ℕ) (filled : Contents) (e : Ending) (old mid new : DiskView) (changes : Changes (slot_at t.slots) Done old mid) (seals : SealsContainer t id filled e mid new)
+module _ (t : Tables) (id : ℕ) (filled : Contents) (e : Ending) (old mid new : DiskView) (changes : Changes (slot_at t.slots) Done old mid)
+    (seals : SealsContainer t id filled e mid new)
     {spares : ℕ} (slot : ℕ) (has : HasSlotBeside spares t slot) (later : IsLater mid new) (alone : ChangesSlotAlone t.slots slot mid new) where
   arrives_on : (S : List ℕ → Type 0) (store : Store) (files : Files) (x : Ending) → StandsFor (Stands S store files) mid → Arrives (sealing S id filled store files) x mid new
       → Arrives (sealing_indexed S id filled store files) x old new
@@ -254,7 +265,8 @@ module _ (t : Tables) (id : ℕ) (filled : Contents) (e : Ending) (old mid new :
   arrives_on S store files Unread stands (inr none) = absurd (none.each none.known.0 (new.as_read none.known.0 none.known.1))
   arrives_on S store files Broken stands arrives = arrives
 
-  holds_on : (index : PlaceMap) (store : Store) (given then held : List ℕ) (x : Ending) → ((key : List ℕ) (level : ℕ) (bytes : List ℕ) → HasNewest store.held key level bytes given → HasNewest store.held key level bytes then)
+  holds_on : (index : PlaceMap) (store : Store) (given then held : List ℕ) (x : Ending)
+      → ((key : List ℕ) (level : ℕ) (bytes : List ℕ) → HasNewest store.held key level bytes given → HasNewest store.held key level bytes then)
       → KeepsHeld index x id filled store then held → KeepsHeld index x id filled store given held
   holds_on index store given then held Done each keep = (λ key level bytes counts has. keep.0 key level bytes counts (each key level bytes has), keep.1)
   holds_on index store given then held Refused each keep = λ key level bytes counts has. keep key level bytes counts (each key level bytes has)
@@ -273,7 +285,8 @@ module _ (t : Tables) (id : ℕ) (filled : Contents) (e : Ending) (old mid new :
         let holds = stands.each given (old.as_read given content) in
         let first = leaves_before store t.slots is.slots_are (IsIn among) files Done old mid changes stands in
         let stands_then = then_stands store t.slots is.slots_are (IsIn among) files Done old mid changes stands in
-        let moved = seals.moves among store known index files then.0 is then.1 may indexed (fit_before store t.slots is.slots_are (IsIn among) index files given then.0 holds same filled.kind filled.segments fit) stands_then in
+        let moved = seals.moves among store known index files then.0 is then.1 may indexed
+        (fit_before store t.slots is.slots_are (IsIn among) index files given then.0 holds same filled.kind filled.segments fit) stands_then in
         let way = sealing_indexed (IsIn among) id filled store files in
         record {
           leaves = leaves_on (Stands (IsIn among) store files) way.between way.between old mid new changes.later.clock_is first moved.leaves (λ c has. inl has) (λ c has. has);
@@ -328,7 +341,8 @@ steps_broken slots old mid new refusal is changes acts =
 pub map_on : {spares : ℕ} (places : Option (List ℕ) → Option PlaceMap) (owned_from : ℕ → ℕ)
     → ((a b : List ℕ) → SameFrom (owned_from (length a)) a b → places (Some b) ≡ places (Some a))
     → (serves : ℕ → Type 0) → ((slots : ℕ) → serves (size_of slots) → slot_at slots ≤ owned_from (size_of slots))
-    → (size : ℕ) (known : Option PlaceMap) (t : Tables) (slot : ℕ) → HasSlotBeside spares t slot → Runs size known t → (old mid new : DiskView) → Changes (slot_at t.slots) Done old mid → old.size ≡ size
+    → (size : ℕ) (known : Option PlaceMap) (t : Tables) (slot : ℕ) → HasSlotBeside spares t slot → Runs size known t → (old mid new : DiskView)
+    → Changes (slot_at t.slots) Done old mid → old.size ≡ size
     → (given : List ℕ) → old.content ≡ Some given → serves mid.size → Known mid.content (λ then. KnownWith new.content (SameButSlot slot then))
     → places new.content ≡ places mid.content
 map_on places owned_from stay serves owns size known t slot has runs old mid new changes size_is given content served wrote =

@@ -76,7 +76,8 @@ module _ (slots slot : ℕ) (within : slot < slots) where
     frame_after reads = frame_of old new (later_on old mid new reads.later later) (λ given known.
         let then = reads.later.tells given known in
         leaves_on (SteppedFrom (SameButSlotOf slots slot) old) (SteppedFrom (SameButSlotOf slots slot) mid) (SteppedFrom (SameButSlotOf slots slot) old) old mid new
-        reads.later.clock_is (reads_leave (SteppedFrom (SameButSlotOf slots slot) old) old mid (λ c image. inl image) reads) (frame.leaves then.0 then.1) (λ c from. from) (λ c from. elim from [
+        reads.later.clock_is (reads_leave (SteppedFrom (SameButSlotOf slots slot) old) old mid (λ c image. inl image) reads) (frame.leaves then.0 then.1) (λ c from. from)
+        (λ c from. elim from [
           | inl image ↦ inl (reads.images_are c image)
           | inr step ↦ inr (step.0, reads.images_are step.0 step.1, step.2)
         ]))
@@ -96,7 +97,8 @@ first_changed known t e old new changes = record {
   store_has = λ store is valid free. frame_changed t.slots (first_free store.held) (first_within t store known old.size is valid free) e old new changes;
 }
 
-pub first_on : {spares : ℕ} (known : Option PlaceMap) (t : Tables) (slot : ℕ) → HasSlotBeside spares t slot → (old mid new : DiskView) → Changes (slot_at t.slots) Done old mid → IsLater mid new → ChangesSlotAlone t.slots slot mid new
+pub first_on : {spares : ℕ} (known : Option PlaceMap) (t : Tables) (slot : ℕ) → HasSlotBeside spares t slot → (old mid new : DiskView) → Changes (slot_at t.slots) Done old mid
+    → IsLater mid new → ChangesSlotAlone t.slots slot mid new
     → ChangesFirstFree known t old new
 first_on {spares = spares} known t slot has old mid new changes later frame = record {
   store_has = λ store is valid free.
@@ -105,7 +107,8 @@ first_on {spares = spares} known t slot has old mid new changes later frame = re
       (frame_on t.slots slot (omega (arith, at.within, is.slots_are)) old mid new later frame changes);
 }
 
-pub first_after : (known : Option PlaceMap) (t : Tables) (old mid new : DiskView) → OnlyReads old mid → IsLater mid new → ChangesFirstFree known t mid new → ChangesFirstFree known t old new
+pub first_after : (known : Option PlaceMap) (t : Tables) (old mid new : DiskView) → OnlyReads old mid → IsLater mid new → ChangesFirstFree known t mid new
+    → ChangesFirstFree known t old new
 first_after known t old mid new reads later frame = record {
   store_has = λ store is valid free.
       frame_after t.slots (first_free store.held) (first_within t store known old.size is valid free) old mid new later

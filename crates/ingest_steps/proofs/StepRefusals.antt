@@ -28,12 +28,13 @@ module _ (part : Part) (t : Tables) (size : ℕ) (known : Option PlaceMap) (fill
   of_unkept (Unpinned key) has = has
   of_unkept refusal has = absurd has
 
-  pub of_slot : MayKeep part filled → (refusal : Refusal) → IsSlotRefusal t size known refusal → IsStepRefusal part t size known filled unlike refusal
+  pub of_slot : MayKeep part filled → (refusal : Refusal) → IsSlotRefusal t size refusal → IsStepRefusal part t size known filled unlike refusal
   of_slot may (Full free) has = (may, has)
   of_slot may Numbers has = (may, has)
   of_slot may refusal has = absurd has
 
-module _ (part : Part) (t : Tables) (size : ℕ) (known : Option PlaceMap) (filled : Contents) (shown : (List ℕ → Type 0) → Type 0) (may : MayKeep part filled) (at : (slot : ℕ) × HasSlot t slot) where
+module _ (part : Part) (t : Tables) (size : ℕ) (known : Option PlaceMap) (filled : Contents) (shown : (List ℕ → Type 0) → Type 0) (may : MayKeep part filled)
+    (at : (slot : ℕ) × HasSlot t slot) where
   pub of_seal : (refusal : Refusal) → IsSealRefusal known (IsFirstUnlike size known shown filled.kind filled.segments) refusal
       → IsStepRefusal part t size known filled (IsFirstUnlike size known shown filled.kind filled.segments) refusal
   of_seal Memory has = tt
@@ -43,10 +44,10 @@ module _ (part : Part) (t : Tables) (size : ℕ) (known : Option PlaceMap) (fill
   of_seal Numbers has = absurd has.unlike.refused.2
   of_seal refusal has = (may, at, has)
 
-pub slot_blames : (t : Tables) (size : ℕ) (known : Option PlaceMap) (refusal : Refusal) → IsSlotRefusal t size known refusal → blames refusal ≡ NoCall
-slot_blames t size known (Full free) has = refl
-slot_blames t size known Numbers has = refl
-slot_blames t size known refusal has = absurd has
+pub slot_blames : (t : Tables) (size : ℕ) (refusal : Refusal) → IsSlotRefusal t size refusal → blames refusal ≡ NoCall
+slot_blames t size (Full free) has = refl
+slot_blames t size Numbers has = refl
+slot_blames t size refusal has = absurd has
 
 -- nothing was called
 pub steps_here : (slots : ℕ) (b : Blame) (v : DiskView) → b ≡ NoCall → Steps slots (ending_of b) v v

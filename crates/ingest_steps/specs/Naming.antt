@@ -135,7 +135,8 @@ changing_journal name change store = step
 abbrev pub commanding : (List ℕ → Type 0) → Command → Store → Files → Way
 commanding S command store files = step
     (λ c. Stands S store files c × HoldsFor command store.held c)
-    (λ c. FilesStandStill S store files c ⊎ Stands S (with_change (name_of command) (change_of command) store) (files_after command files) c)
+    (λ c. FilesStandStill S store files c
+    ⊎ Stands S (with_change (name_of command) (change_of command) store) (files_after command files) c)
     (Stands S (with_change (name_of command) (change_of command) store) (files_after command files))
 
 -- A name is changed: of each store that the tables represent, and of any files.

@@ -39,8 +39,8 @@ abbrev pub IsStepRefusal : Part → Tables → ℕ → Option PlaceMap → Conte
 IsStepRefusal part t size known filled unlike Memory = Unit {0}
 IsStepRefusal part t size known filled unlike (WrongPart kind) = IsUnkept part filled (WrongPart kind)
 IsStepRefusal part t size known filled unlike (Unpinned key) = IsUnkept part filled (Unpinned key)
-IsStepRefusal part t size known filled unlike (Full free) = MayKeep part filled × IsSlotRefusal t size known (Full free)
-IsStepRefusal part t size known filled unlike Numbers = MayKeep part filled × IsSlotRefusal t size known Numbers
+IsStepRefusal part t size known filled unlike (Full free) = MayKeep part filled × IsSlotRefusal t size (Full free)
+IsStepRefusal part t size known filled unlike Numbers = MayKeep part filled × IsSlotRefusal t size Numbers
 IsStepRefusal part t size known filled unlike refusal =
     MayKeep part filled × ((slot : ℕ) × HasSlot t slot) × IsSealRefusal known unlike refusal
 

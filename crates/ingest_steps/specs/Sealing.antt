@@ -49,11 +49,12 @@ pub record HasSlotBeside (spares : ℕ) (t : Tables) (slot : ℕ) : Type 0 where
 abbrev pub HasSlot : Tables → ℕ → Type 0
 HasSlot t slot = HasSlotBeside RESERVE t slot
 
--- Why none may: two slots or fewer are free; or more are, and the ids are at their end.
-abbrev pub IsSlotRefusal : Tables → ℕ → Option PlaceMap → Refusal → Type 0
-IsSlotRefusal t size known (Full free) = OfEach size known t (λ store. (free ≡ free_slots store.held) × (free ≤ RESERVE))
-IsSlotRefusal t size known Numbers = OfEach size known t (λ store. RESERVE < free_slots store.held) × (LAST_ID ≤ t.held.last_id)
-IsSlotRefusal t size known refusal = ⊥
+-- Why none may: two slots or fewer are free; or more are, and the ids are at their end. Of each store that the tables represent, whatever
+-- the index has: on a disk that lied there may be none that both represent.
+abbrev pub IsSlotRefusal : Tables → ℕ → Refusal → Type 0
+IsSlotRefusal t size (Full free) = OfEach size None t (λ store. (free ≡ free_slots store.held) × (free ≤ RESERVE))
+IsSlotRefusal t size Numbers = OfEach size None t (λ store. RESERVE < free_slots store.held) × (LAST_ID ≤ t.held.last_id)
+IsSlotRefusal t size refusal = ⊥
 
 -- ---- what becomes of the bytes
 
@@ -200,7 +201,8 @@ pub record HasWritten (spares : ℕ) (old : Tables) (size : ℕ) (known : Option
       (λ store. Represents (with_sealed id filled.kind filled.segments store) (places_with filled slot known) new)
   -- of the tables alone, whatever the index has
   pub alone : OfEach size None old
-      (λ store. CanHold spares id filled.kind filled.segments store × Represents (with_sealed id filled.kind filled.segments store) None new)
+      (λ store. CanHold spares id filled.kind filled.segments store
+      × Represents (with_sealed id filled.kind filled.segments store) None new)
   -- where a slot is left
   pub runs : (map : Option PlaceMap) → 1 ≤ spares → Runs size map old → Runs size (places_with filled slot map) new
 

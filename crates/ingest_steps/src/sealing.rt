@@ -32,7 +32,7 @@ use store_state::{SlotCount, Tables, put_entries};
 pub fn slot_for(tables: &Tables) -> Result<u32, Refusal>
     requires { (size : _) × (known : _) × Runs size known tables.now }
     ensures slot { IfOk result (HasSlot tables.now) }
-    ensures refused { IfErr result (λ refusal. (size : _) (known : _) → IsSlotRefusal tables.now size known refusal) }
+    ensures refused { IfErr result (λ refusal. (size : _) → IsSlotRefusal tables.now size refusal) }
 {
     let free = tables.held.free();
     if free <= RESERVE {

@@ -1,5 +1,5 @@
 -- Why a step that a session asked for is refused, and what the machine says of that.
-use Rattle.std.proofs.Common.{◌≡◌, ◌≢◌, ◌⊎◌, inl, inr, ◌∙◌, ◌<◌, ◌≤◌, ℕ, List, Some, refl, sym, ap, subst}
+use Rattle.std.proofs.Common.{◌≡◌, ◌≢◌, ◌⊎◌, inl, inr, ◌∙◌, ◌<◌, ◌≤◌, ℕ, List, Some, None, refl, sym, ap, subst}
 use Rattle.std.specs.Prelude.{slice_get}
 use Rattle.disk_format.specs.declared.numbers.TheConstants.{LAST_ID}
 use Rattle.dd_disk.specs.Ending.{CountsFault, ending_of}
@@ -24,6 +24,7 @@ use Rattle.store_model.specs.Image.{Store, Encodes}
 use Rattle.store_model.specs.Slots.{HasFree}
 use Rattle.store_state.specs.Comparing.{IsFirstUnlike}
 use Rattle.store_state.specs.Refused.{blames}
+use Rattle.store_state.specs.Tables.{Represents}
 use Rattle.ingest_steps.specs.Claiming.{DiffersFrom, IsClaimRefusal}
 use Rattle.ingest_steps.specs.Pinning.{first_unpinned_of}
 use Rattle.ingest_steps.specs.Sealing as sealing
@@ -32,6 +33,7 @@ use Rattle.ingest_steps.specs.Writers.{IsWrongPart}
 use Rattle.store_core.specs.Core.{IsDamage}
 use Rattle.store_core.specs.Sound.{IsHarmless, MayClash}
 use Rattle.store_core.specs.State.{CoreState}
+use Rattle.store_core.proofs.SafeSteps.{alone}
 use Rattle.ingest_session.specs.declared.due.Due.{Due}
 use Rattle.ingest_session.specs.declared.due.Due.TheVariants.{Claim, Seal}
 use Rattle.ingest_session.specs.Due.{due_in, open_of}
@@ -129,6 +131,10 @@ module _ (S : List ℕ → Type 0) (distinct : HasNoCollisions S) (m : Machine) 
         let is = (has.1.slot_is old.disk.size old.known).store_has store at.running.begins.is_at.represents at.running.begins.is_at.valid has_free in
         ((store, (right, is.spare)), subst (λ (id : ℕ). id < LAST_ID) at.running.begins.last_id_is has.1.below)
 
+    -- the tables alone are its
+    of_tables : Represents store None old.tables
+    of_tables = alone store old.known old.tables at.running.begins.is_at.represents
+
     abbrev IsSealCause : Refusal → Type 0
     IsSealCause refusal =
         IsStepRefusal (part_of old.parts actor) old.tables old.disk.size old.known (open_of s mine) (IsFirstUnlike old.disk.size old.known (Shows old.disk new.disk) (open_of s mine).kind xs) refusal
@@ -161,10 +167,10 @@ module _ (S : List ℕ → Type 0) (distinct : HasNoCollisions S) (m : Machine) 
       seal_refused (refusals.WrongPart kind) faults cause harmless unbroken = absurd (no_other kinds.Writing (part_of old.parts actor) (refusals.WrongPart kind) (ap kind_of gives.writing) cause)
       seal_refused (refusals.Unpinned key) faults cause harmless unbroken = inl (seal_unpinned key cause.0 cause.1 cause.2, stays faults)
       seal_refused (refusals.Full free) faults cause harmless unbroken =
-          inl ((store, (right, cause.1.store_has store at.running.begins.is_at.represents at.running.begins.is_at.valid has_free)), stays faults)
+          inl ((store, (right, cause.1.store_has store of_tables at.running.begins.is_at.valid has_free)), stays faults)
       seal_refused refusals.Numbers faults cause harmless unbroken =
           inl (
-            (store, (right, cause.1.0.store_has store at.running.begins.is_at.represents at.running.begins.is_at.valid has_free)),
+            (store, (right, cause.1.0.store_has store of_tables at.running.begins.is_at.valid has_free)),
             subst (λ (id : ℕ). LAST_ID ≤ id) at.running.begins.last_id_is cause.1.1,
             stays faults,
           )

@@ -18,4 +18,5 @@ pub returns-clause-parts : goal.returns-clause-parts
 returns-clause-parts c = λ pins writing.
     set_after c.args.parts.now c.take.new.self c.set.new.self c.args.actor (Writing c.add-added.new.self) c.take.ensures.left c.set.ensures.parts
     ∙ ap (λ (p : PinMap). with_part c.args.parts.now c.args.actor (Writing p))
-    (c.in_ok-added-in-Writing.ensures.ok ∙ ap (λ (p : PinMap). finite.insert p c.args.key.now c.args.pin) (same_pins c.in-Writing.pins pins (sym c.in-Writing.is ∙ c.take.ensures.taken ∙ writing)))
+    (c.in_ok-added-in-Writing.ensures.ok
+    ∙ ap (λ (p : PinMap). finite.insert p c.args.key.now c.args.pin) (same_pins c.in-Writing.pins pins (sym c.in-Writing.is ∙ c.take.ensures.taken ∙ writing)))

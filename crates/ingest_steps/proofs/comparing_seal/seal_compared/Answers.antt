@@ -20,7 +20,8 @@ returns-clause-map g c =
     let filled = c.args.filled.now in
     map_on_ok c.seal_indexed.result (HasPlacesOf filled c.args.slot (places c.compare_all.new.index) (places c.seal_indexed.new.index) mid new)
     (HasPlacesOf filled c.args.slot (places c.args.index.now) (places c.seal_indexed.new.index) old new)
-    (has_places_before filled c.args.slot (places c.args.index.now) (places c.compare_all.new.index) (places c.seal_indexed.new.index) old mid new c.in_ok-before.ensures.reads.only.content_is c.in_ok-before.ensures.map)
+    (has_places_before filled c.args.slot (places c.args.index.now) (places c.compare_all.new.index)
+    (places c.seal_indexed.new.index) old mid new c.in_ok-before.ensures.reads.only.content_is c.in_ok-before.ensures.map)
     c.seal_indexed.ensures.map
 
 pub returns-clause-refused : goal.returns-clause-refused
@@ -43,15 +44,19 @@ returns-clause-kept g c =
 pub returns-clause-disk : goal.returns-clause-disk
 returns-clause-disk g c =
     let view = g.D.Disk.view in
-    steps_after c.args.tables.now.slots (view c.args.disk.now) (view c.compare_all.new.disk) (view c.seal_indexed.new.disk) c.in_ok-before.ensures.reads (ending blames c.seal_indexed.result) c.seal_indexed.ensures.disk
+    steps_after c.args.tables.now.slots (view c.args.disk.now) (view c.compare_all.new.disk) (view c.seal_indexed.new.disk) c.in_ok-before.ensures.reads
+    (ending blames c.seal_indexed.result) c.seal_indexed.ensures.disk
 
 pub returns-clause-moves : goal.returns-clause-moves
 returns-clause-moves g c =
     let view = g.D.Disk.view in
     let old = view c.args.disk.now in
     seals_after c.args.tables.now (g.X.Index.places c.args.index.now old.content) (c.args.tables.now.held.last_id + 1) c.args.filled.now (ending blames c.seal_indexed.result)
-    old (view c.compare_all.new.disk) (view c.seal_indexed.new.disk) c.in_ok-before.ensures.reads c.in_ok-before.ensures.held c.seal_indexed.ensures.disk.later c.seal_indexed.ensures.moves
-    (λ among store files given is stands. (slot_in old.size None c.args.tables.now c.args.slot c.requires.state c.requires.slot among store (g.X.Index.places c.args.index.now old.content) files given is stands).spare)
+    old (view c.compare_all.new.disk)
+    (view c.seal_indexed.new.disk) c.in_ok-before.ensures.reads c.in_ok-before.ensures.held c.seal_indexed.ensures.disk.later c.seal_indexed.ensures.moves
+    (λ among store files given is stands.
+    (slot_in old.size None c.args.tables.now c.args.slot c.requires.state c.requires.slot among store
+    (g.X.Index.places c.args.index.now old.content) files given is stands).spare)
 
 pub returns-in_err-before-clause-moves : goal.returns-in_err-before-clause-moves
 returns-in_err-before-clause-moves g c =
@@ -69,7 +74,8 @@ returns-in_err-image-clause-moves g c =
     let new = view c.compare_all.new.disk in
     let t = c.args.tables.now in
     let known = g.X.Index.places c.args.index.now old.content in
-    seals_refused_by t (t.held.last_id + 1) c.args.filled.now old new c.in_ok-before.ensures.reads.only known c.from_residual-in_err-image.result _ c.from_residual-in_err-image.ensures.1
+    seals_refused_by t
+    (t.held.last_id + 1) c.args.filled.now old new c.in_ok-before.ensures.reads.only known c.from_residual-in_err-image.result _ c.from_residual-in_err-image.ensures.1
 
 pub returns-clause-ok : goal.returns-clause-ok
 returns-clause-ok g c =

@@ -33,7 +33,8 @@ returns-in_err-write_record-clause-frame g c =
     let change = change_value c.args.change in
     let is = record_is t name change (record_value c.in_ok-made.made) c.in_ok-number.number c.in_ok-made.ensures c.in_ok-number.ensures.next in
     unwritten_journal t _ _ name change c.in_err-write_record.field-0.0 c.requires.may c.in_ok-number.ensures.below c.in_err-write_record.ensures.refused
-    (subst (λ (v : RecordValue). Writes (Records t.names t.journal v) (IsRecorded t.names t.journal v) (ending_of (blames c.in_err-write_record.field-0.0)) (g.D.Disk.view c.args.disk.now) (g.D.Disk.view c.write_record.new.disk))
+    (subst (λ (v : RecordValue). Writes (Records t.names t.journal v) (IsRecorded t.names t.journal v) (ending_of (blames c.in_err-write_record.field-0.0))
+    (g.D.Disk.view c.args.disk.now) (g.D.Disk.view c.write_record.new.disk))
     is c.in_err-write_record.ensures.writes)
 
 pub returns-clause-ok : goal.returns-clause-ok
@@ -60,7 +61,8 @@ returns-clause-frame g c =
     let is = record_is t name change (record_value c.in_ok-made.made) c.in_ok-number.number c.in_ok-made.ensures c.in_ok-number.ensures.next in
     let numbers : HasNumbers t = record { sequence = c.in_ok-number.ensures.below; generation = c.in_ok-write_record.ensures.below } in
     changes_journal t name change c.requires.may numbers _ _ _
-    (subst (λ (v : RecordValue). Writes (Records t.names t.journal v) (IsRecorded t.names t.journal v) Done (g.D.Disk.view c.args.disk.now) (g.D.Disk.view c.write_record.new.disk)) is c.in_ok-write_record.ensures.writes)
+    (subst (λ (v : RecordValue). Writes (Records t.names t.journal v) (IsRecorded t.names t.journal v) Done (g.D.Disk.view c.args.disk.now)
+    (g.D.Disk.view c.write_record.new.disk)) is c.in_ok-write_record.ensures.writes)
 
 pub returns-clause-same : goal.returns-clause-same
 returns-clause-same g c = same_but_record c.args.tables.now.names c.args.tables.now.journal (record_value c.in_ok-made.made) _ _ c.in_ok-write_record.ensures.writes

@@ -10,7 +10,8 @@ pub returns-in-Err-clause-writes : goal.returns-in-Err-clause-writes
 returns-in-Err-clause-writes g c =
     let t = c.args.tables.now in
     let r = record_value c.args.delete.now in
-    subst (λ f. Writes (Records t.names t.journal r) (IsRecorded t.names t.journal r) (ending_of (blames f)) (g.D.Disk.view c.args.disk.now) (g.D.Disk.view c.write_prepared.new.disk))
+    subst (λ f. Writes (Records t.names t.journal r) (IsRecorded t.names t.journal r) (ending_of (blames f)) (g.D.Disk.view c.args.disk.now)
+    (g.D.Disk.view c.write_prepared.new.disk))
     c.in-Err.ensures.cause (c.in-Err.ensures.writes t.names c.requires.prepared)
 
 pub returns-clause-writes : goal.returns-clause-writes

@@ -19,5 +19,6 @@ pub returns-in-Err-write_prepared-clause-writes : goal.returns-in-Err-write_prep
 returns-in-Err-write_prepared-clause-writes g c =
     let t = c.args.tables.now in
     let r = record_value c.args.put in
-    subst (λ f. Writes (Records t.names t.journal r) (IsRecorded t.names t.journal r) (ending_of (blames f)) (g.D.Disk.view c.args.disk.now) (g.D.Disk.view c.write_prepared.new.disk))
+    subst (λ f. Writes (Records t.names t.journal r) (IsRecorded t.names t.journal r) (ending_of (blames f)) (g.D.Disk.view c.args.disk.now)
+    (g.D.Disk.view c.write_prepared.new.disk))
     c.in-Err-write_prepared.ensures.cause (c.in-Err-write_prepared.ensures.writes t.names c.requires.prepared)

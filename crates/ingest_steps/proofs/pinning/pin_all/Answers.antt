@@ -37,5 +37,6 @@ loop-i-preserved c =
       c.in-Ok.ensures.ok ∙ ap (λ (m : PinMap). finite.insert m key (pin_by filled.kind s)) inv.2 ∙ sym next,
       subst (WereHad filled.kind filled.segments pins) (sym c.push_had.ensures.items)
           (had_push filled.kind filled.segments pins hads c.in-Ok.had i inv.0 inv.3 (c.in-Ok.ensures.had ∙ ap (λ (m : PinMap). finite.get m key) inv.2)),
-      subst (AllByRecursion (λ (h : Option Pin). IfSome h IsPin)) (sym c.push_had.ensures.items) (all_push (λ (h : Option Pin). IfSome h IsPin) hads c.in-Ok.had inv.4 c.in-Ok.ensures.right),
+      subst (AllByRecursion (λ (h : Option Pin). IfSome h IsPin)) (sym c.push_had.ensures.items)
+          (all_push (λ (h : Option Pin). IfSome h IsPin) hads c.in-Ok.had inv.4 c.in-Ok.ensures.right),
     )

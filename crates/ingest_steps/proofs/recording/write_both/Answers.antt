@@ -21,7 +21,8 @@ returns-in_err-write_checkpoint-clause-writes g c = λ names is.
     let cause = c.in_err-write_checkpoint.ensures.cause in
     passed (λ x. Writes (RecordsBy false names j r) (IsRecordedBy false names j r) x old new) call_blamed c.from_residual.result fault c.from_residual.ensures.1
     (subst (λ f. Writes (RecordsBy false names j r) (IsRecordedBy false names j r) (ending_of (call_blamed f)) old new) (sym cause)
-    (checkpoint_broke names j r old new (subst (λ f. Writes (Checkpoints j names) (IsCheckpointed j names) (ending_of (call_blamed f)) old new) cause (c.in_err-write_checkpoint.ensures.writes names is))))
+    (checkpoint_broke names j r old new
+    (subst (λ f. Writes (Checkpoints j names) (IsCheckpointed j names) (ending_of (call_blamed f)) old new) cause (c.in_err-write_checkpoint.ensures.writes names is))))
 
 pub returns-in-Ok-clause-writes : goal.returns-in-Ok-clause-writes
 returns-in-Ok-clause-writes g c = λ names is.

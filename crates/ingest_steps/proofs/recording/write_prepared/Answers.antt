@@ -12,4 +12,5 @@ write_both-requires-clause-prepared g c =
 pub returns-in-None-clause-writes : goal.returns-in-None-clause-writes
 returns-in-None-clause-writes g c = λ names is.
     let j = c.args.journal.now in
-    records_by names j (record_value c.args.made.now) _ (g.D.Disk.view c.args.disk.now) (g.D.Disk.view c.append.new.disk) true (cell_of_count j (subst (IsCellFor names j) c.in-None.is is)) c.append.ensures.writes
+    records_by names j (record_value c.args.made.now) _ (g.D.Disk.view c.args.disk.now) (g.D.Disk.view c.append.new.disk) true
+    (cell_of_count j (subst (IsCellFor names j) c.in-None.is is)) c.append.ensures.writes

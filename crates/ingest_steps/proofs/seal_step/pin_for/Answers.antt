@@ -12,7 +12,8 @@ pub returns-clause-ok : goal.returns-clause-ok
 returns-clause-ok c =
     let filled = c.args.filled.now in
     map_on_ok c.pin_all-hads.result (c.pin_all-hads.new.pins ≡ with_pins filled.kind filled.segments c.in-Writing.pins)
-    ((pins : PinMap) → part_of c.args.parts.now c.args.actor ≡ Writing pins → c.set.new.self ≡ with_part c.args.parts.now c.args.actor (Writing (with_pins filled.kind filled.segments pins)))
+    ((pins : PinMap) → part_of c.args.parts.now c.args.actor ≡ Writing pins
+    → c.set.new.self ≡ with_part c.args.parts.now c.args.actor (Writing (with_pins filled.kind filled.segments pins)))
     (λ is pins writing.
     set_after c.args.parts.now c.take.new.self c.set.new.self c.args.actor (Writing c.pin_all-hads.new.pins) c.take.ensures.left c.set.ensures.parts
     ∙ ap (λ (p : PinMap). with_part c.args.parts.now c.args.actor (Writing p))

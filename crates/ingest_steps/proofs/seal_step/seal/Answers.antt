@@ -39,7 +39,7 @@ returns-in_err-slot-clause-refused g c =
     let e = c.in_err-slot.field-0.0 in
     passed_on c.from_residual-in_err-slot.result (IsStepRefusal part c.args.tables.now old.size known filled unlike) e c.from_residual-in_err-slot.ensures.1
     (of_slot part c.args.tables.now old.size known filled unlike (subst (λ (p : Part). MayKeep p filled) c.part.ensures.part c.in_ok-may_keep.ensures.may) e
-    (c.in_err-slot.ensures.refused old.size known))
+    (c.in_err-slot.ensures.refused old.size))
 
 pub returns-clause-refused : goal.returns-clause-refused
 returns-clause-refused g c =
@@ -48,16 +48,16 @@ returns-clause-refused g c =
     let filled = c.args.filled.now in
     of_seal (part_of c.args.parts.now c.args.actor) c.args.tables.now old.size (g.X.Index.places c.args.index.now old.content) filled
     (Shows old (view c.seal_compared.new.disk))
-    (subst (λ (p : Part). MayKeep p filled) c.part.ensures.part c.in_ok-may_keep.ensures.may) (c.in_ok-slot.slot, c.in_ok-slot.ensures.slot) c.in-Err.refusal c.in-Err.ensures.refused
+    (subst (λ (p : Part). MayKeep p filled) c.part.ensures.part c.in_ok-may_keep.ensures.may)
+    (c.in_ok-slot.slot, c.in_ok-slot.ensures.slot) c.in-Err.refusal c.in-Err.ensures.refused
 
 pub returns-in_err-slot-clause-disk : goal.returns-in_err-slot-clause-disk
 returns-in_err-slot-clause-disk g c =
     let v = g.D.Disk.view c.args.disk.now in
-    let known = g.X.Index.places c.args.index.now v.content in
     let slots = c.args.tables.now.slots in
     let e = c.in_err-slot.field-0.0 in
     passed (λ x. Steps slots x v v) blames c.from_residual-in_err-slot.result e c.from_residual-in_err-slot.ensures.1
-    (steps_here slots (blames e) v (slot_blames c.args.tables.now v.size known e (c.in_err-slot.ensures.refused v.size known)))
+    (steps_here slots (blames e) v (slot_blames c.args.tables.now v.size e (c.in_err-slot.ensures.refused v.size)))
 
 pub returns-in-Ok-clause-ok : goal.returns-in-Ok-clause-ok
 returns-in-Ok-clause-ok g c =
@@ -109,8 +109,10 @@ returns-in-Ok-clause-kept g c =
     let old = view c.args.disk.now in
     let may = subst (λ (p : Part). MayKeep p c.args.filled.now) c.part.ensures.part c.in_ok-may_keep.ensures.may in
     keeps_sealed old (view c.seal_compared.new.disk) (g.X.Index.places c.args.index.now old.content)
-    (g.X.Index.places c.seal_compared.new.index (view c.seal_compared.new.disk).content) c.in_ok-slot.slot c.args.tables.now c.args.parts.now c.pin_for.new.parts c.args.actor c.args.filled.now
-    c.in-Ok.id c.in-Ok.ensures.ok.0.number c.part.ensures.there c.requires.step may (c.in_ok-hads.ensures.ok may.pins may.writing) c.in-Ok.ensures.moves (λ before m content is. c.in-Ok.ensures.map.told before content m is)
+    (g.X.Index.places c.seal_compared.new.index
+    (view c.seal_compared.new.disk).content) c.in_ok-slot.slot c.args.tables.now c.args.parts.now c.pin_for.new.parts c.args.actor c.args.filled.now
+    c.in-Ok.id c.in-Ok.ensures.ok.0.number c.part.ensures.there c.requires.step may (c.in_ok-hads.ensures.ok may.pins may.writing) c.in-Ok.ensures.moves
+    (λ before m content is. c.in-Ok.ensures.map.told before content m is)
 
 pub returns-in_err-may_keep-clause-moves : goal.returns-in_err-may_keep-clause-moves
 returns-in_err-may_keep-clause-moves g c =

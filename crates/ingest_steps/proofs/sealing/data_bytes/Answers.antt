@@ -14,7 +14,12 @@ pub overflow_add-result : goal.overflow_add-result
 overflow_add-result c =
     let filled = c.args.filled.now in
     let d : Entry = record { digest = []; offset = 0; length = 0; level = 0 } in
-    omega (arith, last_of d c.entries-entries.result.now filled.segments c.entries-entries.ensures.entries c.requires, few_bytes (header_of 1 filled.kind filled.segments) (c.entries-entries.ensures.header 1 refl c.requires))
+    omega (
+      arith,
+      last_of d c.entries-entries.result.now filled.segments c.entries-entries.ensures.entries c.requires,
+      few_bytes (header_of 1 filled.kind filled.segments)
+          (c.entries-entries.ensures.header 1 refl c.requires),
+    )
 
 pub returns-clause-bytes : goal.returns-clause-bytes
 returns-clause-bytes c =

@@ -19,7 +19,11 @@ put_entries-requires-clause-slot g c =
     place_on_disk old.size None c.args.tables.now c.args.slot c.requires.slot.1 c.requires.state
 
 pub put_entries-requires-clause-slots : goal.put_entries-requires-clause-slots
-put_entries-requires-clause-slots g c = record { slots = c.args.tables.now.slots; size_is = slots_on_disk (g.D.Disk.view c.args.disk.now).size None c.args.tables.now c.requires.state }
+put_entries-requires-clause-slots g c = record {
+  slots = c.args.tables.now.slots;
+  size_is = slots_on_disk
+      (g.D.Disk.view c.args.disk.now).size None c.args.tables.now c.requires.state;
+}
 
 pub returns-in_err-put_entries-clause-disk : goal.returns-in_err-put_entries-clause-disk
 returns-in_err-put_entries-clause-disk g c =
@@ -84,12 +88,14 @@ returns-clause-map g c =
     let places = g.X.Index.places index in
     let changes = c.in_ok-put_entries.ensures.changes t.slots (slots_on_disk old.size None t c.requires.state) in
     record {
-      told = λ given content m known_is. map_on places (g.X.Index.owned_from index) (g.met.X.Index.places_stay index) (g.X.Index.serves index) (g.met.X.Index.owns_no_slot index) old.size None t c.args.slot c.requires.slot.1 c.requires.state
+      told = λ given content m known_is. map_on places (g.X.Index.owned_from index) (g.met.X.Index.places_stay index) (g.X.Index.serves index)
+          (g.met.X.Index.owns_no_slot index) old.size None t c.args.slot c.requires.slot.1 c.requires.state
           old mid new changes refl given content c.in_ok-put_entries.ensures.served c.in_ok-digest.ensures.same
           ∙ c.in_ok-put_entries.ensures.ok m known_is;
       untold = λ none m known_is.
           let content = g.X.Index.places c.args.index.now in
-          ap places (sym (no_content (SameBefore (slot_at t.slots)) old.content mid.content changes.content_is none)) ∙ c.in_ok-put_entries.ensures.ok m (ap content none ∙ known_is);
+          ap places (sym (no_content (SameBefore (slot_at t.slots)) old.content mid.content changes.content_is none))
+          ∙ c.in_ok-put_entries.ensures.ok m (ap content none ∙ known_is);
     }
 
 pub returns-clause-disk : goal.returns-clause-disk

@@ -20,4 +20,6 @@ returns c = λ spares size known has.
     let filled = c.args.filled.now in
     has_sealed c.args.tables.now _ c.args.slot c.args.id filled has c.requires.id c.requires.right
     (omega (arith, c.take_container.ensures.last, c.requires.id)) refl refl refl
-    (λ held. c.take_container.ensures.holds held (header_of c.args.id filled.kind filled.segments) refl (same_count (header_of c.args.id filled.kind filled.segments) c.kind.result c.len.result c.args.bytes c.args.digest (sym c.kind.ensures) (length-of_entries 0 filled.segments ∙ sym c.len.ensures) (sym c.requires.bytes) (sym c.requires.digest))) size known
+    (λ held. c.take_container.ensures.holds held (header_of c.args.id filled.kind filled.segments) refl
+    (same_count (header_of c.args.id filled.kind filled.segments) c.kind.result c.len.result c.args.bytes c.args.digest (sym c.kind.ensures)
+    (length-of_entries 0 filled.segments ∙ sym c.len.ensures) (sym c.requires.bytes) (sym c.requires.digest))) size known

@@ -15,7 +15,6 @@ use Rattle.store_core.specs.declared.stop.Stop.{Stop}
 use Rattle.store_core.specs.Core.{ClaimRow, ListRow, StatRow, AbortRow, AnswersStopped, BeginRow, EndRow, Made, OpenRow, ReadRow, Steps, StepsOr, StopsAfter, counted}
 use Rattle.store_core.specs.State.{CoreState, Event, IsUnderWayIn, IsUp, UnlessStopped}
 use Rattle.store_machine.specs.Asked.{Asked}
-use Rattle.store_machine.specs.Asked as asked
 use Rattle.store_machine.specs.Done.{Done}
 use Rattle.store_machine.specs.Legal.{Answers, ByState, LegalBy}
 use Rattle.store_machine.specs.Machine.{RunState, Running, Stopped}
@@ -27,6 +26,7 @@ use Rattle.core_machine.specs.Refines.{CoreRefines, HasIndex, IsMachine, SamePar
 use Rattle.store_model.specs.Image.{IsValidFor}
 use Rattle.store_state.specs.Tables.{Represents}
 use Rattle.core_machine.proofs.Collected.{gc_row}
+use Rattle.core_machine.proofs.Sealed.{seal_row}
 use Rattle.core_machine.proofs.Started.{start_row}
 use Rattle.core_machine.proofs.Rows.{M, abort_row, begin_row, claim_row, commit_row, list_row, stat_row, delete_row, end_row, left_by, open_row, read_row, same_at, same_marks, stays_so}
 
@@ -104,9 +104,6 @@ module _ (c d : CoreState) where
 
 -- ---- a core that runs
 
-some_is : (a b : Asked Root) → Some a ≡ Some b → a ≡ b
-some_is a b is = cc
-
 module _ (c d : CoreState) (m : M) (at : IsMachine m c) (runs : m.state ≡ Running) (under : IsUnderWayIn c.tables.held c.collection) (a : ℕ) (buf : List ℕ) where
   own : HasIndex m.swept m.forgotten m.store.held c.known
   own = at.index runs
@@ -114,87 +111,73 @@ module _ (c d : CoreState) (m : M) (at : IsMachine m c) (runs : m.state ≡ Runn
   abbrev Left : Result Answer Refusal → Asked Root → Type 0
   Left answer step = (n : M) × Answers of_roots a step (answered_by answer buf) m n × IsMachine n d
 
-  made_by : (s : StepValue) (step : Asked Root) (answer : Result Answer Refusal) → asked_by s ≡ Some step → Made s a answer buf c d → Collects s answer c d
-      → StopsAfter s answer c.acknowledged d.stop
-      → d.acknowledged ≡ counted answer c.acknowledged → Left answer step
-  made_by steps.Begin step answer is made collects stop count =
+  made_by : (s : StepValue) (answer : Result Answer Refusal) → Made s a answer buf c d → Collects s answer c d → StopsAfter s answer c.acknowledged d.stop
+      → d.acknowledged ≡ counted answer c.acknowledged → Left answer (asked_by s)
+  made_by steps.Begin answer made collects stop count =
       let quiet = begin_quiet c d a answer made.row stop count in
-      subst (Left answer) (some_is asked.Begin step is) (begin_row c m at runs d a answer buf made.row
-      (left_by c m at runs d made.effect.tables made.effect.disk.only.later.size_is quiet.1 (same_at c m at runs d collects) quiet.0))
-  made_by steps.Abort step answer is made collects stop count =
+      begin_row c m at runs d a answer buf made.row
+      (left_by c m at runs d made.effect.tables made.effect.disk.only.later.size_is quiet.1 (same_at c m at runs d collects) quiet.0)
+  made_by steps.Abort answer made collects stop count =
       let quiet = abort_quiet c d a answer made.row stop count in
-      subst (Left answer) (some_is asked.Abort step is) (abort_row c m at runs d a answer buf made.row
-      (left_by c m at runs d made.effect.tables made.effect.disk.only.later.size_is quiet.1 (same_at c m at runs d collects) quiet.0))
-  made_by (steps.OpenRead name) step answer is made collects stop count =
+      abort_row c m at runs d a answer buf made.row
+      (left_by c m at runs d made.effect.tables made.effect.disk.only.later.size_is quiet.1 (same_at c m at runs d collects) quiet.0)
+  made_by (steps.OpenRead name) answer made collects stop count =
       let quiet = open_quiet c d name a answer made.row stop count in
-      subst (Left answer) (some_is (asked.OpenRead name) step is) (open_row c m at runs d name a answer buf made.row
-      (left_by c m at runs d made.effect.tables made.effect.disk.only.later.size_is quiet.1 (same_at c m at runs d collects) quiet.0))
-  made_by steps.ReadNext step answer is made collects stop count =
+      open_row c m at runs d name a answer buf made.row
+      (left_by c m at runs d made.effect.tables made.effect.disk.only.later.size_is quiet.1 (same_at c m at runs d collects) quiet.0)
+  made_by steps.ReadNext answer made collects stop count =
       let quiet = read_quiet c d a answer buf made.row stop count in
-      subst (Left answer) (some_is asked.ReadNext step is) (read_row c m at runs d a answer buf made.row
-      (left_by c m at runs d made.effect.tables made.effect.disk.only.later.size_is quiet.1 (same_at c m at runs d collects) quiet.0))
-  made_by steps.EndRead step answer is made collects stop count =
+      read_row c m at runs d a answer buf made.row
+      (left_by c m at runs d made.effect.tables made.effect.disk.only.later.size_is quiet.1 (same_at c m at runs d collects) quiet.0)
+  made_by steps.EndRead answer made collects stop count =
       let quiet = end_quiet c d a answer made.row stop count in
-      subst (Left answer) (some_is asked.EndRead step is) (end_row c m at runs d a answer buf made.row
-      (left_by c m at runs d made.effect.tables made.effect.disk.only.later.size_is quiet.1 (same_at c m at runs d collects) quiet.0))
-  made_by (steps.Delete name) step answer is made collects stop count =
-      subst (Left answer) (some_is (asked.Delete name) step is) (delete_row c m at runs d name a answer buf made.row made.effect collects stop count)
-  made_by (steps.Commit name root) step answer is made collects stop count =
-      subst (Left answer) (some_is (asked.Commit name root) step is) (commit_row c m at runs d name root a answer buf made.row made.effect collects stop count)
-  made_by (steps.Claim seg) step answer is made collects stop count =
+      end_row c m at runs d a answer buf made.row
+      (left_by c m at runs d made.effect.tables made.effect.disk.only.later.size_is quiet.1 (same_at c m at runs d collects) quiet.0)
+  made_by (steps.Delete name) answer made collects stop count =
+      delete_row c m at runs d name a answer buf made.row made.effect collects stop count
+  made_by (steps.Commit name root) answer made collects stop count =
+      commit_row c m at runs d name root a answer buf made.row made.effect collects stop count
+  made_by (steps.Claim seg) answer made collects stop count =
       let quiet = claim_quiet c d (own.places, own.known_is) seg a answer made.row stop count in
-      subst (Left answer) (some_is (asked.Claim seg) step is) (claim_row c m at runs d seg a answer buf made.row
+      claim_row c m at runs d seg a answer buf made.row
       (left_by c m at runs d made.effect.tables made.effect.disk.only.later.size_is quiet.1
-      (same_marks (IsKeptKey (steps.Claim seg) answer) c.tables.held m.swept m.collection c.collection d.collection collects at.collection) quiet.0))
-  made_by steps.ListNames step answer is made collects stop count =
+      (same_marks (IsKeptKey (steps.Claim seg) answer) c.tables.held m.swept m.collection c.collection d.collection collects at.collection) quiet.0)
+  made_by steps.ListNames answer made collects stop count =
       let quiet = list_quiet c d answer made.row stop count in
-      subst (Left answer) (some_is asked.ListNames step is) (list_row c m at runs d a answer buf made.row
-      (left_by c m at runs d made.effect.tables made.effect.disk.only.later.size_is quiet.1 (same_at c m at runs d collects) quiet.0))
-  made_by steps.Stat step answer is made collects stop count =
+      list_row c m at runs d a answer buf made.row
+      (left_by c m at runs d made.effect.tables made.effect.disk.only.later.size_is quiet.1 (same_at c m at runs d collects) quiet.0)
+  made_by steps.Stat answer made collects stop count =
       let quiet = stat_quiet c d at answer made.row stop count in
-      subst (Left answer) (some_is asked.Stat step is) (stat_row c m at runs d a answer buf made.row
-      (left_by c m at runs d made.effect.tables made.effect.disk.only.later.size_is quiet.1 (same_at c m at runs d collects) quiet.0))
-  made_by (steps.GcStart percent) step answer is made collects stop count =
+      stat_row c m at runs d a answer buf made.row
+      (left_by c m at runs d made.effect.tables made.effect.disk.only.later.size_is quiet.1 (same_at c m at runs d collects) quiet.0)
+  made_by (steps.GcStart percent) answer made collects stop count =
       let quiet = start_quiet c d percent answer made.row stop count in
-      subst (Left answer) (some_is (asked.GcStart percent) step is) (start_row c m at runs d percent a answer buf made.row made.effect under quiet.0 quiet.1)
-  made_by steps.GcStep step answer is made collects stop count =
-      subst (Left answer) (some_is asked.GcStep step is) (gc_row c m at runs d a answer buf made.row made.effect under stop count)
-  made_by s step answer is made collects stop count = absurd (let wrong : None ≡ Some step = is in cc)
+      start_row c m at runs d percent a answer buf made.row made.effect under quiet.0 quiet.1
+  made_by steps.GcStep answer made collects stop count =
+      gc_row c m at runs d a answer buf made.row made.effect under stop count
+  made_by (steps.Seal filled) answer made collects stop count =
+      seal_row c d m at runs a filled buf answer made.row made.effect collects under stop count
 
--- none of these is an opening
-by_state : (s : StepValue) (step : Asked Root) (a : ℕ) (told : Result Done Refusal) (m n : M) → asked_by s ≡ Some step → ByState of_roots m.state a step told m n
-    → LegalBy of_roots step a told m n
-by_state s asked.Begin a told m n is by = by
-by_state s (asked.Claim seg) a told m n is by = by
-by_state s (asked.Seal filled) a told m n is by = by
-by_state s (asked.Commit name root) a told m n is by = by
-by_state s asked.Abort a told m n is by = by
-by_state s (asked.OpenRead name) a told m n is by = by
-by_state s asked.ReadNext a told m n is by = by
-by_state s asked.EndRead a told m n is by = by
-by_state s (asked.Delete name) a told m n is by = by
-by_state s asked.ListNames a told m n is by = by
-by_state s (asked.GcStart percent) a told m n is by = by
-by_state s asked.GcStep a told m n is by = by
-by_state s asked.Stat a told m n is by = by
-by_state s asked.Reopen a told m n is by = absurd (no_opening s is)
-  where
-    no_opening : (s : StepValue) → asked_by s ≡ Some asked.Reopen → ⊥
-    no_opening steps.Begin is = absurd (let wrong : asked.Begin ≡ asked.Reopen = some_is asked.Begin asked.Reopen is in cc)
-    no_opening steps.Abort is = absurd (let wrong : asked.Abort ≡ asked.Reopen = some_is asked.Abort asked.Reopen is in cc)
-    no_opening (steps.OpenRead name) is = absurd (let wrong : asked.OpenRead name ≡ asked.Reopen = some_is (asked.OpenRead name) asked.Reopen is in cc)
-    no_opening steps.ReadNext is = absurd (let wrong : asked.ReadNext ≡ asked.Reopen = some_is asked.ReadNext asked.Reopen is in cc)
-    no_opening steps.EndRead is = absurd (let wrong : asked.EndRead ≡ asked.Reopen = some_is asked.EndRead asked.Reopen is in cc)
-    no_opening (steps.Delete name) is = absurd (let wrong : asked.Delete name ≡ asked.Reopen = some_is (asked.Delete name) asked.Reopen is in cc)
-    no_opening (steps.Claim seg) is = absurd (let wrong : asked.Claim seg ≡ asked.Reopen = some_is (asked.Claim seg) asked.Reopen is in cc)
-    no_opening (steps.Commit name root) is = absurd (let wrong : asked.Commit name root ≡ asked.Reopen = some_is (asked.Commit name root) asked.Reopen is in cc)
-    no_opening steps.ListNames is = absurd (let wrong : asked.ListNames ≡ asked.Reopen = some_is asked.ListNames asked.Reopen is in cc)
-    no_opening (steps.GcStart percent) is = absurd (let wrong : asked.GcStart percent ≡ asked.Reopen = some_is (asked.GcStart percent) asked.Reopen is in cc)
-    no_opening steps.GcStep is = absurd (let wrong : asked.GcStep ≡ asked.Reopen = some_is asked.GcStep asked.Reopen is in cc)
-    no_opening steps.Stat is = absurd (let wrong : asked.Stat ≡ asked.Reopen = some_is asked.Stat asked.Reopen is in cc)
-    no_opening s is = absurd (let wrong : None ≡ Some asked.Reopen = is in cc)
+-- no step is an opening
+by_state : (s : StepValue) (a : ℕ) (told : Result Done Refusal) (m n : M) → ByState of_roots m.state a (asked_by s) told m n → LegalBy of_roots (asked_by s) a told m n
+by_state steps.Begin a told m n by = by
+by_state (steps.Claim seg) a told m n by = by
+by_state (steps.Seal filled) a told m n by = by
+by_state (steps.Commit name root) a told m n by = by
+by_state steps.Abort a told m n by = by
+by_state (steps.OpenRead name) a told m n by = by
+by_state steps.ReadNext a told m n by = by
+by_state steps.EndRead a told m n by = by
+by_state (steps.Delete name) a told m n by = by
+by_state steps.ListNames a told m n by = by
+by_state (steps.GcStart percent) a told m n by = by
+by_state steps.GcStep a told m n by = by
+by_state steps.Stat a told m n by = by
 
-module _ (e : Event) (step : Asked Root) (old new : CoreState) (m : M) (is : asked_by e.step ≡ Some step) (at : IsMachine m old) where
+module _ (e : Event) (old new : CoreState) (m : M) (at : IsMachine m old) where
+  abbrev step : Asked Root
+  step = asked_by e.step
+
   abbrev End : Type 0
   End = (n : M) × (ByState of_roots m.state e.actor step (answered_by e.answer e.buf) m n × IsMachine n new)
 
@@ -225,7 +208,7 @@ module _ (e : Event) (step : Asked Root) (old new : CoreState) (m : M) (is : ask
 
   steps_so : m.state ≡ Running → IsUp old → Steps e old new → End
   steps_so runs up s =
-      let left = made_by old new m at runs up.under_way e.actor e.buf e.step step e.answer is s.made s.collects s.stops s.counted_is in
+      let left = made_by old new m at runs up.under_way e.actor e.buf e.step e.answer s.made s.collects s.stops s.counted_is in
       (left.0, (subst (λ (st : RunState Root). ByState of_roots st e.actor step (answered_by e.answer e.buf) m left.0) (sym runs) left.1, left.2))
 
   by : (st : RunState Root) (stop : Option Stop) → m.state ≡ st → SameStop m.acknowledged st stop → UnlessStopped stop (IsUp old) → StepsOr stop e old new → End
@@ -235,6 +218,6 @@ module _ (e : Event) (step : Asked Root) (old new : CoreState) (m : M) (is : ask
   by (Stopped other stores) (Some stop) state same up made = refuses other stores stop state same made
 
 pub core_refines : (C : Type 0) (state : C → CoreState) → CoreRefines C state
-core_refines C state e step old new m is up at made =
-    let end = by e step (state old) (state new) m is at m.state (state old).stop refl at.state up made in
-    (end.0, (by_state e.step step e.actor (answered_by e.answer e.buf) m end.0 is end.1.0, end.1.1))
+core_refines C state e old new m up at made =
+    let end = by e (state old) (state new) m at m.state (state old).stop refl at.state up made in
+    (end.0, (by_state e.step e.actor (answered_by e.answer e.buf) m end.0 end.1.0, end.1.1))

@@ -113,7 +113,7 @@ part_at (p ∷ ps) [] i same = absurd same
 part_at (p ∷ ps) (q ∷ qs) zero same = same.0
 part_at (p ∷ ps) (q ∷ qs) (suc i) same = part_at ps qs i same.1
 
-set_at : (ps : List RootPart) (qs : List core_part.Part) (i : ℕ) (p : RootPart) (q : core_part.Part) → SameParts ps qs → SamePart p q
+pub set_at : (ps : List RootPart) (qs : List core_part.Part) (i : ℕ) (p : RootPart) (q : core_part.Part) → SameParts ps qs → SamePart p q
     → SameParts (slice_set ps i p) (with_part qs i q)
 unfolding with_part
 set_at [] [] i p q same one = tt
@@ -256,11 +256,11 @@ module _ (c : CoreState) (m : M) (at : IsMachine m c) where
 
     -- ---- the actor is at another thing
 
-    wrong : (a : ℕ) (step : Asked Root) (kind taken : PartKind) → taken_by step ≡ Some taken → kind ≡ core_kinds.kind_of (part_of c.parts a) → kind ≢ taken → Rested
+    pub wrong : (a : ℕ) (step : Asked Root) (kind taken : PartKind) → taken_by step ≡ Some taken → kind ≡ core_kinds.kind_of (part_of c.parts a) → kind ≢ taken → Rested
         → d.parts ≡ c.parts → Left a step (Err (refusals.WrongPart kind))
     wrong a step kind taken by is differs r same = (m, ((is ∙ sym (kind_is a), (taken, by, differs)), refl), as_it_was r same)
 
-    right_at : (a : ℕ) (step : Asked Root) (taken : PartKind) → taken_by step ≡ Some taken → core_kinds.kind_of (part_of c.parts a) ≡ taken → IsAtRightPart of_roots a step m
+    pub right_at : (a : ℕ) (step : Asked Root) (taken : PartKind) → taken_by step ≡ Some taken → core_kinds.kind_of (part_of c.parts a) ≡ taken → IsAtRightPart of_roots a step m
     right_at a step taken by is other also = kind_is a ∙ is ∙ (let same : Some taken ≡ Some other = sym by ∙ also in cc)
 
     at_other : (a : ℕ) (step : Asked Root) (taken : PartKind) → taken_by step ≡ Some taken → (refusal : Refusal) → IsAtOther taken a refusal c d → Rested
@@ -332,7 +332,14 @@ module _ (c : CoreState) (m : M) (at : IsMachine m c) where
     read_row a (Ok (answers.Bytes count)) buf is r =
         let g = is.next.goes_on in (
           put_at m a (Reading g.root is.next.rest),
-          (g.root, is.next.was, is.next.rest, reads_at a g.root is.next.was g.part_is, gives_so (walking.WasRead c.known c.disk d.disk) is.next.was is.next.rest count (take count buf) is.next.given, refl),
+          (
+            g.root,
+            is.next.was,
+            is.next.rest,
+            reads_at a g.root is.next.was g.part_is,
+            gives_so (walking.WasRead c.known c.disk d.disk) is.next.was is.next.rest count (take count buf) is.next.given,
+            refl,
+          ),
           put_part r a (Reading g.root is.next.rest) (readers.reading g.root is.next.rest) (refl, refl) g.parts_are,
         )
     read_row a (Ok answers.End) buf is r =
@@ -343,11 +350,13 @@ module _ (c : CoreState) (m : M) (at : IsMachine m c) where
         ∙ set-get_or m.parts a Idle in (
           m,
           (g.root, is.next.was, reads, is.next.given.0, refl),
-          subst (λ (ps : List RootPart). IsMachine (record m { parts = ps }) d) same (put_part r a (Reading g.root is.next.rest) (readers.reading g.root is.next.rest) (refl, refl) g.parts_are),
+          subst (λ (ps : List RootPart). IsMachine (record m { parts = ps }) d) same
+              (put_part r a (Reading g.root is.next.rest) (readers.reading g.root is.next.rest) (refl, refl) g.parts_are),
         )
     read_row a (Err (refusals.WrongPart kind)) buf is r = no_reader a asked.ReadNext kind refl is.cause r
     read_row a (Err refusals.Memory) buf is r =
-        stays_read a is.cause.was is.cause.rest is.cause.goes_on r refusals.Memory (stays_so c.known c.breaks c.disk d.disk is.cause.was is.cause.rest refusals.Memory is.cause.refused)
+        stays_read a is.cause.was is.cause.rest is.cause.goes_on r refusals.Memory
+        (stays_so c.known c.breaks c.disk d.disk is.cause.was is.cause.rest refusals.Memory is.cause.refused)
     read_row a (Err refusal) buf is r =
         let left =
         stays_read a is.cause.was is.cause.rest is.cause.goes_on r refusal (stays_so c.known c.breaks c.disk d.disk is.cause.was is.cause.rest refusal is.cause.refused) in
@@ -412,7 +421,8 @@ module _ (c : CoreState) (m : M) (at : IsMachine m c) where
 
     -- a write failed: nothing of the tables is another, and it is stopped
     pub stopped_at : (found : Option (Found Root)) (stores : List Store) → d.tables ≡ c.tables → d.disk.size ≡ c.disk.size → d.parts ≡ c.parts
-        → d.acknowledged ≡ c.acknowledged → d.collection ≡ c.collection → (refusal : Refusal) → d.stop ≡ Some (record { refusal = refusal; at = c.acknowledged })
+        → d.acknowledged ≡ c.acknowledged → SameCollection c.tables.held m.swept m.collection d.collection → (refusal : Refusal)
+        → d.stop ≡ Some (record { refusal = refusal; at = c.acknowledged })
         → IsMachine (record m { state = Stopped found stores }) d
     stopped_at found stores tables size same count collects refusal stop = record {
       represents = subst (Represents m.store None) (sym tables) at.represents;
@@ -425,7 +435,7 @@ module _ (c : CoreState) (m : M) (at : IsMachine m c) where
       parts = subst (SameParts m.parts) (sym same) at.parts;
       acknowledged = at.acknowledged ∙ sym count;
       index = λ running. absurd (let wrong : Stopped found stores ≡ Running = running in cc);
-      collection = still (ap (λ (t : Tables). t.held) tables) collects;
+      collection = subst (λ (t : Tables). SameCollection t.held m.swept m.collection d.collection) (sym tables) collects;
       state = subst (SameStop m.acknowledged (Stopped found stores)) (sym stop) (sym at.acknowledged);
     }
 
@@ -450,18 +460,28 @@ module _ (c : CoreState) (m : M) (at : IsMachine m c) where
         )
     delete_row name a (Err refusals.Memory) buf (cause, same) effect collects stop count =
         (m, refl, as_it_was (left_by effect.kept effect.disk.later.size_is count (same_at collects) stop) same)
-    delete_row name a (Err refusals.BadName) buf (cause, same) effect collects stop count =
-        (m, ((λ taken is. absurd (let wrong : None ≡ Some taken = is in cc)), (cause, refl)), as_it_was (left_by effect.kept effect.disk.later.size_is count (same_at collects) stop) same)
-    delete_row name a (Err refusals.NoFile) buf (cause, same) effect collects stop count =
-        (m, ((λ taken is. absurd (let wrong : None ≡ Some taken = is in cc)), (cause.0, no_name name cause.1, refl)), as_it_was (left_by effect.kept effect.disk.later.size_is count (same_at collects) stop) same)
+    delete_row name a (Err refusals.BadName) buf (cause, same) effect collects stop count = (
+      m,
+      ((λ taken is. absurd (let wrong : None ≡ Some taken = is in cc)), (cause, refl)),
+      as_it_was (left_by effect.kept effect.disk.later.size_is count (same_at collects) stop) same,
+    )
+    delete_row name a (Err refusals.NoFile) buf (cause, same) effect collects stop count = (
+      m,
+      ((λ taken is. absurd (let wrong : None ≡ Some taken = is in cc)), (cause.0, no_name name cause.1, refl)),
+      as_it_was (left_by effect.kept effect.disk.later.size_is count (same_at collects) stop) same,
+    )
     delete_row name a (Err refusals.Numbers) buf (cause, same) effect collects stop count =
-        let may = may_delete name cause.0 in
-        (m, ((λ taken is. absurd (let wrong : None ≡ Some taken = is in cc)), (may.0, may.1, lacks_numbers cause.1, refl)), as_it_was (left_by effect.kept effect.disk.later.size_is count (same_at collects) stop) same)
+        let may = may_delete name cause.0 in (
+          m,
+          ((λ taken is. absurd (let wrong : None ≡ Some taken = is in cc)), (may.0, may.1, lacks_numbers cause.1, refl)),
+          as_it_was (left_by effect.kept effect.disk.later.size_is count (same_at collects) stop) same,
+        )
     delete_row name a (Err refusals.DiskWrite) buf (cause, same) effect collects stop count =
         let may = may_delete name cause.0 in (
           record m { state = Stopped (Some (without_name of_roots name m.now)) (broken_by of_roots name Gone m.store) },
           ((λ taken is. absurd (let wrong : None ≡ Some taken = is in cc)), (may.0, may.1, has_numbers cause.1, refl)),
-          stopped_at (Some (without_name of_roots name m.now)) (broken_by of_roots name Gone m.store) effect.kept.tables_are effect.disk.later.size_is same count collects refusals.DiskWrite stop,
+          stopped_at (Some (without_name of_roots name m.now)) (broken_by of_roots name Gone m.store) effect.kept.tables_are effect.disk.later.size_is same count
+              (same_at collects) refusals.DiskWrite stop,
         )
     delete_row name a (Err refusal) buf (cause, same) effect collects stop count = absurd cause
     delete_row name a (Ok answer) buf row effect collects stop count = absurd row
@@ -473,7 +493,8 @@ module _ (c : CoreState) (m : M) (at : IsMachine m c) where
         (m, (is ∙ ap listing_of at.represents.names_are.names_are ∙ sym listed, refl), as_it_was r same)
       where
         of_map : (es : List (List ℕ × Named))
-            → map (λ (e : List ℕ × Root). let n : NamedRoot = record { name = e.0; root = e.1 } in n) (changed (List ℕ) Named Root order (λ (n : Named). n.root) es) ≡ map named_root es
+            → map (λ (e : List ℕ × Root). let n : NamedRoot = record { name = e.0; root = e.1 } in n) (changed (List ℕ) Named Root order (λ (n : Named). n.root) es)
+            ≡ map named_root es
         of_map [] = refl
         of_map (e ∷ es) = ap (λ (ns : List NamedRoot). named_root e ∷ ns) (of_map es)
 
@@ -496,7 +517,7 @@ module _ (c : CoreState) (m : M) (at : IsMachine m c) where
 
     -- ---- a claim
 
-    writing_at : (a : ℕ) (pins : PinMap) → part_of c.parts a ≡ core.Writing pins → part_in m a ≡ Writing pins
+    pub writing_at : (a : ℕ) (pins : PinMap) → part_of c.parts a ≡ core.Writing pins → part_in m a ≡ Writing pins
     writing_at a pins is = by (part_in m a) (subst (SamePart (part_in m a)) is (part_at m.parts c.parts a at.parts))
       where
         by : (p : RootPart) → SamePart p (core.Writing pins) → p ≡ Writing pins
@@ -547,7 +568,12 @@ module _ (c : CoreState) (m : M) (at : IsMachine m c) where
         let pins : PinMap = finite.insert may.pins (segment_key seg.kind seg.segment) (pin_of seg) in
         let collection = keeping (segment_key seg.kind seg.segment ∷ []) m.collection in (
           record (put_at m a (Writing pins)) { collection = collection },
-          record { may = record { pins = may.pins; writing = writing_at a may.pins may.writing; children = may.pinned }; held = λ indexed. held_at seg is.claimed.looked_up.place is.claimed.looked_up.found is.claimed.looked_up.length_is indexed; same = λ known. absurd known; others = refl },
+          record {
+            may = record { pins = may.pins; writing = writing_at a may.pins may.writing; children = may.pinned };
+            held = λ indexed. held_at seg is.claimed.looked_up.place is.claimed.looked_up.found is.claimed.looked_up.length_is indexed;
+            same = λ known. absurd known;
+            others = refl;
+          },
           goes_on d (slice_set m.parts a (Writing pins)) collection r.tables r.size
               (subst (SameParts (slice_set m.parts a (Writing pins))) (sym is.claimed.parts_are) (set_at m.parts c.parts a (Writing pins) (core.Writing pins) at.parts refl))
               r.count r.index (kept_same (segment_key seg.kind seg.segment ∷ []) c.tables.held m.swept m.collection d.collection r.collects) runs r.stop,
@@ -564,7 +590,8 @@ module _ (c : CoreState) (m : M) (at : IsMachine m c) where
         (m, (right_at a (asked.Claim seg) kinds.Writing refl (ap core_kinds.kind_of may.writing), (keeps_at a seg may, (λ known. absurd known), refl)), as_it_was r same)
     claim_row seg a (Err (refusals.Corrupt slot offset count want got)) buf ((may, cause), same) r =
         (m, (right_at a (asked.Claim seg) kinds.Writing refl (ap core_kinds.kind_of may.writing), (keeps_at a seg may, ((λ known. known), refl))), as_it_was r same)
-    claim_row seg a (Err (refusals.Damaged byte why)) buf ((may, cause), same) r = absurd (let wrong : None ≡ Some (at.index runs).places = sym cause.0 ∙ (at.index runs).known_is in cc)
+    claim_row seg a (Err (refusals.Damaged byte why)) buf ((may, cause), same) r =
+        absurd (let wrong : None ≡ Some (at.index runs).places = sym cause.0 ∙ (at.index runs).known_is in cc)
     claim_row seg a (Err refusal) buf row r = absurd row.0.1.refused.2
     claim_row seg a (Ok answer) buf row r = absurd row
 
@@ -584,7 +611,8 @@ module _ (c : CoreState) (m : M) (at : IsMachine m c) where
           free = at.free;
           names = λ q. finite.get-insert nat_list_cmp_total m.now.names name root q ∙ ap (cond (eq_by_cmp (slice_cmp nat_cmp) q name) (Some root)) (at.names q)
               ∙ here (eq_by_cmp (slice_cmp nat_cmp) q name) (suc (last_sequence m.store)) (finite.get (names_of m.store) q)
-              ∙ ap (option_map (λ (n : Named). n.root)) (sym (finite.get-insert nat_list_cmp_total (names_of m.store) name (record { sequence = suc (last_sequence m.store); root = root }) q))
+              ∙ ap (option_map (λ (n : Named). n.root))
+              (sym (finite.get-insert nat_list_cmp_total (names_of m.store) name (record { sequence = suc (last_sequence m.store); root = root }) q))
               ∙ ap (λ (ns : NameMap). option_map (λ (n : Named). n.root) (finite.get ns q)) (sym (names_after_change name (Put root) m.store at.valid.follow));
           last = ap suc at.last ∙ sym (last_changed name (Put root) m.store at.valid.follow);
           last_id = at.last_id ∙ ap (λ (t : SlotTable). t.last_id) (sym held);
@@ -641,7 +669,8 @@ module _ (c : CoreState) (m : M) (at : IsMachine m c) where
         let may = may_commit a name root row.0.0 in (
           record m { state = Stopped (Some (with_name of_roots name root m.now)) (broken_by of_roots name (Put root) m.store) },
           (right_at a (asked.Commit name root) kinds.Writing refl (ap core_kinds.kind_of row.0.0.writing), (may, has_numbers row.0.1, tt, (λ key needs. absurd needs), refl)),
-          stopped_at (Some (with_name of_roots name root m.now)) (broken_by of_roots name (Put root) m.store) effect.kept.tables_are effect.disk.later.size_is row.1 count collects refusals.DiskWrite stop,
+          stopped_at (Some (with_name of_roots name root m.now)) (broken_by of_roots name (Put root) m.store) effect.kept.tables_are effect.disk.later.size_is row.1
+              count (same_at collects) refusals.DiskWrite stop,
         )
     commit_row name root a (Err (refusals.WrongPart kind)) buf row effect collects stop count =
         wrong a (asked.Commit name root) kind kinds.Writing refl row.0.0 row.0.1 (left_by effect.kept effect.disk.later.size_is count (same_at collects) stop) row.1
@@ -657,8 +686,11 @@ module _ (c : CoreState) (m : M) (at : IsMachine m c) where
           ),
           as_it_was (left_by effect.kept effect.disk.later.size_is count (same_at collects) stop) row.1,
         )
-    commit_row name root a (Err refusals.BadName) buf row effect collects stop count =
-        (m, (right_at a (asked.Commit name root) kinds.Writing refl row.0.0, (row.0.1, refl)), as_it_was (left_by effect.kept effect.disk.later.size_is count (same_at collects) stop) row.1)
+    commit_row name root a (Err refusals.BadName) buf row effect collects stop count = (
+      m,
+      (right_at a (asked.Commit name root) kinds.Writing refl row.0.0, (row.0.1, refl)),
+      as_it_was (left_by effect.kept effect.disk.later.size_is count (same_at collects) stop) row.1,
+    )
     commit_row name root a (Err refusals.TooMany) buf row effect collects stop count = (
       m,
       (

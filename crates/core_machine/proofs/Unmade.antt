@@ -46,7 +46,7 @@ use Rattle.store_machine.specs.Values.{of_roots}
 use Rattle.core_machine.specs.Collections.{SameCollection, SameRun}
 use Rattle.core_machine.specs.Refines.{HasIndex, IsMachine}
 use Rattle.core_machine.proofs.Phases.{Runs, is_collecting, some_runs}
-use Rattle.core_machine.proofs.Rows.{M, as_it_was, stopped_at}
+use Rattle.core_machine.proofs.Rows.{M, as_it_was, same_at, stopped_at}
 
 -- ---- what a step may be refused by, if no write failed
 
@@ -218,7 +218,7 @@ module _ (c : CoreState) (m : M) (at : IsMachine m c) (runs : m.state ≡ Runnin
   stops_by stores may collects stop = (
     record m { state = Stopped None stores },
     (no_part, (stores, may, refl)),
-    stopped_at c m at runs d None stores tables size parts count collects refusals.DiskWrite stop,
+    stopped_at c m at runs d None stores tables size parts count (same_at c m at runs d collects) refusals.DiskWrite stop,
   )
 
   -- ---- before a sweep

@@ -1,4 +1,4 @@
--- A core, on any disk, as the machine of roots: what is so between them, for all steps but seals.
+-- A core, on any disk, as the machine of roots: what is so between them, and after each step.
 use Rattle.std.specs.Prelude.{◌≡◌, ◌≤◌, ℕ, Bool, false, List, [], ◌∷◌, take, Option, Some, None, option_map, Result, Ok, Err}
 use Rattle.std.specs.FinMap as finite
 use Rattle.container_meta.specs.Places.{PlaceMap}
@@ -70,20 +70,20 @@ pub record IsMachine (m : Machine Root (List Top)) (c : CoreState) : Type 0 wher
 
 -- ---- steps and answers
 
-abbrev pub asked_by : StepValue → Option (Asked Root)
-asked_by steps.Begin = Some asked.Begin
-asked_by steps.Abort = Some asked.Abort
-asked_by (steps.OpenRead name) = Some (asked.OpenRead name)
-asked_by steps.ReadNext = Some asked.ReadNext
-asked_by steps.EndRead = Some asked.EndRead
-asked_by (steps.Delete name) = Some (asked.Delete name)
-asked_by (steps.Claim seg) = Some (asked.Claim seg)
-asked_by (steps.Commit name root) = Some (asked.Commit name root)
-asked_by steps.ListNames = Some asked.ListNames
-asked_by (steps.GcStart percent) = Some (asked.GcStart percent)
-asked_by steps.GcStep = Some asked.GcStep
-asked_by steps.Stat = Some asked.Stat
-asked_by step = None
+abbrev pub asked_by : StepValue → Asked Root
+asked_by steps.Begin = asked.Begin
+asked_by steps.Abort = asked.Abort
+asked_by (steps.OpenRead name) = asked.OpenRead name
+asked_by steps.ReadNext = asked.ReadNext
+asked_by steps.EndRead = asked.EndRead
+asked_by (steps.Delete name) = asked.Delete name
+asked_by (steps.Claim seg) = asked.Claim seg
+asked_by (steps.Seal filled) = asked.Seal filled
+asked_by (steps.Commit name root) = asked.Commit name root
+asked_by steps.ListNames = asked.ListNames
+asked_by (steps.GcStart percent) = asked.GcStart percent
+asked_by steps.GcStep = asked.GcStep
+asked_by steps.Stat = asked.Stat
 
 abbrev pub answered_by : Result Answer Refusal → List ℕ → Result Done Refusal
 answered_by (Ok answers.Begun) buf = Ok done.Begun
@@ -104,10 +104,8 @@ answered_by (Ok (answers.Done freed copied)) buf = Ok (done.Collected freed copi
 answered_by (Ok (answers.Stat files segments bytes used free)) buf = Ok (done.Counted files segments bytes used free)
 answered_by (Err refusal) buf = Err refusal
 
--- All steps but seals: with no premise on the disk, what the core does is what the machine may do.
+-- With no premise on the disk, what the core does by a step is what the machine may do.
 abbrev pub CoreRefines : (C : Type 0) → (C → CoreState) → Type 0
-CoreRefines C state = (e : Event) (step : Asked Root) (old new : C) (m : Machine Root (List Top)) → asked_by e.step ≡ Some step
-    → IsRunning (state old) → IsMachine m (state old)
-    → CoreStep (state old) e (state new)
-    → (n : Machine Root (List Top))
-    × (Legal of_roots (record { actor = e.actor; asked = step; answer = answered_by e.answer e.buf }) m n × IsMachine n (state new))
+CoreRefines C state = (e : Event) (old new : C) (m : Machine Root (List Top)) → IsRunning (state old) → IsMachine m (state old)
+    → CoreStep (state old) e (state new) → (n : Machine Root (List Top))
+    × (Legal of_roots (record { actor = e.actor; asked = asked_by e.step; answer = answered_by e.answer e.buf }) m n × IsMachine n (state new))

@@ -1,4 +1,4 @@
-//! A core as the machine of roots, for all steps but seals, and for openings.
+//! A core as the machine of roots: its steps and its openings.
 #![tactic(auto)]
 
 ghost use Rattle.core_machine.specs.Openings.{OpenedRefines, UnopenedRefines};
@@ -7,8 +7,8 @@ ghost use Rattle.core_machine.specs.Refines.{CoreRefines};
 use dd_disk::Disk;
 use store_core::HasState;
 
-/// On any disk, also one that tells nothing, or lies: what a core does by a step other than a seal, done or refused, the machine of roots
-/// may do, and they fit one another then as before. The function does nothing.
+/// On any disk, also one that tells nothing, or lies: what a core does by a step, done or refused, the machine of roots may do, and they fit
+/// one another then as before. The function does nothing.
 pub fn a_core_is_the_machine<C: HasState>()
     ensures { CoreRefines C C.state }
 {}

@@ -128,11 +128,11 @@ set_told (x ∷ ps) (y ∷ qs) zero p q same one = (one, same.1)
 set_told (x ∷ ps) (y ∷ qs) (suc i) p q same one = (same.0, set_told ps qs i p q same.1 one)
 
 -- where one is at something, it is at what it is put to
-pub put_told : (qs : List RootPart) (i : ℕ) (root : Root) (tops : List Top) (q : RootPart) → slice_index_or qs i Idle ≡ Reading root tops
+pub put_told : {V R : Type 0} (qs : List (Part V R)) (i : ℕ) (value : V) (rest : R) (q : Part V R) → slice_index_or qs i Idle ≡ Reading value rest
     → slice_index_or (slice_set qs i q) i Idle ≡ q
-put_told [] i root tops q is = absurd (let wrong : Idle ≡ Reading root tops = is in cc)
-put_told (y ∷ qs) zero root tops q is = refl
-put_told (y ∷ qs) (suc i) root tops q is = put_told qs i root tops q is
+put_told [] i value rest q is = absurd (let wrong : Idle ≡ Reading value rest = is in cc)
+put_told (y ∷ qs) zero value rest q is = refl
+put_told (y ∷ qs) (suc i) value rest q is = put_told qs i value rest q is
 
 -- ---- the collection
 

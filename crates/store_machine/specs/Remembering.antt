@@ -143,3 +143,8 @@ Adds s m r t = AddsBy s.asked s.actor s.answer m r t
 abbrev pub StepsAreRemembered : Type 0
 StepsAreRemembered = (s : Stepped (List ℕ)) (m : FileMachine) (r t : RootMachine) → Forgets m r → Legal of_roots (forget_step s) r t
     → Adds s m r t → (n : FileMachine) × (Legal of_files s m n × Forgets n t)
+
+-- And it adds no more than that needs: it is so of each step of the machine of files, and of what is left of that once the rest is
+-- forgotten.
+abbrev pub AddsNoMore : Type 0
+AddsNoMore = (s : Stepped (List ℕ)) (m n : FileMachine) (r t : RootMachine) → Forgets m r → Legal of_files s m n → Forgets n t → Adds s m r t

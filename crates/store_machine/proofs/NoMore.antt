@@ -1,11 +1,10 @@
 -- What the content of a disk adds is so of each step of the machine of files: it adds no more than that needs.
-use Rattle.std.proofs.Common.{◌≡◌, inl, inr, ◌<◌, ℕ, suc, List, [], ◌∷◌, ◌++◌, length, slice_set, Option, Some, None, option_map, Result, Ok, Err, refl, sym, ◌∙◌, ap, subst, arith}
+use Rattle.std.proofs.Common.{◌≡◌, inl, inr, ◌<◌, ℕ, suc, List, [], ◌∷◌, ◌++◌, length, Some, None, option_map, Result, Ok, Err, refl, sym, ◌∙◌, ap, subst, arith}
 use Rattle.std.proofs.lemmas.List.{append-nil, append_cancel_left}
 use Rattle.std.specs.List.{AllByRecursion}
 use Rattle.container_meta.specs.declared.kind.Kind.{Kind}
 use Rattle.container_meta.specs.Segments.{Segment}
 use Rattle.disk_format.specs.Cells.{Root}
-use Rattle.gc_select.specs.declared.liveness.ContainerLiveness.{ContainerLiveness}
 use Rattle.refusals.specs.declared.refusal.PartKind.{PartKind}
 use Rattle.refusals.specs.declared.refusal.Phase.{Phase}
 use Rattle.refusals.specs.declared.refusal.Phase.TheVariants as phases
@@ -14,7 +13,7 @@ use Rattle.refusals.specs.declared.refusal.Refusal.TheVariants as refusals
 use Rattle.store_model.specs.Image.{Store}
 use Rattle.store_model.specs.Reserve.{IsSpare}
 use Rattle.store_model.specs.Freeing.{FreesTo}
-use Rattle.store_model.specs.Steps.{FlushContainer, FreeContainer, StoreChange}
+use Rattle.store_model.specs.Steps.{FlushContainer, FreeContainer}
 use Rattle.store_machine.specs.Asked.{Asked}
 use Rattle.store_machine.specs.Asked as asked
 use Rattle.store_machine.specs.Collecting.{Goes, GoesOn, GoesOver, IsRecordOf, Went}
@@ -22,7 +21,7 @@ use Rattle.store_machine.specs.Done.{Done}
 use Rattle.store_machine.specs.Done as done
 use Rattle.store_machine.specs.Forgetting.{Forgets, SameNow, SamePart, SameState, forget_collection}
 use Rattle.store_machine.specs.Legal.{Answers, ByState, Does, GivesBytes, LegalBy, Refuses, RefusesOn, RefusesRead}
-use Rattle.store_machine.specs.Machine.{Collection, Found, Reading, RunState, Running, Stopped, Stage, Sweep, Sweeping, part_in}
+use Rattle.store_machine.specs.Machine.{Collection, Found, Reading, RunState, Running, Stopped, Sweep, Sweeping, part_in}
 use Rattle.store_machine.specs.Needs.{IsNeeded, NamesNeed}
 use Rattle.store_machine.specs.Opening.{Reopens, freeing}
 use Rattle.store_machine.specs.Remembering.{AddsBy, AddsNoMore, AddsToAnswer, AddsToDone, AddsToOpening, AddsToPhase, AddsToRefused, AddsToStep, ComesNext, IsCopyOf, IsGivenBack, IsReady}

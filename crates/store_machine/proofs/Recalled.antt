@@ -1,5 +1,5 @@
 -- What is so of the machine of roots is so of a machine of files that it has forgotten, where the roots tell it.
-use Rattle.std.proofs.Common.{◌≡◌, inl, inr, ◌≤◌, ◌<◌, ◌-◌, ◌^◌, ℕ, true, List, [], length, is_some, Option, Some, None, option_map, refl, sym, ◌∙◌, ap, subst}
+use Rattle.std.proofs.Common.{◌≡◌, inl, inr, ◌≤◌, ◌<◌, ◌-◌, ◌^◌, ℕ, true, List, length, is_some, Option, Some, None, option_map, sym, ◌∙◌, ap, subst}
 use Rattle.actor_parts.specs.PinMap.{PinMap}
 use Rattle.container_meta.specs.Segments.{Contents}
 use Rattle.disk_format.specs.Cells.{Root}

@@ -1,17 +1,14 @@
 -- A step of a collection of the machine of roots is one of that of files.
-use Rattle.std.proofs.Common.{◌≡◌, ◌⊎◌, inl, inr, ◌<◌, ℕ, suc, List, [], ◌∷◌, ◌++◌, length, map, slice_get, Option, Some, None, option_map, refl, sym, ◌∙◌, ap, subst}
-use Rattle.std.specs.FinMap as finite
+use Rattle.std.proofs.Common.{◌≡◌, inl, inr, ℕ, suc, List, [], ◌∷◌, ◌++◌, length, slice_get, Some, None, refl, sym, ◌∙◌, ap, subst}
 use Rattle.disk_format.specs.Cells.{Root}
 use Rattle.gc_select.specs.Selecting.{ids_of}
 use Rattle.refusals.specs.declared.refusal.Phase.{Phase}
 use Rattle.refusals.specs.declared.refusal.Phase.TheVariants as phases
 use Rattle.store_model.specs.Image.{Store}
 use Rattle.store_model.specs.Steps.{FlushContainer, StoreChange}
-use Rattle.store_model.specs.Trees.{root_of}
-use Rattle.store_machine.specs.Collecting.{Begins, Chooses, Copies, Ends, Flushes, Goes, GoesOn, GoesOver, JustGoes, Makes, Marks, Records, Releases, Went, freed_in, ids_before, keys_written, last_by, marking, marks_of, next_of, no_sweep, phase_in, sources_in, swept_by}
+use Rattle.store_machine.specs.Collecting.{Begins, Chooses, Copies, Ends, Flushes, Goes, GoesOn, GoesOver, JustGoes, Makes, Marks, Records, Releases, Went, freed_in, ids_before, keys_written, last_by, next_of, no_sweep, phase_in, sources_in, swept_by}
 use Rattle.store_machine.specs.Forgetting.{Forgets, forget_collection}
 use Rattle.store_machine.specs.Machine.{Collection, Sweeping}
-use Rattle.store_machine.specs.Needs.{keys_kept, values_read}
 use Rattle.store_machine.specs.Remembering.{AddsToPhase, AddsToStep}
 use Rattle.store_machine.specs.Values.{of_files, of_roots}
 use Rattle.store_machine.proofs.Forgotten.{started, root_started, begun_same}
@@ -80,21 +77,65 @@ module _ (m : F) (r : G) (same : Forgets m r) where
     -- a source that was left alone was none of the machine of files
     copies : Copies of_roots (forget_collection c) r w → AddsToPhase phases.Copy c (after c w) m t → Copies of_files c m w
     copies (s, u, next, stage, then, recorded, changes, some, ready, more, over, inl (source, entry, next_is, inl ends)) adds =
-        let told = adds s u next stage then in
-        (s, u, next, stage, then, recorded, changes, some, ready, more_left s.filled u.filled more, (λ known. subst (GoesOver of_files c m.store s u m.forgotten) left told.0),
-        inl (source, entry, on_store m r same (λ (x : Store). next ≡ next_of x.held (sources_in c) u) next_is, inl ends))
+        let told = adds s u next stage then in (
+          s,
+          u,
+          next,
+          stage,
+          then,
+          recorded,
+          changes,
+          some,
+          ready,
+          more_left s.filled u.filled more,
+          (λ known. subst (GoesOver of_files c m.store s u m.forgotten) left told.0),
+          inl (source, entry, on_store m r same (λ (x : Store). next ≡ next_of x.held (sources_in c) u) next_is, inl ends),
+        )
     copies (s, u, next, stage, then, recorded, changes, some, ready, more, over, inl (source, entry, next_is, inr (inl ends))) adds =
-        let told = adds s u next stage then in
-        (s, u, next, stage, then, recorded, changes, some, ready, more_left s.filled u.filled more, (λ known. subst (GoesOver of_files c m.store s u m.forgotten) left told.0),
-        inl (source, entry, on_store m r same (λ (x : Store). next ≡ next_of x.held (sources_in c) u) next_is, inr (inl ends)))
+        let told = adds s u next stage then in (
+          s,
+          u,
+          next,
+          stage,
+          then,
+          recorded,
+          changes,
+          some,
+          ready,
+          more_left s.filled u.filled more,
+          (λ known. subst (GoesOver of_files c m.store s u m.forgotten) left told.0),
+          inl (source, entry, on_store m r same (λ (x : Store). next ≡ next_of x.held (sources_in c) u) next_is, inr (inl ends)),
+        )
     copies (s, u, next, stage, then, recorded, changes, some, ready, more, over, inl (source, entry, next_is, inr (inr (unknown, filled, waiting, none)))) adds =
-        let told = adds s u next stage then in
-        (s, u, next, stage, then, recorded, changes, some, ready, more_left s.filled u.filled more, (λ known. subst (GoesOver of_files c m.store s u m.forgotten) left told.0),
-        inl (source, entry, on_store m r same (λ (x : Store). next ≡ next_of x.held (sources_in c) u) next_is, inr (inl (filled, waiting, told.1 source filled))))
+        let told = adds s u next stage then in (
+          s,
+          u,
+          next,
+          stage,
+          then,
+          recorded,
+          changes,
+          some,
+          ready,
+          more_left s.filled u.filled more,
+          (λ known. subst (GoesOver of_files c m.store s u m.forgotten) left told.0),
+          inl (source, entry, on_store m r same (λ (x : Store). next ≡ next_of x.held (sources_in c) u) next_is, inr (inl (filled, waiting, told.1 source filled))),
+        )
     copies (s, u, next, stage, then, recorded, changes, some, ready, more, over, inr stops) adds =
-        let told = adds s u next stage then in
-        (s, u, next, stage, then, recorded, changes, some, ready, more_left s.filled u.filled more, (λ known. subst (GoesOver of_files c m.store s u m.forgotten) left told.0),
-        inr stops)
+        let told = adds s u next stage then in (
+          s,
+          u,
+          next,
+          stage,
+          then,
+          recorded,
+          changes,
+          some,
+          ready,
+          more_left s.filled u.filled more,
+          (λ known. subst (GoesOver of_files c m.store s u m.forgotten) left told.0),
+          inr stops,
+        )
 
     flushes : Flushes of_roots (forget_collection c) r w → AddsToPhase phases.Flush c (after c w) m t → Flushes of_files c m w
     flushes (s, u, kind, segments, stage, changes, keys, u_is, next, recorded, forgotten, known) adds = (

@@ -1,5 +1,5 @@
 -- A step that the machine of roots does, no step of a collection, is one that the machine of files does.
-use Rattle.std.proofs.Common.{◌≡◌, inl, inr, ◌<◌, ◌≤◌, ℕ, suc, List, [], ◌∷◌, ◌++◌, length, map, Contains, slice_index_or, slice_set, Option, Some, None, option_map, refl, sym, ◌∙◌, ap, subst}
+use Rattle.std.proofs.Common.{◌≡◌, ℕ, suc, List, [], ◌∷◌, Contains, refl, sym, ◌∙◌, ap, subst}
 use Rattle.std.specs.List.{AllByRecursion}
 use Rattle.std.specs.FinMap as finite
 use Rattle.actor_parts.specs.PinMap.{PinMap}
@@ -7,12 +7,9 @@ use Rattle.actor_parts.specs.Segments.{pin_of}
 use Rattle.container_meta.specs.Segments.{Contents, KindSegment, segment_key}
 use Rattle.disk_format.specs.Cells.{Root}
 use Rattle.disk_format.specs.Cells.Change.{Put, Delete as Gone}
-use Rattle.disk_format.specs.declared.numbers.TheConstants.{MOST_FILE}
-use Rattle.merkle_file.specs.declared.top.Top.{Top}
 use Rattle.merkle_file.specs.Walk.{start_of}
 use Rattle.refusals.specs.declared.refusal.PartKind.{PartKind}
 use Rattle.segmenter.specs.Segments.{segments_of}
-use Rattle.store_model.specs.Image.{Store}
 use Rattle.store_model.specs.Steps.{CanSeal, with_change, with_sealed}
 use Rattle.store_model.specs.Trees.{root_of}
 use Rattle.store_machine.specs.Forgetting.{Forgets, Rests, SamePart}
@@ -159,7 +156,8 @@ module _ (m : F) (r : G) (same : Forgets m r) where
   pub opened : (a : ℕ) (name : List ℕ) (count : ℕ) (t : G) → OpensValue of_roots a name count r t → Left (λ n. OpensValue of_files a name count m n) t
   opened a name count t (named, is_idle, (root, tops, found, starts, count_is, others)) =
       let (file, file_is, root_is) = file_back m.now r.now same.now name root found in
-      let rests : Rests (segments_of file) tops = subst (Rests (segments_of file)) (sym (starts ∙ ap (λ (x : Root). start_of (top_of x)) root_is)) (start_both file (same.now.few name file file_is)) in
+      let tops_are : tops ≡ start_of (top_of (root_of file)) = starts ∙ ap (λ (x : Root). start_of (top_of x)) root_is in
+      let rests : Rests (segments_of file) tops = subst (Rests (segments_of file)) (sym tops_are) (start_both file (same.now.few name file file_is)) in
       goes m r same (λ n. OpensValue of_files a name count m n) t (put_at r a (Reading root tops)) (put_at m a (Reading file (segments_of file))) others
       (named, idle m r same a is_idle, (file, segments_of file, file_is, refl, count_is ∙ ap (λ (x : Root). x.length) root_is, refl))
       (put m r same a (Reading file (segments_of file)) (Reading root tops) (root_is, rests))

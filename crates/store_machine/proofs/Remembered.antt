@@ -1,13 +1,11 @@
 -- A step of the machine of roots is one of the machine of files, where what the content of a disk adds is so.
-use Rattle.std.proofs.Common.{◌≡◌, inl, inr, ℕ, false, List, [], ◌∷◌, ◌++◌, Some, None, Result, Ok, Err, refl, sym, ◌∙◌, ap, subst}
+use Rattle.std.proofs.Common.{inl, inr, ℕ, false, List, [], Some, None, Result, Ok, Err, refl, ◌∙◌, ap, subst}
 use Rattle.std.specs.FinMap as finite
 use Rattle.actor_parts.specs.declared.actor.TheConstants.{ACTORS}
 use Rattle.disk_format.specs.Cells.{Root}
 use Rattle.refusals.specs.declared.refusal.PartKind.TheVariants as kinds
 use Rattle.refusals.specs.declared.refusal.Refusal.{Refusal}
 use Rattle.refusals.specs.declared.refusal.Refusal.TheVariants as refusals
-use Rattle.container_meta.specs.Segments.{segment_key}
-use Rattle.store_model.specs.Image.{Store}
 use Rattle.store_model.specs.Slots.{last_id}
 use Rattle.store_machine.specs.Asked.{Asked}
 use Rattle.store_machine.specs.Asked as asked
@@ -15,7 +13,7 @@ use Rattle.store_machine.specs.Done.{Done}
 use Rattle.store_machine.specs.Done as done
 use Rattle.store_machine.specs.Forgetting.{Forgets, SameNow, SameState, asked_of}
 use Rattle.store_machine.specs.Legal.{Answers, ByState, Does, LegalBy, counted}
-use Rattle.store_machine.specs.Machine.{Found, Idle, Writing, RunState, Running, Stopped, all_idle, put_at}
+use Rattle.store_machine.specs.Machine.{Writing, RunState, Running, Stopped, all_idle, put_at}
 use Rattle.store_machine.specs.Opening.{Opens, Reopens, freeing}
 use Rattle.store_machine.specs.Remembering.{AddsBy, AddsToAnswer, AddsToDone, AddsToOpening, FindsFiles, StepsAreRemembered}
 use Rattle.store_machine.specs.Values.{of_files, of_roots}

@@ -1,7 +1,7 @@
 -- What the content of a disk adds to a step of the machine of roots, so that it is one of the machine of files: each row of Legal.antt,
 -- Collecting.antt and Opening.antt that says more of files, in their order, with what it says more. A row that is not here says as much of
 -- roots as of files. What is said is said of the machine of files, m, and only where a row speaks of what it made of that of roots, t.
-use Rattle.std.specs.Prelude.{◌≡◌, ◌≢◌, ℕ, suc, ◌<◌, ◌≤◌, List, [], ◌∷◌, ◌++◌, get_or, length, Contains, Some, Result, Ok, Err}
+use Rattle.std.specs.Prelude.{◌≡◌, ℕ, suc, ◌<◌, ◌≤◌, List, [], ◌∷◌, ◌++◌, get_or, length, Contains, Some, Result, Ok, Err}
 use Rattle.std.specs.List.{AllByRecursion}
 use Rattle.container_meta.specs.declared.kind.Kind.{Kind}
 use Rattle.container_meta.specs.Segments.{Segment, segment_key}
@@ -147,4 +147,5 @@ StepsAreRemembered = (s : Stepped (List ℕ)) (m : FileMachine) (r t : RootMachi
 -- And it adds no more than that needs: it is so of each step of the machine of files, and of what is left of that once the rest is
 -- forgotten.
 abbrev pub AddsNoMore : Type 0
-AddsNoMore = (s : Stepped (List ℕ)) (m n : FileMachine) (r t : RootMachine) → Forgets m r → Legal of_files s m n → Forgets n t → Adds s m r t
+AddsNoMore = (s : Stepped (List ℕ)) (m n : FileMachine) (r t : RootMachine) → Forgets m r → Legal of_files s m n → Forgets n t
+    → Adds s m r t

@@ -15,8 +15,8 @@ pub fn runs_are_forgotten()
 {}
 
 /// A step of the machine of roots is one of the machine of files that it has forgotten, where what the content of a disk adds to it is so;
-/// and it has forgotten what that leaves. So what is proved of the machine of roots, on any disk, need not be proved again of that of files,
-/// but for what the content adds; and that is no more than is so of each step of the machine of files. The function does nothing.
+/// and it has forgotten what that leaves. So what is proved of the machine of roots, on any disk, need not be proved again of that of
+/// files, but for what the content adds; and that is no more than is so of each step of the machine of files. The function does nothing.
 pub fn steps_are_remembered()
     ensures steps { StepsAreRemembered }
     ensures no_more { AddsNoMore }

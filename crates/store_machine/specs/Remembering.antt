@@ -1,6 +1,7 @@
 -- What the content of a disk adds to a step of the machine of roots, so that it is one of the machine of files: each row of Legal.antt,
 -- Collecting.antt and Opening.antt that says more of files, in their order, with what it says more. A row that is not here says as much of
--- roots as of files. What is said is said of the machine of files, m, and only where a row speaks of what it made of that of roots, t.
+-- roots as of files; so do an opened read and its end, by the names and the rests that Forgetting.antt ties. It is said of the machine of
+-- files, m, before the step; and of that of roots after it, t, only where a row speaks of what the step made.
 use Rattle.std.specs.Prelude.{◌≡◌, ℕ, suc, ◌<◌, ◌≤◌, List, [], ◌∷◌, ◌++◌, get_or, length, Contains, Some, Result, Ok, Err}
 use Rattle.std.specs.List.{AllByRecursion}
 use Rattle.container_meta.specs.declared.kind.Kind.{Kind}
@@ -40,13 +41,13 @@ RootMachine = Machine Root (List Top)
 abbrev pub IsWhole : List ℕ → FileMachine → Type 0
 IsWhole file m = (length file ≤ MOST_FILE) × HoldsValue of_files file m
 
--- The bytes come first of what the actor reads. What is to come after them is what the machine of roots then has to come: to its nodes it
--- came by digests alone.
+-- The bytes come first of what is to come of the file that the actor reads; and then the trees that the machine of roots has to come are
+-- those of the rest of the file. The digests by which it came to them don't tell that.
 abbrev pub ComesNext : ℕ → List ℕ → FileMachine → RootMachine → Type 0
 ComesNext a bytes m t = (file : List ℕ) × (after : List (List ℕ)) × (part_in m a ≡ Reading file (bytes ∷ after))
     × SamePart (Reading file after) (part_in t a)
 
--- ---- a step of a collection, c, that is d after it
+-- ---- a step of a collection: c of the machine of files before it, and d of that of roots after it
 
 -- the source was not left alone: where no copies of it are to be written, it is ready
 abbrev pub IsReady : Collection (List ℕ) → Sweep → Sweep → Type 0
@@ -57,8 +58,8 @@ abbrev pub IsCopyOf : Collection (List ℕ) → FileMachine → Kind → Segment
 IsCopyOf c m kind x =
     ¬ (Contains (keys_written c.changes) (segment_key kind x)) × HasCopy m.store (record { kind = kind; segment = x })
 
--- What was recorded is so; a copying step went over its source, by what is needed; what was flushed are copies; and the container that was
--- given back holds the newest copy of nothing that is needed.
+-- What was recorded of a container counts what is needed; a copying step took what is needed of its source; what was written are copies;
+-- and the container that was given back holds the newest copy of nothing that is needed.
 abbrev pub AddsToPhase : Phase → Collection (List ℕ) → Collection Root → FileMachine → RootMachine → Type 0
 AddsToPhase phases.Filter c d m t =
     (one : ContainerLiveness) → d.recorded ≡ c.recorded ++ one ∷ [] → IsRecordOf of_files c m.store one

@@ -1,5 +1,6 @@
 -- The lines of a `collect` keep the names, and give back only what they don't need.
 use Rattle.std.proofs.Common.{◌≡◌, inl, inr, ℕ, List as ListOf, [], ◌∷◌, ◌++◌, length, Some, None, Result, Ok, Err, refl, sym, ◌∙◌, ap, subst}
+use Rattle.std.specs.List.{AllByRecursion}
 use Rattle.refusals.specs.declared.refusal.Phase.{Phase}
 use Rattle.refusals.specs.declared.refusal.Phase.TheVariants as phases
 use Rattle.refusals.specs.declared.refusal.Refusal.{Refusal}
@@ -17,7 +18,7 @@ use Rattle.store_machine.specs.Asked.{Asked}
 use Rattle.store_machine.specs.Asked as asked
 use Rattle.store_machine.specs.ByMap.{FileMachine}
 use Rattle.store_machine.specs.Collecting.{Ends as EndsCollection, Goes, GoesOn, IsCollecting, Makes, Went, freed_in, keys_written}
-use Rattle.store_machine.specs.CollectsAlone.{CollectRefusal, CollectsByMap, HasSwept, Spares}
+use Rattle.store_machine.specs.CollectsAlone.{CollectRefusal, CollectsByMap, HasSwept, IsOfSweep, Spares}
 use Rattle.store_machine.specs.Commands.{Collect, Follows, IsDone, Replied, printed, text_of}
 use Rattle.store_machine.specs.Done.{Done}
 use Rattle.store_machine.specs.Done as done
@@ -49,6 +50,10 @@ spares_then now (SealContainer id kind segments ∷ xs) ys s t (can, first) spar
 spares_then now (ChangeName name change ∷ xs) ys s t (can, first) spares next = spares_then now xs ys (changed (ChangeName name change) s) t first spares next
 spares_then now (FlushContainer id kind segments ∷ xs) ys s t (can, first) spares next = spares_then now xs ys (changed (FlushContainer id kind segments) s) t first spares next
 
+each_then : (xs ys : ListOf StoreChange) → AllByRecursion IsOfSweep xs → AllByRecursion IsOfSweep ys → AllByRecursion IsOfSweep (xs ++ ys)
+each_then [] ys first next = next
+each_then (x ∷ xs) ys (one, first) next = (one, each_then xs ys first next)
+
 -- ---- a machine whose collection runs, the names being these, since the store was this
 
 pub record Under (now : Found (ListOf ℕ)) (opened : Store) (m : FileMachine) : Type 0 where
@@ -56,6 +61,7 @@ pub record Under (now : Found (ListOf ℕ)) (opened : Store) (m : FileMachine) :
   pub runs : m.state ≡ Running
   pub c : C
   pub ran : m.collection ≡ Some c
+  pub each : AllByRecursion IsOfSweep c.changes
   pub makes : Makes c.changes opened m.store
   pub spares : Spares now c.changes opened
 
@@ -84,6 +90,18 @@ module _ (now : Found (ListOf ℕ)) (opened : Store) (m : FileMachine) (u : Unde
       subst (λ (xs : ListOf StoreChange). Spares now xs m.store) (sym one) (fewer slot (spare tt), tt)
   spared phase c w goes = absurd goes
 
+  none_changed : (w : Went) → w.changes ≡ [] → AllByRecursion IsOfSweep w.changes
+  none_changed w none = subst (AllByRecursion IsOfSweep) (sym none) tt
+
+  of_sweep : (phase : Phase) (c : C) (w : Went) → Goes of_files phase c m w → AllByRecursion IsOfSweep w.changes
+  of_sweep phases.Mark c w (left, was, is, (recorded, none, forgotten)) = none_changed w none
+  of_sweep phases.Filter c w goes = none_changed w goes.4
+  of_sweep phases.Select c w (was, all, is, (recorded, none, forgotten)) = none_changed w none
+  of_sweep phases.Copy c w goes = none_changed w goes.6
+  of_sweep phases.Flush c w goes = subst (AllByRecursion IsOfSweep) (sym goes.5) (tt, tt)
+  of_sweep phases.Release c w goes = subst (AllByRecursion IsOfSweep) (sym goes.7) (tt, tt)
+  of_sweep phase c w goes = absurd goes
+
   goes_on : (phase : Phase) (n : FileMachine) → GoesOn of_files phase m n → Under now opened n
   goes_on phase n goes =
       let own : u.c ≡ goes.c = same_some u.c goes.c (sym u.ran ∙ goes.ran) in
@@ -94,6 +112,7 @@ module _ (now : Found (ListOf ℕ)) (opened : Store) (m : FileMachine) (u : Unde
         runs = ap (λ (x : FileMachine). x.state) goes.others ∙ u.runs;
         c = record goes.c { stage = goes.went.stage; recorded = goes.went.recorded; changes = goes.c.changes ++ goes.went.changes };
         ran = ap (λ (x : FileMachine). x.collection) goes.others;
+        each = each_then goes.c.changes goes.went.changes (subst (λ (x : C). AllByRecursion IsOfSweep x.changes) own u.each) (of_sweep phase goes.c goes.went goes.goes);
         makes = makes_then goes.c.changes goes.went.changes opened m.store n.store makes goes.makes;
         spares = spares_then now goes.c.changes goes.went.changes opened m.store makes spares (spared phase goes.c goes.went goes.goes);
       }
@@ -202,6 +221,7 @@ module _ (percent : ℕ) (start : FileMachine) where
                 runs = ap (λ (x : FileMachine). x.state) others ∙ at.runs;
                 c = _;
                 ran = ap (λ (x : FileMachine). x.collection) others;
+                each = tt;
                 makes = ap (λ (x : FileMachine). x.store) others;
                 spares = tt;
               };
@@ -256,11 +276,13 @@ module _ (percent : ℕ) (start : FileMachine) where
               opened = runs.opened;
               slots = runs.slots;
               room = runs.room;
+              each = u.each;
               makes = subst (Makes u.c.changes runs.opened) (sym (ap (λ (x : FileMachine). x.store) ends.others)) u.makes;
               spares = u.spares;
             };
             freed_is = ends.freed_is ∙ ap (λ (x : C). freed_in x.changes) (sym own);
             copied_is = ends.copied_is ∙ ap (λ (x : C). length (keys_written x.changes)) (sym own);
+            runs = ap (λ (x : FileMachine). x.state) ends.others ∙ u.runs;
             none_runs = ap (λ (x : FileMachine). x.collection) ends.others;
           }
 

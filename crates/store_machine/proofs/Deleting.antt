@@ -23,7 +23,7 @@ use Rattle.store_machine.proofs.Passing.{sure_found}
 use Rattle.store_machine.proofs.Quiet.{running_sure}
 use Rattle.store_machine.proofs.Stepwise.{At, Desks, IsFailure, Opened, Step, ends_so, last_from, lines_after, no_actor, not_barred, one_step}
 
-has_file : (o : Option (ListOf ℕ)) → is_some o ≡ true → (file : ListOf ℕ) × (o ≡ Some file)
+pub has_file : (o : Option (ListOf ℕ)) → is_some o ≡ true → (file : ListOf ℕ) × (o ≡ Some file)
 has_file None is = absurd cc
 has_file (Some file) is = (file, refl)
 

@@ -177,4 +177,4 @@ all_good name (one ∷ more) ss m e runs (first, follow) (made, later, mid, is, 
 
 pub ingests_through : IngestsThrough
 ingests_through first name rs ss m e runs lines_are ran x passed =
-    passes name (given_by 0 [] rs) m.now first ss m e.machine (run_of of_files rs ss (desk m) e ran) (all_good name rs ss m e runs lines_are ran) refl runs x passed
+    passes first name (given_by 0 [] rs) m.now ss m e.machine (run_of of_files rs ss (desk m) e ran) (all_good name rs ss m e runs lines_are ran) refl runs x passed

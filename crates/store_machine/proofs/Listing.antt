@@ -1,5 +1,5 @@
 -- The lines of a `list` print the names, and change nothing.
-use Rattle.std.proofs.Common.{◌≡◌, ◌⊎◌, inl, inr, ℕ, List as ListOf, [], ◌∷◌, ◌++◌, Some, None, Result, Ok, Err, refl, sym, ◌∙◌, ap, subst}
+use Rattle.std.proofs.Common.{◌≡◌, inl, inr, ℕ, List as ListOf, [], ◌∷◌, ◌++◌, Some, None, Result, Ok, Err, refl, sym, ◌∙◌, ap, subst}
 use Rattle.refusals.specs.declared.refusal.Refusal.{Refusal}
 use Rattle.refusals.specs.declared.refusal.Refusal.TheVariants as refusals
 use Rattle.reply_text.specs.Text.{listing_text}
@@ -20,7 +20,7 @@ use Rattle.store_machine.specs.Opening.{MayBeFound}
 use Rattle.store_machine.specs.Values.{of_files}
 use Rattle.store_machine.proofs.Passing.{sure_found}
 use Rattle.store_machine.proofs.Quiet.{IsSure, running_sure}
-use Rattle.store_machine.proofs.Stepwise.{At, Desks, IsFailure, Opened, Step, ends_so, last_from, lines_after, no_actor, not_barred, one_step}
+use Rattle.store_machine.proofs.Stepwise.{At, Desks, IsFailure, Opened, Step, ends_from, ends_so, last_from, lines_after, no_actor, not_barred, one_step}
 
 module _ (now : Found (ListOf ℕ)) where
   abbrev Stage : ReplyValue → ListOf ℕ → Desks → Type 0
@@ -31,7 +31,7 @@ module _ (now : Found (ListOf ℕ)) where
     pub same : d.machine.now ≡ now
     pub sure : IsSure d.machine.state
     pub stage : Stage reply text d
-    pub part : (text ≡ []) ⊎ (text ≡ listing_text (listing of_files now))
+    pub undone : (IsDone List reply → ⊥) → text ≡ []
     pub done : IsDone List reply → text ≡ listing_text (listing of_files now)
     pub refused : (refusal : Refusal) → reply ≡ replies.Refused refusal → ListRefusal refusal
 
@@ -42,7 +42,7 @@ module _ (now : Found (ListOf ℕ)) where
     same = same;
     sure = sure;
     stage = subst (λ (r : ReplyValue). Stage r text d) (sym is) tt;
-    part = inl none;
+    undone = λ _. none;
     done = λ d. absurd (subst (IsDone List) is d);
     refused = λ other is_other. subst ListRefusal (let same : replies.Refused refusal ≡ replies.Refused other = sym is ∙ is_other in cc) cause;
   }
@@ -61,7 +61,7 @@ module _ (now : Found (ListOf ℕ)) where
         same = at.same;
         sure = running_sure d.machine.state at.runs;
         stage = (at, refl);
-        part = inl refl;
+        undone = λ _. refl;
         done = λ d. absurd d;
         refused = λ refusal wrong. absurd (let no : replies.Opened files ≡ replies.Refused refusal = wrong in cc);
       })
@@ -83,7 +83,7 @@ module _ (now : Found (ListOf ℕ)) where
           same = ap (λ (x : FileMachine). x.now) others ∙ at.same;
           sure = running_sure mid.machine.state (ap (λ (x : FileMachine). x.state) others ∙ at.runs);
           stage = tt;
-          part = inr text_is;
+          undone = λ not. absurd (not tt);
           done = λ _. text_is;
           refused = λ refusal wrong. absurd (let no : replies.Listed files ≡ replies.Refused refusal = wrong in cc);
         })
@@ -122,7 +122,7 @@ module _ (now : Found (ListOf ℕ)) where
 pub lists_by_map : ListsByMap
 lists_by_map [] ss m e runs lines_are (none, is) = record {
   found = λ x may. sure_found m.state m.now x (running_sure m.state runs) (subst (λ (y : Desks). MayBeFound of_files y.machine.state y.machine.now x) is may);
-  text = inl refl;
+  undone = λ _. refl;
   done = λ end. absurd (let wrong : None ≡ Some end.0 = end.1 in cc);
   refused = λ refusal end. absurd (let wrong : None ≡ Some end.0 = end.1 in cc);
 }
@@ -131,7 +131,7 @@ lists_by_map (one ∷ more) ss m e runs lines_are ran =
     lines_after List m (After m.now) (next m.now) (λ reply d opened fresh. opened_after m.now reply d opened) one more ss e runs lines_are ran in
     record {
       found = λ x may. sure_found e.machine.state e.machine.now x after.sure may ∙ after.same;
-      text = after.part;
+      undone = λ not. after.undone (λ d. not (ends_from (λ one. IsDone List one.reply) one more d));
       done = λ end. after.done (ends_so (λ one. IsDone List one.reply) one more end);
       refused = λ refusal end. after.refused refusal (ends_so (λ one. one.reply ≡ replies.Refused refusal) one more end);
     }

@@ -1,5 +1,7 @@
 -- What a crash may find at any moment of an `ingest`: the steps that its lines make are quiet, but for one commit at their end.
-use Rattle.std.proofs.Common.{◌≡◌, ◌⊎◌, inl, inr, ℕ, List, [], ◌∷◌, ◌++◌, Some, None, Result, Ok, Err, refl, ◌∙◌, ap, subst, sym}
+use Rattle.disk_format.specs.Cells.{IsName}
+use Rattle.disk_format.specs.declared.numbers.TheConstants.{MOST_FILE}
+use Rattle.std.proofs.Common.{length, ◌≤◌, ◌≡◌, ◌⊎◌, inl, inr, ℕ, List, [], ◌∷◌, ◌++◌, Some, None, Result, Ok, Err, refl, ◌∙◌, ap, subst, sym}
 use Rattle.actor_parts.specs.declared.step.Answer.{Answer}
 use Rattle.refusals.specs.declared.refusal.Refusal.{Refusal}
 use Rattle.refusals.specs.declared.refusal.Refusal.TheVariants as refusals
@@ -228,74 +230,93 @@ sure_found Running now x sure may = may
 sure_found (Stopped None stores) now x sure may = may
 sure_found (Stopped (Some other) stores) now x sure may = absurd sure
 
--- P holds of these names, and of what may be found after a last step
-module _ (now : Found (List ℕ)) (Last : Asked (List ℕ) → Type 0) (P : Found (List ℕ) → Type 0) (rests : P now)
-    (last : (s : Step) (m n : F) → m.now ≡ now → m.state ≡ Running → Last s.asked → Legal of_files s m n → (x : Found (List ℕ)) → MayBeFound of_files n.state n.now x → P x) where
-  quiet_found : (m n : F) → m.now ≡ now → Quiet m n → (x : Found (List ℕ)) → MayBeFound of_files n.state n.now x → P x
-  quiet_found m n same quiet x may = subst P (sym (sure_found n.state n.now x quiet.state may ∙ quiet.now ∙ same)) rests
+-- P holds of these names, where their last number isn't too low, and of what may be found after a last step.
+module _ (now : Found (List ℕ)) (first : ℕ) (Last : Asked (List ℕ) → Type 0) (P : Found (List ℕ) → Type 0) (rests : first ≤ now.last → P now)
+    (last : (s : Step) (m n : F) → m.now ≡ now → m.state ≡ Running → Last s.asked → Legal of_files s m n → first ≤ n.now.last → (x : Found (List ℕ))
+    → MayBeFound of_files n.state n.now x → P x) where
+  quiet_found : (n : F) → n.now ≡ now → IsSure n.state → first ≤ n.now.last → (x : Found (List ℕ)) → MayBeFound of_files n.state n.now x → P x
+  quiet_found n same sure later x may =
+      subst P (sym (sure_found n.state n.now x sure may ∙ same)) (rests (subst (λ (f : Found (List ℕ)). first ≤ f.last) same later))
 
-  runs_found : (m : F) → m.now ≡ now → m.state ≡ Running → (x : Found (List ℕ)) → MayBeFound of_files m.state m.now x → P x
-  runs_found m same runs x may = subst P (sym (sure_found m.state m.now x (running_sure m.state runs) may ∙ same)) rests
+  runs_found : (m : F) → m.now ≡ now → m.state ≡ Running → first ≤ m.now.last → (x : Found (List ℕ)) → MayBeFound of_files m.state m.now x → P x
+  runs_found m same runs = quiet_found m same (running_sure m.state runs)
 
-  last_found : (s : Step) (m n : F) → m.now ≡ now → m.state ≡ Running → IsFine s.asked ⊎ Last s.asked → Legal of_files s m n → (x : Found (List ℕ))
+  last_found : (s : Step) (m n : F) → m.now ≡ now → m.state ≡ Running → IsFine s.asked ⊎ Last s.asked → Legal of_files s m n → first ≤ n.now.last → (x : Found (List ℕ))
       → MayBeFound of_files n.state n.now x → P x
-  last_found s m n same runs (inl fine) legal = quiet_found m n same (fine_quiet s.actor s.asked s.answer m n fine runs legal)
+  last_found s m n same runs (inl fine) legal =
+      let quiet = fine_quiet s.actor s.asked s.answer m n fine runs legal in quiet_found n (quiet.now ∙ same) quiet.state
   last_found s m n same runs (inr is) legal = last s m n same runs is legal
 
   -- at each moment of a run of such steps
-  pub passes_to : (first : ℕ) (xs : List Step) (m n : F) (run : Run of_files xs m n) → GoodTo Last xs → m.now ≡ now → m.state ≡ Running → (x : Found (List ℕ))
+  pub passes_to : (xs : List Step) (m n : F) (run : Run of_files xs m n) → GoodTo Last xs → m.now ≡ now → m.state ≡ Running → (x : Found (List ℕ))
       → IsPassedFrom of_files first xs m n run x → P x
-  passes_to first [] m n run good same runs x (later, may) = runs_found m same runs x may
-  passes_to first (s ∷ []) m n run good same runs x (inl (later, may)) = runs_found m same runs x may
-  passes_to first (s ∷ []) m n run good same runs x (inr (later, may)) = last_found s m run.0 same runs good run.1.0 x may
-  passes_to first (s ∷ t ∷ more) m n run good same runs x (inl (later, may)) = runs_found m same runs x may
-  passes_to first (s ∷ t ∷ more) m n run good same runs x (inr passed) =
+  passes_to [] m n run good same runs x (later, may) = runs_found m same runs later x may
+  passes_to (s ∷ []) m n run good same runs x (inl (later, may)) = runs_found m same runs later x may
+  passes_to (s ∷ []) m n run good same runs x (inr (later, may)) = last_found s m run.0 same runs good run.1.0 later x may
+  passes_to (s ∷ t ∷ more) m n run good same runs x (inl (later, may)) = runs_found m same runs later x may
+  passes_to (s ∷ t ∷ more) m n run good same runs x (inr passed) =
       let goes = fine_goes s.actor s.asked s.answer m run.0 good.0 good.1 runs run.1.0 in
-      passes_to first (t ∷ more) run.0 n run.1.1 good.2 (goes.now ∙ same) goes.state x passed
+      passes_to (t ∷ more) run.0 n run.1.1 good.2 (goes.now ∙ same) goes.state x passed
 
 -- ---- a commit comes last
 
-module _ (name given : List ℕ) (now : Found (List ℕ)) where
+module _ (first : ℕ) (name given : List ℕ) (now : Found (List ℕ)) where
   abbrev pub Either : Found (List ℕ) → Type 0
-  Either x = (x ≡ now) ⊎ (x ≡ with_name of_files name given now)
+  Either x = ((x ≡ now) × (first ≤ now.last)) ⊎ ((x ≡ with_name of_files name given now) × IsName name × (length given ≤ MOST_FILE))
 
-  -- the commit
-  still : (m n : F) → m.now ≡ now → m.state ≡ Running → n ≡ m → (x : Found (List ℕ)) → MayBeFound of_files n.state n.now x → Either x
-  still m n same runs is x may = inl (sure_found n.state n.now x (running_sure n.state (ap (λ (y : F). y.state) is ∙ runs)) may ∙ ap (λ (y : F). y.now) is ∙ same)
+  module _ (m n : F) (same : m.now ≡ now) (runs : m.state ≡ Running) (later : first ≤ n.now.last) (x : Found (List ℕ)) where
+    abbrev MayBe : Type 0
+    MayBe = MayBeFound of_files n.state n.now x
 
-  put_is : (m : F) → m.now ≡ now → with_name of_files name given m.now ≡ with_name of_files name given now
-  put_is m same = ap (λ (y : Found (List ℕ)). with_name of_files name given y) same
+    low : n.now ≡ m.now → first ≤ now.last
+    low is = subst (λ (f : Found (List ℕ)). first ≤ f.last) (is ∙ same) later
 
-  unput : (a : ℕ) (refusal : Refusal) (m n : F) → m.now ≡ now → m.state ≡ Running → RefusesCommit of_files a name given refusal m n → (x : Found (List ℕ))
+    still : n ≡ m → MayBe → Either x
+    still is may = inl (
+      sure_found n.state n.now x (running_sure n.state (ap (λ (y : F). y.state) is ∙ runs)) may ∙ ap (λ (y : F). y.now) is ∙ same,
+      low (ap (λ (y : F). y.now) is),
+    )
+
+    put_is : with_name of_files name given m.now ≡ with_name of_files name given now
+    put_is = ap (λ (y : Found (List ℕ)). with_name of_files name given y) same
+
+    in_doubt : n.now ≡ m.now → IsName name → length given ≤ MOST_FILE → (x ≡ m.now) ⊎ (x ≡ with_name of_files name given m.now) → Either x
+    in_doubt now_is named few (inl is) = inl (is ∙ same, low now_is)
+    in_doubt now_is named few (inr is) = inr (is ∙ put_is, named, few)
+
+    unput : (a : ℕ) (refusal : Refusal) → RefusesCommit of_files a name given refusal m n → MayBe → Either x
+    unput a refusals.Memory others may = still others may
+    unput a refusals.BadName (bad, others) may = still others may
+    unput a refusals.TooMany (good, none, many, others) may = still others may
+    unput a (refusals.Unpinned key) (good, room, key_is, pins, others) may = still others may
+    unput a refusals.Numbers (able, lacks, others) may = still others may
+    unput a refusals.DiskWrite (able, has, right, whole, others) may =
+        in_doubt (ap (λ (y : F). y.now) others) able.named right (subst (λ (y : F). MayBeFound of_files y.state y.now x) others may)
+    unput a refusal refuses may = absurd refuses
+
+    put : (a : ℕ) (answer : Done) → Does of_files a (asked.Commit name given) answer m n → MayBe → Either x
+    put a (done.Committed sequence) does may = inr (
+      subst (λ (st : RunState (List ℕ)). MayBeFound of_files st n.now x) (ap (λ (y : F). y.state) does.others ∙ runs) may ∙ ap (λ (y : F). y.now) does.others ∙ put_is,
+      does.may.named,
+      does.right,
+    )
+    put a answer does may = absurd does
+
+    unput_by : (a : ℕ) (refusal : Refusal) → Refuses of_files a (asked.Commit name given) refusal m n → MayBe → Either x
+    unput_by a (refusals.WrongPart kind) (wrong, others) may = still others may
+    unput_by a refusals.Memory on may = unput a refusals.Memory on may
+    unput_by a refusal (right, on) may = unput a refusal on may
+
+    commit_found : (a : ℕ) (told : Result Done Refusal) → Answers of_files a (asked.Commit name given) told m n → MayBe → Either x
+    commit_found a (Ok answer) does may = put a answer does may
+    commit_found a (Err refusal) refuses may = unput_by a refusal refuses may
+
+  commits_last : (s : Step) (m n : F) → m.now ≡ now → m.state ≡ Running → IsCommit name given s.asked → Legal of_files s m n → first ≤ n.now.last → (x : Found (List ℕ))
       → MayBeFound of_files n.state n.now x → Either x
-  unput a refusals.Memory m n same runs others = still m n same runs others
-  unput a refusals.BadName m n same runs (bad, others) = still m n same runs others
-  unput a refusals.TooMany m n same runs (good, none, many, others) = still m n same runs others
-  unput a (refusals.Unpinned key) m n same runs (good, room, key_is, pins, others) = still m n same runs others
-  unput a refusals.Numbers m n same runs (may, lacks, others) = still m n same runs others
-  unput a refusals.DiskWrite m n same runs (may, has, right, whole, others) =
-      λ x found. in_doubt x (subst (λ (y : F). MayBeFound of_files y.state y.now x) others found)
-    where
-      in_doubt : (x : Found (List ℕ)) → (x ≡ m.now) ⊎ (x ≡ with_name of_files name given m.now) → Either x
-      in_doubt x (inl is) = inl (is ∙ same)
-      in_doubt x (inr is) = inr (is ∙ put_is m same)
-  unput a refusal m n same runs refuses = absurd refuses
+  commits_last s m n same runs is legal later x may =
+      commit_found m n same runs later x s.actor s.answer (subst (λ (st : RunState (List ℕ)). ByState of_files st s.actor (asked.Commit name given) s.answer m n) runs
+      (subst (λ (step : Asked (List ℕ)). Legal of_files (record { actor = s.actor; asked = step; answer = s.answer }) m n) is legal)) may
 
-  commit_found : (a : ℕ) (told : Result Done Refusal) (m n : F) → m.now ≡ now → m.state ≡ Running → Answers of_files a (asked.Commit name given) told m n
-      → (x : Found (List ℕ)) → MayBeFound of_files n.state n.now x → Either x
-  commit_found a (Ok (done.Committed sequence)) m n same runs does x may =
-      inr (subst (λ (st : RunState (List ℕ)). MayBeFound of_files st n.now x) (ap (λ (y : F). y.state) does.others ∙ runs) may ∙ ap (λ (y : F). y.now) does.others ∙ put_is m same)
-  commit_found a (Ok answer) m n same runs does x may = absurd does
-  commit_found a (Err (refusals.WrongPart kind)) m n same runs (wrong, others) x found = still m n same runs others x found
-  commit_found a (Err refusals.Memory) m n same runs on x found = unput a refusals.Memory m n same runs on x found
-  commit_found a (Err refusal) m n same runs (right, on) x found = unput a refusal m n same runs on x found
-
-  commits_last : (s : Step) (m n : F) → m.now ≡ now → m.state ≡ Running → IsCommit name given s.asked → Legal of_files s m n → (x : Found (List ℕ))
-      → MayBeFound of_files n.state n.now x → Either x
-  commits_last s m n same runs is legal =
-      commit_found s.actor s.answer m n same runs (subst (λ (st : RunState (List ℕ)). ByState of_files st s.actor (asked.Commit name given) s.answer m n) runs
-      (subst (λ (step : Asked (List ℕ)). Legal of_files (record { actor = s.actor; asked = step; answer = s.answer }) m n) is legal))
-
-  pub passes : (first : ℕ) (xs : List Step) (m n : F) (run : Run of_files xs m n) → Good name given xs → m.now ≡ now → m.state ≡ Running → (x : Found (List ℕ))
+  pub passes : (xs : List Step) (m n : F) (run : Run of_files xs m n) → Good name given xs → m.now ≡ now → m.state ≡ Running → (x : Found (List ℕ))
       → IsPassedFrom of_files first xs m n run x → Either x
-  passes = passes_to now (IsCommit name given) Either (inl refl) commits_last
+  passes = passes_to now first (IsCommit name given) Either (λ low. inl (refl, low)) commits_last

@@ -1,5 +1,5 @@
 -- What the lines of a `restore`, a `delete` and a `list` come to, in a run of the machine of files: what the plain map makes of them.
-use Rattle.std.specs.Prelude.{◌≡◌, ◌⊎◌, ℕ, List as ListOf, [], ◌++◌, Some, None}
+use Rattle.std.specs.Prelude.{◌≡◌, ◌⊎◌, ◌≤◌, ℕ, List as ListOf, [], ◌++◌, Some, None}
 use Rattle.std.specs.FinMap as finite
 use Rattle.disk_format.specs.Cells.{IsName}
 use Rattle.refusals.specs.declared.refusal.Refusal.{Refusal}
@@ -89,8 +89,8 @@ ListRefusal refusal = ⊥
 -- else nothing.
 pub record ListedNames (rs : ListOf Replied) (now : Found (ListOf ℕ)) (n : FileMachine) : Type 0 where
   pub found : (x : Found (ListOf ℕ)) → MayBeFound of_files n.state n.now x → x ≡ now
-  pub text : (printed List [] rs ≡ []) ⊎ (printed List [] rs ≡ listing_text (listing of_files now))
   pub done : EndsWith (λ one. IsDone List one.reply) rs → printed List [] rs ≡ listing_text (listing of_files now)
+  pub undone : (EndsWith (λ one. IsDone List one.reply) rs → ⊥) → printed List [] rs ≡ []
   pub refused : (refusal : Refusal) → EndsRefused refusal rs → ListRefusal refusal
 
 abbrev pub ListsByMap : Type 0
@@ -98,18 +98,26 @@ ListsByMap = ByMap List ListedNames
 
 -- ---- at each moment of their steps
 
--- of what may be found then, P holds beside the names of before
-abbrev pub Through : Command → (Found (ListOf ℕ) → Found (ListOf ℕ) → Type 0) → Type 0
-Through command P = (first : ℕ) (rs : ListOf Replied) (ss : ListOf (Stepped (ListOf ℕ))) (m : FileMachine)
-    (e : Desk (ListOf ℕ) (ListOf (ListOf ℕ)))
+-- of what may be found then, P holds beside the least last number that it may have, and the names of before
+abbrev pub Through : Command → (ℕ → Found (ListOf ℕ) → Found (ListOf ℕ) → Type 0) → Type 0
+Through command P = (first : ℕ) (rs : ListOf Replied) (ss : ListOf (Stepped (ListOf ℕ))) (m : FileMachine) (e : Desk (ListOf ℕ) (ListOf (ListOf ℕ)))
     → m.state ≡ Running → AreLinesOf command rs → (ran : Lines of_files rs ss (desk m) e)
-    → (x : Found (ListOf ℕ)) → IsPassedFrom of_files first ss m e.machine (run_of of_files rs ss (desk m) e ran) x → P m.now x
+    → (x : Found (ListOf ℕ)) → IsPassedFrom of_files first ss m e.machine (run_of of_files rs ss (desk m) e ran) x → P first m.now x
+
+-- what was, where its last number isn't too low: so no longer than that nothing later was acknowledged
+abbrev pub IsStill : ℕ → Found (ListOf ℕ) → Found (ListOf ℕ) → Type 0
+IsStill first now x = (x ≡ now) × (first ≤ now.last)
+
+-- the name is gone, which had a file
+abbrev pub IsGone : ListOf ℕ → Found (ListOf ℕ) → Found (ListOf ℕ) → Type 0
+IsGone name now x =
+    (x ≡ without_name of_files name now) × IsName name × ((file : ListOf ℕ) × (finite.get now.names name ≡ Some file))
 
 abbrev pub RestoresThrough : Type 0
-RestoresThrough = (name : ListOf ℕ) → Through (Restore name) (λ now x. x ≡ now)
+RestoresThrough = (name : ListOf ℕ) → Through (Restore name) IsStill
 
 abbrev pub DeletesThrough : Type 0
-DeletesThrough = (name : ListOf ℕ) → Through (Delete name) (λ now x. (x ≡ now) ⊎ (x ≡ without_name of_files name now))
+DeletesThrough = (name : ListOf ℕ) → Through (Delete name) (λ first now x. IsStill first now x ⊎ IsGone name now x)
 
 abbrev pub ListsThrough : Type 0
-ListsThrough = Through List (λ now x. x ≡ now)
+ListsThrough = Through List IsStill

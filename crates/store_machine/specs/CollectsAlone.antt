@@ -1,6 +1,7 @@
 -- What the lines of a `collect` come to, in a run of the machine of files: the names stay, and what it gave back held nothing that they
 -- need.
 use Rattle.std.specs.Prelude.{◌≡◌, ◌≤◌, ℕ, List as ListOf, [], ◌∷◌, length, None}
+use Rattle.std.specs.List.{AllByRecursion}
 use Rattle.disk_format.specs.declared.numbers.TheConstants.{LAST_ID}
 use Rattle.refusals.specs.declared.refusal.Refusal.{Refusal}
 use Rattle.refusals.specs.declared.refusal.Refusal.TheVariants.{Memory, Numbers, DiskRead, DiskWrite}
@@ -9,8 +10,8 @@ use Rattle.script_lines.specs.ReplyValue as replies
 use Rattle.store_model.specs.Freeing.{FreesTo}
 use Rattle.store_model.specs.Image.{Store}
 use Rattle.store_model.specs.Reserve.{IsSpare}
-use Rattle.store_model.specs.Steps.{FreeContainer, StoreChange, changed}
-use Rattle.store_machine.specs.ByMap.{EndsRefused, FileMachine, Through}
+use Rattle.store_model.specs.Steps.{FlushContainer, FreeContainer, StoreChange, changed}
+use Rattle.store_machine.specs.ByMap.{EndsRefused, FileMachine, IsStill, Through}
 use Rattle.store_machine.specs.Collecting.{Makes, freed_in, keys_written}
 use Rattle.store_machine.specs.Commands.{AreLinesOf, Collect, EndsWith, IsDone, Lines, Replied, desk, printed}
 use Rattle.store_machine.specs.Lines.{Desk}
@@ -26,21 +27,29 @@ Spares now (FreeContainer slot ∷ more) store = IsSpare (NamesNeed of_files now
     × Spares now more (changed (FreeContainer slot) store)
 Spares now (change ∷ more) store = Spares now more (changed change store)
 
+-- a change that a collection makes
+abbrev pub IsOfSweep : StoreChange → Type 0
+IsOfSweep (FlushContainer id kind segments) = Unit {0}
+IsOfSweep (FreeContainer slot) = Unit {0}
+IsOfSweep change = ⊥
+
 -- The store that was there came to this one: the opening made room, where it had to; and then these changes were made, each where it could
 -- be.
 pub record Sweeps (changes : ListOf StoreChange) (m n : FileMachine) : Type 0 where
   pub opened : Store
   pub slots : ListOf ℕ
   pub room : FreesTo (NamesNeed of_files m.now) slots m.store opened
+  pub each : AllByRecursion IsOfSweep changes
   pub makes : Makes changes opened n.store
   pub spares : Spares m.now changes opened
 
--- so many containers were given back, and so many segments written, and no collection runs
+-- so many containers were given back, and so many segments written; the machine runs, and no collection does
 pub record HasSwept (freed copied : ℕ) (m n : FileMachine) : Type 0 where
   pub changes : ListOf StoreChange
   pub sweeps : Sweeps changes m n
   pub freed_is : freed ≡ freed_in changes
   pub copied_is : copied ≡ length (keys_written changes)
+  pub runs : n.state ≡ Running
   pub none_runs : n.collection ≡ None
 
 -- why one is refused: memory or the disk failed, or no id is left for copies
@@ -66,4 +75,4 @@ CollectsByMap = (percent : ℕ) (rs : ListOf Replied) (ss : ListOf (Stepped (Lis
     → m.state ≡ Running → AreLinesOf (Collect percent) rs → Lines of_files rs ss (desk m) e → CollectedAlone percent rs m e.machine
 
 abbrev pub CollectsThrough : Type 0
-CollectsThrough = (percent : ℕ) → Through (Collect percent) (λ now x. x ≡ now)
+CollectsThrough = (percent : ℕ) → Through (Collect percent) IsStill

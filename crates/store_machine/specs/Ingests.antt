@@ -22,9 +22,10 @@ IngestsByMap = (name : List ℕ) (rs : List Replied) (ss : List (Stepped (List �
     (e : Desk (List ℕ) (List (List ℕ))) → m.state ≡ Running → AreLinesOf (Ingest name) rs → Lines of_files rs ss (desk m) e
     → Ingested name (given_by 0 [] rs) rs m.now e.machine
 
--- So it is at each moment of their steps.
+-- So it is at each moment of their steps: what was, where its last number isn't too low; or with the file, where that and the name may be.
 abbrev pub IngestsThrough : Type 0
 IngestsThrough = (first : ℕ) (name : List ℕ) (rs : List Replied) (ss : List (Stepped (List ℕ))) (m : Machine (List ℕ) (List (List ℕ)))
     (e : Desk (List ℕ) (List (List ℕ))) → m.state ≡ Running → AreLinesOf (Ingest name) rs → (ran : Lines of_files rs ss (desk m) e)
     → (x : Found (List ℕ)) → IsPassedFrom of_files first ss m e.machine (run_of of_files rs ss (desk m) e ran) x
-    → (x ≡ m.now) ⊎ (x ≡ with_name of_files name (given_by 0 [] rs) m.now)
+    → ((x ≡ m.now) × (first ≤ m.now.last))
+    ⊎ ((x ≡ with_name of_files name (given_by 0 [] rs) m.now) × IsName name × (length (given_by 0 [] rs) ≤ MOST_FILE))

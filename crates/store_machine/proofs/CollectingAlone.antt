@@ -1,7 +1,5 @@
 -- The lines of a `collect` keep the names, and give back only what they don't need.
-use Rattle.std.proofs.Common.{◌≡◌, ◌≢◌, ◌⊎◌, inl, inr, ◌≤◌, ℕ, List as ListOf, [], ◌∷◌, ◌++◌, length, Option, Some, None, Result, Ok, Err, refl, sym, ◌∙◌, ap, subst}
-use Rattle.std.proofs.lemmas.List.{append-nil}
-use Rattle.disk_format.specs.declared.numbers.TheConstants.{LAST_ID}
+use Rattle.std.proofs.Common.{◌≡◌, inl, inr, ℕ, List as ListOf, [], ◌∷◌, ◌++◌, length, Some, None, Result, Ok, Err, refl, sym, ◌∙◌, ap, subst}
 use Rattle.refusals.specs.declared.refusal.Phase.{Phase}
 use Rattle.refusals.specs.declared.refusal.Phase.TheVariants as phases
 use Rattle.refusals.specs.declared.refusal.Refusal.{Refusal}
@@ -19,11 +17,11 @@ use Rattle.store_machine.specs.Asked.{Asked}
 use Rattle.store_machine.specs.Asked as asked
 use Rattle.store_machine.specs.ByMap.{FileMachine}
 use Rattle.store_machine.specs.Collecting.{Ends as EndsCollection, Goes, GoesOn, IsCollecting, Makes, Went, freed_in, keys_written}
-use Rattle.store_machine.specs.CollectsAlone.{CollectRefusal, CollectsByMap, HasSwept, Spares, Sweeps}
-use Rattle.store_machine.specs.Commands.{Collect, Follows, IsDone, Replied, desk, printed, text_of}
+use Rattle.store_machine.specs.CollectsAlone.{CollectRefusal, CollectsByMap, HasSwept, Spares}
+use Rattle.store_machine.specs.Commands.{Collect, Follows, IsDone, Replied, printed, text_of}
 use Rattle.store_machine.specs.Done.{Done}
 use Rattle.store_machine.specs.Done as done
-use Rattle.store_machine.specs.Legal.{Answers, ByState, Does, Legal, Refuses, RefusesGcStep, RefusesOn}
+use Rattle.store_machine.specs.Legal.{Answers, ByState, Does, Legal, RefusesGcStep, RefusesOn}
 use Rattle.store_machine.specs.Lines.{AreDid, Ends, IsLast, Line, reply_of, step_of}
 use Rattle.store_machine.specs.Machine.{Collection, Found, Idle, RunState, Running, Stopped}
 use Rattle.store_machine.specs.Needs.{IsNeeded, NamesNeed}

@@ -1,5 +1,5 @@
 -- The lines of a `delete` take the name away, or nothing.
-use Rattle.std.proofs.Common.{◌≡◌, ◌≢◌, ◌⊎◌, inl, inr, Bool, true, ℕ, List as ListOf, [], ◌∷◌, ◌++◌, Option, Some, None, is_some, Result, Ok, Err, refl, sym, ◌∙◌, ap, subst}
+use Rattle.std.proofs.Common.{◌≡◌, ◌⊎◌, inl, inr, true, ℕ, List as ListOf, [], ◌∷◌, ◌++◌, Option, Some, None, is_some, Result, Ok, Err, refl, sym, ◌∙◌, ap, subst}
 use Rattle.std.specs.FinMap as finite
 use Rattle.disk_format.specs.Cells.{IsName}
 use Rattle.refusals.specs.declared.refusal.Refusal.{Refusal}
@@ -11,12 +11,12 @@ use Rattle.script_lines.specs.ReplyValue as replies
 use Rattle.store_machine.specs.Asked.{Asked}
 use Rattle.store_machine.specs.Asked as asked
 use Rattle.store_machine.specs.ByMap.{DeleteRefusal, DeletesByMap, FileMachine}
-use Rattle.store_machine.specs.Commands.{Delete, Follows, IsDone, Replied, desk, printed, text_of}
+use Rattle.store_machine.specs.Commands.{Delete, Follows, IsDone, Replied, printed, text_of}
 use Rattle.store_machine.specs.Done.{Done}
 use Rattle.store_machine.specs.Done as done
-use Rattle.store_machine.specs.Legal.{Answers, Does, HasName, LacksNumbers, Refuses, RefusesDelete, without_name}
+use Rattle.store_machine.specs.Legal.{Answers, Does, Refuses, RefusesDelete, without_name}
 use Rattle.store_machine.specs.Lines.{Ends, Line, reply_of}
-use Rattle.store_machine.specs.Machine.{Found, Idle, RunState, Running, Stopped}
+use Rattle.store_machine.specs.Machine.{Found, Idle, Running, Stopped}
 use Rattle.store_machine.specs.Opening.{MayBeFound}
 use Rattle.store_machine.specs.Values.{of_files}
 use Rattle.store_machine.proofs.Passing.{sure_found}

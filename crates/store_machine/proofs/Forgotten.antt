@@ -267,7 +267,7 @@ module _ (m : F) (r : G) (same : Forgets m r) where
 
   -- ---- a collection
 
-  abbrev started : (percent snapshot : ℕ) → Collection (List ℕ)
+  abbrev pub started : (percent snapshot : ℕ) → Collection (List ℕ)
   started percent snapshot = record {
     percent = percent;
     snapshot = snapshot;
@@ -278,7 +278,7 @@ module _ (m : F) (r : G) (same : Forgets m r) where
     keys = keys_kept m.parts;
   }
 
-  abbrev root_started : (percent snapshot : ℕ) → Collection Root
+  abbrev pub root_started : (percent snapshot : ℕ) → Collection Root
   root_started percent snapshot = record {
     percent = percent;
     snapshot = snapshot;
@@ -301,12 +301,14 @@ module _ (m : F) (r : G) (same : Forgets m r) where
     keys = keys_same m.parts r.parts same.parts i;
   }
 
+  pub begun_same : (percent snapshot : ℕ) → root_started percent snapshot ≡ forget_collection (started percent snapshot)
+  begun_same percent snapshot = started_same percent snapshot
+      (ap (λ (vs : List Root). vs ++ values_read r.parts) (values_same m.now r.now same.now)
+      ∙ ap (λ (vs : List Root). map root_of (finite.values m.now.names) ++ vs) (read_same m.parts r.parts same.parts)
+      ∙ sym (map_two (finite.values m.now.names) (values_read m.parts)))
+
   begun : (percent snapshot : ℕ) (n : F) → Begins of_files percent snapshot m n → Left (λ t. Begins of_roots percent snapshot r t) n
   begun percent snapshot n (none, is, others) =
-      let values_are : finite.values r.now.names ++ values_read r.parts ≡ map root_of (finite.values m.now.names ++ values_read m.parts) =
-      ap (λ (vs : List Root). vs ++ values_read r.parts) (values_same m.now r.now same.now)
-      ∙ ap (λ (vs : List Root). map root_of (finite.values m.now.names) ++ vs) (read_same m.parts r.parts same.parts)
-      ∙ sym (map_two (finite.values m.now.names) (values_read m.parts)) in
       goes (λ t. Begins of_roots percent snapshot r t) n (record m { collection = Some (started percent snapshot) })
       (record r { collection = Some (root_started percent snapshot) }) others
       (none_runs none, is ∙ ap suc (sym same.last_id), refl)
@@ -317,7 +319,7 @@ module _ (m : F) (r : G) (same : Forgets m r) where
         last_id = same.last_id;
         forgotten = same.forgotten;
         swept = same.swept;
-        collection = ap Some (started_same percent snapshot values_are);
+        collection = ap Some (begun_same percent snapshot);
         acknowledged = same.acknowledged;
         state = same.state;
       })
@@ -673,7 +675,7 @@ module _ (m : F) (r : G) (same : Forgets m r) where
   refused_on a asked.GcStep refusal n refuses = uncollected refusal n refuses
   refused_on a step refusal n refuses = absurd refuses
 
-  taken_same : (step : Asked (List ℕ)) → taken_by (asked_of step) ≡ taken_by step
+  pub taken_same : (step : Asked (List ℕ)) → taken_by (asked_of step) ≡ taken_by step
   taken_same asked.Begin = refl
   taken_same (asked.Claim seg) = refl
   taken_same (asked.Seal filled) = refl
@@ -761,7 +763,7 @@ module _ (m : F) (r : G) (same : Forgets m r) where
       })
       (record { now = found.1; parts = all_same ACTORS; store = refl; last_id = refl; forgotten = refl; swept = refl; collection = refl; acknowledged = refl; state = tt })
 
-  still_same : (stores : List Store) (s : RunState (List ℕ)) (u : RunState Root) → SameState s u → SameState (freeing of_files stores s) (freeing of_roots stores u)
+  pub still_same : (stores : List Store) (s : RunState (List ℕ)) (u : RunState Root) → SameState s u → SameState (freeing of_files stores s) (freeing of_roots stores u)
   still_same stores Running Running one = refl
   still_same stores Running (Stopped other now) one = absurd one
   still_same stores (Stopped None before) Running one = absurd one

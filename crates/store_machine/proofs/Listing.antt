@@ -1,5 +1,5 @@
 -- The lines of a `list` print the names, and change nothing.
-use Rattle.std.proofs.Common.{◌≡◌, ◌⊎◌, inl, inr, ℕ, List as ListOf, [], ◌∷◌, ◌++◌, Option, Some, None, Result, Ok, Err, refl, sym, ◌∙◌, ap, subst}
+use Rattle.std.proofs.Common.{◌≡◌, ◌⊎◌, inl, inr, ℕ, List as ListOf, [], ◌∷◌, ◌++◌, Some, None, Result, Ok, Err, refl, sym, ◌∙◌, ap, subst}
 use Rattle.refusals.specs.declared.refusal.Refusal.{Refusal}
 use Rattle.refusals.specs.declared.refusal.Refusal.TheVariants as refusals
 use Rattle.reply_text.specs.Text.{listing_text}
@@ -10,7 +10,7 @@ use Rattle.script_lines.specs.ReplyValue as replies
 use Rattle.store_machine.specs.Asked.{Asked}
 use Rattle.store_machine.specs.Asked as asked
 use Rattle.store_machine.specs.ByMap.{FileMachine, ListRefusal, ListsByMap}
-use Rattle.store_machine.specs.Commands.{Follows, IsDone, List, Replied, desk, printed, text_of}
+use Rattle.store_machine.specs.Commands.{Follows, IsDone, List, Replied, printed, text_of}
 use Rattle.store_machine.specs.Done.{Done}
 use Rattle.store_machine.specs.Done as done
 use Rattle.store_machine.specs.Legal.{Answers, Does, Refuses, listing}

@@ -16,7 +16,7 @@ use Rattle.store_machine.specs.Done.{Done}
 use Rattle.store_machine.specs.Done as done
 use Rattle.store_machine.specs.Legal.{Answers, ByState, Does, Legal, Refuses, RefusesDelete, without_name}
 use Rattle.store_machine.specs.Lines.{AreDid, Ends, Line, reply_of, step_of}
-use Rattle.store_machine.specs.Machine.{Found, RunState, Running, Stopped}
+use Rattle.store_machine.specs.Machine.{Found, RunState, Running}
 use Rattle.store_machine.specs.Opening.{MayBeFound}
 use Rattle.store_machine.specs.Values.{of_files}
 use Rattle.store_machine.proofs.Ingesting.{run_one}

@@ -1,5 +1,5 @@
 -- Parts and collections of a machine of files and of one of roots that has forgotten the rest.
-use Rattle.std.proofs.Common.{◌≡◌, ℕ, zero, suc, true, List, [], ◌∷◌, ◌++◌, map, replicate, slice_index_or, slice_set, is_some, Option, Some, None, option_map, refl, ◌∙◌, ap, subst}
+use Rattle.std.proofs.Common.{◌≡◌, ℕ, zero, suc, true, List, [], ◌∷◌, ◌++◌, map, replicate, slice_index_or, slice_set, is_some, Option, Some, None, option_map, refl, sym, ◌∙◌, ap, subst}
 use Rattle.std.specs.FinMap as finite
 use Rattle.actor_parts.specs.PinMap.{PinMap}
 use Rattle.disk_format.specs.Cells.{Root}
@@ -81,6 +81,59 @@ reading_same (Reading own left) (Reading root tops) file rest same is =
     let left_is : left ≡ rest = cc in
     (tops, ap (λ (x : Root). Reading x tops) (same.0 ∙ ap root_of own_is), subst (λ (l : List (List ℕ)). Rests l tops) left_is same.1)
 
+-- ---- parts, from those of roots
+
+pub idle_back : (p : FilePart) (q : RootPart) → SamePart p q → q ≡ Idle → p ≡ Idle
+idle_back Idle q same is = refl
+idle_back (Writing pins) Idle same is = absurd same
+idle_back (Writing pins) (Writing others) same is = absurd (let wrong : Writing others ≡ Idle = is in cc)
+idle_back (Writing pins) (Reading root tops) same is = absurd same
+idle_back (Reading file rest) Idle same is = absurd same
+idle_back (Reading file rest) (Writing pins) same is = absurd same
+idle_back (Reading file rest) (Reading root tops) same is = absurd (let wrong : Reading root tops ≡ Idle = is in cc)
+
+pub writing_back : (p : FilePart) (q : RootPart) (pins : PinMap) → SamePart p q → q ≡ Writing pins → p ≡ Writing pins
+writing_back p Idle pins same is = absurd (let wrong : Idle ≡ Writing pins = is in cc)
+writing_back Idle (Writing others) pins same is = absurd same
+writing_back (Writing own) (Writing others) pins same is =
+    let others_is : others ≡ pins = cc in ap Writing (sym same ∙ others_is)
+writing_back (Reading file rest) (Writing others) pins same is = absurd same
+writing_back p (Reading root tops) pins same is = absurd (let wrong : Reading root tops ≡ Writing pins = is in cc)
+
+-- what a reader of roots reads is the root of a file that one of files reads
+pub record ReadsFile (p : FilePart) (root : Root) (tops : List Top) : Type 0 where
+  pub file : List ℕ
+  pub rest : List (List ℕ)
+  pub reads : p ≡ Reading file rest
+  pub root_is : root ≡ root_of file
+  pub rests : Rests rest tops
+
+pub reading_back : (p : FilePart) (q : RootPart) (root : Root) (tops : List Top) → SamePart p q → q ≡ Reading root tops → ReadsFile p root tops
+reading_back p Idle root tops same is = absurd (let wrong : Idle ≡ Reading root tops = is in cc)
+reading_back p (Writing pins) root tops same is = absurd (let wrong : Writing pins ≡ Reading root tops = is in cc)
+reading_back Idle (Reading own left) root tops same is = absurd same
+reading_back (Writing pins) (Reading own left) root tops same is = absurd same
+reading_back (Reading file rest) (Reading own left) root tops same is =
+    let own_is : own ≡ root = cc in
+    let left_is : left ≡ tops = cc in
+    record { file = file; rest = rest; reads = refl; root_is = sym own_is ∙ same.0; rests = subst (Rests rest) left_is same.1 }
+
+-- an actor is at this, as is told of it once it is put there
+pub set_told : (ps : List FilePart) (qs : List RootPart) (i : ℕ) (p : FilePart) (q : RootPart) → SameParts ps qs → SamePart p (slice_index_or (slice_set qs i q) i Idle)
+    → SameParts (slice_set ps i p) (slice_set qs i q)
+set_told [] [] i p q same one = tt
+set_told [] (y ∷ qs) i p q same one = absurd same
+set_told (x ∷ ps) [] i p q same one = absurd same
+set_told (x ∷ ps) (y ∷ qs) zero p q same one = (one, same.1)
+set_told (x ∷ ps) (y ∷ qs) (suc i) p q same one = (same.0, set_told ps qs i p q same.1 one)
+
+-- where one is at something, it is at what it is put to
+pub put_told : {V R : Type 0} (qs : List (Part V R)) (i : ℕ) (value : V) (rest : R) (q : Part V R) → slice_index_or qs i Idle ≡ Reading value rest
+    → slice_index_or (slice_set qs i q) i Idle ≡ q
+put_told [] i value rest q is = absurd (let wrong : Idle ≡ Reading value rest = is in cc)
+put_told (y ∷ qs) zero value rest q is = refl
+put_told (y ∷ qs) (suc i) value rest q is = put_told qs i value rest q is
+
 -- ---- the collection
 
 pub kept_map : (keys : List (List ℕ)) (o : Option (Collection (List ℕ))) → keeping keys (option_map forget_collection o) ≡ option_map forget_collection (keeping keys o)
@@ -124,6 +177,23 @@ map_two (x ∷ xs) ys = ap (λ (rs : List Root). root_of x ∷ rs) (map_two xs y
 pub collecting : (phase : Phase) (store : Store) (o : Option (Collection (List ℕ))) → IsCollecting phase store o → IsCollecting phase store (option_map forget_collection o)
 collecting phase store None is = absurd is
 collecting phase store (Some c) is = is
+
+pub collecting_back : (phase : Phase) (store : Store) (o : Option (Collection (List ℕ))) → IsCollecting phase store (option_map forget_collection o) → IsCollecting phase store o
+collecting_back phase store None is = absurd is
+collecting_back phase store (Some c) is = is
+
+pub none_left : (o : Option (Collection (List ℕ))) → option_map forget_collection o ≡ None → o ≡ None
+none_left None is = refl
+none_left (Some c) is = absurd (let wrong : Some (forget_collection c) ≡ None = is in cc)
+
+pub one_left : (o : Option (Collection (List ℕ))) (d : Collection Root) → option_map forget_collection o ≡ Some d
+    → (c : Collection (List ℕ)) × (o ≡ Some c) × (d ≡ forget_collection c)
+one_left None d is = absurd (let wrong : None ≡ Some d = is in cc)
+one_left (Some c) d is = (c, refl, let same : forget_collection c ≡ d = cc in sym same)
+
+pub some_back : (o : Option (Collection (List ℕ))) → is_some (option_map forget_collection o) ≡ true → is_some o ≡ true
+some_back None is = is
+some_back (Some c) is = is
 
 pub some_left : (o : Option (Collection (List ℕ))) → is_some o ≡ true → is_some (option_map forget_collection o) ≡ true
 some_left None is = is

@@ -1,13 +1,11 @@
 -- The lines of a `restore` print the file of the name, or a first part of it, and change nothing.
-use Rattle.std.proofs.Common.{◌≡◌, ◌≢◌, inl, inr, Bool, true, false, ◌<◌, ℕ, List as ListOf, [], ◌∷◌, ◌++◌, length, slice_index_or, slice_set, Option, Some, None, Result, Ok, Err, refl, sym, ◌∙◌, ap, subst, arith}
+use Rattle.std.proofs.Common.{◌≡◌, inl, inr, ◌<◌, ℕ, List as ListOf, [], ◌∷◌, ◌++◌, length, slice_index_or, slice_set, Option, Some, None, Result, Ok, Err, refl, sym, ◌∙◌, ap, subst, arith}
 use Rattle.std.specs.List.{concat}
 use Rattle.std.specs.FinMap as finite
 use Rattle.std.proofs.lemmas.List.{append-nil, append_assoc}
-use Rattle.disk_format.specs.Cells.{IsName}
 use Rattle.refusals.specs.declared.refusal.PartKind.TheVariants as kinds
 use Rattle.refusals.specs.declared.refusal.Refusal.{Refusal}
 use Rattle.refusals.specs.declared.refusal.Refusal.TheVariants as refusals
-use Rattle.segmenter.specs.Segments.{segments_of}
 use Rattle.segmenter.proofs.SegmentLemmas.{segments_of-laws}
 use Rattle.script_lines.specs.Grammar.{LineValue}
 use Rattle.script_lines.specs.Grammar as lines
@@ -15,13 +13,13 @@ use Rattle.script_lines.specs.ReplyValue.{ReplyValue}
 use Rattle.script_lines.specs.ReplyValue as replies
 use Rattle.store_machine.specs.Asked.{Asked}
 use Rattle.store_machine.specs.Asked as asked
-use Rattle.store_machine.specs.ByMap.{FileMachine, IsPartOfFile, RestoreRefusal, RestoredFile, RestoresByMap}
-use Rattle.store_machine.specs.Commands.{Follows, IsDone, Lines, Replied, Restore, desk, printed, text_of}
+use Rattle.store_machine.specs.ByMap.{FileMachine, IsPartOfFile, RestoreRefusal, RestoresByMap}
+use Rattle.store_machine.specs.Commands.{Follows, IsDone, Replied, Restore, printed, text_of}
 use Rattle.store_machine.specs.Done.{Done}
 use Rattle.store_machine.specs.Done as done
 use Rattle.store_machine.specs.Legal.{Answers, Does, Refuses}
 use Rattle.store_machine.specs.Lines.{Ends, Line, Session, reply_of}
-use Rattle.store_machine.specs.Machine.{Found, Machine, Part, Idle, Reading, kind_of, part_in, put_at}
+use Rattle.store_machine.specs.Machine.{Found, Part, Idle, Reading, kind_of, part_in, put_at}
 use Rattle.store_machine.specs.Opening.{MayBeFound}
 use Rattle.store_machine.specs.Values.{StaysAt, of_files}
 use Rattle.store_machine.specs.Runs.{Run}

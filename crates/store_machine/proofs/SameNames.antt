@@ -110,6 +110,23 @@ module _ (files : Found (List ℕ)) (roots : Found Root) (same : SameNow files r
   pub some_same : (name file : List ℕ) → finite.get files.names name ≡ Some file → finite.get roots.names name ≡ Some (root_of file)
   some_same name file is = same.get_is name ∙ ap (option_map root_of) is
 
+  -- ---- from those of roots
+
+  none_map : (o : Option (List ℕ)) → option_map root_of o ≡ None → o ≡ None
+  none_map None is = refl
+  none_map (Some file) is = absurd (let wrong : Some (root_of file) ≡ None = is in cc)
+
+  pub none_back : (name : List ℕ) → finite.get roots.names name ≡ None → finite.get files.names name ≡ None
+  none_back name none = none_map (finite.get files.names name) (sym (same.get_is name) ∙ none)
+
+  file_map : (o : Option (List ℕ)) (root : Root) → option_map root_of o ≡ Some root → (file : List ℕ) × (o ≡ Some file) × (root ≡ root_of file)
+  file_map None root is = absurd (let wrong : None ≡ Some root = is in cc)
+  file_map (Some file) root is = (file, refl, let same : root_of file ≡ root = cc in sym same)
+
+  pub file_back : (name : List ℕ) (root : Root) → finite.get roots.names name ≡ Some root
+      → (file : List ℕ) × (finite.get files.names name ≡ Some file) × (root ≡ root_of file)
+  file_back name root is = file_map (finite.get files.names name) root (sym (same.get_is name) ∙ is)
+
   -- ---- commands
 
   get_put : (b : Bool) (file : List ℕ) (o : Option (List ℕ)) → cond b (Some (root_of file)) (option_map root_of o) ≡ option_map root_of (cond b (Some file) o)

@@ -1,7 +1,6 @@
 -- Commands of which each line is one step of the first actor: what is so after each line, and so at the end.
-use Rattle.std.proofs.Common.{◌≡◌, ◌⊎◌, inl, inr, ◌<◌, ℕ, Bool, true, false, List as ListOf, [], ◌∷◌, ◌++◌, length, Option, Some, None, Result, Ok, Err, refl, sym, ◌∙◌, ap, subst, arith}
+use Rattle.std.proofs.Common.{◌≡◌, ◌⊎◌, inl, inr, ◌<◌, ℕ, true, false, List as ListOf, [], ◌∷◌, ◌++◌, length, Option, Some, None, Result, Ok, Err, refl, sym, ◌∙◌, ap, subst, arith}
 use Rattle.std.proofs.lemmas.List.{append-nil, append_assoc}
-use Rattle.refusals.specs.declared.refusal.PartKind.{PartKind}
 use Rattle.refusals.specs.declared.refusal.Refusal.{Refusal}
 use Rattle.refusals.specs.declared.refusal.Refusal.TheVariants as refusals
 use Rattle.script_lines.specs.Grammar.{LineValue}
@@ -18,7 +17,7 @@ use Rattle.store_machine.specs.Done.{Done}
 use Rattle.store_machine.specs.Done as done
 use Rattle.store_machine.specs.Legal.{Answers, ByState, Legal}
 use Rattle.store_machine.specs.Lines.{Bars, Desk, Ends, Line, Session, actor_of, all_none, kind_at, kind_by, reply_of, session_of, step_of, takes, unless_refused}
-use Rattle.store_machine.specs.Machine.{Found, Machine, Part, Idle, RunState, Running, Stopped, Stepped, kind_of, part_in}
+use Rattle.store_machine.specs.Machine.{Found, Part, Idle, RunState, Running, Stopped, Stepped, kind_of, part_in}
 use Rattle.store_machine.specs.Needs.{NamesNeed}
 use Rattle.store_machine.specs.Opening.{MayBeFound, MayRefuseOpening, Reopens, Stands, freeing}
 use Rattle.store_machine.specs.Runs.{Run}

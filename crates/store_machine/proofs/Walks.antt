@@ -124,6 +124,14 @@ none_left (t ∷ others) tops ahead is = absurd (let leads = lead_tree t others 
 pub ends_both : (tops : List Top) → Rests [] tops → tops ≡ []
 ends_both tops rests = none_left rests.trees tops rests.ahead rests.segments
 
+no_segments : (ts : List (Tree (List ℕ))) (tops : List Top) → Ahead tops ts → tops ≡ [] → segments_in ts ≡ []
+no_segments [] tops ahead none = refl
+no_segments (t ∷ others) tops ahead none =
+    absurd (let wrong : root_of of_segment t ∷ map (root_of of_segment) others ≡ [] = sym ahead.tops ∙ none in cc)
+
+pub ends_back : (rest : List (List ℕ)) (tops : List Top) → Rests rest tops → tops ≡ [] → rest ≡ []
+ends_back rest tops rests none = rests.segments ∙ no_segments rests.trees tops rests.ahead none
+
 some_left : (ts : List (Tree (List ℕ))) (tops : List Top) → Ahead tops ts → (bytes : List ℕ) (rest : List (List ℕ)) → bytes ∷ rest ≡ segments_in ts
     → (t : Top) × ((more : List Top) × (tops ≡ t ∷ more))
 some_left [] tops ahead bytes rest is = absurd (let wrong : bytes ∷ rest ≡ [] = is in cc)

@@ -1,6 +1,6 @@
 -- What the lines of a `collect` come to, in a run of the machine of files: the names stay, and what it gave back held nothing that they
 -- need.
-use Rattle.std.specs.Prelude.{◌≡◌, ◌⊎◌, ◌≤◌, ℕ, List as ListOf, [], ◌∷◌, length, None}
+use Rattle.std.specs.Prelude.{◌≡◌, ◌≤◌, ℕ, List as ListOf, [], ◌∷◌, length, None}
 use Rattle.disk_format.specs.declared.numbers.TheConstants.{LAST_ID}
 use Rattle.refusals.specs.declared.refusal.Refusal.{Refusal}
 use Rattle.refusals.specs.declared.refusal.Refusal.TheVariants.{Memory, Numbers, DiskRead, DiskWrite}

@@ -4,6 +4,7 @@ ghost use Rattle.store_machine.specs.CollectsAlone.{CollectsByMap, CollectsThrou
 ghost use Rattle.store_machine.specs.Collected.{CollectsWhatItSelected};
 ghost use Rattle.store_machine.specs.Forgetting.{RunsAreForgotten, StepsAreForgotten};
 ghost use Rattle.store_machine.specs.Ingests.{IngestsByMap, IngestsThrough};
+ghost use Rattle.store_machine.specs.Remembering.{AddsNoMore, StepsAreRemembered};
 ghost use Rattle.store_machine.specs.Values.{of_files};
 
 /// A step of the machine of files is one of the machine of roots, once all but the roots of its files is forgotten; and so is a run of
@@ -11,6 +12,14 @@ ghost use Rattle.store_machine.specs.Values.{of_files};
 pub fn runs_are_forgotten()
     ensures steps { StepsAreForgotten }
     ensures runs { RunsAreForgotten }
+{}
+
+/// A step of the machine of roots is one of the machine of files that it has forgotten, where what the content of a disk adds to it is so;
+/// and it has forgotten what that leaves. So what is proved of the machine of roots, on any disk, need not be proved again of that of
+/// files, but for what the content adds; and that is no more than is so of each step of the machine of files. The function does nothing.
+pub fn steps_are_remembered()
+    ensures steps { StepsAreRemembered }
+    ensures no_more { AddsNoMore }
 {}
 
 /// After the lines of an `ingest`, and whatever they were refused by, the names that may be found are those of before, or these with the

@@ -1,10 +1,7 @@
 -- Steps of a core, one after the other, are a run of the machine of roots.
-use Rattle.std.proofs.Common.{List, [], ◌∷◌, refl, subst, sym}
-use Rattle.disk_format.specs.Cells.{Root}
-use Rattle.merkle_file.specs.declared.top.Top.{Top}
+use Rattle.std.proofs.Common.{[], ◌∷◌, refl, subst, sym}
 use Rattle.store_core.specs.State.{CoreState}
 use Rattle.store_core.proofs.RunningOn.{step_runs}
-use Rattle.store_machine.specs.Machine.{Machine}
 use Rattle.core_machine.specs.Refines.{IsMachine}
 use Rattle.core_machine.specs.Runs.{RunsRefine}
 use Rattle.core_machine.proofs.Refined.{core_refines}

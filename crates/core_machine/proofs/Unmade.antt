@@ -74,13 +74,16 @@ Unmade phase (refusals.Missing key) = IsScanned phase
 Unmade phase (refusals.Damaged at why) = IsRead phase
 Unmade phase refusal = ⊥
 
--- ---- a container is not scanned
+-- ---- a header is not given
 
-header_unmade : (t : SlotTable) (old new : DiskView) (slot : ℕ) (refusal : Refusal) → IsHeaderRefusal t old new slot refusal → Unmade phases.Mark refusal
-header_unmade t old new slot refusals.Memory is = tt
-header_unmade t old new slot refusals.DiskRead is = tt
-header_unmade t old new slot (refusals.Damaged at why) is = tt
-header_unmade t old new slot refusal is = absurd is
+header_unmade : (phase : Phase) → IsRead phase → (t : SlotTable) (old new : DiskView) (slot : ℕ) (refusal : Refusal) → IsHeaderRefusal t old new slot refusal
+    → Unmade phase refusal
+header_unmade phase may t old new slot refusals.Memory is = tt
+header_unmade phase may t old new slot refusals.DiskRead is = may
+header_unmade phase may t old new slot (refusals.Damaged at why) is = may
+header_unmade phase may t old new slot refusal is = absurd is
+
+-- ---- a container is not scanned
 
 fault_unmade : (fault : ScanFault) → Unmade phases.Mark (step_refusal fault)
 fault_unmade faults.DiskRead = tt
@@ -91,7 +94,7 @@ fault_unmade faults.Memory = tt
 
 mark_unmade : (t : SlotTable) (known : Option PlaceMap) (old new : DiskView) (level slot : ℕ) (live : LiveKeys) (refusal : Refusal)
     → IsMarkRefusal t known old new level slot live refusal → Unmade phases.Mark refusal
-mark_unmade t known old new level slot live refusal (inl header) = header_unmade t old new slot refusal header
+mark_unmade t known old new level slot live refusal (inl header) = header_unmade phases.Mark tt t old new slot refusal header
 mark_unmade t known old new level slot live refusal (inr stops) = subst (Unmade phases.Mark) (sym stops.refusal_is) (fault_unmade stops.fault)
 
 -- ---- nor recorded
@@ -125,12 +128,6 @@ abbrev Broken : Refusal → Type 0
 Broken refusals.DiskWrite = Unit {0}
 Broken refusal = ⊥
 
-copied_header : (t : SlotTable) (old new : DiskView) (slot : ℕ) (refusal : Refusal) → IsHeaderRefusal t old new slot refusal → Unmade phases.Copy refusal
-copied_header t old new slot refusals.Memory is = tt
-copied_header t old new slot refusals.DiskRead is = tt
-copied_header t old new slot (refusals.Damaged at why) is = tt
-copied_header t old new slot refusal is = absurd is
-
 removed_unmade : (known : Option PlaceMap) (refusal : Refusal) → IsRemoveRefusal known refusal → Unmade phases.Copy refusal ⊎ Broken refusal
 removed_unmade known refusals.DiskWrite is = inr tt
 removed_unmade known (refusals.Damaged at why) is = inl tt
@@ -138,7 +135,7 @@ removed_unmade known refusal is = absurd is
 
 copy_by : (t : SlotTable) (known : Option PlaceMap) (live : LiveKeys) (slot from : ℕ) (filling : Contents) (old new : DiskView) (refusal : Refusal)
     → IsCopyRefusal t known live slot from filling old new refusal → Unmade phases.Copy refusal ⊎ Broken refusal
-copy_by t known live slot from filling old new refusal (inl (inl header)) = inl (copied_header t old new slot refusal header)
+copy_by t known live slot from filling old new refusal (inl (inl header)) = inl (header_unmade phases.Copy tt t old new slot refusal header)
 copy_by t known live slot from filling old new refusal (inl (inr (h, tabled, shown, kind, within, plan))) = inl (plan_unmade _ _ _ _ refusal plan)
 copy_by t known live slot from filling old new refusal (inr removed) = removed_unmade known refusal removed
 

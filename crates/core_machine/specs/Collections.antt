@@ -28,8 +28,8 @@ HasCopied phase swept = Unit {0}
 
 -- The sweep of the machine, of these sources and with these changes so far, is that of the core: the core has slots where the machine has
 -- ids, and the segments that are to be written where it has their keys.
-pub record SameSweep (t : SlotTable) (swept : Bool) (sources : List ℕ) (changes : List StoreChange) (next : Phase) (s : Sweep) (k : CoreSweep)
-    : Type 0 where
+pub record SameSweep (t : SlotTable) (swept : Bool) (sources : List ℕ) (changes : List StoreChange) (next : Phase) (s : Sweep)
+    (k : CoreSweep) : Type 0 where
   pub next_is : next ≡ phase_at core.Sweep k.next
   pub sources_are : k.sources.items ≡ sources
   pub source_is : s.source ≡ sources_before k k.next

@@ -108,4 +108,5 @@ answered_by (Err refusal) buf = Err refusal
 abbrev pub CoreRefines : (C : Type 0) → (C → CoreState) → Type 0
 CoreRefines C state = (e : Event) (old new : C) (m : Machine Root (List Top)) → IsRunning (state old) → IsMachine m (state old)
     → CoreStep (state old) e (state new) → (n : Machine Root (List Top))
-    × (Legal of_roots (record { actor = e.actor; asked = asked_by e.step; answer = answered_by e.answer e.buf }) m n × IsMachine n (state new))
+    × (Legal of_roots (record { actor = e.actor; asked = asked_by e.step; answer = answered_by e.answer e.buf }) m n
+    × IsMachine n (state new))

@@ -8,8 +8,8 @@ ghost use Rattle.core_machine.specs.Runs.{RunsRefine};
 use dd_disk::Disk;
 use store_core::HasState;
 
-/// On any disk, also one that tells nothing, or lies: what a core does by a step, done or refused, the machine of roots may do, and they fit
-/// one another then as before; so steps of any actors are a run of the machine. The function does nothing.
+/// On any disk, also one that tells nothing, or lies: what a core does by a step, done or refused, the machine of roots may do, and they
+/// fit one another then as before; so steps of any actors are a run of the machine. The function does nothing.
 pub fn a_core_is_the_machine<C: HasState>()
     ensures steps { CoreRefines C C.state }
     ensures runs { RunsRefine C C.state }

@@ -311,9 +311,9 @@ module _ (loans loans_now : List ℕ) (v w : DiskView) where
     kept_left command ending among m (inl is) = inl is
     kept_left command ending among m (inr is) = inr (record { not_done = is.not_done; content = is.content; images = is.images })
 
-    found_so : {percent : ℕ} → FindsBeforeWriting (Collect percent) lent lent_now → FindsBeforeWriting (Collect percent) v w
-    found_so (inl same) = inl (record { content = same.content; images = same.images; between = same.between })
-    found_so (inr (is, names)) = inr (holds is, names_so is.store names)
+    found_so : (percent : ℕ) → FindsBeforeWriting (Collect percent) lent lent_now → FindsBeforeWriting (Collect percent) v w
+    found_so percent (inl same) = inl (record { content = same.content; images = same.images; between = same.between })
+    found_so percent (inr (is, names)) = inr (holds is, names_so is.store names)
 
     map_kept : (command : CommandLine) (ending : Option Ending) → KeepsEachMap command given ending lent lent_now sink sink_now → KeepsEachMap command given ending v w sink sink_now
     map_kept command ending each = λ old told among m apart segments is.
@@ -408,7 +408,7 @@ module _ (loans loans_now : List ℕ) (v w : DiskView) where
         sink_faults = is.any.sink_faults;
       };
       frame = frame_kept (Collect percent) ending is.frame;
-      found = found_so is.found;
+      found = found_so percent is.found;
       blank = is.blank;
       untouched = is.untouched;
     }

@@ -213,14 +213,17 @@ module _ (percent : ℕ) (v w : DiskView) (source : SourceView) (sink : SinkView
           let slot_is : other ≡ slot = is.0 ∙ same in
           inr (
             holds,
-            inr (inr (inl (record {
-              slot = slot;
-              header = h;
-              shown = there;
-              entry = e;
-              one_of = one_of;
-              cause = (slot_is, is.1, is.2, is.3, is.4, found_since (data_at other + offset) count got (omega (arith, slot_is, is.1)) is.2 is.5);
-            }, names))),
+            inr (inr (inl (
+              record {
+                slot = slot;
+                header = h;
+                shown = there;
+                entry = e;
+                one_of = one_of;
+                cause = (slot_is, is.1, is.2, is.3, is.4, found_since (data_at other + offset) count got (omega (arith, slot_is, is.1)) is.2 is.5);
+              },
+              names,
+            ))),
           )
       one_cause s buffer refusal known same cause = absurd cause.1.1
 

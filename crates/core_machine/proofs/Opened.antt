@@ -105,9 +105,9 @@ module _ (before : DiskView) (c : CoreState) (read : IsReadFrom before c) (runs 
 module _ (D : Type 0) (view : D → DiskView) (C : Type 0) (state : C → CoreState) where
   pub opened_refines : OpenedRefines D view C state
   opened_refines actor before c (inl read) runs =
-      (at_rest read.opened.store, (rests (view before) (state c) read runs, comes (view before) (state c) read runs actor))
+      (at_rest read.opened.store, (rests (view before) (state c) read runs, refl, comes (view before) (state c) read runs actor))
   opened_refines actor before c (inr (mid, (made, read))) runs =
-      (at_rest read.opened.store, (rests (view mid) (state c) read runs, comes (view mid) (state c) read runs actor))
+      (at_rest read.opened.store, (rests (view mid) (state c) read runs, refl, comes (view mid) (state c) read runs actor))
 
 -- ---- one that was not
 

@@ -1,10 +1,12 @@
 -- A core that is opened, at first or again, on any disk, as the machine of roots.
-use Rattle.std.specs.Prelude.{ℕ, List, Result, Ok, Err}
+use Rattle.std.specs.Prelude.{◌≡◌, ℕ, List, Result, Ok, Err}
+use Rattle.std.proofs.Common.{inl, inr}
 use Rattle.std.specs.FinMap as finite
 use Rattle.disk_format.specs.Cells.{Root}
 use Rattle.dd_disk.specs.View.{DiskView}
 use Rattle.merkle_file.specs.declared.top.Top.{Top}
 use Rattle.refusals.specs.declared.refusal.Refusal.{Refusal}
+use Rattle.store_model.specs.Image.{Store}
 use Rattle.store_core.specs.Opening.{OpensCore, OpensNone, StaysOrStops}
 use Rattle.store_core.specs.State.{CoreState, IsRunning}
 use Rattle.store_machine.specs.Asked as asked
@@ -19,10 +21,17 @@ use Rattle.core_machine.specs.Refines.{IsMachine}
 abbrev pub Reopens : ℕ → Result Done Refusal → Machine Root (List Top) → Machine Root (List Top) → Type 0
 Reopens actor answer m n = Legal of_roots (record { actor = actor; asked = asked.Reopen; answer = answer }) m n
 
--- What has been opened, over anything that has a disk, is a machine, which each machine may come to by an opening; it has so many names.
+-- the store that reads showed of what was opened: at once, or once room was made
+abbrev pub store_read : (D : Type 0) (view : D → DiskView) (old : DiskView) (c : CoreState) → OpensCore D view old c → Store
+store_read D view old c (inl read) = read.opened.store
+store_read D view old c (inr (mid, (made, read))) = read.opened.store
+
+-- What has been opened, over anything that has a disk, is a machine of the store that was read, which each machine may come to by an
+-- opening; it has so many names.
 abbrev pub OpenedRefines : (D : Type 0) → (D → DiskView) → (C : Type 0) → (C → CoreState) → Type 0
-OpenedRefines D view C state = (actor : ℕ) (before : D) (new : C) → OpensCore D view (view before) (state new) → IsRunning (state new)
-    → (n : Machine Root (List Top)) × (IsMachine n (state new)
+OpenedRefines D view C state = (actor : ℕ) (before : D) (new : C) → (opens : OpensCore D view (view before) (state new))
+    → IsRunning (state new)
+    → (n : Machine Root (List Top)) × (IsMachine n (state new) × (n.store ≡ store_read D view (view before) (state new) opens)
     × ((m : Machine Root (List Top)) → Reopens actor (Ok (done.Reopened (finite.len (state new).tables.names))) m n))
 
 -- And what could not be opened again is the machine that it was, or is stopped: containers may have been given back.

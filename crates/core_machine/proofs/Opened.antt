@@ -26,7 +26,7 @@ use Rattle.store_machine.specs.Machine.{Found, Idle, RunState, Running, Stopped,
 use Rattle.store_machine.specs.Opening.{MayRefuseOpening, freeing}
 use Rattle.store_machine.specs.Values.{of_roots}
 use Rattle.store_machine.proofs.SameNames.{get_mapped, len_changed, mapped}
-use Rattle.core_machine.specs.Openings.{OpenedRefines, Reopens, UnopenedRefines}
+use Rattle.core_machine.specs.Openings.{OpenedRefines, Reopens, UnopenedRefines, stores_left}
 use Rattle.core_machine.specs.Collections.{SameCollection}
 use Rattle.core_machine.specs.Refines.{IsMachine, SameParts, SameStop}
 use Rattle.core_machine.proofs.Rows.{M}
@@ -169,8 +169,8 @@ module _ (D : Type 0) (view : D → DiskView) where
       state = subst (SameStop m.acknowledged m.state) (sym kept.stop_is) at.state;
     }
 
-    stopped_so : StopsUnopened D view refusal old new → IsMachine (record m { state = freeing of_roots [] m.state }) new
-    stopped_so stops = record {
+    stopped_so : (stores : List Store) → StopsUnopened D view refusal old new → IsMachine (record m { state = freeing of_roots stores m.state }) new
+    stopped_so stores stops = record {
       represents = subst (Represents m.store None) (sym stops.tables_are) at.represents;
       valid = subst (λ (size : ℕ). IsValidFor size m.store) (sym (same_size refusal old.disk new.disk stops.wrote)) at.valid;
       free = at.free;
@@ -180,20 +180,24 @@ module _ (D : Type 0) (view : D → DiskView) where
       last_within = at.last_within;
       parts = subst (SameParts m.parts) (sym stops.parts_are) at.parts;
       acknowledged = at.acknowledged ∙ sym stops.counted;
-      index = λ running. absurd (never_runs [] m.state running);
+      index = λ running. absurd (never_runs stores m.state running);
       collection = subst (λ (t : Tables). SameCollection t.held m.swept m.collection new.collection) (sym stops.tables_are)
           (subst (SameCollection old.tables.held m.swept m.collection) (sym stops.collection_is) at.collection);
-      state = subst (SameStop m.acknowledged (freeing of_roots [] m.state)) (sym stops.stop_is) (stops_so m.acknowledged old.acknowledged [] refusal m.state (sym at.acknowledged));
+      state = subst (SameStop m.acknowledged (freeing of_roots stores m.state)) (sym stops.stop_is) (stops_so m.acknowledged old.acknowledged stores refusal m.state (sym at.acknowledged));
     }
 
 module _ (D : Type 0) (view : D → DiskView) (C : Type 0) (state : C → CoreState) where
   pub unopened_refines : UnopenedRefines D view C state
-  unopened_refines actor refusal old new m at none (inl (kept, reads)) =
-      (m, ((may_refuse D view refusal (state old).disk (state new).disk none, inl refl), as_it_was D view refusal (state old) (state new) m at kept reads))
-  unopened_refines actor refusal old new m at none (inr stops) = (
-    record m { state = freeing of_roots [] m.state },
-    (
-      (may_refuse D view refusal (state old).disk (state new).disk none, inr ([], refl, (λ known. absurd known))),
-      stopped_so D view refusal (state old) (state new) m at stops,
-    ),
+  unopened_refines actor refusal old new m at none (inl (kept, reads)) = (
+    m,
+    ((may_refuse D view refusal (state old).disk (state new).disk none, inl refl), as_it_was D view refusal (state old) (state new) m at kept reads, refl),
   )
+  unopened_refines actor refusal old new m at none (inr stops) =
+      let stores = stores_left D view refusal (state old).disk (state new).disk stops.wrote in (
+        record m { state = freeing of_roots stores m.state },
+        (
+          (may_refuse D view refusal (state old).disk (state new).disk none, inr (stores, refl, (λ known. absurd known))),
+          stopped_so D view refusal (state old) (state new) m at stores stops,
+          refl,
+        ),
+      )

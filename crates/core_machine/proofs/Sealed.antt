@@ -235,7 +235,7 @@ module _ (c d : CoreState) (m : M) (at : IsMachine m c) (runs : m.state ≡ Runn
       let may = row.0.0 in
       let stores = with_sealed (suc m.last_id) filled.kind filled.segments m.store ∷ [] in (
         record m { state = Stopped None stores },
-        (right_at c m at runs d a (asked.Seal filled) kinds.Writing refl (ap core_kinds.kind_of may.writing), (has_slot may row.0.1, refl)),
+        (right_at c m at runs d a (asked.Seal filled) kinds.Writing refl (ap core_kinds.kind_of may.writing), (has_slot may row.0.1, (λ known. absurd known), refl)),
         stopped_at c m at runs d None stores effect.kept effect.disk.later.size_is row.1 count (still refusals.DiskWrite collects) refusals.DiskWrite stop,
       )
   seal_row (Err (refusals.Damaged byte why)) row effect collects under stop count = absurd (let wrong : None ≡ Some own.places = sym row.0.2 ∙ own.known_is in cc)

@@ -1,5 +1,5 @@
 -- A step of a collection that is refused, as the machine of roots has it.
-use Rattle.std.proofs.Common.{◌≡◌, ◌⊎◌, inl, inr, ℕ, suc, List, [], ◌∷◌, Option, Some, None, Err, refl, sym, ◌∙◌, ap, subst, arith}
+use Rattle.std.proofs.Common.{◌≡◌, ◌⊎◌, inl, inr, ℕ, suc, ◌<◌, List, [], ◌∷◌, drop, Option, Some, None, Err, refl, sym, ◌∙◌, ap, subst, arith}
 use Rattle.container_meta.specs.declared.entry.Entry.{Entry}
 use Rattle.container_meta.specs.Places.{PlaceMap}
 use Rattle.container_meta.specs.Segments.{Contents}
@@ -8,6 +8,7 @@ use Rattle.copy_forward.specs.Entries.{IsRemoveRefusal, MapStays}
 use Rattle.copy_forward.specs.Headers.{IsHeaderRefusal}
 use Rattle.copy_forward.specs.Planning.{IsPlanRefusal, IsStuck, Planned, Source}
 use Rattle.dd_disk.specs.View.{DiskView}
+use Rattle.disk_format.specs.declared.numbers.TheConstants.{LAST_ID}
 use Rattle.gc_enumerate.specs.Live.{LiveKeys}
 use Rattle.gc_enumerate.specs.declared.fault.ScanFault.{ScanFault}
 use Rattle.gc_enumerate.specs.declared.fault.ScanFault.TheVariants as faults
@@ -39,14 +40,16 @@ use Rattle.store_core.specs.Core.{StopsAfter}
 use Rattle.store_core.specs.State.{CoreState}
 use Rattle.actor_parts.specs.StepValue as steps
 use Rattle.store_machine.specs.Asked as asked
-use Rattle.store_machine.specs.Collecting.{IsCollecting}
-use Rattle.store_machine.specs.Legal.{IsAtRightPart, MayBreak, Refuses}
-use Rattle.store_machine.specs.Machine.{Running, Stopped}
+use Rattle.store_machine.specs.Collecting.{IsCollecting, MayBreak}
+use Rattle.store_machine.specs.Legal.{IsAtRightPart, Refuses}
+use Rattle.store_machine.specs.Machine.{Running, Stopped, Sweeping}
 use Rattle.store_machine.specs.Values.{of_roots}
-use Rattle.core_machine.specs.Collections.{SameCollection, SameRun}
+use Rattle.core_machine.specs.Collections.{SameCollection, SameRun, ids_at}
 use Rattle.core_machine.specs.Refines.{HasIndex, IsMachine}
+use Rattle.core_machine.proofs.FreedSources.{in_turn}
 use Rattle.core_machine.proofs.Phases.{Runs, is_collecting, some_runs}
 use Rattle.core_machine.proofs.Rows.{M, as_it_was, same_at, stopped_at}
+use Rattle.core_machine.proofs.SweptOn.{at_sweep}
 
 -- ---- what a step may be refused by, if no write failed
 
@@ -249,18 +252,54 @@ module _ (c : CoreState) (m : M) (at : IsMachine m c) (runs : m.state ≡ Runnin
   not_copied refusals.DiskWrite is (inr broke) same stays stops = stops_by [] (inl (is, refl)) (still same) stops
   not_copied refusal is (inr broke) same stays stops = absurd broke
 
-  not_flushed : (refusal : Refusal) → IsCollecting phases.Flush m.store m.collection → IsFlushStepRefusal c.tables c.known refusal → after ≡ k → KeepsMap c.known d.known refusal
-      → StopsAfter steps.GcStep (Err refusal) c.acknowledged d.stop → Left refusal
-  not_flushed refusals.Memory is cause same stays stops = (m, (some_runs t m.swept m.collection k r, refl), rested (kept_run same) stays stops)
-  not_flushed refusals.Numbers is cause same stays stops = (m, (no_part, (is, omega (arith, cause, at.last_id), refl)), rested (kept_run same) stays stops)
-  not_flushed refusals.DiskRead is cause same stays stops =
+  -- what was to be written, as the core has it
+  abbrev written : List Store
+  written = with_sealed (suc m.last_id) k.sweep.buffer.kind k.sweep.buffer.segments m.store ∷ []
+
+  broken_flush : k.stage ≡ core.Sweep → (source entry : ℕ) → k.sweep.next ≡ nexts.Flush source entry → m.last_id < LAST_ID → MayBreak of_roots m written
+  broken_flush is source entry next_is left =
+      let at_flush = at_sweep t m.swept r.c k r.same is in
+      inr (inl (record {
+        c = r.c;
+        ran = r.ran;
+        s = at_flush.s;
+        stage_is = at_flush.stage_is ∙ ap (λ (p : Phase). Sweeping p at_flush.s) (at_flush.same.next_is ∙ ap (phase_at core.Sweep) next_is);
+        left = left;
+        kind = k.sweep.buffer.kind;
+        segments = k.sweep.buffer.segments;
+        keys_are = sym at_flush.same.filled_is;
+        copies = λ known. absurd known;
+        stores_are = refl;
+      }))
+
+  broken_release : k.stage ≡ core.Sweep → (source entry : ℕ) → k.sweep.next ≡ nexts.Release source entry
+      → MayBreak of_roots m (with_freed (slot_in_turn k.sweep) m.store ∷ [])
+  broken_release is source entry next_is =
+      let turn = in_turn m.store.held t m.swept r.c k at.represents.slots_hold under r.same is source entry next_is in
+      inr (inr (record {
+        c = r.c;
+        ran = r.ran;
+        s = turn.at.s;
+        stage_is = turn.at.stage_is ∙ ap (λ (p : Phase). Sweeping p turn.at.s) turn.phase_was;
+        slot = slot_in_turn k.sweep;
+        header = turn.stands.header;
+        there = turn.stands.there;
+        rest = ids_at t (drop 1 k.sweep.ready.items);
+        ready_is = turn.at.same.ready_is ∙ ap (ids_at t) turn.ready_was ∙ ap (λ (id : ℕ). id ∷ ids_at t (drop 1 k.sweep.ready.items)) (sym turn.id_is);
+        spare = λ known. absurd known;
+        stores_are = refl;
+      }))
+
+  not_flushed : (refusal : Refusal) → IsCollecting phases.Flush m.store m.collection → (m.last_id < LAST_ID → MayBreak of_roots m written)
+      → IsFlushStepRefusal c.tables c.known refusal → after ≡ k → KeepsMap c.known d.known refusal → StopsAfter steps.GcStep (Err refusal) c.acknowledged d.stop → Left refusal
+  not_flushed refusals.Memory is broke cause same stays stops = (m, (some_runs t m.swept m.collection k r, refl), rested (kept_run same) stays stops)
+  not_flushed refusals.Numbers is broke cause same stays stops = (m, (no_part, (is, omega (arith, cause, at.last_id), refl)), rested (kept_run same) stays stops)
+  not_flushed refusals.DiskRead is broke cause same stays stops =
       (m, (no_part, (inr (inr (inr (is, omega (arith, cause.0, at.last_id)))), refl)), rested (kept_run same) stays stops)
-  not_flushed refusals.DiskWrite is cause same stays stops =
-      let buffer = k.sweep.buffer in
-      stops_by (with_sealed (suc m.last_id) buffer.kind buffer.segments m.store ∷ [])
-      (inr (inl (is, omega (arith, cause.0, at.last_id), (buffer.kind, buffer.segments, refl)))) (still same) stops
-  not_flushed (refusals.Damaged byte why) is cause same stays stops = absurd (let wrong : Some own.places ≡ None = sym own.known_is ∙ cause.1 in cc)
-  not_flushed refusal is cause same stays stops = absurd cause.1
+  not_flushed refusals.DiskWrite is broke cause same stays stops =
+      stops_by written (broke (omega (arith, cause.0, at.last_id))) (still same) stops
+  not_flushed (refusals.Damaged byte why) is broke cause same stays stops = absurd (let wrong : Some own.places ≡ None = sym own.known_is ∙ cause.1 in cc)
+  not_flushed refusal is broke cause same stays stops = absurd cause.1
 
   -- ---- by its stage
 
@@ -277,10 +316,10 @@ module _ (c : CoreState) (m : M) (at : IsMachine m c) (runs : m.state ≡ Runnin
       not_copied refusal (collecting core.Sweep (nexts.Copy source entry) is next_is) (copy_unmade t k.live c.known c.disk d.disk source entry k.sweep refusal cause)
       kept.0 kept.1 stops
   not_made core.Sweep (nexts.Flush source entry) is next_is refusal cause kept stops =
-      not_flushed refusal (collecting core.Sweep (nexts.Flush source entry) is next_is) cause kept.0 kept.1 stops
+      not_flushed refusal (collecting core.Sweep (nexts.Flush source entry) is next_is) (broken_flush is source entry next_is) cause kept.0 kept.1 stops
   not_made core.Sweep (nexts.Release source entry) is next_is refusal cause kept stops =
       subst Left (sym cause)
-      (stops_by (with_freed (slot_in_turn k.sweep) m.store ∷ []) (inr (inr (collecting core.Sweep (nexts.Release source entry) is next_is, (slot_in_turn k.sweep, refl))))
+      (stops_by (with_freed (slot_in_turn k.sweep) m.store ∷ []) (broken_release is source entry next_is)
       (still kept) (subst (λ (x : Refusal). StopsAfter steps.GcStep (Err x) c.acknowledged d.stop) cause stops))
   not_made core.Sweep nexts.End is next_is refusal cause kept stops = absurd cause
 

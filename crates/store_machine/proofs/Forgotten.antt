@@ -26,7 +26,7 @@ use Rattle.store_model.specs.Steps.{CanRise, CanSeal, FlushContainer, with_chang
 use Rattle.store_model.specs.Trees.{root_of}
 use Rattle.store_machine.specs.Asked.{Asked}
 use Rattle.store_machine.specs.Asked as asked
-use Rattle.store_machine.specs.Collecting.{Begins, Chooses, Copies, Ends, Flushes, Goes, GoesOn, IsCollecting, IsRecordOf, JustGoes, Makes, Marks, Records, Releases, Went, ids_before, last_by, marking, marks_of, next_of, no_sweep, phase_in, sources_in, swept_by}
+use Rattle.store_machine.specs.Collecting.{Begins, Chooses, Copies, Ends, Flushes, Goes, GoesOn, IsCollecting, IsRecordOf, JustGoes, Makes, Marks, MayBreak, Records, Releases, Went, ids_before, last_by, marking, marks_of, next_of, no_sweep, phase_in, sources_in, swept_by}
 use Rattle.store_machine.specs.Done.{Done}
 use Rattle.store_machine.specs.Done as done
 use Rattle.store_machine.specs.Forgetting.{Forgets, Rests, SameNow, SamePart, SameState, RunsAreForgotten, StepsAreForgotten, asked_of, forget_collection}
@@ -577,11 +577,11 @@ module _ (m : F) (r : G) (same : Forgets m r) where
   unsealed a filled (refusals.Clash key at) n ((slot, id), known, others) =
       stays (λ t. RefusesSeal of_roots a filled (refusals.Clash key at) r t) n others ((slot_same a filled slot, on_id (λ id. id < LAST_ID) id), (λ e. absurd e), refl)
   unsealed a filled (refusals.Corrupt at offset count want got) n (slot, (unknown, others)) = absurd (unknown tt)
-  unsealed a filled refusals.DiskWrite n ((slot, id), others) =
+  unsealed a filled refusals.DiskWrite n ((slot, id), fits, others) =
       stop (λ t. RefusesSeal of_roots a filled refusals.DiskWrite r t) n None None (with_sealed (suc m.last_id) filled.kind filled.segments m.store ∷ [])
       (with_sealed (suc r.last_id) filled.kind filled.segments r.store ∷ []) others
       (λ i. with_sealed (suc (same.last_id i)) filled.kind filled.segments (same.store i) ∷ [])
-      ((slot_same a filled slot, on_id (λ id. id < LAST_ID) id), refl)
+      ((slot_same a filled slot, on_id (λ id. id < LAST_ID) id), (λ e. absurd e), refl)
   unsealed a filled refusal n refuses = absurd refuses
 
   uncommitted : (a : ℕ) (name file : List ℕ) (refusal : Refusal) (n : F) → RefusesCommit of_files a name file refusal m n
@@ -628,6 +628,35 @@ module _ (m : F) (r : G) (same : Forgets m r) where
   unread a refusal n (file, [], after, was, gone, others) = absurd gone
   unread a refusal n (file, bytes ∷ rest, after, was, gone, others) = absurd gone
 
+  -- which stores may stand once a step of a collection broke off
+  broken : (stores : List Store) → MayBreak of_files m stores → MayBreak of_roots r stores
+  broken stores (inl (is, none)) = inl (runs phases.Copy is, none)
+  broken stores (inr (inl b)) = inr (inl (record {
+    c = forget_collection b.c;
+    ran = one_runs b.c b.ran;
+    s = b.s;
+    stage_is = b.stage_is;
+    left = on_id (λ id. id < LAST_ID) b.left;
+    kind = b.kind;
+    segments = b.segments;
+    keys_are = b.keys_are;
+    copies = λ e. absurd e;
+    stores_are = b.stores_are ∙ sym (λ i. with_sealed (suc (same.last_id i)) b.kind b.segments (same.store i) ∷ []);
+  }))
+  broken stores (inr (inr b)) = inr (inr (record {
+    c = forget_collection b.c;
+    ran = one_runs b.c b.ran;
+    s = b.s;
+    stage_is = b.stage_is;
+    slot = b.slot;
+    header = b.header;
+    there = on_store (λ (x : Store). slice_get x.held b.slot ≡ Some (Some b.header)) b.there;
+    rest = b.rest;
+    ready_is = b.ready_is;
+    spare = λ e. absurd e;
+    stores_are = b.stores_are ∙ sym (λ i. with_freed b.slot (same.store i) ∷ []);
+  }))
+
   uncollected : (refusal : Refusal) (n : F) → RefusesGcStep of_files refusal m n → Left (λ t. RefusesGcStep of_roots refusal r t) n
   uncollected refusals.NotCollecting n (none, others) = stays (λ t. RefusesGcStep of_roots refusals.NotCollecting r t) n others (none_runs none, refl)
   uncollected refusals.Memory n (some, others) = stays (λ t. RefusesGcStep of_roots refusals.Memory r t) n others (some_runs some, refl)
@@ -638,17 +667,8 @@ module _ (m : F) (r : G) (same : Forgets m r) where
   uncollected refusals.DiskRead n (inr (inr (inl is)), others) = stays (λ t. RefusesGcStep of_roots refusals.DiskRead r t) n others (inr (inr (inl (runs phases.Copy is))), refl)
   uncollected refusals.DiskRead n (inr (inr (inr is)), others) =
       stays (λ t. RefusesGcStep of_roots refusals.DiskRead r t) n others (inr (inr (inr (runs phases.Flush is.0, on_id (λ id. id < LAST_ID) is.1))), refl)
-  uncollected refusals.DiskWrite n (stores, inl (is, none), others) =
-      stop (λ t. RefusesGcStep of_roots refusals.DiskWrite r t) n None None stores stores others refl (stores, inl (runs phases.Copy is, none), refl)
-  uncollected refusals.DiskWrite n (stores, inr (inl (is, left, (kind, segments, broken))), others) =
-      let now = with_sealed (suc r.last_id) kind segments r.store ∷ [] in
-      stop (λ t. RefusesGcStep of_roots refusals.DiskWrite r t) n None None stores now others
-      ((λ i. with_sealed (suc (same.last_id i)) kind segments (same.store i) ∷ []) ∙ sym broken)
-      (now, inr (inl (runs phases.Flush is, on_id (λ id. id < LAST_ID) left, (kind, segments, refl))), refl)
-  uncollected refusals.DiskWrite n (stores, inr (inr (is, (slot, broken))), others) =
-      let now = with_freed slot r.store ∷ [] in
-      stop (λ t. RefusesGcStep of_roots refusals.DiskWrite r t) n None None stores now others
-      ((λ i. with_freed slot (same.store i) ∷ []) ∙ sym broken) (now, inr (inr (runs phases.Release is, (slot, refl))), refl)
+  uncollected refusals.DiskWrite n (stores, may, others) =
+      stop (λ t. RefusesGcStep of_roots refusals.DiskWrite r t) n None None stores stores others refl (stores, broken stores may, refl)
   uncollected (refusals.Corrupt slot offset count want got) n (is, (unknown, others)) = absurd (unknown tt)
   uncollected (refusals.Missing key) n (is, (unknown, others)) = absurd (unknown tt)
   uncollected (refusals.Damaged at why) n (is, (unknown, others)) = absurd (unknown tt)

@@ -413,7 +413,7 @@ module _ (m : F) (r : G) (same : Forgets m r) where
     t_is,
     on_store (λ (x : Store). w.stage ≡ Sweeping (next_of x.held (sources_in c) t) t) next,
     recorded,
-    forgotten ∙ sym same.forgotten,
+    forgotten ∙ ap (forgotten_beside s.filled) (sym same.forgotten),
     λ e. absurd e,
   )
 

@@ -23,7 +23,7 @@ use Rattle.store_model.specs.Reserve.{IsSpare}
 use Rattle.store_model.specs.Slots.{Copy as KeyCopy, newest, place_of}
 use Rattle.store_model.specs.Steps.{CanChange, FlushContainer, FreeContainer, StoreChange, changed, with_sealed}
 use Rattle.store_machine.specs.Machine.{Collection, Machine, Stage, Marking, Recording, Sweeping, Sweep}
-use Rattle.store_machine.specs.Needs.{HasCopy, IndexHas, IsNeeded, NeededSince, keys_kept, keys_of, values_read}
+use Rattle.store_machine.specs.Needs.{HasCopy, IndexHas, IsNeeded, NeededSince, forgotten_beside, keys_kept, keys_of, values_read}
 use Rattle.store_machine.specs.Values.{Values}
 
 -- ---- counts
@@ -245,13 +245,14 @@ module _ {V R : Type 0} (v : Values V R) where
       ⊎ ((t.source ≡ s.source) × (s.entry ≤ t.entry) × (next ≡ Flush) × (s.filled ≢ []) × (t.filled ≢ []) × (t.waiting ≡ s.waiting)
       × (t.ready ≡ [])))
 
-  -- What is to be written is, in a container of the next id: just these keys, in their order, of which none was written before. Then the
-  -- sources that waited are ready.
+  -- What is to be written is, in a container of the next id: just these keys, in their order, of which none was written before. The index
+  -- has them then, and the sources that waited are ready.
   abbrev pub Flushes : Collection V → Machine V R → Went → Type 0
   Flushes c m w = (s t : Sweep) × (kind : Kind) × (segments : List Segment) × (c.stage ≡ Sweeping Flush s)
       × (w.changes ≡ FlushContainer (suc m.last_id) kind segments ∷ []) × (keys_of kind segments ≡ s.filled)
       × (t ≡ record s { filled = []; waiting = []; ready = s.waiting })
-      × (w.stage ≡ Sweeping (next_of m.store.held (sources_in c) t) t) × (w.recorded ≡ c.recorded) × (w.forgotten ≡ m.forgotten)
+      × (w.stage ≡ Sweeping (next_of m.store.held (sources_in c) t) t) × (w.recorded ≡ c.recorded)
+      × (w.forgotten ≡ forgotten_beside s.filled m.forgotten)
       × (v.Known → AllByRecursion (IsCopyOf c m.store kind) segments)
 
   -- The first source that is ready is given back: it holds the newest copy of no key that is needed, or was since the collection began.

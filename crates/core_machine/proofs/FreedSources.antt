@@ -5,6 +5,7 @@ use Rattle.std.specs.List.{AllByRecursion, IsDistinct}
 use Rattle.std.proofs.lemmas.Bool.{eq-eqb}
 use Rattle.std.proofs.lemmas.List.{get_or-set_other}
 use Rattle.std.proofs.lemmas.List.Elements.{Contains-append_right}
+use Rattle.base_model.specs.Known.{Known}
 use Rattle.container_meta.specs.Segments.{keys_of}
 use Rattle.container_meta.specs.Spelling.{HeaderValue}
 use Rattle.disk_format.specs.Cells.{Root}
@@ -28,12 +29,15 @@ use Rattle.gc_steps.specs.declared.collection.Collection.{Collection as CoreColl
 use Rattle.gc_steps.specs.declared.collection.Stage.TheVariants as stages
 use Rattle.gc_steps.specs.Stepping.{Moment, SweepsOn, phase_at}
 use Rattle.gc_steps.specs.UnderWay.{IsUnderWay}
+use Rattle.store_core.proofs.Sealing.{one_map}
 use Rattle.store_machine.specs.Collecting.{keys_written, next_by, next_of, sources_in}
 use Rattle.store_machine.specs.Machine.{Collection, Sweeping, Sweep}
 use Rattle.store_machine.proofs.Swept.{freed_more, written_more}
 use Rattle.core_machine.specs.Collections.{HasCopied, SameRun, SameSweep, ids_at}
+use Rattle.core_machine.specs.Refines.{FollowsPhase, TellsForgotten}
+use Rattle.core_machine.proofs.KeysForgotten.{freed_told}
 use Rattle.core_machine.proofs.NextSteps.{has_before, next_so}
-use Rattle.core_machine.proofs.SweptOn.{AtSweep, Swept, at_sweep, entry_next, ids_kept, is_sweeping, run_on, source_next}
+use Rattle.core_machine.proofs.SweptOn.{AtSweep, MapMoves, Swept, at_sweep, entry_next, ids_kept, is_sweeping, run_on, source_next}
 use Rattle.core_machine.proofs.Rows.{M}
 
 -- ---- slots that differ
@@ -89,7 +93,8 @@ module _ (m : M) (c : Collection Root) (source entry : ℕ) (old new : Moment) (
     (free : HasFree m.store.held) (last : m.last_id ≡ old.tables.held.last_id) (under : IsUnderWay old.tables.held old.collection)
     (run : SameRun old.tables.held m.swept c old.collection) (stage : old.collection.stage ≡ stages.Sweep) (next_was : old.collection.sweep.next ≡ nexts.Release source entry)
     (released : HasReleased new.tables.held source entry old.collection.sweep new.collection.sweep) (sweeps : SweepsOn old new)
-    (freed : HasFreed old.tables (slot_in_turn old.collection.sweep) new.tables) where
+    (freed : HasFreed old.tables (slot_in_turn old.collection.sweep) new.tables) {followed : Bool} (moves : MapMoves followed m.forgotten m.store.held old.known new.known)
+    (index : Known old.disk.content (λ _. new.known ≡ old.known)) (content : followed ≡ true → FollowsPhase phases.Release old.disk.content) where
   abbrev t : SlotTable
   t = old.tables.held
 
@@ -242,8 +247,15 @@ module _ (m : M) (c : Collection Root) (source entry : ℕ) (old new : Moment) (
     swept_is = swept_so (next_of m.store.held sources swept_on) (subst (λ (p : Phase). HasCopied p m.swept) turn.phase_was at.same.swept_is);
   }
 
+  -- the index is the same, if the disk tells its content
+  tells : followed ≡ true → TellsForgotten m.forgotten after.held moves.after
+  tells told =
+      let image = content told in
+      subst (TellsForgotten m.forgotten after.held) (one_map moves.before moves.after (sym moves.was ∙ sym (index image.0 image.1) ∙ moves.is))
+      (freed_told m.forgotten slot m.store.held moves.before (moves.told told))
+
   -- A source is given back, whatever the index has.
-  pub releases_so : Swept phases.Release m c new.tables new.collection
+  pub releases_so : Swept followed moves.after phases.Release m c new.tables new.collection
   releases_so = record {
     went = record {
       stage = Sweeping (next_of m.store.held sources swept_on) swept_on;
@@ -274,6 +286,7 @@ module _ (m : M) (c : Collection Root) (source entry : ℕ) (old new : Moment) (
     free = omega (arith, free, free_freed slot stands.header m.store.held stands.there);
     names = refl;
     last = refl;
+    told = tells;
     last_id = last ∙ sym freed.last_stays;
     last_within = λ few_ids. few_ids;
     run = run_on t now m.swept m.swept c old.collection new.collection (next_of m.store.held sources swept_on) swept_on (FreeContainer slot ∷ []) run stage sweeps same_now;

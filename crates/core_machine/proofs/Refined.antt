@@ -2,7 +2,7 @@
 use Rattle.container_meta.specs.Places.{PlaceMap}
 use Rattle.container_meta.specs.Segments.{KindSegment}
 use Rattle.read_steps.specs.Counting.{counts_of}
-use Rattle.std.proofs.Common.{◌≡◌, ℕ, List, [], ◌∷◌, Option, Some, None, Result, Ok, Err, refl, sym, ◌∙◌, ap, subst}
+use Rattle.std.proofs.Common.{◌≡◌, ℕ, List, [], ◌∷◌, Option, Some, None, Result, Ok, Err, refl, sym, ◌∙◌, ap, subst, Bool, true}
 use Rattle.disk_format.specs.Cells.{Root}
 use Rattle.merkle_file.specs.declared.top.Top.{Top}
 use Rattle.actor_parts.specs.declared.step.Answer.{Answer}
@@ -22,7 +22,7 @@ use Rattle.store_machine.specs.Values.{IsStuck, of_roots}
 use Rattle.store_state.specs.declared.tables.Tables.{Tables}
 use Rattle.store_core.specs.Collecting.{Collects, IsKeptKey, StartRow}
 use Rattle.core_machine.specs.Collections.{SameCollection}
-use Rattle.core_machine.specs.Refines.{CoreRefines, HasIndex, IsMachine, SameParts, SameStop, asked_by, answered_by}
+use Rattle.core_machine.specs.Refines.{CoreRefines, Follows, HasIndex, IsMachine, SameParts, SameStop, asked_by, answered_by}
 use Rattle.store_model.specs.Image.{IsValidFor}
 use Rattle.store_state.specs.Tables.{Represents}
 use Rattle.core_machine.proofs.Collected.{gc_row}
@@ -96,66 +96,66 @@ module _ (c d : CoreState) where
   list_quiet (Ok answer) row stop count = absurd row
   list_quiet (Err refusal) row stop count = absurd row
 
-  stat_quiet : {m : M} → IsMachine m c → (answer : Result Answer Refusal) → StatRow answer c d → Quiet steps.Stat answer
-  stat_quiet {m} at (Ok answer) row stop count =
+  stat_quiet : {followed : Bool} {m : M} → IsMachine followed m c → (answer : Result Answer Refusal) → StatRow answer c d → Quiet steps.Stat answer
+  stat_quiet {followed} {m} at (Ok answer) row stop count =
       let is : answer ≡ counts_of m.store = row.0.store_has m.store at.represents at.valid at.free in
       (subst (λ (x : Answer). StopsAfter steps.Stat (Ok x) c.acknowledged d.stop) is stop, subst (λ (x : Answer). d.acknowledged ≡ counted (Ok x) c.acknowledged) is count)
   stat_quiet at (Err refusal) row stop count = absurd row
 
 -- ---- a core that runs
 
-module _ (c d : CoreState) (m : M) (at : IsMachine m c) (runs : m.state ≡ Running) (under : IsUnderWayIn c.tables.held c.collection) (a : ℕ) (buf : List ℕ) where
-  own : HasIndex m.swept m.forgotten m.store.held c.known
+module _ {followed : Bool} (c d : CoreState) (m : M) (at : IsMachine followed m c) (runs : m.state ≡ Running) (under : IsUnderWayIn c.tables.held c.collection) (a : ℕ) (buf : List ℕ) where
+  own : HasIndex followed m.swept m.forgotten m.store.held c.known
   own = at.index runs
 
   abbrev Left : Result Answer Refusal → Asked Root → Type 0
-  Left answer step = (n : M) × Answers of_roots a step (answered_by answer buf) m n × IsMachine n d
+  Left answer step = (n : M) × Answers of_roots a step (answered_by answer buf) m n × IsMachine followed n d
 
   made_by : (s : StepValue) (answer : Result Answer Refusal) → Made s a answer buf c d → Collects s answer c d → StopsAfter s answer c.acknowledged d.stop
-      → d.acknowledged ≡ counted answer c.acknowledged → Left answer (asked_by s)
-  made_by steps.Begin answer made collects stop count =
+      → d.acknowledged ≡ counted answer c.acknowledged → (followed ≡ true → Follows answer c) → Left answer (asked_by s)
+  made_by steps.Begin answer made collects stop count follows =
       let quiet = begin_quiet c d a answer made.row stop count in
       begin_row c m at runs d a answer buf made.row
       (left_by c m at runs d made.effect.tables made.effect.disk.only.later.size_is quiet.1 (same_at c m at runs d collects) quiet.0)
-  made_by steps.Abort answer made collects stop count =
+  made_by steps.Abort answer made collects stop count follows =
       let quiet = abort_quiet c d a answer made.row stop count in
       abort_row c m at runs d a answer buf made.row
       (left_by c m at runs d made.effect.tables made.effect.disk.only.later.size_is quiet.1 (same_at c m at runs d collects) quiet.0)
-  made_by (steps.OpenRead name) answer made collects stop count =
+  made_by (steps.OpenRead name) answer made collects stop count follows =
       let quiet = open_quiet c d name a answer made.row stop count in
       open_row c m at runs d name a answer buf made.row
       (left_by c m at runs d made.effect.tables made.effect.disk.only.later.size_is quiet.1 (same_at c m at runs d collects) quiet.0)
-  made_by steps.ReadNext answer made collects stop count =
+  made_by steps.ReadNext answer made collects stop count follows =
       let quiet = read_quiet c d a answer buf made.row stop count in
       read_row c m at runs d a answer buf made.row
       (left_by c m at runs d made.effect.tables made.effect.disk.only.later.size_is quiet.1 (same_at c m at runs d collects) quiet.0)
-  made_by steps.EndRead answer made collects stop count =
+  made_by steps.EndRead answer made collects stop count follows =
       let quiet = end_quiet c d a answer made.row stop count in
       end_row c m at runs d a answer buf made.row
       (left_by c m at runs d made.effect.tables made.effect.disk.only.later.size_is quiet.1 (same_at c m at runs d collects) quiet.0)
-  made_by (steps.Delete name) answer made collects stop count =
+  made_by (steps.Delete name) answer made collects stop count follows =
       delete_row c m at runs d name a answer buf made.row made.effect collects stop count
-  made_by (steps.Commit name root) answer made collects stop count =
+  made_by (steps.Commit name root) answer made collects stop count follows =
       commit_row c m at runs d name root a answer buf made.row made.effect collects stop count
-  made_by (steps.Claim seg) answer made collects stop count =
+  made_by (steps.Claim seg) answer made collects stop count follows =
       let quiet = claim_quiet c d (own.places, own.known_is) seg a answer made.row stop count in
       claim_row c m at runs d seg a answer buf made.row
       (left_by c m at runs d made.effect.tables made.effect.disk.only.later.size_is quiet.1
       (same_marks (IsKeptKey (steps.Claim seg) answer) c.tables.held m.swept m.collection c.collection d.collection collects at.collection) quiet.0)
-  made_by steps.ListNames answer made collects stop count =
+  made_by steps.ListNames answer made collects stop count follows =
       let quiet = list_quiet c d answer made.row stop count in
       list_row c m at runs d a answer buf made.row
       (left_by c m at runs d made.effect.tables made.effect.disk.only.later.size_is quiet.1 (same_at c m at runs d collects) quiet.0)
-  made_by steps.Stat answer made collects stop count =
+  made_by steps.Stat answer made collects stop count follows =
       let quiet = stat_quiet c d at answer made.row stop count in
       stat_row c m at runs d a answer buf made.row
       (left_by c m at runs d made.effect.tables made.effect.disk.only.later.size_is quiet.1 (same_at c m at runs d collects) quiet.0)
-  made_by (steps.GcStart percent) answer made collects stop count =
+  made_by (steps.GcStart percent) answer made collects stop count follows =
       let quiet = start_quiet c d percent answer made.row stop count in
       start_row c m at runs d percent a answer buf made.row made.effect under quiet.0 quiet.1
-  made_by steps.GcStep answer made collects stop count =
-      gc_row c m at runs d a answer buf made.row made.effect under stop count
-  made_by (steps.Seal filled) answer made collects stop count =
+  made_by steps.GcStep answer made collects stop count follows =
+      gc_row c m at runs d a answer buf made.row made.effect under stop count follows
+  made_by (steps.Seal filled) answer made collects stop count follows =
       seal_row c d m at runs a filled buf answer made.row made.effect collects under stop count
 
 -- no step is an opening
@@ -174,12 +174,12 @@ by_state (steps.GcStart percent) a told m n by = by
 by_state steps.GcStep a told m n by = by
 by_state steps.Stat a told m n by = by
 
-module _ (e : Event) (old new : CoreState) (m : M) (at : IsMachine m old) where
+module _ {followed : Bool} (e : Event) (old new : CoreState) (m : M) (at : IsMachine followed m old) (follows : followed ≡ true → Follows e.answer old) where
   abbrev step : Asked Root
   step = asked_by e.step
 
   abbrev End : Type 0
-  End = (n : M) × (ByState of_roots m.state e.actor step (answered_by e.answer e.buf) m n × IsMachine n new)
+  End = (n : M) × (ByState of_roots m.state e.actor step (answered_by e.answer e.buf) m n × IsMachine followed n new)
 
   -- one that is stopped refuses, and nothing changes
   refuses : (other : _) (stores : _) (stop : Stop) → m.state ≡ Stopped other stores → stop.at ≡ m.acknowledged → AnswersStopped stop.at e old new → End
@@ -208,7 +208,7 @@ module _ (e : Event) (old new : CoreState) (m : M) (at : IsMachine m old) where
 
   steps_so : m.state ≡ Running → IsUp old → Steps e old new → End
   steps_so runs up s =
-      let left = made_by old new m at runs up.under_way e.actor e.buf e.step e.answer s.made s.collects s.stops s.counted_is in
+      let left = made_by old new m at runs up.under_way e.actor e.buf e.step e.answer s.made s.collects s.stops s.counted_is follows in
       (left.0, (subst (λ (st : RunState Root). ByState of_roots st e.actor step (answered_by e.answer e.buf) m left.0) (sym runs) left.1, left.2))
 
   by : (st : RunState Root) (stop : Option Stop) → m.state ≡ st → SameStop m.acknowledged st stop → UnlessStopped stop (IsUp old) → StepsOr stop e old new → End
@@ -218,6 +218,6 @@ module _ (e : Event) (old new : CoreState) (m : M) (at : IsMachine m old) where
   by (Stopped other stores) (Some stop) state same up made = refuses other stores stop state same made
 
 pub core_refines : (C : Type 0) (state : C → CoreState) → CoreRefines C state
-core_refines C state e old new m up at made =
-    let end = by e (state old) (state new) m at m.state (state old).stop refl at.state up made in
+core_refines C state followed e old new m up at follows made =
+    let end = by e (state old) (state new) m at follows m.state (state old).stop refl at.state up made in
     (end.0, (by_state e.step e.actor (answered_by e.answer e.buf) m end.0 end.1.0, end.1.1))

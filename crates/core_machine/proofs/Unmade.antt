@@ -1,5 +1,5 @@
 -- A step of a collection that is refused, as the machine of roots has it.
-use Rattle.std.proofs.Common.{◌≡◌, ◌⊎◌, inl, inr, ℕ, suc, ◌<◌, List, [], ◌∷◌, drop, Option, Some, None, Err, refl, sym, ◌∙◌, ap, subst, arith}
+use Rattle.std.proofs.Common.{◌≡◌, ◌⊎◌, inl, inr, ℕ, suc, ◌<◌, List, [], ◌∷◌, drop, Option, Some, None, Err, refl, sym, ◌∙◌, ap, subst, arith, Bool}
 use Rattle.container_meta.specs.declared.entry.Entry.{Entry}
 use Rattle.container_meta.specs.Places.{PlaceMap}
 use Rattle.container_meta.specs.Segments.{Contents}
@@ -149,23 +149,23 @@ copy_unmade t live known old new source entry s refusal is = copy_by t known liv
 
 -- ---- the steps
 
-module _ (c : CoreState) (m : M) (at : IsMachine m c) (runs : m.state ≡ Running) (d : CoreState) (a : ℕ) (size : d.disk.size ≡ c.disk.size) (parts : d.parts ≡ c.parts)
+module _ {followed : Bool} (c : CoreState) (m : M) (at : IsMachine followed m c) (runs : m.state ≡ Running) (d : CoreState) (a : ℕ) (size : d.disk.size ≡ c.disk.size) (parts : d.parts ≡ c.parts)
     (tables : d.tables ≡ c.tables) (count : d.acknowledged ≡ c.acknowledged) (k after : CoreCollection) (ran : c.collection ≡ Some k)
     (r : Runs c.tables.held m.swept m.collection k) (under : IsUnderWay c.tables.held k) (is_after : d.collection ≡ Some after) where
   abbrev t : SlotTable
   t = c.tables.held
 
-  own : HasIndex m.swept m.forgotten m.store.held c.known
+  own : HasIndex followed m.swept m.forgotten m.store.held c.known
   own = at.index runs
 
   abbrev Left : Refusal → Type 0
-  Left refusal = (n : M) × Refuses of_roots a asked.GcStep refusal m n × IsMachine n d
+  Left refusal = (n : M) × Refuses of_roots a asked.GcStep refusal m n × IsMachine followed n d
 
   no_part : IsAtRightPart of_roots a asked.GcStep m
   no_part taken is = absurd (let wrong : None ≡ Some taken = is in cc)
 
   -- nothing but what is live is another
-  rested : SameRun t m.swept r.c after → d.known ≡ c.known → d.stop ≡ None → IsMachine m d
+  rested : SameRun t m.swept r.c after → d.known ≡ c.known → d.stop ≡ None → IsMachine followed m d
   rested same index stop =
       let collects : SameCollection t m.swept m.collection d.collection =
       subst (SameCollection t m.swept m.collection) (sym is_after) (subst (λ p. SameCollection t m.swept p (Some after)) (sym r.ran) same) in

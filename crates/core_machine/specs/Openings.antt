@@ -1,5 +1,5 @@
 -- A core that is opened, at first or again, on any disk, as the machine of roots.
-use Rattle.std.specs.Prelude.{◌≡◌, ℕ, List, [], ◌∷◌, Result, Ok, Err}
+use Rattle.std.specs.Prelude.{◌≡◌, ℕ, Bool, List, [], ◌∷◌, Result, Ok, Err}
 use Rattle.std.proofs.Common.{inl, inr}
 use Rattle.std.specs.FinMap as finite
 use Rattle.disk_format.specs.Cells.{Root}
@@ -33,7 +33,7 @@ store_read D view old c (inr (mid, (made, read))) = read.opened.store
 abbrev pub OpenedRefines : (D : Type 0) → (D → DiskView) → (C : Type 0) → (C → CoreState) → Type 0
 OpenedRefines D view C state = (actor : ℕ) (before : D) (new : C) → (opens : OpensCore D view (view before) (state new))
     → IsRunning (state new)
-    → (n : Machine Root (List Top)) × (IsMachine n (state new) × (n.store ≡ store_read D view (view before) (state new) opens)
+    → (n : Machine Root (List Top)) × (((followed : Bool) → IsMachine followed n (state new)) × (n.store ≡ store_read D view (view before) (state new) opens)
     × ((m : Machine Root (List Top)) → Reopens actor (Ok (done.Reopened (finite.len (state new).tables.names))) m n))
 
 -- the stores that there are on the way, as these slots are closed one after the other
@@ -57,8 +57,9 @@ LeavesMachine D view refusal old new (inr stops) m n =
 
 -- And what could not be opened again is the machine that it was, or is stopped: containers may have been given back.
 abbrev pub UnopenedRefines : (D : Type 0) → (D → DiskView) → (C : Type 0) → (C → CoreState) → Type 0
-UnopenedRefines D view C state = (actor : ℕ) (refusal : Refusal) (old new : C) (m : Machine Root (List Top)) → IsMachine m (state old)
+UnopenedRefines D view C state = (followed : Bool) (actor : ℕ) (refusal : Refusal) (old new : C) (m : Machine Root (List Top))
+    → IsMachine followed m (state old)
     → OpensNone D view refusal (state old).disk (state new).disk
     → (leaves : StaysOrStops D view refusal (state old) (state new))
-    → (n : Machine Root (List Top)) × (Reopens actor (Err refusal) m n × IsMachine n (state new)
+    → (n : Machine Root (List Top)) × (Reopens actor (Err refusal) m n × IsMachine followed n (state new)
     × LeavesMachine D view refusal (state old) (state new) leaves m n)

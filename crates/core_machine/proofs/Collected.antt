@@ -103,7 +103,8 @@ module _ {followed : Bool} (c : CoreState) (m : M) (at : IsMachine followed m c)
       by_stage core.Select is did made tables =
           subst Goes (did_same phases.Select phase did) (choose_step c m at runs d tables size parts count made.1 stop g.before g.after r under g.runs is made.0)
       by_stage core.Sweep is did made tables =
-          let s = sweeps_so m r.c (at_moment c g.before) (at_moment d g.after) phase moves follows at.represents at.valid at.free at.last_id under r.same is g.phase_is g.steps g.tables in
+          let s = sweeps_so m r.c (at_moment c g.before) (at_moment d g.after) phase moves follows at.represents at.valid at.free at.last_id under r.same is
+          g.phase_is g.steps g.tables in
           let phase_is : phase ≡ phase_in m.store r.c = sym (answer_phase g.before.sweep.next did) ∙ ap (λ (s : CoreStage). phase_at s g.before.sweep.next) (sym is)
           ∙ sym (phase_so m.store.held t m.swept r.c g.before at.valid.headers at.represents.slots_hold r.same under) in
           (went_to phase r.c s.went s.store m, swept_on phase m r.c d.tables g.after r.ran phase_is s, is_swept (swept_so is g.before.sweep.next refl did) s)

@@ -339,7 +339,8 @@ module _ (m : M) (c : Collection Root) (source entry : ℕ) (old new : Moment) (
     abbrev after_stops : Sweep
     after_stops = record { source = s.source; entry = plan.next; filled = keys_of k'.buffer; waiting = s.waiting; ready = [] }
 
-    stops : plan.ended ≡ false → k'.waiting.items ≡ k.waiting.items → k'.ready.items ≡ [] → k'.next ≡ nexts.Flush source plan.next → Swept followed moves.after phases.Copy m c new.tables new.collection
+    stops : plan.ended ≡ false → k'.waiting.items ≡ k.waiting.items → k'.ready.items ≡ [] → k'.next ≡ nexts.Flush source plan.next
+        → Swept followed moves.after phases.Copy m c new.tables new.collection
     stops not_ended waiting_is ready_is next =
         swept phases.Flush after_stops plan.dead.items tells (
           s,

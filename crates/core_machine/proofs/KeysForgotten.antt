@@ -1,5 +1,5 @@
 -- Which keys are forgotten, by the map of the index: what that is after each step that moves the one or the other.
-use Rattle.std.proofs.Common.{◌≡◌, ◌≢◌, inl, inr, ℕ, zero, suc, ◌+◌, ◌<◌, ◌≤◌, Bool, true, false, cond, not, ◌||◌, List, [], ◌∷◌, ◌++◌, Contains, filter, get_or, length, map, nat_lt, ⊎_elim, Option, Some, None, option_map, refl, sym, ◌∙◌, ap, subst, arith}
+use Rattle.std.proofs.Common.{◌≡◌, ◌≢◌, ℕ, zero, suc, ◌+◌, ◌<◌, Bool, true, false, cond, not, ◌||◌, List, [], ◌∷◌, ◌++◌, Contains, filter, get_or, length, nat_lt, ⊎_elim, Option, Some, None, option_map, refl, sym, ◌∙◌, ap, subst, arith}
 use Rattle.std.specs.FinMap as finite
 use Rattle.std.specs.List.{AllByRecursion, list_any}
 use Rattle.std.specs.Str.{bytes_eq}
@@ -48,7 +48,8 @@ all_others (k ∷ ks) key none =
     ((λ same. let wrong : true ≡ false = sym ((bytes_eq-Decides key k).1 (sym same)) ∙ both.0 in absurd cc), all_others ks key both.1)
 
 -- so is that of each segment, or one of them is of the key
-other_segments : (kind : Kind) (segments : List Segment) (key : List ℕ) → AllByRecursion (λ k. k ≢ key) (keys_of kind segments) → AllByRecursion (λ s. segment_key kind s ≢ key) segments
+other_segments : (kind : Kind) (segments : List Segment) (key : List ℕ) → AllByRecursion (λ k. k ≢ key) (keys_of kind segments)
+    → AllByRecursion (λ s. segment_key kind s ≢ key) segments
 other_segments kind [] key all = tt
 other_segments kind (s ∷ ss) key all = (all.0, other_segments kind ss key all.1)
 

@@ -80,7 +80,12 @@ module _ (before : DiskView) (c : CoreState) (read : IsReadFrom before c) (runs 
     last_within = omega (arith, last_within opened.store.held opened.valid.headers);
     parts = subst (SameParts all_idle) (sym opened.parts_are) (all_same ACTORS);
     acknowledged = sym opened.counted;
-    index = λ _. record { places = opened.told.0; known_is = opened.told.1; newest = λ _. (refl, is_index opened.told.0 opened.told.1); told = λ _. opened_told opened.store.held opened.told.0 (is_index opened.told.0 opened.told.1) };
+    index = λ _. record {
+      places = opened.told.0;
+      known_is = opened.told.1;
+      newest = λ _. (refl, is_index opened.told.0 opened.told.1);
+      told = λ _. opened_told opened.store.held opened.told.0 (is_index opened.told.0 opened.told.1);
+    };
     collection = subst (SameCollection c.tables.held false None) (sym opened.collection_is) tt;
     state = subst (SameStop 0 Running) (sym opened.stop_is) tt;
   }
@@ -184,7 +189,8 @@ module _ (D : Type 0) (view : D → DiskView) where
       index = λ running. absurd (never_runs stores m.state running);
       collection = subst (λ (t : Tables). SameCollection t.held m.swept m.collection new.collection) (sym stops.tables_are)
           (subst (SameCollection old.tables.held m.swept m.collection) (sym stops.collection_is) at.collection);
-      state = subst (SameStop m.acknowledged (freeing of_roots stores m.state)) (sym stops.stop_is) (stops_so m.acknowledged old.acknowledged stores refusal m.state (sym at.acknowledged));
+      state = subst (SameStop m.acknowledged (freeing of_roots stores m.state)) (sym stops.stop_is)
+          (stops_so m.acknowledged old.acknowledged stores refusal m.state (sym at.acknowledged));
     }
 
 module _ (D : Type 0) (view : D → DiskView) (C : Type 0) (state : C → CoreState) where

@@ -104,7 +104,8 @@ module _ (c d : CoreState) where
 
 -- ---- a core that runs
 
-module _ {followed : Bool} (c d : CoreState) (m : M) (at : IsMachine followed m c) (runs : m.state ≡ Running) (under : IsUnderWayIn c.tables.held c.collection) (a : ℕ) (buf : List ℕ) where
+module _ {followed : Bool} (c d : CoreState) (m : M) (at : IsMachine followed m c) (runs : m.state ≡ Running) (under : IsUnderWayIn c.tables.held c.collection)
+    (a : ℕ) (buf : List ℕ) where
   own : HasIndex followed m.swept m.forgotten m.store.held c.known
   own = at.index runs
 

@@ -1,5 +1,5 @@
 -- Steps of a core, one after the other, are a run of the machine of roots.
-use Rattle.std.proofs.Common.{◌≡◌, true, [], ◌∷◌, Result, Ok, Err, refl, subst, sym}
+use Rattle.std.proofs.Common.{◌≡◌, true, [], ◌∷◌, Result, Ok, refl, subst, sym}
 use Rattle.base_model.specs.Known.{KnownWith}
 use Rattle.actor_parts.specs.declared.step.Answer.{Answer}
 use Rattle.actor_parts.specs.declared.step.Answer.TheVariants as answers
@@ -31,6 +31,6 @@ runs_refine C state followed [] old new m up at told run = (m, (refl, subst (λ 
 runs_refine C state followed (e ∷ es) old new m up at told (mid, (step, run)) =
     let one = core_refines C state followed e old mid m up at (λ is. by_answer e.answer (state old) (told is)) step in
     let later : followed ≡ true → IsTold (state mid) = λ is.
-        let image = told is in (step_later (state old) (state mid) e (state old).stop step).tells image.0 image.1 in
+    let image = told is in (step_later (state old) (state mid) e (state old).stop step).tells image.0 image.1 in
     let rest = runs_refine C state followed es mid new one.0 (step_runs (state old) (state mid) e step up) one.1.1 later run in
     (rest.0, ((one.0, (one.1.0, rest.1.0)), rest.1.1))

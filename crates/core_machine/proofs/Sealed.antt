@@ -129,7 +129,8 @@ module _ {followed : Bool} (c d : CoreState) (m : M) (at : IsMachine followed m 
         (effect.made.alone.store_has m.store at.represents at.valid at.free).represents
 
     -- it has the keys of the container, and no other one more
-    sealed_told : followed ≡ true → TellsForgotten (forgotten_beside (keys_of filled.kind filled.segments) m.forgotten) (with_sealed id filled.kind filled.segments m.store).held map.0
+    sealed_told : followed ≡ true
+        → TellsForgotten (forgotten_beside (keys_of filled.kind filled.segments) m.forgotten) (with_sealed id filled.kind filled.segments m.store).held map.0
     sealed_told told = written_told m.forgotten id filled.kind filled.segments m.store own.places map.0 at.free
         (effect.made.adds_keys own.places own.known_is map.0 map.1) (effect.made.keeps_others own.places own.known_is map.0 map.1) (own.told told)
 

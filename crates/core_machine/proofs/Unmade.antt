@@ -149,8 +149,8 @@ copy_unmade t live known old new source entry s refusal is = copy_by t known liv
 
 -- ---- the steps
 
-module _ {followed : Bool} (c : CoreState) (m : M) (at : IsMachine followed m c) (runs : m.state ≡ Running) (d : CoreState) (a : ℕ) (size : d.disk.size ≡ c.disk.size) (parts : d.parts ≡ c.parts)
-    (tables : d.tables ≡ c.tables) (count : d.acknowledged ≡ c.acknowledged) (k after : CoreCollection) (ran : c.collection ≡ Some k)
+module _ {followed : Bool} (c : CoreState) (m : M) (at : IsMachine followed m c) (runs : m.state ≡ Running) (d : CoreState) (a : ℕ)
+    (size : d.disk.size ≡ c.disk.size) (parts : d.parts ≡ c.parts) (tables : d.tables ≡ c.tables) (count : d.acknowledged ≡ c.acknowledged) (k after : CoreCollection) (ran : c.collection ≡ Some k)
     (r : Runs c.tables.held m.swept m.collection k) (under : IsUnderWay c.tables.held k) (is_after : d.collection ≡ Some after) where
   abbrev t : SlotTable
   t = c.tables.held

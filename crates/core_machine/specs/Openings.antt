@@ -33,7 +33,8 @@ store_read D view old c (inr (mid, (made, read))) = read.opened.store
 abbrev pub OpenedRefines : (D : Type 0) → (D → DiskView) → (C : Type 0) → (C → CoreState) → Type 0
 OpenedRefines D view C state = (actor : ℕ) (before : D) (new : C) → (opens : OpensCore D view (view before) (state new))
     → IsRunning (state new)
-    → (n : Machine Root (List Top)) × (((followed : Bool) → IsMachine followed n (state new)) × (n.store ≡ store_read D view (view before) (state new) opens)
+    → (n : Machine Root (List Top)) × (((followed : Bool) → IsMachine followed n (state new))
+    × (n.store ≡ store_read D view (view before) (state new) opens)
     × ((m : Machine Root (List Top)) → Reopens actor (Ok (done.Reopened (finite.len (state new).tables.names))) m n))
 
 -- the stores that there are on the way, as these slots are closed one after the other
@@ -43,14 +44,14 @@ stores_freed (slot ∷ rest) store = with_freed slot store ∷ stores_freed rest
 
 -- which stores may stand once an opening that was refused gave containers back, of the store that reads had showed: the one that is left
 -- where room was made, and else those on the way
-abbrev pub stores_left : (D : Type 0) (view : D → DiskView) (refusal : Refusal) (old new : DiskView) → WritesUnread D view refusal old new
-    → List Store
+abbrev pub stores_left : (D : Type 0) (view : D → DiskView) (refusal : Refusal) (old new : DiskView)
+    → WritesUnread D view refusal old new → List Store
 stores_left D view refusal old new (inl (mid, (made, read))) = made.after ∷ []
 stores_left D view refusal old new (inr (failed, unmade)) = stores_freed unmade.freed unmade.short.store
 
 -- where the core is as it was the machine is, too; and else it is stopped, and one of those stores may stand
-abbrev pub LeavesMachine : (D : Type 0) (view : D → DiskView) (refusal : Refusal) (old new : CoreState) → StaysOrStops D view refusal old new
-    → Machine Root (List Top) → Machine Root (List Top) → Type 0
+abbrev pub LeavesMachine : (D : Type 0) (view : D → DiskView) (refusal : Refusal) (old new : CoreState)
+    → StaysOrStops D view refusal old new → Machine Root (List Top) → Machine Root (List Top) → Type 0
 LeavesMachine D view refusal old new (inl kept) m n = n ≡ m
 LeavesMachine D view refusal old new (inr stops) m n =
     n ≡ record m { state = freeing of_roots (stores_left D view refusal old.disk new.disk stops.wrote) m.state }

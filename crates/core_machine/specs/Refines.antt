@@ -55,7 +55,8 @@ pub record TellsForgotten (forgotten : List (List ℕ)) (held : List (Option Hea
 
 -- The map of the index is known, whatever it says; as long as no collection copied since the opening, nothing is forgotten, and it has the
 -- newest copies. Where it was followed since then, it tells what is forgotten.
-pub record HasIndex (followed swept : Bool) (forgotten : List (List ℕ)) (held : List (Option HeaderValue)) (known : Option PlaceMap) : Type 0 where
+pub record HasIndex (followed swept : Bool) (forgotten : List (List ℕ)) (held : List (Option HeaderValue)) (known : Option PlaceMap)
+    : Type 0 where
   pub places : PlaceMap
   pub known_is : known ≡ Some places
   pub newest : swept ≡ false → (forgotten ≡ []) × IsIndexOf held places

@@ -157,7 +157,7 @@ module _ (m : M) (c : Collection Root) (source entry : ℕ) (old new : Moment) (
       (put_told m.forgotten (suc m.last_id) flushes.slot kind segments m.store moves.before free (moves.told told)))
 
   -- What was copied is written, whatever the index has.
-  pub flushes_so : Swept followed moves.after phases.Flush m c new.tables new.collection
+  pub flushes_so : Swept followed moves.after old new phases.Flush m c new.tables new.collection
   flushes_so = record {
     went = record {
       stage = Sweeping (next_of m.store.held sources swept_on) swept_on;
@@ -187,6 +187,8 @@ module _ (m : M) (c : Collection Root) (source entry : ℕ) (old new : Moment) (
     names = refl;
     last = refl;
     told = tells;
+    changes_are = refl;
+    forgets = tt;
     last_id = sym one ∙ sym flushes.writes.written.last_is;
     last_within = λ few. omega (arith, flushes.writes.has_slot.below, last);
     run = run_on t now m.swept m.swept c old.collection new.collection (next_of m.store.held sources swept_on) swept_on

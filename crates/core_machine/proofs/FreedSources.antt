@@ -255,7 +255,7 @@ module _ (m : M) (c : Collection Root) (source entry : ℕ) (old new : Moment) (
       (freed_told m.forgotten slot m.store.held moves.before (moves.told told))
 
   -- A source is given back, whatever the index has.
-  pub releases_so : Swept followed moves.after phases.Release m c new.tables new.collection
+  pub releases_so : Swept followed moves.after old new phases.Release m c new.tables new.collection
   releases_so = record {
     went = record {
       stage = Sweeping (next_of m.store.held sources swept_on) swept_on;
@@ -287,6 +287,8 @@ module _ (m : M) (c : Collection Root) (source entry : ℕ) (old new : Moment) (
     names = refl;
     last = refl;
     told = tells;
+    changes_are = refl;
+    forgets = tt;
     last_id = last ∙ sym freed.last_stays;
     last_within = λ few_ids. few_ids;
     run = run_on t now m.swept m.swept c old.collection new.collection (next_of m.store.held sources swept_on) swept_on (FreeContainer slot ∷ []) run stage sweeps same_now;

@@ -37,7 +37,7 @@ pub sweeps_so : {followed : Bool} (m : M) (c : Collection Root) (old new : Momen
     → (followed ≡ true → FollowsPhase phase old.disk.content) → Represents m.store None old.tables → IsValidFor old.disk.size m.store → HasFree m.store.held
     → m.last_id ≡ old.tables.held.last_id → IsUnderWay old.tables.held old.collection → SameRun old.tables.held m.swept c old.collection
     → old.collection.stage ≡ stages.Sweep → answer_of old.collection ≡ Did phase → StepsTo old.collection.stage old.collection.sweep.next old new
-    → TablesAfter old.collection.stage old.collection.sweep.next old new → Swept followed moves.after phase m c new.tables new.collection
+    → TablesAfter old.collection.stage old.collection.sweep.next old new → Swept followed moves.after old new phase m c new.tables new.collection
 sweeps_so {followed} m c old new phase moves content represents valid free last under run stage did steps tables =
     by old.collection.sweep.next refl
     (subst (λ (st : CoreStage). answer_at st old.collection.sweep.next old.collection.sweep.freed old.collection.sweep.copied ≡ Did phase) stage did)
@@ -48,15 +48,15 @@ sweeps_so {followed} m c old new phase moves content represents valid free last 
     at_phase p did_so told = subst (λ (q : Phase). FollowsPhase q old.disk.content) (sym (did_same p phase did_so)) (content told)
 
     by : (n : Next) → old.collection.sweep.next ≡ n → answer_at stages.Sweep n old.collection.sweep.freed old.collection.sweep.copied ≡ Did phase → StepsTo stages.Sweep n old new
-        → TablesAfter stages.Sweep n old new → Swept followed moves.after phase m c new.tables new.collection
+        → TablesAfter stages.Sweep n old new → Swept followed moves.after old new phase m c new.tables new.collection
     by (nexts.Copy source entry) is did_so (copies, sweeps) after =
-        subst (λ (p : Phase). Swept followed moves.after p m c new.tables new.collection) (did_same phases.Copy phase did_so)
+        subst (λ (p : Phase). Swept followed moves.after old new p m c new.tables new.collection) (did_same phases.Copy phase did_so)
         (copies_so m c source entry old new represents valid free last under run stage is copies sweeps after moves)
     by (nexts.Flush source entry) is did_so flushes after =
-        subst (λ (p : Phase). Swept followed moves.after p m c new.tables new.collection) (did_same phases.Flush phase did_so)
+        subst (λ (p : Phase). Swept followed moves.after old new p m c new.tables new.collection) (did_same phases.Flush phase did_so)
         (flushes_so m c source entry old new represents valid free last under run stage is flushes moves (at_phase phases.Flush did_so))
     by (nexts.Release source entry) is did_so (released, sweeps, durable, index) freed =
-        subst (λ (p : Phase). Swept followed moves.after p m c new.tables new.collection) (did_same phases.Release phase did_so)
+        subst (λ (p : Phase). Swept followed moves.after old new p m c new.tables new.collection) (did_same phases.Release phase did_so)
         (releases_so m c source entry old new represents valid free last under run stage is released sweeps freed moves index (at_phase phases.Release did_so))
     by nexts.End is did_so steps_so after = absurd (let wrong : Done old.collection.sweep.freed old.collection.sweep.copied ≡ Did phase = did_so in cc)
 

@@ -1,5 +1,5 @@
 -- A step of a collection that is refused, as the machine of roots has it.
-use Rattle.std.proofs.Common.{◌≡◌, ◌⊎◌, inl, inr, ℕ, suc, ◌<◌, List, [], ◌∷◌, drop, Option, Some, None, Err, refl, sym, ◌∙◌, ap, subst, arith, Bool}
+use Rattle.std.proofs.Common.{◌≡◌, ◌⊎◌, inl, inr, ℕ, suc, ◌<◌, List, [], ◌∷◌, drop, map, Option, Some, None, Err, refl, sym, ◌∙◌, ap, subst, arith, Bool}
 use Rattle.container_meta.specs.declared.entry.Entry.{Entry}
 use Rattle.container_meta.specs.Places.{PlaceMap}
 use Rattle.container_meta.specs.Segments.{Contents}
@@ -33,7 +33,7 @@ use Rattle.refusals.specs.declared.refusal.Refusal.{Refusal}
 use Rattle.refusals.specs.declared.refusal.Refusal.TheVariants as refusals
 use Rattle.store_model.specs.Freeing.{with_freed}
 use Rattle.store_model.specs.Image.{Store}
-use Rattle.store_model.specs.Steps.{with_sealed}
+use Rattle.store_model.specs.Steps.{changed, with_sealed}
 use Rattle.store_state.specs.declared.slot_table.SlotTable.{SlotTable}
 use Rattle.store_core.specs.Collecting.{at_moment}
 use Rattle.store_core.specs.Core.{StopsAfter}
@@ -45,6 +45,7 @@ use Rattle.store_machine.specs.Legal.{IsAtRightPart, Refuses}
 use Rattle.store_machine.specs.Machine.{Running, Stopped, Sweeping}
 use Rattle.store_machine.specs.Values.{of_roots}
 use Rattle.core_machine.specs.Collections.{SameCollection, SameRun, ids_at}
+use Rattle.core_machine.specs.Sweeping.{NamesGc, changes_of}
 use Rattle.core_machine.specs.Refines.{HasIndex, IsMachine}
 use Rattle.core_machine.proofs.FreedSources.{in_turn}
 use Rattle.core_machine.proofs.Phases.{Runs, is_collecting, some_runs}
@@ -159,7 +160,7 @@ module _ {followed : Bool} (c : CoreState) (m : M) (at : IsMachine followed m c)
   own = at.index runs
 
   abbrev Left : Refusal → Type 0
-  Left refusal = (n : M) × Refuses of_roots a asked.GcStep refusal m n × IsMachine followed n d
+  Left refusal = (n : M) × Refuses of_roots a asked.GcStep refusal m n × IsMachine followed n d × NamesGc (Err refusal) c d m n
 
   no_part : IsAtRightPart of_roots a asked.GcStep m
   no_part taken is = absurd (let wrong : None ≡ Some taken = is in cc)
@@ -212,13 +213,23 @@ module _ {followed : Bool} (c : CoreState) (m : M) (at : IsMachine followed m c)
   runs_still phase refusals.DiskWrite may stops = absurd may
   runs_still phase refusal may stops = stops
 
+  not_broken : (phase : Phase) (refusal : Refusal) → Unmade phase refusal → NamesGc (Err refusal) c d m m
+  not_broken phase refusals.DiskWrite may = absurd may
+  not_broken phase refusal may = tt
+
   -- a write failed, and it is stopped
-  stops_by : (stores : List Store) → MayBreak of_roots m stores → d.collection ≡ c.collection → StopsAfter steps.GcStep (Err refusals.DiskWrite) c.acknowledged d.stop
+  stops_by : (phase : Phase) → phase_at k.stage k.sweep.next ≡ phase → (stores : List Store) → stores ≡ map (λ change. changed change m.store) (changes_of phase m.last_id k.sweep)
+      → MayBreak of_roots m stores → d.collection ≡ c.collection → StopsAfter steps.GcStep (Err refusals.DiskWrite) c.acknowledged d.stop
       → Left refusals.DiskWrite
-  stops_by stores may collects stop = (
+  stops_by phase phase_is stores stores_are may collects stop = (
     record m { state = Stopped None stores },
     (no_part, (stores, may, refl)),
     stopped_at c m at runs d None stores tables size parts count (same_at c m at runs d collects) refusals.DiskWrite stop,
+    (
+      k,
+      ran,
+      ap (Stopped None) (stores_are ∙ ap (λ (p : Phase). map (λ change. changed change m.store) (changes_of p m.last_id k.sweep)) (sym phase_is)),
+    ),
   )
 
   -- ---- before a sweep
@@ -234,7 +245,7 @@ module _ {followed : Bool} (c : CoreState) (m : M) (at : IsMachine followed m c)
 
   left_by : (phase : Phase) (refusal : Refusal) → IsCollecting phase m.store m.collection → Unmade phase refusal → SameRun t m.swept r.c after → d.known ≡ c.known
       → StopsAfter steps.GcStep (Err refusal) c.acknowledged d.stop → Left refusal
-  left_by phase refusal is may same index stops = (m, refused phase refusal may is, rested same index (runs_still phase refusal may stops))
+  left_by phase refusal is may same index stops = (m, refused phase refusal may is, rested same index (runs_still phase refusal may stops), not_broken phase refusal may)
 
   -- ---- a sweep
 
@@ -246,11 +257,14 @@ module _ {followed : Bool} (c : CoreState) (m : M) (at : IsMachine followed m c)
   still : after ≡ k → d.collection ≡ c.collection
   still same = is_after ∙ ap Some same ∙ sym ran
 
-  not_copied : (refusal : Refusal) → IsCollecting phases.Copy m.store m.collection → Unmade phases.Copy refusal ⊎ Broken refusal → after ≡ k → MapStays c.known d.known refusal
+  phase_now : (stage : CoreStage) (next : Next) → k.stage ≡ stage → k.sweep.next ≡ next → phase_at k.stage k.sweep.next ≡ phase_at stage next
+  phase_now stage next is next_is = ap (phase_at k.stage) next_is ∙ ap (λ (s : CoreStage). phase_at s next) is
+
+  not_copied : (refusal : Refusal) → phase_at k.stage k.sweep.next ≡ phases.Copy → IsCollecting phases.Copy m.store m.collection → Unmade phases.Copy refusal ⊎ Broken refusal → after ≡ k → MapStays c.known d.known refusal
       → StopsAfter steps.GcStep (Err refusal) c.acknowledged d.stop → Left refusal
-  not_copied refusal is (inl may) same stays stops = left_by phases.Copy refusal is may (kept_run same) (map_same refusal may stays) stops
-  not_copied refusals.DiskWrite is (inr broke) same stays stops = stops_by [] (inl (is, refl)) (still same) stops
-  not_copied refusal is (inr broke) same stays stops = absurd broke
+  not_copied refusal now is (inl may) same stays stops = left_by phases.Copy refusal is may (kept_run same) (map_same refusal may stays) stops
+  not_copied refusals.DiskWrite now is (inr broke) same stays stops = stops_by phases.Copy now [] refl (inl (is, refl)) (still same) stops
+  not_copied refusal now is (inr broke) same stays stops = absurd broke
 
   -- what was to be written, as the core has it
   abbrev written : List Store
@@ -290,16 +304,16 @@ module _ {followed : Bool} (c : CoreState) (m : M) (at : IsMachine followed m c)
         stores_are = refl;
       }))
 
-  not_flushed : (refusal : Refusal) → IsCollecting phases.Flush m.store m.collection → (m.last_id < LAST_ID → MayBreak of_roots m written)
+  not_flushed : (refusal : Refusal) → phase_at k.stage k.sweep.next ≡ phases.Flush → IsCollecting phases.Flush m.store m.collection → (m.last_id < LAST_ID → MayBreak of_roots m written)
       → IsFlushStepRefusal c.tables c.known refusal → after ≡ k → KeepsMap c.known d.known refusal → StopsAfter steps.GcStep (Err refusal) c.acknowledged d.stop → Left refusal
-  not_flushed refusals.Memory is broke cause same stays stops = (m, (some_runs t m.swept m.collection k r, refl), rested (kept_run same) stays stops)
-  not_flushed refusals.Numbers is broke cause same stays stops = (m, (no_part, (is, omega (arith, cause, at.last_id), refl)), rested (kept_run same) stays stops)
-  not_flushed refusals.DiskRead is broke cause same stays stops =
-      (m, (no_part, (inr (inr (inr (is, omega (arith, cause.0, at.last_id)))), refl)), rested (kept_run same) stays stops)
-  not_flushed refusals.DiskWrite is broke cause same stays stops =
-      stops_by written (broke (omega (arith, cause.0, at.last_id))) (still same) stops
-  not_flushed (refusals.Damaged byte why) is broke cause same stays stops = absurd (let wrong : Some own.places ≡ None = sym own.known_is ∙ cause.1 in cc)
-  not_flushed refusal is broke cause same stays stops = absurd cause.1
+  not_flushed refusals.Memory now is broke cause same stays stops = (m, (some_runs t m.swept m.collection k r, refl), rested (kept_run same) stays stops, tt)
+  not_flushed refusals.Numbers now is broke cause same stays stops = (m, (no_part, (is, omega (arith, cause, at.last_id), refl)), rested (kept_run same) stays stops, tt)
+  not_flushed refusals.DiskRead now is broke cause same stays stops =
+      (m, (no_part, (inr (inr (inr (is, omega (arith, cause.0, at.last_id)))), refl)), rested (kept_run same) stays stops, tt)
+  not_flushed refusals.DiskWrite now is broke cause same stays stops =
+      stops_by phases.Flush now written refl (broke (omega (arith, cause.0, at.last_id))) (still same) stops
+  not_flushed (refusals.Damaged byte why) now is broke cause same stays stops = absurd (let wrong : Some own.places ≡ None = sym own.known_is ∙ cause.1 in cc)
+  not_flushed refusal now is broke cause same stays stops = absurd cause.1
 
   -- ---- by its stage
 
@@ -313,13 +327,13 @@ module _ {followed : Bool} (c : CoreState) (m : M) (at : IsMachine followed m c)
   not_made core.Select next is next_is refusal cause kept stops =
       left_by phases.Select refusal (collecting core.Select next is next_is) (subst (Unmade phases.Select) (sym cause) tt) (kept_run kept.0) kept.1 stops
   not_made core.Sweep (nexts.Copy source entry) is next_is refusal cause kept stops =
-      not_copied refusal (collecting core.Sweep (nexts.Copy source entry) is next_is) (copy_unmade t k.live c.known c.disk d.disk source entry k.sweep refusal cause)
+      not_copied refusal (phase_now core.Sweep (nexts.Copy source entry) is next_is) (collecting core.Sweep (nexts.Copy source entry) is next_is) (copy_unmade t k.live c.known c.disk d.disk source entry k.sweep refusal cause)
       kept.0 kept.1 stops
   not_made core.Sweep (nexts.Flush source entry) is next_is refusal cause kept stops =
-      not_flushed refusal (collecting core.Sweep (nexts.Flush source entry) is next_is) (broken_flush is source entry next_is) cause kept.0 kept.1 stops
+      not_flushed refusal (phase_now core.Sweep (nexts.Flush source entry) is next_is) (collecting core.Sweep (nexts.Flush source entry) is next_is) (broken_flush is source entry next_is) cause kept.0 kept.1 stops
   not_made core.Sweep (nexts.Release source entry) is next_is refusal cause kept stops =
       subst Left (sym cause)
-      (stops_by (with_freed (slot_in_turn k.sweep) m.store ∷ []) (broken_release is source entry next_is)
+      (stops_by phases.Release (phase_now core.Sweep (nexts.Release source entry) is next_is) (with_freed (slot_in_turn k.sweep) m.store ∷ []) refl (broken_release is source entry next_is)
       (still kept) (subst (λ (x : Refusal). StopsAfter steps.GcStep (Err x) c.acknowledged d.stop) cause stops))
   not_made core.Sweep nexts.End is next_is refusal cause kept stops = absurd cause
 

@@ -31,6 +31,7 @@ use Rattle.store_machine.specs.Legal.{Legal}
 use Rattle.store_machine.specs.Machine.{Machine, Part, Idle, Writing, Reading, RunState, Running, Stopped}
 use Rattle.store_machine.specs.Values.{of_roots}
 use Rattle.core_machine.specs.Collections.{SameCollection}
+use Rattle.core_machine.specs.Sweeping.{NamesStep}
 
 abbrev pub SamePart : Part Root (List Top) → core_part.Part → Type 0
 SamePart Idle core.Idle = Unit {0}
@@ -126,11 +127,11 @@ abbrev pub Follows : Result Answer Refusal → CoreState → Type 0
 Follows (Ok (answers.Did phase)) c = FollowsPhase phase c.disk.content
 Follows answer c = Unit {0}
 
--- With no premise on the disk, what the core does by a step is what the machine may do; and the map of the index is followed on where it
--- can be.
+-- With no premise on the disk, what the core does by a step is what the machine may do; what a collection writes, gives back and forgets is
+-- the same; and the map of the index is followed on where it can be.
 abbrev pub CoreRefines : (C : Type 0) → (C → CoreState) → Type 0
 CoreRefines C state = (followed : Bool) (e : Event) (old new : C) (m : Machine Root (List Top)) → IsRunning (state old)
     → IsMachine followed m (state old) → (followed ≡ true → Follows e.answer (state old))
     → CoreStep (state old) e (state new) → (n : Machine Root (List Top))
     × (Legal of_roots (record { actor = e.actor; asked = asked_by e.step; answer = answered_by e.answer e.buf }) m n
-    × IsMachine followed n (state new))
+    × IsMachine followed n (state new) × NamesStep e.step e.answer (state old) (state new) m n)

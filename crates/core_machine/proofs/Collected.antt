@@ -117,7 +117,8 @@ module _ {followed : Bool} (c : CoreState) (m : M) (at : IsMachine followed m c)
       own : HasIndex followed m.swept m.forgotten m.store.held c.known
       own = at.index runs
 
-      is_swept : swept_by phase m.swept ≡ true → (s : Swept followed tells.0 (at_moment c g.before) (at_moment d g.after) phase m r.c d.tables g.after) → IsMachine followed (went_to phase r.c s.went s.store m) d
+      is_swept : swept_by phase m.swept ≡ true → (s : Swept followed tells.0 (at_moment c g.before) (at_moment d g.after) phase m r.c d.tables g.after)
+          → IsMachine followed (went_to phase r.c s.went s.store m) d
       is_swept copied s = record {
         represents = s.represents;
         valid = subst (λ (n : ℕ). IsValidFor n s.store) (sym size) (s.valid c.disk.size at.valid);
@@ -151,8 +152,7 @@ module _ {followed : Bool} (c : CoreState) (m : M) (at : IsMachine followed m c)
           let s = sweeps_so m r.c (at_moment c g.before) (at_moment d g.after) phase moves follows at.represents at.valid at.free at.last_id under r.same is
           g.phase_is g.steps g.tables in
           let phase_is : phase ≡ phase_in m.store r.c = sym (answer_phase g.before.sweep.next did) ∙ ap (λ (s : CoreStage). phase_at s g.before.sweep.next) (sym is)
-          ∙ sym (phase_so m.store.held t m.swept r.c g.before at.valid.headers at.represents.slots_hold r.same under) in
-          (
+          ∙ sym (phase_so m.store.held t m.swept r.c g.before at.valid.headers at.represents.slots_hold r.same under) in (
             went_to phase r.c s.went s.store m,
             swept_on phase m r.c d.tables g.after r.ran phase_is s,
             is_swept (swept_so is g.before.sweep.next refl did) s,

@@ -87,7 +87,8 @@ module _ (held : List (Option HeaderValue)) (t : SlotTable) (swept : Bool) (sour
 -- ---- the steps
 
 module _ {followed : Bool} (c : CoreState) (m : M) (at : IsMachine followed m c) (runs : m.state ≡ Running) (d : CoreState)
-    (tables : d.tables ≡ c.tables) (size : d.disk.size ≡ c.disk.size) (parts : d.parts ≡ c.parts) (count : d.acknowledged ≡ c.acknowledged) (index : d.known ≡ c.known) (stop : d.stop ≡ None) (k after : CoreCollection)
+    (tables : d.tables ≡ c.tables) (size : d.disk.size ≡ c.disk.size) (parts : d.parts ≡ c.parts) (count : d.acknowledged ≡ c.acknowledged)
+    (index : d.known ≡ c.known) (stop : d.stop ≡ None) (k after : CoreCollection)
     (r : Runs c.tables.held m.swept m.collection k) (under : IsUnderWay c.tables.held k) (is_after : d.collection ≡ Some after) where
   abbrev t : SlotTable
   t = c.tables.held

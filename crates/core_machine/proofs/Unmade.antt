@@ -151,7 +151,8 @@ copy_unmade t live known old new source entry s refusal is = copy_by t known liv
 -- ---- the steps
 
 module _ {followed : Bool} (c : CoreState) (m : M) (at : IsMachine followed m c) (runs : m.state ≡ Running) (d : CoreState) (a : ℕ)
-    (size : d.disk.size ≡ c.disk.size) (parts : d.parts ≡ c.parts) (tables : d.tables ≡ c.tables) (count : d.acknowledged ≡ c.acknowledged) (k after : CoreCollection) (ran : c.collection ≡ Some k)
+    (size : d.disk.size ≡ c.disk.size) (parts : d.parts ≡ c.parts) (tables : d.tables ≡ c.tables)
+    (count : d.acknowledged ≡ c.acknowledged) (k after : CoreCollection) (ran : c.collection ≡ Some k)
     (r : Runs c.tables.held m.swept m.collection k) (under : IsUnderWay c.tables.held k) (is_after : d.collection ≡ Some after) where
   abbrev t : SlotTable
   t = c.tables.held
@@ -260,7 +261,8 @@ module _ {followed : Bool} (c : CoreState) (m : M) (at : IsMachine followed m c)
   phase_now : (stage : CoreStage) (next : Next) → k.stage ≡ stage → k.sweep.next ≡ next → phase_at k.stage k.sweep.next ≡ phase_at stage next
   phase_now stage next is next_is = ap (phase_at k.stage) next_is ∙ ap (λ (s : CoreStage). phase_at s next) is
 
-  not_copied : (refusal : Refusal) → phase_at k.stage k.sweep.next ≡ phases.Copy → IsCollecting phases.Copy m.store m.collection → Unmade phases.Copy refusal ⊎ Broken refusal → after ≡ k → MapStays c.known d.known refusal
+  not_copied : (refusal : Refusal) → phase_at k.stage k.sweep.next ≡ phases.Copy → IsCollecting phases.Copy m.store m.collection → Unmade phases.Copy refusal ⊎ Broken refusal
+      → after ≡ k → MapStays c.known d.known refusal
       → StopsAfter steps.GcStep (Err refusal) c.acknowledged d.stop → Left refusal
   not_copied refusal now is (inl may) same stays stops = left_by phases.Copy refusal is may (kept_run same) (map_same refusal may stays) stops
   not_copied refusals.DiskWrite now is (inr broke) same stays stops = stops_by phases.Copy now [] refl (inl (is, refl)) (still same) stops
@@ -304,7 +306,8 @@ module _ {followed : Bool} (c : CoreState) (m : M) (at : IsMachine followed m c)
         stores_are = refl;
       }))
 
-  not_flushed : (refusal : Refusal) → phase_at k.stage k.sweep.next ≡ phases.Flush → IsCollecting phases.Flush m.store m.collection → (m.last_id < LAST_ID → MayBreak of_roots m written)
+  not_flushed : (refusal : Refusal) → phase_at k.stage k.sweep.next ≡ phases.Flush → IsCollecting phases.Flush m.store m.collection
+      → (m.last_id < LAST_ID → MayBreak of_roots m written)
       → IsFlushStepRefusal c.tables c.known refusal → after ≡ k → KeepsMap c.known d.known refusal → StopsAfter steps.GcStep (Err refusal) c.acknowledged d.stop → Left refusal
   not_flushed refusals.Memory now is broke cause same stays stops = (m, (some_runs t m.swept m.collection k r, refl), rested (kept_run same) stays stops, tt)
   not_flushed refusals.Numbers now is broke cause same stays stops = (m, (no_part, (is, omega (arith, cause, at.last_id), refl)), rested (kept_run same) stays stops, tt)
@@ -327,13 +330,16 @@ module _ {followed : Bool} (c : CoreState) (m : M) (at : IsMachine followed m c)
   not_made core.Select next is next_is refusal cause kept stops =
       left_by phases.Select refusal (collecting core.Select next is next_is) (subst (Unmade phases.Select) (sym cause) tt) (kept_run kept.0) kept.1 stops
   not_made core.Sweep (nexts.Copy source entry) is next_is refusal cause kept stops =
-      not_copied refusal (phase_now core.Sweep (nexts.Copy source entry) is next_is) (collecting core.Sweep (nexts.Copy source entry) is next_is) (copy_unmade t k.live c.known c.disk d.disk source entry k.sweep refusal cause)
+      not_copied refusal (phase_now core.Sweep (nexts.Copy source entry) is next_is) (collecting core.Sweep (nexts.Copy source entry) is next_is)
+      (copy_unmade t k.live c.known c.disk d.disk source entry k.sweep refusal cause)
       kept.0 kept.1 stops
   not_made core.Sweep (nexts.Flush source entry) is next_is refusal cause kept stops =
-      not_flushed refusal (phase_now core.Sweep (nexts.Flush source entry) is next_is) (collecting core.Sweep (nexts.Flush source entry) is next_is) (broken_flush is source entry next_is) cause kept.0 kept.1 stops
+      not_flushed refusal (phase_now core.Sweep (nexts.Flush source entry) is next_is) (collecting core.Sweep (nexts.Flush source entry) is next_is)
+      (broken_flush is source entry next_is) cause kept.0 kept.1 stops
   not_made core.Sweep (nexts.Release source entry) is next_is refusal cause kept stops =
       subst Left (sym cause)
-      (stops_by phases.Release (phase_now core.Sweep (nexts.Release source entry) is next_is) (with_freed (slot_in_turn k.sweep) m.store ∷ []) refl (broken_release is source entry next_is)
+      (stops_by phases.Release (phase_now core.Sweep (nexts.Release source entry) is next_is) (with_freed (slot_in_turn k.sweep) m.store ∷ []) refl
+      (broken_release is source entry next_is)
       (still kept) (subst (λ (x : Refusal). StopsAfter steps.GcStep (Err x) c.acknowledged d.stop) cause stops))
   not_made core.Sweep nexts.End is next_is refusal cause kept stops = absurd cause
 

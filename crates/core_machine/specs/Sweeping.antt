@@ -34,8 +34,9 @@ dead_in (Some plan) = plan.dead.items
 
 -- a copying step forgets these
 abbrev pub ForgetsBy : Phase → Moment → Moment → (before now : List (List ℕ)) → Type 0
-ForgetsBy phases.Copy old new before now = (source entry : ℕ) × (copies : CopiesSource old.tables.held old.collection.live old.known new.known
-    old.disk new.disk source entry old.collection.sweep new.collection.sweep) × (now ≡ before ++ dead_in copies.found)
+ForgetsBy phases.Copy old new before now = (source entry : ℕ)
+    × (copies : CopiesSource old.tables.held old.collection.live old.known new.known old.disk new.disk source entry old.collection.sweep
+    new.collection.sweep) × (now ≡ before ++ dead_in copies.found)
 ForgetsBy phase old new before now = Unit {0}
 
 -- A step was made by the collection that runs in the core: so it was in the machine.

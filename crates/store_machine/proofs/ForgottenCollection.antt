@@ -1,5 +1,5 @@
 -- A step of a collection of the machine of files is one of a collection of roots, once all but the roots is forgotten.
-use Rattle.std.proofs.Common.{◌≡◌, inl, inr, ◌-◌, ℕ, suc, List, [], ◌∷◌, ◌++◌, slice_get, Some, sym, ◌∙◌, ap, subst}
+use Rattle.std.proofs.Common.{◌≡◌, inl, inr, ℕ, suc, List, [], ◌∷◌, ◌++◌, slice_get, Some, sym, ◌∙◌, ap, subst}
 use Rattle.refusals.specs.declared.refusal.Phase.{Phase}
 use Rattle.refusals.specs.declared.refusal.Phase.TheVariants as phases
 use Rattle.gc_select.specs.declared.liveness.ContainerLiveness.{ContainerLiveness}

@@ -2,12 +2,12 @@
 -- Collecting.antt and Opening.antt that says more of files, in their order, with what it says more. A row that is not here says as much of
 -- roots as of files; so do an opened read and its end, by the names and the rests that Forgetting.antt ties. It is said of the machine of
 -- files, m, before the step; and of that of roots after it, t, only where a row speaks of what the step made.
-use Rattle.std.specs.Prelude.{◌≡◌, ℕ, suc, ◌<◌, ◌≤◌, List, [], ◌∷◌, ◌++◌, get_or, length, Contains, Some, None, Result, Ok, Err}
+use Rattle.std.specs.Prelude.{◌≡◌, ℕ, suc, ◌≤◌, List, [], ◌∷◌, ◌++◌, get_or, length, Contains, Some, None, Result, Ok, Err}
 use Rattle.std.specs.List.{AllByRecursion}
 use Rattle.container_meta.specs.declared.kind.Kind.{Kind}
 use Rattle.container_meta.specs.Segments.{Segment, segment_key}
 use Rattle.disk_format.specs.Cells.{Root}
-use Rattle.disk_format.specs.declared.numbers.TheConstants.{MOST_FILE, RESERVE}
+use Rattle.disk_format.specs.declared.numbers.TheConstants.{MOST_FILE}
 use Rattle.gc_select.specs.declared.liveness.ContainerLiveness.{ContainerLiveness}
 use Rattle.merkle_file.specs.declared.top.Top.{Top}
 use Rattle.refusals.specs.declared.refusal.Phase.{Phase}
@@ -17,7 +17,6 @@ use Rattle.refusals.specs.declared.refusal.Refusal.TheVariants.{Clash, DiskRead,
 use Rattle.store_model.specs.Freeing.{FreesTo}
 use Rattle.store_model.specs.Image.{Store}
 use Rattle.store_model.specs.Reserve.{IsSpare}
-use Rattle.store_model.specs.Slots.{free_slots}
 use Rattle.store_model.specs.Steps.{FlushContainer, FreeContainer}
 use Rattle.store_machine.specs.Asked.{Asked}
 use Rattle.store_machine.specs.Asked as asked

@@ -6,7 +6,8 @@ use Rattle.container_meta.specs.declared.entry.Entry.{Entry}
 use Rattle.container_meta.specs.declared.kind.Kind.{Kind}
 use Rattle.container_meta.specs.Segments.{Contents, Segment, keys_of, segment_key}
 use Rattle.container_meta.specs.Spelling.{HeaderValue}
-use Rattle.copy_forward.specs.Copying.{PlansSource}
+use Rattle.copy_forward.specs.Copying.{Forgets, PlansSource}
+use Rattle.copy_forward.specs.Entries.{without_keys}
 use Rattle.copy_forward.specs.declared.plan.Plan.{Plan}
 use Rattle.copy_forward.specs.Planning.{IsPlan, Planned, Source, Takes, TakesOne, planned, source_of}
 use Rattle.dd_disk.specs.Shows.{Shows}
@@ -29,12 +30,16 @@ use Rattle.gc_sweep.proofs.KeyLists.{keys_append}
 use Rattle.gc_steps.specs.declared.collection.Stage.TheVariants as stages
 use Rattle.gc_steps.specs.Stepping.{Moment, SweepsOn, phase_at}
 use Rattle.gc_steps.specs.UnderWay.{IsUnderWay}
+use Rattle.store_core.proofs.Sealing.{one_map}
 use Rattle.store_machine.specs.Collecting.{Copies, Went, freed_in, keys_written, next_by, sources_in}
 use Rattle.store_machine.specs.Machine.{Collection, Sweeping, Sweep}
 use Rattle.store_machine.specs.Values.{of_roots}
 use Rattle.core_machine.specs.Collections.{SameRun, SameSweep, ids_at}
+use Rattle.core_machine.specs.Refines.{TellsForgotten}
+use Rattle.core_machine.specs.Sweeping.{dead_in}
+use Rattle.core_machine.proofs.KeysForgotten.{copied_told}
 use Rattle.core_machine.proofs.NextSteps.{has_each, next_so}
-use Rattle.core_machine.proofs.SweptOn.{AtSweep, Swept, at_sweep, copied_so, entry_next, is_sweeping, no_keys, run_on, source_next}
+use Rattle.core_machine.proofs.SweptOn.{AtSweep, MapMoves, Swept, at_sweep, copied_so, entry_next, is_sweeping, no_keys, run_on, source_next}
 use Rattle.core_machine.proofs.Rows.{M}
 
 -- ---- what is filled
@@ -82,7 +87,7 @@ module _ (m : M) (c : Collection Root) (source entry : ℕ) (old new : Moment) (
     (free : HasFree m.store.held) (last : m.last_id ≡ old.tables.held.last_id) (under : IsUnderWay old.tables.held old.collection)
     (run : SameRun old.tables.held m.swept c old.collection) (stage : old.collection.stage ≡ stages.Sweep) (next_was : old.collection.sweep.next ≡ nexts.Copy source entry)
     (copies : CopiesSource old.tables.held old.collection.live old.known new.known old.disk new.disk source entry old.collection.sweep new.collection.sweep)
-    (sweeps : SweepsOn old new) (tables : new.tables ≡ old.tables) where
+    (sweeps : SweepsOn old new) (tables : new.tables ≡ old.tables) {followed : Bool} (moves : MapMoves followed m.forgotten m.store.held old.known new.known) where
   abbrev t : SlotTable
   t = old.tables.held
 
@@ -140,9 +145,13 @@ module _ (m : M) (c : Collection Root) (source entry : ℕ) (old new : Moment) (
   abbrev went : Phase → Sweep → List (List ℕ) → Went
   went next after gone = record { stage = Sweeping next after; recorded = c.recorded; changes = []; forgotten = m.forgotten ++ gone }
 
-  swept : (next : Phase) (after : Sweep) (gone : List (List ℕ)) → Copies of_roots c m (went next after gone)
-      → SameSweep t true sources (c.changes ++ []) next after k' → Swept phases.Copy m c new.tables new.collection
-  swept next after gone goes same = record {
+  -- the index lacks what is forgotten then
+  abbrev Tells : List (List ℕ) → Type 0
+  Tells gone = followed ≡ true → TellsForgotten (m.forgotten ++ gone) m.store.held moves.after
+
+  swept : (next : Phase) (after : Sweep) (gone : List (List ℕ)) → gone ≡ dead_in copies.found → Tells gone → Copies of_roots c m (went next after gone)
+      → SameSweep t true sources (c.changes ++ []) next after k' → Swept followed moves.after old new phases.Copy m c new.tables new.collection
+  swept next after gone gone_is tells goes same = record {
     went = went next after gone;
     store = m.store;
     goes = goes;
@@ -154,6 +163,9 @@ module _ (m : M) (c : Collection Root) (source entry : ℕ) (old new : Moment) (
     last = refl;
     last_id = last ∙ ap (λ (x : Tables). x.held.last_id) (sym tables);
     last_within = λ few. few;
+    told = tells;
+    changes_are = refl;
+    forgets = (source, entry, copies, ap (λ (keys : List (List ℕ)). m.forgotten ++ keys) gone_is);
     run = run_on t new.tables.held m.swept true c old.collection new.collection next after [] run stage sweeps
         (subst (λ (x : Tables). SameSweep x.held true sources (c.changes ++ []) next after k') (sym tables) same);
   }
@@ -197,9 +209,9 @@ module _ (m : M) (c : Collection Root) (source entry : ℕ) (old new : Moment) (
   abbrev after_none : Sweep
   after_none = record { source = suc s.source; entry = 0; filled = s.filled; waiting = s.waiting; ready = [] }
 
-  left_alone : TakesBy t slot source None k k' → Swept phases.Copy m c new.tables new.collection
-  left_alone (buffer_is, waiting_is, ready_is, copied_is, next) =
-      swept (phase_at stages.Sweep k'.next) after_none [] (
+  left_alone : copies.found ≡ None → new.known ≡ old.known → TakesBy t slot source None k k' → Swept followed moves.after old new phases.Copy m c new.tables new.collection
+  left_alone found_is index (buffer_is, waiting_is, ready_is, copied_is, next) =
+      swept (phase_at stages.Sweep k'.next) after_none [] (sym (ap dead_in found_is)) tells (
         s,
         after_none,
         phase_at stages.Sweep k'.next,
@@ -215,11 +227,25 @@ module _ (m : M) (c : Collection Root) (source entry : ℕ) (old new : Moment) (
       )
       (same_so (phase_at stages.Sweep k'.next) after_none refl (next_source k.buffer next) (next_entry k.buffer next) (at.same.filled_is ∙ ap keys_of (sym buffer_is))
       (at.same.waiting_is ∙ ap (ids_at t) (sym waiting_is)) (ap (ids_at t) (sym ready_is)) (omega (arith, copied_is)))
+    where
+      tells : Tells []
+      tells told = subst (λ (fs : List (List ℕ)). TellsForgotten fs m.store.held moves.after) (sym (append-nil m.forgotten))
+          (subst (TellsForgotten m.forgotten m.store.held) (one_map moves.before moves.after (sym moves.was ∙ sym index ∙ moves.is)) (moves.told told))
 
   -- ---- it was planned
 
   module _ (h : HeaderValue) (plan : Plan) (is : IsPlan (source_of old.known old.collection.live slot h.kind) (Shows old.disk new.disk) h.entries entry copies.filling plan)
-      (buffer_is : k'.buffer ≡ plan.buffer) (copied_is : k'.copied ≡ k.copied + plan.copied) where
+      (buffer_is : k'.buffer ≡ plan.buffer) (copied_is : k'.copied ≡ k.copied + plan.copied) (index : new.known ≡ Some (without_keys plan.dead.items moves.before))
+      (found_is : copies.found ≡ Some plan) where
+    dead_is : plan.dead.items ≡ dead_in copies.found
+    dead_is = sym (ap dead_in found_is)
+
+    -- the keys of dead copies left the index
+    tells : Tells plan.dead.items
+    tells told = subst (TellsForgotten (m.forgotten ++ plan.dead.items) m.store.held)
+        (one_map (without_keys plan.dead.items moves.before) moves.after (sym index ∙ moves.is))
+        (copied_told m.forgotten plan.dead.items m.store.held moves.before (moves.told told))
+
     abbrev filling : Contents
     filling = copies.filling
 
@@ -259,9 +285,9 @@ module _ (m : M) (c : Collection Root) (source entry : ℕ) (old new : Moment) (
     after_waits = record { source = suc s.source; entry = 0; filled = keys_of k'.buffer; waiting = s.waiting ++ id ∷ []; ready = [] }
 
     waits : 0 < plan.copied → k'.waiting.items ≡ k.waiting.items ++ slot ∷ [] → k'.ready.items ≡ [] → IsNext t k.sources.items plan.buffer (source + 1) 0 k'.next
-        → Swept phases.Copy m c new.tables new.collection
+        → Swept followed moves.after old new phases.Copy m c new.tables new.collection
     waits some waiting_is ready_is next =
-        swept (phase_at stages.Sweep k'.next) after_waits plan.dead.items (
+        swept (phase_at stages.Sweep k'.next) after_waits plan.dead.items dead_is tells (
           s,
           after_waits,
           phase_at stages.Sweep k'.next,
@@ -291,9 +317,9 @@ module _ (m : M) (c : Collection Root) (source entry : ℕ) (old new : Moment) (
     after_ready = record { source = suc s.source; entry = 0; filled = s.filled; waiting = s.waiting; ready = id ∷ [] }
 
     is_ready : plan.copied ≡ 0 → k'.waiting.items ≡ k.waiting.items → k'.ready.items ≡ slot ∷ [] → k'.next ≡ nexts.Release (source + 1) 0
-        → Swept phases.Copy m c new.tables new.collection
+        → Swept followed moves.after old new phases.Copy m c new.tables new.collection
     is_ready none waiting_is ready_is next =
-        swept phases.Release after_ready plan.dead.items (
+        swept phases.Release after_ready plan.dead.items dead_is tells (
           s,
           after_ready,
           phases.Release,
@@ -320,9 +346,10 @@ module _ (m : M) (c : Collection Root) (source entry : ℕ) (old new : Moment) (
     abbrev after_stops : Sweep
     after_stops = record { source = s.source; entry = plan.next; filled = keys_of k'.buffer; waiting = s.waiting; ready = [] }
 
-    stops : plan.ended ≡ false → k'.waiting.items ≡ k.waiting.items → k'.ready.items ≡ [] → k'.next ≡ nexts.Flush source plan.next → Swept phases.Copy m c new.tables new.collection
+    stops : plan.ended ≡ false → k'.waiting.items ≡ k.waiting.items → k'.ready.items ≡ [] → k'.next ≡ nexts.Flush source plan.next
+        → Swept followed moves.after old new phases.Copy m c new.tables new.collection
     stops not_ended waiting_is ready_is next =
-        swept phases.Flush after_stops plan.dead.items (
+        swept phases.Flush after_stops plan.dead.items dead_is tells (
           s,
           after_stops,
           phases.Flush,
@@ -351,16 +378,17 @@ module _ (m : M) (c : Collection Root) (source entry : ℕ) (old new : Moment) (
         some_filled none =
             eqb-false plan.next (length h.entries) (sym is.ended_is ∙ not_ended) (is.whole (no_items filling.segments (omega (arith, many_before, ap length none))))
 
-    by_end : (ended : Bool) → plan.ended ≡ ended → EndsBy ended t slot source plan k k' → Swept phases.Copy m c new.tables new.collection
+    by_end : (ended : Bool) → plan.ended ≡ ended → EndsBy ended t slot source plan k k' → Swept followed moves.after old new phases.Copy m c new.tables new.collection
     by_end true is_so (inl (some, waiting_is, ready_is, next)) = waits some waiting_is ready_is next
     by_end true is_so (inr (none, waiting_is, ready_is, next)) = is_ready none waiting_is ready_is next
     by_end false is_so (waiting_is, ready_is, next) = stops is_so waiting_is ready_is next
 
-  by_found : (found : Option Plan) → PlansSource t old.known old.collection.live slot entry copies.filling old.disk new.disk found → TakesBy t slot source found k k'
-      → Swept phases.Copy m c new.tables new.collection
-  by_found None plans takes = left_alone takes
-  by_found (Some plan) plans (buffer_is, copied_is, ends) = by_end plans.header plan plans.plans.1 buffer_is copied_is plan.ended refl ends
+  by_found : (found : Option Plan) → copies.found ≡ found → PlansSource t old.known old.collection.live slot entry copies.filling old.disk new.disk found
+      → Forgets old.known new.known found → TakesBy t slot source found k k' → Swept followed moves.after old new phases.Copy m c new.tables new.collection
+  by_found None is plans forgets takes = left_alone is forgets takes
+  by_found (Some plan) is plans forgets (buffer_is, copied_is, ends) =
+      by_end plans.header plan plans.plans.1 buffer_is copied_is (forgets.0 moves.before moves.was) is plan.ended refl ends
 
   -- A copying step is the machine's, also where the index is another than that of the containers.
-  pub copies_so : Swept phases.Copy m c new.tables new.collection
-  copies_so = by_found copies.found copies.plans copies.takes
+  pub copies_so : Swept followed moves.after old new phases.Copy m c new.tables new.collection
+  copies_so = by_found copies.found refl copies.plans copies.forgets copies.takes

@@ -1,5 +1,5 @@
 -- A step of a core's sweep that writes what was copied, as one of the machine's, on any disk.
-use Rattle.std.proofs.Common.{◌≡◌, ◌≢◌, ℕ, suc, ◌+◌, List, [], ◌∷◌, ◌++◌, length, None, refl, sym, ◌∙◌, ap, subst, arith, length-append}
+use Rattle.std.proofs.Common.{◌≡◌, ◌≢◌, ℕ, suc, ◌+◌, Bool, true, List, [], ◌∷◌, ◌++◌, length, None, refl, sym, ◌∙◌, ap, subst, arith, length-append}
 use Rattle.container_meta.specs.declared.kind.Kind.{Kind}
 use Rattle.container_meta.specs.Segments.{Segment, keys_of}
 use Rattle.container_meta.specs.Spelling.{HeaderValue, header_of}
@@ -20,18 +20,23 @@ use Rattle.gc_sweep.specs.UnderWay.{HasNext, IsSweeping, IsTaken, entry_in, sour
 use Rattle.gc_steps.specs.declared.collection.Stage.TheVariants as stages
 use Rattle.gc_steps.specs.Stepping.{Flushes as CoreFlushes, Moment, phase_at}
 use Rattle.gc_steps.specs.UnderWay.{IsUnderWay}
+use Rattle.store_core.proofs.Sealing.{one_map}
 use Rattle.store_machine.specs.Collecting.{keys_written, next_of, sources_in}
 use Rattle.store_machine.specs.Machine.{Collection, Sweeping, Sweep}
+use Rattle.store_machine.specs.Needs.{forgotten_beside}
 use Rattle.store_machine.proofs.Swept.{freed_more, written_more}
 use Rattle.core_machine.specs.Collections.{HasCopied, SameRun, SameSweep, ids_at}
+use Rattle.core_machine.specs.Refines.{FollowsPhase, TellsForgotten}
 use Rattle.core_machine.proofs.Beside.{ids_same}
-use Rattle.core_machine.proofs.SweptOn.{AtSweep, Swept, at_sweep, is_sweeping, next_ready, no_keys, run_on}
+use Rattle.core_machine.proofs.KeysForgotten.{put_told}
+use Rattle.core_machine.proofs.SweptOn.{AtSweep, MapMoves, Swept, at_sweep, is_sweeping, next_ready, no_keys, run_on}
 use Rattle.core_machine.proofs.Rows.{M}
 
 module _ (m : M) (c : Collection Root) (source entry : ℕ) (old new : Moment) (represents : Represents m.store None old.tables) (valid : IsValidFor old.disk.size m.store)
     (free : HasFree m.store.held) (last : m.last_id ≡ old.tables.held.last_id) (under : IsUnderWay old.tables.held old.collection)
     (run : SameRun old.tables.held m.swept c old.collection) (stage : old.collection.stage ≡ stages.Sweep) (next_was : old.collection.sweep.next ≡ nexts.Flush source entry)
-    (flushes : CoreFlushes source entry old new) where
+    (flushes : CoreFlushes source entry old new) {followed : Bool} (moves : MapMoves followed m.forgotten m.store.held old.known new.known)
+    (content : followed ≡ true → FollowsPhase phases.Flush old.disk.content) where
   abbrev t : SlotTable
   t = old.tables.held
 
@@ -142,14 +147,23 @@ module _ (m : M) (c : Collection Root) (source entry : ℕ) (old new : Moment) (
     swept_is = subst (λ (p : Phase). HasCopied p m.swept) (sym is_ready) (subst (λ (p : Phase). HasCopied p m.swept) phase_was at.same.swept_is);
   }
 
+  -- the index has its keys, if the disk tells its content
+  tells : followed ≡ true → TellsForgotten (forgotten_beside s.filled m.forgotten) after.held moves.after
+  tells told =
+      let image = content told in
+      let index = flushes.places image.0 image.1 moves.before moves.was in
+      subst (λ (keys : List (List ℕ)). TellsForgotten (forgotten_beside keys m.forgotten) after.held moves.after) keys_filled
+      (subst (TellsForgotten (forgotten_beside (keys_of k.buffer) m.forgotten) after.held) (one_map _ moves.after (sym index ∙ moves.is))
+      (put_told m.forgotten (suc m.last_id) flushes.slot kind segments m.store moves.before free (moves.told told)))
+
   -- What was copied is written, whatever the index has.
-  pub flushes_so : Swept phases.Flush m c new.tables new.collection
+  pub flushes_so : Swept followed moves.after old new phases.Flush m c new.tables new.collection
   flushes_so = record {
     went = record {
       stage = Sweeping (next_of m.store.held sources swept_on) swept_on;
       recorded = c.recorded;
       changes = FlushContainer (suc m.last_id) kind segments ∷ [];
-      forgotten = m.forgotten;
+      forgotten = forgotten_beside s.filled m.forgotten;
     };
     store = after;
     goes = (
@@ -172,6 +186,9 @@ module _ (m : M) (c : Collection Root) (source entry : ℕ) (old new : Moment) (
     free = omega (arith, wrote.0.slot, free_sealed (suc m.last_id) kind segments m.store wrote.0);
     names = refl;
     last = refl;
+    told = tells;
+    changes_are = refl;
+    forgets = tt;
     last_id = sym one ∙ sym flushes.writes.written.last_is;
     last_within = λ few. omega (arith, flushes.writes.has_slot.below, last);
     run = run_on t now m.swept m.swept c old.collection new.collection (next_of m.store.held sources swept_on) swept_on

@@ -1,11 +1,13 @@
 -- A step of a core's sweep that gives a source back, as one of the machine's, on any disk.
-use Rattle.std.proofs.Common.{◌≡◌, ◌≢◌, ℕ, zero, suc, ◌+◌, ◌≤◌, true, false, List, [], ◌∷◌, ◌++◌, Contains, drop, get_or, length, set, None, refl, sym, ◌∙◌, ap, subst, arith, append-nil}
+use Rattle.std.proofs.Common.{◌≡◌, ◌≢◌, ℕ, zero, suc, ◌+◌, ◌≤◌, Bool, true, false, List, [], ◌∷◌, ◌++◌, Contains, drop, get_or, length, set, Option, None, refl, sym, ◌∙◌, ap, subst, arith, append-nil}
 use Rattle.std.specs.Prelude.{nat_eq}
 use Rattle.std.specs.List.{AllByRecursion, IsDistinct}
 use Rattle.std.proofs.lemmas.Bool.{eq-eqb}
 use Rattle.std.proofs.lemmas.List.{get_or-set_other}
 use Rattle.std.proofs.lemmas.List.Elements.{Contains-append_right}
+use Rattle.base_model.specs.Known.{Known}
 use Rattle.container_meta.specs.Segments.{keys_of}
+use Rattle.container_meta.specs.Spelling.{HeaderValue}
 use Rattle.disk_format.specs.Cells.{Root}
 use Rattle.refusals.specs.declared.refusal.Phase.{Phase}
 use Rattle.refusals.specs.declared.refusal.Phase.TheVariants as phases
@@ -15,7 +17,7 @@ use Rattle.store_model.specs.Slots.{HasFree}
 use Rattle.store_model.specs.Steps.{FreeContainer, StoreChange}
 use Rattle.store_model.proofs.Freed.{free_freed, valid_freed}
 use Rattle.store_state.specs.declared.slot_table.SlotTable.{SlotTable}
-use Rattle.store_state.specs.Tables.{Represents}
+use Rattle.store_state.specs.Tables.{Represents, RepresentsSlots}
 use Rattle.store_state.proofs.Taken.{ids_without}
 use Rattle.gc_sweep.specs.declared.sweep.Next.TheVariants as nexts
 use Rattle.gc_sweep.specs.declared.sweep.Sweep.{Sweep as CoreSweep}
@@ -23,15 +25,19 @@ use Rattle.gc_sweep.specs.InTurn.{HasReleased, slot_in_turn}
 use Rattle.gc_sweep.specs.Releasing.{HasFreed}
 use Rattle.gc_sweep.specs.UnderWay.{HasNext, IsSweeping, entry_in, sources_before}
 use Rattle.gc_sweep.proofs.InSlots.{IsSourceIn, id_at, stands_in}
+use Rattle.gc_steps.specs.declared.collection.Collection.{Collection as CoreCollection}
 use Rattle.gc_steps.specs.declared.collection.Stage.TheVariants as stages
 use Rattle.gc_steps.specs.Stepping.{Moment, SweepsOn, phase_at}
 use Rattle.gc_steps.specs.UnderWay.{IsUnderWay}
+use Rattle.store_core.proofs.Sealing.{one_map}
 use Rattle.store_machine.specs.Collecting.{keys_written, next_by, next_of, sources_in}
 use Rattle.store_machine.specs.Machine.{Collection, Sweeping, Sweep}
 use Rattle.store_machine.proofs.Swept.{freed_more, written_more}
 use Rattle.core_machine.specs.Collections.{HasCopied, SameRun, SameSweep, ids_at}
+use Rattle.core_machine.specs.Refines.{FollowsPhase, TellsForgotten}
+use Rattle.core_machine.proofs.KeysForgotten.{freed_told}
 use Rattle.core_machine.proofs.NextSteps.{has_before, next_so}
-use Rattle.core_machine.proofs.SweptOn.{AtSweep, Swept, at_sweep, entry_next, ids_kept, is_sweeping, run_on, source_next}
+use Rattle.core_machine.proofs.SweptOn.{AtSweep, MapMoves, Swept, at_sweep, entry_next, ids_kept, is_sweeping, run_on, source_next}
 use Rattle.core_machine.proofs.Rows.{M}
 
 -- ---- slots that differ
@@ -56,11 +62,39 @@ first_and_rest : (xs : List ℕ) → xs ≢ [] → xs ≡ get_or xs 0 0 ∷ drop
 first_and_rest [] some = absurd (some refl)
 first_and_rest (x ∷ xs) some = refl
 
+-- ---- the first source that is ready, in the core and in the machine
+
+pub record InTurn (held : List (Option HeaderValue)) (t : SlotTable) (swept : Bool) (c : Collection Root) (snapshot : ℕ) (k : CoreSweep) : Type 0 where
+  pub at : AtSweep t swept c k
+  pub phase_was : at.next ≡ phases.Release
+  pub ready_was : k.ready.items ≡ slot_in_turn k ∷ drop 1 k.ready.items
+  pub stands : IsSourceIn held snapshot k.sources.items (sources_before k k.next) (slot_in_turn k)
+  pub id_is : stands.header.id ≡ get_or t.ids.items (slot_in_turn k) 0
+
+pub in_turn : (held : List (Option HeaderValue)) (t : SlotTable) (swept : Bool) (c : Collection Root) (k : CoreCollection) → RepresentsSlots held t → IsUnderWay t k
+    → SameRun t swept c k → k.stage ≡ stages.Sweep → (source entry : ℕ) → k.sweep.next ≡ nexts.Release source entry → InTurn held t swept c k.snapshot k.sweep
+in_turn held t swept c k slots under run stage source entry next_was =
+    let at = at_sweep t swept c k run stage in
+    let sweeping = is_sweeping t k under stage in
+    let has : HasNext t k.sweep (nexts.Release source entry) = subst (HasNext t k.sweep) next_was sweeping.next_is in
+    let slot = slot_in_turn k.sweep in
+    let ready = first_and_rest k.sweep.ready.items has.0 in
+    let stands = stands_in held t k.snapshot k.sweep sweeping slots slot
+    (Contains-append_right k.sweep.waiting.items k.sweep.ready.items slot (subst (λ (xs : List ℕ). Contains xs slot) (sym ready) (0, omega arith, refl))) in
+    record {
+      at = at;
+      phase_was = at.same.next_is ∙ ap (phase_at stages.Sweep) next_was;
+      ready_was = ready;
+      stands = stands;
+      id_is = sym (id_at held slot stands.header stands.there) ∙ ap (λ (ids : List ℕ). get_or ids slot 0) (sym slots.ids_are);
+    }
+
 module _ (m : M) (c : Collection Root) (source entry : ℕ) (old new : Moment) (represents : Represents m.store None old.tables) (valid : IsValidFor old.disk.size m.store)
     (free : HasFree m.store.held) (last : m.last_id ≡ old.tables.held.last_id) (under : IsUnderWay old.tables.held old.collection)
     (run : SameRun old.tables.held m.swept c old.collection) (stage : old.collection.stage ≡ stages.Sweep) (next_was : old.collection.sweep.next ≡ nexts.Release source entry)
     (released : HasReleased new.tables.held source entry old.collection.sweep new.collection.sweep) (sweeps : SweepsOn old new)
-    (freed : HasFreed old.tables (slot_in_turn old.collection.sweep) new.tables) where
+    (freed : HasFreed old.tables (slot_in_turn old.collection.sweep) new.tables) {followed : Bool} (moves : MapMoves followed m.forgotten m.store.held old.known new.known)
+    (index : Known old.disk.content (λ _. new.known ≡ old.known)) (content : followed ≡ true → FollowsPhase phases.Release old.disk.content) where
   abbrev t : SlotTable
   t = old.tables.held
 
@@ -73,8 +107,11 @@ module _ (m : M) (c : Collection Root) (source entry : ℕ) (old new : Moment) (
   abbrev k' : CoreSweep
   k' = new.collection.sweep
 
-  at : AtSweep t m.swept c k
-  at = at_sweep t m.swept c old.collection run stage
+  turn : InTurn m.store.held t m.swept c old.collection.snapshot k
+  turn = in_turn m.store.held t m.swept c old.collection represents.slots_hold under run stage source entry next_was
+
+  abbrev at : AtSweep t m.swept c k
+  at = turn.at
 
   abbrev s : Sweep
   s = at.s
@@ -87,9 +124,6 @@ module _ (m : M) (c : Collection Root) (source entry : ℕ) (old new : Moment) (
 
   has : HasNext t k (nexts.Release source entry)
   has = subst (HasNext t k) next_was sweeping.next_is
-
-  phase_was : at.next ≡ phases.Release
-  phase_was = at.same.next_is ∙ ap (phase_at stages.Sweep) next_was
 
   source_is : s.source ≡ source
   source_is = at.same.source_is ∙ ap (sources_before k) next_was
@@ -105,19 +139,11 @@ module _ (m : M) (c : Collection Root) (source entry : ℕ) (old new : Moment) (
   abbrev others : List ℕ
   others = drop 1 k.ready.items
 
-  ready_was : k.ready.items ≡ slot ∷ others
-  ready_was = first_and_rest k.ready.items has.0
-
-  stands : IsSourceIn m.store.held old.collection.snapshot k.sources.items (sources_before k k.next) slot
-  stands =
-      stands_in m.store.held t old.collection.snapshot k sweeping represents.slots_hold slot
-      (Contains-append_right k.waiting.items k.ready.items slot (subst (λ (xs : List ℕ). Contains xs slot) (sym ready_was) (0, omega arith, refl)))
+  abbrev stands : IsSourceIn m.store.held old.collection.snapshot k.sources.items (sources_before k k.next) slot
+  stands = turn.stands
 
   abbrev id : ℕ
   id = get_or t.ids.items slot 0
-
-  id_is : stands.header.id ≡ id
-  id_is = sym (id_at m.store.held slot stands.header stands.there) ∙ ap (λ (ids : List ℕ). get_or ids slot 0) (sym represents.slots_hold.ids_are)
 
   abbrev after : Store
   after = with_freed slot m.store
@@ -138,7 +164,7 @@ module _ (m : M) (c : Collection Root) (source entry : ℕ) (old new : Moment) (
       each (w ∷ ws) all = (ap (λ (ids : List ℕ). get_or ids w 0) ids_now ∙ get_or-set_other t.ids.items slot w 0 0 all.0, each ws all.1)
 
   apart : AllByRecursion (λ w. w ≢ slot) k.waiting.items × AllByRecursion (λ w. w ≢ slot) others
-  apart = apart_from k.waiting.items slot others (subst (λ (xs : List ℕ). IsDistinct nat_eq (k.waiting.items ++ xs)) ready_was sweeping.apart)
+  apart = apart_from k.waiting.items slot others (subst (λ (xs : List ℕ). IsDistinct nat_eq (k.waiting.items ++ xs)) turn.ready_was sweeping.apart)
 
   -- ---- the sweep
 
@@ -218,11 +244,18 @@ module _ (m : M) (c : Collection Root) (source entry : ℕ) (old new : Moment) (
     copied_is =
         released.copied_is ∙ at.same.copied_is
         ∙ ap (λ (ks : List (List ℕ)). length ks + length s.filled) (sym (written_more c.changes (FreeContainer slot ∷ []) ∙ append-nil (keys_written c.changes)));
-    swept_is = swept_so (next_of m.store.held sources swept_on) (subst (λ (p : Phase). HasCopied p m.swept) phase_was at.same.swept_is);
+    swept_is = swept_so (next_of m.store.held sources swept_on) (subst (λ (p : Phase). HasCopied p m.swept) turn.phase_was at.same.swept_is);
   }
 
+  -- the index is the same, if the disk tells its content
+  tells : followed ≡ true → TellsForgotten m.forgotten after.held moves.after
+  tells told =
+      let image = content told in
+      subst (TellsForgotten m.forgotten after.held) (one_map moves.before moves.after (sym moves.was ∙ sym (index image.0 image.1) ∙ moves.is))
+      (freed_told m.forgotten slot m.store.held moves.before (moves.told told))
+
   -- A source is given back, whatever the index has.
-  pub releases_so : Swept phases.Release m c new.tables new.collection
+  pub releases_so : Swept followed moves.after old new phases.Release m c new.tables new.collection
   releases_so = record {
     went = record {
       stage = Sweeping (next_of m.store.held sources swept_on) swept_on;
@@ -237,10 +270,10 @@ module _ (m : M) (c : Collection Root) (source entry : ℕ) (old new : Moment) (
       id,
       slot,
       rest,
-      at.stage_is ∙ ap (λ (p : Phase). Sweeping p s) phase_was,
-      at.same.ready_is ∙ ap (ids_at t) ready_was,
+      at.stage_is ∙ ap (λ (p : Phase). Sweeping p s) turn.phase_was,
+      at.same.ready_is ∙ ap (ids_at t) turn.ready_was,
       refl,
-      (stands.header, stands.there, id_is),
+      (stands.header, stands.there, turn.id_is),
       refl,
       refl,
       refl,
@@ -253,6 +286,9 @@ module _ (m : M) (c : Collection Root) (source entry : ℕ) (old new : Moment) (
     free = omega (arith, free, free_freed slot stands.header m.store.held stands.there);
     names = refl;
     last = refl;
+    told = tells;
+    changes_are = refl;
+    forgets = tt;
     last_id = last ∙ sym freed.last_stays;
     last_within = λ few_ids. few_ids;
     run = run_on t now m.swept m.swept c old.collection new.collection (next_of m.store.held sources swept_on) swept_on (FreeContainer slot ∷ []) run stage sweeps same_now;

@@ -1,5 +1,5 @@
 -- What has been opened on any disk is a machine of roots, and what could not be opened is the one that it was, or is stopped.
-use Rattle.std.proofs.Common.{◌≡◌, inl, inr, ℕ, zero, suc, false, List, [], ◌++◌, replicate, Option, Some, None, Ok, refl, sym, ◌∙◌, ap, subst, arith}
+use Rattle.std.proofs.Common.{◌≡◌, inl, inr, ℕ, zero, suc, false, List, [], ◌++◌, replicate, Option, Some, None, Ok, refl, sym, ◌∙◌, ap, subst, arith, Bool}
 use Rattle.std.specs.FinMap as finite
 use Rattle.actor_parts.specs.declared.actor.TheConstants.{ACTORS}
 use Rattle.actor_parts.specs.declared.part.Part.TheVariants as core
@@ -26,9 +26,10 @@ use Rattle.store_machine.specs.Machine.{Found, Idle, RunState, Running, Stopped,
 use Rattle.store_machine.specs.Opening.{MayRefuseOpening, freeing}
 use Rattle.store_machine.specs.Values.{of_roots}
 use Rattle.store_machine.proofs.SameNames.{get_mapped, len_changed, mapped}
-use Rattle.core_machine.specs.Openings.{OpenedRefines, Reopens, UnopenedRefines}
+use Rattle.core_machine.specs.Openings.{OpenedRefines, Reopens, UnopenedRefines, stores_left}
 use Rattle.core_machine.specs.Collections.{SameCollection}
 use Rattle.core_machine.specs.Refines.{IsMachine, SameParts, SameStop}
+use Rattle.core_machine.proofs.KeysForgotten.{opened_told}
 use Rattle.core_machine.proofs.Rows.{M}
 
 all_same : (count : ℕ) → SameParts (replicate count Idle) (replicate count core.Idle)
@@ -68,8 +69,8 @@ module _ (before : DiskView) (c : CoreState) (read : IsReadFrom before c) (runs 
   is_index : (places : PlaceMap) → c.known ≡ Some places → IsIndexOf opened.store.held places
   is_index places is = opened.whole places is
 
-  rests : IsMachine (at_rest opened.store) c
-  rests = record {
+  rests : (followed : Bool) → IsMachine followed (at_rest opened.store) c
+  rests followed = record {
     represents = unindexed opened.store c.known c.tables opened.represents;
     valid = subst (λ (size : ℕ). IsValidFor size opened.store) (sym read.reads.only.later.size_is) opened.valid;
     free = omega (arith, opened.reserve);
@@ -79,7 +80,12 @@ module _ (before : DiskView) (c : CoreState) (read : IsReadFrom before c) (runs 
     last_within = omega (arith, last_within opened.store.held opened.valid.headers);
     parts = subst (SameParts all_idle) (sym opened.parts_are) (all_same ACTORS);
     acknowledged = sym opened.counted;
-    index = λ _. record { places = opened.told.0; known_is = opened.told.1; newest = λ _. (refl, is_index opened.told.0 opened.told.1) };
+    index = λ _. record {
+      places = opened.told.0;
+      known_is = opened.told.1;
+      newest = λ _. (refl, is_index opened.told.0 opened.told.1);
+      told = λ _. opened_told opened.store.held opened.told.0 (is_index opened.told.0 opened.told.1);
+    };
     collection = subst (SameCollection c.tables.held false None) (sym opened.collection_is) tt;
     state = subst (SameStop 0 Running) (sym opened.stop_is) tt;
   }
@@ -105,9 +111,9 @@ module _ (before : DiskView) (c : CoreState) (read : IsReadFrom before c) (runs 
 module _ (D : Type 0) (view : D → DiskView) (C : Type 0) (state : C → CoreState) where
   pub opened_refines : OpenedRefines D view C state
   opened_refines actor before c (inl read) runs =
-      (at_rest read.opened.store, (rests (view before) (state c) read runs, comes (view before) (state c) read runs actor))
+      (at_rest read.opened.store, (rests (view before) (state c) read runs, refl, comes (view before) (state c) read runs actor))
   opened_refines actor before c (inr (mid, (made, read))) runs =
-      (at_rest read.opened.store, (rests (view mid) (state c) read runs, comes (view mid) (state c) read runs actor))
+      (at_rest read.opened.store, (rests (view mid) (state c) read runs, refl, comes (view mid) (state c) read runs actor))
 
 -- ---- one that was not
 
@@ -151,8 +157,8 @@ module _ (D : Type 0) (view : D → DiskView) where
   stops_so count at stores refusal Running is = is
   stops_so count at stores refusal (Stopped other before) is = is
 
-  module _ (refusal : Refusal) (old new : CoreState) (m : M) (at : IsMachine m old) where
-    as_it_was : IsKept old new → Reads (ending_of (blames refusal)) old.disk new.disk → IsMachine m new
+  module _ {followed : Bool} (refusal : Refusal) (old new : CoreState) (m : M) (at : IsMachine followed m old) where
+    as_it_was : IsKept old new → Reads (ending_of (blames refusal)) old.disk new.disk → IsMachine followed m new
     as_it_was kept reads = record {
       represents = subst (Represents m.store None) (sym kept.tables_are) at.represents;
       valid = subst (λ (size : ℕ). IsValidFor size m.store) (sym reads.only.later.size_is) at.valid;
@@ -163,14 +169,14 @@ module _ (D : Type 0) (view : D → DiskView) where
       last_within = at.last_within;
       parts = subst (SameParts m.parts) (sym kept.parts_are) at.parts;
       acknowledged = at.acknowledged ∙ sym kept.counted;
-      index = λ running. let own = at.index running in record { places = own.places; known_is = kept.index_is ∙ own.known_is; newest = own.newest };
+      index = λ running. let own = at.index running in record { places = own.places; known_is = kept.index_is ∙ own.known_is; newest = own.newest; told = own.told };
       collection = subst (λ (t : Tables). SameCollection t.held m.swept m.collection new.collection) (sym kept.tables_are)
           (subst (SameCollection old.tables.held m.swept m.collection) (sym kept.collection_is) at.collection);
       state = subst (SameStop m.acknowledged m.state) (sym kept.stop_is) at.state;
     }
 
-    stopped_so : StopsUnopened D view refusal old new → IsMachine (record m { state = freeing of_roots [] m.state }) new
-    stopped_so stops = record {
+    stopped_so : (stores : List Store) → StopsUnopened D view refusal old new → IsMachine followed (record m { state = freeing of_roots stores m.state }) new
+    stopped_so stores stops = record {
       represents = subst (Represents m.store None) (sym stops.tables_are) at.represents;
       valid = subst (λ (size : ℕ). IsValidFor size m.store) (sym (same_size refusal old.disk new.disk stops.wrote)) at.valid;
       free = at.free;
@@ -180,20 +186,25 @@ module _ (D : Type 0) (view : D → DiskView) where
       last_within = at.last_within;
       parts = subst (SameParts m.parts) (sym stops.parts_are) at.parts;
       acknowledged = at.acknowledged ∙ sym stops.counted;
-      index = λ running. absurd (never_runs [] m.state running);
+      index = λ running. absurd (never_runs stores m.state running);
       collection = subst (λ (t : Tables). SameCollection t.held m.swept m.collection new.collection) (sym stops.tables_are)
           (subst (SameCollection old.tables.held m.swept m.collection) (sym stops.collection_is) at.collection);
-      state = subst (SameStop m.acknowledged (freeing of_roots [] m.state)) (sym stops.stop_is) (stops_so m.acknowledged old.acknowledged [] refusal m.state (sym at.acknowledged));
+      state = subst (SameStop m.acknowledged (freeing of_roots stores m.state)) (sym stops.stop_is)
+          (stops_so m.acknowledged old.acknowledged stores refusal m.state (sym at.acknowledged));
     }
 
 module _ (D : Type 0) (view : D → DiskView) (C : Type 0) (state : C → CoreState) where
   pub unopened_refines : UnopenedRefines D view C state
-  unopened_refines actor refusal old new m at none (inl (kept, reads)) =
-      (m, ((may_refuse D view refusal (state old).disk (state new).disk none, inl refl), as_it_was D view refusal (state old) (state new) m at kept reads))
-  unopened_refines actor refusal old new m at none (inr stops) = (
-    record m { state = freeing of_roots [] m.state },
-    (
-      (may_refuse D view refusal (state old).disk (state new).disk none, inr ([], refl, (λ known. absurd known))),
-      stopped_so D view refusal (state old) (state new) m at stops,
-    ),
+  unopened_refines followed actor refusal old new m at none (inl (kept, reads)) = (
+    m,
+    ((may_refuse D view refusal (state old).disk (state new).disk none, inl refl), as_it_was D view refusal (state old) (state new) m at kept reads, refl),
   )
+  unopened_refines followed actor refusal old new m at none (inr stops) =
+      let stores = stores_left D view refusal (state old).disk (state new).disk stops.wrote in (
+        record m { state = freeing of_roots stores m.state },
+        (
+          (may_refuse D view refusal (state old).disk (state new).disk none, inr (stores, refl, (λ known. absurd known))),
+          stopped_so D view refusal (state old) (state new) m at stores stops,
+          refl,
+        ),
+      )

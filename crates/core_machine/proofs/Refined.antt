@@ -2,7 +2,7 @@
 use Rattle.container_meta.specs.Places.{PlaceMap}
 use Rattle.container_meta.specs.Segments.{KindSegment}
 use Rattle.read_steps.specs.Counting.{counts_of}
-use Rattle.std.proofs.Common.{◌≡◌, ℕ, List, [], ◌∷◌, Option, Some, None, Result, Ok, Err, refl, sym, ◌∙◌, ap, subst}
+use Rattle.std.proofs.Common.{◌≡◌, ℕ, List, [], ◌∷◌, Option, Some, None, Result, Ok, Err, refl, sym, ◌∙◌, ap, subst, Bool, true}
 use Rattle.disk_format.specs.Cells.{Root}
 use Rattle.merkle_file.specs.declared.top.Top.{Top}
 use Rattle.actor_parts.specs.declared.step.Answer.{Answer}
@@ -15,6 +15,7 @@ use Rattle.store_core.specs.declared.stop.Stop.{Stop}
 use Rattle.store_core.specs.Core.{ClaimRow, ListRow, StatRow, AbortRow, AnswersStopped, BeginRow, EndRow, Made, OpenRow, ReadRow, Steps, StepsOr, StopsAfter, counted}
 use Rattle.store_core.specs.State.{CoreState, Event, IsUnderWayIn, IsUp, UnlessStopped}
 use Rattle.store_machine.specs.Asked.{Asked}
+use Rattle.store_machine.specs.Asked as asked
 use Rattle.store_machine.specs.Done.{Done}
 use Rattle.store_machine.specs.Legal.{Answers, ByState, LegalBy}
 use Rattle.store_machine.specs.Machine.{RunState, Running, Stopped}
@@ -22,7 +23,8 @@ use Rattle.store_machine.specs.Values.{IsStuck, of_roots}
 use Rattle.store_state.specs.declared.tables.Tables.{Tables}
 use Rattle.store_core.specs.Collecting.{Collects, IsKeptKey, StartRow}
 use Rattle.core_machine.specs.Collections.{SameCollection}
-use Rattle.core_machine.specs.Refines.{CoreRefines, HasIndex, IsMachine, SameParts, SameStop, asked_by, answered_by}
+use Rattle.core_machine.specs.Sweeping.{NamesStep}
+use Rattle.core_machine.specs.Refines.{CoreRefines, Follows, HasIndex, IsMachine, SameParts, SameStop, asked_by, answered_by}
 use Rattle.store_model.specs.Image.{IsValidFor}
 use Rattle.store_state.specs.Tables.{Represents}
 use Rattle.core_machine.proofs.Collected.{gc_row}
@@ -96,67 +98,77 @@ module _ (c d : CoreState) where
   list_quiet (Ok answer) row stop count = absurd row
   list_quiet (Err refusal) row stop count = absurd row
 
-  stat_quiet : {m : M} → IsMachine m c → (answer : Result Answer Refusal) → StatRow answer c d → Quiet steps.Stat answer
-  stat_quiet {m} at (Ok answer) row stop count =
+  stat_quiet : {followed : Bool} {m : M} → IsMachine followed m c → (answer : Result Answer Refusal) → StatRow answer c d → Quiet steps.Stat answer
+  stat_quiet {followed} {m} at (Ok answer) row stop count =
       let is : answer ≡ counts_of m.store = row.0.store_has m.store at.represents at.valid at.free in
       (subst (λ (x : Answer). StopsAfter steps.Stat (Ok x) c.acknowledged d.stop) is stop, subst (λ (x : Answer). d.acknowledged ≡ counted (Ok x) c.acknowledged) is count)
   stat_quiet at (Err refusal) row stop count = absurd row
 
 -- ---- a core that runs
 
-module _ (c d : CoreState) (m : M) (at : IsMachine m c) (runs : m.state ≡ Running) (under : IsUnderWayIn c.tables.held c.collection) (a : ℕ) (buf : List ℕ) where
-  own : HasIndex m.swept m.forgotten m.store.held c.known
+module _ {followed : Bool} (c d : CoreState) (m : M) (at : IsMachine followed m c) (runs : m.state ≡ Running) (under : IsUnderWayIn c.tables.held c.collection)
+    (a : ℕ) (buf : List ℕ) where
+  own : HasIndex followed m.swept m.forgotten m.store.held c.known
   own = at.index runs
 
   abbrev Left : Result Answer Refusal → Asked Root → Type 0
-  Left answer step = (n : M) × Answers of_roots a step (answered_by answer buf) m n × IsMachine n d
+  Left answer step = (n : M) × Answers of_roots a step (answered_by answer buf) m n × IsMachine followed n d
+
+  -- with what a step of a collection did
+  abbrev Named : StepValue → Result Answer Refusal → Type 0
+  Named s answer = (n : M) × Answers of_roots a (asked_by s) (answered_by answer buf) m n × IsMachine followed n d × NamesStep s answer c d m n
+
+  -- any other does nothing to name
+  unnamed : (answer : Result Answer Refusal) (step : Asked Root) → Left answer step
+      → (n : M) × Answers of_roots a step (answered_by answer buf) m n × IsMachine followed n d × Unit {0}
+  unnamed answer step left = (left.0, left.1, left.2, tt)
 
   made_by : (s : StepValue) (answer : Result Answer Refusal) → Made s a answer buf c d → Collects s answer c d → StopsAfter s answer c.acknowledged d.stop
-      → d.acknowledged ≡ counted answer c.acknowledged → Left answer (asked_by s)
-  made_by steps.Begin answer made collects stop count =
+      → d.acknowledged ≡ counted answer c.acknowledged → (followed ≡ true → Follows answer c) → Named s answer
+  made_by steps.Begin answer made collects stop count follows =
       let quiet = begin_quiet c d a answer made.row stop count in
-      begin_row c m at runs d a answer buf made.row
-      (left_by c m at runs d made.effect.tables made.effect.disk.only.later.size_is quiet.1 (same_at c m at runs d collects) quiet.0)
-  made_by steps.Abort answer made collects stop count =
+      unnamed answer asked.Begin (begin_row c m at runs d a answer buf made.row
+      (left_by c m at runs d made.effect.tables made.effect.disk.only.later.size_is quiet.1 (same_at c m at runs d collects) quiet.0))
+  made_by steps.Abort answer made collects stop count follows =
       let quiet = abort_quiet c d a answer made.row stop count in
-      abort_row c m at runs d a answer buf made.row
-      (left_by c m at runs d made.effect.tables made.effect.disk.only.later.size_is quiet.1 (same_at c m at runs d collects) quiet.0)
-  made_by (steps.OpenRead name) answer made collects stop count =
+      unnamed answer asked.Abort (abort_row c m at runs d a answer buf made.row
+      (left_by c m at runs d made.effect.tables made.effect.disk.only.later.size_is quiet.1 (same_at c m at runs d collects) quiet.0))
+  made_by (steps.OpenRead name) answer made collects stop count follows =
       let quiet = open_quiet c d name a answer made.row stop count in
-      open_row c m at runs d name a answer buf made.row
-      (left_by c m at runs d made.effect.tables made.effect.disk.only.later.size_is quiet.1 (same_at c m at runs d collects) quiet.0)
-  made_by steps.ReadNext answer made collects stop count =
+      unnamed answer (asked.OpenRead name) (open_row c m at runs d name a answer buf made.row
+      (left_by c m at runs d made.effect.tables made.effect.disk.only.later.size_is quiet.1 (same_at c m at runs d collects) quiet.0))
+  made_by steps.ReadNext answer made collects stop count follows =
       let quiet = read_quiet c d a answer buf made.row stop count in
-      read_row c m at runs d a answer buf made.row
-      (left_by c m at runs d made.effect.tables made.effect.disk.only.later.size_is quiet.1 (same_at c m at runs d collects) quiet.0)
-  made_by steps.EndRead answer made collects stop count =
+      unnamed answer asked.ReadNext (read_row c m at runs d a answer buf made.row
+      (left_by c m at runs d made.effect.tables made.effect.disk.only.later.size_is quiet.1 (same_at c m at runs d collects) quiet.0))
+  made_by steps.EndRead answer made collects stop count follows =
       let quiet = end_quiet c d a answer made.row stop count in
-      end_row c m at runs d a answer buf made.row
-      (left_by c m at runs d made.effect.tables made.effect.disk.only.later.size_is quiet.1 (same_at c m at runs d collects) quiet.0)
-  made_by (steps.Delete name) answer made collects stop count =
-      delete_row c m at runs d name a answer buf made.row made.effect collects stop count
-  made_by (steps.Commit name root) answer made collects stop count =
-      commit_row c m at runs d name root a answer buf made.row made.effect collects stop count
-  made_by (steps.Claim seg) answer made collects stop count =
+      unnamed answer asked.EndRead (end_row c m at runs d a answer buf made.row
+      (left_by c m at runs d made.effect.tables made.effect.disk.only.later.size_is quiet.1 (same_at c m at runs d collects) quiet.0))
+  made_by (steps.Delete name) answer made collects stop count follows =
+      unnamed answer (asked.Delete name) (delete_row c m at runs d name a answer buf made.row made.effect collects stop count)
+  made_by (steps.Commit name root) answer made collects stop count follows =
+      unnamed answer (asked.Commit name root) (commit_row c m at runs d name root a answer buf made.row made.effect collects stop count)
+  made_by (steps.Claim seg) answer made collects stop count follows =
       let quiet = claim_quiet c d (own.places, own.known_is) seg a answer made.row stop count in
-      claim_row c m at runs d seg a answer buf made.row
+      unnamed answer (asked.Claim seg) (claim_row c m at runs d seg a answer buf made.row
       (left_by c m at runs d made.effect.tables made.effect.disk.only.later.size_is quiet.1
-      (same_marks (IsKeptKey (steps.Claim seg) answer) c.tables.held m.swept m.collection c.collection d.collection collects at.collection) quiet.0)
-  made_by steps.ListNames answer made collects stop count =
+      (same_marks (IsKeptKey (steps.Claim seg) answer) c.tables.held m.swept m.collection c.collection d.collection collects at.collection) quiet.0))
+  made_by steps.ListNames answer made collects stop count follows =
       let quiet = list_quiet c d answer made.row stop count in
-      list_row c m at runs d a answer buf made.row
-      (left_by c m at runs d made.effect.tables made.effect.disk.only.later.size_is quiet.1 (same_at c m at runs d collects) quiet.0)
-  made_by steps.Stat answer made collects stop count =
+      unnamed answer asked.ListNames (list_row c m at runs d a answer buf made.row
+      (left_by c m at runs d made.effect.tables made.effect.disk.only.later.size_is quiet.1 (same_at c m at runs d collects) quiet.0))
+  made_by steps.Stat answer made collects stop count follows =
       let quiet = stat_quiet c d at answer made.row stop count in
-      stat_row c m at runs d a answer buf made.row
-      (left_by c m at runs d made.effect.tables made.effect.disk.only.later.size_is quiet.1 (same_at c m at runs d collects) quiet.0)
-  made_by (steps.GcStart percent) answer made collects stop count =
+      unnamed answer asked.Stat (stat_row c m at runs d a answer buf made.row
+      (left_by c m at runs d made.effect.tables made.effect.disk.only.later.size_is quiet.1 (same_at c m at runs d collects) quiet.0))
+  made_by (steps.GcStart percent) answer made collects stop count follows =
       let quiet = start_quiet c d percent answer made.row stop count in
-      start_row c m at runs d percent a answer buf made.row made.effect under quiet.0 quiet.1
-  made_by steps.GcStep answer made collects stop count =
-      gc_row c m at runs d a answer buf made.row made.effect under stop count
-  made_by (steps.Seal filled) answer made collects stop count =
-      seal_row c d m at runs a filled buf answer made.row made.effect collects under stop count
+      unnamed answer (asked.GcStart percent) (start_row c m at runs d percent a answer buf made.row made.effect under quiet.0 quiet.1)
+  made_by steps.GcStep answer made collects stop count follows =
+      gc_row c m at runs d a answer buf made.row made.effect under stop count follows
+  made_by (steps.Seal filled) answer made collects stop count follows =
+      unnamed answer (asked.Seal filled) (seal_row c d m at runs a filled buf answer made.row made.effect collects under stop count)
 
 -- no step is an opening
 by_state : (s : StepValue) (a : ℕ) (told : Result Done Refusal) (m n : M) → ByState of_roots m.state a (asked_by s) told m n → LegalBy of_roots (asked_by s) a told m n
@@ -174,12 +186,17 @@ by_state (steps.GcStart percent) a told m n by = by
 by_state steps.GcStep a told m n by = by
 by_state steps.Stat a told m n by = by
 
-module _ (e : Event) (old new : CoreState) (m : M) (at : IsMachine m old) where
+module _ {followed : Bool} (e : Event) (old new : CoreState) (m : M) (at : IsMachine followed m old) (follows : followed ≡ true → Follows e.answer old) where
   abbrev step : Asked Root
   step = asked_by e.step
 
   abbrev End : Type 0
-  End = (n : M) × (ByState of_roots m.state e.actor step (answered_by e.answer e.buf) m n × IsMachine n new)
+  End = (n : M) × (ByState of_roots m.state e.actor step (answered_by e.answer e.buf) m n × IsMachine followed n new × NamesStep e.step e.answer old new m n)
+
+  -- nothing was written, given back or forgotten
+  none_named : (s : StepValue) (count : ℕ) → NamesStep s (Err (refusals.Stopped count)) old new m m
+  none_named steps.GcStep count = tt
+  none_named s count = tt
 
   -- one that is stopped refuses, and nothing changes
   refuses : (other : _) (stores : _) (stop : Stop) → m.state ≡ Stopped other stores → stop.at ≡ m.acknowledged → AnswersStopped stop.at e old new → End
@@ -203,13 +220,14 @@ module _ (e : Event) (old new : CoreState) (m : M) (at : IsMachine m old) where
             (subst (SameCollection old.tables.held m.swept m.collection) (sym answers.same.collection_is) at.collection);
         state = subst (SameStop m.acknowledged m.state) (sym answers.same.stop_is) at.state;
       },
+      subst (λ (r : Result Answer Refusal). NamesStep e.step r old new m m) (sym answers.answer_is) (none_named e.step stop.at),
     ),
   )
 
   steps_so : m.state ≡ Running → IsUp old → Steps e old new → End
   steps_so runs up s =
-      let left = made_by old new m at runs up.under_way e.actor e.buf e.step e.answer s.made s.collects s.stops s.counted_is in
-      (left.0, (subst (λ (st : RunState Root). ByState of_roots st e.actor step (answered_by e.answer e.buf) m left.0) (sym runs) left.1, left.2))
+      let left = made_by old new m at runs up.under_way e.actor e.buf e.step e.answer s.made s.collects s.stops s.counted_is follows in
+      (left.0, (subst (λ (st : RunState Root). ByState of_roots st e.actor step (answered_by e.answer e.buf) m left.0) (sym runs) left.1, left.2, left.3))
 
   by : (st : RunState Root) (stop : Option Stop) → m.state ≡ st → SameStop m.acknowledged st stop → UnlessStopped stop (IsUp old) → StepsOr stop e old new → End
   by Running None state same up made = steps_so state up made
@@ -218,6 +236,6 @@ module _ (e : Event) (old new : CoreState) (m : M) (at : IsMachine m old) where
   by (Stopped other stores) (Some stop) state same up made = refuses other stores stop state same made
 
 pub core_refines : (C : Type 0) (state : C → CoreState) → CoreRefines C state
-core_refines C state e old new m up at made =
-    let end = by e (state old) (state new) m at m.state (state old).stop refl at.state up made in
-    (end.0, (by_state e.step e.actor (answered_by e.answer e.buf) m end.0 end.1.0, end.1.1))
+core_refines C state followed e old new m up at follows made =
+    let end = by e (state old) (state new) m at follows m.state (state old).stop refl at.state up made in
+    (end.0, (by_state e.step e.actor (answered_by e.answer e.buf) m end.0 end.1.0, end.1.1, end.1.2))

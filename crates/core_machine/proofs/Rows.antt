@@ -184,7 +184,7 @@ same_marks P t swept (Some c) (Some k) after (live, (is, marks)) same = subst (S
 
 -- ---- the core and its machine
 
-module _ (c : CoreState) (m : M) (at : IsMachine m c) where
+module _ {followed : Bool} (c : CoreState) (m : M) (at : IsMachine followed m c) where
   kind_is : (a : ℕ) → kind_of (part_in m a) ≡ core_kinds.kind_of (part_of c.parts a)
   kind_is a = sym (kind_same (part_in m a) (part_of c.parts a) (part_at m.parts c.parts a at.parts))
 
@@ -199,13 +199,13 @@ module _ (c : CoreState) (m : M) (at : IsMachine m c) where
   names_so P is = subst P at.represents.names_are.names_are is
 
   same_index : {swept : Bool} {forgotten : List (List ℕ)} {held : List (Option HeaderValue)} {known : Option PlaceMap} → known ≡ c.known
-      → HasIndex swept forgotten held c.known → HasIndex swept forgotten held known
-  same_index is has = record { places = has.places; known_is = is ∙ has.known_is; newest = has.newest }
+      → HasIndex followed swept forgotten held c.known → HasIndex followed swept forgotten held known
+  same_index is has = record { places = has.places; known_is = is ∙ has.known_is; newest = has.newest; told = has.told }
 
   -- tables, disk's size and count as before, and the parts of these: it is the machine with these parts and this collection
   pub goes_on : (d : CoreState) (parts : List RootPart) (k : Option (Collection Root)) → d.tables ≡ c.tables → d.disk.size ≡ c.disk.size → SameParts parts d.parts
       → d.acknowledged ≡ c.acknowledged → d.known ≡ c.known → SameCollection c.tables.held m.swept k d.collection → m.state ≡ Running → d.stop ≡ None
-      → IsMachine (record m { parts = parts; collection = k }) d
+      → IsMachine followed (record m { parts = parts; collection = k }) d
   goes_on d parts k tables size same count index collects runs stop = record {
     represents = subst (Represents m.store None) (sym tables) at.represents;
     valid = subst (λ (s : ℕ). IsValidFor s m.store) (sym size) at.valid;
@@ -225,7 +225,7 @@ module _ (c : CoreState) (m : M) (at : IsMachine m c) where
 
   module _ (runs : m.state ≡ Running) (d : CoreState) where
     abbrev pub Left : ℕ → Asked Root → Result Done Refusal → Type 0
-    Left a step told = (n : M) × Answers of_roots a step told m n × IsMachine n d
+    Left a step told = (n : M) × Answers of_roots a step told m n × IsMachine followed n d
 
     -- a step that changes nothing but what actors are at
     pub record Rested : Type 0 where
@@ -245,13 +245,13 @@ module _ (c : CoreState) (m : M) (at : IsMachine m c) where
     left_by kept size count collects stop =
         record { tables = kept.tables_are; size = size; count = count; index = kept.index_is; collects = collects; stop = stop }
 
-    with_parts : Rested → (parts : List RootPart) → SameParts parts d.parts → IsMachine (record m { parts = parts }) d
+    with_parts : Rested → (parts : List RootPart) → SameParts parts d.parts → IsMachine followed (record m { parts = parts }) d
     with_parts r parts same = goes_on d parts m.collection r.tables r.size same r.count r.index r.collects runs r.stop
 
-    pub as_it_was : Rested → d.parts ≡ c.parts → IsMachine m d
+    pub as_it_was : Rested → d.parts ≡ c.parts → IsMachine followed m d
     as_it_was r same = with_parts r m.parts (subst (SameParts m.parts) (sym same) at.parts)
 
-    put_part : Rested → (a : ℕ) (p : RootPart) (q : core_part.Part) → SamePart p q → d.parts ≡ with_part c.parts a q → IsMachine (put_at m a p) d
+    put_part : Rested → (a : ℕ) (p : RootPart) (q : core_part.Part) → SamePart p q → d.parts ≡ with_part c.parts a q → IsMachine followed (put_at m a p) d
     put_part r a p q one is = with_parts r (slice_set m.parts a p) (subst (SameParts (slice_set m.parts a p)) (sym is) (set_at m.parts c.parts a p q at.parts one))
 
     -- ---- the actor is at another thing
@@ -321,7 +321,7 @@ module _ (c : CoreState) (m : M) (at : IsMachine m c) where
     open_row name a (Ok answer) buf row r = absurd row
 
     stays_read : (a : ℕ) (was rest : List Top) (goes : readers.GoesOn a c.parts d.parts was rest) → Rested → (refusal : Refusal) → Walked was rest × IsStuck rest refusal
-        → (n : M) × RefusesRead of_roots a refusal m n × IsMachine n d
+        → (n : M) × RefusesRead of_roots a refusal m n × IsMachine followed n d
     stays_read a was rest goes r refusal stays = (
       put_at m a (Reading goes.root rest),
       (goes.root, was, rest, reads_at a goes.root was goes.part_is, stays, refl),
@@ -350,7 +350,7 @@ module _ (c : CoreState) (m : M) (at : IsMachine m c) where
         ∙ set-get_or m.parts a Idle in (
           m,
           (g.root, is.next.was, reads, is.next.given.0, refl),
-          subst (λ (ps : List RootPart). IsMachine (record m { parts = ps }) d) same
+          subst (λ (ps : List RootPart). IsMachine followed (record m { parts = ps }) d) same
               (put_part r a (Reading g.root is.next.rest) (readers.reading g.root is.next.rest) (refl, refl) g.parts_are),
         )
     read_row a (Err (refusals.WrongPart kind)) buf is r = no_reader a asked.ReadNext kind refl is.cause r
@@ -393,7 +393,7 @@ module _ (c : CoreState) (m : M) (at : IsMachine m c) where
 
     -- what a delete that was done makes of the tables
     deleted : (name : List ℕ) (sequence : ℕ) (effect : NamesOne name Gone (Ok (answers.Deleted sequence)) c d) → d.parts ≡ c.parts → d.acknowledged ≡ one_more c.acknowledged
-        → d.tables.held ≡ c.tables.held → d.collection ≡ c.collection → d.stop ≡ None → IsMachine (remove name) d
+        → d.tables.held ≡ c.tables.held → d.collection ≡ c.collection → d.stop ≡ None → IsMachine followed (remove name) d
     deleted name sequence effect same count held collects stop =
         let made = effect.made.alone.store_has m.store at.represents at.valid at.free in
         record {
@@ -423,7 +423,7 @@ module _ (c : CoreState) (m : M) (at : IsMachine m c) where
     pub stopped_at : (found : Option (Found Root)) (stores : List Store) → d.tables ≡ c.tables → d.disk.size ≡ c.disk.size → d.parts ≡ c.parts
         → d.acknowledged ≡ c.acknowledged → SameCollection c.tables.held m.swept m.collection d.collection → (refusal : Refusal)
         → d.stop ≡ Some (record { refusal = refusal; at = c.acknowledged })
-        → IsMachine (record m { state = Stopped found stores }) d
+        → IsMachine followed (record m { state = Stopped found stores }) d
     stopped_at found stores tables size same count collects refusal stop = record {
       represents = subst (Represents m.store None) (sym tables) at.represents;
       valid = subst (λ (s : ℕ). IsValidFor s m.store) (sym size) at.valid;
@@ -532,7 +532,7 @@ module _ (c : CoreState) (m : M) (at : IsMachine m c) where
     looked_up : (P : Option PlaceValue → Type 0) (key : List ℕ) → KnownMap c.known (λ index. P (finite.get index key)) → m.swept ≡ false
         → P (option_map (λ (x : KeyCopy). x.place) (newest 0 m.store.held key))
     looked_up P key found swept =
-        let own : HasIndex m.swept m.forgotten m.store.held c.known = at.index runs in
+        let own : HasIndex followed m.swept m.forgotten m.store.held c.known = at.index runs in
         subst P ((own.newest swept).1 key) (found own.places own.known_is)
 
     copy_of : (o : Option KeyCopy) (place : PlaceValue) → option_map (λ (x : KeyCopy). x.place) o ≡ Some place → (copy : KeyCopy) × (o ≡ Some copy) × (copy.place ≡ place)
@@ -602,7 +602,7 @@ module _ (c : CoreState) (m : M) (at : IsMachine m c) where
 
     committed : (a : ℕ) (name : List ℕ) (root : Root) (sequence : ℕ) (effect : NamesOne name (Put root) (Ok (answers.Committed sequence)) c d)
         → d.parts ≡ with_part c.parts a core.Idle → d.acknowledged ≡ one_more c.acknowledged → d.tables.held ≡ c.tables.held → d.collection ≡ c.collection → d.stop ≡ None
-        → IsMachine (named a name root) d
+        → IsMachine followed (named a name root) d
     committed a name root sequence effect parts_are count held collects stop =
         let made = effect.made.alone.store_has m.store at.represents at.valid at.free in
         record {

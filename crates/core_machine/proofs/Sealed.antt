@@ -40,8 +40,9 @@ use Rattle.store_machine.specs.Machine.{RunState, Running, Stopped, Writing, kee
 use Rattle.store_machine.specs.Needs.{first_unkept, forgotten_beside, keys_of, or_else, with_pins}
 use Rattle.store_machine.specs.Values.{of_roots}
 use Rattle.core_machine.specs.Collections.{SameCollection}
-use Rattle.core_machine.specs.Refines.{HasIndex, IsMachine, SameParts, SameStop, answered_by}
+use Rattle.core_machine.specs.Refines.{HasIndex, IsMachine, SameParts, SameStop, TellsForgotten, answered_by}
 use Rattle.core_machine.proofs.Beside.{same_beside}
+use Rattle.core_machine.proofs.KeysForgotten.{written_told}
 use Rattle.core_machine.proofs.Rows.{M, as_it_was, kept_same, left_by, right_at, same_marks, set_at, stopped_at, writing_at, wrong}
 
 -- ---- what a writer keeps, as the machine has it and as the steps of a core have it
@@ -67,12 +68,12 @@ second_true false b both = absurd cc
 none_forgotten : (keys forgotten : List (List ℕ)) → forgotten ≡ [] → forgotten_beside keys forgotten ≡ []
 none_forgotten keys forgotten is = ap (forgotten_beside keys) is
 
-module _ (c d : CoreState) (m : M) (at : IsMachine m c) (runs : m.state ≡ Running) (a : ℕ) (filled : Contents) (buf : List ℕ) where
-  own : HasIndex m.swept m.forgotten m.store.held c.known
+module _ {followed : Bool} (c d : CoreState) (m : M) (at : IsMachine followed m c) (runs : m.state ≡ Running) (a : ℕ) (filled : Contents) (buf : List ℕ) where
+  own : HasIndex followed m.swept m.forgotten m.store.held c.known
   own = at.index runs
 
   abbrev Left : Result Answer Refusal → Type 0
-  Left answer = (n : M) × Answers of_roots a (asked.Seal filled) (answered_by answer buf) m n × IsMachine n d
+  Left answer = (n : M) × Answers of_roots a (asked.Seal filled) (answered_by answer buf) m n × IsMachine followed n d
 
   abbrev keeps : pinning.MayKeep (part_of c.parts a) filled → Keeps of_roots a filled.kind (first_unkept filled.kind filled.segments) m
   keeps may = record {
@@ -127,6 +128,12 @@ module _ (c d : CoreState) (m : M) (at : IsMachine m c) (runs : m.state ≡ Runn
     represents = subst (λ (n : ℕ). Represents (with_sealed n filled.kind filled.segments m.store) None d.tables) (sym is.id_is)
         (effect.made.alone.store_has m.store at.represents at.valid at.free).represents
 
+    -- it has the keys of the container, and no other one more
+    sealed_told : followed ≡ true
+        → TellsForgotten (forgotten_beside (keys_of filled.kind filled.segments) m.forgotten) (with_sealed id filled.kind filled.segments m.store).held map.0
+    sealed_told told = written_told m.forgotten id filled.kind filled.segments m.store own.places map.0 at.free
+        (effect.made.adds_keys own.places own.known_is map.0 map.1) (effect.made.keeps_others own.places own.known_is map.0 map.1) (own.told told)
+
     -- a collection that runs is the machine's still, beside one container more
     collected : SameCollection d.tables.held m.swept (keeping (keys_of filled.kind filled.segments) m.collection) d.collection
     collected =
@@ -137,7 +144,7 @@ module _ (c d : CoreState) (m : M) (at : IsMachine m c) (runs : m.state ≡ Runn
         kept_same (keys_of filled.kind filled.segments) d.tables.held m.swept m.collection d.collection
         (same_marks (IsKeptKey (steps.Seal filled) (Ok (answers.Sealed id))) d.tables.held m.swept m.collection c.collection d.collection collects beside)
 
-    seal_done : IsMachine sealed d
+    seal_done : IsMachine followed sealed d
     seal_done =
         let made = effect.made.alone.store_has m.store at.represents at.valid at.free in
         record {
@@ -156,6 +163,7 @@ module _ (c d : CoreState) (m : M) (at : IsMachine m c) (runs : m.state ≡ Runn
             places = map.0;
             known_is = map.1;
             newest = λ swept. (none_forgotten (keys_of filled.kind filled.segments) m.forgotten (own.newest swept).0, indexed swept);
+            told = sealed_told;
           };
           collection = collected;
           state = subst (λ (s : RunState Root). SameStop m.acknowledged s d.stop) (sym runs) (subst (SameStop m.acknowledged Running) (sym stop) tt);
@@ -235,7 +243,7 @@ module _ (c d : CoreState) (m : M) (at : IsMachine m c) (runs : m.state ≡ Runn
       let may = row.0.0 in
       let stores = with_sealed (suc m.last_id) filled.kind filled.segments m.store ∷ [] in (
         record m { state = Stopped None stores },
-        (right_at c m at runs d a (asked.Seal filled) kinds.Writing refl (ap core_kinds.kind_of may.writing), (has_slot may row.0.1, refl)),
+        (right_at c m at runs d a (asked.Seal filled) kinds.Writing refl (ap core_kinds.kind_of may.writing), (has_slot may row.0.1, (λ known. absurd known), refl)),
         stopped_at c m at runs d None stores effect.kept effect.disk.later.size_is row.1 count (still refusals.DiskWrite collects) refusals.DiskWrite stop,
       )
   seal_row (Err (refusals.Damaged byte why)) row effect collects under stop count = absurd (let wrong : None ≡ Some own.places = sym row.0.2 ∙ own.known_is in cc)

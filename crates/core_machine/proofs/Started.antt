@@ -1,5 +1,5 @@
 -- A collection that begins in a core, or does not, as the machine of roots has it.
-use Rattle.std.proofs.Common.{◌≡◌, ℕ, suc, ◌<◌, List, [], ◌++◌, Some, None, Result, Ok, Err, refl, sym, ◌∙◌, subst, arith}
+use Rattle.std.proofs.Common.{◌≡◌, ℕ, suc, ◌<◌, List, [], ◌++◌, Some, None, Result, Ok, Err, refl, sym, ◌∙◌, subst, arith, Bool}
 use Rattle.std.specs.FinMap as finite
 use Rattle.disk_format.specs.Cells.{Root}
 use Rattle.disk_format.specs.declared.numbers.TheConstants.{MOST_LEVEL}
@@ -27,9 +27,9 @@ use Rattle.core_machine.proofs.Marked.{left_first, same_marking}
 use Rattle.core_machine.proofs.Phases.{is_collecting, none_runs, one_runs}
 use Rattle.core_machine.proofs.Rows.{M, as_it_was, goes_on, left_by, same_at}
 
-module _ (c : CoreState) (m : M) (at : IsMachine m c) (runs : m.state ≡ Running) (d : CoreState) (percent a : ℕ) where
+module _ {followed : Bool} (c : CoreState) (m : M) (at : IsMachine followed m c) (runs : m.state ≡ Running) (d : CoreState) (percent a : ℕ) where
   abbrev Left : Result Answer Refusal → List ℕ → Type 0
-  Left answer buf = (n : M) × Answers of_roots a (asked.GcStart percent) (answered_by answer buf) m n × IsMachine n d
+  Left answer buf = (n : M) × Answers of_roots a (asked.GcStart percent) (answered_by answer buf) m n × IsMachine followed n d
 
   -- the collection that the machine begins
   abbrev first : ℕ → Collection Root
@@ -67,7 +67,7 @@ module _ (c : CoreState) (m : M) (at : IsMachine m c) (runs : m.state ≡ Runnin
     }
 
     begun : (tables : d.tables ≡ c.tables) → d.disk.size ≡ c.disk.size → d.parts ≡ c.parts → d.acknowledged ≡ c.acknowledged → d.known ≡ c.known → d.stop ≡ None
-        → IsMachine (record m { collection = Some (first snapshot) }) d
+        → IsMachine followed (record m { collection = Some (first snapshot) }) d
     begun tables size parts count index stop =
         goes_on c m at d m.parts (Some (first snapshot)) tables size (subst (SameParts m.parts) (sym parts) at.parts) count index
         (subst (SameCollection c.tables.held m.swept (Some (first snapshot))) (sym begins.runs) run_so) runs stop

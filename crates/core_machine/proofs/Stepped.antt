@@ -86,8 +86,9 @@ module _ (held : List (Option HeaderValue)) (t : SlotTable) (swept : Bool) (sour
 
 -- ---- the steps
 
-module _ (c : CoreState) (m : M) (at : IsMachine m c) (runs : m.state ≡ Running) (d : CoreState) (tables : d.tables ≡ c.tables) (size : d.disk.size ≡ c.disk.size)
-    (parts : d.parts ≡ c.parts) (count : d.acknowledged ≡ c.acknowledged) (index : d.known ≡ c.known) (stop : d.stop ≡ None) (k after : CoreCollection)
+module _ {followed : Bool} (c : CoreState) (m : M) (at : IsMachine followed m c) (runs : m.state ≡ Running) (d : CoreState)
+    (tables : d.tables ≡ c.tables) (size : d.disk.size ≡ c.disk.size) (parts : d.parts ≡ c.parts) (count : d.acknowledged ≡ c.acknowledged)
+    (index : d.known ≡ c.known) (stop : d.stop ≡ None) (k after : CoreCollection)
     (r : Runs c.tables.held m.swept m.collection k) (under : IsUnderWay c.tables.held k) (is_after : d.collection ≡ Some after) where
   abbrev t : SlotTable
   t = c.tables.held
@@ -99,7 +100,8 @@ module _ (c : CoreState) (m : M) (at : IsMachine m c) (runs : m.state ≡ Runnin
   abbrev gone : Stage → List ContainerLiveness → Collection Root
   gone stage recorded = record r.c { stage = stage; recorded = recorded; changes = r.c.changes ++ [] }
 
-  went_on : (stage : Stage) (recorded : List ContainerLiveness) → SameRun t m.swept (gone stage recorded) after → IsMachine (record m { collection = Some (gone stage recorded) }) d
+  went_on : (stage : Stage) (recorded : List ContainerLiveness) → SameRun t m.swept (gone stage recorded) after
+      → IsMachine followed (record m { collection = Some (gone stage recorded) }) d
   went_on stage recorded same =
       goes_on c m at d m.parts (Some (gone stage recorded)) tables size (subst (SameParts m.parts) (sym parts) at.parts) count index
       (subst (SameCollection t m.swept (Some (gone stage recorded))) (sym is_after) same) runs stop
@@ -112,7 +114,7 @@ module _ (c : CoreState) (m : M) (at : IsMachine m c) (runs : m.state ≡ Runnin
   phase_is stage is = sym (phase_so m.store.held t m.swept r.c k at.valid.headers slots r.same under ∙ ap (λ (s : CoreStage). phase_at s k.sweep.next) is)
 
   abbrev Goes : Phase → Type 0
-  Goes phase = (n : M) × GoesOn of_roots phase m n × IsMachine n d
+  Goes phase = (n : M) × GoesOn of_roots phase m n × IsMachine followed n d
 
   -- ---- a container was scanned
 

@@ -1,5 +1,5 @@
 -- The steps of a core's sweep, and its end, as those of the machine, on any disk.
-use Rattle.std.proofs.Common.{◌≡◌, ℕ, [], length, Some, None, refl, ◌∙◌, ap, subst, arith}
+use Rattle.std.proofs.Common.{◌≡◌, ℕ, Bool, true, [], length, Some, None, refl, sym, ◌∙◌, ap, subst, arith}
 use Rattle.disk_format.specs.Cells.{Root}
 use Rattle.refusals.specs.declared.refusal.Phase.{Phase}
 use Rattle.refusals.specs.declared.refusal.Phase.TheVariants as phases
@@ -20,10 +20,11 @@ use Rattle.store_machine.specs.Collecting.{Ends}
 use Rattle.store_machine.specs.Machine.{Collection, Sweeping}
 use Rattle.store_machine.specs.Values.{of_roots}
 use Rattle.core_machine.specs.Collections.{SameRun}
+use Rattle.core_machine.specs.Refines.{FollowsPhase}
 use Rattle.core_machine.proofs.CopiedSources.{copies_so}
 use Rattle.core_machine.proofs.FlushedCopies.{flushes_so}
 use Rattle.core_machine.proofs.FreedSources.{releases_so}
-use Rattle.core_machine.proofs.SweptOn.{AtSweep, Swept, at_sweep, is_sweeping, no_keys}
+use Rattle.core_machine.proofs.SweptOn.{AtSweep, MapMoves, Swept, at_sweep, is_sweeping, no_keys}
 use Rattle.core_machine.proofs.Rows.{M}
 
 pub did_same : (a b : Phase) → Did a ≡ Did b → a ≡ b
@@ -32,27 +33,31 @@ did_same a b is = cc
 -- ---- a step
 
 -- A step of a sweep that was made and goes on, whatever the disk tells and the index has.
-pub sweeps_so : (m : M) (c : Collection Root) (old new : Moment) (phase : Phase) → Represents m.store None old.tables → IsValidFor old.disk.size m.store → HasFree m.store.held
+pub sweeps_so : {followed : Bool} (m : M) (c : Collection Root) (old new : Moment) (phase : Phase) → (moves : MapMoves followed m.forgotten m.store.held old.known new.known)
+    → (followed ≡ true → FollowsPhase phase old.disk.content) → Represents m.store None old.tables → IsValidFor old.disk.size m.store → HasFree m.store.held
     → m.last_id ≡ old.tables.held.last_id → IsUnderWay old.tables.held old.collection → SameRun old.tables.held m.swept c old.collection
     → old.collection.stage ≡ stages.Sweep → answer_of old.collection ≡ Did phase → StepsTo old.collection.stage old.collection.sweep.next old new
-    → TablesAfter old.collection.stage old.collection.sweep.next old new → Swept phase m c new.tables new.collection
-sweeps_so m c old new phase represents valid free last under run stage did steps tables =
+    → TablesAfter old.collection.stage old.collection.sweep.next old new → Swept followed moves.after old new phase m c new.tables new.collection
+sweeps_so {followed} m c old new phase moves content represents valid free last under run stage did steps tables =
     by old.collection.sweep.next refl
     (subst (λ (st : CoreStage). answer_at st old.collection.sweep.next old.collection.sweep.freed old.collection.sweep.copied ≡ Did phase) stage did)
     (subst (λ (st : CoreStage). StepsTo st old.collection.sweep.next old new) stage steps)
     (subst (λ (st : CoreStage). TablesAfter st old.collection.sweep.next old new) stage tables)
   where
+    at_phase : (p : Phase) → Did p ≡ Did phase → followed ≡ true → FollowsPhase p old.disk.content
+    at_phase p did_so told = subst (λ (q : Phase). FollowsPhase q old.disk.content) (sym (did_same p phase did_so)) (content told)
+
     by : (n : Next) → old.collection.sweep.next ≡ n → answer_at stages.Sweep n old.collection.sweep.freed old.collection.sweep.copied ≡ Did phase → StepsTo stages.Sweep n old new
-        → TablesAfter stages.Sweep n old new → Swept phase m c new.tables new.collection
+        → TablesAfter stages.Sweep n old new → Swept followed moves.after old new phase m c new.tables new.collection
     by (nexts.Copy source entry) is did_so (copies, sweeps) after =
-        subst (λ (p : Phase). Swept p m c new.tables new.collection) (did_same phases.Copy phase did_so)
-        (copies_so m c source entry old new represents valid free last under run stage is copies sweeps after)
+        subst (λ (p : Phase). Swept followed moves.after old new p m c new.tables new.collection) (did_same phases.Copy phase did_so)
+        (copies_so m c source entry old new represents valid free last under run stage is copies sweeps after moves)
     by (nexts.Flush source entry) is did_so flushes after =
-        subst (λ (p : Phase). Swept p m c new.tables new.collection) (did_same phases.Flush phase did_so)
-        (flushes_so m c source entry old new represents valid free last under run stage is flushes)
+        subst (λ (p : Phase). Swept followed moves.after old new p m c new.tables new.collection) (did_same phases.Flush phase did_so)
+        (flushes_so m c source entry old new represents valid free last under run stage is flushes moves (at_phase phases.Flush did_so))
     by (nexts.Release source entry) is did_so (released, sweeps, durable, index) freed =
-        subst (λ (p : Phase). Swept p m c new.tables new.collection) (did_same phases.Release phase did_so)
-        (releases_so m c source entry old new represents valid free last under run stage is released sweeps freed)
+        subst (λ (p : Phase). Swept followed moves.after old new p m c new.tables new.collection) (did_same phases.Release phase did_so)
+        (releases_so m c source entry old new represents valid free last under run stage is released sweeps freed moves index (at_phase phases.Release did_so))
     by nexts.End is did_so steps_so after = absurd (let wrong : Done old.collection.sweep.freed old.collection.sweep.copied ≡ Did phase = did_so in cc)
 
 -- ---- its end

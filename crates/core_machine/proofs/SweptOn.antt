@@ -1,6 +1,7 @@
 -- What a step of a sweep leaves of the machine: common to its steps, whatever they do.
 use Rattle.std.proofs.Common.{◌≡◌, ◌≢◌, ◌≤◌, ℕ, Bool, true, List, [], ◌∷◌, ◌++◌, length, get_or, map, Option, Some, None, refl, sym, ◌∙◌, ap, subst, arith}
 use Rattle.std.specs.List.{AllByRecursion}
+use Rattle.container_meta.specs.Places.{PlaceMap}
 use Rattle.container_meta.specs.Segments.{Contents, keys_of, segment_key}
 use Rattle.container_meta.specs.Spelling.{HeaderValue}
 use Rattle.disk_format.specs.Cells.{Root}
@@ -20,12 +21,15 @@ use Rattle.gc_sweep.specs.Next.{IsNext}
 use Rattle.gc_sweep.specs.UnderWay.{IsSweeping, entry_in, sources_before}
 use Rattle.gc_steps.specs.declared.collection.Collection.{Collection as CoreCollection}
 use Rattle.gc_steps.specs.declared.collection.Stage.TheVariants as stages
+use Rattle.gc_steps.specs.Stepping.{Moment}
 use Rattle.gc_steps.specs.UnderWay.{IsUnderWay}
 use Rattle.gc_steps.proofs.UnderWay.{at_stage}
 use Rattle.store_machine.specs.Collecting.{Goes, GoesOn, Makes, Went, last_by, next_by, phase_in, sources_in, swept_by}
 use Rattle.store_machine.specs.Machine.{Collection, Stage, Marking, Recording, Sweeping, Sweep}
 use Rattle.store_machine.specs.Values.{of_roots}
 use Rattle.core_machine.specs.Collections.{HasCopied, SameRun, SameStage, SameSweep, ids_at}
+use Rattle.core_machine.specs.Refines.{TellsForgotten}
+use Rattle.core_machine.specs.Sweeping.{ForgetsBy, changes_of}
 use Rattle.core_machine.proofs.Rows.{M}
 
 -- ---- a step that was made
@@ -40,9 +44,17 @@ went_to phase c w store m = record m {
   collection = Some (record c { stage = w.stage; recorded = w.recorded; changes = c.changes ++ w.changes });
 }
 
+-- What is known of the map of the index before a step, and after it.
+pub record MapMoves (followed : Bool) (forgotten : List (List ℕ)) (held : List (Option HeaderValue)) (known now : Option PlaceMap) : Type 0 where
+  pub before : PlaceMap
+  pub was : known ≡ Some before
+  pub after : PlaceMap
+  pub is : now ≡ Some after
+  pub told : followed ≡ true → TellsForgotten forgotten held before
+
 -- A step of the machine's sweep: what it makes of the store is what these tables represent, and the collection is that of the core then. Names
 -- and numbers stay.
-pub record Swept (phase : Phase) (m : M) (c : Collection Root) (tables : Tables) (k : CoreCollection) : Type 0 where
+pub record Swept (followed : Bool) (places : PlaceMap) (old new : Moment) (phase : Phase) (m : M) (c : Collection Root) (tables : Tables) (k : CoreCollection) : Type 0 where
   pub went : Went
   pub store : Store
   pub goes : Goes of_roots phase c m went
@@ -55,10 +67,13 @@ pub record Swept (phase : Phase) (m : M) (c : Collection Root) (tables : Tables)
   pub last_id : last_by went.changes m.last_id ≡ tables.held.last_id
   pub last_within : m.last_id ≤ LAST_ID → last_by went.changes m.last_id ≤ LAST_ID
   pub run : SameRun tables.held (swept_by phase m.swept) (record c { stage = went.stage; recorded = went.recorded; changes = c.changes ++ went.changes }) k
+  pub told : followed ≡ true → TellsForgotten went.forgotten store.held places
+  pub changes_are : went.changes ≡ changes_of phase m.last_id old.collection.sweep
+  pub forgets : ForgetsBy phase old new m.forgotten went.forgotten
 
 -- and so the machine went on
-pub goes_on : (phase : Phase) (m : M) (c : Collection Root) (tables : Tables) (k : CoreCollection) → m.collection ≡ Some c → phase ≡ phase_in m.store c
-    → (s : Swept phase m c tables k) → GoesOn of_roots phase m (went_to phase c s.went s.store m)
+pub goes_on : {followed : Bool} {places : PlaceMap} {old new : Moment} (phase : Phase) (m : M) (c : Collection Root) (tables : Tables) (k : CoreCollection) → m.collection ≡ Some c
+    → phase ≡ phase_in m.store c → (s : Swept followed places old new phase m c tables k) → GoesOn of_roots phase m (went_to phase c s.went s.store m)
 goes_on phase m c tables k ran is s = record { c = c; ran = ran; phase_is = is; went = s.went; goes = s.goes; makes = s.makes; others = refl }
 
 -- ---- the core's collection, where it sweeps

@@ -1,5 +1,5 @@
 -- A step of a collection that is refused, as the machine of roots has it.
-use Rattle.std.proofs.Common.{◌≡◌, ◌⊎◌, inl, inr, ℕ, suc, List, [], ◌∷◌, Option, Some, None, Err, refl, sym, ◌∙◌, ap, subst, arith}
+use Rattle.std.proofs.Common.{◌≡◌, ◌⊎◌, inl, inr, ℕ, suc, ◌<◌, List, [], ◌∷◌, drop, map, Option, Some, None, Err, refl, sym, ◌∙◌, ap, subst, arith, Bool}
 use Rattle.container_meta.specs.declared.entry.Entry.{Entry}
 use Rattle.container_meta.specs.Places.{PlaceMap}
 use Rattle.container_meta.specs.Segments.{Contents}
@@ -8,6 +8,7 @@ use Rattle.copy_forward.specs.Entries.{IsRemoveRefusal, MapStays}
 use Rattle.copy_forward.specs.Headers.{IsHeaderRefusal}
 use Rattle.copy_forward.specs.Planning.{IsPlanRefusal, IsStuck, Planned, Source}
 use Rattle.dd_disk.specs.View.{DiskView}
+use Rattle.disk_format.specs.declared.numbers.TheConstants.{LAST_ID}
 use Rattle.gc_enumerate.specs.Live.{LiveKeys}
 use Rattle.gc_enumerate.specs.declared.fault.ScanFault.{ScanFault}
 use Rattle.gc_enumerate.specs.declared.fault.ScanFault.TheVariants as faults
@@ -32,21 +33,24 @@ use Rattle.refusals.specs.declared.refusal.Refusal.{Refusal}
 use Rattle.refusals.specs.declared.refusal.Refusal.TheVariants as refusals
 use Rattle.store_model.specs.Freeing.{with_freed}
 use Rattle.store_model.specs.Image.{Store}
-use Rattle.store_model.specs.Steps.{with_sealed}
+use Rattle.store_model.specs.Steps.{changed, with_sealed}
 use Rattle.store_state.specs.declared.slot_table.SlotTable.{SlotTable}
 use Rattle.store_core.specs.Collecting.{at_moment}
 use Rattle.store_core.specs.Core.{StopsAfter}
 use Rattle.store_core.specs.State.{CoreState}
 use Rattle.actor_parts.specs.StepValue as steps
 use Rattle.store_machine.specs.Asked as asked
-use Rattle.store_machine.specs.Collecting.{IsCollecting}
-use Rattle.store_machine.specs.Legal.{IsAtRightPart, MayBreak, Refuses}
-use Rattle.store_machine.specs.Machine.{Running, Stopped}
+use Rattle.store_machine.specs.Collecting.{IsCollecting, MayBreak}
+use Rattle.store_machine.specs.Legal.{IsAtRightPart, Refuses}
+use Rattle.store_machine.specs.Machine.{Running, Stopped, Sweeping}
 use Rattle.store_machine.specs.Values.{of_roots}
-use Rattle.core_machine.specs.Collections.{SameCollection, SameRun}
+use Rattle.core_machine.specs.Collections.{SameCollection, SameRun, ids_at}
+use Rattle.core_machine.specs.Sweeping.{NamesGc, changes_of}
 use Rattle.core_machine.specs.Refines.{HasIndex, IsMachine}
+use Rattle.core_machine.proofs.FreedSources.{in_turn}
 use Rattle.core_machine.proofs.Phases.{Runs, is_collecting, some_runs}
 use Rattle.core_machine.proofs.Rows.{M, as_it_was, same_at, stopped_at}
+use Rattle.core_machine.proofs.SweptOn.{at_sweep}
 
 -- ---- what a step may be refused by, if no write failed
 
@@ -146,23 +150,24 @@ copy_unmade t live known old new source entry s refusal is = copy_by t known liv
 
 -- ---- the steps
 
-module _ (c : CoreState) (m : M) (at : IsMachine m c) (runs : m.state ≡ Running) (d : CoreState) (a : ℕ) (size : d.disk.size ≡ c.disk.size) (parts : d.parts ≡ c.parts)
-    (tables : d.tables ≡ c.tables) (count : d.acknowledged ≡ c.acknowledged) (k after : CoreCollection) (ran : c.collection ≡ Some k)
+module _ {followed : Bool} (c : CoreState) (m : M) (at : IsMachine followed m c) (runs : m.state ≡ Running) (d : CoreState) (a : ℕ)
+    (size : d.disk.size ≡ c.disk.size) (parts : d.parts ≡ c.parts) (tables : d.tables ≡ c.tables)
+    (count : d.acknowledged ≡ c.acknowledged) (k after : CoreCollection) (ran : c.collection ≡ Some k)
     (r : Runs c.tables.held m.swept m.collection k) (under : IsUnderWay c.tables.held k) (is_after : d.collection ≡ Some after) where
   abbrev t : SlotTable
   t = c.tables.held
 
-  own : HasIndex m.swept m.forgotten m.store.held c.known
+  own : HasIndex followed m.swept m.forgotten m.store.held c.known
   own = at.index runs
 
   abbrev Left : Refusal → Type 0
-  Left refusal = (n : M) × Refuses of_roots a asked.GcStep refusal m n × IsMachine n d
+  Left refusal = (n : M) × Refuses of_roots a asked.GcStep refusal m n × IsMachine followed n d × NamesGc (Err refusal) c d m n
 
   no_part : IsAtRightPart of_roots a asked.GcStep m
   no_part taken is = absurd (let wrong : None ≡ Some taken = is in cc)
 
   -- nothing but what is live is another
-  rested : SameRun t m.swept r.c after → d.known ≡ c.known → d.stop ≡ None → IsMachine m d
+  rested : SameRun t m.swept r.c after → d.known ≡ c.known → d.stop ≡ None → IsMachine followed m d
   rested same index stop =
       let collects : SameCollection t m.swept m.collection d.collection =
       subst (SameCollection t m.swept m.collection) (sym is_after) (subst (λ p. SameCollection t m.swept p (Some after)) (sym r.ran) same) in
@@ -209,13 +214,23 @@ module _ (c : CoreState) (m : M) (at : IsMachine m c) (runs : m.state ≡ Runnin
   runs_still phase refusals.DiskWrite may stops = absurd may
   runs_still phase refusal may stops = stops
 
+  not_broken : (phase : Phase) (refusal : Refusal) → Unmade phase refusal → NamesGc (Err refusal) c d m m
+  not_broken phase refusals.DiskWrite may = absurd may
+  not_broken phase refusal may = tt
+
   -- a write failed, and it is stopped
-  stops_by : (stores : List Store) → MayBreak of_roots m stores → d.collection ≡ c.collection → StopsAfter steps.GcStep (Err refusals.DiskWrite) c.acknowledged d.stop
+  stops_by : (phase : Phase) → phase_at k.stage k.sweep.next ≡ phase → (stores : List Store) → stores ≡ map (λ change. changed change m.store) (changes_of phase m.last_id k.sweep)
+      → MayBreak of_roots m stores → d.collection ≡ c.collection → StopsAfter steps.GcStep (Err refusals.DiskWrite) c.acknowledged d.stop
       → Left refusals.DiskWrite
-  stops_by stores may collects stop = (
+  stops_by phase phase_is stores stores_are may collects stop = (
     record m { state = Stopped None stores },
     (no_part, (stores, may, refl)),
     stopped_at c m at runs d None stores tables size parts count (same_at c m at runs d collects) refusals.DiskWrite stop,
+    (
+      k,
+      ran,
+      ap (Stopped None) (stores_are ∙ ap (λ (p : Phase). map (λ change. changed change m.store) (changes_of p m.last_id k.sweep)) (sym phase_is)),
+    ),
   )
 
   -- ---- before a sweep
@@ -231,7 +246,7 @@ module _ (c : CoreState) (m : M) (at : IsMachine m c) (runs : m.state ≡ Runnin
 
   left_by : (phase : Phase) (refusal : Refusal) → IsCollecting phase m.store m.collection → Unmade phase refusal → SameRun t m.swept r.c after → d.known ≡ c.known
       → StopsAfter steps.GcStep (Err refusal) c.acknowledged d.stop → Left refusal
-  left_by phase refusal is may same index stops = (m, refused phase refusal may is, rested same index (runs_still phase refusal may stops))
+  left_by phase refusal is may same index stops = (m, refused phase refusal may is, rested same index (runs_still phase refusal may stops), not_broken phase refusal may)
 
   -- ---- a sweep
 
@@ -243,24 +258,65 @@ module _ (c : CoreState) (m : M) (at : IsMachine m c) (runs : m.state ≡ Runnin
   still : after ≡ k → d.collection ≡ c.collection
   still same = is_after ∙ ap Some same ∙ sym ran
 
-  not_copied : (refusal : Refusal) → IsCollecting phases.Copy m.store m.collection → Unmade phases.Copy refusal ⊎ Broken refusal → after ≡ k → MapStays c.known d.known refusal
-      → StopsAfter steps.GcStep (Err refusal) c.acknowledged d.stop → Left refusal
-  not_copied refusal is (inl may) same stays stops = left_by phases.Copy refusal is may (kept_run same) (map_same refusal may stays) stops
-  not_copied refusals.DiskWrite is (inr broke) same stays stops = stops_by [] (inl (is, refl)) (still same) stops
-  not_copied refusal is (inr broke) same stays stops = absurd broke
+  phase_now : (stage : CoreStage) (next : Next) → k.stage ≡ stage → k.sweep.next ≡ next → phase_at k.stage k.sweep.next ≡ phase_at stage next
+  phase_now stage next is next_is = ap (phase_at k.stage) next_is ∙ ap (λ (s : CoreStage). phase_at s next) is
 
-  not_flushed : (refusal : Refusal) → IsCollecting phases.Flush m.store m.collection → IsFlushStepRefusal c.tables c.known refusal → after ≡ k → KeepsMap c.known d.known refusal
+  not_copied : (refusal : Refusal) → phase_at k.stage k.sweep.next ≡ phases.Copy → IsCollecting phases.Copy m.store m.collection → Unmade phases.Copy refusal ⊎ Broken refusal
+      → after ≡ k → MapStays c.known d.known refusal
       → StopsAfter steps.GcStep (Err refusal) c.acknowledged d.stop → Left refusal
-  not_flushed refusals.Memory is cause same stays stops = (m, (some_runs t m.swept m.collection k r, refl), rested (kept_run same) stays stops)
-  not_flushed refusals.Numbers is cause same stays stops = (m, (no_part, (is, omega (arith, cause, at.last_id), refl)), rested (kept_run same) stays stops)
-  not_flushed refusals.DiskRead is cause same stays stops =
-      (m, (no_part, (inr (inr (inr (is, omega (arith, cause.0, at.last_id)))), refl)), rested (kept_run same) stays stops)
-  not_flushed refusals.DiskWrite is cause same stays stops =
-      let buffer = k.sweep.buffer in
-      stops_by (with_sealed (suc m.last_id) buffer.kind buffer.segments m.store ∷ [])
-      (inr (inl (is, omega (arith, cause.0, at.last_id), (buffer.kind, buffer.segments, refl)))) (still same) stops
-  not_flushed (refusals.Damaged byte why) is cause same stays stops = absurd (let wrong : Some own.places ≡ None = sym own.known_is ∙ cause.1 in cc)
-  not_flushed refusal is cause same stays stops = absurd cause.1
+  not_copied refusal now is (inl may) same stays stops = left_by phases.Copy refusal is may (kept_run same) (map_same refusal may stays) stops
+  not_copied refusals.DiskWrite now is (inr broke) same stays stops = stops_by phases.Copy now [] refl (inl (is, refl)) (still same) stops
+  not_copied refusal now is (inr broke) same stays stops = absurd broke
+
+  -- what was to be written, as the core has it
+  abbrev written : List Store
+  written = with_sealed (suc m.last_id) k.sweep.buffer.kind k.sweep.buffer.segments m.store ∷ []
+
+  broken_flush : k.stage ≡ core.Sweep → (source entry : ℕ) → k.sweep.next ≡ nexts.Flush source entry → m.last_id < LAST_ID → MayBreak of_roots m written
+  broken_flush is source entry next_is left =
+      let at_flush = at_sweep t m.swept r.c k r.same is in
+      inr (inl (record {
+        c = r.c;
+        ran = r.ran;
+        s = at_flush.s;
+        stage_is = at_flush.stage_is ∙ ap (λ (p : Phase). Sweeping p at_flush.s) (at_flush.same.next_is ∙ ap (phase_at core.Sweep) next_is);
+        left = left;
+        kind = k.sweep.buffer.kind;
+        segments = k.sweep.buffer.segments;
+        keys_are = sym at_flush.same.filled_is;
+        copies = λ known. absurd known;
+        stores_are = refl;
+      }))
+
+  broken_release : k.stage ≡ core.Sweep → (source entry : ℕ) → k.sweep.next ≡ nexts.Release source entry
+      → MayBreak of_roots m (with_freed (slot_in_turn k.sweep) m.store ∷ [])
+  broken_release is source entry next_is =
+      let turn = in_turn m.store.held t m.swept r.c k at.represents.slots_hold under r.same is source entry next_is in
+      inr (inr (record {
+        c = r.c;
+        ran = r.ran;
+        s = turn.at.s;
+        stage_is = turn.at.stage_is ∙ ap (λ (p : Phase). Sweeping p turn.at.s) turn.phase_was;
+        slot = slot_in_turn k.sweep;
+        header = turn.stands.header;
+        there = turn.stands.there;
+        rest = ids_at t (drop 1 k.sweep.ready.items);
+        ready_is = turn.at.same.ready_is ∙ ap (ids_at t) turn.ready_was ∙ ap (λ (id : ℕ). id ∷ ids_at t (drop 1 k.sweep.ready.items)) (sym turn.id_is);
+        spare = λ known. absurd known;
+        stores_are = refl;
+      }))
+
+  not_flushed : (refusal : Refusal) → phase_at k.stage k.sweep.next ≡ phases.Flush → IsCollecting phases.Flush m.store m.collection
+      → (m.last_id < LAST_ID → MayBreak of_roots m written)
+      → IsFlushStepRefusal c.tables c.known refusal → after ≡ k → KeepsMap c.known d.known refusal → StopsAfter steps.GcStep (Err refusal) c.acknowledged d.stop → Left refusal
+  not_flushed refusals.Memory now is broke cause same stays stops = (m, (some_runs t m.swept m.collection k r, refl), rested (kept_run same) stays stops, tt)
+  not_flushed refusals.Numbers now is broke cause same stays stops = (m, (no_part, (is, omega (arith, cause, at.last_id), refl)), rested (kept_run same) stays stops, tt)
+  not_flushed refusals.DiskRead now is broke cause same stays stops =
+      (m, (no_part, (inr (inr (inr (is, omega (arith, cause.0, at.last_id)))), refl)), rested (kept_run same) stays stops, tt)
+  not_flushed refusals.DiskWrite now is broke cause same stays stops =
+      stops_by phases.Flush now written refl (broke (omega (arith, cause.0, at.last_id))) (still same) stops
+  not_flushed (refusals.Damaged byte why) now is broke cause same stays stops = absurd (let wrong : Some own.places ≡ None = sym own.known_is ∙ cause.1 in cc)
+  not_flushed refusal now is broke cause same stays stops = absurd cause.1
 
   -- ---- by its stage
 
@@ -274,13 +330,16 @@ module _ (c : CoreState) (m : M) (at : IsMachine m c) (runs : m.state ≡ Runnin
   not_made core.Select next is next_is refusal cause kept stops =
       left_by phases.Select refusal (collecting core.Select next is next_is) (subst (Unmade phases.Select) (sym cause) tt) (kept_run kept.0) kept.1 stops
   not_made core.Sweep (nexts.Copy source entry) is next_is refusal cause kept stops =
-      not_copied refusal (collecting core.Sweep (nexts.Copy source entry) is next_is) (copy_unmade t k.live c.known c.disk d.disk source entry k.sweep refusal cause)
+      not_copied refusal (phase_now core.Sweep (nexts.Copy source entry) is next_is) (collecting core.Sweep (nexts.Copy source entry) is next_is)
+      (copy_unmade t k.live c.known c.disk d.disk source entry k.sweep refusal cause)
       kept.0 kept.1 stops
   not_made core.Sweep (nexts.Flush source entry) is next_is refusal cause kept stops =
-      not_flushed refusal (collecting core.Sweep (nexts.Flush source entry) is next_is) cause kept.0 kept.1 stops
+      not_flushed refusal (phase_now core.Sweep (nexts.Flush source entry) is next_is) (collecting core.Sweep (nexts.Flush source entry) is next_is)
+      (broken_flush is source entry next_is) cause kept.0 kept.1 stops
   not_made core.Sweep (nexts.Release source entry) is next_is refusal cause kept stops =
       subst Left (sym cause)
-      (stops_by (with_freed (slot_in_turn k.sweep) m.store ∷ []) (inr (inr (collecting core.Sweep (nexts.Release source entry) is next_is, (slot_in_turn k.sweep, refl))))
+      (stops_by phases.Release (phase_now core.Sweep (nexts.Release source entry) is next_is) (with_freed (slot_in_turn k.sweep) m.store ∷ []) refl
+      (broken_release is source entry next_is)
       (still kept) (subst (λ (x : Refusal). StopsAfter steps.GcStep (Err x) c.acknowledged d.stop) cause stops))
   not_made core.Sweep nexts.End is next_is refusal cause kept stops = absurd cause
 

@@ -69,7 +69,7 @@ module _ {V R : Type 0} where
     seal_keeps a filled refusals.DiskRead m n (slot, others) = same_of m n others
     seal_keeps a filled (refusals.Clash key at) m n (slot, known, others) = same_of m n others
     seal_keeps a filled (refusals.Corrupt at offset count want got) m n (slot, (unknown, others)) = same_of m n others
-    seal_keeps a filled refusals.DiskWrite m n (slot, others) = stop_keeps None _ m n others
+    seal_keeps a filled refusals.DiskWrite m n (slot, fits, others) = stop_keeps None _ m n others
     seal_keeps a filled refusal m n refuses = absurd refuses
 
     commit_keeps : (a : ℕ) (name : List ℕ) (value : V) (refusal : Refusal) (m n : Machine V R) → RefusesCommit v a name value refusal m n → SameStore m n

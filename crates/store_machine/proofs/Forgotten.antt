@@ -17,24 +17,23 @@ use Rattle.refusals.specs.declared.refusal.Phase.{Phase}
 use Rattle.refusals.specs.declared.refusal.Phase.TheVariants as phases
 use Rattle.refusals.specs.declared.refusal.Refusal.{Refusal}
 use Rattle.refusals.specs.declared.refusal.Refusal.TheVariants as refusals
-use Rattle.gc_select.specs.declared.liveness.ContainerLiveness.{ContainerLiveness}
-use Rattle.gc_select.specs.Selecting.{ids_of}
 use Rattle.store_model.specs.Image.{Store}
 use Rattle.store_model.specs.Slots.{free_slots, last_id, newest}
 use Rattle.store_model.specs.Freeing.{with_freed}
-use Rattle.store_model.specs.Steps.{CanRise, CanSeal, FlushContainer, with_change, with_sealed}
+use Rattle.store_model.specs.Steps.{CanRise, CanSeal, with_change, with_sealed}
 use Rattle.store_model.specs.Trees.{root_of}
 use Rattle.store_machine.specs.Asked.{Asked}
 use Rattle.store_machine.specs.Asked as asked
-use Rattle.store_machine.specs.Collecting.{Begins, Chooses, Copies, Ends, Flushes, Goes, GoesOn, IsCollecting, IsRecordOf, JustGoes, Makes, Marks, Records, Releases, Went, ids_before, last_by, marking, marks_of, next_of, no_sweep, phase_in, sources_in, swept_by}
+use Rattle.store_machine.specs.Collecting.{Begins, Ends, GoesOn, IsCollecting, Makes, MayBreak, last_by, marking, marks_of, phase_in, swept_by}
 use Rattle.store_machine.specs.Done.{Done}
 use Rattle.store_machine.specs.Done as done
 use Rattle.store_machine.specs.Forgetting.{Forgets, Rests, SameNow, SamePart, SameState, RunsAreForgotten, StepsAreForgotten, asked_of, forget_collection}
 use Rattle.store_machine.specs.Legal.{Answers, ByState, Claims, Commits, Deletes, Does, GivesBytes, GivesUp, HasName, HasNumbers, HasRoom, HasSlot, IsAtEnd, IsAtRightPart, IsLacked, IsUnkept, broken_by, Keeps, LacksNumbers, MayCommit, OpensValue, Refuses, RefusesClaim, RefusesCommit, RefusesDelete, RefusesGcStep, RefusesOn, RefusesRead, RefusesSeal, Seals, LegalBy, counted, taken_by, with_name, without_name}
-use Rattle.store_machine.specs.Machine.{Collection, Found, Sweeping, Idle, Writing, Reading, RunState, Running, Stopped, all_idle, keeping, kind_of, one_more, part_in, put_at}
+use Rattle.store_machine.specs.Machine.{Collection, Found, Idle, Writing, Reading, RunState, Running, Stopped, all_idle, keeping, kind_of, one_more, part_in, put_at}
 use Rattle.store_machine.specs.Needs.{HasLength, forgotten_beside, keys_kept, keys_of, values_read, with_pins}
 use Rattle.store_machine.specs.Opening.{MayBeFound, MayRefuseOpening, Opens, Reopens, freeing}
 use Rattle.store_machine.specs.Values.{IsStuck, of_files, of_roots, top_of}
+use Rattle.store_machine.proofs.ForgottenCollection.{goes_same}
 use Rattle.store_machine.proofs.Parts.{F, G, FilePart, RootPart, part_at, set_at, all_same, kind_same, idle_same, writing_same, reading_same, kept_map, keys_same, read_same, map_two, collecting, some_left}
 use Rattle.store_machine.proofs.SameNames.{gone_same, knows_same, len_same, listing_same, none_same, put_same, some_same, values_same}
 use Rattle.store_machine.proofs.Walks.{ends_both, more_both, next_leaf, start_both}
@@ -324,126 +323,6 @@ module _ (m : F) (r : G) (same : Forgets m r) where
         state = same.state;
       })
 
-  just_goes : (c : Collection (List ℕ)) (w : Went) → JustGoes of_files c m w → JustGoes of_roots (forget_collection c) r w
-  just_goes c w (recorded, changes, forgotten) = (recorded, changes, forgotten ∙ sym same.forgotten)
-
-  record_same : (c : Collection (List ℕ)) (one : ContainerLiveness) → IsRecordOf of_files c m.store one → IsRecordOf of_roots (forget_collection c) r.store one
-  record_same c one is = record {
-    slot = is.slot;
-    header = is.header;
-    there = on_store (λ (s : Store). slice_get s.held is.slot ≡ Some (Some is.header)) is.there;
-    before = is.before;
-    id_is = is.id_is;
-    kind_is = is.kind_is;
-    all_is = is.all_is;
-    live_is = λ known. absurd known;
-  }
-
-  marks_same : (c : Collection (List ℕ)) (w : Went) → Marks of_files c m w → Marks of_roots (forget_collection c) r w
-  marks_same c w (left, stage, next, just) = (left, stage, next, just_goes c w just)
-
-  records_same : (c : Collection (List ℕ)) (w : Went) → Records of_files c m w → Records of_roots (forget_collection c) r w
-  records_same c w (one, stage, next, recorded, changes, forgotten, (rest, order), is) = (
-    one,
-    stage,
-    next,
-    recorded,
-    changes,
-    forgotten ∙ sym same.forgotten,
-    (rest, on_store (λ (s : Store). ids_before c.snapshot s.held ≡ ids_of w.recorded ++ rest) order),
-    record_same c one is,
-  )
-
-  chooses_same : (c : Collection (List ℕ)) (w : Went) → Chooses of_files c m w → Chooses of_roots (forget_collection c) r w
-  chooses_same c w (stage, all, next, just) = (
-    stage,
-    on_store (λ (s : Store). ids_of c.recorded ≡ ids_before c.snapshot s.held) all,
-    on_store (λ (s : Store). w.stage ≡ Sweeping (next_of s.held (sources_in c) no_sweep) no_sweep) next,
-    just_goes c w just,
-  )
-
-  more_left : (filled now after : List (List ℕ)) → ((more gone : List (List ℕ)) × (now ≡ filled ++ more) × (after ≡ m.forgotten ++ gone))
-      → (more gone : List (List ℕ)) × (now ≡ filled ++ more) × (after ≡ r.forgotten ++ gone)
-  more_left filled now after (more, gone, filled_is, gone_is) = (more, gone, filled_is, gone_is ∙ ap (λ (fs : List (List ℕ)). fs ++ gone) (sym same.forgotten))
-
-  copies_same : (c : Collection (List ℕ)) (w : Went) → Copies of_files c m w → Copies of_roots (forget_collection c) r w
-  copies_same c w (s, t, next, stage, after, recorded, changes, left, ready, more, over, inl (source, entry, next_is, inl ends)) = (
-    s,
-    t,
-    next,
-    stage,
-    after,
-    recorded,
-    changes,
-    left,
-    ready,
-    more_left s.filled t.filled w.forgotten more,
-    (λ known. absurd known),
-    inl
-        (source, entry, on_store (λ (x : Store). next ≡ next_of x.held (sources_in c) t) next_is, inl ends),
-  )
-  copies_same c w (s, t, next, stage, after, recorded, changes, left, ready, more, over, inl (source, entry, next_is, inr (inl ends))) = (
-    s,
-    t,
-    next,
-    stage,
-    after,
-    recorded,
-    changes,
-    left,
-    ready,
-    more_left s.filled t.filled w.forgotten more,
-    (λ known. absurd known),
-    inl
-        (source, entry, on_store (λ (x : Store). next ≡ next_of x.held (sources_in c) t) next_is, inr (inl ends)),
-  )
-  copies_same c w (s, t, next, stage, after, recorded, changes, left, ready, more, over, inl (source, entry, next_is, inr (inr ends))) = absurd (ends.0 tt)
-  copies_same c w (s, t, next, stage, after, recorded, changes, left, ready, more, over, inr stops) =
-      (s, t, next, stage, after, recorded, changes, left, ready, more_left s.filled t.filled w.forgotten more, (λ known. absurd known), inr stops)
-
-  flushes_same : (c : Collection (List ℕ)) (w : Went) → Flushes of_files c m w → Flushes of_roots (forget_collection c) r w
-  flushes_same c w (s, t, kind, segments, stage, changes, keys, t_is, next, recorded, forgotten, known) = (
-    s,
-    t,
-    kind,
-    segments,
-    stage,
-    changes ∙ ap (λ (id : ℕ). FlushContainer (suc id) kind segments ∷ []) (sym same.last_id),
-    keys,
-    t_is,
-    on_store (λ (x : Store). w.stage ≡ Sweeping (next_of x.held (sources_in c) t) t) next,
-    recorded,
-    forgotten ∙ sym same.forgotten,
-    λ e. absurd e,
-  )
-
-  releases_same : (c : Collection (List ℕ)) (w : Went) → Releases of_files c m w → Releases of_roots (forget_collection c) r w
-  releases_same c w (s, t, id, slot, rest, stage, ready, changes, (header, there, id_is), t_is, next, recorded, forgotten, known) = (
-    s,
-    t,
-    id,
-    slot,
-    rest,
-    stage,
-    ready,
-    changes,
-    (header, on_store (λ (x : Store). slice_get x.held slot ≡ Some (Some header)) there, id_is),
-    t_is,
-    on_store (λ (x : Store). w.stage ≡ Sweeping (next_of x.held (sources_in c) t) t) next,
-    recorded,
-    forgotten ∙ sym same.forgotten,
-    λ e. absurd e,
-  )
-
-  goes_same : (phase : Phase) (c : Collection (List ℕ)) (w : Went) → Goes of_files phase c m w → Goes of_roots phase (forget_collection c) r w
-  goes_same phases.Mark c w is = marks_same c w is
-  goes_same phases.Filter c w is = records_same c w is
-  goes_same phases.Select c w is = chooses_same c w is
-  goes_same phases.Copy c w is = copies_same c w is
-  goes_same phases.Flush c w is = flushes_same c w is
-  goes_same phases.Release c w is = releases_same c w is
-  goes_same phase c w is = absurd is
-
   gone_on : (phase : Phase) (n : F) → GoesOn of_files phase m n → Left (λ t. GoesOn of_roots phase r t) n
   gone_on phase n g =
       let w = g.went in
@@ -467,7 +346,7 @@ module _ (m : F) (r : G) (same : Forgets m r) where
         ran = one_runs g.c g.ran;
         phase_is = on_store (λ (s : Store). phase ≡ phase_in s g.c) g.phase_is;
         went = w;
-        goes = goes_same phase g.c w g.goes;
+        goes = goes_same m r same phase g.c w g.goes;
         makes = on_store (λ (s : Store). Makes w.changes s n.store) g.makes;
         others = refl;
       })
@@ -577,11 +456,11 @@ module _ (m : F) (r : G) (same : Forgets m r) where
   unsealed a filled (refusals.Clash key at) n ((slot, id), known, others) =
       stays (λ t. RefusesSeal of_roots a filled (refusals.Clash key at) r t) n others ((slot_same a filled slot, on_id (λ id. id < LAST_ID) id), (λ e. absurd e), refl)
   unsealed a filled (refusals.Corrupt at offset count want got) n (slot, (unknown, others)) = absurd (unknown tt)
-  unsealed a filled refusals.DiskWrite n ((slot, id), others) =
+  unsealed a filled refusals.DiskWrite n ((slot, id), fits, others) =
       stop (λ t. RefusesSeal of_roots a filled refusals.DiskWrite r t) n None None (with_sealed (suc m.last_id) filled.kind filled.segments m.store ∷ [])
       (with_sealed (suc r.last_id) filled.kind filled.segments r.store ∷ []) others
       (λ i. with_sealed (suc (same.last_id i)) filled.kind filled.segments (same.store i) ∷ [])
-      ((slot_same a filled slot, on_id (λ id. id < LAST_ID) id), refl)
+      ((slot_same a filled slot, on_id (λ id. id < LAST_ID) id), (λ e. absurd e), refl)
   unsealed a filled refusal n refuses = absurd refuses
 
   uncommitted : (a : ℕ) (name file : List ℕ) (refusal : Refusal) (n : F) → RefusesCommit of_files a name file refusal m n
@@ -628,6 +507,35 @@ module _ (m : F) (r : G) (same : Forgets m r) where
   unread a refusal n (file, [], after, was, gone, others) = absurd gone
   unread a refusal n (file, bytes ∷ rest, after, was, gone, others) = absurd gone
 
+  -- which stores may stand once a step of a collection broke off
+  broken : (stores : List Store) → MayBreak of_files m stores → MayBreak of_roots r stores
+  broken stores (inl (is, none)) = inl (runs phases.Copy is, none)
+  broken stores (inr (inl b)) = inr (inl (record {
+    c = forget_collection b.c;
+    ran = one_runs b.c b.ran;
+    s = b.s;
+    stage_is = b.stage_is;
+    left = on_id (λ id. id < LAST_ID) b.left;
+    kind = b.kind;
+    segments = b.segments;
+    keys_are = b.keys_are;
+    copies = λ e. absurd e;
+    stores_are = b.stores_are ∙ sym (λ i. with_sealed (suc (same.last_id i)) b.kind b.segments (same.store i) ∷ []);
+  }))
+  broken stores (inr (inr b)) = inr (inr (record {
+    c = forget_collection b.c;
+    ran = one_runs b.c b.ran;
+    s = b.s;
+    stage_is = b.stage_is;
+    slot = b.slot;
+    header = b.header;
+    there = on_store (λ (x : Store). slice_get x.held b.slot ≡ Some (Some b.header)) b.there;
+    rest = b.rest;
+    ready_is = b.ready_is;
+    spare = λ e. absurd e;
+    stores_are = b.stores_are ∙ sym (λ i. with_freed b.slot (same.store i) ∷ []);
+  }))
+
   uncollected : (refusal : Refusal) (n : F) → RefusesGcStep of_files refusal m n → Left (λ t. RefusesGcStep of_roots refusal r t) n
   uncollected refusals.NotCollecting n (none, others) = stays (λ t. RefusesGcStep of_roots refusals.NotCollecting r t) n others (none_runs none, refl)
   uncollected refusals.Memory n (some, others) = stays (λ t. RefusesGcStep of_roots refusals.Memory r t) n others (some_runs some, refl)
@@ -638,17 +546,8 @@ module _ (m : F) (r : G) (same : Forgets m r) where
   uncollected refusals.DiskRead n (inr (inr (inl is)), others) = stays (λ t. RefusesGcStep of_roots refusals.DiskRead r t) n others (inr (inr (inl (runs phases.Copy is))), refl)
   uncollected refusals.DiskRead n (inr (inr (inr is)), others) =
       stays (λ t. RefusesGcStep of_roots refusals.DiskRead r t) n others (inr (inr (inr (runs phases.Flush is.0, on_id (λ id. id < LAST_ID) is.1))), refl)
-  uncollected refusals.DiskWrite n (stores, inl (is, none), others) =
-      stop (λ t. RefusesGcStep of_roots refusals.DiskWrite r t) n None None stores stores others refl (stores, inl (runs phases.Copy is, none), refl)
-  uncollected refusals.DiskWrite n (stores, inr (inl (is, left, (kind, segments, broken))), others) =
-      let now = with_sealed (suc r.last_id) kind segments r.store ∷ [] in
-      stop (λ t. RefusesGcStep of_roots refusals.DiskWrite r t) n None None stores now others
-      ((λ i. with_sealed (suc (same.last_id i)) kind segments (same.store i) ∷ []) ∙ sym broken)
-      (now, inr (inl (runs phases.Flush is, on_id (λ id. id < LAST_ID) left, (kind, segments, refl))), refl)
-  uncollected refusals.DiskWrite n (stores, inr (inr (is, (slot, broken))), others) =
-      let now = with_freed slot r.store ∷ [] in
-      stop (λ t. RefusesGcStep of_roots refusals.DiskWrite r t) n None None stores now others
-      ((λ i. with_freed slot (same.store i) ∷ []) ∙ sym broken) (now, inr (inr (runs phases.Release is, (slot, refl))), refl)
+  uncollected refusals.DiskWrite n (stores, may, others) =
+      stop (λ t. RefusesGcStep of_roots refusals.DiskWrite r t) n None None stores stores others refl (stores, broken stores may, refl)
   uncollected (refusals.Corrupt slot offset count want got) n (is, (unknown, others)) = absurd (unknown tt)
   uncollected (refusals.Missing key) n (is, (unknown, others)) = absurd (unknown tt)
   uncollected (refusals.Damaged at why) n (is, (unknown, others)) = absurd (unknown tt)

@@ -16,15 +16,15 @@ use Rattle.store_model.specs.Freeing.{FreesTo}
 use Rattle.store_model.specs.Steps.{FlushContainer, FreeContainer}
 use Rattle.store_machine.specs.Asked.{Asked}
 use Rattle.store_machine.specs.Asked as asked
-use Rattle.store_machine.specs.Collecting.{Goes, GoesOn, GoesOver, IsRecordOf, Went}
+use Rattle.store_machine.specs.Collecting.{Goes, GoesOn, GoesOver, IsCopyOf, IsRecordOf, MayBreak, Went}
 use Rattle.store_machine.specs.Done.{Done}
 use Rattle.store_machine.specs.Done as done
 use Rattle.store_machine.specs.Forgetting.{Forgets, SameNow, SamePart, SameState, forget_collection}
 use Rattle.store_machine.specs.Legal.{Answers, ByState, Does, GivesBytes, LegalBy, Refuses, RefusesOn, RefusesRead}
 use Rattle.store_machine.specs.Machine.{Collection, Found, Reading, RunState, Running, Stopped, Sweep, Sweeping, part_in}
 use Rattle.store_machine.specs.Needs.{IsNeeded, NamesNeed}
-use Rattle.store_machine.specs.Opening.{Reopens, freeing}
-use Rattle.store_machine.specs.Remembering.{AddsBy, AddsNoMore, AddsToAnswer, AddsToDone, AddsToOpening, AddsToPhase, AddsToRefused, AddsToStep, ComesNext, IsCopyOf, IsGivenBack, IsReady}
+use Rattle.store_machine.specs.Opening.{IsGivenBack, Reopens, freeing}
+use Rattle.store_machine.specs.Remembering.{AddsBy, AddsNoMore, AddsToAnswer, AddsToDone, AddsToOpening, AddsToPhase, AddsToRefused, AddsToStep, ComesNext, IsReady}
 use Rattle.store_machine.specs.Values.{StaysAt, of_files, of_roots}
 use Rattle.store_machine.proofs.Parts.{F, G, FilePart, part_at, put_told}
 
@@ -116,7 +116,7 @@ module _ (m n : F) (r t : G) (was : Forgets m r) (now : Forgets n t) where
     flushed (s, u, kind, segments, stage, changes, keys, u_is, next, recorded, forgotten, known) id other others same =
         let one = append_cancel_left c.changes w.changes (FlushContainer id other others ∷ []) (sym changes_is ∙ same) in
         let both = flushed_of (suc m.last_id) id kind other segments others (one_of _ _ (sym changes ∙ one)) in
-        subst (AllByRecursion (IsCopyOf c m other)) both.1 (subst (λ (k : Kind). AllByRecursion (IsCopyOf c m k) segments) both.0 (known tt))
+        subst (AllByRecursion (IsCopyOf c m.store other)) both.1 (subst (λ (k : Kind). AllByRecursion (IsCopyOf c m.store k) segments) both.0 (known tt))
 
     released : Goes of_files phases.Release c m w → AddsToPhase phases.Release c d m t
     released (s, u, id, slot, rest, stage, ready, changes, header, u_is, next, recorded, forgotten, known) other same =
@@ -172,6 +172,7 @@ module _ (m n : F) (r t : G) (was : Forgets m r) (now : Forgets n t) where
   refused_adds a (asked.Claim seg) (refusals.Corrupt slot offset count want got) (keeps, (unknown, others)) = absurd (unknown tt)
   refused_adds a (asked.Seal filled) (refusals.Clash key at) (has, known, others) = known tt
   refused_adds a (asked.Seal filled) (refusals.Corrupt slot offset count want got) (has, (unknown, others)) = absurd (unknown tt)
+  refused_adds a (asked.Seal filled) refusals.DiskWrite (has, fits, others) = fits tt
   refused_adds a (asked.Commit name file) refusals.DiskWrite (may, has, right, whole, others) = (right, whole)
   refused_adds a asked.ReadNext refusals.DiskRead refuses = still_there a refuses
   refused_adds a asked.ReadNext (refusals.Corrupt slot offset count want got) (file, rest, after, reads, stays, others) =
@@ -182,6 +183,8 @@ module _ (m n : F) (r t : G) (was : Forgets m r) (now : Forgets n t) where
       read_only ⊥ (refusals.Damaged at why) rest after (λ bytes more no. no) stays
   refused_adds a (asked.GcStart percent) (refusals.Missing key) (none, (unknown, others)) = absurd (unknown tt)
   refused_adds a (asked.GcStart percent) (refusals.Damaged at why) (none, (unknown, others)) = absurd (unknown tt)
+  refused_adds a asked.GcStep refusals.DiskWrite (stores, may, others) = λ given is.
+      subst (MayBreak of_files m) (sym (ap (λ (x : F). stopped_by x.state) others) ∙ sym (stopped_same n.state t.state now.state) ∙ ap stopped_by is) may
   refused_adds a asked.GcStep (refusals.Corrupt slot offset count want got) (is, (unknown, others)) = absurd (unknown tt)
   refused_adds a asked.GcStep (refusals.Missing key) (is, (unknown, others)) = absurd (unknown tt)
   refused_adds a asked.GcStep (refusals.Damaged at why) (is, (unknown, others)) = absurd (unknown tt)
@@ -225,14 +228,14 @@ module _ (m n : F) (r t : G) (was : Forgets m r) (now : Forgets n t) where
     frees = subst (FreesTo (NamesNeed of_files o.found) o.freed o.before) (sym now.store) (o.frees tt);
   }
   opening_adds (Ok answer) opens = absurd opens
-  opening_adds (Err refusal) (may, inl others) = (may, λ stores is. subst (AllByRecursion (IsGivenBack m)) (none stores is) tt)
+  opening_adds (Err refusal) (may, inl others) = (may, λ stores is. subst (AllByRecursion (IsGivenBack of_files m)) (none stores is) tt)
     where
       none : (stores : List Store) → t.state ≡ freeing of_roots stores r.state → [] ≡ stores
       none stores is =
           append_cancel_left (stopped_by r.state) [] stores
           (append-nil (stopped_by r.state) ∙ stopped_same m.state r.state was.state ∙ ap (λ (x : F). stopped_by x.state) (sym others)
           ∙ sym (stopped_same n.state t.state now.state) ∙ ap stopped_by is ∙ freed_roots stores r.state)
-  opening_adds (Err refusal) (may, inr (given, others, known)) = (may, λ stores is. subst (AllByRecursion (IsGivenBack m)) (all stores is) (known tt))
+  opening_adds (Err refusal) (may, inr (given, others, known)) = (may, λ stores is. subst (AllByRecursion (IsGivenBack of_files m)) (all stores is) (known tt))
     where
       all : (stores : List Store) → t.state ≡ freeing of_roots stores r.state → given ≡ stores
       all stores is =

@@ -86,7 +86,7 @@ seal_rests a filled refusals.Numbers m n runs (slot, none, others) = rests m n r
 seal_rests a filled refusals.DiskRead m n runs (slot, others) = rests m n runs others
 seal_rests a filled (refusals.Clash key at) m n runs (slot, known, others) = rests m n runs others
 seal_rests a filled (refusals.Corrupt at offset count want got) m n runs (slot, (unknown, others)) = rests m n runs others
-seal_rests a filled refusals.DiskWrite m n runs (slot, others) = stops _ m n others
+seal_rests a filled refusals.DiskWrite m n runs (slot, fits, others) = stops _ m n others
 seal_rests a filled refusal m n runs refuses = absurd refuses
 
 on_rests : (a : ℕ) (step : Asked (List ℕ)) (refusal : Refusal) (m n : F) → IsQuiet step → m.state ≡ Running → RefusesOn of_files a step refusal m n → Quiet m n

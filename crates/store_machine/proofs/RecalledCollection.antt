@@ -9,6 +9,7 @@ use Rattle.store_model.specs.Steps.{FlushContainer, StoreChange}
 use Rattle.store_machine.specs.Collecting.{Begins, Chooses, Copies, Ends, Flushes, Goes, GoesOn, GoesOver, JustGoes, Makes, Marks, Records, Releases, Went, freed_in, ids_before, keys_written, last_by, next_of, no_sweep, phase_in, sources_in, swept_by}
 use Rattle.store_machine.specs.Forgetting.{Forgets, forget_collection}
 use Rattle.store_machine.specs.Machine.{Collection, Sweeping}
+use Rattle.store_machine.specs.Needs.{forgotten_beside}
 use Rattle.store_machine.specs.Remembering.{AddsToPhase, AddsToStep}
 use Rattle.store_machine.specs.Values.{of_files, of_roots}
 use Rattle.store_machine.proofs.Forgotten.{started, root_started, begun_same}
@@ -149,7 +150,7 @@ module _ (m : F) (r : G) (same : Forgets m r) where
       u_is,
       on_store m r same (λ (x : Store). w.stage ≡ Sweeping (next_of x.held (sources_in c) u) u) next,
       recorded,
-      forgotten ∙ same.forgotten,
+      forgotten ∙ ap (forgotten_beside s.filled) same.forgotten,
       λ told. adds (suc r.last_id) kind segments (ap (λ (made : List StoreChange). c.changes ++ made) changes),
     )
 

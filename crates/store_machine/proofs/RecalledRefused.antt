@@ -7,7 +7,6 @@ use Rattle.merkle_file.specs.declared.top.Top.{Top}
 use Rattle.refusals.specs.declared.refusal.Phase.TheVariants as phases
 use Rattle.refusals.specs.declared.refusal.Refusal.{Refusal}
 use Rattle.refusals.specs.declared.refusal.Refusal.TheVariants as refusals
-use Rattle.store_model.specs.Freeing.{with_freed}
 use Rattle.store_model.specs.Slots.{free_slots}
 use Rattle.store_model.specs.Steps.{with_sealed}
 use Rattle.store_model.specs.Trees.{root_of}
@@ -60,10 +59,10 @@ module _ (m : F) (r : G) (same : Forgets m r) where
   unsealed a filled (refusals.Clash key at) t (has, known, others) adds =
       stays m r same (λ n. RefusesSeal of_files a filled (refusals.Clash key at) m n) t others (id_back m r same a filled has, (λ told. adds), refl)
   unsealed a filled (refusals.Corrupt at offset count want got) t refuses adds = absurd adds
-  unsealed a filled refusals.DiskWrite t (has, others) adds =
+  unsealed a filled refusals.DiskWrite t (has, known, others) adds =
       stop m r same (λ n. RefusesSeal of_files a filled refusals.DiskWrite m n) t None None (with_sealed (suc m.last_id) filled.kind filled.segments m.store ∷ [])
       (with_sealed (suc r.last_id) filled.kind filled.segments r.store ∷ []) others
-      (λ i. with_sealed (suc (same.last_id i)) filled.kind filled.segments (same.store i) ∷ []) (id_back m r same a filled has, refl)
+      (λ i. with_sealed (suc (same.last_id i)) filled.kind filled.segments (same.store i) ∷ []) (id_back m r same a filled has, (λ told. adds), refl)
   unsealed a filled refusal t refuses adds = absurd refuses
 
   uncommitted : (a : ℕ) (name file : List ℕ) (refusal : Refusal) (t : G) → RefusesCommit of_roots a name (root_of file) refusal r t
@@ -150,17 +149,9 @@ module _ (m : F) (r : G) (same : Forgets m r) where
   uncollected refusals.DiskRead t (inr (inr (inr is)), others) a adds =
       stays m r same (λ n. RefusesGcStep of_files refusals.DiskRead m n) t others
       (inr (inr (inr (runs m r same phases.Flush is.0, on_id m r same (λ id. id < LAST_ID) is.1))), refl)
-  uncollected refusals.DiskWrite t (stores, inl (is, none), others) a adds =
-      stop m r same (λ n. RefusesGcStep of_files refusals.DiskWrite m n) t None None stores stores others refl (stores, inl (runs m r same phases.Copy is, none), refl)
-  uncollected refusals.DiskWrite t (stores, inr (inl (is, left, (kind, segments, broken))), others) a adds =
-      let now = with_sealed (suc m.last_id) kind segments m.store ∷ [] in
-      stop m r same (λ n. RefusesGcStep of_files refusals.DiskWrite m n) t None None now stores others
-      (broken ∙ (λ i. with_sealed (suc (same.last_id i)) kind segments (same.store i) ∷ []))
-      (now, inr (inl (runs m r same phases.Flush is, on_id m r same (λ id. id < LAST_ID) left, (kind, segments, refl))), refl)
-  uncollected refusals.DiskWrite t (stores, inr (inr (is, (slot, broken))), others) a adds =
-      let now = with_freed slot m.store ∷ [] in
-      stop m r same (λ n. RefusesGcStep of_files refusals.DiskWrite m n) t None None now stores others
-      (broken ∙ (λ i. with_freed slot (same.store i) ∷ [])) (now, inr (inr (runs m r same phases.Release is, (slot, refl))), refl)
+  uncollected refusals.DiskWrite t (stores, may, others) a adds =
+      stop m r same (λ n. RefusesGcStep of_files refusals.DiskWrite m n) t None None stores stores others refl
+      (stores, adds stores (ap (λ (x : G). x.state) others), refl)
   uncollected (refusals.Corrupt slot offset count want got) t refuses a adds = absurd adds
   uncollected (refusals.Missing key) t refuses a adds = absurd adds
   uncollected (refusals.Damaged at why) t refuses a adds = absurd adds

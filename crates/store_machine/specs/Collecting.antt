@@ -10,19 +10,20 @@ use Rattle.container_meta.specs.declared.kind.Kind.TheVariants.{Leaf, Tree}
 use Rattle.container_meta.specs.Format.{kind_byte}
 use Rattle.container_meta.specs.Segments.{Segment, segment_key}
 use Rattle.container_meta.specs.Spelling.{HeaderValue, bytes_of}
-use Rattle.disk_format.specs.declared.numbers.TheConstants.{DATA_BYTES, MOST_ENTRIES, MOST_LEVEL}
+use Rattle.disk_format.specs.declared.numbers.TheConstants.{DATA_BYTES, LAST_ID, MOST_ENTRIES, MOST_LEVEL}
 use Rattle.gc_select.specs.declared.liveness.ContainerLiveness.{ContainerLiveness}
 use Rattle.gc_select.specs.Selecting.{ids_of, selected, sources_of}
 use Rattle.refusals.specs.declared.refusal.Phase.{Phase}
 use Rattle.refusals.specs.declared.refusal.Phase.TheVariants.{Copy, End, Filter, Flush, Mark, Release, Select}
+use Rattle.store_model.specs.Freeing.{with_freed}
 use Rattle.store_model.specs.Image.{Store}
 use Rattle.store_model.specs.Indexing.{entry_key}
 use Rattle.store_model.specs.Needed.{Needs}
 use Rattle.store_model.specs.Reserve.{IsSpare}
 use Rattle.store_model.specs.Slots.{Copy as KeyCopy, newest, place_of}
-use Rattle.store_model.specs.Steps.{CanChange, FlushContainer, FreeContainer, StoreChange, changed}
+use Rattle.store_model.specs.Steps.{CanChange, FlushContainer, FreeContainer, StoreChange, changed, with_sealed}
 use Rattle.store_machine.specs.Machine.{Collection, Machine, Stage, Marking, Recording, Sweeping, Sweep}
-use Rattle.store_machine.specs.Needs.{HasCopy, IndexHas, IsNeeded, NeededSince, keys_kept, keys_of, values_read}
+use Rattle.store_machine.specs.Needs.{HasCopy, IndexHas, IsNeeded, NeededSince, forgotten_beside, keys_kept, keys_of, values_read}
 use Rattle.store_machine.specs.Values.{Values}
 
 -- ---- counts
@@ -139,6 +140,11 @@ bytes_filled held (key ∷ keys) = length_of (newest 0 held key) + bytes_filled 
 abbrev pub HasNoRoom : List (Option HeaderValue) → List (List ℕ) → ℕ → Type 0
 HasNoRoom held keys count = (MOST_ENTRIES ≤ length keys) ⊎ (DATA_BYTES < bytes_filled held keys + count)
 
+-- a copy may be written: no copy of its key was before, and the segment is what the newest copy has
+abbrev pub IsCopyOf : {V : Type 0} → Collection V → Store → Kind → Segment → Type 0
+IsCopyOf c store kind x =
+    ¬ (Contains (keys_written c.changes) (segment_key kind x)) × HasCopy store (record { kind = kind; segment = x })
+
 -- ---- what a copying step goes over
 
 -- what is to be written, and the keys that the index lacks
@@ -239,15 +245,15 @@ module _ {V R : Type 0} (v : Values V R) where
       ⊎ ((t.source ≡ s.source) × (s.entry ≤ t.entry) × (next ≡ Flush) × (s.filled ≢ []) × (t.filled ≢ []) × (t.waiting ≡ s.waiting)
       × (t.ready ≡ [])))
 
-  -- What is to be written is, in a container of the next id: just these keys, in their order, of which none was written before. Then the
-  -- sources that waited are ready.
+  -- What is to be written is, in a container of the next id: just these keys, in their order, of which none was written before. The index
+  -- has them then, and the sources that waited are ready.
   abbrev pub Flushes : Collection V → Machine V R → Went → Type 0
   Flushes c m w = (s t : Sweep) × (kind : Kind) × (segments : List Segment) × (c.stage ≡ Sweeping Flush s)
       × (w.changes ≡ FlushContainer (suc m.last_id) kind segments ∷ []) × (keys_of kind segments ≡ s.filled)
       × (t ≡ record s { filled = []; waiting = []; ready = s.waiting })
-      × (w.stage ≡ Sweeping (next_of m.store.held (sources_in c) t) t) × (w.recorded ≡ c.recorded) × (w.forgotten ≡ m.forgotten)
-      × (v.Known → AllByRecursion (λ x. ¬ (Contains (keys_written c.changes) (segment_key kind x))
-      × HasCopy m.store (record { kind = kind; segment = x })) segments)
+      × (w.stage ≡ Sweeping (next_of m.store.held (sources_in c) t) t) × (w.recorded ≡ c.recorded)
+      × (w.forgotten ≡ forgotten_beside s.filled m.forgotten)
+      × (v.Known → AllByRecursion (IsCopyOf c m.store kind) segments)
 
   -- The first source that is ready is given back: it holds the newest copy of no key that is needed, or was since the collection began.
   abbrev pub Releases : Collection V → Machine V R → Went → Type 0
@@ -265,6 +271,40 @@ module _ {V R : Type 0} (v : Values V R) where
   Goes Flush c m w = Flushes c m w
   Goes Release c m w = Releases c m w
   Goes phase c m w = ⊥
+
+  -- ---- a step that broke off, as it wrote: which stores may stand then beside that of before
+
+  -- What was to be written may be, in a container of the next id.
+  pub record BreaksFlush (m : Machine V R) (stores : List Store) : Type 0 where
+    pub c : Collection V
+    pub ran : m.collection ≡ Some c
+    pub s : Sweep
+    pub stage_is : c.stage ≡ Sweeping Flush s
+    pub left : m.last_id < LAST_ID
+    pub kind : Kind
+    pub segments : List Segment
+    pub keys_are : keys_of kind segments ≡ s.filled
+    pub copies : v.Known → AllByRecursion (IsCopyOf c m.store kind) segments
+    pub stores_are : stores ≡ with_sealed (suc m.last_id) kind segments m.store ∷ []
+
+  -- The first source that is ready may be given back.
+  pub record BreaksRelease (m : Machine V R) (stores : List Store) : Type 0 where
+    pub c : Collection V
+    pub ran : m.collection ≡ Some c
+    pub s : Sweep
+    pub stage_is : c.stage ≡ Sweeping Release s
+    pub slot : ℕ
+    pub header : HeaderValue
+    pub there : slice_get m.store.held slot ≡ Some (Some header)
+    pub rest : List ℕ
+    pub ready_is : s.ready ≡ header.id ∷ rest
+    pub spare : v.Known → IsSpare (IsNeeded v m) m.store.held slot
+    pub stores_are : stores ≡ with_freed slot m.store ∷ []
+
+  -- A copying step breaks off by its change of an index that lies on the disk.
+  abbrev pub MayBreak : Machine V R → List Store → Type 0
+  MayBreak m stores =
+      (IsCollecting Copy m.store m.collection × (stores ≡ [])) ⊎ BreaksFlush m stores ⊎ BreaksRelease m stores
 
   -- ---- the steps
 

@@ -25,9 +25,8 @@ use Rattle.store_model.specs.Image.{Store}
 use Rattle.store_model.specs.Indexing.{bytes_in_slots, entries_in}
 use Rattle.store_model.specs.Refusals.{root_key}
 use Rattle.store_model.specs.Slots.{Copy, free_slots, newest}
-use Rattle.store_model.specs.Freeing.{with_freed}
 use Rattle.store_model.specs.Steps.{CanRise, CanSeal, with_change, with_checkpoint, with_other, with_sealed}
-use Rattle.store_machine.specs.Collecting.{Begins, Ends, GoesOn, IsCollecting}
+use Rattle.store_machine.specs.Collecting.{Begins, Ends, GoesOn, IsCollecting, MayBreak}
 use Rattle.store_machine.specs.Asked.{Asked}
 use Rattle.store_machine.specs.Asked as asked
 use Rattle.store_machine.specs.Done.{Done}
@@ -273,6 +272,7 @@ module _ {V R : Type 0} (v : Values V R) where
   RefusesSeal a filled (Clash key at) m n = HasSlotAndId a filled m × (v.Known → IsFirstClash filled key at m) × (n ≡ m)
   RefusesSeal a filled (Corrupt slot offset count want got) m n = HasSlotAndId a filled m × OnlyUnknown m n
   RefusesSeal a filled DiskWrite m n = HasSlotAndId a filled m
+      × (v.Known → AllByRecursion (Fits m.store m.forgotten filled.kind) filled.segments)
       × Stops None (with_sealed (suc m.last_id) filled.kind filled.segments m.store ∷ []) m n
   RefusesSeal a filled refusal m n = ⊥
 
@@ -301,21 +301,13 @@ module _ {V R : Type 0} (v : Values V R) where
   RefusesRead a refusal m n = (value : V) × (rest after : R) × (part_in m a ≡ Reading value rest) × v.Stays rest refusal after
       × (n ≡ put_at m a (Reading value after))
 
-  -- a step of a collection that writes may break off: a flush, so that its container may be there; a release; or a copying step, by its
-  -- change of an index that lies on the disk
-  abbrev pub MayBreak : Machine V R → List Store → Type 0
-  MayBreak m stores = (IsCollecting phases.Copy m.store m.collection × (stores ≡ []))
-      ⊎ (IsCollecting phases.Flush m.store m.collection × (m.last_id < LAST_ID)
-      × ((kind : Kind) × (segments : List Segment) × (stores ≡ with_sealed (suc m.last_id) kind segments m.store ∷ [])))
-      ⊎ (IsCollecting phases.Release m.store m.collection × ((slot : ℕ) × (stores ≡ with_freed slot m.store ∷ [])))
-
   abbrev pub RefusesGcStep : Refusal → Machine V R → Machine V R → Type 0
   RefusesGcStep NotCollecting m n = (m.collection ≡ None) × (n ≡ m)
   RefusesGcStep Memory m n = (is_some m.collection ≡ true) × (n ≡ m)
   RefusesGcStep Numbers m n = IsCollecting phases.Flush m.store m.collection × (LAST_ID ≤ m.last_id) × (n ≡ m)
   RefusesGcStep DiskRead m n = (IsCollecting phases.Mark m.store m.collection ⊎ IsCollecting phases.Filter m.store m.collection
       ⊎ IsCollecting phases.Copy m.store m.collection ⊎ (IsCollecting phases.Flush m.store m.collection × (m.last_id < LAST_ID))) × (n ≡ m)
-  RefusesGcStep DiskWrite m n = (stores : List Store) × MayBreak m stores × Stops None stores m n
+  RefusesGcStep DiskWrite m n = (stores : List Store) × MayBreak v m stores × Stops None stores m n
   RefusesGcStep (Corrupt slot offset count want got) m n =
       (IsCollecting phases.Mark m.store m.collection ⊎ IsCollecting phases.Copy m.store m.collection) × OnlyUnknown m n
   RefusesGcStep (Missing key) m n = IsCollecting phases.Mark m.store m.collection × OnlyUnknown m n

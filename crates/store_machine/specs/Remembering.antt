@@ -2,34 +2,33 @@
 -- Collecting.antt and Opening.antt that says more of files, in their order, with what it says more. A row that is not here says as much of
 -- roots as of files; so do an opened read and its end, by the names and the rests that Forgetting.antt ties. It is said of the machine of
 -- files, m, before the step; and of that of roots after it, t, only where a row speaks of what the step made.
-use Rattle.std.specs.Prelude.{◌≡◌, ℕ, suc, ◌<◌, ◌≤◌, List, [], ◌∷◌, ◌++◌, get_or, length, Contains, Some, Result, Ok, Err}
+use Rattle.std.specs.Prelude.{◌≡◌, ℕ, suc, ◌≤◌, List, [], ◌∷◌, ◌++◌, get_or, length, Contains, Some, None, Result, Ok, Err}
 use Rattle.std.specs.List.{AllByRecursion}
 use Rattle.container_meta.specs.declared.kind.Kind.{Kind}
 use Rattle.container_meta.specs.Segments.{Segment, segment_key}
 use Rattle.disk_format.specs.Cells.{Root}
-use Rattle.disk_format.specs.declared.numbers.TheConstants.{MOST_FILE, RESERVE}
+use Rattle.disk_format.specs.declared.numbers.TheConstants.{MOST_FILE}
 use Rattle.gc_select.specs.declared.liveness.ContainerLiveness.{ContainerLiveness}
 use Rattle.merkle_file.specs.declared.top.Top.{Top}
 use Rattle.refusals.specs.declared.refusal.Phase.{Phase}
 use Rattle.refusals.specs.declared.refusal.Phase.TheVariants as phases
 use Rattle.refusals.specs.declared.refusal.Refusal.{Refusal}
 use Rattle.refusals.specs.declared.refusal.Refusal.TheVariants.{Clash, DiskRead, DiskWrite, Corrupt, Missing, Damaged}
-use Rattle.store_model.specs.Freeing.{FreesTo, with_all_freed}
+use Rattle.store_model.specs.Freeing.{FreesTo}
 use Rattle.store_model.specs.Image.{Store}
 use Rattle.store_model.specs.Reserve.{IsSpare}
-use Rattle.store_model.specs.Slots.{free_slots}
 use Rattle.store_model.specs.Steps.{FlushContainer, FreeContainer}
 use Rattle.store_machine.specs.Asked.{Asked}
 use Rattle.store_machine.specs.Asked as asked
 use Rattle.store_machine.specs.ByMap.{FileMachine}
-use Rattle.store_machine.specs.Collecting.{GoesOver, IsRecordOf, keys_written, sources_in}
+use Rattle.store_machine.specs.Collecting.{GoesOver, IsCopyOf, IsRecordOf, MayBreak, sources_in}
 use Rattle.store_machine.specs.Done.{Done}
 use Rattle.store_machine.specs.Done as done
 use Rattle.store_machine.specs.Forgetting.{Forgets, SameNow, SamePart, forget_step}
 use Rattle.store_machine.specs.Legal.{Fits, HoldsValue, IsClash, IsFirstClash, IsLacked, Legal}
-use Rattle.store_machine.specs.Machine.{Collection, Found, Machine, Reading, Stepped, Sweep, Sweeping, part_in}
+use Rattle.store_machine.specs.Machine.{Collection, Found, Machine, Reading, Stepped, Stopped, Sweep, Sweeping, part_in}
 use Rattle.store_machine.specs.Needs.{HasCopy, IsNeeded, NamesNeed}
-use Rattle.store_machine.specs.Opening.{MayBeFound, MayRefuseOpening, Stands, freeing}
+use Rattle.store_machine.specs.Opening.{IsGivenBack, MayBeFound, MayRefuseOpening, Stands, freeing}
 use Rattle.store_machine.specs.Values.{of_files, of_roots}
 
 abbrev pub RootMachine : Type 0
@@ -53,11 +52,6 @@ ComesNext a bytes m t = (file : List ℕ) × (after : List (List ℕ)) × (part_
 abbrev pub IsReady : Collection (List ℕ) → Sweep → Sweep → Type 0
 IsReady c s t = t.source ≡ suc s.source → t.filled ≡ s.filled → t.ready ≡ get_or (sources_in c) s.source 0 ∷ []
 
--- a copy may be written: no copy of its key was before, and the segment is what the newest copy has
-abbrev pub IsCopyOf : Collection (List ℕ) → FileMachine → Kind → Segment → Type 0
-IsCopyOf c m kind x =
-    ¬ (Contains (keys_written c.changes) (segment_key kind x)) × HasCopy m.store (record { kind = kind; segment = x })
-
 -- What was recorded of a container counts what is needed; a copying step took what is needed of its source; what was written are copies;
 -- and the container that was given back holds the newest copy of nothing that is needed.
 abbrev pub AddsToPhase : Phase → Collection (List ℕ) → Collection Root → FileMachine → RootMachine → Type 0
@@ -66,7 +60,7 @@ AddsToPhase phases.Filter c d m t =
 AddsToPhase phases.Copy c d m t = (before after : Sweep) (next : Phase) → c.stage ≡ Sweeping phases.Copy before
     → d.stage ≡ Sweeping next after → GoesOver of_files c m.store before after m.forgotten t.forgotten × IsReady c before after
 AddsToPhase phases.Flush c d m t = (id : ℕ) (kind : Kind) (segments : List Segment)
-    → d.changes ≡ c.changes ++ FlushContainer id kind segments ∷ [] → AllByRecursion (IsCopyOf c m kind) segments
+    → d.changes ≡ c.changes ++ FlushContainer id kind segments ∷ [] → AllByRecursion (IsCopyOf c m.store kind) segments
 AddsToPhase phases.Release c d m t =
     (slot : ℕ) → d.changes ≡ c.changes ++ FreeContainer slot ∷ [] → IsSpare (IsNeeded of_files m) m.store.held slot
 AddsToPhase phase c d m t = Unit {0}
@@ -91,6 +85,7 @@ AddsToRefused a (asked.Claim seg) (Clash key at) m t = IsClash m.store m.forgott
 AddsToRefused a (asked.Claim seg) (Corrupt slot offset count want got) m t = ⊥
 AddsToRefused a (asked.Seal filled) (Clash key at) m t = IsFirstClash of_files filled key at m
 AddsToRefused a (asked.Seal filled) (Corrupt slot offset count want got) m t = ⊥
+AddsToRefused a (asked.Seal filled) DiskWrite m t = AllByRecursion (Fits m.store m.forgotten filled.kind) filled.segments
 AddsToRefused a (asked.Commit name file) DiskWrite m t = IsWhole file m
 -- what was to come is to come still, whatever nodes the machine of roots came to before
 AddsToRefused a asked.ReadNext DiskRead m t = SamePart (part_in m a) (part_in t a)
@@ -99,6 +94,8 @@ AddsToRefused a asked.ReadNext (Missing key) m t = ⊥
 AddsToRefused a asked.ReadNext (Damaged at why) m t = ⊥
 AddsToRefused a (asked.GcStart percent) (Missing key) m t = ⊥
 AddsToRefused a (asked.GcStart percent) (Damaged at why) m t = ⊥
+-- the stores that may stand are those that may of the machine of files
+AddsToRefused a asked.GcStep DiskWrite m t = (stores : List Store) → t.state ≡ Stopped None stores → MayBreak of_files m stores
 AddsToRefused a asked.GcStep (Corrupt slot offset count want got) m t = ⊥
 AddsToRefused a asked.GcStep (Missing key) m t = ⊥
 AddsToRefused a asked.GcStep (Damaged at why) m t = ⊥
@@ -117,15 +114,10 @@ pub record FindsFiles (m : FileMachine) (t : RootMachine) : Type 0 where
   pub freed : List ℕ
   pub frees : FreesTo (NamesNeed of_files found) freed before t.store
 
--- a store that stands had too few closed slots, and some of its containers were given back
-abbrev pub IsGivenBack : FileMachine → Store → Type 0
-IsGivenBack m store = (before : Store) × Stands of_files m.state m.store before × (free_slots before.held < RESERVE)
-    × ((freed : List ℕ) × (store ≡ with_all_freed freed before))
-
 abbrev pub AddsToOpening : Result Done Refusal → FileMachine → RootMachine → RootMachine → Type 0
 AddsToOpening (Ok answer) m r t = FindsFiles m t
 AddsToOpening (Err refusal) m r t = MayRefuseOpening of_files refusal
-    × ((stores : List Store) → t.state ≡ freeing of_roots stores r.state → AllByRecursion (IsGivenBack m) stores)
+    × ((stores : List Store) → t.state ≡ freeing of_roots stores r.state → AllByRecursion (IsGivenBack of_files m) stores)
 
 -- ---- a step
 

@@ -15,15 +15,15 @@ use Rattle.store_model.specs.Steps.{StoreChange}
 use Rattle.store_machine.specs.Asked.{Asked}
 use Rattle.store_machine.specs.Asked as asked
 use Rattle.store_machine.specs.ByMap.{FileMachine}
-use Rattle.store_machine.specs.Collected.{AreBetween, Collected, HasIds}
+use Rattle.store_machine.specs.Collected.{AreBetween, HasIds}
 use Rattle.store_machine.specs.Collecting.{Ends as EndsCollection, IsCollecting, freed_in, keys_written, marking, marks_of}
 use Rattle.store_machine.specs.CollectsAlone.{CollectRefusal, CollectedAlone, CollectsByMap, HasSwept, Sweeps, SweptSoFar}
-use Rattle.store_machine.specs.Commands.{Collect, EndsRefused, EndsWith, Follows, IsDone, Replied, printed, text_of}
+use Rattle.store_machine.specs.Commands.{Collect, Follows, IsDone, Replied, text_of}
 use Rattle.store_machine.specs.Done.{Done}
 use Rattle.store_machine.specs.Done as done
 use Rattle.store_machine.specs.Legal.{Answers, ByState, Does, Legal, MayBreak, RefusesGcStep, RefusesOn}
 use Rattle.store_machine.specs.Lines.{AreDid, Ends, IsLast, Line, reply_of, step_of}
-use Rattle.store_machine.specs.Machine.{Collection, Found, Idle, RunState, Running, Stopped}
+use Rattle.store_machine.specs.Machine.{Found, Idle, RunState, Running, Stopped}
 use Rattle.store_machine.specs.Needs.{keys_kept, values_read}
 use Rattle.store_machine.specs.Opening.{MayBeFound}
 use Rattle.store_machine.specs.Runs.{Run}
@@ -32,7 +32,7 @@ use Rattle.store_machine.proofs.Ended.{collects_what_it_selected}
 use Rattle.store_machine.proofs.Ingesting.{run_one, run_parts}
 use Rattle.store_machine.proofs.Passing.{sure_found}
 use Rattle.store_machine.proofs.Quiet.{IsSure, running_sure}
-use Rattle.store_machine.proofs.Stepwise.{At, Desks, Fresh, IsFailure, NotOpened, Over, Step, WasOpened, ends_from, ends_over, ends_so, last_from, lines_after, no_actor, not_barred, one_step, opened_store, unopened_ends, unopened_found, unopened_printed, unopened_refusal, unopened_store, unopened_undone}
+use Rattle.store_machine.proofs.Stepwise.{At, Desks, Fresh, IsFailure, NotOpened, Over, Step, WasOpened, ends_from, ends_over, ends_so, lines_after, no_actor, not_barred, one_step, opened_store, unopened_ends, unopened_found, unopened_printed, unopened_refusal, unopened_store, unopened_undone}
 use Rattle.store_machine.proofs.SweptAlone.{C, ByStage, Under, all_went, has_chosen, opened_ids, same_some}
 
 -- steps that went on are between the beginning of a collection and its end

@@ -15,7 +15,7 @@ use Rattle.store_model.specs.Steps.{CanRise, with_change}
 use Rattle.store_machine.specs.Asked.{Asked}
 use Rattle.store_machine.specs.Asked as asked
 use Rattle.store_machine.specs.ByMap.{DeleteRefusal, DeletedName, DeletesByMap, DeletesIn, FileMachine, IsGone, RunsWith}
-use Rattle.store_machine.specs.Commands.{Delete, EndsWith, Follows, IsDone, Replied, printed, text_of}
+use Rattle.store_machine.specs.Commands.{Delete, EndsWith, Follows, IsDone, Replied, text_of}
 use Rattle.store_machine.specs.Done.{Done}
 use Rattle.store_machine.specs.Done as done
 use Rattle.store_machine.specs.Legal.{Answers, Does, HasName, HasNumbers, Refuses, RefusesDelete, broken_by, without_name}

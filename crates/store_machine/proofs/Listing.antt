@@ -11,7 +11,7 @@ use Rattle.store_model.specs.Image.{Store}
 use Rattle.store_machine.specs.Asked.{Asked}
 use Rattle.store_machine.specs.Asked as asked
 use Rattle.store_machine.specs.ByMap.{FileMachine, ListRefusal, ListedNames, ListsByMap, RunsWith}
-use Rattle.store_machine.specs.Commands.{Follows, IsDone, List, Replied, printed, text_of}
+use Rattle.store_machine.specs.Commands.{Follows, IsDone, List, Replied, text_of}
 use Rattle.store_machine.specs.Done.{Done}
 use Rattle.store_machine.specs.Done as done
 use Rattle.store_machine.specs.Legal.{Answers, Does, Refuses, listing}

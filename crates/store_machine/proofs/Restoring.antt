@@ -15,7 +15,7 @@ use Rattle.store_model.specs.Image.{Store}
 use Rattle.store_machine.specs.Asked.{Asked}
 use Rattle.store_machine.specs.Asked as asked
 use Rattle.store_machine.specs.ByMap.{FileMachine, IsPartOfFile, RestoreRefusal, RestoredFile, RestoresByMap, RunsWith}
-use Rattle.store_machine.specs.Commands.{Follows, IsDone, Replied, Restore, printed, text_of}
+use Rattle.store_machine.specs.Commands.{Follows, IsDone, Replied, Restore, text_of}
 use Rattle.store_machine.specs.Done.{Done}
 use Rattle.store_machine.specs.Done as done
 use Rattle.store_machine.specs.Legal.{Answers, Does, Refuses}
@@ -31,11 +31,11 @@ use Rattle.store_machine.proofs.Stepwise.{At, Desks, Fresh, IsFailure, NotOpened
 abbrev FilePart : Type 0
 FilePart = Part (ListOf ℕ) (ListOf (ListOf ℕ))
 
-index_set : (parts : ListOf FilePart) (p : FilePart) → 0 < length parts → slice_index_or (slice_set parts 0 p) 0 Idle ≡ p
+pub index_set : (parts : ListOf FilePart) (p : FilePart) → 0 < length parts → slice_index_or (slice_set parts 0 p) 0 Idle ≡ p
 index_set [] p some = absurd (omega (arith, some))
 index_set (x ∷ xs) p some = refl
 
-length_set : (parts : ListOf FilePart) (p : FilePart) → 0 < length parts → 0 < length (slice_set parts 0 p)
+pub length_set : (parts : ListOf FilePart) (p : FilePart) → 0 < length parts → 0 < length (slice_set parts 0 p)
 length_set [] p some = absurd (omega (arith, some))
 length_set (x ∷ xs) p some = omega arith
 

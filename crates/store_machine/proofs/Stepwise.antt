@@ -40,10 +40,10 @@ abbrev pub last_from : Replied → ListOf Replied → Replied
 last_from prev [] = prev
 last_from prev (one ∷ more) = last_from one more
 
-one_of : (a b : Replied) → Some a ≡ Some b → a ≡ b
+pub one_of : (a b : Replied) → Some a ≡ Some b → a ≡ b
 one_of a b is = cc
 
-last_is : (one : Replied) (more : ListOf Replied) → last_of (one ∷ more) ≡ Some (last_from one more)
+pub last_is : (one : Replied) (more : ListOf Replied) → last_of (one ∷ more) ≡ Some (last_from one more)
 last_is one [] = refl
 last_is one (next ∷ more) = last_is next more
 
@@ -85,7 +85,7 @@ IsFailure refusals.DiskRead = Unit {0}
 IsFailure refusals.DiskWrite = Unit {0}
 IsFailure refusal = ⊥
 
-pub fails : (refusal : Refusal) → MayRefuseOpening of_files refusal → IsFailure refusal
+fails : (refusal : Refusal) → MayRefuseOpening of_files refusal → IsFailure refusal
 fails refusals.Memory may = tt
 fails refusals.DiskRead may = tt
 fails refusals.DiskWrite may = tt
@@ -111,8 +111,8 @@ Opened start reply d =
     ((files : ℕ) × (reply ≡ replies.Opened files) × At start.now d.machine.store Idle d × Fresh start d)
     ⊎ ((refusal : Refusal) × (reply ≡ replies.Refused refusal) × IsFailure refusal × IsNotOpened start d.machine)
 
-opened_by : (m : FileMachine) (mid : Desks) (reply : ReplyValue) (told : Result Done Refusal) → m.state ≡ Running → reply ≡ reply_of 0 told → Reopens of_files told m mid.machine
-    → mid.sessions ≡ unless_refused reply (all_none (desk m).sessions) (desk m).sessions → Opened m reply mid
+pub opened_by : (m : FileMachine) (mid : Desks) (reply : ReplyValue) (told : Result Done Refusal) → m.state ≡ Running → reply ≡ reply_of 0 told
+    → Reopens of_files told m mid.machine → mid.sessions ≡ unless_refused reply (all_none (desk m).sessions) (desk m).sessions → Opened m reply mid
 opened_by m mid reply (Err refusal) runs is (may, left) sessions = inr (refusal, is, fails refusal may, left)
 opened_by m mid reply (Ok (done.Reopened files)) runs is opens sessions =
     let found : opens.found ≡ m.now = subst (λ (st : RunState (ListOf ℕ)). MayBeFound of_files st m.now opens.found) runs (opens.may tt) in

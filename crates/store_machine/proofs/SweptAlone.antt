@@ -1,5 +1,5 @@
 -- A collection, no other step of which comes between: what it recorded and changed since the store was opened.
-use Rattle.std.proofs.Common.{◌≡◌, ◌≤◌, inl, inr, ℕ, zero, suc, List as ListOf, [], ◌∷◌, ◌++◌, Contains, slice_get, Option, Some, None, Result, Ok, Err, refl, sym, ◌∙◌, ap, subst, arith}
+use Rattle.std.proofs.Common.{◌≡◌, ◌≤◌, inl, inr, ℕ, zero, suc, List as ListOf, [], ◌∷◌, ◌++◌, Contains, slice_get, Option, Some, None, Result, Ok, sym, ◌∙◌, ap, subst, arith}
 use Rattle.std.specs.FinMap as finite
 use Rattle.std.specs.List.{AllByRecursion}
 use Rattle.container_meta.specs.declared.entry.Entry.{Entry}

@@ -23,8 +23,8 @@ use Rattle.store_machine.specs.Forgetting.{Forgets, SameNow, SamePart, SameState
 use Rattle.store_machine.specs.Legal.{Answers, ByState, Does, GivesBytes, LegalBy, Refuses, RefusesOn, RefusesRead}
 use Rattle.store_machine.specs.Machine.{Collection, Found, Reading, RunState, Running, Stopped, Sweep, Sweeping, part_in}
 use Rattle.store_machine.specs.Needs.{IsNeeded, NamesNeed}
-use Rattle.store_machine.specs.Opening.{Reopens, freeing}
-use Rattle.store_machine.specs.Remembering.{AddsBy, AddsNoMore, AddsToAnswer, AddsToDone, AddsToOpening, AddsToPhase, AddsToRefused, AddsToStep, ComesNext, IsCopyOf, IsGivenBack, IsReady}
+use Rattle.store_machine.specs.Opening.{IsGivenBack, Reopens, freeing}
+use Rattle.store_machine.specs.Remembering.{AddsBy, AddsNoMore, AddsToAnswer, AddsToDone, AddsToOpening, AddsToPhase, AddsToRefused, AddsToStep, ComesNext, IsCopyOf, IsReady}
 use Rattle.store_machine.specs.Values.{StaysAt, of_files, of_roots}
 use Rattle.store_machine.proofs.Parts.{F, G, FilePart, part_at, put_told}
 
@@ -225,14 +225,14 @@ module _ (m n : F) (r t : G) (was : Forgets m r) (now : Forgets n t) where
     frees = subst (FreesTo (NamesNeed of_files o.found) o.freed o.before) (sym now.store) (o.frees tt);
   }
   opening_adds (Ok answer) opens = absurd opens
-  opening_adds (Err refusal) (may, inl others) = (may, λ stores is. subst (AllByRecursion (IsGivenBack m)) (none stores is) tt)
+  opening_adds (Err refusal) (may, inl others) = (may, λ stores is. subst (AllByRecursion (IsGivenBack of_files m)) (none stores is) tt)
     where
       none : (stores : List Store) → t.state ≡ freeing of_roots stores r.state → [] ≡ stores
       none stores is =
           append_cancel_left (stopped_by r.state) [] stores
           (append-nil (stopped_by r.state) ∙ stopped_same m.state r.state was.state ∙ ap (λ (x : F). stopped_by x.state) (sym others)
           ∙ sym (stopped_same n.state t.state now.state) ∙ ap stopped_by is ∙ freed_roots stores r.state)
-  opening_adds (Err refusal) (may, inr (given, others, known)) = (may, λ stores is. subst (AllByRecursion (IsGivenBack m)) (all stores is) (known tt))
+  opening_adds (Err refusal) (may, inr (given, others, known)) = (may, λ stores is. subst (AllByRecursion (IsGivenBack of_files m)) (all stores is) (known tt))
     where
       all : (stores : List Store) → t.state ≡ freeing of_roots stores r.state → given ≡ stores
       all stores is =

@@ -5,7 +5,7 @@ use Rattle.std.specs.FinMap as finite
 use Rattle.disk_format.specs.declared.numbers.TheConstants.{RESERVE}
 use Rattle.refusals.specs.declared.refusal.Refusal.{Refusal}
 use Rattle.refusals.specs.declared.refusal.Refusal.TheVariants.{Memory, Full, DiskRead, DiskWrite, Corrupt, Missing, Damaged, NotAStore, Version, WrongSize}
-use Rattle.store_model.specs.Freeing.{FreesTo, with_all_freed}
+use Rattle.store_model.specs.Freeing.{FreesSome, FreesTo, with_all_freed}
 use Rattle.store_model.specs.Image.{Store}
 use Rattle.store_model.specs.Slots.{free_slots, last_id}
 use Rattle.store_machine.specs.Done.{Done}
@@ -67,11 +67,22 @@ module _ {V R : Type 0} (v : Values V R) where
   MayRefuseOpening (Missing key) = ¬ v.Known
   MayRefuseOpening refusal = ⊥
 
-  -- containers that nothing needs were given back, so that the store is one of these, and then it was refused
+  -- A store that stands had too few closed slots, and some of its containers were given back, the one of the least id first, none of which
+  -- the names need that may be found.
+  pub record IsGivenBack (m : Machine V R) (t : Store) : Type 0 where
+    pub found : Found V
+    pub may : MayBeFound m.state m.now found
+    pub before : Store
+    pub stands : Stands m.state m.store before
+    pub few : free_slots before.held < RESERVE
+    pub freed : List ℕ
+    pub frees : FreesSome (NamesNeed v found) freed before
+    pub left : t ≡ with_all_freed freed before
+
+  -- so the store is one of these, and then the opening was refused
   abbrev pub GivesBackSome : Machine V R → Machine V R → Type 0
   GivesBackSome m n = (stores : List Store) × (n ≡ record m { state = freeing stores m.state })
-      × (v.Known → AllByRecursion (λ t. (before : Store) × Stands m.state m.store before × (free_slots before.held < RESERVE)
-      × ((freed : List ℕ) × (t ≡ with_all_freed freed before))) stores)
+      × (v.Known → AllByRecursion (IsGivenBack m) stores)
 
   abbrev pub Reopens : Result Done Refusal → Machine V R → Machine V R → Type 0
   Reopens (Ok (done.Reopened files)) m n = Opens files m n

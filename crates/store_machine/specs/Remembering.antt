@@ -2,22 +2,21 @@
 -- Collecting.antt and Opening.antt that says more of files, in their order, with what it says more. A row that is not here says as much of
 -- roots as of files; so do an opened read and its end, by the names and the rests that Forgetting.antt ties. It is said of the machine of
 -- files, m, before the step; and of that of roots after it, t, only where a row speaks of what the step made.
-use Rattle.std.specs.Prelude.{◌≡◌, ℕ, suc, ◌<◌, ◌≤◌, List, [], ◌∷◌, ◌++◌, get_or, length, Contains, Some, Result, Ok, Err}
+use Rattle.std.specs.Prelude.{◌≡◌, ℕ, suc, ◌≤◌, List, [], ◌∷◌, ◌++◌, get_or, length, Contains, Some, Result, Ok, Err}
 use Rattle.std.specs.List.{AllByRecursion}
 use Rattle.container_meta.specs.declared.kind.Kind.{Kind}
 use Rattle.container_meta.specs.Segments.{Segment, segment_key}
 use Rattle.disk_format.specs.Cells.{Root}
-use Rattle.disk_format.specs.declared.numbers.TheConstants.{MOST_FILE, RESERVE}
+use Rattle.disk_format.specs.declared.numbers.TheConstants.{MOST_FILE}
 use Rattle.gc_select.specs.declared.liveness.ContainerLiveness.{ContainerLiveness}
 use Rattle.merkle_file.specs.declared.top.Top.{Top}
 use Rattle.refusals.specs.declared.refusal.Phase.{Phase}
 use Rattle.refusals.specs.declared.refusal.Phase.TheVariants as phases
 use Rattle.refusals.specs.declared.refusal.Refusal.{Refusal}
 use Rattle.refusals.specs.declared.refusal.Refusal.TheVariants.{Clash, DiskRead, DiskWrite, Corrupt, Missing, Damaged}
-use Rattle.store_model.specs.Freeing.{FreesTo, with_all_freed}
+use Rattle.store_model.specs.Freeing.{FreesTo}
 use Rattle.store_model.specs.Image.{Store}
 use Rattle.store_model.specs.Reserve.{IsSpare}
-use Rattle.store_model.specs.Slots.{free_slots}
 use Rattle.store_model.specs.Steps.{FlushContainer, FreeContainer}
 use Rattle.store_machine.specs.Asked.{Asked}
 use Rattle.store_machine.specs.Asked as asked
@@ -29,7 +28,7 @@ use Rattle.store_machine.specs.Forgetting.{Forgets, SameNow, SamePart, forget_st
 use Rattle.store_machine.specs.Legal.{Fits, HoldsValue, IsClash, IsFirstClash, IsLacked, Legal}
 use Rattle.store_machine.specs.Machine.{Collection, Found, Machine, Reading, Stepped, Sweep, Sweeping, part_in}
 use Rattle.store_machine.specs.Needs.{HasCopy, IsNeeded, NamesNeed}
-use Rattle.store_machine.specs.Opening.{MayBeFound, MayRefuseOpening, Stands, freeing}
+use Rattle.store_machine.specs.Opening.{IsGivenBack, MayBeFound, MayRefuseOpening, Stands, freeing}
 use Rattle.store_machine.specs.Values.{of_files, of_roots}
 
 abbrev pub RootMachine : Type 0
@@ -117,15 +116,10 @@ pub record FindsFiles (m : FileMachine) (t : RootMachine) : Type 0 where
   pub freed : List ℕ
   pub frees : FreesTo (NamesNeed of_files found) freed before t.store
 
--- a store that stands had too few closed slots, and some of its containers were given back
-abbrev pub IsGivenBack : FileMachine → Store → Type 0
-IsGivenBack m store = (before : Store) × Stands of_files m.state m.store before × (free_slots before.held < RESERVE)
-    × ((freed : List ℕ) × (store ≡ with_all_freed freed before))
-
 abbrev pub AddsToOpening : Result Done Refusal → FileMachine → RootMachine → RootMachine → Type 0
 AddsToOpening (Ok answer) m r t = FindsFiles m t
 AddsToOpening (Err refusal) m r t = MayRefuseOpening of_files refusal
-    × ((stores : List Store) → t.state ≡ freeing of_roots stores r.state → AllByRecursion (IsGivenBack m) stores)
+    × ((stores : List Store) → t.state ≡ freeing of_roots stores r.state → AllByRecursion (IsGivenBack of_files m) stores)
 
 -- ---- a step
 

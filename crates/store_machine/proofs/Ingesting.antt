@@ -1,6 +1,5 @@
--- The lines of an `ingest` put the file that was given under its name, and do nothing else of the names.
-use Rattle.std.proofs.Common.{◌≡◌, ◌⊎◌, inl, inr, ◌≤◌, ◌<◌, ℕ, Bool, true, false, List, [], ◌∷◌, ◌++◌, length, slice_index_or, slice_set, Option, Some, None, Result, Ok, Err, refl, sym, ◌∙◌, ap, subst, arith}
-use Rattle.disk_format.specs.Cells.{IsName}
+-- The lines of an `ingest` put the file that was given under its name, and do nothing else of the names: what may be found at their end.
+use Rattle.std.proofs.Common.{◌≡◌, ◌⊎◌, inl, inr, ◌≤◌, ◌<◌, ◌-◌, ◌^◌, ℕ, Bool, true, false, List, [], ◌∷◌, ◌++◌, length, slice_index_or, slice_set, Option, Some, None, Result, Ok, Err, refl, sym, ◌∙◌, ap, subst, arith}
 use Rattle.disk_format.specs.declared.numbers.TheConstants.{MOST_FILE}
 use Rattle.refusals.specs.declared.refusal.Refusal.{Refusal}
 use Rattle.refusals.specs.declared.refusal.Refusal.TheVariants as refusals
@@ -11,11 +10,11 @@ use Rattle.script_lines.specs.ReplyValue as replies
 use Rattle.store_model.specs.Image.{Store}
 use Rattle.store_machine.specs.Asked.{Asked}
 use Rattle.store_machine.specs.Asked as asked
-use Rattle.store_machine.specs.Commands.{AllFollow, Follows, Ingest, IsDone, IsPush, Lines, Replied, given_after, given_by}
+use Rattle.store_machine.specs.Commands.{AllFollow, AreLinesOf, EndsRefused, EndsWith, Follows, Ingest, IsDone, IsPush, Lines, Replied, given_after, given_by}
 use Rattle.store_machine.specs.Done.{Done}
 use Rattle.store_machine.specs.Done as done
-use Rattle.store_machine.specs.Ingests.{Ingested, IngestsByMap}
-use Rattle.store_machine.specs.Legal.{Answers, ByState, Does, Legal, Refuses, RefusesCommit, with_name}
+use Rattle.store_machine.specs.Ingests.{HasRoomFor, IsPut}
+use Rattle.store_machine.specs.Legal.{Answers, ByState, Does, HasNumbers, Legal, MayCommit, Refuses, RefusesCommit, with_name}
 use Rattle.store_machine.specs.Lines.{Acts, Commits, Desk, Finishes, Line, Pushes, Session, TurnsStop, all_none, new_session, reply_of, session_of, step_of, unless_refused, with_session}
 use Rattle.store_machine.specs.Machine.{Found, RunState, Running, Stopped}
 use Rattle.store_machine.specs.Opening.{MayBeFound, Reopens, freeing}
@@ -88,7 +87,7 @@ length_set : (sessions : List (Option Session)) (s : Option Session) → 0 < len
 length_set [] s some = absurd (omega (arith, some))
 length_set (x ∷ xs) s some = omega arith
 
-same_session : (s t : Session) → Some s ≡ Some t → s ≡ t
+pub same_session : (s t : Session) → Some s ≡ Some t → s ≡ t
 same_session s t is = cc
 
 -- ---- a push
@@ -230,13 +229,17 @@ module _ (now : Found (List ℕ)) (d e : D) (ss : List Step) (run : Run of_files
   -- ---- a commit
 
   pub record Put (name given : List ℕ) (reply : ReplyValue) : Type 0 where
-    pub found : (x : Found (List ℕ)) → MayBeFound of_files e.machine.state e.machine.now x → (x ≡ now) ⊎ (x ≡ with_name of_files name given now)
+    pub found : (x : Found (List ℕ)) → MayBeFound of_files e.machine.state e.machine.now x → (x ≡ now) ⊎ IsPut name given now x
+    pub same : (IsDone (Ingest name) reply → ⊥) → e.machine.now ≡ now
+    pub sure : (refusal : Refusal) → reply ≡ replies.Refused refusal → ((refusal ≡ refusals.DiskWrite) → ⊥) → IsSure e.machine.state
     pub last : (line : LineValue) → Follows (Ingest name) reply line → ⊥
-    pub done : IsDone (Ingest name) reply → (e.machine.now ≡ with_name of_files name given now) × (e.machine.state ≡ Running) × IsName name × (length given ≤ MOST_FILE)
+    pub done : IsDone (Ingest name) reply → IsPut name given now e.machine.now × (e.machine.state ≡ Running)
 
   quiet_put : (name given : List ℕ) (reply : ReplyValue) (refusal : Refusal) → reply ≡ replies.Refused refusal → Quiet d.machine e.machine → Put name given reply
   quiet_put name given reply refusal is quiet = record {
     found = λ x may. inl (by e.machine.state quiet.state x may ∙ quiet.now ∙ ready.same);
+    same = λ _. quiet.now ∙ ready.same;
+    sure = λ _ _ _. quiet.state;
     last = λ line follows. subst (λ (r : ReplyValue). Follows (Ingest name) r line) is follows;
     done = λ done. absurd (subst (IsDone (Ingest name)) is done);
   }
@@ -273,17 +276,30 @@ module _ (now : Found (List ℕ)) (d e : D) (ss : List Step) (run : Run of_files
     at_rest refusal is others =
         put_refused refusal is (record { now = ap (λ (x : F). x.now) others; state = running_sure e.machine.state (ap (λ (x : F). x.state) others ∙ goes.state) })
 
-    in_doubt : (refusal : Refusal) → reply ≡ replies.Refused refusal → (stores : List Store)
+    is_put : (x : Found (List ℕ)) → MayCommit of_files 0 name file mid → length file ≤ MOST_FILE → HasNumbers of_files mid → x ≡ with_name of_files name file mid.now
+        → IsPut name given now x
+    is_put x may few numbers is = (
+      is ∙ named,
+      may.named,
+      subst (λ (f : List ℕ). length f ≤ MOST_FILE) file_is few,
+      subst (HasRoomFor name) same_mid may.room,
+      subst (λ (f : Found (List ℕ)). f.last < 2 ^ 64 - 1) same_mid numbers.0,
+    )
+
+    in_doubt : reply ≡ replies.Refused refusals.DiskWrite → MayCommit of_files 0 name file mid → length file ≤ MOST_FILE → HasNumbers of_files mid → (stores : List Store)
         → e.machine ≡ record mid { state = Stopped (Some (with_name of_files name file mid.now)) stores } → Put name given reply
-    in_doubt refusal is stores others = record {
+    in_doubt is able few numbers stores others = record {
       found = λ x may. by x (subst (λ (m : F). MayBeFound of_files m.state m.now x) others may);
+      same = λ _. ap (λ (x : F). x.now) others ∙ same_mid;
+      sure = λ refusal is_other other.
+          absurd (other (let both : replies.Refused refusal ≡ replies.Refused refusals.DiskWrite = sym is_other ∙ is in cc));
       last = λ line follows. subst (λ (r : ReplyValue). Follows (Ingest name) r line) is follows;
       done = λ done. absurd (subst (IsDone (Ingest name)) is done);
     }
       where
-        by : (x : Found (List ℕ)) → (x ≡ mid.now) ⊎ (x ≡ with_name of_files name file mid.now) → (x ≡ now) ⊎ (x ≡ with_name of_files name given now)
+        by : (x : Found (List ℕ)) → (x ≡ mid.now) ⊎ (x ≡ with_name of_files name file mid.now) → (x ≡ now) ⊎ IsPut name given now x
         by x (inl is) = inl (is ∙ same_mid)
-        by x (inr is) = inr (is ∙ named)
+        by x (inr is) = inr (is_put x able few numbers is)
 
     commit_refused : (refusal : Refusal) → reply ≡ replies.Refused refusal → RefusesCommit of_files 0 name file refusal mid e.machine → Put name given reply
     commit_refused refusals.Memory is others = at_rest refusals.Memory is others
@@ -291,7 +307,7 @@ module _ (now : Found (List ℕ)) (d e : D) (ss : List Step) (run : Run of_files
     commit_refused refusals.TooMany is (good, none, many, others) = at_rest refusals.TooMany is others
     commit_refused (refusals.Unpinned key) is (good, room, key_is, pins, others) = at_rest (refusals.Unpinned key) is others
     commit_refused refusals.Numbers is (may, lacks, others) = at_rest refusals.Numbers is others
-    commit_refused refusals.DiskWrite is (may, has, right, whole, others) = in_doubt refusals.DiskWrite is _ others
+    commit_refused refusals.DiskWrite is (may, has, right, whole, others) = in_doubt is may right has _ others
     commit_refused refusal is refuses = absurd refuses
 
     refused_put : (refusal : Refusal) → reply ≡ replies.Refused refusal → Refuses of_files 0 (asked.Commit name file) refusal mid e.machine → Put name given reply
@@ -301,12 +317,15 @@ module _ (now : Found (List ℕ)) (d e : D) (ss : List Step) (run : Run of_files
 
     done_put : (answer : Done) → reply ≡ reply_of 0 (Ok answer) → Does of_files 0 (asked.Commit name file) answer mid e.machine → Put name given reply
     done_put (done.Committed sequence) is does =
-        let now_is : e.machine.now ≡ with_name of_files name given now = ap (λ (x : F). x.now) does.others ∙ named in
+        let now_is : IsPut name given now e.machine.now = is_put e.machine.now does.may does.right does.numbers (ap (λ (x : F). x.now) does.others) in
         let runs : e.machine.state ≡ Running = ap (λ (x : F). x.state) does.others ∙ goes.state in
         record {
-          found = λ x may. inr (subst (λ (st : RunState (List ℕ)). MayBeFound of_files st e.machine.now x) runs may ∙ now_is);
+          found = λ x may. inr
+              (subst (IsPut name given now) (sym (subst (λ (st : RunState (List ℕ)). MayBeFound of_files st e.machine.now x) runs may)) now_is);
+          same = λ not. absurd (not (subst (IsDone (Ingest name)) (sym is) tt));
+          sure = λ refusal is_other. absurd (let no : replies.Committed 0 sequence ≡ replies.Refused refusal = sym is ∙ is_other in cc);
           last = λ line follows. subst (λ (r : ReplyValue). Follows (Ingest name) r line) is follows;
-          done = λ _. (now_is, runs, does.may.named, subst (λ (f : List ℕ). length f ≤ MOST_FILE) file_is does.right);
+          done = λ _. (now_is, runs);
         }
     done_put answer is does = absurd does
 
@@ -374,13 +393,22 @@ pushes now line reply ss d e given ready gives (inr is) made =
     (finish_went now d e ss reply given ready gives (subst (λ (l : LineValue). Line of_files l reply ss d e) is made))
 pushes now line reply ss d e given ready gives (inl is) made = absurd is
 
+-- what may be found at the end
+pub record Kept (name given : List ℕ) (rs : List Replied) (now : Found (List ℕ)) (n : F) : Type 0 where
+  pub found : (x : Found (List ℕ)) → MayBeFound of_files n.state n.now x → (x ≡ now) ⊎ IsPut name given now x
+  pub same : (EndsWith (λ one. IsDone (Ingest name) one.reply) rs → ⊥) → n.now ≡ now
+  pub sure : (refusal : Refusal) → EndsRefused refusal rs → ((refusal ≡ refusals.DiskWrite) → ⊥) → IsSure n.state
+  pub done : EndsWith (λ one. IsDone (Ingest name) one.reply) rs → IsPut name given now n.now × (n.state ≡ Running)
+
 module _ (name : List ℕ) (now : Found (List ℕ)) where
   abbrev End : List ℕ → List Replied → F → Type 0
-  End given rs n = Ingested name given rs now n
+  End given rs n = Kept name given rs now n
 
   no_more : (given : List ℕ) (prev : Replied) (d e : D) (ss : List Step) → Went now prev.reply given d → Lines of_files [] ss d e → End given [] e.machine
   no_more given prev d e ss went (none, is) = record {
     found = λ x may. inl (by d.machine.state went.quiet.1 x (subst (λ (y : D). MayBeFound of_files y.machine.state y.machine.now x) is may) ∙ went.quiet.0);
+    same = λ _. ap (λ (y : D). y.machine.now) is ∙ went.quiet.0;
+    sure = λ _ _ _. subst (λ (y : D). IsSure y.machine.state) (sym is) went.quiet.1;
     done = λ end. absurd (let wrong : None ≡ Some end.0 = end.1 in cc);
   }
     where
@@ -414,7 +442,10 @@ module _ (name : List ℕ) (now : Found (List ℕ)) where
     refl,
     record {
       found = λ x may. put.found x (subst (λ (y : D). MayBeFound of_files y.machine.state y.machine.now x) is may);
-      done = λ end. subst (λ (y : D). (y.machine.now ≡ with_name of_files name given now) × (y.machine.state ≡ Running) × IsName name × (length given ≤ MOST_FILE)) (sym is)
+      same = λ not. ap (λ (y : D). y.machine.now) is ∙ put.same (λ d. not (one, refl, d));
+      sure = λ refusal end other. subst (λ (y : D). IsSure y.machine.state) (sym is)
+          (put.sure refusal (ap (λ (x : Replied). x.reply) (one_of one end.0 end.1) ∙ end.2) other);
+      done = λ end. subst (λ (y : D). IsPut name given now y.machine.now × (y.machine.state ≡ Running)) (sym is)
           (put.done (subst (λ (x : Replied). IsDone (Ingest name) x.reply) (sym (one_of one end.0 end.1)) end.2));
     },
   )
@@ -424,13 +455,23 @@ module _ (name : List ℕ) (now : Found (List ℕ)) where
   last_one given one (x ∷ xs) d mid e ss later run ready put (ends, follows, rest) ran = absurd (put.last x.line follows)
 
   -- what is so of the lines that are left is so of all, where the first was not done
-  all_of : (given : List ℕ) (one : Replied) (more : List Replied) (n : F) → (IsDone (Ingest name) one.reply → ⊥) → End given more n → End given (one ∷ more) n
-  all_of given one [] n undone end =
-      record { found = end.found; done = λ d. absurd (undone (subst (λ (x : Replied). IsDone (Ingest name) x.reply) (sym (one_of one d.0 d.1)) d.2)) }
+  all_of : (given : List ℕ) (one : Replied) (more : List Replied) (n : F) → (IsDone (Ingest name) one.reply → ⊥) → (more ≡ [] → IsSure n.state) → End given more n
+      → End given (one ∷ more) n
+  all_of given one [] n undone sure end = record {
+    found = end.found;
+    same = λ _. end.same (λ d. let wrong : None ≡ Some d.0 = d.1 in cc);
+    sure = λ _ _ _. sure refl;
+    done = λ d. absurd (undone (subst (λ (x : Replied). IsDone (Ingest name) x.reply) (sym (one_of one d.0 d.1)) d.2));
+  }
     where
       one_of : (a b : Replied) → Some a ≡ Some b → a ≡ b
       one_of a b e = cc
-  all_of given one (x ∷ xs) n undone end = record { found = end.found; done = end.done }
+  all_of given one (x ∷ xs) n undone sure end = record { found = end.found; same = end.same; sure = end.sure; done = end.done }
+
+  -- where no line is left the machine is the one of before
+  none_left : (more : List Replied) (mid e : D) (later : List Step) → IsSure mid.machine.state → Lines of_files more later mid e → more ≡ [] → IsSure e.machine.state
+  none_left [] mid e later sure (none, is) empty = subst (λ (y : D). IsSure y.machine.state) (sym is) sure
+  none_left (x ∷ xs) mid e later sure ran empty = absurd (let wrong : x ∷ xs ≡ [] = empty in cc)
 
   all : (rs : List Replied) (prev : Replied) (given : List ℕ) (d e : D) (ss : List Step) → Went now prev.reply given d → AllFollow (Ingest name) prev rs
       → Lines of_files rs ss d e → End (given_by 0 given rs) rs e.machine
@@ -441,7 +482,7 @@ module _ (name : List ℕ) (now : Found (List ℕ)) where
       by : Next one given d mid first
           → (Went now one.reply (given_after 0 one.line one.reply given) mid → End (given_by 0 (given_after 0 one.line one.reply given) more) more e.machine)
           → End (given_by 0 given (one ∷ more)) (one ∷ more) e.machine
-      by (inl w) on = all_of (given_by 0 given (one ∷ more)) one more e.machine (w.undone name) (on w)
+      by (inl w) on = all_of (given_by 0 given (one ∷ more)) one more e.machine (w.undone name) (none_left more mid e later w.quiet.1 ran) (on w)
       by (inr (same, (run, ready, put))) on =
           let last = last_one given one more d mid e first later run ready put rest ran in
           subst (λ (xs : List Replied). End (given_by 0 given (one ∷ xs)) (one ∷ xs) e.machine) (sym last.0) (subst (λ (g : List ℕ). End g (one ∷ []) e.machine) (sym same) last.1)
@@ -476,12 +517,15 @@ reply_by a b (Ok (done.Reopened files)) m n opens = refl
 reply_by a b (Ok answer) m n opens = absurd opens
 reply_by a b (Err refusal) m n opens = refl
 
-pub ingests_by_map : IngestsByMap
-ingests_by_map name [] ss m e runs lines_are (none, is) = record {
+pub ingests_kept : (name : List ℕ) (rs : List Replied) (ss : List Step) (m : F) (e : D) → m.state ≡ Running → AreLinesOf (Ingest name) rs → Lines of_files rs ss (desk m) e
+    → Kept name (given_by 0 [] rs) rs m.now e.machine
+ingests_kept name [] ss m e runs lines_are (none, is) = record {
   found = λ x may. inl (subst (λ (st : RunState (List ℕ)). MayBeFound of_files st m.now x) runs (subst (λ (y : D). MayBeFound of_files y.machine.state y.machine.now x) is may));
+  same = λ _. ap (λ (y : D). y.machine.now) is;
+  sure = λ refusal end. absurd (let wrong : None ≡ Some end.0 = end.1 in cc);
   done = λ end. absurd (let wrong : None ≡ Some end.0 = end.1 in cc);
 }
-ingests_by_map name (one ∷ more) ss m e runs (first, follow) (made, later, mid, is, line, ran) =
+ingests_kept name (one ∷ more) ss m e runs (first, follow) (made, later, mid, is, line, ran) =
     let opened : Line of_files lines.Reopen one.reply made (desk m) mid = subst (λ (l : LineValue). Line of_files l one.reply made (desk m) mid) first line in
     let a = opened.1.0.0 in
     let told = opened.1.0.1.0 in
@@ -489,5 +533,5 @@ ingests_by_map name (one ∷ more) ss m e runs (first, follow) (made, later, mid
     let went = opened_went m mid made one.reply told runs (opened.1.0.1.2 ∙ reply_by a 0 told m mid.machine legal) legal opened.1.1 in
     let given_is : given_after 0 one.line one.reply [] ≡ [] = ap (λ (l : LineValue). given_after 0 l one.reply []) first in
     let rest = all name m.now more one [] mid e later went follow ran in
-    subst (λ (g : List ℕ). Ingested name (given_by 0 g more) (one ∷ more) m.now e.machine) (sym given_is)
-    (all_of name m.now (given_by 0 [] more) one more e.machine (went.undone name) rest)
+    subst (λ (g : List ℕ). Kept name (given_by 0 g more) (one ∷ more) m.now e.machine) (sym given_is)
+    (all_of name m.now (given_by 0 [] more) one more e.machine (went.undone name) (none_left name m.now more mid e later went.quiet.1 ran) rest)

@@ -1,5 +1,5 @@
 -- What may be found at each moment of a `restore`, a `delete` or a `list`: each line is one step, and at most the last changes a name.
-use Rattle.std.proofs.Common.{◌≡◌, ◌⊎◌, ◌≤◌, inl, inr, ℕ, List as ListOf, [], ◌∷◌, ◌++◌, Some, Result, Ok, Err, refl, sym, ◌∙◌, ap, subst}
+use Rattle.std.proofs.Common.{◌≡◌, ◌⊎◌, ◌≤◌, ◌<◌, ◌-◌, ◌^◌, inl, inr, ℕ, List as ListOf, [], ◌∷◌, ◌++◌, Some, Result, Ok, Err, refl, sym, ◌∙◌, ap, subst}
 use Rattle.std.specs.FinMap as finite
 use Rattle.std.proofs.lemmas.List.{append-nil}
 use Rattle.disk_format.specs.Cells.{IsName}
@@ -16,7 +16,7 @@ use Rattle.store_machine.specs.CollectsAlone.{CollectsThrough}
 use Rattle.store_machine.specs.Commands.{AllFollow, AreLinesOf, Collect, Command, Delete, Follows, Lines, List, Replied, Restore, desk, run_of}
 use Rattle.store_machine.specs.Done.{Done}
 use Rattle.store_machine.specs.Done as done
-use Rattle.store_machine.specs.Legal.{Answers, ByState, Does, HasName, Legal, Refuses, RefusesDelete, without_name}
+use Rattle.store_machine.specs.Legal.{Answers, ByState, Does, HasName, HasNumbers, Legal, Refuses, RefusesDelete, without_name}
 use Rattle.store_machine.specs.Lines.{AreDid, Ends, Line, reply_of, step_of}
 use Rattle.store_machine.specs.Machine.{Found, RunState, Running}
 use Rattle.store_machine.specs.Opening.{MayBeFound}
@@ -188,9 +188,12 @@ module _ (name : ListOf ℕ) where
         low (ap (λ (y : F). y.now) is),
       )
 
-      doubted : n.now ≡ m.now → IsName name → HasName of_files name m → (x ≡ m.now) ⊎ (x ≡ without_name of_files name m.now) → Either x
-      doubted now_is named there (inl is) = inl (is ∙ same, low now_is)
-      doubted now_is named there (inr is) = inr (is ∙ gone_is, named, had there)
+      left : HasNumbers of_files m → now.last < 2 ^ 64 - 1
+      left numbers = subst (λ (f : Found (ListOf ℕ)). f.last < 2 ^ 64 - 1) same numbers.0
+
+      doubted : n.now ≡ m.now → IsName name → HasName of_files name m → HasNumbers of_files m → (x ≡ m.now) ⊎ (x ≡ without_name of_files name m.now) → Either x
+      doubted now_is named there numbers (inl is) = inl (is ∙ same, low now_is)
+      doubted now_is named there numbers (inr is) = inr (is ∙ gone_is, named, had there, left numbers)
 
       refused_found : (refusal : Refusal) → RefusesDelete of_files name refusal m n → MayBe → Either x
       refused_found refusals.Memory is may = still is may
@@ -198,7 +201,7 @@ module _ (name : ListOf ℕ) where
       refused_found refusals.NoFile (named, none, is) may = still is may
       refused_found refusals.Numbers (named, there, lacks, is) may = still is may
       refused_found refusals.DiskWrite (named, there, numbers, is) may =
-          doubted (ap (λ (y : F). y.now) is) named there (subst (λ (y : F). MayBeFound of_files y.state y.now x) is may)
+          doubted (ap (λ (y : F). y.now) is) named there numbers (subst (λ (y : F). MayBeFound of_files y.state y.now x) is may)
       refused_found refusal refuses may = absurd refuses
 
       delete_refused : (a : ℕ) (refusal : Refusal) → Refuses of_files a (asked.Delete name) refusal m n → MayBe → Either x
@@ -211,6 +214,7 @@ module _ (name : ListOf ℕ) where
         sure_found n.state n.now x (running_sure n.state (ap (λ (y : F). y.state) does.others ∙ runs)) may ∙ ap (λ (y : F). y.now) does.others ∙ gone_is,
         does.named,
         had does.there,
+        left does.numbers,
       )
       delete_done a answer does may = absurd does
 

@@ -1,7 +1,6 @@
 -- What a crash may find at any moment of an `ingest`: the steps that its lines make are quiet, but for one commit at their end.
-use Rattle.disk_format.specs.Cells.{IsName}
 use Rattle.disk_format.specs.declared.numbers.TheConstants.{MOST_FILE}
-use Rattle.std.proofs.Common.{length, ◌≤◌, ◌≡◌, ◌⊎◌, inl, inr, ℕ, List, [], ◌∷◌, ◌++◌, Some, None, Result, Ok, Err, refl, ◌∙◌, ap, subst, sym}
+use Rattle.std.proofs.Common.{length, ◌≤◌, ◌<◌, ◌-◌, ◌^◌, ◌≡◌, ◌⊎◌, inl, inr, ℕ, List, [], ◌∷◌, ◌++◌, Some, None, Result, Ok, Err, refl, ◌∙◌, ap, subst, sym}
 use Rattle.actor_parts.specs.declared.step.Answer.{Answer}
 use Rattle.refusals.specs.declared.refusal.Refusal.{Refusal}
 use Rattle.refusals.specs.declared.refusal.Refusal.TheVariants as refusals
@@ -9,7 +8,9 @@ use Rattle.store_machine.specs.Asked.{Asked}
 use Rattle.store_machine.specs.Asked as asked
 use Rattle.store_machine.specs.Done.{Done}
 use Rattle.store_machine.specs.Done as done
-use Rattle.store_machine.specs.Legal.{Answers, ByState, Does, Legal, Refuses, RefusesCommit, RefusesGcStep, RefusesOn, with_name}
+use Rattle.store_machine.specs.ByMap.{IsStill}
+use Rattle.store_machine.specs.Ingests.{HasRoomFor, IsPut}
+use Rattle.store_machine.specs.Legal.{Answers, ByState, Does, HasNumbers, Legal, MayCommit, Refuses, RefusesCommit, RefusesGcStep, RefusesOn, with_name}
 use Rattle.store_machine.specs.Lines.{AreTurns, Session, answer_of}
 use Rattle.store_machine.specs.Machine.{Found, Idle, Reading, RunState, Running, Stopped, put_at}
 use Rattle.store_machine.specs.Opening.{MayBeFound, Reopens, freeing}
@@ -262,7 +263,7 @@ module _ (now : Found (List ℕ)) (first : ℕ) (Last : Asked (List ℕ) → Typ
 
 module _ (first : ℕ) (name given : List ℕ) (now : Found (List ℕ)) where
   abbrev pub Either : Found (List ℕ) → Type 0
-  Either x = ((x ≡ now) × (first ≤ now.last)) ⊎ ((x ≡ with_name of_files name given now) × IsName name × (length given ≤ MOST_FILE))
+  Either x = IsStill first now x ⊎ IsPut name given now x
 
   module _ (m n : F) (same : m.now ≡ now) (runs : m.state ≡ Running) (later : first ≤ n.now.last) (x : Found (List ℕ)) where
     abbrev MayBe : Type 0
@@ -280,9 +281,19 @@ module _ (first : ℕ) (name given : List ℕ) (now : Found (List ℕ)) where
     put_is : with_name of_files name given m.now ≡ with_name of_files name given now
     put_is = ap (λ (y : Found (List ℕ)). with_name of_files name given y) same
 
-    in_doubt : n.now ≡ m.now → IsName name → length given ≤ MOST_FILE → (x ≡ m.now) ⊎ (x ≡ with_name of_files name given m.now) → Either x
-    in_doubt now_is named few (inl is) = inl (is ∙ same, low now_is)
-    in_doubt now_is named few (inr is) = inr (is ∙ put_is, named, few)
+    is_put : (a : ℕ) → MayCommit of_files a name given m → length given ≤ MOST_FILE → HasNumbers of_files m → x ≡ with_name of_files name given m.now → IsPut name given now x
+    is_put a may few numbers is = (
+      is ∙ put_is,
+      may.named,
+      few,
+      subst (HasRoomFor name) same may.room,
+      subst (λ (f : Found (List ℕ)). f.last < 2 ^ 64 - 1) same numbers.0,
+    )
+
+    in_doubt : (a : ℕ) → n.now ≡ m.now → MayCommit of_files a name given m → length given ≤ MOST_FILE → HasNumbers of_files m
+        → (x ≡ m.now) ⊎ (x ≡ with_name of_files name given m.now) → Either x
+    in_doubt a now_is may few numbers (inl is) = inl (is ∙ same, low now_is)
+    in_doubt a now_is may few numbers (inr is) = inr (is_put a may few numbers is)
 
     unput : (a : ℕ) (refusal : Refusal) → RefusesCommit of_files a name given refusal m n → MayBe → Either x
     unput a refusals.Memory others may = still others may
@@ -291,15 +302,13 @@ module _ (first : ℕ) (name given : List ℕ) (now : Found (List ℕ)) where
     unput a (refusals.Unpinned key) (good, room, key_is, pins, others) may = still others may
     unput a refusals.Numbers (able, lacks, others) may = still others may
     unput a refusals.DiskWrite (able, has, right, whole, others) may =
-        in_doubt (ap (λ (y : F). y.now) others) able.named right (subst (λ (y : F). MayBeFound of_files y.state y.now x) others may)
+        in_doubt a (ap (λ (y : F). y.now) others) able right has (subst (λ (y : F). MayBeFound of_files y.state y.now x) others may)
     unput a refusal refuses may = absurd refuses
 
     put : (a : ℕ) (answer : Done) → Does of_files a (asked.Commit name given) answer m n → MayBe → Either x
-    put a (done.Committed sequence) does may = inr (
-      subst (λ (st : RunState (List ℕ)). MayBeFound of_files st n.now x) (ap (λ (y : F). y.state) does.others ∙ runs) may ∙ ap (λ (y : F). y.now) does.others ∙ put_is,
-      does.may.named,
-      does.right,
-    )
+    put a (done.Committed sequence) does may =
+        let is : x ≡ n.now = subst (λ (st : RunState (List ℕ)). MayBeFound of_files st n.now x) (ap (λ (y : F). y.state) does.others ∙ runs) may in
+        inr (is_put a does.may does.right does.numbers (is ∙ ap (λ (y : F). y.now) does.others))
     put a answer does may = absurd does
 
     unput_by : (a : ℕ) (refusal : Refusal) → Refuses of_files a (asked.Commit name given) refusal m n → MayBe → Either x

@@ -102,11 +102,11 @@ refused_rests a step refusal m n quiet runs (right, on) = on_rests a step refusa
 
 -- ---- a step of a machine that runs
 
-answers : (a : ℕ) (step : Asked (List ℕ)) (told : Result Done Refusal) (m n : F) → IsQuiet step → m.state ≡ Running → ByState of_files m.state a step told m n
+pub answers : (a : ℕ) (step : Asked (List ℕ)) (told : Result Done Refusal) (m n : F) → IsQuiet step → m.state ≡ Running → ByState of_files m.state a step told m n
     → Answers of_files a step told m n
 answers a step told m n quiet runs by = subst (λ (s : RunState (List ℕ)). ByState of_files s a step told m n) runs by
 
-by_of : (a : ℕ) (step : Asked (List ℕ)) (told : Result Done Refusal) (m n : F) → IsQuiet step → Legal of_files (record { actor = a; asked = step; answer = told }) m n
+pub by_of : (a : ℕ) (step : Asked (List ℕ)) (told : Result Done Refusal) (m n : F) → IsQuiet step → Legal of_files (record { actor = a; asked = step; answer = told }) m n
     → ByState of_files m.state a step told m n
 by_of a asked.Begin told m n quiet legal = legal
 by_of a (asked.Claim seg) told m n quiet legal = legal
@@ -138,7 +138,7 @@ due_is_quiet s step (dues.Seal kind, is, asks) = absurd asks
 due_is_quiet s step (dues.Nothing, is, asks) = absurd asks
 
 -- what a turn was told was an answer
-told_ok : (told : Result Done Refusal) (answer : Answer) → answer_of told ≡ Some answer → (d : Done) × (told ≡ Ok d)
+pub told_ok : (told : Result Done Refusal) (answer : Answer) → answer_of told ≡ Some answer → (d : Done) × (told ≡ Ok d)
 told_ok (Ok d) answer is = (d, refl)
 told_ok (Err refusal) answer is = absurd (let wrong : None ≡ Some answer = is in cc)
 

@@ -1,5 +1,5 @@
 -- The lines of a `restore` print the file of the name, or a first part of it, and change nothing.
-use Rattle.std.proofs.Common.{◌≡◌, inl, inr, ◌<◌, ℕ, List as ListOf, [], ◌∷◌, ◌++◌, length, slice_index_or, slice_set, Option, Some, None, Result, Ok, Err, refl, sym, ◌∙◌, ap, subst, arith}
+use Rattle.std.proofs.Common.{◌≡◌, ◌⊎◌, inl, inr, ◌<◌, ℕ, List as ListOf, [], ◌∷◌, ◌++◌, length, slice_index_or, slice_set, Option, Some, None, Result, Ok, Err, refl, sym, ◌∙◌, ap, subst, arith}
 use Rattle.std.specs.List.{concat}
 use Rattle.std.specs.FinMap as finite
 use Rattle.std.proofs.lemmas.List.{append-nil, append_assoc}
@@ -11,10 +11,11 @@ use Rattle.script_lines.specs.Grammar.{LineValue}
 use Rattle.script_lines.specs.Grammar as lines
 use Rattle.script_lines.specs.ReplyValue.{ReplyValue}
 use Rattle.script_lines.specs.ReplyValue as replies
+use Rattle.store_model.specs.Image.{Store}
 use Rattle.store_machine.specs.Asked.{Asked}
 use Rattle.store_machine.specs.Asked as asked
-use Rattle.store_machine.specs.ByMap.{FileMachine, IsPartOfFile, RestoreRefusal, RestoresByMap}
-use Rattle.store_machine.specs.Commands.{Follows, IsDone, Replied, Restore, printed, text_of}
+use Rattle.store_machine.specs.ByMap.{FileMachine, IsPartOfFile, RestoreRefusal, RestoredFile, RestoresByMap, RunsWith}
+use Rattle.store_machine.specs.Commands.{Follows, IsDone, Replied, Restore, text_of}
 use Rattle.store_machine.specs.Done.{Done}
 use Rattle.store_machine.specs.Done as done
 use Rattle.store_machine.specs.Legal.{Answers, Does, Refuses}
@@ -24,41 +25,42 @@ use Rattle.store_machine.specs.Opening.{MayBeFound}
 use Rattle.store_machine.specs.Values.{StaysAt, of_files}
 use Rattle.store_machine.specs.Runs.{Run}
 use Rattle.store_machine.proofs.Passing.{sure_found}
-use Rattle.store_machine.proofs.Quiet.{IsSure, running_sure}
-use Rattle.store_machine.proofs.Stepwise.{At, Desks, IsFailure, Opened, Step, ends_so, first_actor, last_from, lines_after, not_barred, one_step}
+use Rattle.store_machine.proofs.Quiet.{running_sure}
+use Rattle.store_machine.proofs.Stepwise.{At, Desks, Fresh, IsFailure, NotOpened, Over, Step, WasOpened, ends_over, ends_so, first_actor, lines_after, not_barred, one_step, opened_store, unopened_ends, unopened_found, unopened_printed, unopened_refusal, unopened_store, unopened_undone}
 
 abbrev FilePart : Type 0
 FilePart = Part (ListOf ℕ) (ListOf (ListOf ℕ))
 
-index_set : (parts : ListOf FilePart) (p : FilePart) → 0 < length parts → slice_index_or (slice_set parts 0 p) 0 Idle ≡ p
+pub index_set : (parts : ListOf FilePart) (p : FilePart) → 0 < length parts → slice_index_or (slice_set parts 0 p) 0 Idle ≡ p
 index_set [] p some = absurd (omega (arith, some))
 index_set (x ∷ xs) p some = refl
 
-length_set : (parts : ListOf FilePart) (p : FilePart) → 0 < length parts → 0 < length (slice_set parts 0 p)
+pub length_set : (parts : ListOf FilePart) (p : FilePart) → 0 < length parts → 0 < length (slice_set parts 0 p)
 length_set [] p some = absurd (omega (arith, some))
 length_set (x ∷ xs) p some = omega arith
 
 same_reading : (file other : ListOf ℕ) (rest left : ListOf (ListOf ℕ)) → Reading file rest ≡ Reading other left → (file ≡ other) × (rest ≡ left)
 same_reading file other rest left is = (cc, cc)
 
-module _ (name : ListOf ℕ) (now : Found (ListOf ℕ)) where
+module _ (name : ListOf ℕ) (now : Found (ListOf ℕ)) (opened : Store) where
   -- the actor reads the name's file, of which this text was given
   pub record Reads (text : ListOf ℕ) (d : Desks) : Type 0 where
     pub file : ListOf ℕ
     pub rest : ListOf (ListOf ℕ)
     pub has : finite.get now.names name ≡ Some file
-    pub at : At now (Reading file rest) d
+    pub at : At now opened (Reading file rest) d
     pub text_is : file ≡ text ++ concat rest
 
   abbrev Stage : ReplyValue → ListOf ℕ → Desks → Type 0
-  Stage (replies.Opened files) text d = At now Idle d × (text ≡ [])
+  Stage (replies.Opened files) text d = At now opened Idle d × (text ≡ [])
   Stage (replies.Reading a count) text d = Reads text d
   Stage (replies.Bytes a bytes) text d = Reads text d
   Stage reply text d = Unit {0}
 
   pub record After (reply : ReplyValue) (text : ListOf ℕ) (d : Desks) : Type 0 where
     pub same : d.machine.now ≡ now
-    pub sure : IsSure d.machine.state
+    pub runs : RunsWith d.machine opened
+    pub over : Over (Restore name) reply
     pub stage : Stage reply text d
     pub part : IsPartOfFile name now text
     pub done : IsDone (Restore name) reply → finite.get now.names name ≡ Some text
@@ -66,35 +68,16 @@ module _ (name : ListOf ℕ) (now : Found (ListOf ℕ)) where
 
   -- a line was refused, and the names stay
   refused_after : (reply : ReplyValue) (text : ListOf ℕ) (d : Desks) (refusal : Refusal) → reply ≡ replies.Refused refusal → RestoreRefusal name now refusal
-      → d.machine.now ≡ now → IsSure d.machine.state → IsPartOfFile name now text → After reply text d
-  refused_after reply text d refusal is cause same sure part = record {
+      → d.machine.now ≡ now → RunsWith d.machine opened → IsPartOfFile name now text → After reply text d
+  refused_after reply text d refusal is cause same runs part = record {
     same = same;
-    sure = sure;
+    runs = runs;
+    over = inl (inr (refusal, is));
     stage = subst (λ (r : ReplyValue). Stage r text d) (sym is) tt;
     part = part;
     done = λ d. absurd (subst (IsDone (Restore name)) is d);
     refused = λ other is_other. subst (RestoreRefusal name now) (let same : replies.Refused refusal ≡ replies.Refused other = sym is ∙ is_other in cc) cause;
   }
-
-  failure : (refusal : Refusal) → IsFailure refusal → RestoreRefusal name now refusal
-  failure refusals.Memory is = tt
-  failure refusals.DiskRead is = tt
-  failure refusals.DiskWrite is = tt
-  failure refusal is = absurd is
-
-  opened_after : (reply : ReplyValue) (d : Desks) → Opened now reply d → After reply (text_of (Restore name) [] lines.Reopen reply) d
-  opened_after reply d (inr (refusal, is, fails, same, sure)) =
-      subst (λ (r : ReplyValue). After r (text_of (Restore name) [] lines.Reopen r) d) (sym is)
-      (refused_after (replies.Refused refusal) [] d refusal refl (failure refusal fails) same sure (inl refl))
-  opened_after reply d (inl (files, is, at)) =
-      subst (λ (r : ReplyValue). After r (text_of (Restore name) [] lines.Reopen r) d) (sym is) (record {
-        same = at.same;
-        sure = running_sure d.machine.state at.runs;
-        stage = (at, refl);
-        part = inl refl;
-        done = λ d. absurd d;
-        refused = λ refusal wrong. absurd (let no : replies.Opened files ≡ replies.Refused refusal = wrong in cc);
-      })
 
   -- ---- lines
 
@@ -104,26 +87,27 @@ module _ (name : ListOf ℕ) (now : Found (ListOf ℕ)) where
 
   module _ (text : ListOf ℕ) (d mid : Desks) (ss : ListOf Step) (run : Run of_files ss d.machine mid.machine) where
     -- the names are still these, and it runs, with another part
-    goes_on : (old part : FilePart) → At now old d → mid.machine ≡ put_at d.machine 0 part → mid.sessions ≡ d.sessions → At now part mid
+    goes_on : (old part : FilePart) → At now opened old d → mid.machine ≡ put_at d.machine 0 part → mid.sessions ≡ d.sessions → At now opened part mid
     goes_on old part at is sessions = record {
       same = ap (λ (x : FileMachine). x.now) is ∙ at.same;
       runs = ap (λ (x : FileMachine). x.state) is ∙ at.runs;
+      store = ap (λ (x : FileMachine). x.store) is ∙ at.store;
       none = ap (λ (s : ListOf (Option Session)). slice_index_or s 0 None) sessions ∙ at.none;
       some = subst (λ (x : FileMachine). 0 < length x.parts) (sym is) (length_set d.machine.parts part at.some);
       part_is = ap (λ (x : FileMachine). part_in x 0) is ∙ index_set d.machine.parts part at.some;
     }
 
-    rested : (old : FilePart) (reply : ReplyValue) (refusal : Refusal) → At now old d → IsPartOfFile name now text → reply ≡ replies.Refused refusal
+    rested : (old : FilePart) (reply : ReplyValue) (refusal : Refusal) → At now opened old d → IsPartOfFile name now text → reply ≡ replies.Refused refusal
         → RestoreRefusal name now refusal
         → mid.machine ≡ d.machine → (line : LineValue) → After reply (text ++ text_of (Restore name) [] line reply) mid
     rested old reply refusal at part is cause same line =
         subst (λ (r : ReplyValue). After reply (text ++ text_of (Restore name) [] line r) mid) (sym is)
         (refused_after reply (text ++ []) mid refusal is cause (ap (λ (x : FileMachine). x.now) same ∙ at.same)
-        (running_sure mid.machine.state (ap (λ (x : FileMachine). x.state) same ∙ at.runs)) (as_before text part))
+        (ap (λ (x : FileMachine). x.state) same ∙ at.runs, ap (λ (x : FileMachine). x.store) same ∙ at.store) (as_before text part))
 
     -- ---- the file is opened
 
-    module _ (at : At now Idle d) (none : text ≡ []) (reply : ReplyValue) where
+    module _ (at : At now opened Idle d) (none : text ≡ []) (reply : ReplyValue) where
       abbrev So : Type 0
       So = After reply (text ++ text_of (Restore name) [] (lines.Read 0 name) reply) mid
 
@@ -136,7 +120,8 @@ module _ (name : ListOf ℕ) (now : Found (ListOf ℕ)) where
           let whole : concat rest ≡ file = ap concat starts ∙ (segments_of-laws file).together in
           subst (λ (r : ReplyValue). After r (text ++ text_of (Restore name) [] (lines.Read 0 name) r) mid) (sym is) (record {
             same = ap (λ (x : FileMachine). x.now) others ∙ at.same;
-            sure = running_sure mid.machine.state (ap (λ (x : FileMachine). x.state) others ∙ at.runs);
+            runs = (ap (λ (x : FileMachine). x.state) others ∙ at.runs, ap (λ (x : FileMachine). x.store) others ∙ at.store);
+            over = inr (lines.Next 0, refl);
             stage = record {
               file = file;
               rest = rest;
@@ -167,10 +152,10 @@ module _ (name : ListOf ℕ) (now : Found (ListOf ℕ)) where
       read_line : Line of_files (lines.Read 0 name) reply ss d mid → So
       read_line (ran, inl (admits, (a, step, (a_is, step_is), ends, sessions))) =
           let own = subst (λ (k : ℕ). Ends of_files k [] (asked.OpenRead name) reply ss) a_is (subst (λ (s : Asked (ListOf ℕ)). Ends of_files a [] s reply ss) step_is ends) in
-          let one = one_step now Idle d mid at 0 (asked.OpenRead name) reply ss run (λ told legal. legal) own in
+          let one = one_step now opened Idle d mid at 0 (asked.OpenRead name) reply ss run (λ told legal. legal) own in
           opened_so one.told one.reply_is sessions one.answers
       read_line (ran, inr (refusal, bars, is, no_steps, sessions)) =
-          absurd (not_barred now Idle d mid at (lines.Read 0 name) refusal (first_actor (lines.Read 0 name) Idle refl refl) bars)
+          absurd (not_barred now opened Idle d mid at (lines.Read 0 name) refusal (first_actor (lines.Read 0 name) Idle refl refl) bars)
 
     -- ---- a segment of it, or its end
 
@@ -195,7 +180,8 @@ module _ (name : ListOf ℕ) (now : Found (ListOf ℕ)) where
           reads.text_is ∙ ap (λ (r : ListOf (ListOf ℕ)). text ++ concat r) rest_is ∙ sym (append_assoc text bytes (concat after)) in
           subst (λ (r : ReplyValue). After r (text ++ text_of (Restore name) [] (lines.Next 0) r) mid) (sym is) (record {
             same = ap (λ (x : FileMachine). x.now) others ∙ reads.at.same;
-            sure = running_sure mid.machine.state (ap (λ (x : FileMachine). x.state) others ∙ reads.at.runs);
+            runs = (ap (λ (x : FileMachine). x.state) others ∙ reads.at.runs, ap (λ (x : FileMachine). x.store) others ∙ reads.at.store);
+            over = inr (lines.Next 0, refl);
             stage = record {
               file = reads.file;
               rest = after;
@@ -213,7 +199,8 @@ module _ (name : ListOf ℕ) (now : Found (ListOf ℕ)) where
           let whole : reads.file ≡ text ++ [] = reads.text_is ∙ ap (λ (r : ListOf (ListOf ℕ)). text ++ concat r) none in
           subst (λ (r : ReplyValue). After r (text ++ text_of (Restore name) [] (lines.Next 0) r) mid) (sym is) (record {
             same = ap (λ (x : FileMachine). x.now) others ∙ reads.at.same;
-            sure = running_sure mid.machine.state (ap (λ (x : FileMachine). x.state) others ∙ reads.at.runs);
+            runs = (ap (λ (x : FileMachine). x.state) others ∙ reads.at.runs, ap (λ (x : FileMachine). x.store) others ∙ reads.at.store);
+            over = inl (inl tt);
             stage = tt;
             part = as_before text part_given;
             done = λ _. reads.has ∙ ap Some whole;
@@ -232,7 +219,7 @@ module _ (name : ListOf ℕ) (now : Found (ListOf ℕ)) where
           let so = stays rest refusal after stuck in
           subst (λ (r : ReplyValue). After reply (text ++ text_of (Restore name) [] (lines.Next 0) r) mid) (sym is)
           (refused_after reply (text ++ []) mid refusal is (subst (RestoreRefusal name now) (sym so) tt) (ap (λ (x : FileMachine). x.now) others ∙ reads.at.same)
-          (running_sure mid.machine.state (ap (λ (x : FileMachine). x.state) others ∙ reads.at.runs)) (as_before text part_given))
+          (ap (λ (x : FileMachine). x.state) others ∙ reads.at.runs, ap (λ (x : FileMachine). x.store) others ∙ reads.at.store) (as_before text part_given))
 
       gives_not : (refusal : Refusal) → reply ≡ replies.Refused refusal → Refuses of_files 0 asked.ReadNext refusal d.machine mid.machine → Next
       gives_not (refusals.WrongPart kind) is ((kind_is, (taken, by, differ)), same) =
@@ -248,10 +235,10 @@ module _ (name : ListOf ℕ) (now : Found (ListOf ℕ)) where
       next_line : Line of_files (lines.Next 0) reply ss d mid → Next
       next_line (ran, inl (admits, (a, step, (a_is, step_is), ends, sessions))) =
           let own = subst (λ (k : ℕ). Ends of_files k [] asked.ReadNext reply ss) a_is (subst (λ (s : Asked (ListOf ℕ)). Ends of_files a [] s reply ss) step_is ends) in
-          let one = one_step now part d mid reads.at 0 asked.ReadNext reply ss run (λ told legal. legal) own in
+          let one = one_step now opened part d mid reads.at 0 asked.ReadNext reply ss run (λ told legal. legal) own in
           given_so one.told one.reply_is sessions one.answers
       next_line (ran, inr (refusal, bars, is, no_steps, sessions)) =
-          absurd (not_barred now part d mid reads.at (lines.Next 0) refusal (first_actor (lines.Next 0) part refl refl) bars)
+          absurd (not_barred now opened part d mid reads.at (lines.Next 0) refusal (first_actor (lines.Next 0) part refl refl) bars)
 
   -- ---- line after line
 
@@ -272,19 +259,50 @@ module _ (name : ListOf ℕ) (now : Found (ListOf ℕ)) where
       by (replies.Bytes a bytes) reads is = reads_on reads is
       by reply stage follows = absurd follows
 
+failure : (name : ListOf ℕ) (now : Found (ListOf ℕ)) (refusal : Refusal) → IsFailure refusal → RestoreRefusal name now refusal
+failure name now refusals.Memory is = tt
+failure name now refusals.DiskRead is = tt
+failure name now refusals.DiskWrite is = tt
+failure name now refusal is = absurd is
+
+begun : (name : ListOf ℕ) (start : FileMachine) (files : ℕ) (d : Desks) → At start.now d.machine.store Idle d → Fresh start d
+    → After name start.now d.machine.store (replies.Opened files) (text_of (Restore name) [] lines.Reopen (replies.Opened files)) d
+begun name start files d at fresh = record {
+  same = at.same;
+  runs = (at.runs, at.store);
+  over = inr (lines.Read 0 name, refl);
+  stage = (at, refl);
+  part = inl refl;
+  done = λ d. absurd d;
+  refused = λ refusal wrong. absurd (let no : replies.Opened files ≡ replies.Refused refusal = wrong in cc);
+}
+
 pub restores_by_map : RestoresByMap
 restores_by_map name [] ss m e runs lines_are (none, is) = record {
+  ends = inr tt;
   found = λ x may. sure_found m.state m.now x (running_sure m.state runs) (subst (λ (y : Desks). MayBeFound of_files y.machine.state y.machine.now x) is may);
+  store = ap (λ (y : Desks). y.machine) is;
   part = inl refl;
   done = λ end. absurd (let wrong : None ≡ Some end.0 = end.1 in cc);
   refused = λ refusal end. absurd (let wrong : None ≡ Some end.0 = end.1 in cc);
 }
 restores_by_map name (one ∷ more) ss m e runs lines_are ran =
-    let after : After name m.now (last_from one more).reply (printed (Restore name) [] (one ∷ more)) e =
-    lines_after (Restore name) m (After name m.now) (next name m.now) (λ reply d opened fresh. opened_after name m.now reply d opened) one more ss e runs lines_are ran in
-    record {
-      found = λ x may. sure_found e.machine.state e.machine.now x after.sure may ∙ after.same;
-      part = after.part;
-      done = λ end. after.done (ends_so (λ one. IsDone (Restore name) one.reply) one more end);
-      refused = λ refusal end. after.refused refusal (ends_so (λ one. one.reply ≡ replies.Refused refusal) one more end);
+    by (lines_after (Restore name) m (After name m.now) (next name m.now) (begun name m) (λ refusal line follows. follows) one more ss e runs lines_are ran)
+  where
+    by : NotOpened m one more e.machine ⊎ WasOpened (Restore name) m (After name m.now) one more e → RestoredFile name (one ∷ more) m e.machine
+    by (inl un) = record {
+      ends = inl (unopened_ends m one more e.machine runs un (Restore name));
+      found = unopened_found m one more e.machine runs un;
+      store = unopened_store m one more e.machine runs un (RunsWith e.machine);
+      part = inl (unopened_printed m one more e.machine runs un (Restore name) refl);
+      done = λ end. absurd (unopened_undone m one more e.machine runs un (Restore name) (λ is. is) end);
+      refused = λ refusal end. failure name m.now refusal (unopened_refusal m one more e.machine runs un refusal end);
+    }
+    by (inr was) = record {
+      ends = ends_over (Restore name) one more was.after.over;
+      found = λ x may. sure_found e.machine.state e.machine.now x (running_sure e.machine.state was.after.runs.0) may ∙ was.after.same;
+      store = opened_store (RunsWith e.machine) one more m e.machine was.files was.reply_is was.opened was.room was.after.runs;
+      part = was.after.part;
+      done = λ end. was.after.done (ends_so (λ one. IsDone (Restore name) one.reply) one more end);
+      refused = λ refusal end. was.after.refused refusal (ends_so (λ one. one.reply ≡ replies.Refused refusal) one more end);
     }

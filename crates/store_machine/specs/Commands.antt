@@ -3,6 +3,7 @@ use Rattle.std.specs.Prelude.{◌≡◌, ◌⊎◌, ◌==◌, if◌then◌else�
 use Rattle.actor_parts.specs.declared.actor.TheConstants.{ACTORS}
 use Rattle.std.proofs.Common.{ap, subst, sym}
 use Rattle.reply_text.specs.Text.{deleted_line, listing_text, stored_line}
+use Rattle.refusals.specs.declared.refusal.Refusal.{Refusal}
 use Rattle.script_lines.specs.Grammar.{LineValue, pushed_bytes}
 use Rattle.script_lines.specs.Grammar as lines
 use Rattle.script_lines.specs.ReplyText.{reply_line}
@@ -85,6 +86,20 @@ last_of (one ∷ next ∷ more) = last_of (next ∷ more)
 -- its last line was this one, and was replied to so
 abbrev pub EndsWith : (Replied → Type 0) → ListOf Replied → Type 0
 EndsWith P rs = (one : Replied) × (last_of rs ≡ Some one) × P one
+
+-- it was refused so
+abbrev pub EndsRefused : Refusal → ListOf Replied → Type 0
+EndsRefused refusal rs = EndsWith (λ one. one.reply ≡ replies.Refused refusal) rs
+
+-- It came to its end: its last line was done or refused. The lines of a command are any first part of all that it makes, so whoever
+-- promises that one is carried out asks for this beside them. Of a script each line may be the last.
+abbrev pub IsEnded : Command → ListOf Replied → Type 0
+IsEnded command rs = EndsWith (λ one. IsDone command one.reply) rs ⊎ ((refusal : Refusal) × EndsRefused refusal rs)
+
+-- a line is to come
+abbrev pub MayGoOn : Command → ListOf Replied → Type 0
+MayGoOn command [] = Unit {0}
+MayGoOn command (one ∷ more) = EndsWith (λ last. (line : LineValue) × Follows command last.reply line) (one ∷ more)
 
 -- no actor gives a file yet
 abbrev pub desk : {V R : Type 0} → Machine V R → Desk V R

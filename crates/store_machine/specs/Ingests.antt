@@ -1,31 +1,108 @@
 -- What the lines of an `ingest` come to, in a run of the machine of files: what the plain map makes of it.
-use Rattle.std.specs.Prelude.{◌≡◌, ◌⊎◌, ◌≤◌, ℕ, List, [], length}
+use Rattle.std.specs.Prelude.{◌≡◌, ◌⊎◌, ◌<◌, ◌≤◌, ◌-◌, ◌^◌, ℕ, Bool, true, List, [], ◌++◌, length, is_some, slice_get, Some, None}
+use Rattle.std.specs.FinMap as finite
+use Rattle.actor_parts.specs.declared.step.Answer.{Answer}
+use Rattle.actor_parts.specs.PinMap.{PinMap}
+use Rattle.actor_parts.specs.Segments.{first_unpinned}
+use Rattle.container_meta.specs.Segments.{KindSegment}
 use Rattle.disk_format.specs.Cells.{IsName}
-use Rattle.disk_format.specs.declared.numbers.TheConstants.{MOST_FILE}
-use Rattle.store_machine.specs.Commands.{AreLinesOf, EndsWith, Ingest, IsDone, Lines, Replied, desk, given_by, run_of}
-use Rattle.store_machine.specs.Legal.{with_name}
-use Rattle.store_machine.specs.Lines.{Desk}
-use Rattle.store_machine.specs.Machine.{Found, Machine, Running, Stepped}
+use Rattle.disk_format.specs.declared.numbers.TheConstants.{LAST_ID, MOST_FILE, MOST_NAMES, RESERVE}
+use Rattle.refusals.specs.declared.refusal.Refusal.{Refusal}
+use Rattle.refusals.specs.declared.refusal.Refusal.TheVariants.{Memory, BadName, TooLong, TooMany, Full, Clash, Numbers, Unpinned, DiskRead, DiskWrite}
+use Rattle.reply_text.specs.Text.{stored_line}
+use Rattle.script_lines.specs.Grammar.{LineValue, pushed_bytes}
+use Rattle.script_lines.specs.Grammar as lines
+use Rattle.store_model.specs.Refusals.{root_key}
+use Rattle.store_model.specs.Slots.{free_slots}
+use Rattle.store_model.specs.Trees.{root_of}
+use Rattle.store_machine.specs.Asked.{Asked}
+use Rattle.store_machine.specs.Asked as asked
+use Rattle.store_machine.specs.ByMap.{FileMachine, IsStill}
+use Rattle.store_machine.specs.Commands.{AreLinesOf, EndsRefused, EndsWith, Ingest, IsDone, IsEnded, Lines, MayGoOn, Replied, desk, given_by, printed, run_of}
+use Rattle.store_machine.specs.Legal.{HasRoom, IsClash, IsKept, LacksNumbers, with_name}
+use Rattle.store_machine.specs.Lines.{Desk, IsDueStep}
+use Rattle.store_machine.specs.Machine.{Found, Running, Stepped, Writing, part_in}
 use Rattle.store_machine.specs.Opening.{MayBeFound}
 use Rattle.store_machine.specs.Runs.{IsPassedFrom}
 use Rattle.store_machine.specs.Values.{of_files}
 
--- What may be found is what was, or the name has the file that was given; where the last line was done, it has, and the file is no longer
--- than one may be.
-pub record Ingested (name given : List ℕ) (rs : List Replied) (now : Found (List ℕ)) (n : Machine (List ℕ) (List (List ℕ))) : Type 0 where
-  pub found : (x : Found (List ℕ)) → MayBeFound of_files n.state n.now x → (x ≡ now) ⊎ (x ≡ with_name of_files name given now)
+-- ---- the name
+
+-- there is room for it
+abbrev pub HasRoomFor : List ℕ → Found (List ℕ) → Type 0
+HasRoomFor name now = (is_some (finite.get now.names name) ≡ true) ⊎ (finite.len now.names < MOST_NAMES)
+
+-- The name has the file that was given: it is good, the file is no longer than one may be, there was room, and a number was left.
+abbrev pub IsPut : (name given : List ℕ) → Found (List ℕ) → Found (List ℕ) → Type 0
+IsPut name given now x = (x ≡ with_name of_files name given now) × IsName name × (length given ≤ MOST_FILE) × HasRoomFor name now
+    × (now.last < 2 ^ 64 - 1)
+
+-- ---- what it is refused by
+
+-- a step that is due of the file that was given, after some answers
+abbrev pub IsDueOf : List ℕ → Asked (List ℕ) → Type 0
+IsDueOf given step =
+    (ended : Bool) × (answers : List Answer) × IsDueStep of_files (record { given = given; ended = ended; answers = answers }) step
+
+-- the segment that it claims, or one of those that it seals
+abbrev pub HasSegment : Asked (List ℕ) → KindSegment → Type 0
+HasSegment (asked.Claim seg) one = one ≡ seg
+HasSegment (asked.Seal filled) one = (one.kind ≡ filled.kind) × ((i : ℕ) × (slice_get filled.segments i ≡ Some one.segment))
+HasSegment step one = ⊥
+
+-- a segment of the file, or a node over some, whose turn came
+abbrev pub IsTurnOf : List ℕ → KindSegment → Type 0
+IsTurnOf given seg = (step : Asked (List ℕ)) × IsDueOf given step × HasSegment step seg
+
+-- with what this line brings the file is longer than one may be
+abbrev pub IsTooLong : List ℕ → LineValue → Type 0
+IsTooLong given (lines.Push a digits) = MOST_FILE < length (given ++ pushed_bytes digits)
+IsTooLong given line = ⊥
+
+-- what the first actor keeps lacks a child of what its turn is of, or the root of the file
+abbrev pub LacksPin : List ℕ → List ℕ → PinMap → Type 0
+LacksPin given key pins = ((seg : KindSegment) × IsTurnOf given seg × (first_unpinned seg pins ≡ Some key))
+    ⊎ ((key ≡ root_key (root_of given)) × ¬ (IsKept pins (root_of given)))
+
+-- Why its last line is refused, by the machine that this left. Want of memory is free, and a call of the disk that failed is told by its
+-- count of faults.
+abbrev pub IngestRefusal : (name given : List ℕ) → Found (List ℕ) → FileMachine → LineValue → Refusal → Type 0
+IngestRefusal name given now n line TooLong = IsTooLong given line
+IngestRefusal name given now n line BadName = ¬ (IsName name)
+IngestRefusal name given now n line TooMany =
+    IsName name × (finite.get now.names name ≡ None) × (MOST_NAMES ≤ finite.len now.names)
+IngestRefusal name given now n line (Full free) = (free ≡ free_slots n.store.held) × (free ≤ RESERVE)
+IngestRefusal name given now n line Numbers = (LAST_ID ≤ n.last_id) ⊎ (IsName name × HasRoom of_files name n × LacksNumbers of_files n)
+IngestRefusal name given now n line (Clash key at) = (seg : KindSegment) × IsTurnOf given seg × IsClash n.store n.forgotten seg key at
+IngestRefusal name given now n line (Unpinned key) = (pins : PinMap) × (part_in n 0 ≡ Writing pins) × LacksPin given key pins
+IngestRefusal name given now n line Memory = Unit {0}
+IngestRefusal name given now n line DiskRead = Unit {0}
+IngestRefusal name given now n line DiskWrite = Unit {0}
+IngestRefusal name given now n line refusal = ⊥
+
+-- ---- at its end
+
+-- It came to its end, or a line is to come. What may be found is what was, or the name has the file that was given; where the last line was
+-- done, it has, and its root is printed, and else nothing. Only a write that failed leaves a doubt.
+pub record Ingested (name given : List ℕ) (rs : List Replied) (now : Found (List ℕ)) (n : FileMachine) : Type 0 where
+  pub ends : IsEnded (Ingest name) rs ⊎ MayGoOn (Ingest name) rs
+  pub found : (x : Found (List ℕ)) → MayBeFound of_files n.state n.now x → (x ≡ now) ⊎ IsPut name given now x
   pub done : EndsWith (λ one. IsDone (Ingest name) one.reply) rs
-      → (n.now ≡ with_name of_files name given now) × (n.state ≡ Running) × IsName name × (length given ≤ MOST_FILE)
+      → IsPut name given now n.now × (n.state ≡ Running) × (printed (Ingest name) given rs ≡ stored_line name (root_of given))
+  pub undone : (EndsWith (λ one. IsDone (Ingest name) one.reply) rs → ⊥) → (n.now ≡ now) × (printed (Ingest name) given rs ≡ [])
+  pub refused : (refusal : Refusal) → (end : EndsRefused refusal rs) → IngestRefusal name given now n end.0.line refusal
+      × (((refusal ≡ DiskWrite) → ⊥) → (x : Found (List ℕ)) → MayBeFound of_files n.state n.now x → x ≡ now)
 
 abbrev pub IngestsByMap : Type 0
-IngestsByMap = (name : List ℕ) (rs : List Replied) (ss : List (Stepped (List ℕ))) (m : Machine (List ℕ) (List (List ℕ)))
-    (e : Desk (List ℕ) (List (List ℕ))) → m.state ≡ Running → AreLinesOf (Ingest name) rs → Lines of_files rs ss (desk m) e
+IngestsByMap = (name : List ℕ) (rs : List Replied) (ss : List (Stepped (List ℕ))) (m : FileMachine) (e : Desk (List ℕ) (List (List ℕ)))
+    → m.state ≡ Running → AreLinesOf (Ingest name) rs → Lines of_files rs ss (desk m) e
     → Ingested name (given_by 0 [] rs) rs m.now e.machine
 
--- So it is at each moment of their steps: what was, where its last number isn't too low; or with the file, where that and the name may be.
+-- ---- at each moment of their steps
+
+-- what was, where its last number isn't too low; or with the file
 abbrev pub IngestsThrough : Type 0
-IngestsThrough = (first : ℕ) (name : List ℕ) (rs : List Replied) (ss : List (Stepped (List ℕ))) (m : Machine (List ℕ) (List (List ℕ)))
+IngestsThrough = (first : ℕ) (name : List ℕ) (rs : List Replied) (ss : List (Stepped (List ℕ))) (m : FileMachine)
     (e : Desk (List ℕ) (List (List ℕ))) → m.state ≡ Running → AreLinesOf (Ingest name) rs → (ran : Lines of_files rs ss (desk m) e)
     → (x : Found (List ℕ)) → IsPassedFrom of_files first ss m e.machine (run_of of_files rs ss (desk m) e ran) x
-    → ((x ≡ m.now) × (first ≤ m.now.last))
-    ⊎ ((x ≡ with_name of_files name (given_by 0 [] rs) m.now) × IsName name × (length (given_by 0 [] rs) ≤ MOST_FILE))
+    → IsStill first m.now x ⊎ IsPut name (given_by 0 [] rs) m.now x

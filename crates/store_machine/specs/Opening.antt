@@ -67,18 +67,19 @@ module _ {V R : Type 0} (v : Values V R) where
   MayRefuseOpening (Missing key) = ¬ v.Known
   MayRefuseOpening refusal = ⊥
 
-  -- a store that stood had too few closed slots, and some of its containers were given back that what is found doesn't need
-  pub record IsGivenBack (m : Machine V R) (store : Store) : Type 0 where
+  -- A store that stands had too few closed slots, and some of its containers were given back, the one of the least id first, none of which
+  -- the names need that may be found.
+  pub record IsGivenBack (m : Machine V R) (t : Store) : Type 0 where
+    pub found : Found V
+    pub may : MayBeFound m.state m.now found
     pub before : Store
     pub stands : Stands m.state m.store before
     pub few : free_slots before.held < RESERVE
-    pub found : Found V
-    pub may : MayBeFound m.state m.now found
     pub freed : List ℕ
     pub frees : FreesSome (NamesNeed v found) freed before
-    pub store_is : store ≡ with_all_freed freed before
+    pub left : t ≡ with_all_freed freed before
 
-  -- containers that nothing needs were given back, so that the store is one of these, and then it was refused
+  -- so the store is one of these, and then the opening was refused
   abbrev pub GivesBackSome : Machine V R → Machine V R → Type 0
   GivesBackSome m n = (stores : List Store) × (n ≡ record m { state = freeing stores m.state })
       × (v.Known → AllByRecursion (IsGivenBack m) stores)

@@ -23,8 +23,9 @@ pub fn steps_are_remembered()
 {}
 
 /// After the lines of an `ingest`, and whatever they were refused by, the names that may be found are those of before, or these with the
-/// file that was given under its name, and so it is at each moment of their steps; where the last line was done they are the latter, the
-/// name is good, and the file is no longer than one may be. The function does nothing.
+/// file that was given under its name, which is good, and the file no longer than one may be; and so it is at each moment of their steps.
+/// Where the last line was done they are the latter, and the file's root is printed. Each refusal has its cause, and only a write that
+/// failed leaves a doubt. The lines came to an end, or one is to come, as in each of the laws below. The function does nothing.
 pub fn an_ingest_puts_its_file()
     ensures ended { IngestsByMap }
     ensures through { IngestsThrough }
@@ -37,32 +38,34 @@ pub fn a_collection_does_what_it_selected()
     ensures { CollectsWhatItSelected of_files }
 {}
 
-/// After the lines of a `restore`, and whatever they were refused by, the names are what they were, also at each moment of their steps;
-/// what is printed is a first part of the name's file, and where the last line was done all of it; and each refusal has its cause. The
-/// function does nothing.
+/// After the lines of a `restore`, and whatever they were refused by, the names are what they were, also at each moment of their steps, and
+/// the store is what the opening left; what is printed is a first part of the name's file, and where the last line was done all of it; and
+/// each refusal has its cause. The function does nothing.
 pub fn a_restore_gives_its_file()
     ensures ended { RestoresByMap }
     ensures through { RestoresThrough }
 {}
 
-/// After the line of a `delete`, done or refused, the names that may be found are those of before, or these without its name, and so it is
-/// at each moment of its steps; where it was done they are the latter, and the name had a file; each refusal has its cause, and only a
-/// write that failed leaves a doubt. The function does nothing.
+/// After the line of a `delete`, done or refused, the names that may be found are those of before, or these without its name, which had a
+/// file, and so it is at each moment of its steps. Where it was done they are the latter, the store has its record, and the name is
+/// printed; else the store is what the opening left. Each refusal has its cause, and only a write that failed leaves a doubt. The function
+/// does nothing.
 pub fn a_delete_takes_its_name()
     ensures ended { DeletesByMap }
     ensures through { DeletesThrough }
 {}
 
-/// After the line of a `list` the names are what they were, also at each moment of its steps, and where it was done just these are
-/// printed, each with its length and root. The function does nothing.
+/// After the line of a `list` the names are what they were, also at each moment of its steps, and the store is what the opening left; where
+/// it was done just the names are printed, each with its length and root. The function does nothing.
 pub fn a_list_tells_the_names()
     ensures ended { ListsByMap }
     ensures through { ListsThrough }
 {}
 
-/// After the lines of a `collect` the names are what they were, also at each moment of its steps; where it was done it is printed how many
-/// containers were given back, each of which held the newest copy of nothing that the names need, and how many segments were copied; and
-/// each refusal has its cause. The function does nothing.
+/// After the lines of a `collect` the names are what they were, also at each moment of their steps. Where it was done it is printed how
+/// many containers were given back, each of which held the newest copy of nothing that the names need, and how many segments were copied;
+/// and what it selected is gone, by the percentage and by how much of each container the names need. Where it was refused the store has the
+/// changes that came before. Each refusal has its cause. The function does nothing.
 pub fn a_collect_keeps_the_names()
     ensures ended { CollectsByMap }
     ensures through { CollectsThrough }

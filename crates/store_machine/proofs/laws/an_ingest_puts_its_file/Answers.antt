@@ -1,5 +1,5 @@
 use Rattle.store_machine.proofs.Goodness.{ingests_through}
-use Rattle.store_machine.proofs.Ingesting.{ingests_by_map}
+use Rattle.store_machine.proofs.IngestRefused.{ingests_by_map}
 use Rattle.store_machine.proofs.laws.an_ingest_puts_its_file.Goals as goal
 
 pub returns : goal.returns

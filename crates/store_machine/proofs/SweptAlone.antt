@@ -1,0 +1,267 @@
+-- A collection, no other step of which comes between: what it recorded and changed since the store was opened.
+use Rattle.std.proofs.Common.{◌≡◌, ◌≤◌, inl, inr, ℕ, zero, suc, List as ListOf, [], ◌∷◌, ◌++◌, Contains, slice_get, Option, Some, None, Result, Ok, sym, ◌∙◌, ap, subst, arith}
+use Rattle.std.specs.FinMap as finite
+use Rattle.std.specs.List.{AllByRecursion}
+use Rattle.container_meta.specs.declared.entry.Entry.{Entry}
+use Rattle.container_meta.specs.declared.kind.Kind.{Kind}
+use Rattle.container_meta.specs.Spelling.{HeaderValue}
+use Rattle.gc_select.specs.declared.liveness.ContainerLiveness.{ContainerLiveness}
+use Rattle.gc_select.specs.Selecting.{ids_of}
+use Rattle.refusals.specs.declared.refusal.Phase.{Phase}
+use Rattle.refusals.specs.declared.refusal.Phase.TheVariants as phases
+use Rattle.refusals.specs.declared.refusal.Refusal.{Refusal}
+use Rattle.store_model.specs.Freeing.{FreesTo, with_freed}
+use Rattle.store_model.specs.Image.{Store}
+use Rattle.store_model.specs.Needed.{SumsNeeded}
+use Rattle.store_model.specs.Reserve.{IsSpare}
+use Rattle.store_model.specs.Slots.{last_id}
+use Rattle.store_model.specs.Steps.{ChangeName, FlushContainer, FreeContainer, SealContainer, StoreChange, changed}
+use Rattle.store_model.proofs.Freed.{there_before}
+use Rattle.store_machine.specs.Asked.{Asked}
+use Rattle.store_machine.specs.Asked as asked
+use Rattle.store_machine.specs.ByMap.{FileMachine, MakesRoom}
+use Rattle.store_machine.specs.Collected.{HasContainer, HasIds}
+use Rattle.store_machine.specs.Collecting.{Goes, GoesOn, IsRecordOf, Makes, Went, ids_before, marking}
+use Rattle.store_machine.specs.CollectsAlone.{HasChosen, IsOfSweep, IsRecorded, Spares, Sweeps}
+use Rattle.store_machine.specs.Done.{Done}
+use Rattle.store_machine.specs.Done as done
+use Rattle.store_machine.specs.Legal.{ByState, Legal}
+use Rattle.store_machine.specs.Lines.{AreDid}
+use Rattle.store_machine.specs.Machine.{Collection, Found, RunState, Running, Stage, Marking, Recording, Sweep, Sweeping}
+use Rattle.store_machine.specs.Needs.{IsNeeded, NamesNeed, NeededSince, OneNeeds}
+use Rattle.store_machine.specs.Runs.{Run}
+use Rattle.store_machine.specs.Values.{of_files}
+use Rattle.store_machine.proofs.Stepwise.{Step}
+use Rattle.store_machine.proofs.Swept.{none_in}
+
+abbrev pub C : Type 0
+C = Collection (ListOf ℕ)
+
+-- ---- changes, one after the other
+
+makes_then : (xs ys : ListOf StoreChange) (s t u : Store) → Makes xs s t → Makes ys t u → Makes (xs ++ ys) s u
+makes_then [] ys s t u first next = subst (λ (x : Store). Makes ys x u) first next
+makes_then (x ∷ xs) ys s t u (can, first) next = (can, makes_then xs ys (changed x s) t u first next)
+
+spares_then : (now : Found (ListOf ℕ)) (xs ys : ListOf StoreChange) (s t : Store) → Makes xs s t → Spares now xs s → Spares now ys t → Spares now (xs ++ ys) s
+spares_then now [] ys s t first spares next = subst (Spares now ys) first next
+spares_then now (FreeContainer slot ∷ xs) ys s t (can, first) (spare, spares) next = (spare, spares_then now xs ys (changed (FreeContainer slot) s) t first spares next)
+spares_then now (SealContainer id kind segments ∷ xs) ys s t (can, first) spares next = spares_then now xs ys (changed (SealContainer id kind segments) s) t first spares next
+spares_then now (ChangeName name change ∷ xs) ys s t (can, first) spares next = spares_then now xs ys (changed (ChangeName name change) s) t first spares next
+spares_then now (FlushContainer id kind segments ∷ xs) ys s t (can, first) spares next = spares_then now xs ys (changed (FlushContainer id kind segments) s) t first spares next
+
+each_then : (xs ys : ListOf StoreChange) → AllByRecursion IsOfSweep xs → AllByRecursion IsOfSweep ys → AllByRecursion IsOfSweep (xs ++ ys)
+each_then [] ys first next = next
+each_then (x ∷ xs) ys (one, first) next = (one, each_then xs ys first next)
+
+-- ---- ids
+
+-- no container has a greater id than the last
+id_within : (held : ListOf (Option HeaderValue)) (slot : ℕ) (h : HeaderValue) → slice_get held slot ≡ Some (Some h) → h.id ≤ last_id held
+id_within [] slot h is = absurd (let wrong : None ≡ Some (Some h) = is in cc)
+id_within (None ∷ cs) zero h is = absurd (let wrong : Some None ≡ Some (Some h) = is in cc)
+id_within (Some g ∷ cs) zero h is = let same : g ≡ h = (let both : Some (Some g) ≡ Some (Some h) = is in cc) in omega (arith, ap (λ (x : HeaderValue). x.id) same)
+id_within (None ∷ cs) (suc slot) h is = id_within cs slot h is
+id_within (Some g ∷ cs) (suc slot) h is = omega (arith, id_within cs slot h is)
+
+-- what is there once containers were given back was there before
+were_there : (P : ListOf ℕ → Type 0) (slots : ListOf ℕ) (s t : Store) → FreesTo P slots s t → (slot : ℕ) (h : HeaderValue) → HasContainer t slot h → HasContainer s slot h
+were_there P [] s t frees slot h has = subst (λ (x : Store). HasContainer x slot h) frees.0 has
+were_there P (a ∷ rest) s t (few, least, more) slot h has = (there_before a slot h s.held (were_there P rest (with_freed a s) t more slot h has)).1
+
+pub opened_ids : (start : FileMachine) (opened : Store) (last : ℕ) → MakesRoom start opened → last ≡ last_id opened.held → HasIds start.store start.last_id → HasIds opened last
+opened_ids start opened last (slots, frees) last_is ids = record {
+  differ = λ slot other h g has had same. ids.differ slot other h g (before slot h has) (before other g had) same;
+  given_out = λ slot h has. subst (λ (k : ℕ). h.id ≤ k) (sym last_is) (id_within opened.held slot h has);
+}
+  where
+    before : (slot : ℕ) (h : HeaderValue) → HasContainer opened slot h → HasContainer start.store slot h
+    before = were_there (NamesNeed of_files start.now) slots start.store opened frees
+
+-- ---- what is recorded
+
+-- the sum of what is needed is one, by two words for it
+sums_same : (P Q : ListOf ℕ → Type 0) → ((key : ListOf ℕ) → P key → Q key) → ((key : ListOf ℕ) → Q key → P key) → (held : ListOf (Option HeaderValue)) (kind : Kind) (slot : ℕ)
+    (es : ListOf Entry) (sum : ℕ) → SumsNeeded P held kind slot es sum → SumsNeeded Q held kind slot es sum
+sums_same P Q to from held kind slot [] sum is = is
+sums_same P Q to from held kind slot (e ∷ es) sum (inl ((needed, place), (rest, is, more))) =
+    inl ((to _ needed, place), (rest, is, sums_same P Q to from held kind slot es rest more))
+sums_same P Q to from held kind slot (e ∷ es) sum (inr (not, more)) = inr ((λ is. not (from _ is.0, is.1)), sums_same P Q to from held kind slot es sum more)
+
+recorded_of : (now : Found (ListOf ℕ)) (c : C) (store : Store) (r : ContainerLiveness) → c.values ≡ finite.values now.names → c.keys ≡ [] → IsRecordOf of_files c store r
+    → IsRecorded now store r
+recorded_of now c store r values keys is = record {
+  slot = is.slot;
+  header = is.header;
+  there = is.there;
+  id_is = is.id_is;
+  kind_is = is.kind_is;
+  all_is = is.all_is;
+  live_is = sums_same (NeededSince of_files c) (NamesNeed of_files now) to from store.held is.header.kind is.slot is.header.entries r.live (is.live_is tt);
+}
+  where
+    to : (key : ListOf ℕ) → NeededSince of_files c key → NamesNeed of_files now key
+    to key (inl needs) = subst (λ (vs : ListOf (ListOf ℕ)). OneNeeds of_files vs key) values needs
+    to key (inr has) = absurd (none_in key (subst (λ (ks : ListOf (ListOf ℕ)). Contains ks key) keys has))
+
+    from : (key : ListOf ℕ) → NamesNeed of_files now key → NeededSince of_files c key
+    from key needs = inl (subst (λ (vs : ListOf (ListOf ℕ)). OneNeeds of_files vs key) (sym values) needs)
+
+all_push : (P : ContainerLiveness → Type 0) (rs : ListOf ContainerLiveness) (r : ContainerLiveness) → AllByRecursion P rs → P r → AllByRecursion P (rs ++ r ∷ [])
+all_push P [] r all one = (one, tt)
+all_push P (x ∷ xs) r (first, all) one = (first, all_push P xs r all one)
+
+-- ---- a collection that runs, the names being these, since the store was opened
+
+-- nothing is changed before the sources are chosen, by what was recorded of all
+abbrev pub ByStage : Store → C → Stage → Type 0
+ByStage opened c (Marking left) = c.changes ≡ []
+ByStage opened c Recording = c.changes ≡ []
+ByStage opened c (Sweeping next s) = ids_of c.recorded ≡ ids_before c.snapshot opened.held
+
+pub record Tied (percent : ℕ) (now : Found (ListOf ℕ)) (opened store : Store) (c : C) : Type 0 where
+  pub sweeps : Sweeps now c.changes opened store
+  pub percent_is : c.percent ≡ percent
+  pub snapshot_is : c.snapshot ≡ suc (last_id opened.held)
+  pub values_are : c.values ≡ finite.values now.names
+  pub keys_are : c.keys ≡ []
+  pub records : AllByRecursion (IsRecorded now opened) c.recorded
+  pub stage : ByStage opened c c.stage
+
+pub record Under (percent : ℕ) (now : Found (ListOf ℕ)) (opened : Store) (m : FileMachine) : Type 0 where
+  pub same : m.now ≡ now
+  pub runs : m.state ≡ Running
+  pub c : C
+  pub ran : m.collection ≡ Some c
+  pub tied : Tied percent now opened m.store c
+
+pub same_some : (a b : C) → Some a ≡ Some b → a ≡ b
+same_some a b is = cc
+
+-- at its end
+pub has_chosen : (percent : ℕ) (now : Found (ListOf ℕ)) (opened store : Store) (c : C) (next : Phase) (s : Sweep) → Tied percent now opened store c → c.stage ≡ Sweeping next s
+    → HasChosen percent now opened c
+has_chosen percent now opened store c next s tied at = record {
+  percent_is = tied.percent_is;
+  snapshot_is = tied.snapshot_is;
+  all = subst (ByStage opened c) at tied.stage;
+  each = tied.records;
+}
+
+module _ (percent : ℕ) (now : Found (ListOf ℕ)) (opened : Store) (m : FileMachine) (same : m.now ≡ now) (c : C) (tied : Tied percent now opened m.store c) where
+  -- what a step changes
+  fewer : (slot : ℕ) → IsSpare (IsNeeded of_files m) m.store.held slot → IsSpare (NamesNeed of_files now) m.store.held slot
+  fewer slot spare = record {
+    header = spare.header;
+    holds = spare.holds;
+    none = λ key copy needs. spare.none key copy (inl (subst (λ (f : Found (ListOf ℕ)). NamesNeed of_files f key) (sym same) needs));
+  }
+
+  none_spared : (w : Went) → w.changes ≡ [] → Spares now w.changes m.store
+  none_spared w none = subst (λ (xs : ListOf StoreChange). Spares now xs m.store) (sym none) tt
+
+  spared : (phase : Phase) (w : Went) → Goes of_files phase c m w → Spares now w.changes m.store
+  spared phases.Mark w (left, was, is, (recorded, none, forgotten)) = none_spared w none
+  spared phases.Filter w goes = none_spared w goes.4
+  spared phases.Select w (was, all, is, (recorded, none, forgotten)) = none_spared w none
+  spared phases.Copy w goes = none_spared w goes.6
+  spared phases.Flush w goes = subst (λ (xs : ListOf StoreChange). Spares now xs m.store) (sym goes.5) tt
+  spared phases.Release w (s, t, id, slot, rest, was, ready, one, header, t_is, is, recorded, forgotten, spare) =
+      subst (λ (xs : ListOf StoreChange). Spares now xs m.store) (sym one) (fewer slot (spare tt), tt)
+  spared phase w goes = absurd goes
+
+  none_changed : (w : Went) → w.changes ≡ [] → AllByRecursion IsOfSweep w.changes
+  none_changed w none = subst (AllByRecursion IsOfSweep) (sym none) tt
+
+  of_sweep : (phase : Phase) (w : Went) → Goes of_files phase c m w → AllByRecursion IsOfSweep w.changes
+  of_sweep phases.Mark w (left, was, is, (recorded, none, forgotten)) = none_changed w none
+  of_sweep phases.Filter w goes = none_changed w goes.4
+  of_sweep phases.Select w (was, all, is, (recorded, none, forgotten)) = none_changed w none
+  of_sweep phases.Copy w goes = none_changed w goes.6
+  of_sweep phases.Flush w goes = subst (AllByRecursion IsOfSweep) (sym goes.5) (tt, tt)
+  of_sweep phases.Release w goes = subst (AllByRecursion IsOfSweep) (sym goes.7) (tt, tt)
+  of_sweep phase w goes = absurd goes
+
+  -- what it recorded by then
+  abbrev after : Went → C
+  after w = record c { stage = w.stage; recorded = w.recorded; changes = c.changes ++ w.changes }
+
+  abbrev RecordsSo : Went → Type 0
+  RecordsSo w = AllByRecursion (IsRecorded now opened) w.recorded × ByStage opened (after w) w.stage
+
+  as_recorded : (w : Went) → w.recorded ≡ c.recorded → AllByRecursion (IsRecorded now opened) w.recorded
+  as_recorded w is = subst (AllByRecursion (IsRecorded now opened)) (sym is) tied.records
+
+  none_yet : (w : Went) → c.changes ≡ [] → w.changes ≡ [] → (after w).changes ≡ []
+  none_yet w was none = (λ i. was i ++ none i)
+
+  to_mark : (w : Went) (left : ℕ) → (after w).changes ≡ [] → ByStage opened (after w) (marking left)
+  to_mark w zero none = none
+  to_mark w (suc left) none = none
+
+  store_is : c.changes ≡ [] → m.store ≡ opened
+  store_is none = subst (λ (xs : ListOf StoreChange). Makes xs opened m.store) none tied.sweeps.makes
+
+  swept : (w : Went) (next : Phase) (s : Sweep) (next_now : Phase) (t : Sweep) → c.stage ≡ Sweeping next s → w.stage ≡ Sweeping next_now t → w.recorded ≡ c.recorded → RecordsSo w
+  swept w next s next_now t was is recorded =
+      (as_recorded w recorded, subst (ByStage opened (after w)) (sym is) (ap ids_of recorded ∙ subst (ByStage opened c) was tied.stage))
+
+  records_so : (phase : Phase) (w : Went) → Goes of_files phase c m w → RecordsSo w
+  records_so phases.Mark w (left, was, is, (recorded, none, forgotten)) =
+      (as_recorded w recorded, subst (ByStage opened (after w)) (sym is) (to_mark w left (none_yet w (subst (ByStage opened c) was tied.stage) none)))
+  records_so phases.Filter w (r, was, is, recorded, none, forgotten, rest, record_is) =
+      let unchanged : c.changes ≡ [] = subst (ByStage opened c) was tied.stage in
+      let one : IsRecorded now opened r =
+      subst (λ (s : Store). IsRecorded now s r) (store_is unchanged) (recorded_of now c m.store r tied.values_are tied.keys_are record_is) in (
+        subst (AllByRecursion (IsRecorded now opened)) (sym recorded) (all_push (IsRecorded now opened) c.recorded r tied.records one),
+        subst (ByStage opened (after w)) (sym is) (none_yet w unchanged none),
+      )
+  records_so phases.Select w (was, all, is, (recorded, none, forgotten)) =
+      let store : m.store ≡ opened = store_is (subst (ByStage opened c) was tied.stage) in (
+        as_recorded w recorded,
+        subst (ByStage opened (after w)) (sym is) (ap ids_of recorded ∙ subst (λ (s : Store). ids_of c.recorded ≡ ids_before c.snapshot s.held) store all),
+      )
+  records_so phases.Copy w goes = swept w phases.Copy goes.0 goes.2 goes.1 goes.3 goes.4 goes.5
+  records_so phases.Flush w goes = swept w phases.Flush goes.0 _ goes.1 goes.4 goes.8 goes.9
+  records_so phases.Release w goes = swept w phases.Release goes.0 _ goes.1 goes.5 goes.10 goes.11
+  records_so phase w goes = absurd goes
+
+  tied_on : (phase : Phase) (w : Went) (store : Store) → Goes of_files phase c m w → Makes w.changes m.store store → Tied percent now opened store (after w)
+  tied_on phase w store goes makes =
+      let so = records_so phase w goes in
+      record {
+        sweeps = record {
+          each = each_then c.changes w.changes tied.sweeps.each (of_sweep phase w goes);
+          makes = makes_then c.changes w.changes opened m.store store tied.sweeps.makes makes;
+          spares = spares_then now c.changes w.changes opened m.store tied.sweeps.makes tied.sweeps.spares (spared phase w goes);
+        };
+        percent_is = tied.percent_is;
+        snapshot_is = tied.snapshot_is;
+        values_are = tied.values_are;
+        keys_are = tied.keys_are;
+        records = so.0;
+        stage = so.1;
+      }
+
+module _ (percent : ℕ) (now : Found (ListOf ℕ)) (opened : Store) where
+  goes_on : (m : FileMachine) → Under percent now opened m → (phase : Phase) (n : FileMachine) → GoesOn of_files phase m n → Under percent now opened n
+  goes_on m u phase n goes =
+      let tied : Tied percent now opened m.store goes.c = subst (Tied percent now opened m.store) (same_some u.c goes.c (sym u.ran ∙ goes.ran)) u.tied in
+      record {
+        same = ap (λ (x : FileMachine). x.now) goes.others ∙ u.same;
+        runs = ap (λ (x : FileMachine). x.state) goes.others ∙ u.runs;
+        c = _;
+        ran = ap (λ (x : FileMachine). x.collection) goes.others;
+        tied = tied_on percent now opened m u.same goes.c tied phase goes.went n.store goes.goes goes.makes;
+      }
+
+  -- so many steps went on
+  pub all_went : (made : ListOf Step) (m k : FileMachine) → Under percent now opened m → AreDid of_files made → Run of_files made m k → Under percent now opened k
+  all_went [] m k u did run = subst (Under percent now opened) (sym run) u
+  all_went (x ∷ xs) m k u (asked_is, (phase, answer_is), more) (mid, (legal, run)) =
+      let one : Legal of_files (record { actor = x.actor; asked = asked.GcStep; answer = Ok (done.Did phase) }) m mid =
+      subst (λ (s : Asked (ListOf ℕ)). Legal of_files (record { actor = x.actor; asked = s; answer = Ok (done.Did phase) }) m mid) asked_is
+      (subst (λ (r : Result Done Refusal). Legal of_files (record { actor = x.actor; asked = x.asked; answer = r }) m mid) answer_is legal) in
+      let goes : GoesOn of_files phase m mid =
+      subst (λ (st : RunState (ListOf ℕ)). ByState of_files st x.actor asked.GcStep (Ok (done.Did phase)) m mid) u.runs one in
+      all_went xs mid k (goes_on m u phase mid goes) more run

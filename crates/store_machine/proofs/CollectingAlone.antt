@@ -16,12 +16,12 @@ use Rattle.store_machine.specs.Asked.{Asked}
 use Rattle.store_machine.specs.Asked as asked
 use Rattle.store_machine.specs.ByMap.{FileMachine}
 use Rattle.store_machine.specs.Collected.{AreBetween, HasIds}
-use Rattle.store_machine.specs.Collecting.{Ends as EndsCollection, IsCollecting, freed_in, keys_written, marking, marks_of}
+use Rattle.store_machine.specs.Collecting.{Ends as EndsCollection, IsCollecting, freed_in, keys_written, marking, marks_of, MayBreak}
 use Rattle.store_machine.specs.CollectsAlone.{CollectRefusal, CollectedAlone, CollectsByMap, HasSwept, Sweeps, SweptSoFar}
 use Rattle.store_machine.specs.Commands.{Collect, Follows, IsDone, Replied, text_of}
 use Rattle.store_machine.specs.Done.{Done}
 use Rattle.store_machine.specs.Done as done
-use Rattle.store_machine.specs.Legal.{Answers, ByState, Does, Legal, MayBreak, RefusesGcStep, RefusesOn}
+use Rattle.store_machine.specs.Legal.{Answers, ByState, Does, Legal, RefusesGcStep, RefusesOn}
 use Rattle.store_machine.specs.Lines.{AreDid, Ends, IsLast, Line, reply_of, step_of}
 use Rattle.store_machine.specs.Machine.{Found, Idle, RunState, Running, Stopped}
 use Rattle.store_machine.specs.Needs.{keys_kept, values_read}

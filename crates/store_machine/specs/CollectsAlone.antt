@@ -17,9 +17,8 @@ use Rattle.store_model.specs.Slots.{last_id}
 use Rattle.store_model.specs.Steps.{FlushContainer, FreeContainer, StoreChange, changed}
 use Rattle.store_machine.specs.ByMap.{AfterOpening, ByMap, FileMachine, IsStill, Through}
 use Rattle.store_machine.specs.Collected.{Collected, HasContainer, HasIds}
-use Rattle.store_machine.specs.Collecting.{Makes, freed_in, ids_before, keys_written}
+use Rattle.store_machine.specs.Collecting.{Makes, MayBreak, freed_in, ids_before, keys_written}
 use Rattle.store_machine.specs.Commands.{Collect, EndsRefused, EndsWith, IsDone, IsEnded, MayGoOn, Replied, printed}
-use Rattle.store_machine.specs.Legal.{MayBreak}
 use Rattle.store_machine.specs.Lines.{AreDid}
 use Rattle.store_machine.specs.Machine.{Collection, Found, Running, Stepped, Stopped}
 use Rattle.store_machine.specs.Needs.{NamesNeed}

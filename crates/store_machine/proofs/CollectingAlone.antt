@@ -1,5 +1,5 @@
 -- The lines of a `collect` keep the names, choose by what they need, and give back only what they don't need.
-use Rattle.std.proofs.Common.{◌≡◌, ◌≢◌, ◌⊎◌, inl, inr, ℕ, zero, suc, List as ListOf, [], ◌∷◌, ◌++◌, length, Some, None, Result, Ok, Err, refl, sym, ◌∙◌, ap, subst}
+use Rattle.std.proofs.Common.{◌≡◌, ◌≢◌, ◌⊎◌, inl, inr, ℕ, zero, suc, List as ListOf, [], ◌∷◌, ◌++◌, length, Contains, Some, None, Result, Ok, Err, refl, sym, ◌∙◌, ap, subst}
 use Rattle.std.specs.FinMap as finite
 use Rattle.refusals.specs.declared.refusal.Phase.TheVariants as phases
 use Rattle.refusals.specs.declared.refusal.Refusal.{Refusal}
@@ -34,6 +34,7 @@ use Rattle.store_machine.proofs.Passing.{sure_found}
 use Rattle.store_machine.proofs.Quiet.{IsSure, running_sure}
 use Rattle.store_machine.proofs.Stepwise.{At, Desks, Fresh, IsFailure, NotOpened, Over, Step, WasOpened, ends_from, ends_over, ends_so, lines_after, no_actor, not_barred, one_step, opened_store, unopened_ends, unopened_found, unopened_printed, unopened_refusal, unopened_store, unopened_undone}
 use Rattle.store_machine.proofs.SweptAlone.{C, ByStage, Under, all_went, has_chosen, opened_ids, same_some}
+use Rattle.store_machine.proofs.Swept.{none_filled, none_in}
 
 -- steps that went on are between the beginning of a collection and its end
 did_between : (made : ListOf Step) → AreDid of_files made → AreBetween made
@@ -110,7 +111,7 @@ module _ (percent : ℕ) (start : FileMachine) (opened : Store) where
   runs_so reply n changes sweeps runs other = record { changes = changes; sweeps = sweeps; runs = λ _. runs; broke = λ is. absurd (other is) }
 
   none_swept : (n : FileMachine) → n.store ≡ opened → Sweeps start.now [] opened n.store
-  none_swept n is = record { each = tt; makes = is; spares = tt }
+  none_swept n is = record { each = tt; makes = is; keeps = tt }
 
   pub begun : (files : ℕ) (d : Desks) → At start.now opened Idle d → Fresh start d
       → After (replies.Opened files) (text_of (Collect percent) [] lines.Reopen (replies.Opened files)) d
@@ -187,6 +188,7 @@ module _ (percent : ℕ) (start : FileMachine) (opened : Store) where
                   keys_are = ap keys_kept fresh.idle;
                   records = tt;
                   stage = begins_at opened (new_collection percent snapshot d.machine) (marks_of d.machine.store.held) refl;
+                  filled = λ key has. absurd (none_in key (subst (λ (ks : ListOf (ListOf ℕ)). Contains ks key) (none_filled (marks_of d.machine.store.held)) has));
                 };
               };
             },

@@ -1,5 +1,5 @@
 -- The lines of a `collect` keep the names, choose by what they need, and give back only what they don't need.
-use Rattle.std.proofs.Common.{◌≡◌, ◌≢◌, ◌⊎◌, inl, inr, ℕ, zero, suc, List as ListOf, [], ◌∷◌, ◌++◌, length, Some, None, Result, Ok, Err, refl, sym, ◌∙◌, ap, subst}
+use Rattle.std.proofs.Common.{◌≡◌, ◌≢◌, ◌⊎◌, inl, inr, ℕ, zero, suc, List as ListOf, [], ◌∷◌, ◌++◌, length, Contains, Some, None, Result, Ok, Err, refl, sym, ◌∙◌, ap, subst}
 use Rattle.std.specs.FinMap as finite
 use Rattle.refusals.specs.declared.refusal.Phase.TheVariants as phases
 use Rattle.refusals.specs.declared.refusal.Refusal.{Refusal}
@@ -16,7 +16,7 @@ use Rattle.store_machine.specs.Asked.{Asked}
 use Rattle.store_machine.specs.Asked as asked
 use Rattle.store_machine.specs.ByMap.{FileMachine}
 use Rattle.store_machine.specs.Collected.{AreBetween, HasIds}
-use Rattle.store_machine.specs.Collecting.{Ends as EndsCollection, IsCollecting, freed_in, keys_written, marking, marks_of, MayBreak}
+use Rattle.store_machine.specs.Collecting.{Ends as EndsCollection, IsCollecting, freed_in, keys_written, marking, marks_of}
 use Rattle.store_machine.specs.CollectsAlone.{CollectRefusal, CollectedAlone, CollectsByMap, HasSwept, Sweeps, SweptSoFar}
 use Rattle.store_machine.specs.Commands.{Collect, Follows, IsDone, Replied, text_of}
 use Rattle.store_machine.specs.Done.{Done}
@@ -34,6 +34,7 @@ use Rattle.store_machine.proofs.Passing.{sure_found}
 use Rattle.store_machine.proofs.Quiet.{IsSure, running_sure}
 use Rattle.store_machine.proofs.Stepwise.{At, Desks, Fresh, IsFailure, NotOpened, Over, Step, WasOpened, ends_from, ends_over, ends_so, lines_after, no_actor, not_barred, one_step, opened_store, unopened_ends, unopened_found, unopened_printed, unopened_refusal, unopened_store, unopened_undone}
 use Rattle.store_machine.proofs.SweptAlone.{C, ByStage, Under, all_went, has_chosen, opened_ids, same_some}
+use Rattle.store_machine.proofs.Swept.{none_filled, none_in}
 
 -- steps that went on are between the beginning of a collection and its end
 did_between : (made : ListOf Step) → AreDid of_files made → AreBetween made
@@ -93,7 +94,7 @@ module _ (percent : ℕ) (start : FileMachine) (opened : Store) where
     pub changes : ListOf StoreChange
     pub sweeps : Sweeps start.now changes opened n.store
     pub runs : (reply ≡ replies.Refused refusals.DiskWrite → ⊥) → n.state ≡ Running
-    pub broke : reply ≡ replies.Refused refusals.DiskWrite → (stores : ListOf Store) × (n.state ≡ Stopped None stores) × MayBreak of_files n stores
+    pub broke : reply ≡ replies.Refused refusals.DiskWrite → HasBroken n
 
   pub record After (reply : ReplyValue) (text : ListOf ℕ) (d : Desks) : Type 0 where
     pub same : d.machine.now ≡ start.now
@@ -110,7 +111,7 @@ module _ (percent : ℕ) (start : FileMachine) (opened : Store) where
   runs_so reply n changes sweeps runs other = record { changes = changes; sweeps = sweeps; runs = λ _. runs; broke = λ is. absurd (other is) }
 
   none_swept : (n : FileMachine) → n.store ≡ opened → Sweeps start.now [] opened n.store
-  none_swept n is = record { each = tt; makes = is; spares = tt }
+  none_swept n is = record { each = tt; makes = is; keeps = tt }
 
   pub begun : (files : ℕ) (d : Desks) → At start.now opened Idle d → Fresh start d
       → After (replies.Opened files) (text_of (Collect percent) [] lines.Reopen (replies.Opened files)) d
@@ -187,6 +188,7 @@ module _ (percent : ℕ) (start : FileMachine) (opened : Store) where
                   keys_are = ap keys_kept fresh.idle;
                   records = tt;
                   stage = begins_at opened (new_collection percent snapshot d.machine) (marks_of d.machine.store.held) refl;
+                  filled = λ key has. absurd (none_in key (subst (λ (ks : ListOf (ListOf ℕ)). Contains ks key) (none_filled (marks_of d.machine.store.held)) has));
                 };
               };
             },
@@ -287,7 +289,7 @@ module _ (percent : ℕ) (start : FileMachine) (opened : Store) where
             changes = u.c.changes;
             sweeps = subst (λ (x : FileMachine). Sweeps start.now u.c.changes opened x.store) (sym others) u.tied.sweeps;
             runs = λ not. absurd (not refl);
-            broke = λ _. (stores, ap (λ (x : FileMachine). x.state) others, subst (λ (x : FileMachine). MayBreak of_files x stores) (sym others) may);
+            broke = λ _. (k, stores, others, may);
           })
       refused_by (refusals.Corrupt slot offset count want got) is (at, (unknown, same)) = absurd (unknown tt)
       refused_by (refusals.Missing key) is (at, (unknown, same)) = absurd (unknown tt)

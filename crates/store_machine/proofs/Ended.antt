@@ -24,7 +24,7 @@ use Rattle.store_machine.specs.Runs.{Run}
 use Rattle.store_machine.specs.Values.{Values}
 use Rattle.store_machine.proofs.Beside.{SameStore, same_of, step_beside, step_state}
 use Rattle.store_machine.proofs.Running.{Since, Steps, chosen, copied_by, flushed, kept, marked, recorded_one, released, sealed, still}
-use Rattle.store_machine.proofs.Swept.{AtStage, SweepsSince, filled_at, none_in}
+use Rattle.store_machine.proofs.Swept.{AtStage, SweepsSince, filled_at, none_filled, none_in}
 
 abbrev IsGcStep : {V : Type 0} → Asked V → Type 0
 IsGcStep asked.GcStep = Unit {0}
@@ -219,10 +219,6 @@ module _ {V R : Type 0} (v : Values V R) where
         ),
       )
     where
-      none_filled : (left : ℕ) → filled_at (marking left) ≡ []
-      none_filled zero = refl
-      none_filled (suc left) = refl
-
       at_first : (c : Collection V) (left : ℕ) → AtStage c [] (marking left)
       at_first c zero = refl
       at_first c (suc left) = refl

@@ -22,7 +22,7 @@ use Rattle.store_machine.specs.Needs.{keys_of}
 use Rattle.store_machine.specs.Values.{Values}
 use Rattle.store_machine.proofs.Beside.{SameStore}
 use Rattle.store_machine.proofs.Since.{HoldsSince, less_since, one_since, same_since}
-use Rattle.store_machine.proofs.Swept.{Adds, in_tail, AtStage, SweepsSince, none_ready, by_more, ends_by, filled_at, freed_more, in_cases, none_in, once_both, takes_all, written_more}
+use Rattle.store_machine.proofs.Swept.{Adds, in_tail, AtStage, SweepsSince, none_ready, by_more, ends_by, filled_at, freed_more, in_cases, none_filled, none_in, once_both, takes_all, written_more}
 
 -- ---- words
 
@@ -194,10 +194,6 @@ module _ {V R : Type 0} where
         (subst (AtStage (record c { stage = w.stage; recorded = w.recorded }) since.gone) (sym next) (at_left left gone))
         words (none_taken (λ copying. subst IsCopying stage copying))
       where
-        none_filled : (l : ℕ) → filled_at (marking l) ≡ []
-        none_filled zero = refl
-        none_filled (suc l) = refl
-
         at_left : (l : ℕ) → since.gone ≡ [] → AtStage (record c { stage = w.stage; recorded = w.recorded }) since.gone (marking l)
         at_left zero gone = gone
         at_left (suc l) gone = gone
@@ -431,8 +427,8 @@ module _ {V R : Type 0} where
             → T' key ↔ (Contains (keys_written (c.changes ++ w.changes)) key ⊎ Contains (filled_at w.stage) key)
         keys_by s key written next t_is had kept = (to, from)
           where
-            none_filled : filled_at w.stage ≡ []
-            none_filled = ap filled_at next ∙ ap (λ (x : Sweep). x.filled) t_is
+            emptied : filled_at w.stage ≡ []
+            emptied = ap filled_at next ∙ ap (λ (x : Sweep). x.filled) t_is
 
             to : T' key → Contains (keys_written (c.changes ++ w.changes)) key ⊎ Contains (filled_at w.stage) key
             to one = inl (subst (λ (ks : List (List ℕ)). Contains ks key) (sym written)
@@ -441,7 +437,7 @@ module _ {V R : Type 0} where
 
             from : Contains (keys_written (c.changes ++ w.changes)) key ⊎ Contains (filled_at w.stage) key → T' key
             from (inl one) = kept.0 (had.1 (Contains-append_cases (keys_written c.changes) s.filled key (subst (λ (ks : List (List ℕ)). Contains ks key) written one)))
-            from (inr one) = absurd (none_in key (subst (λ (ks : List (List ℕ)). Contains ks key) none_filled one))
+            from (inr one) = absurd (none_in key (subst (λ (ks : List (List ℕ)). Contains ks key) emptied one))
 
         swept_now : (s t : Sweep) → t ≡ record s { filled = []; waiting = []; ready = s.waiting } → SweepsSince (sources_in c) since.gone phases.Flush s
             → SweepsSince (sources_in c) since.gone (next_of k.store.held (sources_in c) t) t

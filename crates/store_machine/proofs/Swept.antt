@@ -10,7 +10,7 @@ use Rattle.refusals.specs.declared.refusal.Phase.TheVariants as phases
 use Rattle.store_model.specs.Image.{Store}
 use Rattle.store_model.specs.Steps.{FlushContainer, FreeContainer, StoreChange}
 use Rattle.store_machine.specs.Collected.{EachOnce, IsWrittenBy}
-use Rattle.store_machine.specs.Collecting.{Gathered, TakesAll, TakesOne, freed_in, keys_written, next_by, sources_in}
+use Rattle.store_machine.specs.Collecting.{Gathered, TakesAll, TakesOne, freed_in, keys_written, marking, next_by, sources_in}
 use Rattle.store_machine.specs.Machine.{Collection, Stage, Marking, Recording, Sweeping, Sweep}
 use Rattle.store_machine.specs.Needs.{keys_of}
 use Rattle.store_machine.specs.Values.{Values}
@@ -116,6 +116,11 @@ module _ {V R : Type 0} (v : Values V R) (c : Collection V) (store : Store) (slo
 abbrev pub filled_at : Stage → List (List ℕ)
 filled_at (Sweeping next s) = s.filled
 filled_at stage = []
+
+-- nothing before the sweep
+pub none_filled : (left : ℕ) → filled_at (marking left) ≡ []
+none_filled zero = refl
+none_filled (suc left) = refl
 
 -- Of the sources so many came to their end, and each of these was given back, waits or is ready; some wait only where something is to be
 -- written. At the end nothing is to be done.

@@ -1,9 +1,11 @@
 -- A collection, no other step of which comes between: what it recorded and changed since the store was opened.
-use Rattle.std.proofs.Common.{◌≡◌, ◌≤◌, inl, inr, ℕ, zero, suc, List as ListOf, [], ◌∷◌, ◌++◌, Contains, slice_get, Option, Some, None, Result, Ok, sym, ◌∙◌, ap, subst, arith}
+use Rattle.std.proofs.Common.{◌≡◌, ◌≤◌, inl, inr, ⊎_elim, ℕ, zero, suc, List as ListOf, [], ◌∷◌, ◌++◌, Contains, slice_get, Option, Some, None, Result, Ok, sym, ◌∙◌, ap, subst, arith}
 use Rattle.std.specs.FinMap as finite
 use Rattle.std.specs.List.{AllByRecursion}
+use Rattle.std.proofs.lemmas.List.Elements.{Contains-push_cases}
 use Rattle.container_meta.specs.declared.entry.Entry.{Entry}
 use Rattle.container_meta.specs.declared.kind.Kind.{Kind}
+use Rattle.container_meta.specs.Segments.{Segment, segment_key}
 use Rattle.container_meta.specs.Spelling.{HeaderValue}
 use Rattle.gc_select.specs.declared.liveness.ContainerLiveness.{ContainerLiveness}
 use Rattle.gc_select.specs.Selecting.{ids_of}
@@ -21,18 +23,18 @@ use Rattle.store_machine.specs.Asked.{Asked}
 use Rattle.store_machine.specs.Asked as asked
 use Rattle.store_machine.specs.ByMap.{FileMachine, MakesRoom}
 use Rattle.store_machine.specs.Collected.{HasContainer, HasIds}
-use Rattle.store_machine.specs.Collecting.{Goes, GoesOn, IsRecordOf, Makes, Went, ids_before, marking}
-use Rattle.store_machine.specs.CollectsAlone.{HasChosen, IsOfSweep, IsRecorded, Spares, Sweeps}
+use Rattle.store_machine.specs.Collecting.{Gathered, Goes, GoesOn, IsRecordOf, Makes, TakesAll, TakesOne, Went, ids_before, keys_written, marking}
+use Rattle.store_machine.specs.CollectsAlone.{HasChosen, IsNeededCopy, IsOfSweep, IsRecorded, KeepsNeeded, Sweeps}
 use Rattle.store_machine.specs.Done.{Done}
 use Rattle.store_machine.specs.Done as done
 use Rattle.store_machine.specs.Legal.{ByState, Legal}
 use Rattle.store_machine.specs.Lines.{AreDid}
 use Rattle.store_machine.specs.Machine.{Collection, Found, RunState, Running, Stage, Marking, Recording, Sweep, Sweeping}
-use Rattle.store_machine.specs.Needs.{IsNeeded, NamesNeed, NeededSince, OneNeeds}
+use Rattle.store_machine.specs.Needs.{HasCopy, IsNeeded, NamesNeed, NeededSince, OneNeeds, keys_of}
 use Rattle.store_machine.specs.Runs.{Run}
 use Rattle.store_machine.specs.Values.{of_files}
 use Rattle.store_machine.proofs.Stepwise.{Step}
-use Rattle.store_machine.proofs.Swept.{none_in}
+use Rattle.store_machine.proofs.Swept.{filled_at, head_of, in_tail, none_filled, none_in}
 
 abbrev pub C : Type 0
 C = Collection (ListOf ℕ)
@@ -43,12 +45,13 @@ makes_then : (xs ys : ListOf StoreChange) (s t u : Store) → Makes xs s t → M
 makes_then [] ys s t u first next = subst (λ (x : Store). Makes ys x u) first next
 makes_then (x ∷ xs) ys s t u (can, first) next = (can, makes_then xs ys (changed x s) t u first next)
 
-spares_then : (now : Found (ListOf ℕ)) (xs ys : ListOf StoreChange) (s t : Store) → Makes xs s t → Spares now xs s → Spares now ys t → Spares now (xs ++ ys) s
-spares_then now [] ys s t first spares next = subst (Spares now ys) first next
-spares_then now (FreeContainer slot ∷ xs) ys s t (can, first) (spare, spares) next = (spare, spares_then now xs ys (changed (FreeContainer slot) s) t first spares next)
-spares_then now (SealContainer id kind segments ∷ xs) ys s t (can, first) spares next = spares_then now xs ys (changed (SealContainer id kind segments) s) t first spares next
-spares_then now (ChangeName name change ∷ xs) ys s t (can, first) spares next = spares_then now xs ys (changed (ChangeName name change) s) t first spares next
-spares_then now (FlushContainer id kind segments ∷ xs) ys s t (can, first) spares next = spares_then now xs ys (changed (FlushContainer id kind segments) s) t first spares next
+keeps_then : (now : Found (ListOf ℕ)) (xs ys : ListOf StoreChange) (s t : Store) → Makes xs s t → KeepsNeeded now xs s → KeepsNeeded now ys t → KeepsNeeded now (xs ++ ys) s
+keeps_then now [] ys s t first keeps next = subst (KeepsNeeded now ys) first next
+keeps_then now (FreeContainer slot ∷ xs) ys s t (can, first) (one, keeps) next = (one, keeps_then now xs ys (changed (FreeContainer slot) s) t first keeps next)
+keeps_then now (FlushContainer id kind segments ∷ xs) ys s t (can, first) (one, keeps) next =
+    (one, keeps_then now xs ys (changed (FlushContainer id kind segments) s) t first keeps next)
+keeps_then now (SealContainer id kind segments ∷ xs) ys s t (can, first) keeps next = keeps_then now xs ys (changed (SealContainer id kind segments) s) t first keeps next
+keeps_then now (ChangeName name change ∷ xs) ys s t (can, first) keeps next = keeps_then now xs ys (changed (ChangeName name change) s) t first keeps next
 
 each_then : (xs ys : ListOf StoreChange) → AllByRecursion IsOfSweep xs → AllByRecursion IsOfSweep ys → AllByRecursion IsOfSweep (xs ++ ys)
 each_then [] ys first next = next
@@ -88,6 +91,11 @@ sums_same P Q to from held kind slot (e ∷ es) sum (inl ((needed, place), (rest
     inl ((to _ needed, place), (rest, is, sums_same P Q to from held kind slot es rest more))
 sums_same P Q to from held kind slot (e ∷ es) sum (inr (not, more)) = inr ((λ is. not (from _ is.0, is.1)), sums_same P Q to from held kind slot es sum more)
 
+-- what the collection takes as needed the names need
+names_need : (now : Found (ListOf ℕ)) (c : C) → c.values ≡ finite.values now.names → c.keys ≡ [] → (key : ListOf ℕ) → NeededSince of_files c key → NamesNeed of_files now key
+names_need now c values keys key (inl needs) = subst (λ (vs : ListOf (ListOf ℕ)). OneNeeds of_files vs key) values needs
+names_need now c values keys key (inr has) = absurd (none_in key (subst (λ (ks : ListOf (ListOf ℕ)). Contains ks key) keys has))
+
 recorded_of : (now : Found (ListOf ℕ)) (c : C) (store : Store) (r : ContainerLiveness) → c.values ≡ finite.values now.names → c.keys ≡ [] → IsRecordOf of_files c store r
     → IsRecorded now store r
 recorded_of now c store r values keys is = record {
@@ -97,13 +105,10 @@ recorded_of now c store r values keys is = record {
   id_is = is.id_is;
   kind_is = is.kind_is;
   all_is = is.all_is;
-  live_is = sums_same (NeededSince of_files c) (NamesNeed of_files now) to from store.held is.header.kind is.slot is.header.entries r.live (is.live_is tt);
+  live_is = sums_same (NeededSince of_files c) (NamesNeed of_files now) (names_need now c values keys) from store.held is.header.kind is.slot is.header.entries r.live
+      (is.live_is tt);
 }
   where
-    to : (key : ListOf ℕ) → NeededSince of_files c key → NamesNeed of_files now key
-    to key (inl needs) = subst (λ (vs : ListOf (ListOf ℕ)). OneNeeds of_files vs key) values needs
-    to key (inr has) = absurd (none_in key (subst (λ (ks : ListOf (ListOf ℕ)). Contains ks key) keys has))
-
     from : (key : ListOf ℕ) → NamesNeed of_files now key → NeededSince of_files c key
     from key needs = inl (subst (λ (vs : ListOf (ListOf ℕ)). OneNeeds of_files vs key) (sym values) needs)
 
@@ -127,6 +132,7 @@ pub record Tied (percent : ℕ) (now : Found (ListOf ℕ)) (opened store : Store
   pub keys_are : c.keys ≡ []
   pub records : AllByRecursion (IsRecorded now opened) c.recorded
   pub stage : ByStage opened c c.stage
+  pub filled : (key : ListOf ℕ) → Contains (filled_at c.stage) key → NamesNeed of_files now key
 
 pub record Under (percent : ℕ) (now : Found (ListOf ℕ)) (opened : Store) (m : FileMachine) : Type 0 where
   pub same : m.now ≡ now
@@ -157,18 +163,77 @@ module _ (percent : ℕ) (now : Found (ListOf ℕ)) (opened : Store) (m : FileMa
     none = λ key copy needs. spare.none key copy (inl (subst (λ (f : Found (ListOf ℕ)). NamesNeed of_files f key) (sym same) needs));
   }
 
-  none_spared : (w : Went) → w.changes ≡ [] → Spares now w.changes m.store
-  none_spared w none = subst (λ (xs : ListOf StoreChange). Spares now xs m.store) (sym none) tt
+  abbrev Needed : ListOf ℕ → Type 0
+  Needed key = NamesNeed of_files now key
 
-  spared : (phase : Phase) (w : Went) → Goes of_files phase c m w → Spares now w.changes m.store
-  spared phases.Mark w (left, was, is, (recorded, none, forgotten)) = none_spared w none
-  spared phases.Filter w goes = none_spared w goes.4
-  spared phases.Select w (was, all, is, (recorded, none, forgotten)) = none_spared w none
-  spared phases.Copy w goes = none_spared w goes.6
-  spared phases.Flush w goes = subst (λ (xs : ListOf StoreChange). Spares now xs m.store) (sym goes.5) tt
-  spared phases.Release w (s, t, id, slot, rest, was, ready, one, header, t_is, is, recorded, forgotten, spare) =
-      subst (λ (xs : ListOf StoreChange). Spares now xs m.store) (sym one) (fewer slot (spare tt), tt)
-  spared phase w goes = absurd goes
+  -- what is to be written is needed
+  was_filled : (next : Phase) (s : Sweep) → c.stage ≡ Sweeping next s → (key : ListOf ℕ) → Contains s.filled key → Needed key
+  was_filled next s at key is = tied.filled key (subst (λ (st : Stage). Contains (filled_at st) key) (sym at) is)
+
+  none_kept : (w : Went) → w.changes ≡ [] → KeepsNeeded now w.changes m.store
+  none_kept w none = subst (λ (xs : ListOf StoreChange). KeepsNeeded now xs m.store) (sym none) tt
+
+  -- copies of what was filled
+  all_copies : (kind : Kind) (xs : ListOf Segment) → ((key : ListOf ℕ) → Contains (keys_of kind xs) key → Needed key)
+      → AllByRecursion (λ x. ¬ (Contains (keys_written c.changes) (segment_key kind x)) × HasCopy m.store (record { kind = kind; segment = x })) xs
+      → AllByRecursion (IsNeededCopy now m.store kind) xs
+  all_copies kind [] needs all = tt
+  all_copies kind (x ∷ xs) needs (one, all) = (
+    (needs (segment_key kind x) (head_of (segment_key kind x) (keys_of kind xs)), one.1),
+    all_copies kind xs (λ key is. needs key (in_tail (segment_key kind x) (keys_of kind xs) key is)) all,
+  )
+
+  kept : (phase : Phase) (w : Went) → Goes of_files phase c m w → KeepsNeeded now w.changes m.store
+  kept phases.Mark w (left, was, is, (recorded, none, forgotten)) = none_kept w none
+  kept phases.Filter w goes = none_kept w goes.4
+  kept phases.Select w (was, all, is, (recorded, none, forgotten)) = none_kept w none
+  kept phases.Copy w goes = none_kept w goes.6
+  kept phases.Flush w (s, t, kind, segments, was, one, keys, t_is, is, recorded, forgotten, copies) =
+      subst (λ (xs : ListOf StoreChange). KeepsNeeded now xs m.store) (sym one) (
+        all_copies kind segments (λ key has. was_filled phases.Flush s was key (subst (λ (ks : ListOf (ListOf ℕ)). Contains ks key) keys has))
+            (copies tt),
+        tt,
+      )
+  kept phases.Release w (s, t, id, slot, rest, was, ready, one, header, t_is, is, recorded, forgotten, spare) =
+      subst (λ (xs : ListOf StoreChange). KeepsNeeded now xs m.store) (sym one) (fewer slot (spare tt), tt)
+  kept phase w goes = absurd goes
+
+  -- ---- what is to be written then
+
+  nothing : (w : Went) → filled_at w.stage ≡ [] → (key : ListOf ℕ) → Contains (filled_at w.stage) key → Needed key
+  nothing w none key has = absurd (none_in key (subst (λ (ks : ListOf (ListOf ℕ)). Contains ks key) none has))
+
+  module _ (slot : ℕ) (kind : Kind) where
+    takes_one : (e : Entry) (g after : Gathered) → TakesOne of_files c m.store slot kind e g after → ((key : ListOf ℕ) → Contains g.filled key → Needed key)
+        → (key : ListOf ℕ) → Contains after.filled key → Needed key
+    takes_one e g after (inl (other, is)) needs key has = needs key (subst (λ (x : Gathered). Contains x.filled key) is has)
+    takes_one e g after (inr (copy, inl (dead, is))) needs key has = needs key (subst (λ (x : Gathered). Contains x.filled key) is has)
+    takes_one e g after (inr (copy, inr (needed, inl (there, is)))) needs key has = needs key (subst (λ (x : Gathered). Contains x.filled key) is has)
+    takes_one e g after (inr (copy, inr (needed, inr (new, room, is)))) needs key has = ⊎_elim (λ was. needs key was)
+        (λ one. subst Needed one (names_need now c tied.values_are tied.keys_are _ needed))
+        (Contains-push_cases g.filled _ key (subst (λ (x : Gathered). Contains x.filled key) is has))
+
+    takes_all : (es : ListOf Entry) (g after : Gathered) → TakesAll of_files c m.store slot kind es g after → ((key : ListOf ℕ) → Contains g.filled key → Needed key)
+        → (key : ListOf ℕ) → Contains after.filled key → Needed key
+    takes_all [] g after is needs key has = needs key (subst (λ (x : Gathered). Contains x.filled key) is has)
+    takes_all (e ∷ es) g after (mid, one, rest) needs key has = takes_all es mid after rest (takes_one e g mid one needs) key has
+
+  filled_by : (w : Went) (next : Phase) (t : Sweep) → w.stage ≡ Sweeping next t → ((key : ListOf ℕ) → Contains t.filled key → Needed key) → (key : ListOf ℕ)
+      → Contains (filled_at w.stage) key → Needed key
+  filled_by w next t is needs key has = needs key (subst (λ (st : Stage). Contains (filled_at st) key) is has)
+
+  filled_so : (phase : Phase) (w : Went) → Goes of_files phase c m w → (key : ListOf ℕ) → Contains (filled_at w.stage) key → Needed key
+  filled_so phases.Mark w (left, was, is, (recorded, none, forgotten)) = nothing w (ap filled_at is ∙ none_filled left)
+  filled_so phases.Filter w goes = nothing w (ap filled_at goes.2)
+  filled_so phases.Select w (was, all, is, (recorded, none, forgotten)) = nothing w (ap filled_at is)
+  filled_so phases.Copy w (s, t, next, was, is, recorded, none, more, ready, grows, over, ends) =
+      let g = over tt in
+      filled_by w next t is (takes_all g.slot g.header.kind _ _ _ g.takes (was_filled phases.Copy s was))
+  filled_so phases.Flush w (s, t, kind, segments, was, one, keys, t_is, is, recorded, forgotten, copies) =
+      nothing w (ap filled_at is ∙ ap (λ (x : Sweep). x.filled) t_is)
+  filled_so phases.Release w (s, t, id, slot, rest, was, ready, one, header, t_is, is, recorded, forgotten, spare) =
+      filled_by w _ t is (λ key has. was_filled phases.Release s was key (subst (λ (x : Sweep). Contains x.filled key) t_is has))
+  filled_so phase w goes = absurd goes
 
   none_changed : (w : Went) → w.changes ≡ [] → AllByRecursion IsOfSweep w.changes
   none_changed w none = subst (AllByRecursion IsOfSweep) (sym none) tt
@@ -233,7 +298,7 @@ module _ (percent : ℕ) (now : Found (ListOf ℕ)) (opened : Store) (m : FileMa
         sweeps = record {
           each = each_then c.changes w.changes tied.sweeps.each (of_sweep phase w goes);
           makes = makes_then c.changes w.changes opened m.store store tied.sweeps.makes makes;
-          spares = spares_then now c.changes w.changes opened m.store tied.sweeps.makes tied.sweeps.spares (spared phase w goes);
+          keeps = keeps_then now c.changes w.changes opened m.store tied.sweeps.makes tied.sweeps.keeps (kept phase w goes);
         };
         percent_is = tied.percent_is;
         snapshot_is = tied.snapshot_is;
@@ -241,6 +306,7 @@ module _ (percent : ℕ) (now : Found (ListOf ℕ)) (opened : Store) (m : FileMa
         keys_are = tied.keys_are;
         records = so.0;
         stage = so.1;
+        filled = filled_so phase w goes;
       }
 
 module _ (percent : ℕ) (now : Found (ListOf ℕ)) (opened : Store) where

@@ -2,6 +2,8 @@
 -- back held nothing that they need.
 use Rattle.std.specs.Prelude.{◌≡◌, ◌⊎◌, ◌≤◌, ℕ, suc, List as ListOf, [], ◌∷◌, length, Some, None}
 use Rattle.std.specs.List.{AllByRecursion}
+use Rattle.container_meta.specs.declared.kind.Kind.{Kind}
+use Rattle.container_meta.specs.Segments.{Segment, segment_key}
 use Rattle.container_meta.specs.Spelling.{HeaderValue, bytes_of}
 use Rattle.disk_format.specs.declared.numbers.TheConstants.{LAST_ID}
 use Rattle.gc_select.specs.declared.liveness.ContainerLiveness.{ContainerLiveness}
@@ -20,20 +22,28 @@ use Rattle.store_machine.specs.Collected.{Collected, HasContainer, HasIds}
 use Rattle.store_machine.specs.Collecting.{Makes, MayBreak, freed_in, ids_before, keys_written}
 use Rattle.store_machine.specs.Commands.{Collect, EndsRefused, EndsWith, IsDone, IsEnded, MayGoOn, Replied, printed}
 use Rattle.store_machine.specs.Lines.{AreDid}
-use Rattle.store_machine.specs.Machine.{Collection, Found, Running, Stepped, Stopped}
-use Rattle.store_machine.specs.Needs.{NamesNeed}
+use Rattle.store_machine.specs.Machine.{Collection, Found, Running, Stepped, stopped}
+use Rattle.store_machine.specs.Needs.{HasCopy, NamesNeed}
 use Rattle.store_machine.specs.Opening.{MayBeFound}
 use Rattle.store_machine.specs.Runs.{Run}
 use Rattle.store_machine.specs.Values.{of_files}
 
 -- ---- what it changed
 
--- each container that is given back holds the newest copy of no key that the file of a name has, in its turn
-abbrev pub Spares : Found (ListOf ℕ) → ListOf StoreChange → Store → Type 0
-Spares now [] store = Unit {0}
-Spares now (FreeContainer slot ∷ more) store = IsSpare (NamesNeed of_files now) store.held slot
-    × Spares now more (changed (FreeContainer slot) store)
-Spares now (change ∷ more) store = Spares now more (changed change store)
+-- a copy of the newest copy of its key, which the file of a name has
+abbrev pub IsNeededCopy : Found (ListOf ℕ) → Store → Kind → Segment → Type 0
+IsNeededCopy now store kind x =
+    NamesNeed of_files now (segment_key kind x) × HasCopy store (record { kind = kind; segment = x })
+
+-- In its turn each container that is given back holds the newest copy of no key that the file of a name has; and each segment that is
+-- written is a copy of one that is needed.
+abbrev pub KeepsNeeded : Found (ListOf ℕ) → ListOf StoreChange → Store → Type 0
+KeepsNeeded now [] store = Unit {0}
+KeepsNeeded now (FreeContainer slot ∷ more) store = IsSpare (NamesNeed of_files now) store.held slot
+    × KeepsNeeded now more (changed (FreeContainer slot) store)
+KeepsNeeded now (FlushContainer id kind segments ∷ more) store = AllByRecursion (IsNeededCopy now store kind) segments
+    × KeepsNeeded now more (changed (FlushContainer id kind segments) store)
+KeepsNeeded now (change ∷ more) store = KeepsNeeded now more (changed change store)
 
 -- a change that a collection makes
 abbrev pub IsOfSweep : StoreChange → Type 0
@@ -45,7 +55,7 @@ IsOfSweep change = ⊥
 pub record Sweeps (now : Found (ListOf ℕ)) (changes : ListOf StoreChange) (opened store : Store) : Type 0 where
   pub each : AllByRecursion IsOfSweep changes
   pub makes : Makes changes opened store
-  pub spares : Spares now changes opened
+  pub keeps : KeepsNeeded now changes opened
 
 -- ---- what it chose
 
@@ -89,13 +99,17 @@ pub record HasSwept (percent freed copied : ℕ) (m n : FileMachine) (opened : S
   pub runs : n.state ≡ Running
   pub none_runs : n.collection ≡ None
 
+-- A write failed: the machine is stopped, by what the change that was due would have made of its store.
+abbrev pub HasBroken : FileMachine → Type 0
+HasBroken n = (before : FileMachine) × (stores : ListOf Store) × (n ≡ stopped None stores before) × MayBreak of_files before stores
+
 -- It came so far: this was changed until then; and only where a write failed the machine is stopped, by that store, or one that the change
 -- would have made.
 pub record SweptSoFar (rs : ListOf Replied) (m n : FileMachine) (opened : Store) : Type 0 where
   pub changes : ListOf StoreChange
   pub sweeps : Sweeps m.now changes opened n.store
   pub runs : (EndsRefused DiskWrite rs → ⊥) → n.state ≡ Running
-  pub broke : EndsRefused DiskWrite rs → (stores : ListOf Store) × (n.state ≡ Stopped None stores) × MayBreak of_files n stores
+  pub broke : EndsRefused DiskWrite rs → HasBroken n
 
 -- why one is refused: memory or the disk failed, or no id is left for copies
 abbrev pub CollectRefusal : FileMachine → Refusal → Type 0

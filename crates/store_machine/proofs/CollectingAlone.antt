@@ -17,7 +17,7 @@ use Rattle.store_machine.specs.Asked as asked
 use Rattle.store_machine.specs.ByMap.{FileMachine}
 use Rattle.store_machine.specs.Collected.{AreBetween, HasIds}
 use Rattle.store_machine.specs.Collecting.{Ends as EndsCollection, IsCollecting, freed_in, keys_written, marking, marks_of}
-use Rattle.store_machine.specs.CollectsAlone.{CollectRefusal, CollectedAlone, CollectsByMap, HasSwept, Sweeps, SweptSoFar}
+use Rattle.store_machine.specs.CollectsAlone.{CollectRefusal, CollectedAlone, CollectsByMap, HasBroken, HasSwept, Sweeps, SweptSoFar}
 use Rattle.store_machine.specs.Commands.{Collect, Follows, IsDone, Replied, text_of}
 use Rattle.store_machine.specs.Done.{Done}
 use Rattle.store_machine.specs.Done as done

@@ -34,7 +34,7 @@ use Rattle.store_machine.specs.Needs.{first_unkept, or_else}
 use Rattle.store_machine.specs.Opening.{Reopens}
 use Rattle.store_machine.specs.Runs.{Run}
 use Rattle.store_machine.specs.Values.{of_files}
-use Rattle.store_machine.proofs.IngestStore.{IsTurn, due_is_turn, stored_so}
+use Rattle.store_machine.proofs.IngestStore.{IsRefusal, IsTurn, due_is_turn, stored_so, unrefused}
 use Rattle.store_machine.proofs.Ingesting.{D, Gives, Next, Ready, Stage, Went, ingests_kept, next, opened_went, reply_by, run_one, run_parts, same_session}
 use Rattle.store_machine.proofs.Passing.{sure_found}
 use Rattle.store_machine.proofs.Quiet.{F, Step, answers, by_of, due_is_quiet, step_done, told_ok, turns_go}
@@ -101,30 +101,6 @@ unkept_one kind (s ∷ ss) pins key is = by (first_unpinned (record { kind = kin
     by None here same on = let rest = on same in (suc rest.0, rest.1, rest.2, rest.3)
 
 -- ---- what was refused
-
--- an answer is no refusal
-abbrev IsRefusal : ReplyValue → Type 0
-IsRefusal (replies.Refused refusal) = Unit {0}
-IsRefusal reply = ⊥
-
-unrefused : (a : ℕ) (answer : Done) → IsRefusal (reply_of a (Ok answer)) → ⊥
-unrefused a done.Begun is = is
-unrefused a done.Held is = is
-unrefused a done.Absent is = is
-unrefused a (done.Sealed id) is = is
-unrefused a (done.Committed sequence) is = is
-unrefused a done.Aborted is = is
-unrefused a (done.Opened count) is = is
-unrefused a (done.Bytes bytes) is = is
-unrefused a done.End is = is
-unrefused a done.Dropped is = is
-unrefused a (done.Deleted sequence) is = is
-unrefused a (done.Listed files) is = is
-unrefused a (done.Started snapshot) is = is
-unrefused a (done.Did phase) is = is
-unrefused a (done.Collected freed copied) is = is
-unrefused a (done.Counted files segments bytes used free) is = is
-unrefused a (done.Reopened files) is = is
 
 same_refusal : (a b : Refusal) → replies.Refused a ≡ replies.Refused b → a ≡ b
 same_refusal a b is = cc
@@ -539,7 +515,7 @@ ingests_by_map name (one ∷ more) ss m e runs (first, follow) (made, later, mid
     last = last_from one more
 
     by : given_after 0 one.line one.reply [] ≡ [] → Facts name m.now (given_by 0 [] more) last.line last.reply e
-        → AfterOpening (AddsIn name (given_by 0 [] more) (one ∷ more) e.machine) (one ∷ more) m e.machine → Ingested name given (one ∷ more) m e.machine
+        → AfterOpening (AddsIn name (given_by 0 [] more) (one ∷ more) m.now e.machine) (one ∷ more) m e.machine → Ingested name given (one ∷ more) m e.machine
     by given_is so stored =
         let facts : Facts name m.now given last.line last.reply e = subst (λ (g : List ℕ). Facts name m.now (given_by 0 g more) last.line last.reply e) (sym given_is) so in
         let kept = ingests_kept name (one ∷ more) ss m e runs (first, follow) (made, later, mid, is, line, ran) in
@@ -547,7 +523,7 @@ ingests_by_map name (one ∷ more) ss m e runs (first, follow) (made, later, mid
         record {
           ends = ends_over (Ingest name) one more facts.over;
           found = kept.found;
-          store = subst (λ (g : List ℕ). AfterOpening (AddsIn name (given_by 0 g more) (one ∷ more) e.machine) (one ∷ more) m e.machine) (sym given_is) stored;
+          store = subst (λ (g : List ℕ). AfterOpening (AddsIn name (given_by 0 g more) (one ∷ more) m.now e.machine) (one ∷ more) m e.machine) (sym given_is) stored;
           done = λ end.
               let d = kept.done end in
               (d.0, d.1, prints ∙ prints_done name given last.line last.reply (ends_so (λ one. IsDone (Ingest name) one.reply) one more end));

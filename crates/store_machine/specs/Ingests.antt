@@ -1,11 +1,12 @@
 -- What the lines of an `ingest` come to, in a run of the machine of files: what the plain map makes of it.
-use Rattle.std.specs.Prelude.{◌≡◌, ◌⊎◌, ◌<◌, ◌≤◌, ◌-◌, ◌^◌, ℕ, Bool, true, List, [], ◌++◌, length, is_some, slice_get, Some, None}
+use Rattle.std.specs.Prelude.{◌≡◌, ◌⊎◌, ◌<◌, ◌≤◌, ◌-◌, ◌^◌, ℕ, ◌∷◌, suc, Bool, true, List, [], ◌++◌, length, is_some, slice_get, Some, None}
 use Rattle.std.specs.FinMap as finite
 use Rattle.std.specs.List.{AllByRecursion}
 use Rattle.actor_parts.specs.declared.step.Answer.{Answer}
 use Rattle.actor_parts.specs.PinMap.{PinMap}
 use Rattle.actor_parts.specs.Segments.{first_unpinned}
-use Rattle.container_meta.specs.Segments.{KindSegment}
+use Rattle.container_meta.specs.declared.kind.Kind.{Kind}
+use Rattle.container_meta.specs.Segments.{KindSegment, Segment}
 use Rattle.disk_format.specs.Cells.{IsName}
 use Rattle.disk_format.specs.Cells.Change.{Put}
 use Rattle.disk_format.specs.declared.numbers.TheConstants.{LAST_ID, MOST_FILE, MOST_NAMES, RESERVE}
@@ -17,16 +18,16 @@ use Rattle.script_lines.specs.Grammar as lines
 use Rattle.store_model.specs.Image.{Store}
 use Rattle.store_model.specs.Refusals.{root_key}
 use Rattle.store_model.specs.Slots.{free_slots}
-use Rattle.store_model.specs.Steps.{SealContainer, StoreChange, with_change}
+use Rattle.store_model.specs.Steps.{SealContainer, StoreChange, with_change, with_sealed}
 use Rattle.store_model.specs.Trees.{root_of}
 use Rattle.store_machine.specs.Asked.{Asked}
 use Rattle.store_machine.specs.Asked as asked
 use Rattle.store_machine.specs.ByMap.{AfterOpening, FileMachine, IsStill}
 use Rattle.store_machine.specs.Collecting.{Makes}
 use Rattle.store_machine.specs.Commands.{AreLinesOf, EndsRefused, EndsWith, Ingest, IsDone, IsEnded, Lines, MayGoOn, Replied, desk, given_by, printed, run_of}
-use Rattle.store_machine.specs.Legal.{HasRoom, IsClash, IsKept, LacksNumbers, with_name}
+use Rattle.store_machine.specs.Legal.{broken_by, HasRoom, IsClash, IsKept, LacksNumbers, with_name}
 use Rattle.store_machine.specs.Lines.{Desk, IsDueStep}
-use Rattle.store_machine.specs.Machine.{Found, Running, Stepped, Writing, part_in}
+use Rattle.store_machine.specs.Machine.{Found, Running, Stepped, Stopped, Writing, part_in}
 use Rattle.store_machine.specs.Opening.{MayBeFound}
 use Rattle.store_machine.specs.Runs.{IsPassedFrom}
 use Rattle.store_machine.specs.Values.{of_files}
@@ -93,14 +94,24 @@ IsSealFor given (SealContainer id kind segments) =
     (part rest : List ℕ) × (given ≡ part ++ rest) × IsDueOf part (asked.Seal (record { kind = kind; segments = segments }))
 IsSealFor given change = ⊥
 
+-- A write failed: of such a container, which may be there; or of the name's record, so that it may be there, or a part of the checkpoint
+-- before it.
+abbrev pub IsBroken : (name given : List ℕ) → Found (List ℕ) → FileMachine → Type 0
+IsBroken name given now n = ((kind : Kind) × (segments : List Segment) × IsSealFor given (SealContainer (suc n.last_id) kind segments)
+    × (n.state ≡ Stopped None (with_sealed (suc n.last_id) kind segments n.store ∷ [])))
+    ⊎ (n.state ≡ Stopped (Some (with_name of_files name given now)) (broken_by of_files name (Put (root_of given)) n.store))
+
 -- Once the store was opened such containers were added, each where it could be, and then the name's record, where the last line was done.
-pub record AddsIn (name given : List ℕ) (rs : List Replied) (n : FileMachine) (opened : Store) : Type 0 where
+-- It runs, unless a write failed.
+pub record AddsIn (name given : List ℕ) (rs : List Replied) (now : Found (List ℕ)) (n : FileMachine) (opened : Store) : Type 0 where
   pub changes : List StoreChange
   pub after : Store
   pub seals : AllByRecursion (IsSealFor given) changes
   pub makes : Makes changes opened after
   pub done : EndsWith (λ one. IsDone (Ingest name) one.reply) rs → n.store ≡ with_change name (Put (root_of given)) after
   pub undone : (EndsWith (λ one. IsDone (Ingest name) one.reply) rs → ⊥) → n.store ≡ after
+  pub runs : (EndsRefused DiskWrite rs → ⊥) → n.state ≡ Running
+  pub broke : EndsRefused DiskWrite rs → IsBroken name given now n
 
 -- ---- at its end
 
@@ -109,7 +120,7 @@ pub record AddsIn (name given : List ℕ) (rs : List Replied) (n : FileMachine) 
 pub record Ingested (name given : List ℕ) (rs : List Replied) (m n : FileMachine) : Type 0 where
   pub ends : IsEnded (Ingest name) rs ⊎ MayGoOn (Ingest name) rs
   pub found : (x : Found (List ℕ)) → MayBeFound of_files n.state n.now x → (x ≡ m.now) ⊎ IsPut name given m.now x
-  pub store : AfterOpening (AddsIn name given rs n) rs m n
+  pub store : AfterOpening (AddsIn name given rs m.now n) rs m n
   pub done : EndsWith (λ one. IsDone (Ingest name) one.reply) rs
       → IsPut name given m.now n.now × (n.state ≡ Running) × (printed (Ingest name) given rs ≡ stored_line name (root_of given))
   pub undone : (EndsWith (λ one. IsDone (Ingest name) one.reply) rs → ⊥) → (n.now ≡ m.now) × (printed (Ingest name) given rs ≡ [])

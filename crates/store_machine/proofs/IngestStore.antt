@@ -266,7 +266,7 @@ module _ (opened : Store) where
         by_told k up (Ok answer) by adds due_is does = absurd (unrefused 0 answer (subst IsRefusal (sym reply_is ∙ by) tt))
         by_told k up (Err other) by adds due_is refuses = (other, by, k, adds, turn_leaves given k n up step other (due_is_turn t step due) due_is refuses)
 
-    -- by a reply that is no commit's
+    -- what a line leaves
     module _ (d mid : D) (ss : List Step) (reply : ReplyValue) (given : List ℕ) (ready : Ready now d) (run : Run of_files ss d.machine mid.machine)
         (adds : Adds opened given d.machine.store) where
       none_made : ss ≡ [] → mid.machine ≡ d.machine

@@ -8,7 +8,6 @@ use Rattle.container_meta.specs.declared.kind.Kind.{Kind}
 use Rattle.container_meta.specs.Segments.{KindSegment, Segment}
 use Rattle.disk_format.specs.Cells.{IsName}
 use Rattle.disk_format.specs.declared.numbers.TheConstants.{LAST_ID, MOST_FILE, MOST_NAMES, RESERVE}
-use Rattle.ingest_session.specs.declared.due.Due.TheVariants as dues
 use Rattle.refusals.specs.declared.refusal.PartKind.{PartKind}
 use Rattle.refusals.specs.declared.refusal.PartKind.TheVariants as kinds
 use Rattle.refusals.specs.declared.refusal.Refusal.{Refusal}
@@ -23,10 +22,11 @@ use Rattle.store_model.specs.Slots.{free_slots}
 use Rattle.store_model.specs.Trees.{root_of}
 use Rattle.store_machine.specs.Asked.{Asked}
 use Rattle.store_machine.specs.Asked as asked
+use Rattle.store_machine.specs.ByMap.{AfterOpening}
 use Rattle.store_machine.specs.Commands.{AllFollow, EndsRefused, EndsWith, Follows, Ingest, IsDone, IsPush, Lines, Replied, desk, given_after, given_by, last_of, printed, text_of}
 use Rattle.store_machine.specs.Done.{Done}
 use Rattle.store_machine.specs.Done as done
-use Rattle.store_machine.specs.Ingests.{IngestRefusal, Ingested, IngestsByMap, IsDueOf}
+use Rattle.store_machine.specs.Ingests.{AddsIn, IngestRefusal, Ingested, IngestsByMap, IsDueOf}
 use Rattle.store_machine.specs.Legal.{Answers, ByState, Does, HasRoom, IsClash, IsKept, LacksNumbers, Legal, Refuses, RefusesClaim, RefusesCommit, RefusesSeal}
 use Rattle.store_machine.specs.Lines.{AreTurns, Bars, Commits, Finishes, IsDueStep, Line, Pushes, Session, TurnsStop, actor_of, kind_at, kind_by, reply_of, session_of, step_of, takes}
 use Rattle.store_machine.specs.Machine.{Found, Part, Idle, RunState, Running, Stopped, Writing, kind_of, part_in}
@@ -34,6 +34,7 @@ use Rattle.store_machine.specs.Needs.{first_unkept, or_else}
 use Rattle.store_machine.specs.Opening.{Reopens}
 use Rattle.store_machine.specs.Runs.{Run}
 use Rattle.store_machine.specs.Values.{of_files}
+use Rattle.store_machine.proofs.IngestStore.{IsRefusal, IsTurn, due_is_turn, stored_so, unrefused}
 use Rattle.store_machine.proofs.Ingesting.{D, Gives, Next, Ready, Stage, Went, ingests_kept, next, opened_went, reply_by, run_one, run_parts, same_session}
 use Rattle.store_machine.proofs.Passing.{sure_found}
 use Rattle.store_machine.proofs.Quiet.{F, Step, answers, by_of, due_is_quiet, step_done, told_ok, turns_go}
@@ -65,19 +66,6 @@ stay_writes m n is w = record {
 }
 
 -- ---- turns
-
--- a claim or a seal
-abbrev IsTurn : Asked (List ℕ) → Type 0
-IsTurn (asked.Claim seg) = Unit {0}
-IsTurn (asked.Seal filled) = Unit {0}
-IsTurn step = ⊥
-
-due_is_turn : (s : Session) (step : Asked (List ℕ)) → IsDueStep of_files s step → IsTurn step
-due_is_turn s (asked.Claim seg) due = tt
-due_is_turn s (asked.Seal filled) due = tt
-due_is_turn s step (dues.Claim, is, asks) = absurd asks
-due_is_turn s step (dues.Seal kind, is, asks) = absurd asks
-due_is_turn s step (dues.Nothing, is, asks) = absurd asks
 
 turn_writes : (step : Asked (List ℕ)) (answer : Done) (m n : F) → IsTurn step → Writes m → Does of_files 0 step answer m n → Writes n
 turn_writes (asked.Claim seg) done.Held m n turn w does = put_writes m n _ w.some (ap (λ (x : F). x.parts) does.others)
@@ -113,30 +101,6 @@ unkept_one kind (s ∷ ss) pins key is = by (first_unpinned (record { kind = kin
     by None here same on = let rest = on same in (suc rest.0, rest.1, rest.2, rest.3)
 
 -- ---- what was refused
-
--- an answer is no refusal
-abbrev IsRefusal : ReplyValue → Type 0
-IsRefusal (replies.Refused refusal) = Unit {0}
-IsRefusal reply = ⊥
-
-unrefused : (a : ℕ) (answer : Done) → IsRefusal (reply_of a (Ok answer)) → ⊥
-unrefused a done.Begun is = is
-unrefused a done.Held is = is
-unrefused a done.Absent is = is
-unrefused a (done.Sealed id) is = is
-unrefused a (done.Committed sequence) is = is
-unrefused a done.Aborted is = is
-unrefused a (done.Opened count) is = is
-unrefused a (done.Bytes bytes) is = is
-unrefused a done.End is = is
-unrefused a done.Dropped is = is
-unrefused a (done.Deleted sequence) is = is
-unrefused a (done.Listed files) is = is
-unrefused a (done.Started snapshot) is = is
-unrefused a (done.Did phase) is = is
-unrefused a (done.Collected freed copied) is = is
-unrefused a (done.Counted files segments bytes used free) is = is
-unrefused a (done.Reopened files) is = is
 
 same_refusal : (a b : Refusal) → replies.Refused a ≡ replies.Refused b → a ≡ b
 same_refusal a b is = cc
@@ -527,6 +491,7 @@ ingests_by_map name [] ss m e runs lines_are ran =
     record {
       ends = inr tt;
       found = kept.found;
+      store = ap (λ (y : D). y.machine) ran.1;
       done = λ end. absurd (let wrong : None ≡ Some end.0 = end.1 in cc);
       undone = λ not. (kept.same not, refl);
       refused = λ refusal end. absurd (let wrong : None ≡ Some end.0 = end.1 in cc);
@@ -539,8 +504,9 @@ ingests_by_map name (one ∷ more) ss m e runs (first, follow) (made, later, mid
     let reply_is : one.reply ≡ reply_of 0 told = opened.1.0.1.2 ∙ reply_by a 0 told m mid.machine legal in
     let went = opened_went m mid made one.reply told runs reply_is legal opened.1.1 in
     let given_is : given_after 0 one.line one.reply [] ≡ [] = ap (λ (l : LineValue). given_after 0 l one.reply []) first in
-    let facts = opening_facts name m mid one.line one.reply (opened_by m mid one.reply told runs reply_is legal opened.1.1) in
-    by given_is (all_facts name m.now more one [] mid e later went facts follow ran)
+    let opens = opened_by m mid one.reply told runs reply_is legal opened.1.1 in
+    by given_is (all_facts name m.now more one [] mid e later went (opening_facts name m mid one.line one.reply opens) follow ran)
+    (stored_so name m one more mid e later [] went follow ran opens)
   where
     given : List ℕ
     given = given_by 0 [] (one ∷ more)
@@ -548,14 +514,16 @@ ingests_by_map name (one ∷ more) ss m e runs (first, follow) (made, later, mid
     last : Replied
     last = last_from one more
 
-    by : given_after 0 one.line one.reply [] ≡ [] → Facts name m.now (given_by 0 [] more) last.line last.reply e → Ingested name given (one ∷ more) m.now e.machine
-    by given_is so =
+    by : given_after 0 one.line one.reply [] ≡ [] → Facts name m.now (given_by 0 [] more) last.line last.reply e
+        → AfterOpening (AddsIn name (given_by 0 [] more) (one ∷ more) m.now e.machine) (one ∷ more) m e.machine → Ingested name given (one ∷ more) m e.machine
+    by given_is so stored =
         let facts : Facts name m.now given last.line last.reply e = subst (λ (g : List ℕ). Facts name m.now (given_by 0 g more) last.line last.reply e) (sym given_is) so in
         let kept = ingests_kept name (one ∷ more) ss m e runs (first, follow) (made, later, mid, is, line, ran) in
         let prints = prints_last name given one more follow in
         record {
           ends = ends_over (Ingest name) one more facts.over;
           found = kept.found;
+          store = subst (λ (g : List ℕ). AfterOpening (AddsIn name (given_by 0 g more) (one ∷ more) m.now e.machine) (one ∷ more) m e.machine) (sym given_is) stored;
           done = λ end.
               let d = kept.done end in
               (d.0, d.1, prints ∙ prints_done name given last.line last.reply (ends_so (λ one. IsDone (Ingest name) one.reply) one more end));

@@ -41,7 +41,7 @@ C = Collection (ListOf ℕ)
 
 -- ---- changes, one after the other
 
-makes_then : (xs ys : ListOf StoreChange) (s t u : Store) → Makes xs s t → Makes ys t u → Makes (xs ++ ys) s u
+pub makes_then : (xs ys : ListOf StoreChange) (s t u : Store) → Makes xs s t → Makes ys t u → Makes (xs ++ ys) s u
 makes_then [] ys s t u first next = subst (λ (x : Store). Makes ys x u) first next
 makes_then (x ∷ xs) ys s t u (can, first) next = (can, makes_then xs ys (changed x s) t u first next)
 

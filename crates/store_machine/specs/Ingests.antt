@@ -1,27 +1,33 @@
 -- What the lines of an `ingest` come to, in a run of the machine of files: what the plain map makes of it.
-use Rattle.std.specs.Prelude.{◌≡◌, ◌⊎◌, ◌<◌, ◌≤◌, ◌-◌, ◌^◌, ℕ, Bool, true, List, [], ◌++◌, length, is_some, slice_get, Some, None}
+use Rattle.std.specs.Prelude.{◌≡◌, ◌⊎◌, ◌<◌, ◌≤◌, ◌-◌, ◌^◌, ℕ, ◌∷◌, suc, Bool, true, List, [], ◌++◌, length, is_some, slice_get, Some, None}
 use Rattle.std.specs.FinMap as finite
+use Rattle.std.specs.List.{AllByRecursion}
 use Rattle.actor_parts.specs.declared.step.Answer.{Answer}
 use Rattle.actor_parts.specs.PinMap.{PinMap}
 use Rattle.actor_parts.specs.Segments.{first_unpinned}
-use Rattle.container_meta.specs.Segments.{KindSegment}
+use Rattle.container_meta.specs.declared.kind.Kind.{Kind}
+use Rattle.container_meta.specs.Segments.{KindSegment, Segment}
 use Rattle.disk_format.specs.Cells.{IsName}
+use Rattle.disk_format.specs.Cells.Change.{Put}
 use Rattle.disk_format.specs.declared.numbers.TheConstants.{LAST_ID, MOST_FILE, MOST_NAMES, RESERVE}
 use Rattle.refusals.specs.declared.refusal.Refusal.{Refusal}
 use Rattle.refusals.specs.declared.refusal.Refusal.TheVariants.{Memory, BadName, TooLong, TooMany, Full, Clash, Numbers, Unpinned, DiskRead, DiskWrite}
 use Rattle.reply_text.specs.Text.{stored_line}
 use Rattle.script_lines.specs.Grammar.{LineValue, pushed_bytes}
 use Rattle.script_lines.specs.Grammar as lines
+use Rattle.store_model.specs.Image.{Store}
 use Rattle.store_model.specs.Refusals.{root_key}
 use Rattle.store_model.specs.Slots.{free_slots}
+use Rattle.store_model.specs.Steps.{SealContainer, StoreChange, with_change, with_sealed}
 use Rattle.store_model.specs.Trees.{root_of}
 use Rattle.store_machine.specs.Asked.{Asked}
 use Rattle.store_machine.specs.Asked as asked
-use Rattle.store_machine.specs.ByMap.{FileMachine, IsStill}
+use Rattle.store_machine.specs.ByMap.{AfterOpening, FileMachine, IsStill}
+use Rattle.store_machine.specs.Collecting.{Makes}
 use Rattle.store_machine.specs.Commands.{AreLinesOf, EndsRefused, EndsWith, Ingest, IsDone, IsEnded, Lines, MayGoOn, Replied, desk, given_by, printed, run_of}
-use Rattle.store_machine.specs.Legal.{HasRoom, IsClash, IsKept, LacksNumbers, with_name}
+use Rattle.store_machine.specs.Legal.{broken_by, HasRoom, IsClash, IsKept, LacksNumbers, with_name}
 use Rattle.store_machine.specs.Lines.{Desk, IsDueStep}
-use Rattle.store_machine.specs.Machine.{Found, Running, Stepped, Writing, part_in}
+use Rattle.store_machine.specs.Machine.{Found, Running, Stepped, Stopped, Writing, part_in}
 use Rattle.store_machine.specs.Opening.{MayBeFound}
 use Rattle.store_machine.specs.Runs.{IsPassedFrom}
 use Rattle.store_machine.specs.Values.{of_files}
@@ -80,23 +86,51 @@ IngestRefusal name given now n line DiskRead = Unit {0}
 IngestRefusal name given now n line DiskWrite = Unit {0}
 IngestRefusal name given now n line refusal = ⊥
 
+-- ---- the store
+
+-- a container that was filled with segments of what was given by then, or with nodes over some, as their turn came
+abbrev pub IsSealFor : List ℕ → StoreChange → Type 0
+IsSealFor given (SealContainer id kind segments) =
+    (part rest : List ℕ) × (given ≡ part ++ rest) × IsDueOf part (asked.Seal (record { kind = kind; segments = segments }))
+IsSealFor given change = ⊥
+
+-- A write failed: of such a container, which may be there; or of the name's record, so that it may be there, or a part of the checkpoint
+-- before it.
+abbrev pub IsBroken : (name given : List ℕ) → Found (List ℕ) → FileMachine → Type 0
+IsBroken name given now n = ((kind : Kind) × (segments : List Segment) × IsSealFor given (SealContainer (suc n.last_id) kind segments)
+    × (n.state ≡ Stopped None (with_sealed (suc n.last_id) kind segments n.store ∷ [])))
+    ⊎ (n.state ≡ Stopped (Some (with_name of_files name given now)) (broken_by of_files name (Put (root_of given)) n.store))
+
+-- Once the store was opened such containers were added, each where it could be, and then the name's record, where the last line was done.
+-- It runs, unless a write failed.
+pub record AddsIn (name given : List ℕ) (rs : List Replied) (now : Found (List ℕ)) (n : FileMachine) (opened : Store) : Type 0 where
+  pub changes : List StoreChange
+  pub after : Store
+  pub seals : AllByRecursion (IsSealFor given) changes
+  pub makes : Makes changes opened after
+  pub done : EndsWith (λ one. IsDone (Ingest name) one.reply) rs → n.store ≡ with_change name (Put (root_of given)) after
+  pub undone : (EndsWith (λ one. IsDone (Ingest name) one.reply) rs → ⊥) → n.store ≡ after
+  pub runs : (EndsRefused DiskWrite rs → ⊥) → n.state ≡ Running
+  pub broke : EndsRefused DiskWrite rs → IsBroken name given now n
+
 -- ---- at its end
 
 -- It came to its end, or a line is to come. What may be found is what was, or the name has the file that was given; where the last line was
 -- done, it has, and its root is printed, and else nothing. Only a write that failed leaves a doubt.
-pub record Ingested (name given : List ℕ) (rs : List Replied) (now : Found (List ℕ)) (n : FileMachine) : Type 0 where
+pub record Ingested (name given : List ℕ) (rs : List Replied) (m n : FileMachine) : Type 0 where
   pub ends : IsEnded (Ingest name) rs ⊎ MayGoOn (Ingest name) rs
-  pub found : (x : Found (List ℕ)) → MayBeFound of_files n.state n.now x → (x ≡ now) ⊎ IsPut name given now x
+  pub found : (x : Found (List ℕ)) → MayBeFound of_files n.state n.now x → (x ≡ m.now) ⊎ IsPut name given m.now x
+  pub store : AfterOpening (AddsIn name given rs m.now n) rs m n
   pub done : EndsWith (λ one. IsDone (Ingest name) one.reply) rs
-      → IsPut name given now n.now × (n.state ≡ Running) × (printed (Ingest name) given rs ≡ stored_line name (root_of given))
-  pub undone : (EndsWith (λ one. IsDone (Ingest name) one.reply) rs → ⊥) → (n.now ≡ now) × (printed (Ingest name) given rs ≡ [])
-  pub refused : (refusal : Refusal) → (end : EndsRefused refusal rs) → IngestRefusal name given now n end.0.line refusal
-      × (((refusal ≡ DiskWrite) → ⊥) → (x : Found (List ℕ)) → MayBeFound of_files n.state n.now x → x ≡ now)
+      → IsPut name given m.now n.now × (n.state ≡ Running) × (printed (Ingest name) given rs ≡ stored_line name (root_of given))
+  pub undone : (EndsWith (λ one. IsDone (Ingest name) one.reply) rs → ⊥) → (n.now ≡ m.now) × (printed (Ingest name) given rs ≡ [])
+  pub refused : (refusal : Refusal) → (end : EndsRefused refusal rs) → IngestRefusal name given m.now n end.0.line refusal
+      × (((refusal ≡ DiskWrite) → ⊥) → (x : Found (List ℕ)) → MayBeFound of_files n.state n.now x → x ≡ m.now)
 
 abbrev pub IngestsByMap : Type 0
 IngestsByMap = (name : List ℕ) (rs : List Replied) (ss : List (Stepped (List ℕ))) (m : FileMachine) (e : Desk (List ℕ) (List (List ℕ)))
     → m.state ≡ Running → AreLinesOf (Ingest name) rs → Lines of_files rs ss (desk m) e
-    → Ingested name (given_by 0 [] rs) rs m.now e.machine
+    → Ingested name (given_by 0 [] rs) rs m e.machine
 
 -- ---- at each moment of their steps
 

@@ -24,8 +24,9 @@ pub fn steps_are_remembered()
 
 /// After the lines of an `ingest`, and whatever they were refused by, the names that may be found are those of before, or these with the
 /// file that was given under its name, which is good, and the file no longer than one may be; and so it is at each moment of their steps.
-/// Where the last line was done they are the latter, and the file's root is printed. Each refusal has its cause, and only a write that
-/// failed leaves a doubt. The lines came to an end, or one is to come, as in each of the laws below. The function does nothing.
+/// The store is what the opening left, with containers of the file. Where the last line was done the names are the latter, the store has
+/// the name's record, and the file's root is printed. Each refusal has its cause, and only a write that failed leaves a doubt. The lines
+/// came to an end, or one is to come, as in each of the laws below. The function does nothing.
 pub fn an_ingest_puts_its_file()
     ensures ended { IngestsByMap }
     ensures through { IngestsThrough }

@@ -176,7 +176,7 @@ module _ (opened : Store) where
       seal_leaves filled due refusals.DiskRead (slot, others) = stays given refusals.DiskRead m n runs tt others
       seal_leaves filled due (refusals.Clash key at) (slot, known, others) = stays given (refusals.Clash key at) m n runs tt others
       seal_leaves filled due (refusals.Corrupt at offset count want got) (slot, (unknown, others)) = absurd (unknown tt)
-      seal_leaves filled due refusals.DiskWrite (slot, others) = record {
+      seal_leaves filled due refusals.DiskWrite (slot, fits, others) = record {
         store = ap (λ (x : F). x.store) others;
         runs = λ not. absurd (not refl);
         broke = λ _. inl (

@@ -1,7 +1,9 @@
 -- A collection that runs in a core which is at the files of a machine: what it records, writes and gives back, by what the files need.
 use Rattle.std.proofs.Common.{◌≡◌, ℕ, ◌<◌, true, List, [], ◌∷◌, length, get_or, map, Contains, Some, refl, sym, ◌∙◌, ap, subst, arith}
 use Rattle.std.specs.List.{AllByRecursion}
+use Rattle.actor_parts.specs.Segments.{pin_by}
 use Rattle.container_meta.specs.declared.kind.Kind.{Kind}
+use Rattle.container_meta.specs.declared.kind.Kind.TheVariants as kinds
 use Rattle.container_meta.specs.Places.{PlaceMap}
 use Rattle.container_meta.specs.Segments.{Segment, has_key, segment_key}
 use Rattle.gc_select.specs.declared.liveness.ContainerLiveness.{ContainerLiveness}
@@ -32,6 +34,7 @@ use Rattle.store_core.specs.Runs.{IsAt, IsSafeIn}
 use Rattle.store_core.specs.State.{CoreState, IsUnderWayIn}
 use Rattle.store_core.proofs.AtStore.{AtStore, at_store}
 use Rattle.store_core.proofs.ByNeed.{sums_needed}
+use Rattle.store_core.proofs.KeepingSegments.{data_level}
 use Rattle.store_machine.specs.ByMap.{FileMachine}
 use Rattle.store_machine.specs.Collecting.{IsCopyOf, IsRecordOf, keys_written}
 use Rattle.store_machine.specs.Forgetting.{forget_collection}
@@ -164,11 +167,16 @@ module _ (S : List ℕ → Type 0) (m : FileMachine) (c : CoreState) (x : Collec
 
   -- ---- copies are written
 
+  level_in : (kind : Kind) (s : Segment) → (copied : IsCopied index_in k.live m.store.held image_in kind s) → copied.newest.copy.place.level ≡ (pin_by kind s).level
+  level_in kinds.Leaf s copied =
+      data_level S m.store m.now.names image_in (is_at.stands.each image_in (c.disk.as_read image_in content_in)) s copied.newest.copy copied.newest.copy_is
+  level_in kinds.Tree s copied = copied.newest.level_is
+
   pub copy_in : (kind : Kind) (s : Segment) → IsCopied index_in k.live m.store.held image_in kind s → HasCopy m.store (record { kind = kind; segment = s })
   copy_in kind s is = record {
     copy = is.newest.copy;
     copy_is = is.newest.copy_is;
-    level_is = is.newest.level_is;
+    level_is = level_in kind s is;
     length_is = sym (length_of_copy m.store image_in (segment_key kind s) is.newest.copy stands_in.stands.right is.newest.copy_is) ∙ ap length is.newest.bytes_are;
   }
 

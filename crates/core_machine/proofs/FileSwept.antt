@@ -57,7 +57,7 @@ use Rattle.core_machine.specs.Collections.{SameRun}
 use Rattle.core_machine.specs.Written.{IsWritten, WroteOnce}
 use Rattle.core_machine.proofs.FileGc.{same_run}
 use Rattle.core_machine.proofs.FileSteps.{StepsTo}
-use Rattle.core_machine.proofs.FileWritten.{same_changes, wrote_still, written_then}
+use Rattle.core_machine.proofs.FileWritten.{SweepKept, same_sweep_kept, same_written, wrote_still, written_then}
 
 rest_same : {X : Type 0} (xs ys zs : List X) → xs ++ ys ≡ xs ++ zs → ys ≡ zs
 rest_same [] ys zs same = same
@@ -84,14 +84,11 @@ refused_same a m n refusal is = absurd is.1
 
 -- ---- a refusal
 
-same_rest : (b a : CoreCollection) → a ≡ b → (a.snapshot ≡ b.snapshot) × (a.sweep ≡ b.sweep)
-same_rest b a same = (ap (λ (z : CoreCollection). z.snapshot) same, ap (λ (z : CoreCollection). z.sweep) same)
-
 marks_rest : (known : Option PlaceMap) (old new : DiskView) (level slot : ℕ) (refusal : Refusal) (b a : CoreCollection) → KeepsMarks known old new level slot b a refusal
-    → (a.snapshot ≡ b.snapshot) × (a.sweep ≡ b.sweep)
-marks_rest known old new level slot refusals.Memory b a (inl same) = same_rest b a same
+    → SweepKept b a
+marks_rest known old new level slot refusals.Memory b a (inl same) = same_sweep_kept b a same
 marks_rest known old new level slot refusals.Memory b a (inr only) = (ap (λ (z : CoreCollection). z.snapshot) only.collection_is, ap (λ (z : CoreCollection). z.sweep) only.collection_is)
-marks_rest known old new level slot refusal b a same = same_rest b a same
+marks_rest known old new level slot refusal b a same = same_sweep_kept b a same
 
 module _ (C : Type 0) (state : C → CoreState) (among : ByteSet) (f : FileEvent) (old new : C) (m n : FileMachine) (r t : RootMachine) (to : StepsTo C state among f old new m n r t)
     (is : f.event.step ≡ steps.GcStep) (stays : (state new).stop ≡ None) where
@@ -278,22 +275,22 @@ module _ (C : Type 0) (state : C → CoreState) (among : ByteSet) (f : FileEvent
 
     -- a refusal leaves the core's snapshot and sweep
     rests : (stage : CoreStage) (next : Next) (refusal : Refusal) (b a : CoreCollection) → Keeps stage next (at_moment c b) (at_moment d a) refusal
-        → (a.snapshot ≡ b.snapshot) × (a.sweep ≡ b.sweep)
+        → SweepKept b a
     rests (core.Mark level slot) next refusal b a kept = marks_rest c.known c.disk d.disk level slot refusal b a kept.0
-    rests (core.Filter slot) next refusal b a kept = same_rest b a kept.0
-    rests core.Select next refusal b a kept = same_rest b a kept.0
-    rests core.Sweep (nexts.Copy source entry) refusal b a kept = same_rest b a kept.0
-    rests core.Sweep (nexts.Flush source entry) refusal b a kept = same_rest b a kept.0
-    rests core.Sweep (nexts.Release source entry) refusal b a kept = same_rest b a kept
-    rests core.Sweep nexts.End refusal b a kept = same_rest b a kept.0
+    rests (core.Filter slot) next refusal b a kept = same_sweep_kept b a kept.0
+    rests core.Select next refusal b a kept = same_sweep_kept b a kept.0
+    rests core.Sweep (nexts.Copy source entry) refusal b a kept = same_sweep_kept b a kept.0
+    rests core.Sweep (nexts.Flush source entry) refusal b a kept = same_sweep_kept b a kept.0
+    rests core.Sweep (nexts.Release source entry) refusal b a kept = same_sweep_kept b a kept
+    rests core.Sweep nexts.End refusal b a kept = same_sweep_kept b a kept.0
 
     refused_wrote : (refusal : Refusal) → IsNotMade refusal c d → Refuses of_files f.event.actor asked.GcStep refusal m n → WroteOnce n d
     refused_wrote refusal made_so may =
         let so = refused_same f.event.actor m n refusal may in
         let rest = rests made_so.before.stage made_so.before.sweep.next refusal made_so.before made_so.after made_so.kept in
-        wrote_still m n c d (λ slot h there. subst (λ (s : Store). slice_get s.held slot ≡ Some (Some h)) (sym so.0) there) (same_changes m n so.2)
-        (λ a runs. let now : made_so.after ≡ a = same_some made_so.after a d.collection made_so.runs runs in
-        (made_so.before, made_so.ran, ap (λ (z : CoreCollection). z.snapshot) (sym now) ∙ rest.0, ap (λ (z : CoreCollection). z.sweep) (sym now) ∙ rest.1)) wrote
+        wrote_still m n c d (λ slot h there. subst (λ (s : Store). slice_get s.held slot ≡ Some (Some h)) (sym so.0) there) (same_written m n so.2)
+        (λ x ran a runs. let now : a ≡ made_so.after = same_some a made_so.after d.collection runs made_so.runs in
+        (made_so.before, made_so.ran, subst (SweepKept made_so.before) (sym now) rest)) wrote
 
     ended_wrote : n.collection ≡ None → WroteOnce n d
     ended_wrote none y a ran runs key there = absurd (let wrong : None ≡ Some y = sym none ∙ ran in cc)

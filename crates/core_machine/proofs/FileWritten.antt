@@ -31,9 +31,9 @@ use Rattle.store_core.proofs.FinishedStores.{still_there}
 use Rattle.store_core.proofs.Frames.{first_with}
 use Rattle.store_machine.specs.Collecting.{keys_written}
 use Rattle.core_machine.specs.Sweeping.{changes_of}
-use Rattle.store_machine.specs.Machine.{Collection as MachineCollection}
+use Rattle.store_machine.specs.Machine.{Collection as MachineCollection, keeping}
+use Rattle.store_machine.proofs.Swept.{none_in}
 use Rattle.core_machine.specs.Written.{IsWritten, WroteOnce}
-use Rattle.store_core.specs.Collecting.{MarksIn}
 use Rattle.store_core.specs.State.{CoreState}
 use Rattle.store_machine.specs.ByMap.{FileMachine}
 use Rattle.gc_sweep.specs.declared.sweep.Sweep.{Sweep}
@@ -71,34 +71,45 @@ stands_written store after stand snapshot buffer key is = record {
   unfilled = is.unfilled;
 }
 
--- the changes of the machine's collection are those of before, and so are the core's snapshot and sweep
-abbrev pub ChangesKept : FileMachine → FileMachine → Type 0
-ChangesKept m n = (y : MachineCollection (List ℕ)) → n.collection ≡ Some y → (x : MachineCollection (List ℕ)) × (m.collection ≡ Some x) × (y.changes ≡ x.changes)
+-- Each key that the machine's collection wrote it had written before.
+abbrev pub KeepsWritten : FileMachine → FileMachine → Type 0
+KeepsWritten m n = (y : MachineCollection (List ℕ)) → n.collection ≡ Some y → (key : List ℕ) → Contains (keys_written y.changes) key
+    → (x : MachineCollection (List ℕ)) × (m.collection ≡ Some x) × Contains (keys_written x.changes) key
 
-abbrev pub SweepKept : Option Collection → Option Collection → Type 0
-SweepKept was now = (a : Collection) → now ≡ Some a → (b : Collection) × (was ≡ Some b) × (a.snapshot ≡ b.snapshot) × (a.sweep ≡ b.sweep)
+pub same_written : (m n : FileMachine) → n.collection ≡ m.collection → KeepsWritten m n
+same_written m n same y ran key there = (y, sym same ∙ ran, there)
 
-pub same_changes : (m n : FileMachine) → n.collection ≡ m.collection → ChangesKept m n
-same_changes m n same y ran = (y, sym same ∙ ran, refl)
+-- what it keeps changes none of it
+pub keeping_written : (keys : List (List ℕ)) (m n : FileMachine) → n.collection ≡ keeping keys m.collection → KeepsWritten m n
+keeping_written keys m n is y ran key there = by m.collection refl (sym is ∙ ran)
+  where
+    by : (o : Option (MachineCollection (List ℕ))) → m.collection ≡ o → keeping keys o ≡ Some y
+        → (x : MachineCollection (List ℕ)) × (m.collection ≡ Some x) × Contains (keys_written x.changes) key
+    by None none kept = absurd cc
+    by (Some x) some kept = (x, some, subst (λ (ch : List StoreChange). Contains (keys_written ch) key) (let same : y.changes ≡ x.changes = cc in same) there)
 
-pub same_sweep_kept : (was now : Option Collection) → now ≡ was → SweepKept was now
-same_sweep_kept was now same a runs = (a, sym same ∙ runs, refl, refl)
+-- so is one that has written nothing
+pub none_written : (m n : FileMachine) (x : MachineCollection (List ℕ)) → n.collection ≡ Some x → x.changes ≡ [] → KeepsWritten m n
+none_written m n x is none y ran key there =
+    let same : y.changes ≡ [] = ap (λ (z : MachineCollection (List ℕ)). z.changes) (let one : y ≡ x = let both : Some y ≡ Some x = sym ran ∙ is in cc in one) ∙ none in
+    absurd (none_in key (subst (λ (ch : List StoreChange). Contains (keys_written ch) key) same there))
 
-pub wrote_still : (m n : FileMachine) (c d : CoreState) → StandOn m.store n.store → ChangesKept m n → SweepKept c.collection d.collection → WroteOnce m c → WroteOnce n d
-wrote_still m n c d stand changes sweeps wrote y a ran runs key there =
-    let x = changes y ran in
-    let b = sweeps a runs in
-    subst (λ (s : Sweep). IsWritten n.store.held a.snapshot s.buffer key) (sym b.3)
-    (subst (λ (i : ℕ). IsWritten n.store.held i b.0.sweep.buffer key) (sym b.2)
-    (stands_written m.store n.store stand b.0.snapshot b.0.sweep.buffer key
-    (wrote x.0 b.0 x.1 b.1 key (subst (λ (ch : List StoreChange). Contains (keys_written ch) key) x.2 there))))
+-- the core's snapshot and sweep are those of before
+abbrev pub SweepKept : Collection → Collection → Type 0
+SweepKept b a = (a.snapshot ≡ b.snapshot) × (a.sweep ≡ b.sweep)
 
--- keys that become live change neither
-pub marked_kept : (P : List ℕ → Type 0) (was now : Option Collection) → MarksIn P was now → SweepKept was now
-marked_kept P None now none a runs = absurd (let wrong : None ≡ Some a = sym none ∙ runs in cc)
-marked_kept P (Some b) now marks a runs =
-    let same : record b { live = marks.0 } ≡ a = let both = sym marks.1.0 ∙ runs in cc in
-    (b, refl, ap (λ (z : Collection). z.snapshot) (sym same), ap (λ (z : Collection). z.sweep) (sym same))
+pub same_sweep_kept : (b a : Collection) → a ≡ b → SweepKept b a
+same_sweep_kept b a same = (ap (λ (z : Collection). z.snapshot) same, ap (λ (z : Collection). z.sweep) same)
+
+pub wrote_still : (m n : FileMachine) (c d : CoreState) → StandOn m.store n.store → KeepsWritten m n
+    → ((x : MachineCollection (List ℕ)) → m.collection ≡ Some x → (a : Collection) → d.collection ≡ Some a → (b : Collection) × (c.collection ≡ Some b) × SweepKept b a)
+    → WroteOnce m c → WroteOnce n d
+wrote_still m n c d stand written sweeps wrote y a ran runs key there =
+    let x = written y ran key there in
+    let b = sweeps x.0 x.1 a runs in
+    subst (λ (s : Sweep). IsWritten n.store.held a.snapshot s.buffer key) (sym b.2.1)
+    (subst (λ (i : ℕ). IsWritten n.store.held i b.0.sweep.buffer key) (sym b.2.0)
+    (stands_written m.store n.store stand b.0.snapshot b.0.sweep.buffer key (wrote x.0 b.0 x.1 b.1 key x.2)))
 
 -- ---- its own steps
 

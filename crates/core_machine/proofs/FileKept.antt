@@ -1,5 +1,5 @@
 -- A core that was at the files of a machine is at those of the machine that a step made of it, where the step is none of a collection.
-use Rattle.std.proofs.Common.{◌≡◌, ℕ, List, [], ◌∷◌, None, Result, Ok, Err, refl, sym, ◌∙◌, ap, subst}
+use Rattle.std.proofs.Common.{◌≡◌, ℕ, List, [], ◌∷◌, None, Some, Result, Ok, Err, refl, sym, ◌∙◌, ap, subst}
 use Rattle.disk_format.specs.Cells.{Root}
 use Rattle.actor_parts.specs.declared.step.Answer.{Answer}
 use Rattle.actor_parts.specs.declared.step.Answer.TheVariants as answers
@@ -21,24 +21,39 @@ use Rattle.store_machine.specs.ByMap.{FileMachine}
 use Rattle.store_machine.specs.Done.{Done}
 use Rattle.store_machine.specs.Done as done
 use Rattle.store_machine.specs.Legal.{Answers, ByState, Does, LegalBy, Refuses, RefusesClaim, RefusesCommit, RefusesDelete, RefusesOn, RefusesSeal}
-use Rattle.store_machine.specs.Machine.{RunState, Running}
+use Rattle.store_machine.specs.Machine.{Collection, RunState, Running, keeping}
 use Rattle.store_machine.specs.Remembering.{RootMachine}
 use Rattle.store_machine.specs.Values.{of_files}
 use Rattle.core_machine.specs.Files.{IsOfFile, file_step as file_stepped, stored_in}
 use Rattle.core_machine.specs.Refines.{answered_by, asked_as}
 use Rattle.core_machine.proofs.FileSteps.{StepsAt, StepsTo}
+use Rattle.core_machine.proofs.FileWritten.{KeepsWritten, keeping_written, none_written, same_written}
+use Rattle.container_meta.specs.Segments.{segment_key}
+use Rattle.store_machine.specs.Needs.{keys_of}
 
 -- ---- names and store are as they were
 
 record Stays (m n : FileMachine) : Type 0 where
   now : stored_in n.now ≡ stored_in m.now
   store : n.store ≡ m.store
+  written : KeepsWritten m n
 
-stays_of : (m n k : FileMachine) → n ≡ k → stored_in k.now ≡ stored_in m.now → k.store ≡ m.store → Stays m n
-stays_of m n k is now store = subst (Stays m) (sym is) (record { now = now; store = store })
+stays_but : (m n k : FileMachine) → n ≡ k → stored_in k.now ≡ stored_in m.now → k.store ≡ m.store → KeepsWritten m k → Stays m n
+stays_but m n k is now store written = subst (Stays m) (sym is) (record { now = now; store = store; written = written })
+
+-- it may keep keys more
+stays_keeping : (m n k : FileMachine) (keys : List (List ℕ)) → n ≡ k → stored_in k.now ≡ stored_in m.now → k.store ≡ m.store → k.collection ≡ keeping keys m.collection → Stays m n
+stays_keeping m n k keys is now store collection = stays_but m n k is now store (keeping_written keys m k collection)
+
+-- or begin one that has written nothing
+stays_begun : (m n k : FileMachine) (x : Collection (List ℕ)) → n ≡ k → stored_in k.now ≡ stored_in m.now → k.store ≡ m.store → k.collection ≡ Some x → x.changes ≡ [] → Stays m n
+stays_begun m n k x is now store collection none = stays_but m n k is now store (none_written m k x collection none)
+
+stays_of : (m n k : FileMachine) → n ≡ k → stored_in k.now ≡ stored_in m.now → k.store ≡ m.store → k.collection ≡ m.collection → Stays m n
+stays_of m n k is now store collection = stays_but m n k is now store (same_written m k collection)
 
 same : (m n : FileMachine) → n ≡ m → Stays m n
-same m n is = stays_of m n m is refl refl
+same m n is = stays_of m n m is refl refl refl
 
 claim_stays : (m n : FileMachine) (a : ℕ) (seg : _) (refusal : Refusal) → RefusesClaim of_files a seg refusal m n → Stays m n
 claim_stays m n a seg (refusals.Unpinned key) is = same m n is.1
@@ -56,7 +71,7 @@ seal_stays m n a filled refusals.Numbers is = same m n is.2
 seal_stays m n a filled refusals.DiskRead is = same m n is.1
 seal_stays m n a filled (refusals.Clash key at) is = same m n is.2
 seal_stays m n a filled (refusals.Corrupt slot offset count want got) is = same m n is.1.1
-seal_stays m n a filled refusals.DiskWrite is = stays_of m n _ is.2 refl refl
+seal_stays m n a filled refusals.DiskWrite is = stays_of m n _ is.2 refl refl refl
 seal_stays m n a filled refusal is = absurd is
 
 commit_stays : (m n : FileMachine) (a : ℕ) (name value : List ℕ) (refusal : Refusal) → RefusesCommit of_files a name value refusal m n → Stays m n
@@ -65,7 +80,7 @@ commit_stays m n a name value refusals.BadName is = same m n is.1
 commit_stays m n a name value refusals.TooMany is = same m n is.3
 commit_stays m n a name value (refusals.Unpinned key) is = same m n is.4
 commit_stays m n a name value refusals.Numbers is = same m n is.2
-commit_stays m n a name value refusals.DiskWrite is = stays_of m n _ is.4 refl refl
+commit_stays m n a name value refusals.DiskWrite is = stays_of m n _ is.4 refl refl refl
 commit_stays m n a name value refusal is = absurd is
 
 delete_stays : (m n : FileMachine) (name : List ℕ) (refusal : Refusal) → RefusesDelete of_files name refusal m n → Stays m n
@@ -73,7 +88,7 @@ delete_stays m n name refusals.Memory is = same m n is
 delete_stays m n name refusals.BadName is = same m n is.1
 delete_stays m n name refusals.NoFile is = same m n is.2
 delete_stays m n name refusals.Numbers is = same m n is.3
-delete_stays m n name refusals.DiskWrite is = stays_of m n _ is.3 refl refl
+delete_stays m n name refusals.DiskWrite is = stays_of m n _ is.3 refl refl refl
 delete_stays m n name refusal is = absurd is
 
 abbrev ask : List ℕ → StepValue → Asked (List ℕ)
@@ -88,7 +103,7 @@ on_stays m n a bytes (steps.OpenRead name) refusals.Memory other is = same m n i
 on_stays m n a bytes (steps.OpenRead name) refusals.BadName other is = same m n is.1
 on_stays m n a bytes (steps.OpenRead name) refusals.NoFile other is = same m n is.2
 on_stays m n a bytes (steps.OpenRead name) refusal other is = absurd is
-on_stays m n a bytes steps.ReadNext refusal other is = stays_of m n _ is.5 refl refl
+on_stays m n a bytes steps.ReadNext refusal other is = stays_of m n _ is.5 refl refl refl
 on_stays m n a bytes steps.ListNames refusals.Memory other is = same m n is
 on_stays m n a bytes steps.ListNames refusal other is = absurd is
 on_stays m n a bytes (steps.GcStart percent) refusals.Memory other is = same m n is.1
@@ -113,6 +128,8 @@ refused_stays m n a bytes step refusal other is = on_stays m n a bytes step refu
 pub record Comes (step : StepValue) (answer : Result Answer Refusal) (bytes : List ℕ) (m n : FileMachine) (t : Store) : Type 0 where
   pub store : t ≡ n.store
   pub now : stored_with step answer bytes (stored_in m.now) ≡ stored_in n.now
+  -- what the collection wrote it had written before
+  pub written : KeepsWritten m n
 
 module _ (m n : FileMachine) (a : ℕ) (bytes buf : List ℕ) (t : Store) where
   abbrev Goes : StepValue → Result Answer Refusal → Type 0
@@ -122,35 +139,37 @@ module _ (m n : FileMachine) (a : ℕ) (bytes buf : List ℕ) (t : Store) where
   stayed step answer none unchanged stays chain = record {
     store = subst (λ (c : List _). ChangesTo c m.store t) none chain ∙ sym stays.store;
     now = unchanged ∙ sym stays.now;
+    written = stays.written;
   }
 
   does : (step : StepValue) (answer : Answer) → IsNoGcStep step → IsOfFile step bytes → Answers of_files a (ask bytes step) (answered_by (Ok answer) buf) m n → Goes step (Ok answer)
-  does steps.Begin answers.Begun other of is chain = stayed steps.Begin (Ok answers.Begun) refl refl (stays_of m n _ is.1 refl refl) chain
+  does steps.Begin answers.Begun other of is chain = stayed steps.Begin (Ok answers.Begun) refl refl (stays_of m n _ is.1 refl refl refl) chain
   does steps.Begin answer other of is chain = absurd is
-  does (steps.Claim seg) answers.Held other of is chain = stayed (steps.Claim seg) (Ok answers.Held) refl refl (stays_of m n _ is.others refl refl) chain
+  does (steps.Claim seg) answers.Held other of is chain = stayed (steps.Claim seg) (Ok answers.Held) refl refl (stays_keeping m n _ (segment_key seg.kind seg.segment ∷ []) is.others refl refl refl) chain
   does (steps.Claim seg) answers.Absent other of is chain = stayed (steps.Claim seg) (Ok answers.Absent) refl refl (same m n is.2) chain
   does (steps.Claim seg) answer other of is chain = absurd is
-  does (steps.Seal filled) (answers.Sealed id) other of is chain = record { store = chain.1 ∙ sym (ap (λ (x : FileMachine). x.store) is.others); now = sym (ap (λ (x : FileMachine). stored_in x.now) is.others) }
+  does (steps.Seal filled) (answers.Sealed id) other of is chain = record { store = chain.1 ∙ sym (ap (λ (x : FileMachine). x.store) is.others); now = sym (ap (λ (x : FileMachine). stored_in x.now) is.others); written = keeping_written (keys_of filled.kind filled.segments) m n (ap (λ (x : FileMachine). x.collection) is.others) }
   does (steps.Seal filled) answer other of is chain = absurd is
   does (steps.Commit name root) (answers.Committed sequence) other of is chain = record {
     store = (subst (λ (r : Root). ChangesTo (changes_by (steps.Commit name r) (Ok (answers.Committed sequence))) m.store t) of.0 chain).1 ∙ sym (ap (λ (x : FileMachine). x.store) is.others);
     now = sym (ap (λ (x : FileMachine). stored_in x.now) is.others);
+    written = same_written m n (ap (λ (x : FileMachine). x.collection) is.others);
   }
   does (steps.Commit name root) answer other of is chain = absurd is
-  does steps.Abort answers.Aborted other of is chain = stayed steps.Abort (Ok answers.Aborted) refl refl (stays_of m n _ is.1 refl refl) chain
+  does steps.Abort answers.Aborted other of is chain = stayed steps.Abort (Ok answers.Aborted) refl refl (stays_of m n _ is.1 refl refl refl) chain
   does steps.Abort answer other of is chain = absurd is
-  does (steps.OpenRead name) (answers.Opened count) other of is chain = stayed (steps.OpenRead name) (Ok (answers.Opened count)) refl refl (stays_of m n _ is.2.5 refl refl) chain
+  does (steps.OpenRead name) (answers.Opened count) other of is chain = stayed (steps.OpenRead name) (Ok (answers.Opened count)) refl refl (stays_of m n _ is.2.5 refl refl refl) chain
   does (steps.OpenRead name) answer other of is chain = absurd is
-  does steps.ReadNext (answers.Bytes count) other of is chain = stayed steps.ReadNext (Ok (answers.Bytes count)) refl refl (stays_of m n _ is.5 refl refl) chain
+  does steps.ReadNext (answers.Bytes count) other of is chain = stayed steps.ReadNext (Ok (answers.Bytes count)) refl refl (stays_of m n _ is.5 refl refl refl) chain
   does steps.ReadNext answers.End other of is chain = stayed steps.ReadNext (Ok answers.End) refl refl (same m n is.4) chain
   does steps.ReadNext answer other of is chain = absurd is
-  does steps.EndRead answers.Dropped other of is chain = stayed steps.EndRead (Ok answers.Dropped) refl refl (stays_of m n _ is.1 refl refl) chain
+  does steps.EndRead answers.Dropped other of is chain = stayed steps.EndRead (Ok answers.Dropped) refl refl (stays_of m n _ is.1 refl refl refl) chain
   does steps.EndRead answer other of is chain = absurd is
-  does (steps.Delete name) (answers.Deleted sequence) other of is chain = record { store = chain.1 ∙ sym (ap (λ (x : FileMachine). x.store) is.others); now = sym (ap (λ (x : FileMachine). stored_in x.now) is.others) }
+  does (steps.Delete name) (answers.Deleted sequence) other of is chain = record { store = chain.1 ∙ sym (ap (λ (x : FileMachine). x.store) is.others); now = sym (ap (λ (x : FileMachine). stored_in x.now) is.others); written = same_written m n (ap (λ (x : FileMachine). x.collection) is.others) }
   does (steps.Delete name) answer other of is chain = absurd is
   does steps.ListNames (answers.Listed files) other of is chain = stayed steps.ListNames (Ok (answers.Listed files)) refl refl (same m n is.1) chain
   does steps.ListNames answer other of is chain = absurd is
-  does (steps.GcStart percent) (answers.Started snapshot) other of is chain = stayed (steps.GcStart percent) (Ok (answers.Started snapshot)) refl refl (stays_of m n _ is.2 refl refl) chain
+  does (steps.GcStart percent) (answers.Started snapshot) other of is chain = stayed (steps.GcStart percent) (Ok (answers.Started snapshot)) refl refl (stays_begun m n _ _ is.2 refl refl refl refl) chain
   does (steps.GcStart percent) answer other of is chain = absurd is
   does steps.GcStep answer other of is chain = absurd other
   does steps.Stat (answers.Stat files segments bytes used free) other of is chain = stayed steps.Stat (Ok (answers.Stat files segments bytes used free)) refl refl (same m n is.1) chain

@@ -51,9 +51,10 @@ use Rattle.store_core.specs.State.{CoreState}
 use Rattle.store_core.proofs.Leading.{Leads}
 use Rattle.store_core.proofs.OwnParts.{all_part}
 use Rattle.store_core.proofs.Sealing.{one_map}
+use Rattle.core_machine.specs.Files.{Takes}
+use Rattle.core_machine.proofs.Coming.{takes_at}
 use Rattle.plain_machine.specs.Machine.{Finished, Idle, Part, Reading, Writing}
-use Rattle.script_runner.specs.Follows.{FollowsPart, Gives, Takes}
-use Rattle.script_runner.proofs.Coming.{takes_at}
+use Rattle.script_runner.specs.Follows.{FollowsPart, Gives}
 
 -- ---- a segment that each image holds
 

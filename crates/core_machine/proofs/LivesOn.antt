@@ -167,7 +167,7 @@ copy_stays s t base image standing stand headers key copy is =
 -- ---- pins
 
 -- an actor that is at something is one that there is
-within_parts : (parts : List Part) (actor : ℕ) → (part_of parts actor ≡ Idle → ⊥) → actor < length parts
+pub within_parts : (parts : List Part) (actor : ℕ) → (part_of parts actor ≡ Idle → ⊥) → actor < length parts
 unfolding part_of
 within_parts [] actor some = absurd (some refl)
 within_parts (p ∷ ps) zero some = omega arith

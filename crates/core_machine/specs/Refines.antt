@@ -82,20 +82,24 @@ pub record IsMachine (followed : Bool) (m : Machine Root (List Top)) (c : CoreSt
 
 -- ---- steps and answers
 
+-- as the machine asks it, of a root that a commit is given as this value
+abbrev pub asked_as : {V : Type 0} → (Root → V) → StepValue → Asked V
+asked_as value steps.Begin = asked.Begin
+asked_as value steps.Abort = asked.Abort
+asked_as value (steps.OpenRead name) = asked.OpenRead name
+asked_as value steps.ReadNext = asked.ReadNext
+asked_as value steps.EndRead = asked.EndRead
+asked_as value (steps.Delete name) = asked.Delete name
+asked_as value (steps.Claim seg) = asked.Claim seg
+asked_as value (steps.Seal filled) = asked.Seal filled
+asked_as value (steps.Commit name root) = asked.Commit name (value root)
+asked_as value steps.ListNames = asked.ListNames
+asked_as value (steps.GcStart percent) = asked.GcStart percent
+asked_as value steps.GcStep = asked.GcStep
+asked_as value steps.Stat = asked.Stat
+
 abbrev pub asked_by : StepValue → Asked Root
-asked_by steps.Begin = asked.Begin
-asked_by steps.Abort = asked.Abort
-asked_by (steps.OpenRead name) = asked.OpenRead name
-asked_by steps.ReadNext = asked.ReadNext
-asked_by steps.EndRead = asked.EndRead
-asked_by (steps.Delete name) = asked.Delete name
-asked_by (steps.Claim seg) = asked.Claim seg
-asked_by (steps.Seal filled) = asked.Seal filled
-asked_by (steps.Commit name root) = asked.Commit name root
-asked_by steps.ListNames = asked.ListNames
-asked_by (steps.GcStart percent) = asked.GcStart percent
-asked_by steps.GcStep = asked.GcStep
-asked_by steps.Stat = asked.Stat
+asked_by step = asked_as (λ root. root) step
 
 abbrev pub answered_by : Result Answer Refusal → List ℕ → Result Done Refusal
 answered_by (Ok answers.Begun) buf = Ok done.Begun

@@ -1,0 +1,35 @@
+-- A step of a core that is at the files of a machine: what is known of it before its parts are proved.
+use Rattle.std.proofs.Common.{◌≡◌, true, None}
+use Rattle.store_model.specs.Collisions.{ByteSet, HasNoCollisions, IsIn}
+use Rattle.store_core.specs.Runs.{FileEvent, FileStep}
+use Rattle.store_core.specs.State.{CoreState, IsUp}
+use Rattle.store_machine.specs.ByMap.{FileMachine}
+use Rattle.store_machine.specs.Forgetting.{Forgets, forget_step}
+use Rattle.store_machine.specs.Legal.{Legal}
+use Rattle.store_machine.specs.Machine.{Running}
+use Rattle.store_machine.specs.Remembering.{RootMachine}
+use Rattle.store_machine.specs.Values.{of_files, of_roots}
+use Rattle.core_machine.specs.Files.{IsAtFiles, IsOfFile, file_step}
+use Rattle.core_machine.specs.Refines.{IsMachine}
+use Rattle.core_machine.specs.Sweeping.{NamesStep}
+
+-- The core runs, and is at the files of m, which forgets all but the roots as r does; it makes the step f, which r makes, too, and is t then.
+pub record StepsAt (C : Type 0) (state : C → CoreState) (among : ByteSet) (f : FileEvent) (old new : C) (m : FileMachine) (r t : RootMachine) : Type 0 where
+  pub apart : HasNoCollisions (IsIn among)
+  pub runs : m.state ≡ Running
+  pub goes : (state old).stop ≡ None
+  pub up : IsUp (state old)
+  pub forgets : Forgets m r
+  pub machine : IsMachine true r (state old)
+  pub at : IsAtFiles (IsIn among) m (state old)
+  pub of_file : IsOfFile f.event.step f.bytes
+  pub step : FileStep (IsIn among) f (state old) (state new)
+  pub legal : Legal of_roots (forget_step (file_step f)) r t
+  pub then : IsMachine true t (state new)
+  pub named : NamesStep f.event.step f.event.answer (state old) (state new) r t
+
+-- And n is what it makes of m.
+pub record StepsTo (C : Type 0) (state : C → CoreState) (among : ByteSet) (f : FileEvent) (old new : C) (m n : FileMachine) (r t : RootMachine) : Type 0 where
+  pub steps : StepsAt C state among f old new m r t
+  pub legal : Legal of_files (file_step f) m n
+  pub forgets : Forgets n t

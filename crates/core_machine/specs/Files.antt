@@ -1,6 +1,5 @@
 -- A core whose disk tells its content, and that stands for files, as the machine of files: what is so between them, and after each step.
-use Rattle.std.specs.Prelude.{◌≡◌, ◌≤◌, ℕ, true, List, [], ◌∷◌, length, map, Contains, Option, Some, None, Result, Ok, Err}
-use Rattle.std.specs.FinMap as finite
+use Rattle.std.specs.Prelude.{◌≡◌, ◌≤◌, ℕ, true, List, length, map, Some}
 use Rattle.std.specs.List.{AllByRecursion}
 use Rattle.base_model.specs.Known.{KnownWith}
 use Rattle.dd_disk.specs.View.{DiskView}
@@ -24,7 +23,6 @@ use Rattle.store_state.specs.Settled.{IsSettled}
 use Rattle.store_state.specs.Tables.{Represents}
 use Rattle.store_core.specs.Runs.{FileEvent, FileRun, FileStep, IsAt}
 use Rattle.store_core.specs.State.{CoreState, IsRunning}
-use Rattle.store_machine.specs.Asked.{Asked}
 use Rattle.store_machine.specs.ByMap.{FileMachine}
 use Rattle.store_machine.specs.Forgetting.{Forgets}
 use Rattle.store_machine.specs.Legal.{Legal}

@@ -14,6 +14,7 @@ use Rattle.store_core.specs.Core.{Effect, KeepsTables, Row, StopsAfter}
 use Rattle.store_core.specs.Runs.{IsNoGcStep}
 use Rattle.store_core.specs.State.{CoreState}
 use Rattle.store_core.proofs.RunningOn.{seal_kept}
+use Rattle.core_machine.proofs.PlainSteps.{IsPlainStep}
 use Rattle.plain_machine.specs.Machine.{Collecting, disturbed}
 use Rattle.plain_machine.specs.Turns.{last_by}
 

@@ -26,6 +26,7 @@ use Rattle.store_model.specs.Steps.{FlushContainer, FreeContainer}
 use Rattle.store_core.specs.State.{CoreState}
 use Rattle.store_core.proofs.CopiesOnce.{HoldsNewer, listed_found, listed_of, newer_on, not_old}
 use Rattle.store_core.proofs.Frames.{first_with}
+use Rattle.core_machine.proofs.LivesOn.{StandOn}
 use Rattle.plain_machine.specs.Machine.{Collecting}
 use Rattle.script_runner.specs.Follows.{IsWritten, WroteOnce}
 use Rattle.script_runner.proofs.PlainSteps.{GoesUnchanged}

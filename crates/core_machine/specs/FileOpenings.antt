@@ -1,5 +1,5 @@
 -- An opening, at first or again, of a disk that stands for files, as one of the machine of files.
-use Rattle.std.specs.Prelude.{◌≡◌, ℕ, List, Result, Ok, Err}
+use Rattle.std.specs.Prelude.{ℕ, Result, Ok, Err}
 use Rattle.std.specs.FinMap as finite
 use Rattle.dd_disk.specs.View.{DiskView}
 use Rattle.refusals.specs.declared.refusal.Refusal.{Refusal}
@@ -11,7 +11,6 @@ use Rattle.store_machine.specs.ByMap.{FileMachine}
 use Rattle.store_machine.specs.Done.{Done}
 use Rattle.store_machine.specs.Done as done
 use Rattle.store_machine.specs.Legal.{Legal}
-use Rattle.store_machine.specs.Opening.{GivesBackSome}
 use Rattle.store_machine.specs.Values.{of_files}
 use Rattle.core_machine.specs.Files.{IsFileMachine, StandsFor}
 

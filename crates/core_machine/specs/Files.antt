@@ -1,6 +1,5 @@
 -- A core whose disk tells its content, and that stands for files, as the machine of files: what is so between them, and after each step.
-use Rattle.std.specs.Prelude.{◌≡◌, ◌≤◌, ℕ, true, List, [], ◌∷◌, length, map, Contains, Option, Some, None, Result, Ok, Err}
-use Rattle.std.specs.FinMap as finite
+use Rattle.std.specs.Prelude.{◌≡◌, ◌≤◌, ℕ, true, List, length, map, Some}
 use Rattle.std.specs.List.{AllByRecursion}
 use Rattle.base_model.specs.Known.{KnownWith}
 use Rattle.dd_disk.specs.View.{DiskView}
@@ -24,7 +23,6 @@ use Rattle.store_state.specs.Settled.{IsSettled}
 use Rattle.store_state.specs.Tables.{Represents}
 use Rattle.store_core.specs.Runs.{FileEvent, FileRun, FileStep, IsAt}
 use Rattle.store_core.specs.State.{CoreState, IsRunning}
-use Rattle.store_machine.specs.Asked.{Asked}
 use Rattle.store_machine.specs.ByMap.{FileMachine}
 use Rattle.store_machine.specs.Forgetting.{Forgets}
 use Rattle.store_machine.specs.Legal.{Legal}
@@ -36,6 +34,7 @@ use Rattle.store_machine.specs.Runs.{Run}
 use Rattle.store_machine.specs.Values.{of_files}
 use Rattle.core_machine.specs.Lives.{LivesJust}
 use Rattle.core_machine.specs.Refines.{IsMachine, answered_by, asked_as}
+use Rattle.core_machine.specs.Written.{WroteOnce}
 
 -- the files that names have, with the last number
 abbrev pub stored_in : Found (List ℕ) → Stored
@@ -65,12 +64,13 @@ abbrev pub LivesByNeed : FileMachine → CoreState → Type 0
 LivesByNeed m c = (ran : MachineCollection (List ℕ)) (collection : Collection) → m.collection ≡ Some ran → c.collection ≡ Some collection
     → LivesJust (NeededSince of_files ran) m.store c collection
 
--- The core is at the machine's store, which is one of its files, on a settled disk.
+-- The core is at the machine's store, which is one of its files, on a settled disk; and what its collection wrote it writes no more.
 pub record IsAtFiles (S : List ℕ → Type 0) (m : FileMachine) (c : CoreState) : Type 0 where
   pub is_at : IsAt S m.store (stored_in m.now) c
   pub settled : IsSettled c.tables.slots c.disk
   pub reads : ReadsFiles m c
   pub lives : LivesByNeed m c
+  pub wrote : WroteOnce m c
 
 -- ---- one that is stopped
 

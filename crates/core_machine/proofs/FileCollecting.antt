@@ -190,7 +190,8 @@ module _ (S : List ℕ → Type 0) (m : FileMachine) (c : CoreState) (x : Collec
       by [] among all = tt
       by (s ∷ ss) among all = (
         (
-          (λ was. once (segment_key k.sweep.buffer.kind s) was (among (segment_key k.sweep.buffer.kind s) (listed_left (segment_key k.sweep.buffer.kind s ∷ []) (map (segment_key k.sweep.buffer.kind) ss) (segment_key k.sweep.buffer.kind s) (listed_one (segment_key k.sweep.buffer.kind s))))),
+          (λ was. let key = segment_key k.sweep.buffer.kind s in
+              once key was (among key (listed_left (key ∷ []) (map (segment_key k.sweep.buffer.kind) ss) key (listed_one key)))),
           copy_in k.sweep.buffer.kind s all.0,
         ),
         by ss (λ key has. among key (listed_right (segment_key k.sweep.buffer.kind s ∷ []) (map (segment_key k.sweep.buffer.kind) ss) key has)) all.1,
@@ -207,5 +208,6 @@ module _ (S : List ℕ → Type 0) (m : FileMachine) (c : CoreState) (x : Collec
 
   pub spare_in : k.stage ≡ core.Sweep → (source entry : ℕ) → k.sweep.next ≡ nexts.Release source entry → IsSpare (IsNeeded of_files m) m.store.held (slot_in_turn k.sweep)
   spare_in stage source entry next =
-      let turn = in_turn c.tables.held index_in m.store.held image_in k.live k.snapshot source entry k.sweep is_at.represents.slots_hold (sweeping_in stage) next (holds_in stage).1 in
+      let turn = in_turn c.tables.held index_in m.store.held image_in k.live k.snapshot source entry k.sweep is_at.represents.slots_hold (sweeping_in stage) next
+      (holds_in stage).1 in
       ready_is_spare (IsNeeded of_files m) index_in m.store (slot_in_turn k.sweep) turn.stands.header turn.stands.there stands_in.partial (needed_indexed stage) turn.none

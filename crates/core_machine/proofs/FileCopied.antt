@@ -47,7 +47,8 @@ at_drop zero es i = ap (slice_get es) (let is : i ≡ zero + i = omega arith in 
 at_drop (suc n) [] i = refl
 at_drop (suc n) (e ∷ es) i = at_drop n es i ∙ ap (slice_get (e ∷ es)) (let is : suc (n + i) ≡ suc n + i = omega arith in is)
 
-module _ (S : List ℕ → Type 0) (m : FileMachine) (c : CoreState) (x : Collection (List ℕ)) (k : CoreCollection) (r : RunsIn S m c x k) (stage : k.stage ≡ core.Sweep) (source entry : ℕ)
+module _ (S : List ℕ → Type 0) (m : FileMachine) (c : CoreState) (x : Collection (List ℕ)) (k : CoreCollection) (r : RunsIn S m c x k) (stage : k.stage ≡ core.Sweep)
+    (source entry : ℕ)
     (next_was : k.sweep.next ≡ nexts.Copy source entry) (k' : CoreSweep) (after_known : Option PlaceMap) (new : DiskView)
     (copies : CopiesSource c.tables.held k.live c.known after_known c.disk new source entry k.sweep k') where
   abbrev index : PlaceMap
@@ -106,8 +107,8 @@ module _ (S : List ℕ → Type 0) (m : FileMachine) (c : CoreState) (x : Collec
   follows : (others : List Entry) × Follow h.kind others (drop entry h.entries)
   follows = follow_from h.kind entry [] h.entries copies.plans.right.entries
 
-  begins : IsPlanned x m.store index c.known r.at.is_at.index_known k.live copies.slot h.kind (Shows c.disk new) (stands_in S m c x k r).partial m.forgotten r.told (lives_in S m c x k r).within
-      (live_in S m c x k r core.Sweep stage) follows.0 (planned copies.filling [])
+  begins : IsPlanned x m.store index c.known r.at.is_at.index_known k.live copies.slot h.kind (Shows c.disk new) (stands_in S m c x k r).partial m.forgotten r.told
+      (lives_in S m c x k r).within (live_in S m c x k r core.Sweep stage) follows.0 (planned copies.filling [])
   begins = record {
     kind_is = read.kind_is;
     counted = counted_filling m.store k.sweep.buffer copies.filling copies.kind copies.is_source.filling_is
@@ -115,11 +116,12 @@ module _ (S : List ℕ → Type 0) (m : FileMachine) (c : CoreState) (x : Collec
     came = λ key none. absurd (omega (arith, none.1));
   }
 
-  takes : TakesSo x m.store index c.known r.at.is_at.index_known k.live copies.slot h.kind (Shows c.disk new) (stands_in S m c x k r).partial m.forgotten r.told (lives_in S m c x k r).within
-      (live_in S m c x k r core.Sweep stage) (drop entry h.entries) (planned copies.filling []) (planned plan.buffer plan.dead.items) is.passed
+  takes : TakesSo x m.store index c.known r.at.is_at.index_known k.live copies.slot h.kind (Shows c.disk new) (stands_in S m c x k r).partial m.forgotten r.told
+      (lives_in S m c x k r).within (live_in S m c x k r core.Sweep stage) (drop entry h.entries) (planned copies.filling []) (planned plan.buffer plan.dead.items) is.passed
   takes =
-      takes_so x m.store index c.known r.at.is_at.index_known k.live copies.slot h.kind (Shows c.disk new) (stands_in S m c x k r).partial m.forgotten r.told (lives_in S m c x k r).within
-      (live_in S m c x k r core.Sweep stage) (drop entry h.entries) follows.0 (planned copies.filling []) (planned plan.buffer plan.dead.items) is.passed follows.1 begins is.takes
+      takes_so x m.store index c.known r.at.is_at.index_known k.live copies.slot h.kind (Shows c.disk new) (stands_in S m c x k r).partial m.forgotten r.told
+      (lives_in S m c x k r).within (live_in S m c x k r core.Sweep stage) (drop entry h.entries) follows.0 (planned copies.filling [])
+      (planned plan.buffer plan.dead.items) is.passed follows.1 begins is.takes
 
   -- ---- as the machine's sweeps have it
 

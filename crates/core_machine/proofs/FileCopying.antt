@@ -43,7 +43,8 @@ use Rattle.core_machine.specs.Refines.{TellsForgotten}
 
 -- ---- how many bytes are filled
 
-filled_more : (held : List (Option HeaderValue)) (keys : List (List ℕ)) (key : List ℕ) → bytes_filled held (keys ++ key ∷ []) ≡ bytes_filled held keys + length_of (newest 0 held key)
+filled_more : (held : List (Option HeaderValue)) (keys : List (List ℕ)) (key : List ℕ)
+    → bytes_filled held (keys ++ key ∷ []) ≡ bytes_filled held keys + length_of (newest 0 held key)
 filled_more held [] key = omega arith
 filled_more held (k ∷ ks) key = omega (arith, filled_more held ks key)
 
@@ -110,7 +111,8 @@ added_of e bytes = record { level = e.level; bytes = bytes }
 
 -- ---- a step over them
 
-module _ (x : Collection (List ℕ)) (store : Store) (index : PlaceMap) (known : Option PlaceMap) (known_is : known ≡ Some index) (live : LiveKeys) (slot : ℕ) (kind : Kind) (shown : (List ℕ → Type 0) → Type 0)
+module _ (x : Collection (List ℕ)) (store : Store) (index : PlaceMap) (known : Option PlaceMap) (known_is : known ≡ Some index) (live : LiveKeys)
+    (slot : ℕ) (kind : Kind) (shown : (List ℕ → Type 0) → Type 0)
     (partial : IsPartialIndexOf store.held index) (forgotten : List (List ℕ)) (told : TellsForgotten forgotten store.held index) (within : IsWithin (NeededSince of_files x) live)
     (all : (key : List ℕ) → NeededSince of_files x key → IsLive index live key) where
   abbrev s : Source
@@ -243,7 +245,8 @@ module _ (x : Collection (List ℕ)) (store : Store) (index : PlaceMap) (known :
             inr (
               lacks_key lacks,
               room_is store.held p.buffer is.counted e.length room,
-              ap (λ (ks : List (List ℕ)). gathering ks (forgotten ++ q.dead)) keys_now ∙ ap (λ (ks : List (List ℕ)). gathering (keys_of p.buffer ++ key ∷ []) (forgotten ++ ks)) none,
+              ap (λ (ks : List (List ℕ)). gathering ks (forgotten ++ q.dead)) keys_now
+                  ∙ ap (λ (ks : List (List ℕ)). gathering (keys_of p.buffer ++ key ∷ []) (forgotten ++ ks)) none,
             ),
           ),
         ),

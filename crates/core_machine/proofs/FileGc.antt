@@ -73,8 +73,8 @@ last_same (x ∷ xs) a b same = last_same xs a b (let is : xs ++ a ∷ [] ≡ xs
 
 -- ---- the collection of the machine of roots
 
-pub same_run : (t : SlotTable) (swept : Bool) (a : Option (Collection Root)) (b : Option CoreCollection) (c : Collection Root) (k : CoreCollection) → SameCollection t swept a b → a ≡ Some c
-    → b ≡ Some k → SameRun t swept c k
+pub same_run : (t : SlotTable) (swept : Bool) (a : Option (Collection Root)) (b : Option CoreCollection) (c : Collection Root) (k : CoreCollection)
+    → SameCollection t swept a b → a ≡ Some c → b ≡ Some k → SameRun t swept c k
 same_run t swept a b c k same is there = subst (SameCollection t swept (Some c)) there (subst (λ (o : Option (Collection Root)). SameCollection t swept o b) is same)
 
 -- its sweep, where that of the core is known
@@ -266,14 +266,15 @@ module _ (C : Type 0) (state : C → CoreState) (among : ByteSet) (f : FileEvent
 
       after_same : SameSweep d.tables.held t.swept (sources_in y) y.changes next after b'.sweep
       after_same =
-          same_sweep d.tables.held t.swept y b' (same_run d.tables.held t.swept t.collection d.collection y b' s.then.collection ran_then moves.core_runs) sweeps_then next after then_is
+          same_sweep d.tables.held t.swept y b' (same_run d.tables.held t.swept t.collection d.collection y b' s.then.collection ran_then moves.core_runs) sweeps_then next
+          after then_is
 
       pub copied : GoesOver of_files x m.store before after m.forgotten t.forgotten × IsReady x before after
       copied = (
-        over_so (IsIn among) m c x b here sweeps source entry next_was b'.sweep d.known d.disk copies before after next m.swept t.swept x.changes y.changes (sources_in y) d.tables.held
-            before_same after_same table t.forgotten now_is,
-        ready_so (IsIn among) m c x b here sweeps source entry next_was b'.sweep d.known d.disk copies before after next m.swept t.swept x.changes y.changes (sources_in y) d.tables.held
-            before_same after_same table t.forgotten now_is,
+        over_so (IsIn among) m c x b here sweeps source entry next_was b'.sweep d.known d.disk copies before after next m.swept t.swept x.changes y.changes
+            (sources_in y) d.tables.held before_same after_same table t.forgotten now_is,
+        ready_so (IsIn among) m c x b here sweeps source entry next_was b'.sweep d.known d.disk copies before after next m.swept t.swept x.changes y.changes
+            (sources_in y) d.tables.held before_same after_same table t.forgotten now_is,
       )
 
   did : (phase : Phase) → GoesOn phase c d → MovesAs phase c d r t → AddsToStep phase m t
@@ -296,8 +297,8 @@ module _ (C : Type 0) (state : C → CoreState) (among : ByteSet) (f : FileEvent
   IsWriting phases.Release = Unit {0}
   IsWriting phase = ⊥
 
-  broke_by : (x : Collection (List ℕ)) (k : CoreCollection) → m.collection ≡ Some x → c.collection ≡ Some k → (phase : Phase) → phase_at k.stage k.sweep.next ≡ phase → IsWriting phase
-      → (stores : List Store) → stores ≡ map (λ change. changed change m.store) (changes_of phase m.last_id k.sweep) → MayBreak of_files m stores
+  broke_by : (x : Collection (List ℕ)) (k : CoreCollection) → m.collection ≡ Some x → c.collection ≡ Some k → (phase : Phase) → phase_at k.stage k.sweep.next ≡ phase
+      → IsWriting phase → (stores : List Store) → stores ≡ map (λ change. changed change m.store) (changes_of phase m.last_id k.sweep) → MayBreak of_files m stores
   broke_by x k ran core_ran phases.Copy is writes stores are =
       let at = at_copy k.stage k.sweep.next is in
       let swept = swept_in x k ran core_ran at.2 in
@@ -321,7 +322,8 @@ module _ (C : Type 0) (state : C → CoreState) (among : ByteSet) (f : FileEvent
   broke_by x k ran core_ran phases.Release is writes stores are =
       let at = at_release k.stage k.sweep.next is in
       let runs = runs_in x k ran core_ran in
-      let turn = in_turn m.store.held c.tables.held m.swept (forget_collection x) k is_at.represents.slots_hold (under_in (IsIn among) m c x k runs) runs.same at.2 at.0 at.1 at.3 in
+      let turn = in_turn m.store.held c.tables.held m.swept (forget_collection x) k is_at.represents.slots_hold (under_in (IsIn among) m c x k runs)
+      runs.same at.2 at.0 at.1 at.3 in
       inr (inr (record {
         c = x;
         ran = ran;

@@ -135,7 +135,8 @@ part_first p ps = refl
 
 -- of what each actor reads Q holds
 abbrev pub ReadsSo : (List ℕ → Type 0) → List FilePart → List core_part.Part → Type 0
-ReadsSo Q ps qs = (actor : ℕ) (file : List ℕ) (rest : List (List ℕ)) (reader : Reader) → slice_index_or ps actor Idle ≡ Reading file rest → part_of qs actor ≡ core.Reading reader → Q file
+ReadsSo Q ps qs = (actor : ℕ) (file : List ℕ) (rest : List (List ℕ)) (reader : Reader) → slice_index_or ps actor Idle ≡ Reading file rest
+    → part_of qs actor ≡ core.Reading reader → Q file
 
 module _ (index : PlaceMap) (held : List (Option HeaderValue)) (image : List ℕ) where
   abbrev Held : List core_part.Part → Type 0

@@ -87,7 +87,8 @@ refused_same a m n refusal is = absurd is.1
 marks_rest : (known : Option PlaceMap) (old new : DiskView) (level slot : ℕ) (refusal : Refusal) (b a : CoreCollection) → KeepsMarks known old new level slot b a refusal
     → SweepKept b a
 marks_rest known old new level slot refusals.Memory b a (inl same) = same_sweep_kept b a same
-marks_rest known old new level slot refusals.Memory b a (inr only) = (ap (λ (z : CoreCollection). z.snapshot) only.collection_is, ap (λ (z : CoreCollection). z.sweep) only.collection_is)
+marks_rest known old new level slot refusals.Memory b a (inr only) =
+    (ap (λ (z : CoreCollection). z.snapshot) only.collection_is, ap (λ (z : CoreCollection). z.sweep) only.collection_is)
 marks_rest known old new level slot refusal b a same = same_sweep_kept b a same
 
 module _ (C : Type 0) (state : C → CoreState) (among : ByteSet) (f : FileEvent) (old new : C) (m n : FileMachine) (r t : RootMachine) (to : StepsTo C state among f old new m n r t)
@@ -157,14 +158,16 @@ module _ (C : Type 0) (state : C → CoreState) (among : ByteSet) (f : FileEvent
         ∙ ap (λ (z : CoreCollection). by.c.changes ++ changes_of phase m.last_id z.sweep) (same_some moves.before k c.collection moves.core_ran goes.ran))
 
     -- the id under which copies were written
-    same_id : (i j : ℕ) → n.store ≡ with_sealed i k.sweep.buffer.kind k.sweep.buffer.segments m.store → store_then ≡ with_sealed j k.sweep.buffer.kind k.sweep.buffer.segments m.store
+    same_id : (i j : ℕ) → n.store ≡ with_sealed i k.sweep.buffer.kind k.sweep.buffer.segments m.store
+        → store_then ≡ with_sealed j k.sweep.buffer.kind k.sweep.buffer.segments m.store
         → 1 ≤ free_slots m.store.held → i ≡ j
     same_id i j mine theirs free =
         let slot = first_free m.store.held in
         let h : HeaderValue = header_of i k.sweep.buffer.kind k.sweep.buffer.segments in
         let g : HeaderValue = header_of j k.sweep.buffer.kind k.sweep.buffer.segments in
         sym (id_at (with_sealed i k.sweep.buffer.kind k.sweep.buffer.segments m.store).held slot h (first_with h m.store.held free))
-        ∙ ap (λ (s : Store). get_or (ids_of s.held) slot 0) (sym mine) ∙ ap (λ (ids : List ℕ). get_or ids slot 0) same_ids ∙ ap (λ (s : Store). get_or (ids_of s.held) slot 0) theirs
+        ∙ ap (λ (s : Store). get_or (ids_of s.held) slot 0) (sym mine)
+        ∙ ap (λ (ids : List ℕ). get_or ids slot 0) same_ids ∙ ap (λ (s : Store). get_or (ids_of s.held) slot 0) theirs
         ∙ id_at (with_sealed j k.sweep.buffer.kind k.sweep.buffer.segments m.store).held slot g (first_with g m.store.held free)
 
     by_stage : (stage : CoreStage) (next : Next) → IsStoreAfter stage next k.snapshot k.sweep is_at.index m.store store_then is_at.stands.known.0
@@ -224,7 +227,8 @@ module _ (C : Type 0) (state : C → CoreState) (among : ByteSet) (f : FileEvent
 
     run_then : (y : Collection (List ℕ)) (k : CoreCollection) → n.collection ≡ Some y → d.collection ≡ Some k → SameRun d.tables.held t.swept (forget_collection y) k
     run_then y k ran core_ran =
-        same_run d.tables.held t.swept t.collection d.collection (forget_collection y) k to.steps.then.collection (to.forgets.collection ∙ ap (option_map forget_collection) ran) core_ran
+        same_run d.tables.held t.swept t.collection d.collection (forget_collection y) k to.steps.then.collection
+        (to.forgets.collection ∙ ap (option_map forget_collection) ran) core_ran
 
     run_before : (x : Collection (List ℕ)) (k : CoreCollection) → m.collection ≡ Some x → c.collection ≡ Some k → SameRun c.tables.held r.swept (forget_collection x) k
     run_before x k ran core_ran =
@@ -260,8 +264,8 @@ module _ (C : Type 0) (state : C → CoreState) (among : ByteSet) (f : FileEvent
 
       well : GoesWell index m.store.held b goes.after
       well =
-          goes_well c.tables d.tables index m.store.held image d.known c.disk d.disk b goes.after is_at.represents.slots_hold is_at.valid.different here.stands.right.slots_are here.partial
-          is_at.stands.known.1 (subst (IsUnderWayIn c.tables.held) goes.ran is_at.under_way) holds
+          goes_well c.tables d.tables index m.store.held image d.known c.disk d.disk b goes.after is_at.represents.slots_hold is_at.valid.different
+          here.stands.right.slots_are here.partial is_at.stands.known.1 (subst (IsUnderWayIn c.tables.held) goes.ran is_at.under_way) holds
           (subst (λ (known : Option PlaceMap). CoreStepsTo b.stage b.sweep.next (moment c.tables known c.disk b) (at_moment d goes.after)) is_at.index_known goes.steps)
 
       did_wrote : WroteOnce n d
@@ -298,7 +302,8 @@ module _ (C : Type 0) (state : C → CoreState) (among : ByteSet) (f : FileEvent
     none_wrote : d.collection ≡ None → WroteOnce n d
     none_wrote none y a ran runs key there = absurd (let wrong : None ≡ Some a = sym none ∙ runs in cc)
 
-    wrote_by : (a : Result Answer Refusal) → GcRow a c d → GcEffect a c d → NamesGc a c d r t → Answers of_files f.event.actor asked.GcStep (answered_by a f.event.buf) m n → WroteOnce n d
+    wrote_by : (a : Result Answer Refusal) → GcRow a c d → GcEffect a c d → NamesGc a c d r t
+        → Answers of_files f.event.actor asked.GcStep (answered_by a f.event.buf) m n → WroteOnce n d
     wrote_by (Ok (answers.Did phase)) made_so told names may = did_wrote phase made_so.0 names may told
     wrote_by (Ok (answers.Done freed many)) made_so told names may = ended_wrote (ap (λ (z : FileMachine). z.collection) may.others)
     wrote_by (Err refusals.NotCollecting) made_so told names may = none_wrote made_so.0.none_runs

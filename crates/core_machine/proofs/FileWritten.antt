@@ -41,7 +41,8 @@ use Rattle.gc_sweep.specs.declared.sweep.Sweep.{Sweep}
 as_newer : (held : List (Option HeaderValue)) (snapshot : ℕ) (buffer : Contents) (key : List ℕ) → IsWritten held snapshot buffer key → HoldsNewer held snapshot key
 as_newer held snapshot buffer key is = record { slot = is.slot; header = is.header; there = is.there; new = is.new; entry = is.entry; found = is.found }
 
-written_as : (held : List (Option HeaderValue)) (snapshot : ℕ) (buffer : Contents) (key : List ℕ) → HoldsNewer held snapshot key → ¬ (has_key buffer key ≡ true) → IsWritten held snapshot buffer key
+written_as : (held : List (Option HeaderValue)) (snapshot : ℕ) (buffer : Contents) (key : List ℕ) → HoldsNewer held snapshot key
+    → ¬ (has_key buffer key ≡ true) → IsWritten held snapshot buffer key
 written_as held snapshot buffer key newer unfilled =
     record { slot = newer.slot; header = newer.header; there = newer.there; new = newer.new; entry = newer.entry; found = newer.found; unfilled = unfilled }
 
@@ -53,7 +54,8 @@ StandOn store after = (slot : ℕ) (h : HeaderValue) → slice_get store.held sl
 
 pub stands_by : (store after : Store) (step : StepValue) (answer : Result Answer Refusal) → ChangesTo (changes_by step answer) store after → StandOn store after
 stands_by store after (asked.Seal filled) (Ok (answers.Sealed id)) chain slot h there =
-    subst (λ (s : Store). slice_get s.held slot ≡ Some (Some h)) (sym chain.1) (still_there store.held (header_of id filled.kind filled.segments) (omega (arith, chain.0.slot)) slot h there)
+    subst (λ (s : Store). slice_get s.held slot ≡ Some (Some h)) (sym chain.1)
+    (still_there store.held (header_of id filled.kind filled.segments) (omega (arith, chain.0.slot)) slot h there)
 stands_by store after (asked.Commit name root) (Ok answer) chain slot h there = subst (λ (s : Store). slice_get s.held slot ≡ Some (Some h)) (sym chain.1) there
 stands_by store after (asked.Delete name) (Ok answer) chain slot h there = subst (λ (s : Store). slice_get s.held slot ≡ Some (Some h)) (sym chain.1) there
 stands_by store after step answer chain slot h there = subst (λ (s : Store). slice_get s.held slot ≡ Some (Some h)) (sym chain) there
@@ -114,7 +116,8 @@ wrote_still m n c d stand written sweeps wrote y a ran runs key there =
 -- ---- its own steps
 
 module _ (index : PlaceMap) (store store_now : Store) (image : List ℕ) (partial : IsPartialIndexOf store.held index) (b a : Collection) (snapshot_is : a.snapshot ≡ b.snapshot)
-    (well : GoesWell index store.held b a) (holds : HoldsAt b.stage index store.held image b) (after : IsStoreAfter b.stage b.sweep.next b.snapshot b.sweep index store store_now image) where
+    (well : GoesWell index store.held b a) (holds : HoldsAt b.stage index store.held image b)
+    (after : IsStoreAfter b.stage b.sweep.next b.snapshot b.sweep index store store_now image) where
   -- each source came before
   sources_old : b.stage ≡ SweepStage → (id : ℕ) → b.snapshot ≤ id → Contains b.sweep.sources.items id → ⊥
   sources_old sweeps id above source =
@@ -126,7 +129,8 @@ module _ (index : PlaceMap) (store store_now : Store) (image : List ℕ) (partia
   newer_after : (stage : Stage) (next : Next) (key : List ℕ) → b.stage ≡ stage → IsStoreAfter stage next b.snapshot b.sweep index store store_now image
       → HoldsNewer store.held b.snapshot key → HoldsNewer store_now.held b.snapshot key
   newer_after SweepStage (Flush source entry) key is flushes newer =
-      newer_on b.snapshot [] (FlushContainer flushes.id b.sweep.buffer.kind b.sweep.buffer.segments ∷ []) store store_now key ((flushes.new, omega (arith, flushes.can.slot)), flushes.now_is)
+      newer_on b.snapshot [] (FlushContainer flushes.id b.sweep.buffer.kind b.sweep.buffer.segments ∷ []) store store_now key
+      ((flushes.new, omega (arith, flushes.can.slot)), flushes.now_is)
       (λ other above none. omega (arith, none.1)) newer
   newer_after SweepStage (Release source entry) key is frees newer =
       newer_on b.snapshot b.sweep.sources.items (FreeContainer (slot_in_turn b.sweep) ∷ []) store store_now key (
@@ -147,7 +151,8 @@ module _ (index : PlaceMap) (store store_now : Store) (image : List ℕ) (partia
   Then key = IsWritten store_now.held a.snapshot a.sweep.buffer key
 
   then_as : (key : List ℕ) → HoldsNewer store_now.held b.snapshot key → ¬ (has_key a.sweep.buffer key ≡ true) → Then key
-  then_as key newer unfilled = subst (λ (n : ℕ). IsWritten store_now.held n a.sweep.buffer key) (sym snapshot_is) (written_as store_now.held b.snapshot a.sweep.buffer key newer unfilled)
+  then_as key newer unfilled =
+      subst (λ (n : ℕ). IsWritten store_now.held n a.sweep.buffer key) (sym snapshot_is) (written_as store_now.held b.snapshot a.sweep.buffer key newer unfilled)
 
   -- what was written is not filled again
   carried : (key : List ℕ) → IsWritten store.held b.snapshot b.sweep.buffer key → Then key
@@ -160,10 +165,11 @@ module _ (index : PlaceMap) (store store_now : Store) (image : List ℕ) (partia
   pub written_then : (old new : Moment) → old.collection ≡ b → new.collection ≡ a → StepsTo b.stage b.sweep.next old new → (last : ℕ) (written : List (List ℕ))
       → ((key : List ℕ) → Contains written key → IsWritten store.held b.snapshot b.sweep.buffer key) → (key : List ℕ)
       → Contains (written ++ keys_written (changes_of (phase_at b.stage b.sweep.next) last b.sweep)) key → Then key
-  written_then old new was is steps last written each key there = elim (Contains-append_cases written (keys_written (changes_of (phase_at b.stage b.sweep.next) last b.sweep)) key there) [
-    | inl before ↦ carried key (each key before)
-    | inr now ↦ by b.stage b.sweep.next after steps now
-  ]
+  written_then old new was is steps last written each key there = elim
+      (Contains-append_cases written (keys_written (changes_of (phase_at b.stage b.sweep.next) last b.sweep)) key there) [
+        | inl before ↦ carried key (each key before)
+        | inr now ↦ by b.stage b.sweep.next after steps now
+      ]
     where
       by : (stage : Stage) (next : Next) → IsStoreAfter stage next b.snapshot b.sweep index store store_now image → StepsTo stage next old new
           → Contains (keys_written (changes_of (phase_at stage next) last b.sweep)) key → Then key

@@ -55,7 +55,8 @@ module _ (old new : CoreState) (b a : CoreCollection) (ran : old.collection ≡ 
   started percent (Err refusal) row = unchanged row.none_runs
   started percent answer row = absurd row
 
-  goes_on : (step : StepValue) (actor : ℕ) (answer : Result Answer Refusal) (buf : List ℕ) → IsNoGcStep step → Row step actor answer buf old new → Collects step answer old new → SweepKept b a
+  goes_on : (step : StepValue) (actor : ℕ) (answer : Result Answer Refusal) (buf : List ℕ) → IsNoGcStep step
+      → Row step actor answer buf old new → Collects step answer old new → SweepKept b a
   goes_on (steps.Claim seg) actor answer buf other row collects = marked _ old.collection ran collects
   goes_on (steps.Seal filled) actor answer buf other row collects = marked _ old.collection ran collects
   goes_on (steps.GcStart percent) actor answer buf other row collects = started percent answer row

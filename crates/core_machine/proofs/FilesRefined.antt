@@ -38,7 +38,8 @@ use Rattle.core_machine.proofs.FileGc.{gc_adds}
 use Rattle.core_machine.proofs.FileIngests.{claim_adds, commit_adds, seal_adds}
 use Rattle.core_machine.proofs.FileKept.{at_store, by_step, settled}
 use Rattle.core_machine.proofs.FileLives.{lives_then}
-use Rattle.core_machine.proofs.FileReads.{reads_add, reads_on}
+use Rattle.core_machine.proofs.FileReads.{reads_add}
+use Rattle.core_machine.proofs.FileReadsOn.{reads_on}
 use Rattle.core_machine.proofs.FileStays.{stands_read}
 use Rattle.core_machine.proofs.FileSteps.{StepsAt, StepsTo}
 use Rattle.core_machine.proofs.FileSwept.{swept_at, swept_settled}

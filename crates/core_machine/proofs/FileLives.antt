@@ -26,7 +26,7 @@ use Rattle.store_model.specs.Image.{Store}
 use Rattle.store_state.specs.Refused.{blames}
 use Rattle.store_core.specs.Collecting.{Begins as CoreBegins, GcEffect, GcRow, GoesOn as CoreGoesOn, IsKeptKey, IsNotMade, StartRow, TouchesBy, at_moment}
 use Rattle.store_core.specs.Core.{Effect, Rests, Row, Steps, StopsAfter}
-use Rattle.store_core.specs.Runs.{ChangesTo, FileEvent, IsAt, IsNoGcStep, IsSafeIn, changes_by, stored_by}
+use Rattle.store_core.specs.Runs.{FileEvent, IsAt, IsSafeIn, stored_by}
 use Rattle.store_core.specs.State.{CoreState}
 use Rattle.store_core.proofs.CoreRuns.{running_step}
 use Rattle.store_core.proofs.Marks.{contains_one}
@@ -35,23 +35,24 @@ use Rattle.store_core.proofs.Standing.{containers_stay}
 use Rattle.store_machine.specs.Asked.{Asked}
 use Rattle.store_machine.specs.ByMap.{FileMachine}
 use Rattle.store_machine.specs.Collecting.{Begins, GoesOn, marking, marks_of}
-use Rattle.store_machine.specs.Legal.{Answers, Refuses, RefusesGcStep}
+use Rattle.store_machine.specs.Legal.{Answers}
 use Rattle.store_machine.specs.Machine.{Collection as MachineCollection, keeping}
 use Rattle.store_machine.specs.Needs.{NeededSince, OneNeeds, keys_kept, keys_of, values_read}
 use Rattle.store_machine.specs.Remembering.{RootMachine}
 use Rattle.store_machine.specs.Values.{of_files}
 use Rattle.store_machine.proofs.Beside.{refused_keeps}
-use Rattle.core_machine.specs.Files.{LivesByNeed, file_step, stored_in}
+use Rattle.core_machine.specs.Files.{LivesByNeed, stored_in}
 use Rattle.core_machine.specs.Lives.{LivesJust}
 use Rattle.core_machine.specs.Refines.{answered_by, asked_as}
 use Rattle.core_machine.proofs.FileKept.{answers_by, comes, next}
-use Rattle.core_machine.proofs.FileNeeds.{AllFit, all_fit}
+use Rattle.core_machine.proofs.FileNeeds.{all_fit}
 use Rattle.core_machine.proofs.FileRoots.{NeededNow, needed_below, needed_closed, roots_needed}
 use Rattle.core_machine.proofs.FileSteps.{StepsAt, StepsTo}
 use Rattle.core_machine.proofs.Lives.{IsSameIn, kept_marks, lives_kept, lives_made, lives_same}
 use Rattle.core_machine.proofs.LivesBegun.{lives_begun, roots_live}
 use Rattle.core_machine.proofs.LivesOn.{NeedsMore, lives_on, needs_more, needs_same}
 use Rattle.core_machine.proofs.PlainSteps.{IsPlainStep, plain_no_gc}
+use Rattle.core_machine.proofs.RefusedSteps.{IsLeft, left_same, refused_left}
 
 abbrev ask : List ℕ → StepValue → Asked (List ℕ)
 ask bytes step = asked_as (λ root. bytes) step
@@ -111,24 +112,6 @@ module _ (m n : FileMachine) (a : ℕ) (bytes buf : List ℕ) (ran : MachineColl
   went step (Err refusal) plain is = same_went step (Err refusal) (none_kept step refusal) (refused_keeps of_files a (ask bytes step) refusal m n is).collection
   went step answer plain is = absurd is
 
--- ---- a refused step of a collection
-
-gc_refused : (refusal : Refusal) (m n : FileMachine) → (refusal ≡ refusals.DiskWrite → ⊥) → RefusesGcStep of_files refusal m n → n ≡ m
-gc_refused refusals.NotCollecting m n whole is = is.1
-gc_refused refusals.Memory m n whole is = is.1
-gc_refused refusals.Numbers m n whole is = is.2
-gc_refused refusals.DiskRead m n whole is = is.1
-gc_refused refusals.DiskWrite m n whole is = absurd (whole refl)
-gc_refused (refusals.Corrupt slot offset count want got) m n whole is = is.1.1
-gc_refused (refusals.Missing key) m n whole is = is.1.1
-gc_refused (refusals.Damaged at why) m n whole is = is.1.1
-gc_refused refusal m n whole is = absurd is
-
-same_refused : (a : ℕ) (refusal : Refusal) (m n : FileMachine) → (refusal ≡ refusals.DiskWrite → ⊥) → Refuses of_files a (ask [] steps.GcStep) refusal m n → n ≡ m
-same_refused a (refusals.WrongPart kind) m n whole is = is.1
-same_refused a refusals.Memory m n whole is = gc_refused refusals.Memory m n whole is
-same_refused a refusal m n whole is = gc_refused refusal m n whole is.1
-
 -- ---- a collection that begins
 
 one_some : {X : Type 0} (x y : X) → Some x ≡ Some y → x ≡ y
@@ -173,6 +156,10 @@ module _ {C : Type 0} {state : C → CoreState} {among : ByteSet} {f : FileEvent
   answered : Answers of_files f.event.actor (ask f.bytes f.event.step) (answered_by f.event.answer f.event.buf) m n
   answered = answers_by m n f.event.actor f.bytes f.event.buf m.store at.runs f.event.step (answered_by f.event.answer f.event.buf) to.legal
 
+  -- a step that was refused is no other machine, since the core goes on
+  same_machine : IsLeft m n → n ≡ m
+  same_machine left = left_same m n t (state new) left to.forgets at.then stays
+
   -- one that is none of a collection
   plain_lives : IsPlainStep f.event.step → LivesByNeed n (state new)
   plain_lives plain ran collection runs core_runs =
@@ -199,11 +186,12 @@ module _ {C : Type 0} {state : C → CoreState} {among : ByteSet} {f : FileEvent
       collection core_runs))
 
   -- neither the collection nor what its keys rest on changed
-  unchanged_lives : n.collection ≡ m.collection → n.store ≡ m.store → (state new).collection ≡ (state old).collection → (state new).known ≡ (state old).known
+  unchanged_lives : n ≡ m → (state new).collection ≡ (state old).collection → (state new).known ≡ (state old).known
       → (state new).disk.content ≡ (state old).disk.content → LivesByNeed n (state new)
-  unchanged_lives same store_is core_same index_is content_is ran collection runs core_runs =
-      subst (λ (s : Store). LivesJust (NeededSince of_files ran) s (state new) collection) (sym store_is)
-      (lives_same (NeededSince of_files ran) m.store (state old) (state new) collection index_is content_is (at.at.lives ran collection (sym same ∙ runs) (sym core_same ∙ core_runs)))
+  unchanged_lives same core_same index_is content_is ran collection runs core_runs =
+      subst (λ (s : Store). LivesJust (NeededSince of_files ran) s (state new) collection) (sym (ap (λ (x : FileMachine). x.store) same))
+      (lives_same (NeededSince of_files ran) m.store (state old) (state new) collection index_is content_is
+      (at.at.lives ran collection (sym (ap (λ (x : FileMachine). x.collection) same) ∙ runs) (sym core_same ∙ core_runs)))
 
   -- ---- a step of the collection
 
@@ -292,22 +280,15 @@ module _ {C : Type 0} {state : C → CoreState} {among : ByteSet} {f : FileEvent
   gc_lives step (Err refusals.NotCollecting) is legal row effect stops = λ ran collection runs core_runs. absurd (let wrong : None ≡ Some collection = sym row.0.none_runs ∙ core_runs in cc)
   gc_lives step (Err refusals.DiskWrite) is legal row effect stops = absurd (let both = sym stays ∙ stops in cc)
   gc_lives step (Err refusal) is legal row effect stops =
-      refused_lives refusal (λ same. absurd cc) (same_refused f.event.actor refusal m n (λ same. absurd cc) legal) row.0 effect.touches
+      refused_lives refusal (λ same. absurd cc) (same_machine (refused_left of_files m n f.event.actor (ask f.bytes steps.GcStep) refusal tt legal)) row.0 effect.touches
 
   start_lives : (percent : ℕ) → f.event.step ≡ steps.GcStart percent → (answer : Result Answer Refusal) → f.event.answer ≡ answer
       → Answers of_files f.event.actor (ask f.bytes (steps.GcStart percent)) (answered_by answer f.event.buf) m n → StartRow percent answer (state old) (state new) → Rests answer (state old) (state new) → LivesByNeed n (state new)
   start_lives percent step (Ok (answers.Started snapshot)) is legal row effect = started_lives percent snapshot legal row.0 effect.tables.index_is effect.disk.only.content_is
   start_lives percent step (Ok answer) is legal row effect = absurd row
   start_lives percent step (Err refusal) is legal row effect =
-      unchanged_lives (refused_keeps of_files f.event.actor (ask f.bytes (steps.GcStart percent)) refusal m n legal).collection store_same (still refusal row) effect.tables.index_is effect.disk.only.content_is
+      unchanged_lives (same_machine (refused_left of_files m n f.event.actor (ask f.bytes (steps.GcStart percent)) refusal tt legal)) (still refusal row) effect.tables.index_is effect.disk.only.content_is
     where
-      other : IsNoGcStep f.event.step
-      other = subst IsNoGcStep (sym step) tt
-
-      store_same : n.store ≡ m.store
-      store_same = sym (comes to other stays).store
-          ∙ subst (λ (s : StepValue). ChangesTo (changes_by s f.event.answer) m.store (next to other stays).next.store) step (next to other stays).next.chain
-
       still : (refusal : Refusal) → StartRow percent (Err refusal) (state old) (state new) → (state new).collection ≡ (state old).collection
       still (refusals.Collecting phase) row = row.1
       still refusal row = row.none_runs

@@ -1,8 +1,6 @@
 -- Each actor that reads a file reads it still after a step that didn't stop the core: its tree is held, and what is to come of it.
 use Rattle.std.proofs.Common.{◌≡◌, ◌≢◌, inl, inr, ◌<◌, ℕ, zero, suc, List, [], ◌∷◌, length, slice_index_or, slice_set, take, Option, Some, None, Result, Ok, Err, refl, sym, ◌∙◌, ap, subst, arith}
-use Rattle.std.specs.FinMap as finite
 use Rattle.std.proofs.lemmas.Bool.{cases_eq}
-use Rattle.actor_parts.specs.declared.actor.TheConstants.{ACTORS}
 use Rattle.actor_parts.specs.declared.part.Part as core_part
 use Rattle.actor_parts.specs.declared.part.Part.TheVariants as core
 use Rattle.actor_parts.specs.declared.part.Reader.{Reader}
@@ -22,12 +20,12 @@ use Rattle.store_model.specs.Standing.{IsStoreOf}
 use Rattle.store_model.specs.Trees.{file_tree}
 use Rattle.store_model.proofs.Counted.{contained, in_set}
 use Rattle.store_model.proofs.SameFiles.{FitsFile, files_fit}
-use Rattle.store_core.specs.Core.{IsOpened, OpenRow, ReadRow, Row, Steps}
+use Rattle.store_core.specs.Core.{OpenRow, ReadRow, Row, Steps}
 use Rattle.store_core.specs.Runs.{FileEvent, IsAt, IsNoGcStep, changes_by, stored_by}
 use Rattle.store_core.specs.State.{CoreState}
 use Rattle.store_core.proofs.AnySteps.{any_step}
 use Rattle.store_core.proofs.CoreRuns.{running_step}
-use Rattle.store_core.proofs.KeepingFiles.{NextOn, file_step as next_on}
+use Rattle.store_core.proofs.KeepingFiles.{file_step as next_on}
 use Rattle.store_core.proofs.Leading.{IsSpared, Leads}
 use Rattle.store_machine.specs.ByMap.{FileMachine}
 use Rattle.store_machine.specs.Legal.{Answers}
@@ -37,7 +35,7 @@ use Rattle.store_machine.specs.Values.{StaysAt, of_files}
 use Rattle.store_machine.proofs.Parts.{FilePart, put_told}
 use Rattle.core_machine.specs.Files.{ReadsFiles, Takes, stored_in}
 use Rattle.core_machine.specs.Refines.{answered_by, asked_as}
-use Rattle.core_machine.proofs.CollectTakes.{KeepsNeeded, takes_still}
+use Rattle.core_machine.proofs.CollectTakes.{takes_still}
 use Rattle.core_machine.proofs.Coming.{takes_at, takes_on}
 use Rattle.core_machine.proofs.CollectNeeds.{needs_here}
 use Rattle.core_machine.proofs.FileKept.{answers_by}

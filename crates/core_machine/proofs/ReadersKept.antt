@@ -29,7 +29,8 @@ IsElse step = Unit {0}
 
 -- ---- one is put at something that it doesn't read
 
-core_set : (ps : List core_part.Part) (a : ℕ) (q : core_part.Part) → ((reader : Reader) → q ≡ core.Reading reader → ⊥) → (x : ℕ) (reader : Reader) → part_of (with_part ps a q) x ≡ core.Reading reader
+core_set : (ps : List core_part.Part) (a : ℕ) (q : core_part.Part) → ((reader : Reader) → q ≡ core.Reading reader → ⊥) → (x : ℕ) (reader : Reader)
+    → part_of (with_part ps a q) x ≡ core.Reading reader
     → part_of ps x ≡ core.Reading reader
 unfolding part_of with_part
 core_set [] a q none x reader is = is

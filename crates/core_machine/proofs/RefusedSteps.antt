@@ -98,7 +98,8 @@ module _ {V R : Type 0} where
 pub left_same : (m n : FileMachine) (t : RootMachine) (c : CoreState) → IsLeft m n → Forgets n t → IsMachine true t c → c.stop ≡ None → n ≡ m
 left_same m n t c (inl same) forgets machine stays = same
 left_same m n t c (inr stopped_so) forgets machine stays =
-    absurd (none_stopped stopped_so.0 stopped_so.1 t.state t.acknowledged (subst (λ (s : RunState (List ℕ)). SameState s t.state) (ap (λ (k : FileMachine). k.state) stopped_so.2) forgets.state)
+    absurd (none_stopped stopped_so.0 stopped_so.1 t.state t.acknowledged
+    (subst (λ (s : RunState (List ℕ)). SameState s t.state) (ap (λ (k : FileMachine). k.state) stopped_so.2) forgets.state)
     (subst (SameStop t.acknowledged t.state) stays machine.state))
   where
     none_stopped : (other : Option (Found (List ℕ))) (stores : List Store) (s : RunState Root) (count : ℕ) → SameState (Stopped other stores) s → SameStop count s None → ⊥

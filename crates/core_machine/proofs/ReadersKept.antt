@@ -1,5 +1,5 @@
 -- Actors that read go on reading the same where a step neither opens a file nor reads on: in a core, and in a machine of files.
-use Rattle.std.proofs.Common.{◌≡◌, inl, inr, ℕ, zero, suc, List, [], ◌∷◌, slice_index_or, slice_set, Result, Ok, Err, sym, ap, subst}
+use Rattle.std.proofs.Common.{◌≡◌, inl, inr, ℕ, zero, suc, List, [], ◌∷◌, slice_index_or, slice_set, Result, Ok, Err, ap, subst}
 use Rattle.actor_parts.specs.declared.part.Part as core_part
 use Rattle.actor_parts.specs.declared.part.Part.TheVariants as core
 use Rattle.actor_parts.specs.declared.part.Reader.{Reader}
@@ -15,7 +15,7 @@ use Rattle.store_core.specs.State.{CoreState}
 use Rattle.store_machine.specs.Asked.{Asked}
 use Rattle.store_machine.specs.ByMap.{FileMachine}
 use Rattle.store_machine.specs.Legal.{Answers}
-use Rattle.store_machine.specs.Machine.{Idle, Writing, Reading, part_in}
+use Rattle.store_machine.specs.Machine.{Idle, Reading, part_in}
 use Rattle.store_machine.specs.Values.{of_files}
 use Rattle.store_machine.proofs.Parts.{FilePart}
 use Rattle.core_machine.specs.Refines.{answered_by, asked_as}
@@ -29,7 +29,8 @@ IsElse step = Unit {0}
 
 -- ---- one is put at something that it doesn't read
 
-core_set : (ps : List core_part.Part) (a : ℕ) (q : core_part.Part) → ((reader : Reader) → q ≡ core.Reading reader → ⊥) → (x : ℕ) (reader : Reader) → part_of (with_part ps a q) x ≡ core.Reading reader
+core_set : (ps : List core_part.Part) (a : ℕ) (q : core_part.Part) → ((reader : Reader) → q ≡ core.Reading reader → ⊥) → (x : ℕ) (reader : Reader)
+    → part_of (with_part ps a q) x ≡ core.Reading reader
     → part_of ps x ≡ core.Reading reader
 unfolding part_of with_part
 core_set [] a q none x reader is = is

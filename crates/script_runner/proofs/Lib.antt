@@ -18,9 +18,14 @@ pub mod Coming
 pub mod CommitMade
 pub mod CommitRefused
 pub mod CopyRefused
+pub mod DeskParts
+pub mod DeskSessions
+pub mod DeskSteps
+pub mod DeskTaking
 pub mod Disturbing
 pub mod FaultsCounted
 pub mod Filled
+pub mod Fitting
 pub mod Harmless
 pub mod IdleParts
 pub mod Images

@@ -18,6 +18,7 @@ pub mod Coming
 pub mod CommitMade
 pub mod CommitRefused
 pub mod CopyRefused
+pub mod DeskGiving
 pub mod DeskParts
 pub mod DeskSessions
 pub mod DeskSteps

@@ -19,10 +19,14 @@ pub mod CommitMade
 pub mod CommitRefused
 pub mod CopyRefused
 pub mod DeskGiving
+pub mod DeskLines
 pub mod DeskParts
+pub mod DeskReopens
 pub mod DeskSessions
 pub mod DeskSteps
 pub mod DeskTaking
+pub mod DeskTurnLines
+pub mod DeskTurns
 pub mod Disturbing
 pub mod FaultsCounted
 pub mod Filled

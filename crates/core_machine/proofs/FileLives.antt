@@ -23,6 +23,7 @@ use Rattle.dd_disk.specs.Ending.{Done as DoneEnding, ending_of}
 use Rattle.store_model.specs.Collisions.{ByteSet, IsIn}
 use Rattle.store_model.specs.Files.{Stored}
 use Rattle.store_model.specs.Image.{Store}
+use Rattle.store_model.proofs.Copies.{some_same}
 use Rattle.store_state.specs.Refused.{blames}
 use Rattle.store_core.specs.Collecting.{Begins as CoreBegins, GcEffect, GcRow, GoesOn as CoreGoesOn, IsKeptKey, IsNotMade, StartRow, TouchesBy, at_moment}
 use Rattle.store_core.specs.Core.{Effect, Rests, Row, Steps, StopsAfter}
@@ -56,6 +57,9 @@ use Rattle.core_machine.proofs.RefusedSteps.{IsLeft, left_same, refused_left}
 
 abbrev ask : List ℕ → StepValue → Asked (List ℕ)
 ask bytes step = asked_as (λ root. bytes) step
+
+runs_as : {n k : FileMachine} → n ≡ k → n.collection ≡ k.collection
+runs_as is = ap (λ (x : FileMachine). x.collection) is
 
 -- ---- what a step that is none of a collection keeps
 
@@ -91,35 +95,28 @@ module _ (m n : FileMachine) (a : ℕ) (bytes buf : List ℕ) (ran : MachineColl
 
   went : (step : StepValue) (answer : Result Answer Refusal) → IsPlainStep step → Answers of_files a (ask bytes step) (answered_by answer buf) m n → Went step answer m ran
   went (steps.Claim seg) (Ok answers.Held) plain is =
-      more_went (steps.Claim seg) (Ok answers.Held) (segment_key seg.kind seg.segment ∷ []) (contains_one (segment_key seg.kind seg.segment))
-      (ap (λ (x : FileMachine). x.collection) is.others)
+      more_went (steps.Claim seg) (Ok answers.Held) (segment_key seg.kind seg.segment ∷ []) (contains_one (segment_key seg.kind seg.segment)) (runs_as is.others)
   went (steps.Seal filled) (Ok (answers.Sealed id)) plain is =
-      more_went (steps.Seal filled) (Ok (answers.Sealed id)) (keys_of filled.kind filled.segments) (λ key. (λ there. there, λ there. there))
-      (ap (λ (x : FileMachine). x.collection) is.others)
-  went steps.Begin (Ok answers.Begun) plain is = same_went steps.Begin (Ok answers.Begun) (λ key none. none) (ap (λ (x : FileMachine). x.collection) is.1)
-  went (steps.Claim seg) (Ok answers.Absent) plain is = same_went (steps.Claim seg) (Ok answers.Absent) (λ key none. none) (ap (λ (x : FileMachine). x.collection) is.2)
+      more_went (steps.Seal filled) (Ok (answers.Sealed id)) (keys_of filled.kind filled.segments) (λ key. (λ there. there, λ there. there)) (runs_as is.others)
+  went steps.Begin (Ok answers.Begun) plain is = same_went steps.Begin (Ok answers.Begun) (λ key none. none) (runs_as is.1)
+  went (steps.Claim seg) (Ok answers.Absent) plain is = same_went (steps.Claim seg) (Ok answers.Absent) (λ key none. none) (runs_as is.2)
   went (steps.Commit name root) (Ok (answers.Committed sequence)) plain is =
-      same_went (steps.Commit name root) (Ok (answers.Committed sequence)) (λ key none. none) (ap (λ (x : FileMachine). x.collection) is.others)
-  went steps.Abort (Ok answers.Aborted) plain is = same_went steps.Abort (Ok answers.Aborted) (λ key none. none) (ap (λ (x : FileMachine). x.collection) is.1)
-  went (steps.OpenRead name) (Ok (answers.Opened count)) plain is =
-      same_went (steps.OpenRead name) (Ok (answers.Opened count)) (λ key none. none) (ap (λ (x : FileMachine). x.collection) is.2.5)
-  went steps.ReadNext (Ok (answers.Bytes count)) plain is = same_went steps.ReadNext (Ok (answers.Bytes count)) (λ key none. none) (ap (λ (x : FileMachine). x.collection) is.5)
-  went steps.ReadNext (Ok answers.End) plain is = same_went steps.ReadNext (Ok answers.End) (λ key none. none) (ap (λ (x : FileMachine). x.collection) is.4)
-  went steps.EndRead (Ok answers.Dropped) plain is = same_went steps.EndRead (Ok answers.Dropped) (λ key none. none) (ap (λ (x : FileMachine). x.collection) is.1)
-  went (steps.Delete name) (Ok (answers.Deleted sequence)) plain is =
-      same_went (steps.Delete name) (Ok (answers.Deleted sequence)) (λ key none. none) (ap (λ (x : FileMachine). x.collection) is.others)
-  went steps.ListNames (Ok (answers.Listed files)) plain is = same_went steps.ListNames (Ok (answers.Listed files)) (λ key none. none) (ap (λ (x : FileMachine). x.collection) is.1)
+      same_went (steps.Commit name root) (Ok (answers.Committed sequence)) (λ key none. none) (runs_as is.others)
+  went steps.Abort (Ok answers.Aborted) plain is = same_went steps.Abort (Ok answers.Aborted) (λ key none. none) (runs_as is.1)
+  went (steps.OpenRead name) (Ok (answers.Opened count)) plain is = same_went (steps.OpenRead name) (Ok (answers.Opened count)) (λ key none. none) (runs_as is.2.5)
+  went steps.ReadNext (Ok (answers.Bytes count)) plain is = same_went steps.ReadNext (Ok (answers.Bytes count)) (λ key none. none) (runs_as is.5)
+  went steps.ReadNext (Ok answers.End) plain is = same_went steps.ReadNext (Ok answers.End) (λ key none. none) (runs_as is.4)
+  went steps.EndRead (Ok answers.Dropped) plain is = same_went steps.EndRead (Ok answers.Dropped) (λ key none. none) (runs_as is.1)
+  went (steps.Delete name) (Ok (answers.Deleted sequence)) plain is = same_went (steps.Delete name) (Ok (answers.Deleted sequence)) (λ key none. none) (runs_as is.others)
+  went steps.ListNames (Ok (answers.Listed files)) plain is = same_went steps.ListNames (Ok (answers.Listed files)) (λ key none. none) (runs_as is.1)
   went steps.Stat (Ok (answers.Stat files segments count used free)) plain is =
-      same_went steps.Stat (Ok (answers.Stat files segments count used free)) (λ key none. none) (ap (λ (x : FileMachine). x.collection) is.1)
+      same_went steps.Stat (Ok (answers.Stat files segments count used free)) (λ key none. none) (runs_as is.1)
   went (steps.GcStart percent) answer plain is = absurd plain
   went steps.GcStep answer plain is = absurd plain
   went step (Err refusal) plain is = same_went step (Err refusal) (none_kept step refusal) (refused_keeps of_files a (ask bytes step) refusal m n is).collection
   went step answer plain is = absurd is
 
 -- ---- a collection that begins
-
-one_some : {X : Type 0} (x y : X) → Some x ≡ Some y → x ≡ y
-one_some x y same = cc
 
 abbrev begun_so : FileMachine → (percent snapshot : ℕ) → MachineCollection (List ℕ)
 begun_so m percent snapshot = record {
@@ -186,7 +183,7 @@ module _ {C : Type 0} {state : C → CoreState} {among : ByteSet} {f : FileEvent
       let fit = all_fit m.parts r.parts (state old).parts at.forgets.parts at.machine.parts in
       subst (λ (s : Store). LivesJust (NeededSince of_files ran) s (state new) collection) (sym (ap (λ (x : FileMachine). x.store) begins_so.2))
       (subst (λ (c : MachineCollection (List ℕ)). LivesJust (NeededSince of_files c) m.store (state new) collection)
-      (one_some (begun_so m percent snapshot) ran (sym (ap (λ (x : FileMachine). x.collection) begins_so.2) ∙ runs))
+      (some_same (begun_so m percent snapshot) ran (sym (runs_as begins_so.2) ∙ runs))
       (lives_begun (IsIn among) m.store (stored_in m.now) (state old) (state new) begins content here percent snapshot begun
       (NeededNow (IsIn among) m (state old) begins fit at.at.reads content here) index_is content_is
       (roots_needed (IsIn among) m (state old) begins fit at.at.reads content here) (needed_closed (IsIn among) m (state old) begins fit at.at.reads content here)
@@ -200,7 +197,7 @@ module _ {C : Type 0} {state : C → CoreState} {among : ByteSet} {f : FileEvent
   unchanged_lives same core_same index_is content_is ran collection runs core_runs =
       subst (λ (s : Store). LivesJust (NeededSince of_files ran) s (state new) collection) (sym (ap (λ (x : FileMachine). x.store) same))
       (lives_same (NeededSince of_files ran) m.store (state old) (state new) collection index_is content_is
-      (at.at.lives ran collection (sym (ap (λ (x : FileMachine). x.collection) same) ∙ runs) (sym core_same ∙ core_runs)))
+      (at.at.lives ran collection (sym (runs_as same) ∙ runs) (sym core_same ∙ core_runs)))
 
   -- ---- a step of the collection
 
@@ -222,7 +219,7 @@ module _ {C : Type 0} {state : C → CoreState} {among : ByteSet} {f : FileEvent
 
       -- what it needed is what it needed before
       needs_same_then : record went_on.c { stage = went_on.went.stage; recorded = went_on.went.recorded; changes = went_on.c.changes ++ went_on.went.changes } ≡ ran
-      needs_same_then = one_some _ ran (sym (ap (λ (x : FileMachine). x.collection) went_on.others) ∙ runs)
+      needs_same_then = some_same _ ran (sym (runs_as went_on.others) ∙ runs)
 
       lives_before : LivesJust P m.store (state old) goes.before
       lives_before =
@@ -271,7 +268,7 @@ module _ {C : Type 0} {state : C → CoreState} {among : ByteSet} {f : FileEvent
       known_then = refused_known among m.store (stored_in m.now) (state old) (state new) begins refusal row whole
 
       lives_before : LivesJust P m.store (state old) row.before
-      lives_before = at.at.lives ran row.before (sym (ap (λ (x : FileMachine). x.collection) same) ∙ runs) row.ran
+      lives_before = at.at.lives ran row.before (sym (runs_as same) ∙ runs) row.ran
 
       touched : Touches row.before.stage row.before.sweep.next row.before.sweep (state old).tables (ending_of (blames refusal)) (state old).disk (state new).disk
       touched = subst (λ (o : Option Collection). TouchesBy o (Err refusal) (state old) (state new).disk) row.ran touches
@@ -299,7 +296,7 @@ module _ {C : Type 0} {state : C → CoreState} {among : ByteSet} {f : FileEvent
       → LivesByNeed n (state new)
   gc_lives step (Ok (answers.Did phase)) is legal row effect stops = did_lives phase legal row.0 effect.touches effect.later
   gc_lives step (Ok (answers.Done freed copied)) is legal row effect stops = λ ran collection runs core_runs.
-      absurd (let wrong : None ≡ Some ran = sym (ap (λ (x : FileMachine). x.collection) legal.others) ∙ runs in cc)
+      absurd (let wrong : None ≡ Some ran = sym (runs_as legal.others) ∙ runs in cc)
   gc_lives step (Ok answer) is legal row effect stops = absurd row
   gc_lives step (Err refusals.NotCollecting) is legal row effect stops = λ ran collection runs core_runs.
       absurd (let wrong : None ≡ Some collection = sym row.0.none_runs ∙ core_runs in cc)

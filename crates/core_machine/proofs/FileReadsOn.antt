@@ -43,7 +43,7 @@ use Rattle.core_machine.proofs.FileParts.{many_same}
 use Rattle.core_machine.proofs.FileReads.{Answered, fit, moved, now_at, said}
 use Rattle.core_machine.proofs.FileSteps.{StepsAt, StepsTo}
 use Rattle.core_machine.proofs.LivesOn.{within_parts}
-use Rattle.core_machine.proofs.ReadersKept.{IsElse, core_kept, file_kept}
+use Rattle.core_machine.proofs.ReadersKept.{IsElse, core_kept, file_kept, parts_as}
 use Rattle.core_machine.proofs.RefusedSteps.{refused_left}
 
 -- ---- parts of the machine
@@ -171,31 +171,31 @@ module _ {C : Type 0} {state : C → CoreState} {among : ByteSet} {f : FileEvent
           let to_come : given.others ≡ after =
           rest_same (take count buf) (take count buf) given.others after (sym given.segments_are
           ∙ (one_file one.own.file value one.own.rest left (part_in m a) one.own.reading was).1 ∙ gives) in
-          own_read (Ok (Some count)) one value left after same was (ap (λ (k : FileMachine). k.parts) others)
+          own_read (Ok (Some count)) one value left after same was (parts_as others)
           (subst (λ (ys : List (List ℕ)). Takes one.own.file ys (record { root = one.root; cursor = one.held.rest }) (state old)) to_come
           (moved (IsIn among) m (state old) (state new) begins (fit at) at.at.reads (Ok (Some count)) buf a one given.others given.ahead))
           )
-      | inr differ ↦ other_parts (Reading value after) (readers.reading row.next.goes_on.root row.next.rest) differ (ap (λ (k : FileMachine). k.parts) others)
+      | inr differ ↦ other_parts (Reading value after) (readers.reading row.next.goes_on.root row.next.rest) differ (parts_as others)
           row.next.goes_on.parts_are
     ]
     read_taken (Ok answers.End) is row =
         let going = row.next.goes_on in
         let stayed : readers.reading going.root row.next.rest ≡ part_of (state old).parts a =
         ap (readers.reading going.root) (row.next.given.1 ∙ sym row.next.given.0) ∙ sym going.part_is in
-        same_parts (ap (λ (k : FileMachine). k.parts) is.4)
+        same_parts (parts_as is.4)
         (going.parts_are ∙ ap (with_part (state old).parts a) stayed ∙ apart.unchanged (state old).parts a)
     read_taken (Err refusals.DiskRead) (right, (value, left, after, was, stays_so, others)) row = elim (cases_eq x a) [
       | inl same ↦ (
           let one = said at (Err refusals.DiskRead) row.cause.goes_on.root row.cause.was row.cause.goes_on.part_is row.held in
           let to_come : one.own.rest ≡ after = (one_file one.own.file value one.own.rest left (part_in m a) one.own.reading was).1 ∙ sym (stays_all left after stays_so) in
-          own_read (Err refusals.DiskRead) one value left after same was (ap (λ (k : FileMachine). k.parts) others)
+          own_read (Err refusals.DiskRead) one value left after same was (parts_as others)
           (subst (λ (ys : List (List ℕ)). Takes one.own.file ys (record { root = one.root; cursor = one.held.rest }) (state old)) to_come
           (moved (IsIn among) m (state old) (state new) begins (fit at) at.at.reads (Err refusals.DiskRead) buf a one one.own.rest one.held.given))
           )
-      | inr differ ↦ other_parts (Reading value after) (readers.reading row.cause.goes_on.root row.cause.rest) differ (ap (λ (k : FileMachine). k.parts) others)
+      | inr differ ↦ other_parts (Reading value after) (readers.reading row.cause.goes_on.root row.cause.rest) differ (parts_as others)
           row.cause.goes_on.parts_are
     ]
-    read_taken (Err (refusals.WrongPart kind)) is row = same_parts (ap (λ (k : FileMachine). k.parts) is.1) row.cause.same
+    read_taken (Err (refusals.WrongPart kind)) is row = same_parts (parts_as is.1) row.cause.same
     read_taken (Err refusals.Memory) is row = absurd (stays_none is.1 refusals.Memory is.2 (λ same. absurd cc) is.4)
     read_taken (Err refusal) is row = absurd (stays_none is.1.1 refusal is.1.2 (λ same. absurd cc) is.1.4)
     read_taken (Ok answer) is row = absurd row
@@ -205,7 +205,7 @@ module _ {C : Type 0} {state : C → CoreState} {among : ByteSet} {f : FileEvent
     open_taken : (name : List ℕ) (answer : Result Answer Refusal) → AnswersOf (steps.OpenRead name) answer → OpenRow name a answer (state old) (state new) → Taken
     open_taken name (Ok (answers.Opened count)) (named, idle, (value, left, found, starts, count_is, others)) row = elim (cases_eq x a) [
       | inl same ↦ own same
-      | inr differ ↦ other_parts (Reading value left) (readers.reading row.opens.root row.opens.ahead) differ (ap (λ (k : FileMachine). k.parts) others) row.opens.parts_are
+      | inr differ ↦ other_parts (Reading value left) (readers.reading row.opens.root row.opens.ahead) differ (parts_as others) row.opens.parts_are
     ]
       where
         holds : IsStoreOf m.store m.now.names image
@@ -236,8 +236,8 @@ module _ {C : Type 0} {state : C → CoreState} {among : ByteSet} {f : FileEvent
             (record { tree_is_held = opens.file.tree_is_held; count = λ key in_keys. in_set key keys in_keys }) opens.file.segments_ahead)
     open_taken name (Ok answer) is row = absurd row
     open_taken name (Err refusal) is row = elim (refused_left of_files m n a (asked_as (λ root. f.bytes) (steps.OpenRead name)) refusal tt is) [
-      | inl same ↦ same_parts (ap (λ (k : FileMachine). k.parts) same) row.1
-      | inr stopped ↦ same_parts (ap (λ (k : FileMachine). k.parts) stopped.2) row.1
+      | inl same ↦ same_parts (parts_as same) row.1
+      | inr stopped ↦ same_parts (parts_as stopped.2) row.1
     ]
 
     -- ---- a step of a collection

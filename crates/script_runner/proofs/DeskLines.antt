@@ -1,5 +1,5 @@
 -- Each line that is run is one of a machine that fits the core; and so of the machine of roots, on any disk.
-use Rattle.std.proofs.Common.{◌≡◌, ◌≢◌, ◌∙◌, ◌<◌, ℕ, false, List, [], ◌∷◌, length, replicate, Option, Some, None, Result, refl, sym, ap, subst}
+use Rattle.std.proofs.Common.{◌≡◌, ◌≢◌, ◌∙◌, ◌<◌, ℕ, zero, suc, false, List, [], ◌∷◌, length, slice_index_or, replicate, Option, Some, None, Result, refl, sym, ap, subst}
 use Rattle.std.proofs.lemmas.List.{length-replicate}
 use Rattle.std.specs.FinMap as finite
 use Rattle.disk_format.specs.Cells.{Root}
@@ -12,6 +12,7 @@ use Rattle.actor_parts.specs.Kinds as core_kinds
 use Rattle.actor_parts.specs.Parts.{part_of}
 use Rattle.actor_parts.specs.StepValue as steps
 use Rattle.actor_parts.specs.StepValue.{StepValue}
+use Rattle.ingest_session.specs.State.{SessionState}
 use Rattle.script_lines.specs.Grammar.{LineValue}
 use Rattle.script_lines.specs.Grammar as lines
 use Rattle.script_lines.specs.ReplyValue.{ReplyValue}
@@ -28,7 +29,7 @@ use Rattle.core_machine.proofs.Opened.{opened_refines, unopened_refines}
 use Rattle.core_machine.proofs.Refined.{core_refines}
 use Rattle.script_runner.specs.Acts.{RunnerState, RunsLine}
 use Rattle.script_runner.specs.Follows.{IsOfActor}
-use Rattle.script_runner.specs.LinesAreRuns.{BeginsAtDesk, IsAtDesk, LeadsTo, LinesAreRuns}
+use Rattle.script_runner.specs.LinesAreRuns.{BeginsAtDesk, IsAtDesk, LeadsTo, LinesAreRuns, SameSessions}
 use Rattle.script_runner.proofs.DeskGiving.{abort_acts, begin_acts, finish_acts}
 use Rattle.script_runner.proofs.DeskReopens.{idle_give, reopen_line}
 use Rattle.script_runner.proofs.DeskSessions.{none_same}
@@ -108,8 +109,13 @@ part_kind (Writing pins) (core_parts.Writing others) same = refl
 part_kind (Reading root rest) (core_parts.Reading reader) same = refl
 part_kind p q same = absurd same
 
-part_kinds : (ps : List (Part Root (List Top))) (qs : List core_part.Part) → SameParts ps qs → (a : ℕ) → kind_of (at_place ps a Idle) ≡ core_kinds.kind_of (part_of qs a)
-part_kinds ps qs same a = ?
+part_kinds : (ps : List (Part Root (List Top))) (qs : List core_part.Part) → SameParts ps qs → (a : ℕ) → kind_of (slice_index_or ps a Idle) ≡ core_kinds.kind_of (part_of qs a)
+unfolding part_of
+part_kinds [] [] same a = refl
+part_kinds [] (q ∷ qs) same a = absurd same
+part_kinds (p ∷ ps) [] same a = absurd same
+part_kinds (p ∷ ps) (q ∷ qs) same zero = part_kind p q same.0
+part_kinds (p ∷ ps) (q ∷ qs) same (suc a) = part_kinds ps qs same.1 a
 
 module _ (C : Type 0) (state : C → CoreState) where
   abbrev view : C → DiskView
@@ -134,7 +140,7 @@ module _ (C : Type 0) (state : C → CoreState) where
   begins_at_desk m r runs fits parts sessions = record {
     runs = runs;
     fits = fits;
-    same = ?;
-    many = ap length sessions ∙ length-replicate ACTORS None;
+    same = subst (SameSessions (replicate ACTORS None)) (sym sessions) (none_same ACTORS);
+    many = ap length sessions ∙ length-replicate {A = Option SessionState} ACTORS None;
     give = idle_give r.sessions (state r.core).parts parts;
   }

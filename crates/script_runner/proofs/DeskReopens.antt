@@ -1,6 +1,6 @@
 -- `reopen` as a line of a machine that fits the core.
-use Rattle.std.proofs.Common.{◌≡◌, ◌≢◌, ◌⊎◌, inl, inr, ◌∙◌, ℕ, List, [], ◌∷◌, length, slice_index_or, replicate, Option, Some, None, Result, Ok, Err, refl, sym, ap, subst}
-use Rattle.std.proofs.lemmas.List.{get_or-replicate, length-replicate}
+use Rattle.std.proofs.Common.{◌≡◌, ◌≢◌, ◌⊎◌, inl, inr, ◌∙◌, ℕ, zero, suc, List, [], ◌∷◌, length, slice_index_or, replicate, Option, Some, None, Result, Ok, Err, refl, sym, ap, subst}
+use Rattle.std.proofs.lemmas.List.{length-replicate}
 use Rattle.std.specs.FinMap as finite
 use Rattle.actor_parts.specs.declared.actor.TheConstants.{ACTORS}
 use Rattle.actor_parts.specs.declared.part.Part as core_part
@@ -14,6 +14,7 @@ use Rattle.dd_disk.specs.View.{DiskView}
 use Rattle.refusals.specs.declared.refusal.PartKind.TheVariants as kinds
 use Rattle.refusals.specs.declared.refusal.Refusal.{Refusal}
 use Rattle.refusals.specs.declared.refusal.Refusal.TheVariants as refusals
+use Rattle.ingest_session.specs.State.{SessionState}
 use Rattle.script_lines.specs.Grammar as lines
 use Rattle.script_lines.specs.ReplyValue.{ReplyValue}
 use Rattle.script_lines.specs.ReplyValue as replies
@@ -54,11 +55,16 @@ opened_stop : (D : Type 0) (view : D → DiskView) (old : DiskView) (c : CoreSta
 opened_stop D view old c (inl read) = read.opened.stop_is
 opened_stop D view old c (inr (mid, (made, read))) = read.opened.stop_is
 
+idle_at : (n a : ℕ) → slice_index_or (replicate n core_parts.Idle) a core_parts.Idle ≡ core_parts.Idle
+idle_at zero a = refl
+idle_at (suc n) zero = refl
+idle_at (suc n) (suc a) = idle_at n a
+
 -- no actor writes where all are idle
 pub idle_give : (xs : Sessions) (parts : List core_part.Part) → parts ≡ replicate ACTORS core_parts.Idle → WritersGive xs parts
 unfolding part_of
 idle_give xs parts are a none writes =
-    let idle : part_of parts a ≡ core_parts.Idle = ap (λ (ps : List core_part.Part). slice_index_or ps a core_parts.Idle) are ∙ get_or-replicate core_parts.Idle ACTORS a in
+    let idle : part_of parts a ≡ core_parts.Idle = ap (λ (ps : List core_part.Part). slice_index_or ps a core_parts.Idle) are ∙ idle_at ACTORS a in
     let wrong = sym (ap core_kinds.kind_of idle) ∙ writes in absurd cc
 
 -- parts that stay
@@ -89,7 +95,7 @@ module _ {V R : Type 0} (v : Values V R) (C : Type 0) (state : C → CoreState) 
     n = opens.0
 
     -- then it is counted, which changes nothing
-    counting : Event
+    abbrev counting : Event
     counting = record { actor = 0; step = steps.Stat; answer = Ok (counted acts.holdings); buf = acts.counts.0 }
 
     -- the number that is told is that of the names
@@ -118,7 +124,7 @@ module _ {V R : Type 0} (v : Values V R) (C : Type 0) (state : C → CoreState) 
             runs = one.runs;
             fits = subst (λ (m : Machine V R). Fits m (state s.core)) legal.1 one.fits;
             same = subst (SameSessions (all_none d.sessions)) (sym acts.sessions_are) (same_none ACTORS d.sessions r.sessions at.same at.many);
-            many = ap length acts.sessions_are ∙ length-replicate ACTORS None;
+            many = ap length acts.sessions_are ∙ length-replicate {A = Option SessionState} ACTORS None;
             give = quiet_gives counting (state acts.mid) (state s.core) s.sessions tt acts.counts.1
                 (idle_give s.sessions (state acts.mid).parts (opened_parts C view (state r.core).disk (state acts.mid) acts.opened));
           };

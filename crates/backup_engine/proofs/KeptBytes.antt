@@ -86,12 +86,15 @@ module _ (first store : Store) (is : store ≡ record first { held = store.held 
   journal_later image has = subst (λ (s : Store). HasJournal s image) (sym is) (record { holds = has.holds; other = has.other })
 
   pub still_first : (image : List ℕ) → StandsStill HasJournal store image → StandsStill HasJournal first image
-  still_first image (inl (is_open, stands)) =
-      let has = subst (λ (s : Store). HasJournal (with_other is_open s) image) is stands in
-      inl (is_open, record { holds = has.holds; other = has.other })
-  still_first image (inr stands) =
+  still_first image (inl stands) =
+      let has = subst (λ (s : Store). HasJournal s image) is stands in
+      inl (record { holds = has.holds; other = has.other })
+  still_first image (inr (inl stands)) =
+      let has = subst (λ (s : Store). HasJournal (with_other false s) image) is stands in
+      inr (inl (record { holds = has.holds; other = has.other }))
+  still_first image (inr (inr stands)) =
       let has = subst (λ (s : Store). HasJournal (with_cell s) image) is stands in
-      inr (record { holds = has.holds; other = has.other })
+      inr (inr (record { holds = has.holds; other = has.other }))
 
   pub change_first : (name : List ℕ) (change : Change) (image : List ℕ) → HasJournal (with_change name change store) image → HasJournal (with_change name change first) image
   change_first name change image stands =
@@ -156,7 +159,7 @@ module _ (store : Store) (base : List ℕ) (right : Encodes base store) (reserve
       cells = λ half cell low within other. keeps.front (cell_at half cell) CELL_BYTES (omega (arith, low, within));
     };
     containers = keeps.containers;
-    names = inl (inl (store.other_open, has_kept store base old keeps.front (has_journal store base right)));
+    names = inl (inl (has_kept store base old keeps.front (has_journal store base right)));
   }
 
   -- and so it does where a record is written

@@ -212,16 +212,16 @@ module _ (name : List ℕ) (change : Change) (Base : Store → List ℕ → Type
   recording : (free : Bool) → store_has_cell store ≡ free → (given d c : List ℕ) → Before given → Before d → RecordsBy free t.names t.journal r given d c
       → StandsStill Base store c ⊎ After (with_cell store) c
   recording true free given d c before was of = elim (between_here free given d c before was of) [
-    | inl still ↦ inl (inl (store.other_open, still))
+    | inl still ↦ inl (inl still)
     | inr with ↦ inr with
   ]
   recording false full given d c before was (inl of) =
       elim (checkpoint_between Base makes.above store t.journal t.names keeps given d c before.0 was.0 of) [
-        | inl still ↦ inl (inl still)
-        | inr has ↦ inl (inr (at_anew full c has))
+        | inl still ↦ inl (elim still [ inl same ↦ inl same | inr shut ↦ inr (inl shut) ])
+        | inr has ↦ inl (inr (inr (at_anew full c has)))
       ]
   recording false full given d c before was (inr of) = elim (between_mid full given of.mid before of.is of.room c of.appends) [
-    | inl has ↦ inl (inr (at_anew full c has))
+    | inl has ↦ inl (inr (inr (at_anew full c has)))
     | inr with ↦ inr with
   ]
 
@@ -232,7 +232,7 @@ module _ (name : List ℕ) (change : Change) (Base : Store → List ℕ → Type
       let same : store_has_cell store ≡ has_cell t.journal = sym (same_cell store t keeps) in
       moves_written Before (λ c. StandsStill Base store c ⊎ After (with_cell store) c) (After (with_cell store)) (Records t.names t.journal r)
       (IsRecorded t.names t.journal r) old new
-      (recorded (has_cell t.journal) same) e (λ c before. inl (inl (store.other_open, before.0))) (recording (has_cell t.journal) same) writes
+      (recorded (has_cell t.journal) same) e (λ c before. inl (inl before.0)) (recording (has_cell t.journal) same) writes
 
 -- ---- of a journal, and of files
 
@@ -306,8 +306,8 @@ moves_reads way old new starts reads stands = record { leaves = reads_leave way.
 reads_name : (t : Tables) (name : List ℕ) (change : Change) (old new : DiskView) → OnlyReads old new → ChangesName t name change Refused old new
 reads_name t name change old new reads = record {
   moves = λ among store files command keeps name_is change_is.
-      moves_reads (commanding (IsIn among) command store files) old new (λ c before. inl (inl (store.other_open, before.0))) reads;
-  journal = λ store keeps. moves_reads (changing_journal name change store) old new (λ c has. inl (inl (store.other_open, has))) reads;
+      moves_reads (commanding (IsIn among) command store files) old new (λ c before. inl (inl before.0)) reads;
+  journal = λ store keeps. moves_reads (changing_journal name change store) old new (λ c has. inl (inl has)) reads;
 }
 
 -- it was refused: before the first write, or a write or a sync failed

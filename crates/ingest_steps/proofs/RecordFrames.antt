@@ -40,7 +40,7 @@ same_here true journal bytes = record { size = refl; before = λ p n within. ref
 same_here false journal bytes = record { size = refl; same = λ p n outside apart. refl }
 
 bytes_here : (t : Tables) (name : List ℕ) (change : Change) (bytes : List ℕ) → ChangesBytes t name change bytes bytes bytes
-bytes_here t name change bytes = record { same = same_here (has_cell t.journal) t.journal bytes; journal = λ store keeps has was. inl (inl (store.other_open, was)) }
+bytes_here t name change bytes = record { same = same_here (has_cell t.journal) t.journal bytes; journal = λ store keeps has was. inl (inl was) }
 
 but_appends : (journal : JournalValue) (r : RecordValue) (given old new : List ℕ) → Appends journal r given old new → (Q : Type 0)
     → (SameButNext journal old new → Q) → (SameButNext journal given new → Appends journal r given given new → Q) → Q

@@ -1,12 +1,13 @@
 -- What an image has while a record is written, and after: a cell alone changes, or the other half of the journal too.
-use Rattle.std.proofs.Common.{◌≡◌, ◌⊎◌, inl, inr, ℕ, ◌-◌, ◌<◌, ◌≤◌, Bool, true, List, [], ◌∷◌, ◌++◌, length, refl, sym, ap, subst, arith}
+use Rattle.std.proofs.Common.{◌≡◌, ◌⊎◌, inl, inr, ℕ, ◌-◌, ◌<◌, ◌≤◌, Bool, true, false, List, [], ◌∷◌, ◌++◌, refl, sym, ◌∙◌, ap, subst, arith}
 use Rattle.disk_format.specs.declared.numbers.TheConstants.{FIRST_HALF}
 use Rattle.disk_format.specs.Cells.{Change, RecordValue, SelectorValue, IsName}
-use Rattle.disk_format.specs.Layout.{half_cells}
+use Rattle.base_model.specs.Bytes.{byte_at}
+use Rattle.disk_format.specs.Layout.{half_cells, selector_at}
 use Rattle.namespace.specs.Names.{NameMap, HasPlace}
 use Rattle.namespace.specs.Puts.{puts_of}
 use Rattle.journal_cells.specs.Appending.{SameButNext, CanFollow, Appends, IsAppended}
-use Rattle.journal_cells.specs.Checkpoints.{HoldsStill, IsFoundIn, HasMoved, SameButHalf, Checkpoints, IsCheckpointed, next_selector}
+use Rattle.journal_cells.specs.Checkpoints.{HoldsStill, IsFoundIn, IsOtherOpen, HasMoved, SameButHalf, Checkpoints, IsCheckpointed, next_selector}
 use Rattle.journal_cells.specs.Journal.{JournalValue, IsJournalOf, IsTold, with_record}
 use Rattle.store_model.specs.Journal.{HoldsRecords, KnowsOther, last_of}
 use Rattle.store_model.specs.Image.{Store, names_of}
@@ -117,15 +118,18 @@ module _ (Base : Store → List ℕ → Type 0) (above : IsAbove Base) (store : 
   pub half_of : (old new : List ℕ) → SameButHalf (1 - journal.half) old new → SameButJournal old new
   half_of old new same = half_alone (1 - journal.half) old new (omega arith) same
 
-  -- the journal stands still
+  -- the journal stands still; the other gate is open only where it was
   checkpoint_still : (old new : List ℕ) → Base store old → SameButHalf (1 - journal.half) old new → HoldsStill journal store.selector store.records old new
-      → (is_open : Bool) × Base (with_other is_open store) new
-  checkpoint_still old new was same stays =
-      let known = other_known store.selector.half new in (
-        known.0,
-        above.still store old new was (half_of old new same) store.selector known.0 store.records refl
-            (record { holds = stays.holds; other = known.1 }),
-      )
+      → Base store new ⊎ Base (with_other false store) new
+  checkpoint_still old new was same stays = by (other_known store.selector.half new)
+    where
+      by : (is_open : Bool) × KnowsOther is_open store.selector.half new → Base store new ⊎ Base (with_other false store) new
+      by (true, known) =
+          let open_there : IsOtherOpen journal new = ap (λ (h : ℕ). byte_at (selector_at (1 - h)) new) told.half ∙ known.0 refl in
+          let was_open : store.other_open ≡ true = sym told.other ∙ (stays.opens open_there).0 in
+          inl (above.still store old new was (half_of old new same) store.selector store.other_open store.records refl
+          (record { holds = stays.holds; other = subst (λ (b : Bool). KnowsOther b store.selector.half new) (sym was_open) known }))
+      by (false, known) = inr (above.still store old new was (half_of old new same) store.selector false store.records refl (record { holds = stays.holds; other = known }))
 
   -- or the new one stands
   checkpoint_stands : (old new : List ℕ) → Base store old → SameButHalf (1 - journal.half) old new → HasMoved journal names new → Base (with_checkpoint store) new
@@ -145,7 +149,7 @@ module _ (Base : Store → List ℕ → Type 0) (above : IsAbove Base) (store : 
   checkpoint_after given c was is = checkpoint_stands given c was is.same (is.stands store.selector store.records (found_in given (above.journal store given was)))
 
   pub checkpoint_between : (given d c : List ℕ) → Base store given → Base store d → Checkpoints journal names given d c
-      → ((is_open : Bool) × Base (with_other is_open store) c) ⊎ Base (with_checkpoint store) c
+      → (Base store c ⊎ Base (with_other false store) c) ⊎ Base (with_checkpoint store) c
   checkpoint_between given d c before was (inl stays) =
       inl (checkpoint_still d c was stays.same (stays.stands names store.selector store.records (found_in d (above.journal store d was))))
   checkpoint_between given d c before was (inr either) = elim (either.stands store.selector store.records (found_in given (above.journal store given before))) [

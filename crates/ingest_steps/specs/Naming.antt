@@ -1,5 +1,5 @@
 -- When a name is given a root or taken away, and what that makes of the tables and of the disk (docs/MODEL.md, 'Steps').
-use Rattle.std.specs.Prelude.{◌≡◌, ◌⊎◌, ℕ, suc, ◌-◌, ◌^◌, ◌<◌, Bool, List, Option, None, IsSome}
+use Rattle.std.specs.Prelude.{◌≡◌, ◌⊎◌, ℕ, suc, ◌-◌, ◌^◌, ◌<◌, false, List, Option, None, IsSome}
 use Rattle.std.specs.FinMap as finite
 use Rattle.disk_format.specs.Cells.{Change, RecordValue, IsName, IsChange}
 use Rattle.disk_format.specs.Cells.Change.{Delete}
@@ -115,10 +115,10 @@ pub record IsDeleted (old : Tables) (name : List ℕ) (new : Tables) (sequence :
 
 -- ---- what the disk stands for, on the way
 
--- What images have of a store stands still: of it, whatever the gate of its other selector; or of the store with a free cell, after
--- a checkpoint where it had none.
+-- What images have of a store stands still: of it as it is, or with the gate of its other selector closed; or of the store with a free
+-- cell, after a checkpoint where it had none.
 abbrev pub StandsStill : (Store → List ℕ → Type 0) → Store → List ℕ → Type 0
-StandsStill Base store c = ((is_open : Bool) × Base (with_other is_open store) c) ⊎ Base (with_cell store) c
+StandsStill Base store c = Base store c ⊎ Base (with_other false store) c ⊎ Base (with_cell store) c
 
 -- the names, the last sequence number and the files
 abbrev pub FilesStandStill : (List ℕ → Type 0) → Store → Files → List ℕ → Type 0

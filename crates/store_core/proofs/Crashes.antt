@@ -1,5 +1,5 @@
 -- What a crash leaves at any moment of a run.
-use Rattle.std.proofs.Common.{◌≡◌, ◌⊎◌, inl, inr, ℕ, List, [], ◌∷◌, ◌+◌, ◌<◌, ◌≤◌, Option, Some, None, Result, Ok, Err, refl, sym, ◌∙◌, subst, arith, ap, suc}
+use Rattle.std.proofs.Common.{◌≡◌, ◌⊎◌, inl, inr, ℕ, false, List, [], ◌∷◌, ◌+◌, ◌<◌, ◌≤◌, Option, Some, None, Result, Ok, Err, refl, sym, ◌∙◌, subst, arith, ap, suc}
 use Rattle.dd_disk.specs.View.{OnlyReads, CrashLeaves, SteppedFrom}
 use Rattle.dd_disk.proofs.Later.{reads_here, reads_leave, leaves_on, leaves_weaker}
 use Rattle.container_meta.specs.Segments.{Contents}
@@ -70,7 +70,7 @@ pub last_at : (S : List ℕ → Type 0) (s : Store) (stored : Stored) (c : CoreS
 last_at S s stored c at = sym at.represents.names_are.last_is ∙ at.last_is
 
 -- a store can be opened as files whose keys the index has, where it has its reserve by the index
-opens_by : (index : PlaceMap) (store : Store) (files : Files) → IndexesFiles index files → HasReserve (HasKey index) store.held → CanBeOpened store files
+pub opens_by : (index : PlaceMap) (store : Store) (files : Files) → IndexesFiles index files → HasReserve (HasKey index) store.held → CanBeOpened store files
 opens_by index store files indexed reserve = reserve_by (HasKey index) (IsReachable files) store.held indexed reserve
 
 pub opens_at : (S : List ℕ → Type 0) (s : Store) (stored : Stored) (c : CoreState) → IsAt S s stored c → CanBeOpened s stored.files
@@ -96,7 +96,7 @@ module _ (among : ByteSet) (s : Store) (stored : Stored) (old new : CoreState) (
   abbrev last_here : last_sequence s ≡ stored.last
   last_here = last_at (IsIn among) s stored old at
 
-  last_more : (name : List ℕ) (change : Change) → last_sequence (with_change name change s) ≡ suc stored.last
+  pub last_more : (name : List ℕ) (change : Change) → last_sequence (with_change name change s) ≡ suc stored.last
   last_more name change = last_changed name change s at.valid.follow ∙ ap suc last_here
 
   abbrev core : CoreInvariant at.index s stored.files old.parts at.stands.known.0
@@ -114,18 +114,25 @@ module _ (among : ByteSet) (s : Store) (stored : Stored) (old new : CoreState) (
 
   -- of names that stand still
   of_still : (c : List ℕ) → FilesStandStill S s stored.files c → OpensAs S stored c
-  of_still c (inl is) = image_of (with_other is.0 s) c opens last_here is.1
-  of_still c (inr is) = image_of (with_cell s) c opens (last_with_cell s at.valid.follow ∙ last_here) is
+  of_still c (inl is) = image_of s c opens last_here is
+  of_still c (inr (inl is)) = image_of (with_other false s) c opens last_here is
+  of_still c (inr (inr is)) = image_of (with_cell s) c opens (last_with_cell s at.valid.follow ∙ last_here) is
 
   -- where nothing was written
   by_reads : (step : StepValue) (answer : Result Answer Refusal) → OnlyReads old.disk new.disk → CrashLeaves (Either S step answer bytes stored) old.disk new.disk
   by_reads step answer reads = reads_leave (Either S step answer bytes stored) old.disk new.disk (λ c is. inl (of_old c is)) reads
 
   -- a container more leaves two closed slots, where there was one to spare
-  opens_sealed : (filled : Contents) → RESERVE < free_slots s.held → CanBeOpened (with_sealed (next_id old) filled.kind filled.segments s) stored.files
+  pub opens_sealed : (filled : Contents) → RESERVE < free_slots s.held → CanBeOpened (with_sealed (next_id old) filled.kind filled.segments s) stored.files
   opens_sealed filled spare =
       free_reserve (IsReachable stored.files) (with_sealed (next_id old) filled.kind filled.segments s).held
       (omega (arith, spare, free_less (header_of (next_id old) filled.kind filled.segments) s.held (omega (arith, spare))))
+
+  pub seal_leaves : (filled : Contents) (answer : Result Answer Refusal) → SealsOne filled answer old new → IsStep (asked.Seal filled)
+      → IsGivenRight S (asked.Seal filled) answer bytes old → CrashLeaves (λ c. Stands S s stored.files c ⊎ StandsSealed S (next_id old) filled s stored.files c) old.disk new.disk
+  seal_leaves filled answer effect right given =
+      (effect.moves.moves among s stored.files at.index at.index_known at.represents core.files_are_indexed distinct
+      (may_seal_all S filled.kind filled.segments right.1 given) at.stands).leaves
 
   by_seal : (filled : Contents) (answer : Result Answer Refusal) → SealsOne filled answer old new → IsStep (asked.Seal filled) → IsGivenRight S (asked.Seal filled) answer bytes old
       → CrashLeaves (Either S (asked.Seal filled) answer bytes stored) old.disk new.disk
@@ -135,11 +142,10 @@ module _ (among : ByteSet) (s : Store) (stored : Stored) (old new : CoreState) (
         | inl is ↦ inl (image_of s c opens last_here is)
         | inr is ↦ inl (image_of (with_sealed (next_id old) filled.kind filled.segments s) c (opens_sealed filled is.0) last_here is.1)
       ])
-      (effect.moves.moves among s stored.files at.index at.index_known at.represents core.files_are_indexed distinct
-      (may_seal_all S filled.kind filled.segments right.1 given) at.stands).leaves
+      (seal_leaves filled answer effect right given)
 
   -- of a commit that came to its first write
-  put_leaves : (name : List ℕ) (root : Root) (answer : Result Answer Refusal) → NamesOne name (Put root) answer old new → IsRootOf root bytes old
+  pub put_leaves : (name : List ℕ) (root : Root) (answer : Result Answer Refusal) → NamesOne name (Put root) answer old new → IsRootOf root bytes old
       → CrashLeaves (λ c. FilesStandStill S s stored.files c ⊎ Stands S (with_change name (Put root) s) (with_file stored.files name bytes) c) old.disk new.disk
   put_leaves name root answer effect given =
       let tree = given.tree s at.represents in
@@ -169,10 +175,10 @@ module _ (among : ByteSet) (s : Store) (stored : Stored) (old new : CoreState) (
       ]) leaves
 
   -- the index has the keys of what is put, and those of what is left once a name is deleted
-  put_indexed : (name : List ℕ) (root : Root) → IsRootOf root bytes old → IndexesFiles at.index (with_file stored.files name bytes)
+  pub put_indexed : (name : List ℕ) (root : Root) → IsRootOf root bytes old → IndexesFiles at.index (with_file stored.files name bytes)
   put_indexed name root given = reached_put (HasKey at.index) stored.files core.files_are_indexed name bytes (given.indexed at.index at.index_known)
 
-  less_indexed : (name : List ℕ) → IndexesFiles at.index (without_file stored.files name)
+  pub less_indexed : (name : List ℕ) → IndexesFiles at.index (without_file stored.files name)
   less_indexed name = reached_less (HasKey at.index) stored.files core.files_are_indexed name
 
   by_commit : (name : List ℕ) (root : Root) (answer : Result Answer Refusal) → NamesOne name (Put root) answer old new → IsGivenRight S (asked.Commit name root) answer bytes old
@@ -187,7 +193,7 @@ module _ (among : ByteSet) (s : Store) (stored : Stored) (old new : CoreState) (
   by_commit name root (Err refusal) effect given = by_reads (asked.Commit name root) (Err refusal) effect.disk.ends
 
   -- of a delete
-  delete_leaves : (name : List ℕ) (answer : Result Answer Refusal) → NamesOne name Delete answer old new
+  pub delete_leaves : (name : List ℕ) (answer : Result Answer Refusal) → NamesOne name Delete answer old new
       → CrashLeaves (λ c. FilesStandStill S s stored.files c ⊎ Stands S (with_change name Delete s) (without_file stored.files name) c) old.disk new.disk
   delete_leaves name answer effect =
       (effect.moves.moves among s stored.files (files.Delete name) at.represents.names_are refl refl
@@ -208,30 +214,40 @@ module _ (among : ByteSet) (s : Store) (stored : Stored) (old new : CoreState) (
   of_same t c can same is = image_of t c can (same ∙ last_here) is
 
   -- a container that the index has nothing in may be given back
-  opens_freed : (slot : ℕ) → HasNoEntryIn at.index slot → CanBeOpened (with_freed slot s) stored.files
+  pub opens_freed : (slot : ℕ) → HasNoEntryIn at.index slot → CanBeOpened (with_freed slot s) stored.files
   opens_freed slot none =
       opens_by at.index (with_freed slot s) stored.files core.files_are_indexed
       (reserve_freed (HasKey at.index) slot s.held (none_held s at.index slot core.index_is_newest none) core.reserve_holds)
 
+  -- an index that was changed leaves it the same store
+  pub change_leaves : (e : Ending) → Changes (slot_at s.slots) e old.disk new.disk → CrashLeaves (Stands S s stored.files) old.disk new.disk
+  change_leaves e changes =
+      leaves_weaker (SteppedFrom (SameBefore (slot_at s.slots)) old.disk) (Stands S s stored.files) old.disk new.disk
+      (λ c from. elim from [
+        | inl was ↦ at.stands.each c was
+        | inr stepped ↦ stands_framed S s stored.files stepped.0 c (at.stands.each stepped.0 stepped.1) stepped.2.before stepped.2.size
+      ]) changes.leaves
+
   by_changes : (answer : Result Answer Refusal) (e : Ending) → Changes (slot_at s.slots) e old.disk new.disk
       → CrashLeaves (Either S asked.GcStep answer bytes stored) old.disk new.disk
   by_changes answer e changes =
-      leaves_weaker (SteppedFrom (SameBefore (slot_at s.slots)) old.disk) (Either S asked.GcStep answer bytes stored) old.disk new.disk
-      (λ c from. elim from [
-        | inl was ↦ inl (of_old c was)
-        | inr stepped ↦ inl (of_same s c opens refl (stands_framed S s stored.files stepped.0 c (at.stands.each stepped.0 stepped.1) stepped.2.before stepped.2.size))
-      ]) changes.leaves
+      leaves_weaker (Stands S s stored.files) (Either S asked.GcStep answer bytes stored) old.disk new.disk (λ c is. inl (of_same s c opens refl is)) (change_leaves e changes)
+
+  pub release_leaves : (e : Ending) (slot : ℕ) → HasNoEntryIn at.index slot → GivesBack old.tables slot e old.disk new.disk
+      → CrashLeaves (λ c. Stands S s stored.files c ⊎ Stands S (with_freed slot s) stored.files c) old.disk new.disk
+  release_leaves e slot none gives =
+      (gives.moves among s at.index stored.files
+      (subst (λ (known : Option PlaceMap). Represents s known old.tables) at.index_known at.represents) core.files_are_indexed none at.stands).leaves
 
   by_release : (answer : Result Answer Refusal) (e : Ending) (slot : ℕ) → HasNoEntryIn at.index slot → GivesBack old.tables slot e old.disk new.disk
       → CrashLeaves (Either S asked.GcStep answer bytes stored) old.disk new.disk
   by_release answer e slot none gives =
       leaves_weaker (λ c. Stands S s stored.files c ⊎ Stands S (with_freed slot s) stored.files c) (Either S asked.GcStep answer bytes stored) old.disk new.disk
       (λ c stands. elim stands [ inl is ↦ inl (of_same s c opens refl is) | inr is ↦ inl (of_same (with_freed slot s) c (opens_freed slot none) refl is) ])
-      (gives.moves among s at.index stored.files
-      (subst (λ (known : Option PlaceMap). Represents s known old.tables) at.index_known at.represents) core.files_are_indexed none at.stands).leaves
+      (release_leaves e slot none gives)
 
   -- a collection that sweeps
-  module _ (answer : Result Answer Refusal) (c : Collection) (source entry : ℕ) (under : IsSweeping old.tables.held c.snapshot c.sweep)
+  module _ (c : Collection) (source entry : ℕ) (under : IsSweeping old.tables.held c.snapshot c.sweep)
       (new_id : c.snapshot ≤ old.tables.held.last_id + 1)
       (holds : HoldsSweep at.index s.held at.stands.known.0 c.live c.snapshot c.sweep) where
     abbrev id : ℕ
@@ -243,30 +259,41 @@ module _ (among : ByteSet) (s : Store) (stored : Stored) (old new : CoreState) (
     represents : Represents s (Some at.index) old.tables
     represents = subst (λ (known : Option PlaceMap). Represents s known old.tables) at.index_known at.represents
 
-    -- what was copied is written: each image is of the same files, with its container, too
-    by_flush : c.sweep.next ≡ Flush source entry → (e : Ending) → SealsIndexed old.tables id copied e old.disk new.disk
-        → CrashLeaves (Either S asked.GcStep answer bytes stored) old.disk new.disk
-    by_flush stage e seals =
+    pub flush_leaves : (e : Ending) → SealsIndexed old.tables id copied e old.disk new.disk
+        → CrashLeaves (λ image. Stands S s stored.files image ⊎ Stands S (with_sealed id copied.kind copied.segments s) stored.files image) old.disk new.disk
+    flush_leaves e seals =
         let here = at.stands.each at.stands.known.0 (old.disk.as_read at.stands.known.0 at.stands.known.1) in
         let may = may_flush at.index s.held at.stands.known.0 c.live c.snapshot c.sweep holds S here.holds.nodes here.among in
+        (seals.moves among s (Some at.index) at.index stored.files at.stands.known.0 represents at.stands.known.1 may core.files_are_indexed
+        (inr (inr (are_newest at.index s.held at.stands.known.0 c.live c.snapshot c.sweep holds))) at.stands).leaves
+
+    pub opens_copied : c.sweep.next ≡ Flush source entry → (image : List ℕ) → Stands S (with_sealed id copied.kind copied.segments s) stored.files image
+        → CanBeOpened (with_sealed id copied.kind copied.segments s) stored.files
+    opens_copied stage image is =
+        opens_flushed old.tables.held at.index s stored.files at.stands.known.0 image c.live c.snapshot source entry id c.sweep at.represents.slots_hold
+        at.valid.headers under stage holds core.index_is_newest (omega (arith, at.represents.slots_hold.last_id_is)) new_id core.files_are_indexed
+        (headers_of_right image (with_sealed id copied.kind copied.segments s) is.holds.right)
+
+    -- what was copied is written: each image is of the same files, with its container, too
+    by_flush : (answer : Result Answer Refusal) → c.sweep.next ≡ Flush source entry → (e : Ending) → SealsIndexed old.tables id copied e old.disk new.disk
+        → CrashLeaves (Either S asked.GcStep answer bytes stored) old.disk new.disk
+    by_flush answer stage e seals =
         leaves_weaker (λ image. Stands S s stored.files image ⊎ Stands S (with_sealed id copied.kind copied.segments s) stored.files image)
         (Either S asked.GcStep answer bytes stored) old.disk new.disk
         (λ image stands. elim stands [
           | inl is ↦ inl (of_same s image opens refl is)
-          | inr is ↦ inl (of_same (with_sealed id copied.kind copied.segments s) image
-              (opens_flushed old.tables.held at.index s stored.files at.stands.known.0 image c.live c.snapshot source entry id c.sweep at.represents.slots_hold at.valid.headers under stage holds core.index_is_newest
-              (omega (arith, at.represents.slots_hold.last_id_is)) new_id core.files_are_indexed
-              (headers_of_right image (with_sealed id copied.kind copied.segments s) is.holds.right)) refl is)
+          | inr is ↦ inl (of_same (with_sealed id copied.kind copied.segments s) image (opens_copied stage image is) refl is)
         ])
-        (seals.moves among s (Some at.index) at.index stored.files at.stands.known.0 represents at.stands.known.1 may core.files_are_indexed
-        (inr (inr (are_newest at.index s.held at.stands.known.0 c.live c.snapshot c.sweep holds))) at.stands).leaves
+        (flush_leaves e seals)
+
+    pub none_in_turn : c.sweep.next ≡ Release source entry → HasNoEntryIn at.index (slot_in_turn c.sweep)
+    none_in_turn stage =
+        (in_turn old.tables.held at.index s.held at.stands.known.0 c.live c.snapshot source entry c.sweep at.represents.slots_hold under stage holds).none
 
     -- the source in turn is given back
-    by_turn : c.sweep.next ≡ Release source entry → (e : Ending) → GivesBack old.tables (slot_in_turn c.sweep) e old.disk new.disk
+    by_turn : (answer : Result Answer Refusal) → c.sweep.next ≡ Release source entry → (e : Ending) → GivesBack old.tables (slot_in_turn c.sweep) e old.disk new.disk
         → CrashLeaves (Either S asked.GcStep answer bytes stored) old.disk new.disk
-    by_turn stage e gives =
-        by_release answer e (slot_in_turn c.sweep)
-        (in_turn old.tables.held at.index s.held at.stands.known.0 c.live c.snapshot source entry c.sweep at.represents.slots_hold under stage holds).none gives
+    by_turn answer stage e gives = by_release answer e (slot_in_turn c.sweep) (none_in_turn stage) gives
 
   by_stage : (answer : Result Answer Refusal) (c : Collection) (stage : Stage) (next : Next) (e : Ending) → IsUnderWay old.tables.held c
       → IsSafeAt stage at.index s old.parts at.stands.known.0 c → c.stage ≡ stage → c.sweep.next ≡ next
@@ -276,11 +303,11 @@ module _ (among : ByteSet) (s : Store) (stored : Stored) (old new : CoreState) (
   by_stage answer c Select next e under safe is at_next touches = by_reads asked.GcStep answer touches.only
   by_stage answer c SweepStage (CopyNext source entry) e under safe is at_next touches = by_changes answer e (touches s.slots at.valid.size_is)
   by_stage answer c SweepStage (Flush source entry) e under safe is at_next touches =
-      by_flush answer c source entry (subst (HasStage old.tables.held c) is under.stage_is) under.began
-      (subst (λ (stage : Stage). HoldsAt stage at.index s.held at.stands.known.0 c) is safe.sweep_holds).1 at_next e touches.1
+      by_flush c source entry (subst (HasStage old.tables.held c) is under.stage_is) under.began
+      (subst (λ (stage : Stage). HoldsAt stage at.index s.held at.stands.known.0 c) is safe.sweep_holds).1 answer at_next e touches.1
   by_stage answer c SweepStage (Release source entry) e under safe is at_next touches =
-      by_turn answer c source entry (subst (HasStage old.tables.held c) is under.stage_is) under.began
-      (subst (λ (stage : Stage). HoldsAt stage at.index s.held at.stands.known.0 c) is safe.sweep_holds).1 at_next e touches.1
+      by_turn c source entry (subst (HasStage old.tables.held c) is under.stage_is) under.began
+      (subst (λ (stage : Stage). HoldsAt stage at.index s.held at.stands.known.0 c) is safe.sweep_holds).1 answer at_next e touches.1
   by_stage answer c SweepStage End e under safe is at_next touches = by_reads asked.GcStep answer touches.only
 
   by_gc : (answer : Result Answer Refusal) (running : Option Collection) → IsUnderWayIn old.tables.held running → IsSafeIn at.index s old.parts at.stands.known.0 running

@@ -24,6 +24,7 @@ use Rattle.store_model.proofs.Sound.{last_within}
 use Rattle.store_state.specs.Comparing.{IsFirstUnlike}
 use Rattle.ingest_steps.specs.Claiming.{DiffersFrom, IsClaimRefusal}
 use Rattle.ingest_steps.specs.Pinning.{first_unpinned_of}
+use Rattle.ingest_steps.specs.Sealing.{IsCompared}
 use Rattle.ingest_steps.specs.SealStep.{IsStepRefusal}
 use Rattle.ingest_steps.proofs.PinList.{all_at}
 use Rattle.store_core.specs.Core.{CoreStep, IndexesAll, IsDamage, KeepsTables, KeepsUnlessBroken}
@@ -104,7 +105,7 @@ module _ (C : Type 0) (state : C → CoreState) (files : List ℕ → Type 0) (o
     module _ (size_is : (state new).disk.size ≡ (state old).disk.size) where
       seal_cause : (refusal : Refusal) → KeepsUnlessBroken refusal (state old) (state new)
           → IsStepRefusal (part_of (state old).parts 0) (state old).tables (state old).disk.size (state old).known filled
-          (IsFirstUnlike (state old).disk.size (state old).known (Shows (state old).disk (state new).disk) filled.kind filled.segments) refusal
+          (IsCompared (state old).disk.size (state old).known (Shows (state old).disk (state new).disk) filled) refusal
           → IsPutRefusal name file (state start).disk (state new) refusal
       seal_cause refusals.Memory kept cause = tt
       seal_cause refusals.DiskRead kept cause = tt

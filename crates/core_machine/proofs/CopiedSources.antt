@@ -69,7 +69,7 @@ module _ (s : Source) (S : (List ℕ → Type 0) → Type 0) where
             ∙ ap (λ (xs : List Segment). record before.buffer { segments = xs }) (append_assoc before.buffer.segments first.0 last_grow.0),
       )
 
-filling_keys : (buffer filling : Contents) (kind : Kind) → IsFilling buffer kind filling → (keys_of filling ≡ keys_of buffer) × (length filling.segments ≡ length buffer.segments)
+pub filling_keys : (buffer filling : Contents) (kind : Kind) → IsFilling buffer kind filling → (keys_of filling ≡ keys_of buffer) × (length filling.segments ≡ length buffer.segments)
 filling_keys buffer filling kind (inl (none, is)) =
     (ap keys_of is ∙ sym (no_keys buffer none), ap (λ (c : Contents). length c.segments) is ∙ sym (ap length none))
 filling_keys buffer filling kind (inr (some, is)) = (ap keys_of is, ap (λ (c : Contents). length c.segments) is)
@@ -165,7 +165,7 @@ module _ (m : M) (c : Collection Root) (source entry : ℕ) (old new : Moment) (
     last_within = λ few. few;
     told = tells;
     changes_are = refl;
-    forgets = (source, entry, copies, ap (λ (keys : List (List ℕ)). m.forgotten ++ keys) gone_is);
+    forgets = (source, entry, next_was, copies, ap (λ (keys : List (List ℕ)). m.forgotten ++ keys) gone_is);
     run = run_on t new.tables.held m.swept true c old.collection new.collection next after [] run stage sweeps
         (subst (λ (x : Tables). SameSweep x.held true sources (c.changes ++ []) next after k') (sym tables) same);
   }

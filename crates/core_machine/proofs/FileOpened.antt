@@ -111,6 +111,7 @@ module _ (among : ByteSet) (before : DiskView) (c : CoreState) (read : IsReadFro
     settled = begins.settled;
     reads = λ actor file rest reader reading core_is. absurd (let wrong : Idle ≡ Reading file rest = sym (idle_at ACTORS actor) ∙ reading in cc);
     lives = λ ran collection runs core_runs. absurd (let wrong : None ≡ Some ran = runs in cc);
+    wrote = λ ran collection runs core_runs. absurd (let wrong : None ≡ Some ran = runs in cc);
   }
 
   pub is_files : Opens of_roots (finite.len c.tables.names) t t → IsFileMachine S (at_rest found t.store) c

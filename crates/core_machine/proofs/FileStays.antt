@@ -81,4 +81,5 @@ module _ (old new : CoreState) (reads : OnlyReads old.disk new.disk) (tables_are
     reads = λ actor file rest reader is core_is.
         still_takes file rest reader (at.reads actor file rest reader is (ap (λ (parts : List Part). part_of parts actor) (sym parts_are) ∙ core_is));
     lives = λ ran c is core_is. still_lives _ m.store c (at.lives ran c is (sym collection_is ∙ core_is));
+    wrote = λ ran c is core_is. at.wrote ran c is (sym collection_is ∙ core_is);
   }

@@ -34,6 +34,7 @@ use Rattle.store_machine.specs.Runs.{Run}
 use Rattle.store_machine.specs.Values.{of_files}
 use Rattle.core_machine.specs.Lives.{LivesJust}
 use Rattle.core_machine.specs.Refines.{IsMachine, answered_by, asked_as}
+use Rattle.core_machine.specs.Written.{WroteOnce}
 
 -- the files that names have, with the last number
 abbrev pub stored_in : Found (List ℕ) → Stored
@@ -63,12 +64,13 @@ abbrev pub LivesByNeed : FileMachine → CoreState → Type 0
 LivesByNeed m c = (ran : MachineCollection (List ℕ)) (collection : Collection) → m.collection ≡ Some ran → c.collection ≡ Some collection
     → LivesJust (NeededSince of_files ran) m.store c collection
 
--- The core is at the machine's store, which is one of its files, on a settled disk.
+-- The core is at the machine's store, which is one of its files, on a settled disk; and what its collection wrote it writes no more.
 pub record IsAtFiles (S : List ℕ → Type 0) (m : FileMachine) (c : CoreState) : Type 0 where
   pub is_at : IsAt S m.store (stored_in m.now) c
   pub settled : IsSettled c.tables.slots c.disk
   pub reads : ReadsFiles m c
   pub lives : LivesByNeed m c
+  pub wrote : WroteOnce m c
 
 -- ---- one that is stopped
 

@@ -3,6 +3,7 @@ use Rattle.std.specs.Prelude.{◌≡◌, ℕ, suc, List, [], ◌∷◌, ◌++◌
 use Rattle.copy_forward.specs.declared.plan.Plan.{Plan}
 use Rattle.disk_format.specs.Cells.{Root}
 use Rattle.merkle_file.specs.declared.top.Top.{Top}
+use Rattle.gc_sweep.specs.declared.sweep.Next.TheVariants as nexts
 use Rattle.gc_sweep.specs.declared.sweep.Sweep.{Sweep as CoreSweep}
 use Rattle.gc_sweep.specs.Copying.{CopiesSource}
 use Rattle.gc_sweep.specs.InTurn.{slot_in_turn}
@@ -32,9 +33,9 @@ abbrev pub dead_in : Option Plan → List (List ℕ)
 dead_in None = []
 dead_in (Some plan) = plan.dead.items
 
--- a copying step forgets these
+-- a copying step forgets these, of the source that came next
 abbrev pub ForgetsBy : Phase → Moment → Moment → (before now : List (List ℕ)) → Type 0
-ForgetsBy phases.Copy old new before now = (source entry : ℕ)
+ForgetsBy phases.Copy old new before now = (source entry : ℕ) × (old.collection.sweep.next ≡ nexts.Copy source entry)
     × (copies : CopiesSource old.tables.held old.collection.live old.known new.known old.disk new.disk source entry old.collection.sweep
     new.collection.sweep) × (now ≡ before ++ dead_in copies.found)
 ForgetsBy phase old new before now = Unit {0}

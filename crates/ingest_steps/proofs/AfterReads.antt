@@ -16,20 +16,20 @@ use Rattle.container_meta.specs.declared.place.Place.{Place}
 use Rattle.container_meta.specs.Places.{PlaceMap}
 use Rattle.container_meta.specs.Segments.{Contents}
 use Rattle.refusals.specs.declared.refusal.Refusal.{Refusal}
-use Rattle.refusals.specs.declared.refusal.Refusal.TheVariants.{Memory, DiskWrite, Damaged}
+use Rattle.refusals.specs.declared.refusal.Refusal.TheVariants.{Memory, DiskRead, DiskWrite, Damaged}
 use Rattle.segment_index.specs.Changes.{SameBefore}
 use Rattle.store_model.specs.Files.{Files}
 use Rattle.store_model.specs.Image.{Store}
 use Rattle.store_model.specs.Slots.{HasKey, IsPartialIndexOf, free_slots}
 use Rattle.store_model.specs.Collisions.{HasNoCollisions, ByteSet, IsIn, Stands}
 use Rattle.store_model.specs.Steps.{FitsHeld}
-use Rattle.store_state.specs.Comparing.{FitSoFar}
+use Rattle.store_state.specs.Comparing.{FitSoFar, IsAllRefusal, IsFirstUnlike}
 use Rattle.store_state.specs.Indexing.{IsChangeRefusal}
 use Rattle.store_state.specs.Refused.{blames}
 use Rattle.store_state.specs.Settled.{IsSettled, KeepsWhatCounts, Left, Steps}
 use Rattle.store_state.specs.declared.tables.Tables.{Tables}
 use Rattle.store_state.specs.Tables.{Represents}
-use Rattle.ingest_steps.specs.Sealing.{FitBeside, KeepsHeld, SealsIndexed, SealsCompared, HasSlot, HasSlotBeside, HasSealed, HasWritten, HasPlacesOf, WasCompared, IsSealRefusal, KeepsMap, index_first, sealing_compared, sealing_indexed}
+use Rattle.ingest_steps.specs.Sealing.{FitBeside, KeepsHeld, SealsIndexed, SealsCompared, HasSlot, HasSlotBeside, HasSealed, HasWritten, HasPlacesOf, WasCompared, IsCompared, IsSealRefusal, KeepsMap, index_first, sealing_compared, sealing_indexed}
 use Rattle.ingest_steps.proofs.SlotFrame.{first_after, first_reads}
 use Rattle.ingest_steps.proofs.Sealed.{same_content, same_keeps}
 
@@ -46,11 +46,20 @@ has_places_before filled slot before now after old mid new same also has = recor
   untold = λ none m known. has.untold (same ∙ none) m (sym (ap now (same ∙ none)) ∙ also ∙ ap before none ∙ known);
 }
 
-pub change_refused : (k l : Option PlaceMap) (unlike : Refusal → Type 0) → k ≡ l → (refusal : Refusal) → IsChangeRefusal k refusal → IsSealRefusal l unlike refusal
-change_refused k l unlike same Memory has = tt
-change_refused k l unlike same DiskWrite has = tt
-change_refused k l unlike same (Damaged at why) has = sym same ∙ has
-change_refused k l unlike same refusal has = absurd has
+-- what comparing refused is refused
+pub first_refused : (size : ℕ) (known : Option PlaceMap) (shown : (List ℕ → Type 0) → Type 0) (filled : Contents) (refusal : Refusal)
+    → IsAllRefusal known (IsFirstUnlike size known shown filled.kind filled.segments) refusal → IsSealRefusal known (IsCompared size known shown filled) refusal
+first_refused size known shown filled Memory has = tt
+first_refused size known shown filled DiskRead has = tt
+first_refused size known shown filled DiskWrite has = absurd has.unlike.refused.2
+first_refused size known shown filled (Damaged at why) has = has
+first_refused size known shown filled refusal has = has
+
+pub change_refused : (k l : Option PlaceMap) (compared : Refusal → Type 0) → k ≡ l → compared DiskWrite → (refusal : Refusal) → IsChangeRefusal k refusal → IsSealRefusal l compared refusal
+change_refused k l compared same fits Memory has = tt
+change_refused k l compared same fits DiskWrite has = fits
+change_refused k l compared same fits (Damaged at why) has = sym same ∙ has
+change_refused k l compared same fits refusal has = absurd has
 
 pub map_kept : {T : Type 0} (result : Result T Refusal) (k l new : Option PlaceMap) → k ≡ l → IfErr result (IsChangeRefusal k) → (result ≡ Err Memory → new ≡ k)
     → IfErr result (KeepsMap l new)

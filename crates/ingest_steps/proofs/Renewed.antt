@@ -1,5 +1,5 @@
 -- What an image has while a record is written, and after: a cell alone changes, or the other half of the journal too.
-use Rattle.std.proofs.Common.{◌≡◌, ◌⊎◌, inl, inr, ℕ, ◌-◌, ◌<◌, ◌≤◌, Bool, true, false, List, [], ◌∷◌, ◌++◌, refl, sym, ◌∙◌, ap, subst, arith}
+use Rattle.std.proofs.Common.{◌≡◌, ◌⊎◌, inl, inr, ℕ, ◌-◌, ◌<◌, ◌≤◌, Bool, true, false, List, [], ◌∷◌, ◌++◌, length, refl, sym, ◌∙◌, ap, subst, arith}
 use Rattle.disk_format.specs.declared.numbers.TheConstants.{FIRST_HALF}
 use Rattle.disk_format.specs.Cells.{Change, RecordValue, SelectorValue, IsName}
 use Rattle.base_model.specs.Bytes.{byte_at}

@@ -8,13 +8,12 @@ use Rattle.container_meta.specs.Segments.{Contents}
 use Rattle.actor_parts.specs.declared.part.Part.{Part}
 use Rattle.refusals.specs.declared.refusal.Refusal.{Refusal}
 use Rattle.refusals.specs.declared.refusal.Refusal.TheVariants.{Memory, WrongPart, Unpinned, Full, Numbers}
-use Rattle.store_state.specs.Comparing.{IsFirstUnlike}
 use Rattle.store_state.specs.Refused.{blames}
 use Rattle.store_state.specs.Settled.{Steps}
 use Rattle.store_state.specs.declared.tables.Tables.{Tables}
 use Rattle.store_state.proofs.Changed.{changes_none}
 use Rattle.ingest_steps.specs.Pinning.{MayKeep, IsUnkept}
-use Rattle.ingest_steps.specs.Sealing.{HasSlot, IsSlotRefusal, IsSealRefusal}
+use Rattle.ingest_steps.specs.Sealing.{HasSlot, IsCompared, IsSlotRefusal, IsSealRefusal}
 use Rattle.ingest_steps.specs.SealStep.{IsStepRefusal}
 use Rattle.ingest_steps.proofs.SealedTables.{steps_refused}
 
@@ -35,8 +34,7 @@ module _ (part : Part) (t : Tables) (size : ℕ) (known : Option PlaceMap) (fill
 
 module _ (part : Part) (t : Tables) (size : ℕ) (known : Option PlaceMap) (filled : Contents) (shown : (List ℕ → Type 0) → Type 0) (may : MayKeep part filled)
     (at : (slot : ℕ) × HasSlot t slot) where
-  pub of_seal : (refusal : Refusal) → IsSealRefusal known (IsFirstUnlike size known shown filled.kind filled.segments) refusal
-      → IsStepRefusal part t size known filled (IsFirstUnlike size known shown filled.kind filled.segments) refusal
+  pub of_seal : (refusal : Refusal) → IsSealRefusal known (IsCompared size known shown filled) refusal → IsStepRefusal part t size known filled (IsCompared size known shown filled) refusal
   of_seal Memory has = tt
   of_seal (WrongPart kind) has = absurd has.unlike.refused.2
   of_seal (Unpinned key) has = absurd has.unlike.refused.2

@@ -36,13 +36,13 @@ pub record IsSealedFor (old : Tables) (disk : DiskView) (known : Option PlaceMap
 
 -- Why it isn't sealed, in this order: the actor, a slot, what is held or the disk. Want of memory is free.
 abbrev pub IsStepRefusal : Part → Tables → ℕ → Option PlaceMap → Contents → (Refusal → Type 0) → Refusal → Type 0
-IsStepRefusal part t size known filled unlike Memory = Unit {0}
-IsStepRefusal part t size known filled unlike (WrongPart kind) = IsUnkept part filled (WrongPart kind)
-IsStepRefusal part t size known filled unlike (Unpinned key) = IsUnkept part filled (Unpinned key)
-IsStepRefusal part t size known filled unlike (Full free) = MayKeep part filled × IsSlotRefusal t size (Full free)
-IsStepRefusal part t size known filled unlike Numbers = MayKeep part filled × IsSlotRefusal t size Numbers
-IsStepRefusal part t size known filled unlike refusal =
-    MayKeep part filled × ((slot : ℕ) × HasSlot t slot) × IsSealRefusal known unlike refusal
+IsStepRefusal part t size known filled compared Memory = Unit {0}
+IsStepRefusal part t size known filled compared (WrongPart kind) = IsUnkept part filled (WrongPart kind)
+IsStepRefusal part t size known filled compared (Unpinned key) = IsUnkept part filled (Unpinned key)
+IsStepRefusal part t size known filled compared (Full free) = MayKeep part filled × IsSlotRefusal t size (Full free)
+IsStepRefusal part t size known filled compared Numbers = MayKeep part filled × IsSlotRefusal t size Numbers
+IsStepRefusal part t size known filled compared refusal =
+    MayKeep part filled × ((slot : ℕ) × HasSlot t slot) × IsSealRefusal known compared refusal
 
 -- What the actor keeps is right still, and closed, where a content stood for files and the map was that of its store; no data of S
 -- differs under one digest.

@@ -22,7 +22,7 @@ use Rattle.store_model.specs.Indexing.{with_entries}
 use Rattle.store_model.specs.Slots.{HasKey, newest, free_slots, first_free}
 use Rattle.store_model.specs.Steps.{AnyKey, CanHold, MaySeal, FitsHeld, KeepsCopies, with_sealed}
 use Rattle.store_model.specs.Trees.{HasNewest}
-use Rattle.store_state.specs.Comparing.{FitSoFar}
+use Rattle.store_state.specs.Comparing.{FitSoFar, IsFirstUnlike}
 use Rattle.store_state.specs.Invariant.{IndexesFiles}
 use Rattle.store_state.specs.Settled.{IsSettled}
 use Rattle.store_state.specs.declared.tables.Tables.{Tables}
@@ -162,13 +162,18 @@ pub record WasCompared (size : ℕ) (known : Option PlaceMap) (shown : (List ℕ
   pub hads : List (Option Place)
   pub fit : FitSoFar size known shown filled.kind filled.segments hads
 
--- why it is not sealed: no memory; a call of the disk failed; damage, where the map isn't known; or another copy is held
+-- what that showed where it is not sealed: all fitted where a write failed, and else the first that has another copy
+abbrev pub IsCompared : ℕ → Option PlaceMap → ((List ℕ → Type 0) → Type 0) → Contents → Refusal → Type 0
+IsCompared size known shown filled DiskWrite = WasCompared size known shown filled
+IsCompared size known shown filled refusal = IsFirstUnlike size known shown filled.kind filled.segments refusal
+
+-- Why it is not sealed: no memory; a read failed; damage, where the map isn't known; a write failed, and all was compared; or another copy
+-- is held.
 abbrev pub IsSealRefusal : Option PlaceMap → (Refusal → Type 0) → Refusal → Type 0
-IsSealRefusal known unlike Memory = Unit {0}
-IsSealRefusal known unlike DiskRead = Unit {0}
-IsSealRefusal known unlike DiskWrite = Unit {0}
-IsSealRefusal known unlike (Damaged at why) = known ≡ None
-IsSealRefusal known unlike refusal = unlike refusal
+IsSealRefusal known compared Memory = Unit {0}
+IsSealRefusal known compared DiskRead = Unit {0}
+IsSealRefusal known compared (Damaged at why) = known ≡ None
+IsSealRefusal known compared refusal = compared refusal
 
 -- the map is as before, but after a write that failed, or damage
 abbrev pub KeepsMap : Option PlaceMap → Option PlaceMap → Refusal → Type 0

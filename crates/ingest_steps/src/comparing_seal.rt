@@ -4,11 +4,10 @@ ghost use Rattle.base_model.specs.Known.{Known};
 ghost use Rattle.dd_disk.specs.Ending.{ending};
 ghost use Rattle.dd_disk.specs.Shows.{Shows};
 ghost use Rattle.segment_index.specs.Places.{KnownMap};
-ghost use Rattle.store_state.specs.Comparing.{IsFirstUnlike};
 ghost use Rattle.store_state.specs.Refused.{blames};
 ghost use Rattle.store_state.specs.Settled.{Steps};
 ghost use Rattle.store_state.specs.Tables.{Runs};
-ghost use Rattle.ingest_steps.specs.Sealing.{HasSlot, HasSealed, HasPlacesOf, WasCompared, SealsCompared, IsSealRefusal, KeepsMap, places_with};
+ghost use Rattle.ingest_steps.specs.Sealing.{HasSlot, HasSealed, HasPlacesOf, WasCompared, IsCompared, SealsCompared, IsSealRefusal, KeepsMap, places_with};
 
 use crate::sealing::seal_indexed;
 use actor_parts::SegBuf;
@@ -45,8 +44,8 @@ pub fn seal_compared<D: Disk, X: Index>(
     ensures map { OnOk result (HasPlacesOf filled.now slot (X.places index.old) (X.places index.new)
         (D.view disk.old).content (D.view disk.new).content) }
     ensures refused { IfErr result (IsSealRefusal (X.places index.old (D.view disk.old).content)
-        (IsFirstUnlike (D.view disk.old).size (X.places index.old (D.view disk.old).content) (Shows (D.view disk.old) (D.view disk.new))
-        filled.now.kind filled.now.segments)) }
+        (IsCompared (D.view disk.old).size (X.places index.old (D.view disk.old).content) (Shows (D.view disk.old) (D.view disk.new))
+        filled.now)) }
     ensures unchanged { OnErr result (tables.new ≡ tables.old) }
     ensures kept { IfErr result (KeepsMap (X.places index.old (D.view disk.old).content) (X.places index.new (D.view disk.new).content)) }
     ensures disk { Steps tables.old.slots (ending blames result) (D.view disk.old) (D.view disk.new) }

@@ -11,12 +11,11 @@ ghost use Rattle.actor_parts.specs.PinMap.{PinMap, IsPin};
 ghost use Rattle.actor_parts.specs.Segments.{AreStepSegments};
 ghost use Rattle.refusals.specs.declared.refusal.PartKind.TheVariants as kinds;
 ghost use Rattle.refusals.specs.declared.refusal.Refusal.TheVariants.{Memory};
-ghost use Rattle.store_state.specs.Comparing.{IsFirstUnlike};
 ghost use Rattle.store_state.specs.Refused.{blames};
 ghost use Rattle.store_state.specs.Settled.{Steps};
 ghost use Rattle.store_state.specs.Tables.{Runs};
 ghost use Rattle.ingest_steps.specs.Pinning.{WereHad, with_pins};
-ghost use Rattle.ingest_steps.specs.Sealing.{SealsCompared, KeepsMap};
+ghost use Rattle.ingest_steps.specs.Sealing.{IsCompared, SealsCompared, KeepsMap};
 ghost use Rattle.ingest_steps.specs.SealStep.{IsSealedFor, IsStepRefusal, KeepsSealed};
 
 use crate::comparing_seal::seal_compared;
@@ -105,8 +104,8 @@ pub fn seal<D: Disk, X: Index>(
         tables.new (D.view disk.new) (X.places index.old) (X.places index.new) parts.new) }
     ensures refused { IfErr result (IsStepRefusal (part_of parts.old actor) tables.old (D.view disk.old).size
         (X.places index.old (D.view disk.old).content) filled.now
-        (IsFirstUnlike (D.view disk.old).size (X.places index.old (D.view disk.old).content) (Shows (D.view disk.old) (D.view disk.new))
-        filled.now.kind filled.now.segments)) }
+        (IsCompared (D.view disk.old).size (X.places index.old (D.view disk.old).content) (Shows (D.view disk.old) (D.view disk.new))
+        filled.now)) }
     ensures unchanged { OnErr result ((tables.new ≡ tables.old) × (parts.new ≡ parts.old)) }
     ensures map { IfErr result (KeepsMap (X.places index.old (D.view disk.old).content) (X.places index.new (D.view disk.new).content)) }
     ensures disk { Steps tables.old.slots (ending blames result) (D.view disk.old) (D.view disk.new) }

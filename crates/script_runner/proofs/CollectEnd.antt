@@ -37,12 +37,12 @@ use Rattle.store_core.specs.Runs.{ChangesTo, IsAt, IsSafeIn}
 use Rattle.store_core.specs.State.{CoreState}
 use Rattle.store_core.proofs.JustNeeded.{just_needed}
 use Rattle.store_core.proofs.Leading.{Leads}
+use Rattle.core_machine.proofs.CollectNeeds.{told_here}
 use Rattle.plain_machine.specs.Collections.{EndsCollection, RefusesCollectionStep}
 use Rattle.plain_machine.specs.Content.{OfStore}
 use Rattle.plain_machine.specs.Machine.{Collecting, Machine, Progress, Sweeping}
 use Rattle.script_runner.specs.Follows.{CountsEach, FollowsCollection, HasCounted, HasFilled, HasPlace, IsAtProgress, IsAtStage, HoldsCollection, SparesNeeded, is_filled}
 use Rattle.script_runner.specs.Sessions.{Sessions}
-use Rattle.script_runner.proofs.CollectNeeds.{told_here}
 use Rattle.script_runner.proofs.CollectParts.{gc_event}
 use Rattle.script_runner.proofs.CollectProgress.{at_end}
 use Rattle.script_runner.proofs.Filled.{no_keys}

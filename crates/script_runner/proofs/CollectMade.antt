@@ -42,21 +42,22 @@ use Rattle.store_core.specs.Core.{CoreStep, IndexesAll}
 use Rattle.store_core.specs.Runs.{IsAt, IsSafeIn}
 use Rattle.store_core.specs.State.{CoreState, IsUnderWayIn}
 use Rattle.store_core.proofs.Leading.{Leads}
+use Rattle.core_machine.specs.Lives.{IsLiveAtStage, LivesJust}
+use Rattle.core_machine.proofs.CollectNeeds.{needs_closed, needs_here, told_here}
+use Rattle.core_machine.proofs.Lives.{IsSameIn, lives_made}
 use Rattle.plain_machine.specs.Collections.{ChangesBy, GoesOver, GoesTo, IsOrWasNeeded, IsShort, RecordsBy, StepsCollection, forgets_by, freed_by, last_by}
 use Rattle.plain_machine.specs.Content.{SameStore}
 use Rattle.plain_machine.specs.Machine.{Collecting, Machine, WasNeeded}
-use Rattle.script_runner.specs.Follows.{CountsEach, FollowsCollecting, HasCounted, HasFilled, HasPlace, IsAtProgress, IsWritten, HoldsCollection, IsLiveAtStage, LivesByNeed, LivesJust, SparesNeeded, WroteOnce}
+use Rattle.script_runner.specs.Follows.{CountsEach, FollowsCollecting, HasCounted, HasFilled, HasPlace, IsAtProgress, IsWritten, HoldsCollection, LivesByNeed, SparesNeeded, WroteOnce}
 use Rattle.script_runner.specs.Sessions.{Sessions}
 use Rattle.script_runner.proofs.CollectBytes.{GivesNothing}
 use Rattle.script_runner.proofs.CollectCauses.{no_end, phase_is}
 use Rattle.script_runner.proofs.CollectCounts.{copies_by, counted_on, percent_on, short_sweep, snapshot_on}
-use Rattle.script_runner.proofs.CollectNeeds.{needs_closed, needs_here, told_here}
 use Rattle.script_runner.proofs.CollectParts.{gc_event}
 use Rattle.script_runner.proofs.CollectProgress.{Progresses, ReadsSame, progresses}
 use Rattle.script_runner.proofs.CollectRecords.{records_on}
 use Rattle.script_runner.proofs.CollectStep.{HasCollecting, Stepped, image, last_after, leads, low_after, runs_then, same_index, same_so, same_some, some_collecting, steps, told, touched, under}
 use Rattle.script_runner.proofs.Filled.{filled_of, has_filled, tells_filled}
-use Rattle.script_runner.proofs.Lives.{IsSameIn, lives_made}
 use Rattle.script_runner.proofs.Places.{entry_of, has_place, over_made, source_of, sources_recorded}
 use Rattle.script_runner.proofs.SweepContent.{copies_added, filled_to_copy, freed}
 use Rattle.script_runner.proofs.Sweeping.{IsFewIn, few_after, few_by, left_by, left_on}

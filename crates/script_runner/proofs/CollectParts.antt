@@ -1,14 +1,9 @@
 -- What actors are at stays as the machine says over a step of a collection: it spares what they have pinned, and the files that they take.
-use Rattle.std.proofs.Common.{◌≡◌, inr, ◌<◌, ℕ, List, [], ◌∷◌, map, Bool, true, false, Option, Some, None, Result, refl, sym, ◌∙◌, ap, subst, arith}
+use Rattle.std.proofs.Common.{◌≡◌, inr, ◌<◌, ℕ, List, [], Bool, true, false, Option, Some, None, Result, sym, ◌∙◌, subst}
 use Rattle.std.specs.FinMap as finite
-use Rattle.std.specs.List.{AllByRecursion, Contains}
 use Rattle.container_meta.specs.Places.{PlaceMap}
 use Rattle.container_meta.specs.Segments.{KindSegment, segment_key}
-use Rattle.container_meta.specs.Spelling.{HeaderValue}
 use Rattle.disk_format.specs.Layout.{slot_at}
-use Rattle.merkle_file.specs.Tree.{Tree, Empty, Leaf, Node, of_segment, root_of}
-use Rattle.merkle_file.specs.Walk.{IsTree, segments_in, trees_in}
-use Rattle.merkle_file.specs.declared.top.Top.{Top}
 use Rattle.actor_parts.specs.declared.actor.TheConstants.{ACTORS}
 use Rattle.actor_parts.specs.declared.part.Part.TheVariants as core_parts
 use Rattle.actor_parts.specs.declared.part.Part as core_part
@@ -21,29 +16,18 @@ use Rattle.actor_parts.specs.Segments.{pin_by, pin_of}
 use Rattle.actor_parts.specs.StepValue as asked
 use Rattle.refusals.specs.declared.refusal.Refusal.{Refusal}
 use Rattle.ingest_session.specs.State.{SessionState}
-use Rattle.read_steps.specs.Opening.{top_of}
-use Rattle.read_steps.specs.Walking.{SegmentsAhead}
-use Rattle.read_steps.proofs.Openings.{segments_on}
-use Rattle.gc_steps.specs.LiveTrees.{IsRootOf}
 use Rattle.gc_steps.specs.Roots.{IsPartKey}
 use Rattle.gc_steps.specs.Safety.{IsNeeded}
 use Rattle.gc_steps.proofs.PinnedTrees.{pinned_whole}
-use Rattle.gc_steps.proofs.ReaderNeeds.{reader_needs}
 use Rattle.segment_index.specs.Changes.{SameBefore}
-use Rattle.store_model.specs.Collisions.{IsIn}
 use Rattle.store_model.specs.Files.{Stored}
 use Rattle.store_model.specs.Image.{Store}
-use Rattle.store_model.specs.Refusals.{root_key}
-use Rattle.store_model.specs.Reserve.{HoldsCounted, key_set, tree_keys}
 use Rattle.store_model.specs.Slots.{HasKey}
 use Rattle.store_model.specs.Standing.{IsStoreOf}
-use Rattle.store_model.specs.Steps.{KeepsCopies}
-use Rattle.store_model.specs.Trees.{HasNewest, file_tree}
-use Rattle.store_model.proofs.Counted.{contained, in_set, tree_on}
+use Rattle.store_model.specs.Trees.{HasNewest}
 use Rattle.store_model.proofs.FramedTrees.{newest_framed}
 use Rattle.store_model.proofs.SameIndex.{same_copies}
-use Rattle.store_model.proofs.Unfolding.{right_file, root_of_tree, trees_agree}
-use Rattle.store_state.specs.Invariant.{HoldsPart, HoldsRest}
+use Rattle.store_state.specs.Invariant.{HoldsPart}
 use Rattle.store_state.specs.Settled.{IsSettled}
 use Rattle.store_core.specs.Keeping.{IsHeldIn}
 use Rattle.store_core.specs.Runs.{FileEvent, IsAt}
@@ -51,9 +35,10 @@ use Rattle.store_core.specs.State.{CoreState}
 use Rattle.store_core.proofs.Leading.{Leads}
 use Rattle.store_core.proofs.OwnParts.{all_part}
 use Rattle.store_core.proofs.Sealing.{one_map}
+use Rattle.core_machine.specs.Files.{Takes}
+use Rattle.core_machine.proofs.CollectTakes.{KeepsNeeded, root_within, takes_still}
 use Rattle.plain_machine.specs.Machine.{Finished, Idle, Part, Reading, Writing}
-use Rattle.script_runner.specs.Follows.{FollowsPart, Gives, Takes}
-use Rattle.script_runner.proofs.Coming.{takes_at}
+use Rattle.script_runner.specs.Follows.{FollowsPart, Gives}
 
 -- ---- a segment that each image holds
 
@@ -77,40 +62,6 @@ module _ (S : List ℕ → Type 0) (s : Store) (stored : Stored) (c : CoreState)
               (newest_framed s image left right same.before seg_key (pin_of seg).level seg.segment.bytes newest);
         };
       }
-
--- ---- trees
-
--- a tree has the key of its root
-root_within : (t : Tree (List ℕ)) (key : List ℕ) → IsRootOf key t → Contains (tree_keys t) key
-root_within Empty key is = absurd is
-root_within (Leaf segment) key is = (0, omega arith, sym is)
-root_within (Node level ts) key is = (0, omega arith, sym is)
-
--- trees of one root that are held are one
-module _ (held : List (Option HeaderValue)) (image : List ℕ) (P Q : List ℕ → Type 0) where
-  right_tree : (t : Tree (List ℕ)) → IsTree t → AllByRecursion IsTree (trees_in t)
-  right_tree Empty right = absurd right
-  right_tree (Leaf segment) right = (right, tt)
-  right_tree (Node level ts) right = (right, tt)
-
-  first_top : (a b : Top) (xs ys : List Top) → a ∷ xs ≡ b ∷ ys → a ≡ b
-  first_top a b xs ys is = cc
-
-  rest_tops : (a b : Top) (xs ys : List Top) → a ∷ xs ≡ b ∷ ys → xs ≡ ys
-  rest_tops a b xs ys is = cc
-
-  same_lists : (t u : Tree (List ℕ)) (ts us : List (Tree (List ℕ))) → t ≡ u → ts ≡ us → t ∷ ts ≡ u ∷ us
-  same_lists t u ts us first rest = cc
-
-  same_trees : (ts us : List (Tree (List ℕ))) → map (root_of of_segment) ts ≡ map (root_of of_segment) us → AllByRecursion IsTree ts → AllByRecursion IsTree us
-      → AllByRecursion (HoldsCounted P held image) ts → AllByRecursion (HoldsCounted Q held image) us → ts ≡ us
-  same_trees [] [] tops right also one other = refl
-  same_trees [] (u ∷ us) tops right also one other = absurd (let wrong = tops in cc)
-  same_trees (t ∷ ts) [] tops right also one other = absurd (let wrong = tops in cc)
-  same_trees (t ∷ ts) (u ∷ us) tops right also one other =
-      same_lists t u ts us
-      (trees_agree held image t u (right_tree t right.0) (right_tree u also.0) one.0.tree_is_held other.0.tree_is_held (first_top _ _ _ _ tops))
-      (same_trees ts us (rest_tops _ _ _ _ tops) right.1 also.1 one.1 other.1)
 
 -- ---- a step of a collection
 
@@ -184,58 +135,19 @@ module _ (S : List ℕ → Type 0) (s : Store) (stored : Stored) (old new : Core
 
     -- ---- a file that is taken
 
-    module _ (reader : Reader) (is : part_of old.parts actor ≡ core_parts.Reading reader) where
-      rest_held : HoldsRest (HasKey at.index) s.held image reader
-      rest_held = held_as (core_parts.Reading reader) is
+    spares : KeepsNeeded S s leads.next.store stored stored old new at then
+    spares = record {
+      keys = λ key needed has. leads.keys key image here needed at.index then.index at.index_known then.index_known has;
+      copies = λ key needed has level bytes newest. leads.copies key image after here told needed at.index at.index_known has level bytes newest;
+    }
 
-      abbrev keys : List (List ℕ)
-      keys = tree_keys rest_held.whole
-
-      key_needed : (key : List ℕ) → Contains keys key → IsNeeded s old.parts image key
-      key_needed key there =
-          let needs = reader_needs (HasKey at.index) s.held image reader rest_held key there in
-          record {
-            root = root_key reader.root;
-            is_root = inr (actor, (below, subst (λ (part : core_part.Part). IsPartKey part (root_key reader.root)) (sym is) needs.0));
-            tree = rest_held.whole;
-            right = needs.2;
-            is_held = needs.3;
-            root_is = needs.1;
-            within = there;
-          }
-
-      key_has : (key : List ℕ) → Contains keys key → HasKey at.index key
-      key_has key there = rest_held.is_held.count key there
-
-      goes_on : KeepsCopies (IsIn (key_set keys)) s image leads.next.store after
-      goes_on key level text there newest =
-          let has = contained key keys there in
-          leads.copies key image after here told (key_needed key has) at.index at.index_known (key_has key has) level text newest
-
-      -- the file's tree is the one that is held whole
-      whole_same : (file : List ℕ) (rest : List (List ℕ)) → Takes file rest reader old → rest_held.whole ≡ file_tree file
-      whole_same file rest takes =
-          trees_agree s.held image rest_held.whole (file_tree file) rest_held.right (right_file file takes.fits) rest_held.is_held.tree_is_held (takes.whole s image at.represents here).tree_is_held
-          (sym rest_held.top_is ∙ ap top_of (takes.root_is ∙ root_of_tree file takes.fits))
-
-      takes_still : (file : List ℕ) (rest : List (List ℕ)) → Takes file rest reader old → Takes file rest reader new
-      takes_still file rest takes =
-          let ahead : SegmentsAhead takes.counts s.held image reader.cursor rest = takes.segments s image at.represents here in
-          let same : ahead.trees ≡ rest_held.trees =
-          same_trees s.held image (IsIn takes.counts) (IsIn (key_set keys)) ahead.trees rest_held.trees (sym ahead.held_ahead.trees.tops ∙ rest_held.ahead.tops) ahead.held_ahead.trees.each rest_held.ahead.each
-          ahead.held_ahead.each rest_held.are_held in
-          takes_at S leads.next.store stored new then after told (key_set keys)
-          (λ key there. let has = contained key keys there in leads.keys key image here (key_needed key has) at.index then.index at.index_known then.index_known (key_has key has)) file rest reader takes.fits takes.root_is
-          (subst (HoldsCounted (IsIn (key_set keys)) leads.next.store.held after) (whole_same file rest takes)
-          (tree_on (IsIn (key_set keys)) (IsIn (key_set keys)) s leads.next.store image after goes_on (λ key there. there) rest_held.whole
-          (record { tree_is_held = rest_held.is_held.tree_is_held; count = λ key there. in_set key keys there })))
-          (segments_on (key_set keys) s leads.next.store image after goes_on reader.cursor rest
-          (record { trees = rest_held.trees; held_ahead = record { trees = rest_held.ahead; each = rest_held.are_held }; segments_are = ahead.segments_are ∙ ap segments_in same }))
+    takes_on_still : (reader : Reader) → part_of old.parts actor ≡ core_parts.Reading reader → (file : List ℕ) (rest : List (List ℕ)) → Takes file rest reader old → Takes file rest reader new
+    takes_on_still reader is file rest takes = takes_still S s leads.next.store stored stored old new at then spares actor below reader is file rest takes
 
     -- whatever it is at
     pub part_still : (part : Part) (session : Option SessionState) (core : core_part.Part) → part_of old.parts actor ≡ core → FollowsPart part session core old → FollowsPart part session core new
     part_still Idle None core_parts.Idle is follows = tt
     part_still (Writing given answers_are) (Some t) (core_parts.Writing pins) is follows = gives_still given false answers_are t pins is follows
     part_still (Finished file answers_are) (Some t) (core_parts.Writing pins) is follows = gives_still file true answers_are t pins is follows
-    part_still (Reading file rest) None (core_parts.Reading reader) is follows = takes_still reader is file rest follows
+    part_still (Reading file rest) None (core_parts.Reading reader) is follows = takes_on_still reader is file rest follows
     part_still part session core is follows = absurd follows

@@ -40,11 +40,11 @@ use Rattle.store_core.specs.Collecting.{at_moment}
 use Rattle.store_core.specs.Runs.{IsAt, IsSafeIn}
 use Rattle.store_core.specs.State.{CoreState, IsUnderWayIn}
 use Rattle.store_core.proofs.ByNeed.{sum_once, sums_needed}
+use Rattle.core_machine.specs.Lives.{IsLiveAtStage, LivesJust}
+use Rattle.core_machine.proofs.CollectNeeds.{needs_here, told_here}
 use Rattle.plain_machine.specs.Collections.{IsRecordOf, RecordsBy, ids_before}
 use Rattle.plain_machine.specs.Content.{OfStore}
 use Rattle.plain_machine.specs.Machine.{Machine}
-use Rattle.script_runner.specs.Follows.{IsLiveAtStage, LivesJust}
-use Rattle.script_runner.proofs.CollectNeeds.{needs_here, told_here}
 use Rattle.script_runner.proofs.NeedsLive.{live_within, needs_some}
 use Rattle.script_runner.proofs.TurnHolds.{right_here}
 

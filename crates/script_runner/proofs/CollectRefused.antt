@@ -33,20 +33,21 @@ use Rattle.store_core.specs.Core.{CoreStep, IndexesAll, Steps}
 use Rattle.store_core.specs.Runs.{ChangesTo, IsAt}
 use Rattle.store_core.specs.State.{CoreState}
 use Rattle.store_core.proofs.JustNeeded.{kept_takes}
+use Rattle.core_machine.specs.Lives.{IsLiveAtStage, LivesJust}
+use Rattle.core_machine.proofs.CollectNeeds.{needs_closed, needs_here, told_here}
+use Rattle.core_machine.proofs.Lives.{IsSameIn, kept_marks, lives_kept}
 use Rattle.plain_machine.specs.Collections.{BreaksBy, BreaksStep, HasSource, HasToCopy, IsCollecting, IsNextOf, IsOrWasNeeded, MayCome, MayRead, RefusesCollectionStep}
 use Rattle.plain_machine.specs.Content.{SameStore}
 use Rattle.plain_machine.specs.Machine.{Collecting, Machine, Marking, Progress, Recording, Stopped, Sweeping, WasNeeded}
-use Rattle.script_runner.specs.Follows.{Follows, HasFilled, IsOfFound, HoldsCollection, IsLiveAtStage, LivesByNeed, LivesJust, SparesNeeded, WroteOnce}
+use Rattle.script_runner.specs.Follows.{Follows, HasFilled, IsOfFound, HoldsCollection, LivesByNeed, SparesNeeded, WroteOnce}
 use Rattle.script_runner.specs.Sessions.{Sessions}
 use Rattle.script_runner.proofs.CollectBytes.{GivesNothing, IsRest}
 use Rattle.script_runner.proofs.CollectCauses.{IsCauseAt, IsCollectCause, IsReadCause, IsRestCause, cause_at, collect_cause}
 use Rattle.script_runner.proofs.CollectEnd.{not_collecting}
 use Rattle.script_runner.proofs.CollectionOn.{by_collection, same_come}
-use Rattle.script_runner.proofs.CollectNeeds.{needs_closed, needs_here, told_here}
 use Rattle.script_runner.proofs.CollectParts.{gc_event}
 use Rattle.script_runner.proofs.CollectIndex.{rest_index}
 use Rattle.script_runner.proofs.Filled.{first_key}
-use Rattle.script_runner.proofs.Lives.{IsSameIn, kept_marks, lives_kept}
 use Rattle.script_runner.proofs.CollectStep.{HasCollecting, flush_same, image, is_collecting, keeps, kept_unchanged, leads, right, runs_then, same_index, same_so, same_some, some_collecting, step, steps, told, touched, under}
 use Rattle.script_runner.proofs.Harmless.{is_harmless}
 use Rattle.script_runner.proofs.Places.{is_next_of}

@@ -16,11 +16,7 @@ use Rattle.gc_steps.specs.StepsToCome.{old_from, steps_to_come}
 use Rattle.gc_steps.proofs.CopiedOn.{begun_counted}
 use Rattle.gc_steps.proofs.FewSources.{few_begun}
 use Rattle.gc_steps.proofs.Sparing as sparing
-use Rattle.gc_steps.proofs.Safe.{early_level, start_safe}
-use Rattle.gc_steps.proofs.RootTrees.{whole_indexed}
-use Rattle.gc_steps.proofs.Started.{root_whole}
-use Rattle.gc_steps.specs.Safety.{IsSafe}
-use Rattle.gc_sweep.specs.Holding.{IsLive}
+use Rattle.gc_steps.proofs.Safe.{early_level}
 use Rattle.gc_steps.proofs.WholeCopies.{begun_takes}
 use Rattle.gc_steps.specs.FewSources.{IsToChoose}
 use Rattle.disk_format.specs.declared.numbers.TheConstants.{MOST_LEVEL}
@@ -43,20 +39,21 @@ use Rattle.store_core.proofs.KeepingSegments.{stays_held, stays_settled}
 use Rattle.store_core.proofs.Making.{up_of}
 use Rattle.store_core.proofs.RunningOn.{step_runs}
 use Rattle.store_core.proofs.Stepping.{step_later}
+use Rattle.core_machine.proofs.Coming.{takes_on}
+use Rattle.core_machine.proofs.LivesBegun.{lives_begun, roots_live}
 use Rattle.plain_machine.specs.Collections.{BeginsCollection, most_steps}
 use Rattle.plain_machine.specs.Machine.{Collecting, Machine, Marking, Since, WasNeeded, are_idle, part_in}
-use Rattle.script_runner.specs.Follows.{FollowsCollecting, FollowsCollection, FollowsPart, HoldsCollection, IsLiveAtStage, LivesByNeed, LivesJust, SparesNeeded}
+use Rattle.script_runner.specs.Follows.{FollowsCollecting, FollowsCollection, FollowsPart, HoldsCollection, LivesByNeed, SparesNeeded}
 use Rattle.script_runner.specs.Sessions.{Sessions, session_of}
 use Rattle.script_runner.proofs.CollectCounts.{early_counted}
-use Rattle.script_runner.proofs.CollectNeeds.{told_here}
 use Rattle.script_runner.proofs.CollectStep.{none_collecting, same_some}
 use Rattle.script_runner.proofs.IdleParts.{none_at, roots_reachable}
 use Rattle.script_runner.proofs.Filled.{early_filled}
 use Rattle.script_runner.proofs.Places.{early_place}
 use Rattle.script_runner.proofs.LinesReopen.{still_follows}
 use Rattle.script_runner.proofs.MostSteps.{steps_most}
-use Rattle.script_runner.proofs.PartsOn.{part_on, takes_on}
-use Rattle.script_runner.proofs.Lives.{IsClosed, below_at, closed_at, lives_of, lives_still}
+use Rattle.script_runner.proofs.PartsOn.{part_on}
+use Rattle.script_runner.proofs.Lives.{lives_of, lives_still}
 use Rattle.script_runner.proofs.NeededThen.{actors_need, keys_then, needed_below, needed_closed, roots_needed}
 use Rattle.script_runner.proofs.SparesLive.{same_live, spares_still}
 use Rattle.script_runner.proofs.TurnHolds.{right_here, store_here}
@@ -227,49 +224,21 @@ module _ (C : Type 0) (state : C → CoreState) (among : ByteSet) (apart : HasNo
     )
 
     -- just what is needed then is live, once it has marked
-    lives_begun : LivesByNeed held begins_so (state new)
-    lives_begun collection runs =
-        subst (LivesJust (WasNeeded since_then) held (state new)) (same_some begun.collection collection (state new).collection begun.runs runs) (record {
-          within = λ key place is.
-              roots_needed (IsIn among) m sessions (state old) at.parts_are at.running.parts held m.stored at.running.begins.is_at m.content at.content_is key
-              (subst (λ (names : NameMap). IsRoot names (state old).parts key) at.running.begins.is_at.represents.names_are.names_are ((begun.live key place).0 is));
-          closed = λ image told.
-              closed_at (WasNeeded since_then) held image begun.collection.stage
-              (subst (IsClosed (WasNeeded since_then) held) (same_content image told)
-              (needed_closed (IsIn among) m sessions (state old) at.parts_are at.running.parts held m.stored at.running.begins.is_at m.content at.content_is));
-          all = λ index image known told key was.
-              subst (λ (b : List ℕ). IsLiveAtStage begun.collection.stage index held.held b begun.collection.live key) (same_content image told)
-              (subst (λ (i : PlaceMap). IsLiveAtStage begun.collection.stage i held.held m.content begun.collection.live key) (same_index index known)
-              (below_at begun.collection.stage at.running.begins.is_at.index held (state old).parts m.content begun.collection safe_then key
-              (needed_below (IsIn among) m sessions (state old) at.parts_are at.running.parts held m.stored at.running.begins.is_at m.content at.content_is begun.collection.live roots_live key was)));
-        })
-      where
-        same_content : (image : List ℕ) → (state new).disk.content ≡ Some image → m.content ≡ image
-        same_content image told = let both : Some m.content ≡ Some image = sym at.content_is ∙ sym made_so.made.effect.disk.only.content_is ∙ told in cc
-
-        same_index : (index : PlaceMap) → (state new).known ≡ Some index → at.running.begins.is_at.index ≡ index
-        same_index index known =
-            let both : Some at.running.begins.is_at.index ≡ Some index = sym at.running.begins.is_at.index_known ∙ sym made_so.made.effect.tables.index_is ∙ known in cc
-
-        safe_then : IsSafe at.running.begins.is_at.index held (state old).parts m.content begun.collection
-        safe_then =
-            start_safe at.running.begins.is_at.index held (state old).parts m.content m.stored.files (at.running.begins.is_at.invariant m.content at.content_is)
-            (store_here (IsIn among) held m.stored (state old) at.running.begins.is_at m.content at.content_is) (state old).tables begun.collection
-            (told_here (IsIn among) held m.stored (state old) at.running.begins.is_at) begun.next_is begun.stage_is begun.live
-
-        roots_live : (key : List ℕ) → IsRoot (names_of held) (state old).parts key → IsLive at.running.begins.is_at.index begun.collection.live key
-        roots_live key root =
-            let has = whole_indexed at.running.begins.is_at.index held.held m.content key
-            (root_whole at.running.begins.is_at.index held m.stored.files (state old).parts m.content (at.running.begins.is_at.invariant m.content at.content_is)
-            (store_here (IsIn among) held m.stored (state old) at.running.begins.is_at m.content at.content_is) key root) in
-            (has.0, (has.1, (begun.live key has.0).1 (subst (λ (names : NameMap). IsRoot names (state old).parts key) (sym at.running.begins.is_at.represents.names_are.names_are) root)))
+    lives_now : LivesByNeed held begins_so (state new)
+    lives_now =
+        let is_at = at.running.begins.is_at in
+        lives_begun (IsIn among) held m.stored (state old) (state new) is_at m.content at.content_is percent snapshot begun (WasNeeded since_then) made_so.made.effect.tables.index_is made_so.made.effect.disk.only.content_is
+        (roots_needed (IsIn among) m sessions (state old) at.parts_are at.running.parts held m.stored is_at m.content at.content_is)
+        (needed_closed (IsIn among) m sessions (state old) at.parts_are at.running.parts held m.stored is_at m.content at.content_is)
+        (needed_below (IsIn among) m sessions (state old) at.parts_are at.running.parts held m.stored is_at m.content at.content_is begun.collection.live
+        (roots_live (IsIn among) held m.stored (state old) (state new) is_at m.content at.content_is percent snapshot begun))
 
     spares_begun : HoldsCollection m.stored.files held (Some begins_so) (state new)
     spares_begun = (
       (λ idle index collection known runs.
           subst (SparesNeeded m.stored.files held percent index) (same_some begun.collection collection (state new).collection begun.runs runs) (needed_alone (roots_alone idle) index known)),
       λ key none collection runs. absurd (omega (arith, none.1)),
-      lives_begun,
+      lives_now,
     )
 
     -- where it leads

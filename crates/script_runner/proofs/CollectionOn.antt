@@ -28,10 +28,11 @@ use Rattle.container_meta.specs.Format.{is_id}
 use Rattle.std.specs.Prelude.{nat_le}
 use Rattle.std.proofs.lemmas.Bool.{leb-true}
 use Rattle.base_model.proofs.Checks.{both}
+use Rattle.core_machine.proofs.PlainSteps.{IsPlainStep, plain_no_gc}
 use Rattle.plain_machine.specs.Machine.{Collecting}
 use Rattle.plain_machine.specs.Turns.{last_by}
 use Rattle.script_runner.specs.Follows.{FollowsCollecting, FollowsCollection}
-use Rattle.script_runner.proofs.PlainSteps.{GoesUnchanged, IsPlainStep, IsUnsealed, goes_unchanged, last_after, plain_no_gc, slots_on}
+use Rattle.script_runner.proofs.PlainSteps.{GoesUnchanged, IsUnsealed, goes_unchanged, last_after, slots_on}
 
 -- ---- a container that is sealed
 

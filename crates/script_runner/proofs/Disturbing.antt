@@ -12,12 +12,14 @@ use Rattle.store_core.specs.Core.{Effect, KeepsTables, Steps, StopsAfter}
 use Rattle.store_core.specs.Runs.{ChangesTo, changes_by, stored_with}
 use Rattle.store_core.specs.State.{CoreState, Event}
 use Rattle.store_core.proofs.RunningOn.{seal_kept}
+use Rattle.core_machine.proofs.LivesOn.{stands_by}
+use Rattle.core_machine.proofs.PlainSteps.{IsPlainStep}
 use Rattle.plain_machine.specs.Machine.{Collecting, disturbed}
 use Rattle.script_runner.specs.Follows.{FollowsCollection, HoldsCollection}
 use Rattle.script_runner.proofs.Lives.{LivesIn}
-use Rattle.script_runner.proofs.PlainSteps.{IsPlainStep, collecting_after, goes_unchanged, kept_keys}
+use Rattle.script_runner.proofs.PlainSteps.{collecting_after, goes_unchanged, kept_keys}
 use Rattle.script_runner.proofs.SparesLive.{GoesAsLive, WroteOf, follows_disturbed, none_marked, same_live, spares_disturbed, spares_still}
-use Rattle.script_runner.proofs.WrittenOnce.{once_unchanged, stands_by}
+use Rattle.script_runner.proofs.WrittenOnce.{once_unchanged}
 
 -- it disturbs no collection
 abbrev pub IsQuiet : StepValue → Result Answer Refusal → Type 0

@@ -6,7 +6,6 @@ pub mod CollectCounts
 pub mod CollectEnd
 pub mod CollectIndex
 pub mod CollectMade
-pub mod CollectNeeds
 pub mod CollectParts
 pub mod CollectProgress
 pub mod CollectRecords
@@ -14,7 +13,6 @@ pub mod CollectRefused
 pub mod CollectStart
 pub mod CollectStep
 pub mod CollectionOn
-pub mod Coming
 pub mod CommitMade
 pub mod CommitRefused
 pub mod CopyRefused
@@ -40,7 +38,6 @@ pub mod LinesStat
 pub mod LinesTaking
 pub mod LinesTurn
 pub mod Lists
-pub mod LiveTrees
 pub mod Lives
 pub mod LivesOn
 pub mod MostSteps

@@ -47,11 +47,12 @@ use Rattle.store_core.proofs.CoreRuns.{running_step}
 use Rattle.store_core.proofs.Making.{up_of}
 use Rattle.store_core.proofs.Opened.{begins_at, kept_runs, new_runs}
 use Rattle.store_core.proofs.RunningOn.{step_runs}
+use Rattle.core_machine.specs.Files.{Takes}
 use Rattle.plain_machine.specs.Machine.{Collecting, Finds, Machine, Part, Idle, RunState, Running, Stopped, MayBeFound, opened, part_in, stopped_by}
 use Rattle.plain_machine.specs.Refused as plain_refused
 use Rattle.plain_machine.specs.Runs.{StepBy, StepReopen}
 use Rattle.script_runner.specs.Acts.{ActsReopen, RefusesReopen, Reopens, RunnerState, counted}
-use Rattle.script_runner.specs.Follows.{Follows, FollowsBy, FollowsPart, FollowsStopped, IsOfFound, Takes, FollowsCollection, FollowsStore, FollowsStoreOf}
+use Rattle.script_runner.specs.Follows.{Follows, FollowsBy, FollowsPart, FollowsStopped, IsOfFound, FollowsCollection, FollowsStore, FollowsStoreOf}
 use Rattle.script_runner.specs.Sessions.{Sessions, session_of}
 use Rattle.script_runner.proofs.Along.{GoesAlong}
 use Rattle.script_runner.proofs.Images.{sound}

@@ -38,14 +38,15 @@ use Rattle.store_core.specs.State.{CoreState, Event}
 use Rattle.store_core.proofs.CoreRuns.{running_step}
 use Rattle.store_core.proofs.Damage.{finds_files}
 use Rattle.store_core.proofs.OwnParts.{same_reader}
+use Rattle.core_machine.specs.Files.{Takes}
+use Rattle.core_machine.proofs.Coming.{ahead_at, indexed_at, some_segment, takes_at, whole_at}
 use Rattle.plain_machine.specs.Machine.{Machine, Part, Idle, Reading, Running, kind_of, part_in}
 use Rattle.plain_machine.specs.Refused.{takes, IsAtRightPart}
 use Rattle.plain_machine.specs.Runs.{StepRunning}
 use Rattle.script_runner.specs.Acts.{Acts, ActsOrNot, Admits, DoesStep, RefusesStep, RunnerState}
-use Rattle.script_runner.specs.Follows.{Follows, FollowsPart, FollowsRunning, Takes}
+use Rattle.script_runner.specs.Follows.{Follows, FollowsPart, FollowsRunning}
 use Rattle.script_runner.specs.Sessions.{Sessions, session_of}
 use Rattle.script_runner.proofs.Along.{GoesAlong}
-use Rattle.script_runner.proofs.Coming.{ahead_at, indexed_at, some_segment, takes_at, whole_at}
 use Rattle.script_runner.proofs.LinesBarred.{each_part, right_part, taken_or_not}
 use Rattle.script_runner.proofs.LinesGiving.{at_idle}
 use Rattle.script_runner.proofs.Lists.{OneSet, one_set, none_set, set_here, some_within}

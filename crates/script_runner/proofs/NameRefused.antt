@@ -22,13 +22,14 @@ use Rattle.store_core.specs.Frame.{KeepsWritten, commands_of}
 use Rattle.store_core.specs.Runs.{FileEvent, FileStep, stored_tried}
 use Rattle.store_core.specs.State.{CoreState}
 use Rattle.store_core.proofs.CoreRuns.{running_step}
+use Rattle.core_machine.proofs.PlainSteps.{IsPlainStep, plain_no_gc}
 use Rattle.plain_machine.specs.Content.{BreaksOff}
 use Rattle.plain_machine.specs.Machine.{Machine, Stopped, part_in}
 use Rattle.script_runner.specs.Follows.{Follows, FollowsPart, IsOfFound}
 use Rattle.script_runner.specs.Sessions.{Sessions, session_of}
 use Rattle.script_runner.proofs.BrokenStep.{Broken, IsTried, broken}
 use Rattle.script_runner.proofs.OneStep.{Stepped, stepped}
-use Rattle.script_runner.proofs.PlainSteps.{IsPlainStep, plain_no_gc, refused_collecting}
+use Rattle.script_runner.proofs.PlainSteps.{refused_collecting}
 use Rattle.script_runner.proofs.PartsOn.{part_on}
 use Rattle.script_runner.proofs.Resting.{counts_none, refused_faults, refused_stored}
 use Rattle.script_runner.proofs.TurnHolds.{right_here}

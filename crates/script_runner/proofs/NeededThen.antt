@@ -1,9 +1,9 @@
 -- What actors need as a collection begins: the keys of its roots, and with a node's key those of its children.
-use Rattle.std.proofs.Common.{◌≡◌, ◌<◌, inl, inr, ℕ, zero, suc, List, [], ◌∷◌, ◌++◌, map, Option, None, Some, refl, sym, ◌∙◌, ap, subst, arith, length, get_or}
+use Rattle.std.proofs.Common.{◌≡◌, ◌<◌, inl, inr, ℕ, zero, suc, List, [], ◌∷◌, ◌++◌, map, Option, None, Some, refl, sym, ◌∙◌, subst, arith, length}
 use Rattle.std.specs.Prelude.{Contains, slice_get, slice_index_or}
 use Rattle.std.specs.FinMap as finite
-use Rattle.std.specs.List.{All, AllByRecursion}
-use Rattle.std.proofs.lemmas.List.Elements.{Contains-append_cases, Contains-append_left, Contains-append_right, Contains-get_or}
+use Rattle.std.specs.List.{All}
+use Rattle.std.proofs.lemmas.List.Elements.{Contains-append_cases, Contains-append_left, Contains-append_right}
 use Rattle.actor_parts.specs.declared.actor.TheConstants.{ACTORS}
 use Rattle.actor_parts.specs.declared.part.Part.TheVariants as core_parts
 use Rattle.actor_parts.specs.declared.part.Part as core_part
@@ -19,38 +19,30 @@ use Rattle.gc_enumerate.specs.Scanning.{child_keys}
 use Rattle.gc_sweep.specs.Holding.{IsLive}
 use Rattle.gc_steps.specs.LiveTrees.{HoldsNode}
 use Rattle.gc_steps.specs.Roots.{IsPartKey, IsRoot}
-use Rattle.gc_steps.proofs.FileKeys.{key_of_root, name_reachable, tree_closed}
+use Rattle.gc_steps.proofs.FileKeys.{name_reachable}
 use Rattle.gc_steps.proofs.Marked.{contains_first, contains_head, contains_next, contains_none}
-use Rattle.gc_steps.proofs.Needed.{closed_tree}
-use Rattle.gc_steps.proofs.NeededKeys.{reachable_has}
-use Rattle.gc_steps.proofs.ReaderNeeds.{tree_root}
-use Rattle.gc_steps.proofs.RootTrees.{root_there, top_of}
-use Rattle.gc_steps.proofs.Started.{root_whole}
 use Rattle.ingest_session.specs.Facts.{IsKept, kept}
 use Rattle.ingest_session.specs.History.{History}
 use Rattle.ingest_session.specs.State.{SessionState}
 use Rattle.merkle_file.specs.Node as node
-use Rattle.merkle_file.specs.Tree as tree
-use Rattle.merkle_file.specs.Walk.{IsTree, trees_in}
 use Rattle.store_model.specs.Files.{Stored}
 use Rattle.store_model.specs.Image.{Store, names_of}
-use Rattle.store_model.specs.Refusals.{root_key}
 use Rattle.store_model.specs.Reserve.{tree_keys}
 use Rattle.store_model.specs.Slots.{Copy, HasKey}
 use Rattle.store_model.specs.Standing.{IsStoreOf}
 use Rattle.store_model.specs.Trees.{file_tree, node_key}
-use Rattle.store_model.proofs.Unfolding.{right_file, root_of_tree}
 use Rattle.store_state.specs.Invariant.{HoldsPart}
 use Rattle.store_core.specs.Runs.{IsAt}
 use Rattle.store_core.specs.State.{CoreState}
 use Rattle.store_core.proofs.OwnParts.{all_part}
+use Rattle.core_machine.proofs.BelowRoots.{Below, below_closed, files_below, root_below, root_taken, taken_below, taken_closed, taken_indexed}
+use Rattle.core_machine.proofs.CollectNeeds.{needs_closed, needs_here}
+use Rattle.core_machine.proofs.Lives.{IsClosed}
+use Rattle.core_machine.proofs.LivesOn.{children_pinned}
 use Rattle.plain_machine.specs.Machine.{Finished, Idle, Machine, Part, Reading, WasNeeded, Writing, part_in}
 use Rattle.plain_machine.specs.Needs.{ActorsNeed, PartsNeed, NeedsJust, keys_kept}
-use Rattle.script_runner.specs.Follows.{FollowsPart, HasKeptKey, IsBelowLive}
+use Rattle.script_runner.specs.Follows.{FollowsPart, HasKeptKey}
 use Rattle.script_runner.specs.Sessions.{Sessions, session_of}
-use Rattle.script_runner.proofs.CollectNeeds.{needs_closed, needs_here}
-use Rattle.script_runner.proofs.Lives.{IsClosed}
-use Rattle.script_runner.proofs.LivesOn.{children_pinned}
 
 -- ---- the keys that a history has as kept
 
@@ -104,7 +96,7 @@ module _ (c : CoreState) where
   root_in (Writing given answers) (Some s) (core_parts.Writing pins) follows key is = key_kept follows.history key (follows.only key is.0 is.1)
   root_in (Finished file answers) (Some s) (core_parts.Writing pins) follows key is = key_kept follows.history key (follows.only key is.0 is.1)
   root_in (Reading file rest) None (core_parts.Reading reader) follows key is =
-      key_of_root (file_tree file) reader.root key (right_file file follows.fits) (ap top_of (follows.root_is ∙ root_of_tree file follows.fits)) is
+      root_taken c file rest reader follows key is
   root_in part session core follows key is = absurd follows
 
   -- and with a node's key those of its children
@@ -126,7 +118,7 @@ module _ (c : CoreState) where
     closed_in (Finished file answers) (Some s) (core_parts.Writing pins) follows holds there =
         pinned_closed follows.history pins holds (λ k x is. let has = follows.pinned k x is in (pin_by has.0 has.1, has.4)) (λ k is. follows.only k is.0 is.1) there
     closed_in (Reading file rest) None (core_parts.Reading reader) follows holds there =
-        tree_closed store.held image n copy node_is key child (file_tree file) (right_file file follows.fits) (follows.whole store image at.represents told).tree_is_held there
+        taken_closed c file rest reader follows S store stored at image told n copy node_is there key child
     closed_in part session core follows holds there = absurd follows
 
   -- the keys of what an actor needs lie below its roots, and the index has them
@@ -143,7 +135,7 @@ module _ (c : CoreState) where
         let pinned = follows.pinned has.0 has.1 has.2 in
         subst (HasKey at.index) has.3 (holds (segment_key has.0 has.1) (pin_by pinned.0 pinned.1) pinned.4).counts
     indexed_in (Reading file rest) None (core_parts.Reading reader) follows holds key there =
-        follows.indexed at.index at.index_known key ((follows.whole store image at.represents told).count key there)
+        taken_indexed c file rest reader follows S store stored at image told key there
     indexed_in part session core follows holds key there = absurd follows
 
     module _ (P : List ℕ → Type 0) (closed : (n : node.Contents) (copy : Copy) → HoldsNode store.held image n copy → P (node_key n) → All P (child_keys n)) where
@@ -159,8 +151,7 @@ module _ (c : CoreState) where
           let pinned = follows.pinned has.0 has.1 has.2 in
           subst P has.3 (roots (segment_key has.0 has.1) (pin_by pinned.0 pinned.1, pinned.4))
       below_in (Reading file rest) None (core_parts.Reading reader) follows roots key there =
-          let root = tree_root (file_tree file) reader.root key (right_file file follows.fits) (ap top_of (follows.root_is ∙ root_of_tree file follows.fits)) there in
-          closed_tree store.held image P closed (file_tree file) (root_key reader.root) root.2 (follows.whole store image at.represents told).tree_is_held root.1 (roots (root_key reader.root) root.0) key there
+          taken_below c file rest reader follows S store stored at image told P closed roots key there
       below_in part session core follows roots key there = absurd follows
 
 -- ---- all actors
@@ -283,32 +274,9 @@ module _ (S : List ℕ → Type 0) (m : Machine) (sessions : Sessions) (c : Core
 
   -- all that is needed lies below the roots
   module _ (live : LiveKeys) (roots : (key : List ℕ) → IsRoot (names_of store) c.parts key → IsLive at.index live key) where
-    abbrev Below : List ℕ → Type 0
-    Below = IsBelowLive at.index store.held image live
-
-    root_below : (key : List ℕ) → IsRoot (names_of store) c.parts key → Below key
-    root_below key is =
-        let whole = root_whole at.index store stored.files c.parts image (at.invariant image told) holds key is in
-        let top = root_there whole.whole key whole.root_is in
-        record { root = key; is_live = roots key is; tree = whole; there = subst (Contains (tree_keys whole.whole)) (sym top.1) top.2 }
-
-    tree_right : (t : tree.Tree (List ℕ)) → IsTree t → AllByRecursion IsTree (trees_in t)
-    tree_right tree.Empty right = absurd right
-    tree_right (tree.Leaf segment) right = (right, tt)
-    tree_right (tree.Node level ts) right = (right, tt)
-
-    below_closed : (n : node.Contents) (copy : Copy) → HoldsNode store.held image n copy → Below (node_key n) → All Below (child_keys n)
-    below_closed n copy node_is below k other within = record {
-      root = below.root;
-      is_live = below.is_live;
-      tree = below.tree;
-      there = tree_closed store.held image n copy node_is (get_or (child_keys n) k other) (Contains-get_or (child_keys n) k other within) below.tree.whole (tree_right below.tree.whole below.tree.right) below.tree.is_held.tree_is_held
-          below.there;
-    }
-
-    pub needed_below : (key : List ℕ) → P key → Below key
-    needed_below key (inl file) = reachable_has at.index store stored.files c.parts image holds Below root_below below_closed key file
+    pub needed_below : (key : List ℕ) → P key → Below S store stored c at image told live roots key
+    needed_below key (inl file) = files_below S store stored c at image told live roots key file
     needed_below key (inr kept) =
-        of_each c Below m.parts (session_of sessions) (part_of c.parts) each
-        (λ i below. below_in c S store stored at image told Below below_closed (slice_index_or m.parts i Idle) (session_of sessions i) (part_of c.parts i) (each i below)
-        (λ k is. root_below k (inr (i, (subst (λ (n : ℕ). i < n) many below, is))))) key kept
+        of_each c (Below S store stored c at image told live roots) m.parts (session_of sessions) (part_of c.parts) each
+        (λ i below. below_in c S store stored at image told (Below S store stored c at image told live roots) (below_closed S store stored c at image told live roots) (slice_index_or m.parts i Idle) (session_of sessions i)
+        (part_of c.parts i) (each i below) (λ k is. root_below S store stored c at image told live roots k (inr (i, (subst (λ (n : ℕ). i < n) many below, is))))) key kept

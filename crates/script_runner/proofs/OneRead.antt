@@ -8,11 +8,12 @@ use Rattle.store_state.specs.declared.tables.Tables.{Tables}
 use Rattle.store_core.specs.Core.{CoreStep, Rests}
 use Rattle.store_core.specs.Runs.{FileEvent, IsAt, IsGivenRight, stored_with}
 use Rattle.store_core.specs.State.{CoreState, Event}
+use Rattle.core_machine.proofs.PlainSteps.{IsPlainStep}
 use Rattle.plain_machine.specs.Machine.{Collecting, Machine}
 use Rattle.script_runner.specs.Follows.{FollowsCollection, FollowsRunning, HoldsCollection}
 use Rattle.script_runner.specs.Sessions.{Sessions}
 use Rattle.script_runner.proofs.OneStep.{stepped}
-use Rattle.script_runner.proofs.PlainSteps.{IsPlainStep, collecting_after}
+use Rattle.script_runner.proofs.PlainSteps.{collecting_after}
 use Rattle.script_runner.proofs.Onward.{Onward}
 
 module _ (C : Type 0) (state : C → CoreState) (among : ByteSet) (distinct : HasNoCollisions (IsIn among)) (m : Machine) (sessions : Sessions) (old new : C) (running : FollowsRunning (IsIn among) m sessions (state old))

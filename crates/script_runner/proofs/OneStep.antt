@@ -36,15 +36,18 @@ use Rattle.store_core.proofs.Making.{up_of}
 use Rattle.store_core.proofs.RunningOn.{step_runs}
 use Rattle.store_core.proofs.Standing.{containers_stay}
 use Rattle.store_core.proofs.Stepping.{row_one}
+use Rattle.core_machine.specs.Files.{Takes}
+use Rattle.core_machine.proofs.Coming.{takes_on}
+use Rattle.core_machine.proofs.PlainSteps.{IsPlainStep, plain_no_gc}
 use Rattle.plain_machine.specs.Machine.{Collecting, Machine, part_in}
-use Rattle.script_runner.specs.Follows.{FollowsCollection, FollowsPart, FollowsStore, FollowsRunning, HoldsCollection, Takes}
+use Rattle.script_runner.specs.Follows.{FollowsCollection, FollowsPart, FollowsStore, FollowsRunning, HoldsCollection}
 use Rattle.script_runner.specs.Sessions.{Sessions, session_of}
 use Rattle.script_runner.proofs.CollectionOn.{collection_on, last_on, low_on}
 use Rattle.script_runner.proofs.Disturbing.{follows_after, spares_on}
 use Rattle.script_runner.proofs.Lives.{LivesIn, lives_of}
 use Rattle.script_runner.proofs.LivesOn.{lives_on}
-use Rattle.script_runner.proofs.PlainSteps.{IsPlainStep, collecting_after, last_after, plain_no_gc}
-use Rattle.script_runner.proofs.PartsOn.{part_on, takes_on}
+use Rattle.script_runner.proofs.PlainSteps.{collecting_after, last_after}
+use Rattle.script_runner.proofs.PartsOn.{part_on}
 use Rattle.disk_format.specs.declared.numbers.TheConstants.{LAST_ID}
 
 -- Of a core that was at this store of the machine's files, and runs on: it is at the store that the step's changes lead to, and

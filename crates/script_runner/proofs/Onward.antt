@@ -16,10 +16,11 @@ use Rattle.store_model.specs.Files.{Stored}
 use Rattle.store_core.specs.Keeping.{IsHeldIn}
 use Rattle.store_core.specs.State.{CoreState, IsUp}
 use Rattle.store_core.proofs.Crashes.{image_at}
+use Rattle.core_machine.specs.Files.{Takes}
 use Rattle.plain_machine.specs.Machine.{Machine, Part, Idle, RunState, Running, Stopped, MayBeFound, part_in}
 use Rattle.plain_machine.specs.Runs.{StepBy, StepRunning}
 use Rattle.script_runner.specs.Acts.{RunnerState}
-use Rattle.script_runner.specs.Follows.{Follows, FollowsBy, FollowsPart, FollowsRunning, FollowsStoreOf, IsOfFound, Takes}
+use Rattle.script_runner.specs.Follows.{Follows, FollowsBy, FollowsPart, FollowsRunning, FollowsStoreOf, IsOfFound}
 use Rattle.script_runner.specs.Sessions.{Sessions, session_of}
 use Rattle.script_runner.proofs.Along.{GoesAlong}
 use Rattle.script_runner.proofs.Images.{sound}

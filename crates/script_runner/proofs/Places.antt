@@ -38,10 +38,11 @@ use Rattle.store_core.specs.State.{CoreState}
 use Rattle.store_core.proofs.ByNeed.{of_listed}
 use Rattle.store_core.proofs.CopiesOnce.{listed_of}
 use Rattle.store_core.proofs.FoundCopies.{filled_still, goes_over, next_place}
+use Rattle.core_machine.specs.Lives.{IsLiveAtStage, LivesJust}
 use Rattle.plain_machine.specs.Collections.{GoesOver, HasSource, IsNextOf}
 use Rattle.plain_machine.specs.Content.{IsAmong}
 use Rattle.plain_machine.specs.Machine.{Collecting, Machine}
-use Rattle.script_runner.specs.Follows.{FollowsCollecting, HasFilled, HasPlace, IsAtProgress, IsLiveAtStage, LivesJust}
+use Rattle.script_runner.specs.Follows.{FollowsCollecting, HasFilled, HasPlace, IsAtProgress}
 use Rattle.script_runner.proofs.CollectProgress.{may_come}
 use Rattle.script_runner.proofs.CollectStep.{same_some}
 use Rattle.script_runner.proofs.Filled.{filled_of, no_keys, none_filled}

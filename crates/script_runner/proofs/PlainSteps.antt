@@ -14,28 +14,9 @@ use Rattle.store_core.specs.Core.{Effect, KeepsTables, Row, StopsAfter}
 use Rattle.store_core.specs.Runs.{IsNoGcStep}
 use Rattle.store_core.specs.State.{CoreState}
 use Rattle.store_core.proofs.RunningOn.{seal_kept}
+use Rattle.core_machine.proofs.PlainSteps.{IsPlainStep}
 use Rattle.plain_machine.specs.Machine.{Collecting, disturbed}
 use Rattle.plain_machine.specs.Turns.{last_by}
-
-abbrev pub IsPlainStep : StepValue → Type 0
-IsPlainStep (asked.GcStart percent) = ⊥
-IsPlainStep asked.GcStep = ⊥
-IsPlainStep step = Unit {0}
-
-pub plain_no_gc : (step : StepValue) → IsPlainStep step → IsNoGcStep step
-plain_no_gc (asked.GcStart percent) plain = absurd plain
-plain_no_gc asked.GcStep plain = absurd plain
-plain_no_gc asked.Begin plain = tt
-plain_no_gc (asked.Claim seg) plain = tt
-plain_no_gc (asked.Seal filled) plain = tt
-plain_no_gc (asked.Commit name root) plain = tt
-plain_no_gc asked.Abort plain = tt
-plain_no_gc (asked.OpenRead name) plain = tt
-plain_no_gc asked.ReadNext plain = tt
-plain_no_gc asked.EndRead plain = tt
-plain_no_gc (asked.Delete name) plain = tt
-plain_no_gc asked.ListNames plain = tt
-plain_no_gc asked.Stat plain = tt
 
 -- the last id, after an answer
 abbrev pub last_after : Result Answer Refusal → ℕ → ℕ

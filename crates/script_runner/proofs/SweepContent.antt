@@ -46,9 +46,9 @@ use Rattle.store_state.specs.Settled.{IsSettled}
 use Rattle.store_state.specs.Tables.{Represents}
 use Rattle.store_core.specs.Runs.{IsAt, IsSafeIn}
 use Rattle.store_core.specs.State.{CoreState, IsUnderWayIn}
+use Rattle.core_machine.proofs.CollectNeeds.{told_here}
 use Rattle.plain_machine.specs.Content.{AddsCopies, BreaksCopies, BreaksGate, FreesContainer, Holds, IsToCopy}
 use Rattle.script_runner.proofs.CollectBytes.{flush_changes, gate_broke, gate_changed}
-use Rattle.script_runner.proofs.CollectNeeds.{told_here}
 use Rattle.script_runner.proofs.ToCopy.{are_to_copy, first_of}
 use Rattle.script_runner.proofs.TurnHolds.{right_here}
 use Rattle.script_runner.proofs.TurnKept.{of_kind}

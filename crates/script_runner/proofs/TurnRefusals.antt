@@ -28,6 +28,7 @@ use Rattle.store_state.specs.Tables.{Represents}
 use Rattle.ingest_steps.specs.Claiming.{DiffersFrom, IsClaimRefusal}
 use Rattle.ingest_steps.specs.Pinning.{first_unpinned_of}
 use Rattle.ingest_steps.specs.Sealing as sealing
+use Rattle.ingest_steps.specs.Sealing.{IsCompared}
 use Rattle.ingest_steps.specs.SealStep.{IsStepRefusal}
 use Rattle.ingest_steps.specs.Writers.{IsWrongPart}
 use Rattle.store_core.specs.Core.{IsDamage}
@@ -137,7 +138,7 @@ module _ (S : List ℕ → Type 0) (distinct : HasNoCollisions S) (m : Machine) 
 
     abbrev IsSealCause : Refusal → Type 0
     IsSealCause refusal =
-        IsStepRefusal (part_of old.parts actor) old.tables old.disk.size old.known (open_of s mine) (IsFirstUnlike old.disk.size old.known (Shows old.disk new.disk) (open_of s mine).kind xs) refusal
+        IsStepRefusal (part_of old.parts actor) old.tables old.disk.size old.known (open_of s mine) (IsCompared old.disk.size old.known (Shows old.disk new.disk) (open_of s mine)) refusal
 
     abbrev IsOther : List ℕ → Difference → Type 0
     IsOther key difference = (index : ℕ) × ((x : Segment) × ((slice_get xs index ≡ Some x) × ClashesWith (record { kind = mine; segment = x }) m.content key difference))

@@ -24,9 +24,9 @@ use Rattle.refusals.specs.declared.refusal.Refusal.{Refusal}
 use Rattle.refusals.specs.declared.refusal.Refusal.TheVariants as refusals
 use Rattle.store_model.specs.Collisions.{HasNoCollisions, ByteSet, IsIn, OpensAs}
 use Rattle.store_model.specs.Image.{Store}
-use Rattle.store_state.specs.Comparing.{IsFirstUnlike}
 use Rattle.store_state.specs.Refused.{blames}
 use Rattle.ingest_steps.specs.Claiming.{DiffersFrom, IsClaimRefusal}
+use Rattle.ingest_steps.specs.Sealing.{IsCompared}
 use Rattle.ingest_steps.specs.SealStep.{IsStepRefusal}
 use Rattle.store_core.specs.declared.stop.Stop.{Stop}
 use Rattle.store_core.specs.Core.{CoreStep, IsDamage, Steps, StopsAfter}
@@ -263,7 +263,7 @@ module _ (C : Type 0) (state : C → CoreState) (among : ByteSet) (distinct : Ha
           let g = gives.at in
           let begins = at.running.begins in
           let cause = subst (λ (r : Refusal). IsStepRefusal (part_of (state old).parts actor) (state old).tables (state old).disk.size (state old).known (open_of t kind)
-          (IsFirstUnlike (state old).disk.size (state old).known (Shows (state old).disk (state new).disk) (open_of t kind).kind (open_of t kind).segments) r) is_write seal_steps.made.row.0 in (
+          (IsCompared (state old).disk.size (state old).known (Shows (state old).disk (state new).disk) (open_of t kind)) r) is_write seal_steps.made.row.0 in (
             has_slot S distinct m sessions actor (state old) (state new) at cut gives.w t gives.h gives.pins g kind asks.2 cause.1,
             subst (λ (k : ℕ). Rose k (state new).disk.faults) at.faults_are broke.rose,
             record {

@@ -16,13 +16,13 @@ use Rattle.ingest_session.specs.declared.due.Due.{Due}
 use Rattle.ingest_session.specs.declared.due.Due.TheVariants.{Claim, Seal, Nothing}
 use Rattle.ingest_session.specs.Due.{due_in, open_of}
 use Rattle.ingest_session.specs.State.{SessionState}
+use Rattle.core_machine.proofs.PlainSteps.{IsPlainStep}
 use Rattle.plain_machine.specs.Machine.{Machine, Part, part_in}
 use Rattle.plain_machine.specs.Turns.{IsWriter, MachineTurns, MayBe, Writer, kept_by, last_by, told}
 use Rattle.script_runner.specs.Follows.{FollowsPart, IsCut}
 use Rattle.script_runner.specs.Sessions.{Sessions, session_of, with_session}
 use Rattle.session_turns.specs.Turns.{Asks, IsPaused, IsTurn, TurnRun}
 use Rattle.script_runner.proofs.OneStep.{stepped}
-use Rattle.script_runner.proofs.PlainSteps.{IsPlainStep}
 use Rattle.script_runner.proofs.TurnAsks.{asked_event, asks_step}
 use Rattle.script_runner.proofs.TurnLeaves.{KeepsStored, keeps_here, keeps_on}
 use Rattle.script_runner.proofs.TurnMade.{Turned, after, turn_made}

@@ -1,13 +1,9 @@
 -- What a collection wrote: a container of an id from its snapshot on has each of these keys, and it fills none of them again.
-use Rattle.std.proofs.Common.{◌≡◌, inl, inr, ℕ, ◌≤◌, true, List, [], ◌∷◌, ◌++◌, map, Option, Some, None, Result, Ok, refl, sym, ◌∙◌, subst, arith}
-use Rattle.std.specs.Prelude.{Contains, get_or, slice_get}
+use Rattle.std.proofs.Common.{◌≡◌, inl, inr, ℕ, ◌≤◌, true, List, [], ◌∷◌, ◌++◌, map, Option, Some, None, refl, sym, ◌∙◌, subst, arith}
+use Rattle.std.specs.Prelude.{Contains, get_or}
 use Rattle.std.specs.List.{AllByRecursion}
 use Rattle.std.proofs.lemmas.Grind.{get_or_default_zero}
 use Rattle.std.proofs.lemmas.List.Elements.{Contains-append_cases, Contains-get_or}
-use Rattle.actor_parts.specs.declared.step.Answer.{Answer}
-use Rattle.actor_parts.specs.declared.step.Answer.TheVariants as answers
-use Rattle.actor_parts.specs.StepValue as asked
-use Rattle.actor_parts.specs.StepValue.{StepValue}
 use Rattle.container_meta.specs.declared.kind.Kind.{Kind}
 use Rattle.container_meta.specs.Places.{PlaceMap}
 use Rattle.container_meta.specs.Segments.{Contents, Segment, has_key, keys_of, segment_key}
@@ -24,15 +20,13 @@ use Rattle.gc_sweep.specs.declared.sweep.Sweep.{Sweep as SweepValue}
 use Rattle.gc_sweep.specs.InTurn.{slot_in_turn}
 use Rattle.gc_sweep.proofs.Holds.{no_key}
 use Rattle.gc_sweep.proofs.KeyLists.{listed, listed_left, listed_one, listed_right}
-use Rattle.refusals.specs.declared.refusal.Refusal.{Refusal}
 use Rattle.store_model.specs.Image.{Store}
 use Rattle.store_model.specs.Slots.{IsPartialIndexOf, first_free}
 use Rattle.store_model.specs.Steps.{FlushContainer, FreeContainer}
-use Rattle.store_core.specs.Runs.{ChangesTo, changes_by}
 use Rattle.store_core.specs.State.{CoreState}
 use Rattle.store_core.proofs.CopiesOnce.{HoldsNewer, listed_found, listed_of, newer_on, not_old}
-use Rattle.store_core.proofs.FinishedStores.{still_there}
 use Rattle.store_core.proofs.Frames.{first_with}
+use Rattle.core_machine.proofs.LivesOn.{StandOn}
 use Rattle.plain_machine.specs.Machine.{Collecting}
 use Rattle.script_runner.specs.Follows.{IsWritten, WroteOnce}
 use Rattle.script_runner.proofs.PlainSteps.{GoesUnchanged}
@@ -55,17 +49,6 @@ as_newer : (held : List (Option HeaderValue)) (snapshot : ℕ) (buffer : Content
 as_newer held snapshot buffer key is = record { slot = is.slot; header = is.header; there = is.there; new = is.new; entry = is.entry; found = is.found }
 
 -- ---- steps of others
-
--- each container stands
-abbrev pub StandOn : Store → Store → Type 0
-StandOn store after = (slot : ℕ) (h : HeaderValue) → slice_get store.held slot ≡ Some (Some h) → slice_get after.held slot ≡ Some (Some h)
-
-pub stands_by : (store after : Store) (step : StepValue) (answer : Result Answer Refusal) → ChangesTo (changes_by step answer) store after → StandOn store after
-stands_by store after (asked.Seal filled) (Ok (answers.Sealed id)) chain slot h there =
-    subst (λ (s : Store). slice_get s.held slot ≡ Some (Some h)) (sym chain.1) (still_there store.held (header_of id filled.kind filled.segments) (omega (arith, chain.0.slot)) slot h there)
-stands_by store after (asked.Commit name root) (Ok answer) chain slot h there = subst (λ (s : Store). slice_get s.held slot ≡ Some (Some h)) (sym chain.1) there
-stands_by store after (asked.Delete name) (Ok answer) chain slot h there = subst (λ (s : Store). slice_get s.held slot ≡ Some (Some h)) (sym chain.1) there
-stands_by store after step answer chain slot h there = subst (λ (s : Store). slice_get s.held slot ≡ Some (Some h)) (sym chain) there
 
 module _ (old new : CoreState) (store after : Store) (k : Collecting) (stand : StandOn store after) where
   on : (snapshot : ℕ) (buffer : Contents) (key : List ℕ) → IsWritten store.held snapshot buffer key → IsWritten after.held snapshot buffer key

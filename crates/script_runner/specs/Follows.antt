@@ -4,28 +4,23 @@ use Rattle.std.specs.FinMap as finite
 use Rattle.std.specs.Str.{bytes_eq}
 use Rattle.base_model.specs.Bytes.{key_of}
 use Rattle.dd_disk.specs.View.{CrashLeaves}
-use Rattle.disk_format.specs.declared.numbers.TheConstants.{LAST_ID, MOST_FILE}
+use Rattle.disk_format.specs.declared.numbers.TheConstants.{LAST_ID}
 use Rattle.container_meta.specs.declared.kind.Kind.{Kind}
 use Rattle.container_meta.specs.declared.entry.Entry.{Entry}
 use Rattle.container_meta.specs.Format.{kind_byte}
 use Rattle.container_meta.specs.Places.{PlaceMap}
 use Rattle.container_meta.specs.Segments.{Contents, Segment, has_key, keys_of, segment_key}
 use Rattle.container_meta.specs.Spelling.{HeaderValue}
-use Rattle.merkle_file.specs.Node as node
 use Rattle.actor_parts.specs.declared.actor.TheConstants.{ACTORS}
 use Rattle.actor_parts.specs.declared.part.Part.TheVariants as core_parts
 use Rattle.actor_parts.specs.declared.part.Part as core_part
-use Rattle.actor_parts.specs.declared.part.Reader.{Reader}
 use Rattle.actor_parts.specs.declared.pins.Pin.{Pin}
 use Rattle.actor_parts.specs.declared.step.Answer.{Answer}
 use Rattle.actor_parts.specs.PinMap.{PinMap}
 use Rattle.actor_parts.specs.Parts as core_parts_of
 use Rattle.actor_parts.specs.Segments.{pin_by}
 use Rattle.gc_steps.specs.FewSources.{HasFewSources, IsToChoose}
-use Rattle.gc_enumerate.specs.Live.{LiveKeys}
-use Rattle.gc_enumerate.specs.Scanning.{child_keys}
-use Rattle.gc_steps.specs.LiveTrees.{HoldsNode, IsWhole}
-use Rattle.gc_steps.specs.Sparing.{IsWithin, Spares}
+use Rattle.gc_steps.specs.Sparing.{Spares}
 use Rattle.gc_steps.specs.StepsToCome.{steps_to_come}
 use Rattle.gc_steps.specs.Taking.{TakesAll}
 use Rattle.gc_steps.specs.declared.collection.Collection.{Collection}
@@ -34,29 +29,25 @@ use Rattle.gc_steps.specs.declared.collection.Stage.TheVariants as stages
 use Rattle.gc_sweep.specs.declared.sweep.Next.{Next}
 use Rattle.gc_sweep.specs.declared.sweep.Next.TheVariants.{Copy, Flush, Release, End}
 use Rattle.gc_sweep.specs.declared.sweep.Sweep.{Sweep as SweepValue}
-use Rattle.gc_sweep.specs.Holding.{IsLive}
 use Rattle.gc_sweep.specs.UnderWay.{entry_in, sources_before}
 use Rattle.ingest_session.specs.Facts.{IsKept}
 use Rattle.ingest_session.specs.History.{History, HasHistory}
 use Rattle.ingest_session.specs.State.{SessionState}
-use Rattle.read_steps.specs.Walking.{SegmentsAhead}
 use Rattle.script_lines.specs.Grammar.{LineValue}
 use Rattle.script_lines.specs.ReplyValue.{ReplyValue}
 use Rattle.store_model.specs.Collisions.{HasNoCollisions, ByteSet, IsIn, OpensAs}
 use Rattle.store_model.specs.Files.{Files, Stored}
-use Rattle.segment_index.specs.Places.{KnownMap}
 use Rattle.store_model.specs.Image.{Store}
-use Rattle.store_model.specs.Reserve.{HoldsCounted, IsReachable, tree_keys}
-use Rattle.store_model.specs.Slots.{Copy as HeldCopy, HasKey}
+use Rattle.store_model.specs.Reserve.{IsReachable}
 use Rattle.store_model.specs.Standing.{IsSegmentOf}
-use Rattle.store_model.specs.Trees.{file_tree, node_key, root_of}
 use Rattle.store_state.specs.Settled.{IsSettled}
-use Rattle.store_state.specs.Tables.{Represents}
 use Rattle.store_core.specs.declared.stop.Stop.{Stop}
 use Rattle.store_core.specs.Keeping.{IsHeldIn}
 use Rattle.store_core.specs.Core.{IndexesAll}
 use Rattle.store_core.specs.Runs.{IsAt}
 use Rattle.store_core.specs.State.{CoreState, IsUp}
+use Rattle.core_machine.specs.Files.{Takes}
+use Rattle.core_machine.specs.Lives.{LivesJust}
 use Rattle.plain_machine.specs.Machine.{Collecting, Machine, Marking, Part, Idle, Progress, Recording, Sweeping, Writing, Finished, Reading, RunState, Running, Stopped, MayBeFound, WasNeeded, part_in}
 use Rattle.plain_machine.specs.Refused.{actor_of}
 use Rattle.plain_machine.specs.Runs.{Step}
@@ -87,18 +78,6 @@ pub record Gives (given : List ℕ) (ended : Bool) (answers_are : List Answer) (
   pub kept : (kind : Kind) (x : Segment) → IsKept history kind x → IsHeldIn (record { kind = kind; segment = x }) c
   pub pinned : (kind : Kind) (x : Segment) → IsKept history kind x → HasPinOf history pins (segment_key kind x)
   pub only : (key : List ℕ) (pin : Pin) → finite.get pins key ≡ Some pin → HasKeptKey history key
-
--- A file is taken: its root is that of the reader; its tree is held, and these are the segments of what is to come, by the copies that the
--- store has; and the index has their keys.
-pub record Takes (file : List ℕ) (rest : List (List ℕ)) (reader : Reader) (c : CoreState) : Type 0 where
-  pub fits : length file ≤ MOST_FILE
-  pub root_is : reader.root ≡ root_of file
-  pub counts : ByteSet
-  pub indexed : KnownMap c.known (λ index. (key : List ℕ) → IsIn counts key → HasKey index key)
-  pub whole : (store : Store) (image : List ℕ) → Represents store c.known c.tables → c.disk.content ≡ Some image
-      → HoldsCounted (IsIn counts) store.held image (file_tree file)
-  pub segments : (store : Store) (image : List ℕ) → Represents store c.known c.tables → c.disk.content ≡ Some image
-      → SegmentsAhead counts store.held image reader.cursor rest
 
 abbrev pub FollowsPart : Part → Option SessionState → core_part.Part → CoreState → Type 0
 FollowsPart Idle None core_parts.Idle c = Unit {0}
@@ -196,31 +175,6 @@ pub record IsWritten (held : List (Option HeaderValue)) (snapshot : ℕ) (buffer
 abbrev pub WroteOnce : Store → Collecting → CoreState → Type 0
 WroteOnce store k c = (key : List ℕ) → Contains k.written key → (collection : Collection) → c.collection ≡ Some collection
     → IsWritten store.held collection.snapshot collection.sweep.buffer key
-
--- While it marks: of the children of each node that is held P holds, where it does of the node.
-abbrev pub IsClosedAt : Stage → (List ℕ → Type 0) → List (Option HeaderValue) → List ℕ → Type 0
-IsClosedAt (stages.Mark level at) P held image = (n : node.Contents) (copy : HeldCopy) → HoldsNode held image n copy → P (node_key n)
-    → (key : List ℕ) → Contains (child_keys n) key → P key
-IsClosedAt stage P held image = Unit {0}
-
--- The key is one of the tree of a live key; that tree is held whole.
-pub record IsBelowLive (index : PlaceMap) (held : List (Option HeaderValue)) (image : List ℕ) (live : LiveKeys) (key : List ℕ) : Type 0 where
-  pub root : List ℕ
-  pub is_live : IsLive index live root
-  pub tree : IsWhole index held image root
-  pub there : Contains (tree_keys tree.whole) key
-
--- While it marks each key of which P holds is one below a live key; then it is live.
-abbrev pub IsLiveAtStage : Stage → PlaceMap → List (Option HeaderValue) → List ℕ → LiveKeys → List ℕ → Type 0
-IsLiveAtStage (stages.Mark level at) index held image live key = IsBelowLive index held image live key
-IsLiveAtStage stage index held image live key = IsLive index live key
-
--- Just the keys of which P holds are live, once it has marked; while it marks some of them are.
-pub record LivesJust (P : List ℕ → Type 0) (store : Store) (c : CoreState) (collection : Collection) : Type 0 where
-  pub within : IsWithin P collection.live
-  pub closed : (image : List ℕ) → c.disk.content ≡ Some image → IsClosedAt collection.stage P store.held image
-  pub all : (index : PlaceMap) (image : List ℕ) → c.known ≡ Some index → c.disk.content ≡ Some image → (key : List ℕ) → P key
-      → IsLiveAtStage collection.stage index store.held image collection.live key
 
 -- just what was needed as it began, or since, is live
 abbrev pub LivesByNeed : Store → Collecting → CoreState → Type 0

@@ -86,7 +86,7 @@ HoldsSegment index store image seg = HasKey index (segment_key seg.kind seg.segm
 
 module _ (S : List ℕ → Type 0) (store : Store) (files : Files) (image : List ℕ) (stands : Stands S store files image) where
   -- data has level 0
-  data_level : (x : Segment) (copy : Copy) → newest 0 store.held (segment_key Leaf x) ≡ Some copy → copy.place.level ≡ 0
+  pub data_level : (x : Segment) (copy : Copy) → newest 0 store.held (segment_key Leaf x) ≡ Some copy → copy.place.level ≡ 0
   data_level x copy is =
       let so = newest_so HasLevel store.held Leaf (sha256 x.bytes) image copy (levels_so 0 store.held image (headers_of_right image store stands.holds.right)) is in
       so.level_is ∙ eqb-true so.entry.level 0 so.so
@@ -98,7 +98,7 @@ module _ (S : List ℕ → Type 0) (store : Store) (files : Files) (image : List
       distinct (bytes_at copy.place image) x.bytes so.so mine (copy_digest store.held 0 (sha256 x.bytes) image copy stands.holds.copies is)
 
   -- of a node the copy's bytes are read, and they have one level
-  node_level : (x : Segment) (copy : Copy) → IsOfKind Tree x → newest 0 store.held (segment_key Tree x) ≡ Some copy → bytes_at copy.place image ≡ x.bytes
+  pub node_level : (x : Segment) (copy : Copy) → IsOfKind Tree x → newest 0 store.held (segment_key Tree x) ≡ Some copy → bytes_at copy.place image ≡ x.bytes
       → copy.place.level ≡ x.level
   node_level x copy right is same =
       let so = newest_so IsNodeEntry store.held Tree (sha256 x.bytes) image copy (nodes_so 0 store.held image stands.holds.nodes) is in

@@ -43,9 +43,8 @@ use Rattle.ingest_steps.specs.declared.claiming.Claimed.{Claimed}
 use Rattle.ingest_steps.specs.declared.claiming.Claimed.TheVariants.{Held, Absent}
 use Rattle.ingest_steps.specs.Claiming.{IsClaimed, IsClaimRefusal, DiffersFrom, KeepsPart}
 use Rattle.ingest_steps.specs.Pinning.{MayKeep, with_pins}
-use Rattle.ingest_steps.specs.Sealing.{SealsCompared, WasCompared}
+use Rattle.ingest_steps.specs.Sealing.{IsCompared, SealsCompared, WasCompared}
 use Rattle.ingest_steps.specs.SealStep.{IsStepRefusal, KeepsSealed}
-use Rattle.store_state.specs.Comparing.{IsFirstUnlike}
 use Rattle.ingest_steps.specs.Writers.{MayCommit, IsWrongPart, IsCommitRefusal}
 use Rattle.read_steps.specs.Counting.{counts_of}
 use Rattle.read_steps.specs.Readers as readers
@@ -102,7 +101,7 @@ pub record IsSealed (filled : Contents) (id actor : ℕ) (old new : CoreState) :
 abbrev pub IsUnsealed : Contents → ℕ → Refusal → CoreState → CoreState → Type 0
 IsUnsealed filled actor refusal old new =
     IsStepRefusal (part_of old.parts actor) old.tables old.disk.size old.known filled
-    (IsFirstUnlike old.disk.size old.known (Shows old.disk new.disk) filled.kind filled.segments) refusal
+    (IsCompared old.disk.size old.known (Shows old.disk new.disk) filled) refusal
 
 -- ---- a file that is given back
 

@@ -3,7 +3,7 @@ use Rattle.std.specs.Prelude.{◌≡◌, ◌⊎◌, ℕ, not, List, [], ◌∷�
 use Rattle.std.specs.List.{list_any}
 use Rattle.std.specs.Str.{bytes_eq}
 use Rattle.std.specs.FinMap as finite
-use Rattle.actor_parts.specs.Segments.{first_unpinned, pin_by}
+use Rattle.actor_parts.specs.Segments.{first_unpinned, pin_by, pin_of}
 use Rattle.actor_parts.specs.PinMap.{PinMap}
 use Rattle.container_meta.specs.declared.kind.Kind.{Kind}
 use Rattle.container_meta.specs.declared.place.Place.{Place}
@@ -45,11 +45,11 @@ first_unkept kind (s ∷ ss) pins = or_else (first_unpinned (record { kind = kin
 
 -- ---- what the store has
 
--- the newest copy of the segment's key has its level and its length
+-- the newest copy of the segment's key has its length and its level, which is 0 of data
 pub record HasCopy (store : Store) (seg : KindSegment) : Type 0 where
   pub copy : Copy
   pub copy_is : newest 0 store.held (segment_key seg.kind seg.segment) ≡ Some copy
-  pub level_is : copy.place.level ≡ seg.segment.level
+  pub level_is : copy.place.level ≡ (pin_of seg).level
   pub length_is : copy.place.length ≡ length seg.segment.bytes
 
 -- it has its length

@@ -1,13 +1,12 @@
-use Rattle.std.proofs.Common.{◌+◌, None}
-use Rattle.base_model.proofs.Outcome.{map_err}
+use Rattle.std.proofs.Common.{◌+◌, ℕ, List, None}
+use Rattle.base_model.proofs.Outcome.{map_err, passed_on}
 use Rattle.dd_disk.specs.Ending.{ending}
 use Rattle.dd_disk.specs.Shows.{Shows}
 use Rattle.refusals.specs.declared.refusal.Refusal.{Refusal}
-use Rattle.store_state.specs.Comparing.{IsFirstUnlike}
 use Rattle.store_state.specs.Indexing.{IsChangeRefusal}
 use Rattle.store_state.specs.Refused.{blames}
-use Rattle.ingest_steps.specs.Sealing.{IsSealRefusal, HasPlacesOf, WasCompared}
-use Rattle.ingest_steps.proofs.AfterReads.{compared_and_sealed, was_compared, map_on_ok, has_places_before, change_refused, map_kept, steps_after, seals_after, seals_refused_by}
+use Rattle.ingest_steps.specs.Sealing.{IsCompared, IsSealRefusal, HasPlacesOf, WasCompared}
+use Rattle.ingest_steps.proofs.AfterReads.{compared_and_sealed, was_compared, map_on_ok, has_places_before, change_refused, first_refused, map_kept, steps_after, seals_after, seals_refused_by}
 use Rattle.ingest_steps.proofs.Sealed.{slot_in}
 use Rattle.ingest_steps.proofs.comparing_seal.seal_compared.Goals as goal
 
@@ -31,8 +30,24 @@ returns-clause-refused g c =
     let old = view c.args.disk.now in
     let before = places c.args.index.now old.content in
     let now = places c.compare_all.new.index (view c.compare_all.new.disk).content in
-    let unlike : Refusal → Type 0 = IsFirstUnlike old.size before (Shows old (view c.seal_indexed.new.disk)) c.args.filled.now.kind c.args.filled.now.segments in
-    map_err c.seal_indexed.result (IsChangeRefusal now) (IsSealRefusal before unlike) (change_refused now before unlike c.in_ok-before.ensures.map) c.seal_indexed.ensures.refused
+    let mid = view c.compare_all.new.disk in
+    let new = view c.seal_indexed.new.disk in
+    let filled = c.args.filled.now in
+    let compared : Refusal → Type 0 = IsCompared old.size before (Shows old new) filled in
+    map_err c.seal_indexed.result (IsChangeRefusal now) (IsSealRefusal before compared) (change_refused now before compared c.in_ok-before.ensures.map
+    (was_compared old.size before old mid new filled c.in_ok-before.before.items c.in_ok-before.ensures.reads.only c.seal_indexed.ensures.disk.later
+    c.in_ok-before.ensures.fit)) c.seal_indexed.ensures.refused
+
+pub returns-in_err-before-clause-refused : goal.returns-in_err-before-clause-refused
+returns-in_err-before-clause-refused g c =
+    let view = g.D.Disk.view in
+    let old = view c.args.disk.now in
+    let known = g.X.Index.places c.args.index.now old.content in
+    let shown : (List ℕ → Type 0) → Type 0 = Shows old (view c.compare_all.new.disk) in
+    let filled = c.args.filled.now in
+    let e = c.in_err-before.field-0.0 in
+    passed_on c.from_residual.result (IsSealRefusal known (IsCompared old.size known shown filled)) e c.from_residual.ensures.1
+    (first_refused old.size known shown filled e c.in_err-before.ensures.refused)
 
 pub returns-clause-kept : goal.returns-clause-kept
 returns-clause-kept g c =

@@ -8,10 +8,10 @@ use Rattle.actor_parts.specs.declared.part.Part.TheVariants.{Writing}
 use Rattle.actor_parts.specs.Parts.{part_of, with_part}
 use Rattle.actor_parts.proofs.Apart.{apart}
 use Rattle.refusals.specs.declared.refusal.Refusal.{Refusal}
-use Rattle.store_state.specs.Comparing.{IsFirstUnlike}
 use Rattle.store_state.specs.Refused.{blames}
 use Rattle.store_state.specs.Settled.{Steps}
 use Rattle.ingest_steps.specs.Pinning.{MayKeep, IsUnkept, WereHad, with_pins}
+use Rattle.ingest_steps.specs.Sealing.{IsCompared}
 use Rattle.ingest_steps.specs.SealStep.{IsStepRefusal}
 use Rattle.ingest_steps.proofs.AfterReads.{seals_refused_by}
 use Rattle.ingest_steps.proofs.SealedPins.{keeps_sealed}
@@ -24,10 +24,10 @@ returns-in_err-may_keep-clause-refused g c =
     let known = g.X.Index.places c.args.index.now old.content in
     let part = part_of c.args.parts.now c.args.actor in
     let filled = c.args.filled.now in
-    let unlike : Refusal → Type 0 = IsFirstUnlike old.size known (Shows old old) filled.kind filled.segments in
+    let compared : Refusal → Type 0 = IsCompared old.size known (Shows old old) filled in
     let e = c.in_err-may_keep.field-0.0 in
-    passed_on c.from_residual.result (IsStepRefusal part c.args.tables.now old.size known filled unlike) e c.from_residual.ensures.1
-    (of_unkept part c.args.tables.now old.size known filled unlike e (subst (λ (p : Part). IsUnkept p filled e) c.part.ensures.part c.in_err-may_keep.ensures.refused))
+    passed_on c.from_residual.result (IsStepRefusal part c.args.tables.now old.size known filled compared) e c.from_residual.ensures.1
+    (of_unkept part c.args.tables.now old.size known filled compared e (subst (λ (p : Part). IsUnkept p filled e) c.part.ensures.part c.in_err-may_keep.ensures.refused))
 
 pub returns-in_err-slot-clause-refused : goal.returns-in_err-slot-clause-refused
 returns-in_err-slot-clause-refused g c =
@@ -35,10 +35,10 @@ returns-in_err-slot-clause-refused g c =
     let known = g.X.Index.places c.args.index.now old.content in
     let part = part_of c.args.parts.now c.args.actor in
     let filled = c.args.filled.now in
-    let unlike : Refusal → Type 0 = IsFirstUnlike old.size known (Shows old old) filled.kind filled.segments in
+    let compared : Refusal → Type 0 = IsCompared old.size known (Shows old old) filled in
     let e = c.in_err-slot.field-0.0 in
-    passed_on c.from_residual-in_err-slot.result (IsStepRefusal part c.args.tables.now old.size known filled unlike) e c.from_residual-in_err-slot.ensures.1
-    (of_slot part c.args.tables.now old.size known filled unlike (subst (λ (p : Part). MayKeep p filled) c.part.ensures.part c.in_ok-may_keep.ensures.may) e
+    passed_on c.from_residual-in_err-slot.result (IsStepRefusal part c.args.tables.now old.size known filled compared) e c.from_residual-in_err-slot.ensures.1
+    (of_slot part c.args.tables.now old.size known filled compared (subst (λ (p : Part). MayKeep p filled) c.part.ensures.part c.in_ok-may_keep.ensures.may) e
     (c.in_err-slot.ensures.refused old.size))
 
 pub returns-clause-refused : goal.returns-clause-refused

@@ -14,7 +14,7 @@ use Rattle.store_model.specs.Image.{Store}
 use Rattle.store_model.specs.Collisions.{ByteSet, IsIn}
 use Rattle.store_model.specs.Reserve.{HoldsCounted}
 use Rattle.store_model.specs.Slots.{HasKey}
-use Rattle.store_model.specs.Steps.{KeepsCopies}
+use Rattle.store_model.specs.Steps.{KeepsCopies, StoreChange}
 use Rattle.store_model.specs.Trees.{file_tree, root_of}
 use Rattle.store_model.proofs.Counted.{tree_on}
 use Rattle.store_model.proofs.SameIndex.{same_copies}
@@ -23,8 +23,9 @@ use Rattle.read_steps.proofs.Openings.{segments_on}
 use Rattle.store_state.specs.Tables.{Represents}
 use Rattle.store_core.specs.Runs.{IsAt}
 use Rattle.store_core.specs.State.{CoreState}
+use Rattle.store_core.proofs.KeepingFiles.{NextOn}
 use Rattle.store_core.proofs.Sealing.{one_map}
-use Rattle.script_runner.specs.Follows.{Takes}
+use Rattle.core_machine.specs.Files.{Takes}
 
 module _ (S : List ℕ → Type 0) (s : Store) (stored : Stored) (c : CoreState) (at : IsAt S s stored c) (image : List ℕ) (told : c.disk.content ≡ Some image) where
   -- the index has these keys
@@ -61,6 +62,28 @@ module _ (S : List ℕ → Type 0) (s : Store) (stored : Stored) (c : CoreState)
       goes_on : (store : Store) → Represents store c.known c.tables → KeepsCopies (IsIn counts) s image store image
       goes_on store represents key level bytes there =
           same_copies s store at.index image (at.represents.index_is_newest at.index at.index_known) (represents.index_is_newest at.index at.index_known) key level bytes (has key there)
+
+-- a file that is read, where the newest copies stay
+pub takes_on : (S : List ℕ → Type 0) (s : Store) (changes : List StoreChange) (stored later : Stored) (old new : CoreState) → IsAt S s stored old → NextOn S s changes later old new
+    → (file : List ℕ) (rest : List (List ℕ)) (reader : Reader) → Takes file rest reader old → Takes file rest reader new
+takes_on S s changes stored later old new at next file rest reader takes = record {
+  fits = takes.fits;
+  root_is = takes.root_is;
+  counts = takes.counts;
+  indexed = λ index is key there. next.keys at.index index at.index_known is key (takes.indexed at.index at.index_known key there);
+  whole = λ store image represents told.
+      tree_on (IsIn takes.counts) (IsIn takes.counts) s store at.stands.known.0 image (goes_on store image represents told) (λ key there. there) (file_tree file) (takes.whole s at.stands.known.0 at.represents at.stands.known.1);
+  segments = λ store image represents told.
+      segments_on takes.counts s store at.stands.known.0 image (goes_on store image represents told) reader.cursor rest (takes.segments s at.stands.known.0 at.represents at.stands.known.1);
+}
+  where
+    goes_on : (store : Store) (image : List ℕ) → Represents store new.known new.tables → new.disk.content ≡ Some image → KeepsCopies (IsIn takes.counts) s at.stands.known.0 store image
+    goes_on store image represents told key level bytes there has =
+        let before = at.stands.known in
+        let then = next.next.is_at in
+        let has_key : HasKey at.index key = takes.indexed at.index at.index_known key there in
+        same_copies next.next.store store then.index image (then.represents.index_is_newest then.index then.index_known) (represents.index_is_newest then.index then.index_known) key level bytes
+        (next.keys at.index then.index at.index_known then.index_known key has_key) (next.copies at.index before.0 image at.index_known before.1 told key level bytes has_key has)
 
 -- ---- where a tree is to come, a segment is
 

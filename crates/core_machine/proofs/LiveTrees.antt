@@ -14,7 +14,7 @@ use Rattle.store_model.specs.Reserve.{tree_keys}
 use Rattle.store_model.specs.Slots.{HasKey}
 use Rattle.store_model.specs.Steps.{KeepsCopies}
 use Rattle.store_model.proofs.Counted.{tree_on}
-use Rattle.script_runner.specs.Follows.{IsBelowLive}
+use Rattle.core_machine.specs.Lives.{IsBelowLive}
 
 -- a live key that is held whole is one of its own tree
 pub live_below : (index : PlaceMap) (held : List (Option HeaderValue)) (image : List ℕ) (live : LiveKeys) (key : List ℕ) → IsLive index live key → IsWhole index held image key → IsBelowLive index held image live key

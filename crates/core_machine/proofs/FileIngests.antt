@@ -1,0 +1,233 @@
+-- What the content of a disk adds to claims, seals and commits, so that they are steps of the machine of files.
+use Rattle.std.proofs.Common.{◌≡◌, ◌⊎◌, inl, inr, ◌<◌, ◌≤◌, ℕ, zero, suc, List, [], ◌∷◌, length, take, get_or, Option, Some, None, Result, Ok, Err, IfErr, refl, sym, ◌∙◌, ap, subst, arith}
+use Rattle.std.specs.Prelude.{slice_get}
+use Rattle.std.proofs.lemmas.Bool.{eqb-true}
+use Rattle.std.specs.FinMap as finite
+use Rattle.std.specs.List.{AllByRecursion, Contains}
+use Rattle.sha2.specs.Sha256.{sha256}
+use Rattle.base_model.specs.Bytes.{byte_at, range}
+use Rattle.dd_disk.specs.Shows.{Shows}
+use Rattle.dd_disk.proofs.Shows.{shown_content}
+use Rattle.disk_format.specs.Cells.{Root}
+use Rattle.disk_format.specs.declared.numbers.TheConstants.{MOST_FILE}
+use Rattle.container_meta.specs.declared.kind.Kind.{Kind}
+use Rattle.container_meta.specs.declared.kind.Kind.TheVariants as kinds
+use Rattle.container_meta.specs.declared.place.Place.{Place}
+use Rattle.container_meta.specs.Format.{kind_byte}
+use Rattle.container_meta.specs.Segments.{Contents, KindSegment, Segment, segment_at, segment_key}
+use Rattle.actor_parts.specs.declared.step.Answer.TheVariants as answers
+use Rattle.actor_parts.specs.declared.step.Answer.{Answer}
+use Rattle.actor_parts.specs.Segments.{IsOfKind, pin_by}
+use Rattle.refusals.specs.declared.refusal.Difference.{Difference}
+use Rattle.refusals.specs.declared.refusal.Difference.TheVariants.{Length, Byte}
+use Rattle.refusals.specs.declared.refusal.Refusal.{Refusal}
+use Rattle.refusals.specs.declared.refusal.Refusal.TheVariants as refusals
+use Rattle.store_model.specs.Collisions.{Stands}
+use Rattle.store_model.specs.Files.{Stored}
+use Rattle.store_model.specs.Image.{Store}
+use Rattle.store_model.specs.Slots.{Copy, HasKey, IsPartialIndexOf, newest}
+use Rattle.store_model.specs.Steps.{FitsCopy, FitsHeld}
+use Rattle.store_model.specs.Trees.{bytes_at, file_tree, root_of}
+use Rattle.store_model.proofs.Copies.{copy_digest}
+use Rattle.store_model.proofs.Lookups.{finds}
+use Rattle.store_model.proofs.Roots.{length_of_copy}
+use Rattle.store_state.specs.Comparing.{FirstDifference, FitSoFar, FitsBytes, IsUnlike}
+use Rattle.store_state.proofs.Compared.{held_all}
+use Rattle.store_core.specs.Core.{ClaimRow, CommitRow, SealRow}
+use Rattle.store_core.specs.Runs.{IsAt, IsRightCommit, IsRootOf}
+use Rattle.store_core.specs.Sound.{HoldsTwin, IsHarmless, IsTwin}
+use Rattle.store_core.specs.State.{CoreState}
+use Rattle.store_core.proofs.KeepingSegments.{data_level, node_level}
+use Rattle.store_machine.specs.ByMap.{FileMachine}
+use Rattle.store_machine.specs.Asked as asked
+use Rattle.store_machine.specs.Legal.{DifferBy, Fits, HoldsValue, IsClash, IsFirstClash, IsLacked}
+use Rattle.store_machine.specs.Needs.{HasCopy, HoldsKey}
+use Rattle.store_machine.specs.Remembering.{AddsToAnswer, IsWhole, RootMachine}
+use Rattle.store_machine.specs.Values.{of_files}
+use Rattle.core_machine.specs.Files.{stored_in}
+use Rattle.core_machine.specs.Refines.{TellsForgotten, answered_by}
+
+-- the first difference, of bytes of one length
+first_differ : (place mine other : ℕ) (offered held : List ℕ) → length offered ≡ length held → FirstDifference offered held place mine other → DifferBy (Byte place mine other) offered held
+unfolding range
+first_differ place mine other offered held long first = (long, first.within, first.same, sym first.offered_is, sym first.held_is, first.differ)
+
+segment_there : (xs : List Segment) (i : ℕ) → i < length xs → slice_get xs i ≡ Some (segment_at xs i)
+segment_there [] i within = absurd (omega (arith, within))
+segment_there (x ∷ xs) zero within = refl
+segment_there (x ∷ xs) (suc i) within = segment_there xs i (omega (arith, within))
+
+all_first : (P : Segment → Type 0) (count : ℕ) (xs : List Segment) → AllByRecursion P xs → AllByRecursion P (take count xs)
+all_first P zero xs all = tt
+all_first P (suc count) [] all = tt
+all_first P (suc count) (x ∷ xs) all = (all.0, all_first P count xs all.1)
+
+-- ---- what the index has and lacks of a store
+
+module _ (S : List ℕ → Type 0) (store : Store) (stored : Stored) (old new : CoreState) (at : IsAt S store stored old) (forgotten : List (List ℕ)) (tells : TellsForgotten forgotten store.held at.index)
+    (image : List ℕ) (content_is : old.disk.content ≡ Some image) where
+  stands : Stands S store stored.files image
+  stands = at.stands.each image (old.disk.as_read image content_is)
+
+  partial : IsPartialIndexOf store.held at.index
+  partial = at.represents.index_is_newest at.index at.index_known
+
+  lacked : (key : List ℕ) → finite.get at.index key ≡ None → IsLacked store forgotten key
+  lacked key none = by (newest 0 store.held key) refl
+    where
+      by : (o : Option Copy) → newest 0 store.held key ≡ o → IsLacked store forgotten key
+      by None is = inl is
+      by (Some copy) is = inr (tells.lacked key copy is none)
+
+  -- what it has is not forgotten
+  remembered : (key : List ℕ) (place : Place) → finite.get at.index key ≡ Some place → Contains forgotten key → ⊥
+  remembered key place is there = let both : None ≡ Some place = sym (tells.gone key there) ∙ is in cc
+
+  copy_of : (key : List ℕ) (place : Place) → finite.get at.index key ≡ Some place → (copy : Copy) × (newest 0 store.held key ≡ Some copy) × (copy.place ≡ place)
+  copy_of key place is = finds store at.index key place partial is
+
+  -- a copy that fits a segment has its length and its level
+  has_copy : (kind : Kind) (x : Segment) (copy : Copy) → IsOfKind kind x → newest 0 store.held (segment_key kind x) ≡ Some copy → FitsCopy kind x copy.place image
+      → HasCopy store (record { kind = kind; segment = x })
+  has_copy kinds.Leaf x copy right is fits = record { copy = copy; copy_is = is; level_is = data_level S store stored.files image stands x copy is; length_is = fits }
+  has_copy kinds.Tree x copy right is fits = record {
+    copy = copy;
+    copy_is = is;
+    level_is = node_level S store stored.files image stands x copy right is fits;
+    length_is = sym (length_of_copy store image (segment_key kinds.Tree x) copy stands.holds.right is) ∙ ap length fits;
+  }
+
+  -- one that is compared with the index's copy fits what the machine has
+  fits_one : (kind : Kind) (x : Segment) → IsOfKind kind x → FitsHeld (HasKey at.index) kind store image x → Fits store forgotten kind x
+  fits_one kind x right fits = by (finite.get at.index (segment_key kind x)) refl
+    where
+      by : (o : Option Place) → finite.get at.index (segment_key kind x) ≡ o → Fits store forgotten kind x
+      by None is = inl (lacked (segment_key kind x) is)
+      by (Some place) is =
+          let copy = copy_of (segment_key kind x) place is in
+          inr (has_copy kind x copy.0 right copy.1 (fits copy.0 (place, is) copy.1))
+
+  all_fit : (kind : Kind) (xs : List Segment) → AllByRecursion (IsOfKind kind) xs → AllByRecursion (FitsHeld (HasKey at.index) kind store image) xs → AllByRecursion (Fits store forgotten kind) xs
+  all_fit kind [] right fits = tt
+  all_fit kind (x ∷ xs) right fits = (fits_one kind x right.0 fits.0, all_fit kind xs right.1 fits.1)
+
+  compared_fit : (kind : Kind) (xs : List Segment) (hads : List (Option Place)) → AllByRecursion (IsOfKind kind) xs → FitSoFar old.disk.size old.known (Shows old.disk new.disk) kind xs hads → AllByRecursion (Fits store forgotten kind) xs
+  compared_fit kind xs hads right so_far =
+      all_fit kind xs right (shown_content old.disk new.disk _ image (held_all old.disk.size old.known old.disk new.disk kind xs hads so_far) content_is store at.index at.index_known partial)
+
+  -- ---- a clash
+
+  module _ (kind : Kind) (x : Segment) (tree : kind ≡ kinds.Tree) (key : List ℕ) where
+    abbrev Unlike : Difference → Type 0
+    Unlike difference = IsUnlike old.disk.size old.known (Shows old.disk new.disk) kind (sha256 x.bytes) x.bytes (refusals.Clash key difference)
+
+    abbrev Clashes : Difference → Type 0
+    Clashes difference = IsClash store forgotten (record { kind = kind; segment = x }) key difference
+
+    module _ (difference : Difference) (unlike : Unlike difference) where
+      place_is : finite.get at.index (segment_key kind x) ≡ Some unlike.place
+      place_is = unlike.there at.index at.index_known
+
+      the_copy : (copy : Copy) × (newest 0 store.held (segment_key kind x) ≡ Some copy) × (copy.place ≡ unlike.place)
+      the_copy = copy_of (segment_key kind x) unlike.place place_is
+
+      abbrev held : List ℕ
+      held = bytes_at the_copy.0.place image
+
+      long_is : length held ≡ the_copy.0.place.length
+      long_is = length_of_copy store image (segment_key kind x) the_copy.0 stands.holds.right the_copy.1
+
+      clash_so : key ≡ segment_key kind x → DifferBy difference x.bytes held → Clashes difference
+      clash_so key_is differ = record {
+        kind = tree;
+        key_is = key_is;
+        copy = the_copy.0;
+        copy_is = ap (newest 0 store.held) key_is ∙ the_copy.1;
+        there = λ there. remembered (segment_key kind x) unlike.place place_is (subst (Contains forgotten) key_is there);
+        held = held;
+        long = long_is;
+        digest = copy_digest store.held (kind_byte kind) (sha256 x.bytes) image the_copy.0 stands.holds.copies the_copy.1;
+        differ = differ;
+      }
+
+    clashes : (difference : Difference) → Unlike difference → Clashes difference
+    clashes (Length mine other) unlike =
+        clash_so (Length mine other) unlike unlike.refused.0
+        (unlike.refused.1, unlike.refused.2 ∙ sym (long_is (Length mine other) unlike ∙ ap (λ (p : Place). p.length) (the_copy (Length mine other) unlike).2), unlike.refused.3)
+    clashes (Byte place mine other) unlike =
+        let first = (shown_content old.disk new.disk _ image unlike.refused.2.1 content_is).1 in
+        let copy = the_copy (Byte place mine other) unlike in
+        clash_so (Byte place mine other) unlike unlike.refused.2.0
+        (first_differ place mine other x.bytes (held (Byte place mine other) unlike)
+        (sym (long_is (Byte place mine other) unlike ∙ ap (λ (p : Place). p.length) copy.2 ∙ unlike.refused.1))
+        (subst (λ (p : Place). FirstDifference x.bytes (bytes_at p image) place mine other) (sym copy.2) first))
+
+-- ---- the steps
+
+module _ (S : List ℕ → Type 0) (m : FileMachine) (t : RootMachine) (old new : CoreState) (at : IsAt S m.store (stored_in m.now) old) (tells : TellsForgotten m.forgotten m.store.held at.index)
+    (a : ℕ) (buf : List ℕ) where
+  abbrev image : List ℕ
+  image = at.stands.known.0
+
+  content_is : old.disk.content ≡ Some image
+  content_is = at.stands.known.1
+
+  pub claim_adds : (seg : KindSegment) (answer : Result Answer Refusal) → IsOfKind seg.kind seg.segment → ClaimRow seg a answer old new
+      → IfErr answer (λ refusal. IsHarmless (IsTwin seg.kind seg.segment.bytes) refusal) → AddsToAnswer a (asked.Claim seg) (answered_by answer buf) m t
+  claim_adds seg (Ok answers.Held) right row harmless =
+      let held = row.claimed.looked_up in
+      let is : finite.get at.index (segment_key seg.kind seg.segment) ≡ Some held.place = held.found at.index at.index_known in
+      let copy = copy_of S m.store (stored_in m.now) old new at m.forgotten tells image content_is (segment_key seg.kind seg.segment) held.place is in (
+        has_copy S m.store (stored_in m.now) old new at m.forgotten tells image content_is seg.kind seg.segment copy.0 right copy.1
+            (subst (λ (p : Place). FitsCopy seg.kind seg.segment p image) (sym copy.2)
+            (fits_so seg.kind held.place held.length_is (shown_content old.disk new.disk _ image held.same content_is))),
+        remembered S m.store (stored_in m.now) old new at m.forgotten tells image content_is (segment_key seg.kind seg.segment) held.place is,
+      )
+    where
+      fits_so : (kind : Kind) (place : Place) → place.length ≡ length seg.segment.bytes → FitsBytes kind seg.segment.bytes place image → FitsCopy kind seg.segment place image
+      fits_so kinds.Leaf place long fits = long
+      fits_so kinds.Tree place long fits = fits
+  claim_adds seg (Ok answers.Absent) right row harmless =
+      lacked S m.store (stored_in m.now) old new at m.forgotten tells image content_is (segment_key seg.kind seg.segment) (row.claimed.looked_up at.index at.index_known)
+  claim_adds seg (Ok answer) right row harmless = absurd row
+  claim_adds seg (Err (refusals.Clash key difference)) right row harmless =
+      clashes S m.store (stored_in m.now) old new at m.forgotten tells image content_is seg.kind seg.segment harmless.0 key difference row.0.1
+  claim_adds seg (Err (refusals.Corrupt slot offset count want got)) right row harmless = harmless
+  claim_adds seg (Err refusal) right row harmless = tt
+
+  pub seal_adds : (filled : Contents) (answer : Result Answer Refusal) → AllByRecursion (IsOfKind filled.kind) filled.segments → SealRow filled a answer old new
+      → IfErr answer (λ refusal. IsHarmless (HoldsTwin filled) refusal) → AddsToAnswer a (asked.Seal filled) (answered_by answer buf) m t
+  seal_adds filled (Ok (answers.Sealed id)) right row harmless =
+      compared_fit S m.store (stored_in m.now) old new at m.forgotten tells image content_is filled.kind filled.segments row.compared.hads right row.compared.fit
+  seal_adds filled (Ok answer) right row harmless = absurd row
+  seal_adds filled (Err (refusals.Clash key difference)) right row harmless =
+      let first = row.0.2 in
+      let x : Segment = segment_at filled.segments first.number in (
+        first.number,
+        x,
+        segment_there filled.segments first.number first.within,
+        compared_fit S m.store (stored_in m.now) old new at m.forgotten tells image content_is filled.kind (take first.number filled.segments) first.hads
+            (all_first (IsOfKind filled.kind) first.number filled.segments right) first.before,
+        clashes S m.store (stored_in m.now) old new at m.forgotten tells image content_is filled.kind x harmless.is_twin.0 key difference first.unlike,
+      )
+  seal_adds filled (Err (refusals.Corrupt slot offset count want got)) right row harmless = harmless
+  seal_adds filled (Err refusals.DiskWrite) right row harmless =
+      compared_fit S m.store (stored_in m.now) old new at m.forgotten tells image content_is filled.kind filled.segments row.0.2.hads right row.0.2.fit
+  seal_adds filled (Err refusal) right row harmless = tt
+
+  -- a file whose tree the index has may be put under a name
+  whole : (root : Root) (file : List ℕ) → length file ≤ MOST_FILE → IsRootOf root file old → IsWhole file m
+  whole root file few is = (
+    few,
+    λ key there.
+        let place = is.indexed at.index at.index_known key there in
+        let copy = copy_of S m.store (stored_in m.now) old new at m.forgotten tells image content_is key place.0 place.1 in
+        ((copy.0, copy.1), remembered S m.store (stored_in m.now) old new at m.forgotten tells image content_is key place.0 place.1),
+  )
+
+  pub commit_adds : (name file : List ℕ) (root : Root) (answer : Result Answer Refusal) → length file ≤ MOST_FILE → IsRightCommit answer root file old → CommitRow name root a answer old new
+      → AddsToAnswer a (asked.Commit name file) (answered_by answer buf) m t
+  commit_adds name file root (Ok (answers.Committed sequence)) few right row = whole root file few right
+  commit_adds name file root (Ok answer) few right row = absurd row
+  commit_adds name file root (Err refusals.DiskWrite) few right row = whole root file few right
+  commit_adds name file root (Err refusal) few right row = tt

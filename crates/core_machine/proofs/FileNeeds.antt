@@ -1,0 +1,188 @@
+-- What the files of a machine need, its actors and its collection, the index of a core that is at them has.
+use Rattle.std.proofs.Common.{◌≡◌, inl, inr, ℕ, suc, Bool, true, false, cond, List, [], ◌∷◌, map, Contains, Option, Some, None, Ordering, Less, Equal, Greater, T, refl, sym, ◌∙◌, ap, subst}
+use Rattle.std.specs.Prelude.{◌&&◌, slice_index_or}
+use Rattle.std.specs.Ordering.{eq_by_cmp, is_eq, is_lt}
+use Rattle.std.specs.FinMap as finite
+use Rattle.std.specs.FinMap.Entries.{below_all, find, is_sorted}
+use Rattle.std.specs.List.{AllByRecursion}
+use Rattle.std.proofs.lemmas.List.Elements.{Contains-append_cases}
+use Rattle.std.proofs.lemmas.Slice.Eq.{bytes_eq-Decides}
+use Rattle.container_meta.specs.Places.{PlaceMap}
+use Rattle.container_meta.specs.Spelling.{HeaderValue}
+use Rattle.actor_parts.specs.declared.part.Part as core_part
+use Rattle.actor_parts.specs.declared.part.Part.TheVariants as core
+use Rattle.actor_parts.specs.declared.part.Reader.{Reader}
+use Rattle.actor_parts.specs.Parts.{part_of}
+use Rattle.actor_parts.specs.PinMap.{PinMap}
+use Rattle.disk_format.specs.Cells.{Root}
+use Rattle.merkle_file.specs.declared.top.Top.{Top}
+use Rattle.gc_steps.proofs.Marked.{keys_there}
+use Rattle.store_model.specs.Reserve.{IsReachable, tree_keys}
+use Rattle.store_model.specs.Slots.{HasKey}
+use Rattle.store_model.specs.Trees.{file_tree}
+use Rattle.store_model.proofs.Indexing.{tied}
+use Rattle.store_state.specs.Invariant.{HoldsPart, IndexesFiles}
+use Rattle.store_machine.specs.Forgetting as forgetting
+use Rattle.store_machine.specs.Machine.{Found, Machine, Part, Idle, Writing, Reading}
+use Rattle.store_machine.specs.Needs.{CollectionNeeds, IsNeeded, NamesNeed, keys_kept, values_read}
+use Rattle.store_machine.specs.Values.{of_files}
+use Rattle.store_machine.proofs.SameNames.{order}
+use Rattle.store_machine.proofs.Swept.{in_cases, none_in}
+use Rattle.core_machine.specs.Refines as refines
+
+-- ---- a value that names have is that of one of them
+
+not_equal : (o : Ordering) → T (is_lt o) → is_eq o ≡ false
+not_equal Less less = refl
+not_equal Equal less = absurd less
+not_equal Greater less = absurd less
+
+both_of : (a b : Bool) → T (a && b) → T a × T b
+both_of true b is = (tt, is)
+both_of false b is = absurd is
+
+module _ {X : Type 0} where
+  -- a key below all others is none of them
+  none_below : (key : List ℕ) (es : List (List ℕ × X)) → T (below_all order key es) → find order key es ≡ None
+  none_below key [] below = refl
+  none_below key (e ∷ es) below =
+      let parts = both_of (is_lt (order key e.0)) (below_all order key es) below in
+      ap (λ (b : Bool). cond b (Some e.1) (find order key es)) (not_equal (order key e.0) parts.0) ∙ none_below key es parts.1
+
+  value_found : (es : List (List ℕ × X)) → T (is_sorted order es) → (value : X) → Contains (map (λ (e : List ℕ × X). e.1) es) value
+      → (name : List ℕ) × (find order name es ≡ Some value)
+  value_found [] sorted value is = absurd (none_in value is)
+  value_found (e ∷ es) sorted value is = elim (in_cases e.1 (map (λ (x : List ℕ × X). x.1) es) value is) [
+    | inl same ↦ (e.0, ap (λ (b : Bool). cond b (Some e.1) (find order e.0 es)) (tied e.0 e.0 ∙ (bytes_eq-Decides e.0 e.0).1 refl) ∙ ap Some same)
+    | inr later ↦ (
+        let parts = both_of (below_all order e.0 es) (is_sorted order es) sorted in
+        let rest = value_found es parts.1 value later in
+        (rest.0, by_test rest.0 rest.1 parts.0 (eq_by_cmp order rest.0 e.0) refl)
+        )
+  ]
+    where
+      by_test : (name : List ℕ) → find order name es ≡ Some value → T (below_all order e.0 es) → (b : Bool) → eq_by_cmp order name e.0 ≡ b
+          → cond b (Some e.1) (find order name es) ≡ Some value
+      by_test name found below false is = found
+      by_test name found below true is =
+          let same : e.0 ≡ name = (bytes_eq-Decides e.0 name).0 (sym (tied name e.0) ∙ is) in
+          let none : find order name es ≡ None = ap (λ (k : List ℕ). find order k es) (sym same) ∙ none_below e.0 es below in
+          absurd (let wrong : Some value ≡ None = sym found ∙ none in cc)
+
+  pub of_name : (names : finite.FinMap order X) (value : X) → Contains (finite.values names) value → (name : List ℕ) × (finite.get names name ≡ Some value)
+  of_name names value is =
+      let found = value_found (finite.entries names) (finite.entries_sorted names) value is in
+      (found.0, finite.get-entries names found.0 ∙ found.1)
+
+-- so what names need the files do
+pub names_reach : (now : Found (List ℕ)) (key : List ℕ) → NamesNeed of_files now key → IsReachable now.names key
+names_reach now key needs = let name = of_name now.names needs.0 needs.1.0 in (name.0, (needs.0, (name.1, needs.1.1)))
+
+-- ---- the parts of actors
+
+abbrev FilePart : Type 0
+FilePart = Part (List ℕ) (List (List ℕ))
+
+abbrev RootPart : Type 0
+RootPart = Part Root (List Top)
+
+-- a part of the machine, and that of the core
+abbrev pub PartsFit : FilePart → core_part.Part → Type 0
+PartsFit Idle core.Idle = Unit {0}
+PartsFit (Writing pins) (core.Writing others) = others ≡ pins
+PartsFit (Reading file rest) (core.Reading reader) = Unit {0}
+PartsFit part other = ⊥
+
+abbrev pub AllFit : List FilePart → List core_part.Part → Type 0
+AllFit [] [] = Unit {0}
+AllFit (p ∷ ps) (q ∷ qs) = PartsFit p q × AllFit ps qs
+AllFit ps qs = ⊥
+
+part_fits : (p : FilePart) (r : RootPart) (q : core_part.Part) → forgetting.SamePart p r → refines.SamePart r q → PartsFit p q
+part_fits Idle Idle core.Idle one other = tt
+part_fits Idle Idle (core.Writing others) one other = absurd other
+part_fits Idle Idle (core.Reading reader) one other = absurd other
+part_fits Idle (Writing pins) q one other = absurd one
+part_fits Idle (Reading root tops) q one other = absurd one
+part_fits (Writing pins) Idle q one other = absurd one
+part_fits (Writing pins) (Writing mine) core.Idle one other = absurd other
+part_fits (Writing pins) (Writing mine) (core.Writing others) one other = other ∙ one
+part_fits (Writing pins) (Writing mine) (core.Reading reader) one other = absurd other
+part_fits (Writing pins) (Reading root tops) q one other = absurd one
+part_fits (Reading file rest) Idle q one other = absurd one
+part_fits (Reading file rest) (Writing pins) q one other = absurd one
+part_fits (Reading file rest) (Reading root tops) core.Idle one other = absurd other
+part_fits (Reading file rest) (Reading root tops) (core.Writing pins) one other = absurd other
+part_fits (Reading file rest) (Reading root tops) (core.Reading reader) one other = tt
+
+pub all_fit : (ps : List FilePart) (rs : List RootPart) (qs : List core_part.Part) → forgetting.SameParts ps rs → refines.SameParts rs qs → AllFit ps qs
+all_fit [] [] [] one other = tt
+all_fit [] [] (q ∷ qs) one other = absurd other
+all_fit [] (r ∷ rs) qs one other = absurd one
+all_fit (p ∷ ps) [] qs one other = absurd one
+all_fit (p ∷ ps) (r ∷ rs) [] one other = absurd other
+all_fit (p ∷ ps) (r ∷ rs) (q ∷ qs) one other = (part_fits p r q one.0 other.0, all_fit ps rs qs one.1 other.1)
+
+-- ---- what actors need
+
+part_at : (p : core_part.Part) (ps : List core_part.Part) (i : ℕ) → part_of (p ∷ ps) (suc i) ≡ part_of ps i
+unfolding part_of
+part_at p ps i = refl
+
+part_first : (p : core_part.Part) (ps : List core_part.Part) → part_of (p ∷ ps) 0 ≡ p
+unfolding part_of
+part_first p ps = refl
+
+-- of what each actor reads Q holds
+abbrev pub ReadsSo : (List ℕ → Type 0) → List FilePart → List core_part.Part → Type 0
+ReadsSo Q ps qs = (actor : ℕ) (file : List ℕ) (rest : List (List ℕ)) (reader : Reader) → slice_index_or ps actor Idle ≡ Reading file rest
+    → part_of qs actor ≡ core.Reading reader → Q file
+
+module _ (index : PlaceMap) (held : List (Option HeaderValue)) (image : List ℕ) where
+  abbrev Held : List core_part.Part → Type 0
+  Held qs = AllByRecursion (HoldsPart (HasKey index) held image) qs
+
+  kept_has : (ps : List FilePart) (qs : List core_part.Part) → AllFit ps qs → Held qs → (key : List ℕ) → Contains (keys_kept ps) key → HasKey index key
+  kept_has [] qs fit held_is key is = absurd (none_in key is)
+  kept_has (p ∷ ps) [] fit held_is key is = absurd fit
+  kept_has (Idle ∷ ps) (q ∷ qs) fit held_is key is = kept_has ps qs fit.1 held_is.1 key is
+  kept_has (Reading file rest ∷ ps) (q ∷ qs) fit held_is key is = kept_has ps qs fit.1 held_is.1 key is
+  kept_has (Writing pins ∷ ps) (core.Idle ∷ qs) fit held_is key is = absurd fit.0
+  kept_has (Writing pins ∷ ps) (core.Reading reader ∷ qs) fit held_is key is = absurd fit.0
+  kept_has (Writing pins ∷ ps) (core.Writing others ∷ qs) fit held_is key is = elim (Contains-append_cases (finite.keys pins) (keys_kept ps) key is) [
+    | inl here ↦ (
+        let pin = (keys_there others key).0 (subst (λ (m : PinMap). Contains (finite.keys m) key) (sym fit.0) here) in
+        (held_is.0 key pin.0 pin.1).counts
+        )
+    | inr later ↦ kept_has ps qs fit.1 held_is.1 key later
+  ]
+
+later_so : (Q : List ℕ → Type 0) (p : FilePart) (ps : List FilePart) (q : core_part.Part) (qs : List core_part.Part) → ReadsSo Q (p ∷ ps) (q ∷ qs) → ReadsSo Q ps qs
+later_so Q p ps q qs reads actor file rest reader at of = reads (suc actor) file rest reader at (part_at q qs actor ∙ of)
+
+-- one of the values that are read is read by an actor
+read_so : (Q : List ℕ → Type 0) (ps : List FilePart) (qs : List core_part.Part) → AllFit ps qs → ReadsSo Q ps qs → (value : List ℕ) → Contains (values_read ps) value → Q value
+read_so Q [] qs fit reads value is = absurd (none_in value is)
+read_so Q (p ∷ ps) [] fit reads value is = absurd fit
+read_so Q (Idle ∷ ps) (q ∷ qs) fit reads value is = read_so Q ps qs fit.1 (later_so Q Idle ps q qs reads) value is
+read_so Q (Writing pins ∷ ps) (q ∷ qs) fit reads value is = read_so Q ps qs fit.1 (later_so Q (Writing pins) ps q qs reads) value is
+read_so Q (Reading file rest ∷ ps) (core.Idle ∷ qs) fit reads value is = absurd fit.0
+read_so Q (Reading file rest ∷ ps) (core.Writing pins ∷ qs) fit reads value is = absurd fit.0
+read_so Q (Reading file rest ∷ ps) (core.Reading reader ∷ qs) fit reads value is = elim (in_cases file (values_read ps) value is) [
+  | inl same ↦ subst Q same (reads 0 file rest reader refl (part_first (core.Reading reader) qs))
+  | inr later ↦ read_so Q ps qs fit.1 (later_so Q (Reading file rest) ps (core.Reading reader) qs reads) value later
+]
+
+-- ---- all that is needed
+
+-- the index has each key of the file
+abbrev pub IsIndexedFile : PlaceMap → List ℕ → Type 0
+IsIndexedFile index file = (key : List ℕ) → Contains (tree_keys (file_tree file)) key → HasKey index key
+
+pub needed_has : (index : PlaceMap) (held : List (Option HeaderValue)) (image : List ℕ) (m : Machine (List ℕ) (List (List ℕ))) (qs : List core_part.Part)
+    → IndexesFiles index m.now.names → AllFit m.parts qs → AllByRecursion (HoldsPart (HasKey index) held image) qs → ReadsSo (IsIndexedFile index) m.parts qs
+    → ((key : List ℕ) → CollectionNeeds of_files m.collection key → HasKey index key) → (key : List ℕ) → IsNeeded of_files m key → HasKey index key
+needed_has index held image m qs files fit holds reads since key (inl names) = files key (names_reach m.now key names)
+needed_has index held image m qs files fit holds reads since key (inr (inl (inl kept))) = kept_has index held image m.parts qs fit holds key kept
+needed_has index held image m qs files fit holds reads since key (inr (inl (inr read))) = read_so (IsIndexedFile index) m.parts qs fit reads read.0 read.1.0 key read.1.1
+needed_has index held image m qs files fit holds reads since key (inr (inr needed)) = since key needed

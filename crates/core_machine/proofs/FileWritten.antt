@@ -1,0 +1,195 @@
+-- What a collection wrote it does not write again: a container of an id from its snapshot on has each of these keys, and it fills none of them once more.
+use Rattle.std.proofs.Common.{◌≡◌, inl, inr, ℕ, ◌≤◌, true, List, [], ◌∷◌, ◌++◌, append-nil, Option, Some, None, Result, Ok, refl, sym, ◌∙◌, ap, subst, arith}
+use Rattle.std.specs.Prelude.{Contains, get_or, slice_get}
+use Rattle.std.proofs.lemmas.Grind.{get_or_default_zero}
+use Rattle.std.proofs.lemmas.List.Elements.{Contains-append_cases, Contains-get_or}
+use Rattle.actor_parts.specs.declared.step.Answer.{Answer}
+use Rattle.actor_parts.specs.declared.step.Answer.TheVariants as answers
+use Rattle.actor_parts.specs.StepValue as asked
+use Rattle.actor_parts.specs.StepValue.{StepValue}
+use Rattle.container_meta.specs.Places.{PlaceMap}
+use Rattle.container_meta.specs.Segments.{Contents, has_key, keys_of}
+use Rattle.container_meta.specs.Spelling.{HeaderValue, header_of}
+use Rattle.gc_steps.specs.declared.collection.Collection.{Collection}
+use Rattle.gc_steps.specs.declared.collection.Stage.{Stage}
+use Rattle.gc_steps.specs.declared.collection.Stage.TheVariants.{Mark, Filter, Select, Sweep as SweepStage}
+use Rattle.gc_steps.specs.Stepping.{Moment, StepsTo, phase_at}
+use Rattle.gc_steps.specs.SweepIsSafe.{HoldsAt}
+use Rattle.gc_steps.proofs.CopiedOn.{GoesWell}
+use Rattle.gc_steps.proofs.StepSafe.{IsStoreAfter}
+use Rattle.gc_sweep.specs.declared.sweep.Next.{Next}
+use Rattle.gc_sweep.specs.declared.sweep.Next.TheVariants.{Copy, Flush, Release, End}
+use Rattle.gc_sweep.specs.InTurn.{slot_in_turn}
+use Rattle.gc_sweep.proofs.Holds.{no_key}
+use Rattle.refusals.specs.declared.refusal.Refusal.{Refusal}
+use Rattle.store_model.specs.Image.{Store}
+use Rattle.store_model.specs.Slots.{IsPartialIndexOf, first_free}
+use Rattle.store_model.specs.Steps.{FlushContainer, FreeContainer, StoreChange}
+use Rattle.store_core.specs.Runs.{ChangesTo, changes_by}
+use Rattle.store_core.proofs.CopiesOnce.{HoldsNewer, listed_found, listed_of, newer_on, not_old}
+use Rattle.store_core.proofs.FinishedStores.{still_there}
+use Rattle.store_core.proofs.Frames.{first_with}
+use Rattle.store_machine.specs.Collecting.{keys_written}
+use Rattle.core_machine.specs.Sweeping.{changes_of}
+use Rattle.store_machine.specs.Machine.{Collection as MachineCollection, keeping}
+use Rattle.store_machine.proofs.Swept.{none_in}
+use Rattle.core_machine.specs.Written.{IsWritten, WroteOnce}
+use Rattle.store_core.specs.State.{CoreState}
+use Rattle.store_machine.specs.ByMap.{FileMachine}
+use Rattle.gc_sweep.specs.declared.sweep.Sweep.{Sweep}
+
+as_newer : (held : List (Option HeaderValue)) (snapshot : ℕ) (buffer : Contents) (key : List ℕ) → IsWritten held snapshot buffer key → HoldsNewer held snapshot key
+as_newer held snapshot buffer key is = record { slot = is.slot; header = is.header; there = is.there; new = is.new; entry = is.entry; found = is.found }
+
+written_as : (held : List (Option HeaderValue)) (snapshot : ℕ) (buffer : Contents) (key : List ℕ) → HoldsNewer held snapshot key
+    → ¬ (has_key buffer key ≡ true) → IsWritten held snapshot buffer key
+written_as held snapshot buffer key newer unfilled =
+    record { slot = newer.slot; header = newer.header; there = newer.there; new = newer.new; entry = newer.entry; found = newer.found; unfilled = unfilled }
+
+-- ---- steps of others
+
+-- each container stands
+abbrev pub StandOn : Store → Store → Type 0
+StandOn store after = (slot : ℕ) (h : HeaderValue) → slice_get store.held slot ≡ Some (Some h) → slice_get after.held slot ≡ Some (Some h)
+
+pub stands_by : (store after : Store) (step : StepValue) (answer : Result Answer Refusal) → ChangesTo (changes_by step answer) store after → StandOn store after
+stands_by store after (asked.Seal filled) (Ok (answers.Sealed id)) chain slot h there =
+    subst (λ (s : Store). slice_get s.held slot ≡ Some (Some h)) (sym chain.1)
+    (still_there store.held (header_of id filled.kind filled.segments) (omega (arith, chain.0.slot)) slot h there)
+stands_by store after (asked.Commit name root) (Ok answer) chain slot h there = subst (λ (s : Store). slice_get s.held slot ≡ Some (Some h)) (sym chain.1) there
+stands_by store after (asked.Delete name) (Ok answer) chain slot h there = subst (λ (s : Store). slice_get s.held slot ≡ Some (Some h)) (sym chain.1) there
+stands_by store after step answer chain slot h there = subst (λ (s : Store). slice_get s.held slot ≡ Some (Some h)) (sym chain) there
+
+-- what was written is so still
+pub stands_written : (store after : Store) → StandOn store after → (snapshot : ℕ) (buffer : Contents) (key : List ℕ) → IsWritten store.held snapshot buffer key
+    → IsWritten after.held snapshot buffer key
+stands_written store after stand snapshot buffer key is = record {
+  slot = is.slot;
+  header = is.header;
+  there = stand is.slot is.header is.there;
+  new = is.new;
+  entry = is.entry;
+  found = is.found;
+  unfilled = is.unfilled;
+}
+
+-- Each key that the machine's collection wrote it had written before.
+abbrev pub KeepsWritten : FileMachine → FileMachine → Type 0
+KeepsWritten m n = (y : MachineCollection (List ℕ)) → n.collection ≡ Some y → (key : List ℕ) → Contains (keys_written y.changes) key
+    → (x : MachineCollection (List ℕ)) × (m.collection ≡ Some x) × Contains (keys_written x.changes) key
+
+pub same_written : (m n : FileMachine) → n.collection ≡ m.collection → KeepsWritten m n
+same_written m n same y ran key there = (y, sym same ∙ ran, there)
+
+-- what it keeps changes none of it
+pub keeping_written : (keys : List (List ℕ)) (m n : FileMachine) → n.collection ≡ keeping keys m.collection → KeepsWritten m n
+keeping_written keys m n is y ran key there = by m.collection refl (sym is ∙ ran)
+  where
+    by : (o : Option (MachineCollection (List ℕ))) → m.collection ≡ o → keeping keys o ≡ Some y
+        → (x : MachineCollection (List ℕ)) × (m.collection ≡ Some x) × Contains (keys_written x.changes) key
+    by None none kept = absurd cc
+    by (Some x) some kept = (x, some, subst (λ (ch : List StoreChange). Contains (keys_written ch) key) (let same : y.changes ≡ x.changes = cc in same) there)
+
+-- so is one that has written nothing
+pub none_written : (m n : FileMachine) (x : MachineCollection (List ℕ)) → n.collection ≡ Some x → x.changes ≡ [] → KeepsWritten m n
+none_written m n x is none y ran key there =
+    let same : y.changes ≡ [] = ap (λ (z : MachineCollection (List ℕ)). z.changes) (let one : y ≡ x = let both : Some y ≡ Some x = sym ran ∙ is in cc in one) ∙ none in
+    absurd (none_in key (subst (λ (ch : List StoreChange). Contains (keys_written ch) key) same there))
+
+-- the core's snapshot and sweep are those of before
+abbrev pub SweepKept : Collection → Collection → Type 0
+SweepKept b a = (a.snapshot ≡ b.snapshot) × (a.sweep ≡ b.sweep)
+
+pub same_sweep_kept : (b a : Collection) → a ≡ b → SweepKept b a
+same_sweep_kept b a same = (ap (λ (z : Collection). z.snapshot) same, ap (λ (z : Collection). z.sweep) same)
+
+pub wrote_still : (m n : FileMachine) (c d : CoreState) → StandOn m.store n.store → KeepsWritten m n
+    → ((x : MachineCollection (List ℕ)) → m.collection ≡ Some x → (a : Collection) → d.collection ≡ Some a → (b : Collection) × (c.collection ≡ Some b) × SweepKept b a)
+    → WroteOnce m c → WroteOnce n d
+wrote_still m n c d stand written sweeps wrote y a ran runs key there =
+    let x = written y ran key there in
+    let b = sweeps x.0 x.1 a runs in
+    subst (λ (s : Sweep). IsWritten n.store.held a.snapshot s.buffer key) (sym b.2.1)
+    (subst (λ (i : ℕ). IsWritten n.store.held i b.0.sweep.buffer key) (sym b.2.0)
+    (stands_written m.store n.store stand b.0.snapshot b.0.sweep.buffer key (wrote x.0 b.0 x.1 b.1 key x.2)))
+
+-- ---- its own steps
+
+module _ (index : PlaceMap) (store store_now : Store) (image : List ℕ) (partial : IsPartialIndexOf store.held index) (b a : Collection) (snapshot_is : a.snapshot ≡ b.snapshot)
+    (well : GoesWell index store.held b a) (holds : HoldsAt b.stage index store.held image b)
+    (after : IsStoreAfter b.stage b.sweep.next b.snapshot b.sweep index store store_now image) where
+  -- each source came before
+  sources_old : b.stage ≡ SweepStage → (id : ℕ) → b.snapshot ≤ id → Contains b.sweep.sources.items id → ⊥
+  sources_old sweeps id above source =
+      let here : HoldsAt SweepStage index store.held image b = subst (λ (s : Stage). HoldsAt s index store.held image b) sweeps holds in
+      let below = here.0.old source.0 source.1 in
+      let is : get_or b.sweep.sources.items source.0 0 ≡ id = sym (get_or_default_zero b.sweep.sources.items source.0 id source.1) ∙ source.2 in
+      omega (arith, above, below, is)
+
+  newer_after : (stage : Stage) (next : Next) (key : List ℕ) → b.stage ≡ stage → IsStoreAfter stage next b.snapshot b.sweep index store store_now image
+      → HoldsNewer store.held b.snapshot key → HoldsNewer store_now.held b.snapshot key
+  newer_after SweepStage (Flush source entry) key is flushes newer =
+      newer_on b.snapshot [] (FlushContainer flushes.id b.sweep.buffer.kind b.sweep.buffer.segments ∷ []) store store_now key
+      ((flushes.new, omega (arith, flushes.can.slot)), flushes.now_is)
+      (λ other above none. omega (arith, none.1)) newer
+  newer_after SweepStage (Release source entry) key is frees newer =
+      newer_on b.snapshot b.sweep.sources.items (FreeContainer (slot_in_turn b.sweep) ∷ []) store store_now key (
+        (
+          frees.header,
+          (frees.there, subst (Contains b.sweep.sources.items) (sym frees.id_is) (Contains-get_or b.sweep.sources.items frees.number 0 frees.within)),
+        ),
+        frees.now_is,
+      )
+      (sources_old is) newer
+  newer_after (Mark level slot) next key is same newer = subst (λ (s : Store). HoldsNewer s.held b.snapshot key) (sym same) newer
+  newer_after (Filter slot) next key is same newer = subst (λ (s : Store). HoldsNewer s.held b.snapshot key) (sym same) newer
+  newer_after Select next key is same newer = subst (λ (s : Store). HoldsNewer s.held b.snapshot key) (sym same) newer
+  newer_after SweepStage (Copy source entry) key is same newer = subst (λ (s : Store). HoldsNewer s.held b.snapshot key) (sym same) newer
+  newer_after SweepStage End key is same newer = subst (λ (s : Store). HoldsNewer s.held b.snapshot key) (sym same) newer
+
+  abbrev Then : List ℕ → Type 0
+  Then key = IsWritten store_now.held a.snapshot a.sweep.buffer key
+
+  then_as : (key : List ℕ) → HoldsNewer store_now.held b.snapshot key → ¬ (has_key a.sweep.buffer key ≡ true) → Then key
+  then_as key newer unfilled =
+      subst (λ (n : ℕ). IsWritten store_now.held n a.sweep.buffer key) (sym snapshot_is) (written_as store_now.held b.snapshot a.sweep.buffer key newer unfilled)
+
+  -- what was written is not filled again
+  carried : (key : List ℕ) → IsWritten store.held b.snapshot b.sweep.buffer key → Then key
+  carried key is =
+      let newer = as_newer store.held b.snapshot b.sweep.buffer key is in
+      then_as key (newer_after b.stage b.sweep.next key refl after newer)
+      (λ has. elim (well.filled key has) [ inl before ↦ is.unfilled before | inr old_one ↦ not_old store.held index key b.snapshot partial newer old_one ])
+
+  -- and what is written then is not
+  pub written_then : (old new : Moment) → old.collection ≡ b → new.collection ≡ a → StepsTo b.stage b.sweep.next old new → (last : ℕ) (written : List (List ℕ))
+      → ((key : List ℕ) → Contains written key → IsWritten store.held b.snapshot b.sweep.buffer key) → (key : List ℕ)
+      → Contains (written ++ keys_written (changes_of (phase_at b.stage b.sweep.next) last b.sweep)) key → Then key
+  written_then old new was is steps last written each key there = elim
+      (Contains-append_cases written (keys_written (changes_of (phase_at b.stage b.sweep.next) last b.sweep)) key there) [
+        | inl before ↦ carried key (each key before)
+        | inr now ↦ by b.stage b.sweep.next after steps now
+      ]
+    where
+      by : (stage : Stage) (next : Next) → IsStoreAfter stage next b.snapshot b.sweep index store store_now image → StepsTo stage next old new
+          → Contains (keys_written (changes_of (phase_at stage next) last b.sweep)) key → Then key
+      by SweepStage (Flush source entry) flushes made now =
+          let ks = keys_of b.sweep.buffer in
+          let listed_now = subst (λ (xs : List (List ℕ)). Contains xs key) (append-nil ks) now in
+          let entry = listed_found b.sweep.buffer.kind 0 b.sweep.buffer.segments key (listed_of ks key listed_now) in
+          let h : HeaderValue = header_of flushes.id b.sweep.buffer.kind b.sweep.buffer.segments in
+          then_as key (subst (λ (s : Store). HoldsNewer s.held b.snapshot key) (sym flushes.now_is) (record {
+            slot = first_free store.held;
+            header = h;
+            there = first_with h store.held (omega (arith, flushes.can.slot));
+            new = flushes.new;
+            entry = entry.0;
+            found = entry.1;
+          }))
+          (no_key a.sweep.buffer key (ap (λ (z : Collection). z.sweep.buffer.segments) (sym is) ∙ made.flushed.emptied))
+      by (Mark level slot) next same made now = absurd (omega (arith, now.1))
+      by (Filter slot) next same made now = absurd (omega (arith, now.1))
+      by Select next same made now = absurd (omega (arith, now.1))
+      by SweepStage (Copy source entry) same made now = absurd (omega (arith, now.1))
+      by SweepStage (Release source entry) frees made now = absurd (omega (arith, now.1))
+      by SweepStage End same made now = absurd (omega (arith, now.1))

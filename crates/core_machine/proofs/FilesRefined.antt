@@ -1,0 +1,322 @@
+-- Each step of a core that stands for files is one of the machine of files.
+use Rattle.std.proofs.Common.{◌≡◌, ◌⊎◌, inl, inr, ℕ, List, [], ◌∷◌, Bool, true, Option, Some, None, Result, Ok, Err, IfErr, refl, sym, ◌∙◌, ap, subst}
+use Rattle.base_model.specs.Known.{KnownWith}
+use Rattle.disk_format.specs.Cells.{Root}
+use Rattle.actor_parts.specs.declared.step.Answer.{Answer}
+use Rattle.actor_parts.specs.declared.step.Answer.TheVariants as answers
+use Rattle.actor_parts.specs.StepValue as steps
+use Rattle.actor_parts.specs.StepValue.{IsStep, StepValue}
+use Rattle.refusals.specs.declared.refusal.Phase.{Phase}
+use Rattle.refusals.specs.declared.refusal.Phase.TheVariants as phases
+use Rattle.refusals.specs.declared.refusal.Refusal.{Refusal}
+use Rattle.refusals.specs.declared.refusal.Refusal.TheVariants as refusals
+use Rattle.store_model.specs.Collisions.{ByteSet, HasNoCollisions, IsIn}
+use Rattle.store_model.specs.Image.{Store}
+use Rattle.store_model.specs.Trees.{root_of}
+use Rattle.store_state.specs.Settled.{IsSettled}
+use Rattle.store_core.specs.declared.stop.Stop.{Stop}
+use Rattle.store_core.specs.Core.{AnswersStopped, Row, Steps, StepsOr}
+use Rattle.store_core.specs.Runs.{FileEvent, FileStep, IsAt, IsGivenRight, IsNoGcStep}
+use Rattle.store_core.specs.Sound.{IsHarmless, MayClash}
+use Rattle.store_core.specs.State.{CoreState, Event, IsRunning, IsUp, UnlessStopped}
+use Rattle.store_core.proofs.CoreRuns.{running_step}
+use Rattle.store_core.proofs.Damage.{never_damaged}
+use Rattle.store_core.proofs.RunningOn.{step_runs}
+use Rattle.store_core.proofs.Sealing.{one_map}
+use Rattle.store_machine.specs.Asked.{Asked}
+use Rattle.store_machine.specs.ByMap.{FileMachine}
+use Rattle.store_machine.specs.Forgetting.{Forgets, SameState, asked_of, forget_step}
+use Rattle.store_machine.specs.Legal.{ByState, Legal}
+use Rattle.store_machine.specs.Machine.{Found, RunState, Running, Stopped}
+use Rattle.store_machine.specs.Remembering.{Adds, AddsBy, RootMachine}
+use Rattle.store_machine.specs.Values.{of_files, of_roots}
+use Rattle.store_machine.proofs.Remembered.{steps_are_remembered}
+use Rattle.core_machine.specs.Files.{FileRunsRefine, FilesRefine, FitsBy, IsAtFiles, IsFileMachine, IsOfFile, file_step, stored_in}
+use Rattle.core_machine.specs.Refines.{Follows, FollowsPhase, HasIndex, IsMachine, SameStop, TellsForgotten, answered_by, asked_as, asked_by}
+use Rattle.core_machine.specs.Sweeping.{NamesStep}
+use Rattle.core_machine.proofs.FileGc.{gc_adds}
+use Rattle.core_machine.proofs.FileIngests.{claim_adds, commit_adds, seal_adds}
+use Rattle.core_machine.proofs.FileKept.{at_store, by_step, settled}
+use Rattle.core_machine.proofs.FileLives.{lives_then}
+use Rattle.core_machine.proofs.FileReads.{reads_add}
+use Rattle.core_machine.proofs.FileReadsOn.{reads_on}
+use Rattle.core_machine.proofs.FileStays.{stands_read}
+use Rattle.core_machine.proofs.FileSteps.{StepsAt, StepsTo}
+use Rattle.core_machine.proofs.FileSwept.{swept_at, swept_settled}
+use Rattle.core_machine.proofs.FileWrote.{wrote_on}
+use Rattle.core_machine.proofs.Refined.{core_refines}
+
+-- ---- one step is asked of both machines
+
+same_asked : (step : StepValue) (bytes : List ℕ) → IsOfFile step bytes → asked_by step ≡ asked_of (asked_as (λ root. bytes) step)
+same_asked steps.Begin bytes of = refl
+same_asked (steps.Claim seg) bytes of = refl
+same_asked (steps.Seal filled) bytes of = refl
+same_asked (steps.Commit name root) bytes of = ap (λ (r : Root). let x : Asked Root = asked_by (steps.Commit name r) in x) of.0
+same_asked steps.Abort bytes of = refl
+same_asked (steps.OpenRead name) bytes of = refl
+same_asked steps.ReadNext bytes of = refl
+same_asked steps.EndRead bytes of = refl
+same_asked (steps.Delete name) bytes of = refl
+same_asked steps.ListNames bytes of = refl
+same_asked (steps.GcStart percent) bytes of = refl
+same_asked steps.GcStep bytes of = refl
+same_asked steps.Stat bytes of = refl
+
+-- the index is followed through each step, where the content is told
+follows_phase : (phase : Phase) (content : Option (List ℕ)) → KnownWith content (λ _. Unit {0}) → FollowsPhase phase content
+follows_phase phases.Flush content told = told
+follows_phase phases.Release content told = told
+follows_phase phase content told = tt
+
+follows : (answer : Result Answer Refusal) (c : CoreState) → KnownWith c.disk.content (λ _. Unit {0}) → Follows answer c
+follows (Ok (answers.Did phase)) c told = follows_phase phase c.disk.content told
+follows answer c told = tt
+
+-- a step that is none of a collection, or one
+by_gc : (step : StepValue) → IsNoGcStep step ⊎ (step ≡ steps.GcStep)
+by_gc steps.GcStep = inr refl
+by_gc steps.Begin = inl tt
+by_gc (steps.Claim seg) = inl tt
+by_gc (steps.Seal filled) = inl tt
+by_gc (steps.Commit name root) = inl tt
+by_gc steps.Abort = inl tt
+by_gc (steps.OpenRead name) = inl tt
+by_gc steps.ReadNext = inl tt
+by_gc steps.EndRead = inl tt
+by_gc (steps.Delete name) = inl tt
+by_gc steps.ListNames = inl tt
+by_gc (steps.GcStart percent) = inl tt
+by_gc steps.Stat = inl tt
+
+-- nothing is added to a step that says as much of roots as of files
+abbrev AddsNothing : StepValue → Type 0
+AddsNothing steps.Begin = Unit {0}
+AddsNothing steps.Abort = Unit {0}
+AddsNothing (steps.OpenRead name) = Unit {0}
+AddsNothing steps.EndRead = Unit {0}
+AddsNothing (steps.Delete name) = Unit {0}
+AddsNothing steps.ListNames = Unit {0}
+AddsNothing steps.Stat = Unit {0}
+AddsNothing step = ⊥
+
+none_added : (step : StepValue) (bytes : List ℕ) (a : ℕ) (told : Result Done Refusal) (m : FileMachine) (r t : RootMachine) → AddsNothing step → AddsBy (asked_as (λ root. bytes) step) a told m r t
+none_added steps.Begin bytes a (Ok answer) m r t none = tt
+none_added steps.Begin bytes a (Err refusal) m r t none = tt
+none_added steps.Abort bytes a (Ok answer) m r t none = tt
+none_added steps.Abort bytes a (Err refusal) m r t none = tt
+none_added (steps.OpenRead name) bytes a (Ok answer) m r t none = tt
+none_added (steps.OpenRead name) bytes a (Err refusal) m r t none = tt
+none_added steps.EndRead bytes a (Ok answer) m r t none = tt
+none_added steps.EndRead bytes a (Err refusal) m r t none = tt
+none_added (steps.Delete name) bytes a (Ok answer) m r t none = tt
+none_added (steps.Delete name) bytes a (Err refusal) m r t none = tt
+none_added steps.ListNames bytes a (Ok answer) m r t none = tt
+none_added steps.ListNames bytes a (Err refusal) m r t none = tt
+none_added steps.Stat bytes a (Ok answer) m r t none = tt
+none_added steps.Stat bytes a (Err refusal) m r t none = tt
+none_added step bytes a told m r t none = absurd none
+
+-- what a stopped core answers adds nothing to any
+stopped_added : (step : StepValue) (bytes : List ℕ) (a at : ℕ) (m : FileMachine) (r t : RootMachine) → AddsBy (asked_as (λ root. bytes) step) a (Err (refusals.Stopped at)) m r t
+stopped_added steps.Begin bytes a at m r t = tt
+stopped_added (steps.Claim seg) bytes a at m r t = tt
+stopped_added (steps.Seal filled) bytes a at m r t = tt
+stopped_added (steps.Commit name root) bytes a at m r t = tt
+stopped_added steps.Abort bytes a at m r t = tt
+stopped_added (steps.OpenRead name) bytes a at m r t = tt
+stopped_added steps.ReadNext bytes a at m r t = tt
+stopped_added steps.EndRead bytes a at m r t = tt
+stopped_added (steps.Delete name) bytes a at m r t = tt
+stopped_added steps.ListNames bytes a at m r t = tt
+stopped_added (steps.GcStart percent) bytes a at m r t = tt
+stopped_added steps.GcStep bytes a at m r t = tt
+stopped_added steps.Stat bytes a at m r t = tt
+
+-- ---- one that runs
+
+module _ {C : Type 0} {state : C → CoreState} {among : ByteSet} {f : FileEvent} {old new : C} {m : FileMachine} {r t : RootMachine} (s : StepsAt C state among f old new m r t) where
+  abbrev event : Event
+  event = f.event
+
+  made : Steps f.event (state old) (state new)
+  made = running_step (state old) (state new) f.event s.goes s.step.made
+
+  same_state : (a : RunState (List ℕ)) (b : RunState Root) → SameState a b → a ≡ Running → b ≡ Running
+  same_state Running Running same is = refl
+  same_state Running (Stopped other stores) same is = absurd same
+  same_state (Stopped other stores) b same is = absurd (let wrong : Stopped other stores ≡ Running = is in cc)
+
+  own : HasIndex true r.swept r.forgotten r.store.held (state old).known
+  own = s.machine.index (same_state m.state r.state s.forgets.state s.runs)
+
+  -- the map of the index tells what the machine of files has forgotten
+  tells : TellsForgotten m.forgotten m.store.held s.at.is_at.index
+  tells =
+      subst (λ (keys : List (List ℕ)). TellsForgotten keys m.store.held s.at.is_at.index) s.forgets.forgotten
+      (subst (λ (store : Store). TellsForgotten r.forgotten store.held s.at.is_at.index) s.forgets.store
+      (subst (TellsForgotten r.forgotten r.store.held) (one_map own.places s.at.is_at.index (sym own.known_is ∙ s.at.is_at.index_known)) (own.told refl)))
+
+  harmless : IfErr f.event.answer (λ refusal. IsHarmless (MayClash f.event.step) refusal)
+  harmless = never_damaged C state among [] f m.store (stored_in m.now) old old new s.apart s.at.is_at refl s.step
+
+  abbrev AddsAs : StepValue → Type 0
+  AddsAs step = AddsBy (asked_as (λ root. f.bytes) step) f.event.actor (answered_by f.event.answer f.event.buf) m r t
+
+  adds_by : (step : StepValue) → f.event.step ≡ step → IsStep step → IsGivenRight (IsIn among) step f.event.answer f.bytes (state old) → IsOfFile step f.bytes
+      → Row step f.event.actor f.event.answer f.event.buf (state old) (state new) → IfErr f.event.answer (λ refusal. IsHarmless (MayClash step) refusal) → AddsAs step
+  adds_by (steps.Claim seg) is asked given of row harmless =
+      claim_adds (IsIn among) m t (state old) (state new) s.at.is_at tells f.event.actor f.event.buf seg f.event.answer asked row harmless
+  adds_by (steps.Seal filled) is asked given of row harmless =
+      seal_adds (IsIn among) m t (state old) (state new) s.at.is_at tells f.event.actor f.event.buf filled f.event.answer asked.1 row harmless
+  adds_by (steps.Commit name root) is asked given of row harmless =
+      commit_adds (IsIn among) m t (state old) (state new) s.at.is_at tells f.event.actor f.event.buf name f.bytes root f.event.answer of.1 given row
+  adds_by steps.ReadNext is asked given of row harmless = subst AddsAs is (reads_add C state among f old new m r t s is)
+  adds_by (steps.GcStart percent) is asked given of row harmless =
+      subst AddsAs is (gc_adds C state among f old new m r t s s.at.wrote (inr (percent, is)))
+  adds_by steps.GcStep is asked given of row harmless = subst AddsAs is (gc_adds C state among f old new m r t s s.at.wrote (inl is))
+  adds_by step is asked given of row harmless = none_added step f.bytes f.event.actor (answered_by f.event.answer f.event.buf) m r t tt
+
+  pub adds : Adds (file_step f) m r t
+  adds = adds_by f.event.step refl s.step.asked s.step.given s.of_file made.made.row harmless
+
+-- and goes on
+module _ {C : Type 0} {state : C → CoreState} {among : ByteSet} {f : FileEvent} {old new : C} {m n : FileMachine} {r t : RootMachine} (to : StepsTo C state among f old new m n r t)
+    (stays : (state new).stop ≡ None) where
+  is_at : IsAt (IsIn among) n.store (stored_in n.now) (state new)
+  is_at = elim (by_gc f.event.step) [
+    | inl other ↦ at_store to other stays
+    | inr is ↦ swept_at C state among f old new m n r t to is stays
+  ]
+
+  settled_then : IsSettled (state new).tables.slots (state new).disk
+  settled_then = elim (by_gc f.event.step) [
+    | inl other ↦ settled to other stays
+    | inr is ↦ swept_settled C state among f old new m n r t to is stays
+  ]
+
+  pub at_files : IsAtFiles (IsIn among) n (state new)
+  at_files = record {
+    is_at = is_at;
+    settled = settled_then;
+    reads = reads_on C state among f old new m n r t to is_at stays;
+    lives = lives_then C state among f old new m n r t to is_at stays;
+    wrote = wrote_on C state among f old new m n r t to stays to.steps.at.wrote;
+  }
+
+-- ---- a step
+
+module _ (C : Type 0) (state : C → CoreState) (among : ByteSet) (f : FileEvent) (old new : C) (m : FileMachine) (apart : HasNoCollisions (IsIn among)) (up : IsRunning (state old)) (is : IsFileMachine (IsIn among) m (state old))
+    (of : IsOfFile f.event.step f.bytes) (step : FileStep (IsIn among) f (state old) (state new)) where
+  abbrev End : Type 0
+  End = (n : FileMachine) × (Legal of_files (file_step f) m n × IsFileMachine (IsIn among) n (state new))
+
+  -- what the machine of roots makes
+  abbrev RootEnd : Type 0
+  RootEnd = (t : RootMachine) × (Legal of_roots (record { actor = f.event.actor; asked = asked_by f.event.step; answer = answered_by f.event.answer f.event.buf }) is.roots t
+      × IsMachine true t (state new) × NamesStep f.event.step f.event.answer (state old) (state new) is.roots t)
+
+  root_end : (followed : Follows f.event.answer (state old)) → RootEnd
+  root_end followed = core_refines C state true f.event old new is.roots up is.machine (λ told. followed) step.made
+
+  legal_of : (t : RootMachine) → Legal of_roots (record { actor = f.event.actor; asked = asked_by f.event.step; answer = answered_by f.event.answer f.event.buf }) is.roots t
+      → Legal of_roots (forget_step (file_step f)) is.roots t
+  legal_of t legal = subst (λ (x : Asked Root). Legal of_roots (record { actor = f.event.actor; asked = x; answer = answered_by f.event.answer f.event.buf }) is.roots t) (same_asked f.event.step f.bytes of) legal
+
+  module _ (runs : m.state ≡ Running) (goes : (state old).stop ≡ None) where
+    at : IsAtFiles (IsIn among) m (state old)
+    at = subst (λ (x : RunState (List ℕ)). FitsBy x (IsIn among) m (state old)) runs is.fits
+
+    root : RootEnd
+    root = root_end (follows f.event.answer (state old) (at.is_at.stands.known.0, at.is_at.stands.known.1, tt))
+
+    steps : StepsAt C state among f old new m is.roots root.0
+    unfolding root
+    steps = record {
+      apart = apart;
+      runs = runs;
+      goes = goes;
+      up = subst (λ (stop : Option Stop). UnlessStopped stop (IsUp (state old))) goes up;
+      forgets = is.forgets;
+      machine = is.machine;
+      at = at;
+      of_file = of;
+      step = step;
+      legal = legal_of root.0 root.1.0;
+      then = root.1.1;
+      named = root.1.2;
+    }
+
+    left : (n : FileMachine) × (Legal of_files (file_step f) m n × Forgets n root.0)
+    left = steps_are_remembered (file_step f) m is.roots root.0 is.forgets steps.legal (adds steps)
+
+    to : StepsTo C state among f old new m left.0 is.roots root.0
+    to = record { steps = steps; legal = left.1.0; forgets = left.1.1 }
+
+    -- by what the core came to
+    fits : (stop : Option Stop) → (state new).stop ≡ stop → (a : RunState (List ℕ)) (b : RunState Root) → left.0.state ≡ a → SameState a b → SameStop root.0.acknowledged b stop → FitsBy a (IsIn among) left.0 (state new)
+    fits None none Running b state_is same fit = at_files to none
+    fits None none (Stopped other stores) Running state_is same fit = absurd same
+    fits None none (Stopped other stores) (Stopped found others) state_is same fit = absurd fit
+    fits (Some stop) stopped Running Running state_is same fit = absurd fit
+    fits (Some stop) stopped Running (Stopped found others) state_is same fit = absurd same
+    fits (Some stop) stopped (Stopped other stores) b state_is same fit = broken to stop stopped
+
+    running : End
+    running = (left.0, (left.1.0, record {
+      roots = root.0;
+      forgets = left.1.1;
+      machine = root.1.1;
+      fits = fits (state new).stop refl left.0.state root.0.state refl left.1.1.state root.1.1.state;
+    }))
+
+  module _ (other : Option (Found (List ℕ))) (stores : List Store) (state_is : m.state ≡ Stopped other stores) (stop : Stop) (stopped : (state old).stop ≡ Some stop) where
+    answers : AnswersStopped stop.at f.event (state old) (state new)
+    answers = subst (λ (s : Option Stop). StepsOr s f.event (state old) (state new)) stopped step.made
+
+    stopped_root : RootEnd
+    stopped_root = root_end (subst (λ (a : Result Answer Refusal). Follows a (state old)) (sym answers.answer_is) tt)
+
+    stopped_left : (n : FileMachine) × (Legal of_files (file_step f) m n × Forgets n stopped_root.0)
+    stopped_left =
+        steps_are_remembered (file_step f) m is.roots stopped_root.0 is.forgets (legal_of stopped_root.0 stopped_root.1.0)
+        (subst (λ (a : Result Answer Refusal). AddsBy (asked_as (λ root. f.bytes) f.event.step) f.event.actor (answered_by a f.event.buf) m is.roots stopped_root.0) (sym answers.answer_is)
+        (stopped_added f.event.step f.bytes f.event.actor stop.at m is.roots stopped_root.0))
+
+    same : stopped_left.0 ≡ m
+    same = (subst (λ (s : RunState (List ℕ)). ByState of_files s f.event.actor (asked_as (λ root. f.bytes) f.event.step) (answered_by f.event.answer f.event.buf) m stopped_left.0) state_is
+        (by_step m stopped_left.0 f.event.actor f.bytes f.event.buf m.store f.event.step (answered_by f.event.answer f.event.buf) stopped_left.1.0)).1
+
+    still : End
+    still = (stopped_left.0, (stopped_left.1.0, record {
+      roots = stopped_root.0;
+      forgets = stopped_left.1.1;
+      machine = stopped_root.1.1;
+      fits = subst (λ (n : FileMachine). FitsBy n.state (IsIn among) n (state new)) (sym same)
+          (subst (λ (s : RunState (List ℕ)). FitsBy s (IsIn among) m (state new)) (sym state_is)
+          (stands_read (IsIn among) m (state old).disk (state new).disk answers.same.disk.only
+          (subst (λ (s : RunState (List ℕ)). FitsBy s (IsIn among) m (state old)) state_is is.fits)));
+    }))
+
+  by : (a : RunState (List ℕ)) (b : RunState Root) (stop : Option Stop) → m.state ≡ a → SameState a b → SameStop is.roots.acknowledged b stop → (state old).stop ≡ stop → End
+  by Running Running None runs same fit goes = running runs goes
+  by Running Running (Some stop) runs same fit goes = absurd fit
+  by Running (Stopped found others) stop runs same fit goes = absurd same
+  by (Stopped other stores) b (Some stop) state_is same fit stopped = still other stores state_is stop stopped
+  by (Stopped other stores) Running None state_is same fit goes = absurd same
+  by (Stopped other stores) (Stopped found others) None state_is same fit goes = absurd fit
+
+  pub refined : End
+  refined = by m.state is.roots.state (state old).stop refl is.forgets.state is.machine.state refl
+
+pub files_refine : (C : Type 0) (state : C → CoreState) → FilesRefine C state
+files_refine C state among f old new m apart up is of step = refined C state among f old new m apart up is of step
+
+-- ---- steps, one after the other
+
+pub file_runs_refine : (C : Type 0) (state : C → CoreState) → FileRunsRefine C state
+file_runs_refine C state among [] old new m apart up is of run = (m, (refl, subst (λ (x : C). IsFileMachine (IsIn among) m (state x)) (sym run) is))
+file_runs_refine C state among (f ∷ fs) old new m apart up is of run =
+    let first = files_refine C state among f old run.0 m apart up is of.0 run.1.0 in
+    let rest = file_runs_refine C state among fs run.0 new first.0 apart (step_runs (state old) (state run.0) f.event run.1.0.made up) first.1.1 of.1 run.1.1 in
+    (rest.0, ((first.0, (first.1.0, rest.1.0)), rest.1.1))

@@ -1,0 +1,89 @@
+-- A step that is refused leaves the machine as it is, or stops it; but for a read, before which nodes may be opened.
+use Rattle.std.proofs.Common.{◌≡◌, ◌⊎◌, inl, inr, ℕ, List, Option, refl}
+use Rattle.container_meta.specs.Segments.{Contents, KindSegment}
+use Rattle.refusals.specs.declared.refusal.Refusal.{Refusal}
+use Rattle.refusals.specs.declared.refusal.Refusal.TheVariants as refusals
+use Rattle.store_model.specs.Image.{Store}
+use Rattle.store_machine.specs.Asked.{Asked}
+use Rattle.store_machine.specs.Asked as asked
+use Rattle.store_machine.specs.Legal.{Refuses, RefusesClaim, RefusesCommit, RefusesDelete, RefusesGcStep, RefusesOn, RefusesSeal}
+use Rattle.store_machine.specs.Machine.{Found, Machine, stopped}
+use Rattle.store_machine.specs.Values.{Values}
+
+abbrev pub IsNoRead : {V : Type 0} → Asked V → Type 0
+IsNoRead asked.ReadNext = ⊥
+IsNoRead step = Unit {0}
+
+module _ {V R : Type 0} where
+  abbrev pub IsLeft : Machine V R → Machine V R → Type 0
+  IsLeft m n = (n ≡ m) ⊎ ((other : Option (Found V)) × (stores : List Store) × (n ≡ stopped other stores m))
+
+  module _ (v : Values V R) (m n : Machine V R) where
+    claim_left : (a : ℕ) (seg : KindSegment) (refusal : Refusal) → RefusesClaim v a seg refusal m n → IsLeft m n
+    claim_left a seg (refusals.Unpinned key) is = inl is.1
+    claim_left a seg refusals.Memory is = inl is
+    claim_left a seg refusals.DiskRead is = inl is.1
+    claim_left a seg (refusals.Clash key at) is = inl is.2
+    claim_left a seg (refusals.Corrupt slot offset count want got) is = inl is.1.1
+    claim_left a seg refusal is = absurd is
+
+    seal_left : (a : ℕ) (filled : Contents) (refusal : Refusal) → RefusesSeal v a filled refusal m n → IsLeft m n
+    seal_left a filled refusals.Memory is = inl is
+    seal_left a filled (refusals.Unpinned key) is = inl is.1
+    seal_left a filled (refusals.Full free) is = inl is.3
+    seal_left a filled refusals.Numbers is = inl is.2
+    seal_left a filled refusals.DiskRead is = inl is.1
+    seal_left a filled (refusals.Clash key at) is = inl is.2
+    seal_left a filled (refusals.Corrupt slot offset count want got) is = inl is.1.1
+    seal_left a filled refusals.DiskWrite is = inr (_, _, is.2)
+    seal_left a filled refusal is = absurd is
+
+    commit_left : (a : ℕ) (name : List ℕ) (value : V) (refusal : Refusal) → RefusesCommit v a name value refusal m n → IsLeft m n
+    commit_left a name value refusals.Memory is = inl is
+    commit_left a name value refusals.BadName is = inl is.1
+    commit_left a name value refusals.TooMany is = inl is.3
+    commit_left a name value (refusals.Unpinned key) is = inl is.4
+    commit_left a name value refusals.Numbers is = inl is.2
+    commit_left a name value refusals.DiskWrite is = inr (_, _, is.4)
+    commit_left a name value refusal is = absurd is
+
+    delete_left : (name : List ℕ) (refusal : Refusal) → RefusesDelete v name refusal m n → IsLeft m n
+    delete_left name refusals.Memory is = inl is
+    delete_left name refusals.BadName is = inl is.1
+    delete_left name refusals.NoFile is = inl is.2
+    delete_left name refusals.Numbers is = inl is.3
+    delete_left name refusals.DiskWrite is = inr (_, _, is.3)
+    delete_left name refusal is = absurd is
+
+    gc_left : (refusal : Refusal) → RefusesGcStep v refusal m n → IsLeft m n
+    gc_left refusals.NotCollecting is = inl is.1
+    gc_left refusals.Memory is = inl is.1
+    gc_left refusals.Numbers is = inl is.2
+    gc_left refusals.DiskRead is = inl is.1
+    gc_left refusals.DiskWrite is = inr (_, _, is.2)
+    gc_left (refusals.Corrupt slot offset count want got) is = inl is.1.1
+    gc_left (refusals.Missing key) is = inl is.1.1
+    gc_left (refusals.Damaged at why) is = inl is.1.1
+    gc_left refusal is = absurd is
+
+    on_left : (a : ℕ) (step : Asked V) (refusal : Refusal) → IsNoRead step → RefusesOn v a step refusal m n → IsLeft m n
+    on_left a (asked.Claim seg) refusal other is = claim_left a seg refusal is
+    on_left a (asked.Seal filled) refusal other is = seal_left a filled refusal is
+    on_left a (asked.Commit name value) refusal other is = commit_left a name value refusal is
+    on_left a (asked.Delete name) refusal other is = delete_left name refusal is
+    on_left a (asked.OpenRead name) refusals.Memory other is = inl is
+    on_left a (asked.OpenRead name) refusals.BadName other is = inl is.1
+    on_left a (asked.OpenRead name) refusals.NoFile other is = inl is.2
+    on_left a asked.ListNames refusals.Memory other is = inl is
+    on_left a (asked.GcStart percent) refusals.Memory other is = inl is.1
+    on_left a (asked.GcStart percent) (refusals.Missing key) other is = inl is.1.1
+    on_left a (asked.GcStart percent) (refusals.Damaged at why) other is = inl is.1.1
+    on_left a (asked.GcStart percent) (refusals.Collecting phase) other is = inl is.1
+    on_left a asked.GcStep refusal other is = gc_left refusal is
+    on_left a asked.ReadNext refusal other is = absurd other
+    on_left a step refusal other is = absurd is
+
+    pub refused_left : (a : ℕ) (step : Asked V) (refusal : Refusal) → IsNoRead step → Refuses v a step refusal m n → IsLeft m n
+    refused_left a step (refusals.WrongPart kind) other is = inl is.1
+    refused_left a step refusals.Memory other is = on_left a step refusals.Memory other is
+    refused_left a step refusal other is = on_left a step refusal other is.1

@@ -127,10 +127,10 @@ module _ (among : ByteSet) (m : FileMachine) (old new : CoreState) (at : IsAtFil
   -- ---- a name
 
   module _ (name : List ℕ) (change : Change) (other : Found (List ℕ)) where
-    abbrev broken : FileMachine
-    broken = stopped (Some other) (broken_by of_files name change m.store) m
+    abbrev halted : FileMachine
+    halted = stopped (Some other) (broken_by of_files name change m.store) m
 
-    still_named : (image : List ℕ) → FilesStandStill S m.store files image → MayStand S broken image
+    still_named : (image : List ℕ) → FilesStandStill S m.store files image → MayStand S halted image
     still_named image (inl is) = may_still (Some other) (broken_by of_files name change m.store) image is
     still_named image (inr (inl is)) =
         may_be (Some other) (broken_by of_files name change m.store) (with_other false m.store) image (2, omega arith, refl) opens last_here is
@@ -141,7 +141,7 @@ module _ (among : ByteSet) (m : FileMachine) (old new : CoreState) (at : IsAtFil
     ]
 
     named : (image : List ℕ) → CanBeOpened (with_change name change m.store) other.names → last_sequence (with_change name change m.store) ≡ other.last
-        → FilesStandStill S m.store files image ⊎ IsStoreOf S (with_change name change m.store) other.names image → MayStand S broken image
+        → FilesStandStill S m.store files image ⊎ IsStoreOf S (with_change name change m.store) other.names image → MayStand S halted image
     named image can last (inl still) = still_named image still
     named image can last (inr is) =
         record { found = other; may = inr refl; store = with_change name change m.store; stands = (1, omega arith, refl); is = is; opens = can; last_is = last }
@@ -286,7 +286,7 @@ module _ (bytes : List ℕ) (m n : FileMachine) (runs : m.state ≡ Running) (ac
   it_writes steps.ReadNext (right, (file, rest, after, is, stays, others)) = no_read rest after stays
   it_writes step refuses = refuses.1
 
-module _ (C : Type 0) (state : C → CoreState) (among : ByteSet) (f : FileEvent) (old new : C) (m n : FileMachine) (r t : RootMachine)
+module _ {C : Type 0} {state : C → CoreState} {among : ByteSet} {f : FileEvent} {old new : C} {m n : FileMachine} {r t : RootMachine}
     (to : StepsTo C state among f old new m n r t) (stop : Stop) (stops : (state new).stop ≡ Some stop) where
   abbrev before : StepsAt C state among f old new m r t
   before = to.steps
@@ -341,8 +341,8 @@ module _ (C : Type 0) (state : C → CoreState) (among : ByteSet) (f : FileEvent
       (here.is_at.safe here.is_at.stands.known.0 here.is_at.stands.known.1) effect.touches)
   by_step step writes effect right given refuses named = absurd writes
 
-  pub files_broken : StandsFor (IsIn among) n (state new).disk
-  files_broken =
+  pub broken : StandsFor (IsIn among) n (state new).disk
+  broken =
       let legal = subst (λ (a : Result Answer Refusal). LegalBy of_files (asked_as (λ root. f.bytes) f.event.step) f.event.actor (answered_by a f.event.buf) m n) why to.legal in
       let refuses = refused f.bytes m n before.runs f.event.actor f.event.step legal in
       by_step f.event.step (it_writes f.bytes m n before.runs f.event.actor f.event.step refuses)

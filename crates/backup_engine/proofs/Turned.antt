@@ -117,7 +117,7 @@ module _ (C : Type 0) (state : C → CoreState) (laws : SessionLaws) (actor : �
 
     pub not_fed : (refusal : Refusal) → Feeds C state actor (Err refusal) bytes s t old new → (name file : List ℕ) → MayBe (given ++ bytes) s file → Stops C state name file refusal start new
     not_fed refusal feeds name file may = elim feeds [
-      | inl stopped ↦ stopped_turns refusal s t old new stopped fed name file (may_be_before given bytes s s file off may)
+      | inl stopped ↦ stopped_turns refusal s t old new stopped.0 fed name file (may_be_before given bytes s s file off may)
       | inr long ↦ too_long refusal long.0 long.1 long.2 name file may
     ]
 

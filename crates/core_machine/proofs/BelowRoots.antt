@@ -42,7 +42,8 @@ module _ (c : CoreState) (file : List ℕ) (rest : List (List ℕ)) (reader : Re
 
   module _ (S : List ℕ → Type 0) (store : Store) (stored : Stored) (at : IsAt S store stored c) (image : List ℕ) (told : c.disk.content ≡ Some image) where
     -- with a node's key it has those of its children
-    pub taken_closed : (n : node.Contents) (copy : Copy) → HoldsNode store.held image n copy → Contains (tree_keys (file_tree file)) (node_key n) → (key : List ℕ) → Contains (child_keys n) key
+    pub taken_closed : (n : node.Contents) (copy : Copy) → HoldsNode store.held image n copy → Contains (tree_keys (file_tree file)) (node_key n) → (key : List ℕ)
+        → Contains (child_keys n) key
         → Contains (tree_keys (file_tree file)) key
     taken_closed n copy node_is there key child =
         tree_closed store.held image n copy node_is key child (file_tree file) (right_file file takes.fits) (takes.whole store image at.represents told).tree_is_held there
@@ -56,7 +57,8 @@ module _ (c : CoreState) (file : List ℕ) (rest : List (List ℕ)) (reader : Re
         → ((key : List ℕ) → IsPartKey (core.Reading reader) key → P key) → (key : List ℕ) → Contains (tree_keys (file_tree file)) key → P key
     taken_below P closed roots key there =
         let root = tree_root (file_tree file) reader.root key (right_file file takes.fits) (ap top_of (takes.root_is ∙ root_of_tree file takes.fits)) there in
-        closed_tree store.held image P closed (file_tree file) (root_key reader.root) root.2 (takes.whole store image at.represents told).tree_is_held root.1 (roots (root_key reader.root) root.0) key there
+        closed_tree store.held image P closed (file_tree file) (root_key reader.root) root.2 (takes.whole store image at.represents told).tree_is_held root.1
+        (roots (root_key reader.root) root.0) key there
 
 -- ---- what lies below the roots
 
@@ -84,7 +86,9 @@ module _ (S : List ℕ → Type 0) (store : Store) (stored : Stored) (c : CoreSt
     root = below.root;
     is_live = below.is_live;
     tree = below.tree;
-    there = tree_closed store.held image n copy node_is (get_or (child_keys n) k other) (Contains-get_or (child_keys n) k other within) below.tree.whole (tree_right below.tree.whole below.tree.right) below.tree.is_held.tree_is_held
+    there =
+        tree_closed store.held image n copy node_is (get_or (child_keys n) k other) (Contains-get_or (child_keys n) k other within) below.tree.whole
+        (tree_right below.tree.whole below.tree.right) below.tree.is_held.tree_is_held
         below.there;
   }
 

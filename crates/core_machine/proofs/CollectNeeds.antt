@@ -26,5 +26,6 @@ module _ (S : List ℕ → Type 0) (store : Store) (stored : Stored) (c : CoreSt
     needs_here = (at.stands.each image (c.disk.as_read image content)).holds
 
     -- what its files need goes from nodes to their children
-    pub needs_closed : (n : Contents) (copy : Copy) → HoldsNode store.held image n copy → IsReachable stored.files (node_key n) → (key : List ℕ) → Contains (child_keys n) key → IsReachable stored.files key
+    pub needs_closed : (n : Contents) (copy : Copy) → HoldsNode store.held image n copy → IsReachable stored.files (node_key n) → (key : List ℕ) → Contains (child_keys n) key
+        → IsReachable stored.files key
     needs_closed n copy node needed key child = reachable_closed store stored.files image needs_here n copy node needed key child

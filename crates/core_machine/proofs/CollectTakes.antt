@@ -86,12 +86,14 @@ module _ (S : List ℕ → Type 0) (s t : Store) (stored later : Stored) (old ne
   -- the index keeps each key that is needed, and with it its newest copy
   pub record KeepsNeeded : Type 0 where
     pub keys : (key : List ℕ) → IsNeeded s old.parts image key → HasKey at.index key → HasKey then.index key
-    pub copies : (key : List ℕ) → IsNeeded s old.parts image key → HasKey at.index key → (level : ℕ) (bytes : List ℕ) → HasNewest s.held key level bytes image → HasNewest t.held key level bytes after
+    pub copies : (key : List ℕ) → IsNeeded s old.parts image key → HasKey at.index key → (level : ℕ) (bytes : List ℕ) → HasNewest s.held key level bytes image
+        → HasNewest t.held key level bytes after
 
   module _ (spares : KeepsNeeded) (actor : ℕ) (below : actor < ACTORS) where
     module _ (reader : Reader) (is : part_of old.parts actor ≡ core_parts.Reading reader) where
       rest_held : HoldsRest (HasKey at.index) s.held image reader
-      rest_held = subst (HoldsPart (HasKey at.index) s.held image) is (all_part (HoldsPart (HasKey at.index) s.held image) old.parts actor tt (at.invariant image here).pins_are_closed)
+      rest_held =
+          subst (HoldsPart (HasKey at.index) s.held image) is (all_part (HoldsPart (HasKey at.index) s.held image) old.parts actor tt (at.invariant image here).pins_are_closed)
 
       abbrev keys : List (List ℕ)
       keys = tree_keys rest_held.whole
@@ -120,14 +122,16 @@ module _ (S : List ℕ → Type 0) (s t : Store) (stored later : Stored) (old ne
       -- the file's tree is the one that is held whole
       whole_same : (file : List ℕ) (rest : List (List ℕ)) → Takes file rest reader old → rest_held.whole ≡ file_tree file
       whole_same file rest takes =
-          trees_agree s.held image rest_held.whole (file_tree file) rest_held.right (right_file file takes.fits) rest_held.is_held.tree_is_held (takes.whole s image at.represents here).tree_is_held
+          trees_agree s.held image rest_held.whole (file_tree file) rest_held.right (right_file file takes.fits) rest_held.is_held.tree_is_held
+          (takes.whole s image at.represents here).tree_is_held
           (sym rest_held.top_is ∙ ap top_of (takes.root_is ∙ root_of_tree file takes.fits))
 
       pub takes_still : (file : List ℕ) (rest : List (List ℕ)) → Takes file rest reader old → Takes file rest reader new
       takes_still file rest takes =
           let ahead : SegmentsAhead takes.counts s.held image reader.cursor rest = takes.segments s image at.represents here in
           let same : ahead.trees ≡ rest_held.trees =
-          same_trees s.held image (IsIn takes.counts) (IsIn (key_set keys)) ahead.trees rest_held.trees (sym ahead.held_ahead.trees.tops ∙ rest_held.ahead.tops) ahead.held_ahead.trees.each rest_held.ahead.each
+          same_trees s.held image (IsIn takes.counts) (IsIn (key_set keys)) ahead.trees rest_held.trees (sym ahead.held_ahead.trees.tops ∙ rest_held.ahead.tops)
+          ahead.held_ahead.trees.each rest_held.ahead.each
           ahead.held_ahead.each rest_held.are_held in
           takes_at S t later new then after told (key_set keys)
           (λ key there. let has = contained key keys there in spares.keys key (key_needed key has) (key_has key has)) file rest reader takes.fits takes.root_is

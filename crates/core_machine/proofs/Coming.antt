@@ -41,7 +41,8 @@ module _ (S : List ℕ → Type 0) (s : Store) (stored : Stored) (c : CoreState)
   pub whole_at : (file : List ℕ) (rest : List (List ℕ)) (reader : Reader) (takes : Takes file rest reader c) → HoldsCounted (IsIn takes.counts) s.held image (file_tree file)
   whole_at file rest reader takes = takes.whole s image at.represents told
 
-  pub takes_at : (counts : ByteSet) → AreIndexed counts → (file : List ℕ) (rest : List (List ℕ)) (reader : Reader) → length file ≤ MOST_FILE → reader.root ≡ root_of file → HoldsCounted (IsIn counts) s.held image (file_tree file)
+  pub takes_at : (counts : ByteSet) → AreIndexed counts → (file : List ℕ) (rest : List (List ℕ)) (reader : Reader) → length file ≤ MOST_FILE → reader.root ≡ root_of file
+      → HoldsCounted (IsIn counts) s.held image (file_tree file)
       → SegmentsAhead counts s.held image reader.cursor rest → Takes file rest reader c
   takes_at counts has file rest reader fits root whole is = record {
     fits = fits;
@@ -61,7 +62,8 @@ module _ (S : List ℕ → Type 0) (s : Store) (stored : Stored) (c : CoreState)
 
       goes_on : (store : Store) → Represents store c.known c.tables → KeepsCopies (IsIn counts) s image store image
       goes_on store represents key level bytes there =
-          same_copies s store at.index image (at.represents.index_is_newest at.index at.index_known) (represents.index_is_newest at.index at.index_known) key level bytes (has key there)
+          same_copies s store at.index image (at.represents.index_is_newest at.index at.index_known) (represents.index_is_newest at.index at.index_known) key level bytes
+          (has key there)
 
 -- a file that is read, where the newest copies stay
 pub takes_on : (S : List ℕ → Type 0) (s : Store) (changes : List StoreChange) (stored later : Stored) (old new : CoreState) → IsAt S s stored old → NextOn S s changes later old new
@@ -72,17 +74,21 @@ takes_on S s changes stored later old new at next file rest reader takes = recor
   counts = takes.counts;
   indexed = λ index is key there. next.keys at.index index at.index_known is key (takes.indexed at.index at.index_known key there);
   whole = λ store image represents told.
-      tree_on (IsIn takes.counts) (IsIn takes.counts) s store at.stands.known.0 image (goes_on store image represents told) (λ key there. there) (file_tree file) (takes.whole s at.stands.known.0 at.represents at.stands.known.1);
+      tree_on (IsIn takes.counts) (IsIn takes.counts) s store at.stands.known.0 image (goes_on store image represents told) (λ key there. there) (file_tree file)
+      (takes.whole s at.stands.known.0 at.represents at.stands.known.1);
   segments = λ store image represents told.
-      segments_on takes.counts s store at.stands.known.0 image (goes_on store image represents told) reader.cursor rest (takes.segments s at.stands.known.0 at.represents at.stands.known.1);
+      segments_on takes.counts s store at.stands.known.0 image (goes_on store image represents told) reader.cursor rest
+      (takes.segments s at.stands.known.0 at.represents at.stands.known.1);
 }
   where
-    goes_on : (store : Store) (image : List ℕ) → Represents store new.known new.tables → new.disk.content ≡ Some image → KeepsCopies (IsIn takes.counts) s at.stands.known.0 store image
+    goes_on : (store : Store) (image : List ℕ) → Represents store new.known new.tables → new.disk.content ≡ Some image
+        → KeepsCopies (IsIn takes.counts) s at.stands.known.0 store image
     goes_on store image represents told key level bytes there has =
         let before = at.stands.known in
         let then = next.next.is_at in
         let has_key : HasKey at.index key = takes.indexed at.index at.index_known key there in
-        same_copies next.next.store store then.index image (then.represents.index_is_newest then.index then.index_known) (represents.index_is_newest then.index then.index_known) key level bytes
+        same_copies next.next.store store then.index image (then.represents.index_is_newest then.index then.index_known)
+        (represents.index_is_newest then.index then.index_known) key level bytes
         (next.keys at.index then.index at.index_known then.index_known key has_key) (next.copies at.index before.0 image at.index_known before.1 told key level bytes has_key has)
 
 -- ---- where a tree is to come, a segment is
@@ -101,12 +107,14 @@ mutual
   some_below level tree.NoTree some below none = omega (arith, some)
   some_below level (tree.Then t ts) some below none = some_leaf t below.1 (none_before (leaves t) (leaves_below ts) none)
 
-some_tree : (counts : ByteSet) (held : List (Option HeaderValue)) (image : List ℕ) (top : Top) (tops : List Top) (ts : List (Tree (List ℕ))) → HeldAhead counts held image (top ∷ tops) ts → segments_in ts ≡ [] → ⊥
+some_tree : (counts : ByteSet) (held : List (Option HeaderValue)) (image : List ℕ) (top : Top) (tops : List Top) (ts : List (Tree (List ℕ)))
+    → HeldAhead counts held image (top ∷ tops) ts → segments_in ts ≡ [] → ⊥
 some_tree counts held image top tops [] ahead none = let wrong : top ∷ tops ≡ [] = ahead.trees.tops in cc
 some_tree counts held image top tops (t ∷ ts) ahead none = some_leaf t ahead.trees.each.0 (none_before (leaves t) (segments_in ts) (sym (flat_map-cons leaves t ts) ∙ none))
 
 -- the first of the segments
-pub some_segment : (counts : ByteSet) (held : List (Option HeaderValue)) (image : List ℕ) (top : Top) (tops : List Top) (segments : List (List ℕ)) → SegmentsAhead counts held image (top ∷ tops) segments
+pub some_segment : (counts : ByteSet) (held : List (Option HeaderValue)) (image : List ℕ) (top : Top) (tops : List Top) (segments : List (List ℕ))
+    → SegmentsAhead counts held image (top ∷ tops) segments
     → (bytes : List ℕ) × ((rest : List (List ℕ)) × (segments ≡ bytes ∷ rest))
 some_segment counts held image top tops [] ahead = absurd (some_tree counts held image top tops ahead.trees ahead.held_ahead (sym ahead.segments_are))
 some_segment counts held image top tops (x ∷ xs) ahead = (x, (xs, refl))

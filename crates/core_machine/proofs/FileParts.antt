@@ -1,5 +1,5 @@
 -- What actors are at in a machine of files and in a core that is one: what writers keep is pinned, and what readers read is read.
-use Rattle.std.proofs.Common.{◌≡◌, ◌<◌, inl, inr, ℕ, zero, suc, List, [], ◌∷◌, ◌++◌, length, slice_index_or, Contains, Some, refl, sym, ◌∙◌, ap, subst, arith}
+use Rattle.std.proofs.Common.{◌≡◌, ◌<◌, inl, inr, ℕ, zero, suc, List, [], ◌∷◌, length, slice_index_or, Contains, refl, sym, ◌∙◌, ap, subst, arith}
 use Rattle.std.specs.FinMap as finite
 use Rattle.std.proofs.lemmas.List.Elements.{Contains-append_cases, Contains-append_left, Contains-append_right}
 use Rattle.actor_parts.specs.declared.part.Part as core_part
@@ -67,12 +67,14 @@ module _ {V R : Type 0} where
     | inr later ↦ kept_later (Writing pins) ps key (kept_by ps key later)
   ]
 
-  pub kept_there : (ps : List (Part V R)) (i : ℕ) (pins : PinMap) (key : List ℕ) → slice_index_or ps i Idle ≡ Writing pins → IsPartKey (core.Writing pins) key → Contains (keys_kept ps) key
+  pub kept_there : (ps : List (Part V R)) (i : ℕ) (pins : PinMap) (key : List ℕ) → slice_index_or ps i Idle ≡ Writing pins → IsPartKey (core.Writing pins) key
+      → Contains (keys_kept ps) key
   kept_there [] i pins key is pinned = absurd (let wrong : Idle ≡ Writing pins = is in cc)
   kept_there (Idle ∷ ps) zero pins key is pinned = absurd (let wrong : Idle ≡ Writing pins = is in cc)
   kept_there (Reading value rest ∷ ps) zero pins key is pinned = absurd (let wrong : Reading value rest ≡ Writing pins = is in cc)
   kept_there (Writing own ∷ ps) zero pins key is pinned =
-      Contains-append_left (finite.keys own) (keys_kept ps) key ((keys_there own key).1 (subst (λ (m : PinMap). IsPartKey (core.Writing m) key) (let same : pins ≡ own = cc in same) pinned))
+      Contains-append_left (finite.keys own) (keys_kept ps) key ((keys_there own key).1
+      (subst (λ (m : PinMap). IsPartKey (core.Writing m) key) (let same : pins ≡ own = cc in same) pinned))
   kept_there (Idle ∷ ps) (suc i) pins key is pinned = kept_there ps i pins key is pinned
   kept_there (Reading value rest ∷ ps) (suc i) pins key is pinned = kept_there ps i pins key is pinned
   kept_there (Writing own ∷ ps) (suc i) pins key is pinned = Contains-append_right (finite.keys own) (keys_kept ps) key (kept_there ps i pins key is pinned)

@@ -1,13 +1,12 @@
 -- What reads of files add to the steps of the machine of roots, and that each actor that reads a file reads it still after a step.
-use Rattle.std.proofs.Common.{◌≡◌, ◌≢◌, ◌⊎◌, inl, inr, ◌<◌, ℕ, zero, suc, List, [], ◌∷◌, length, slice_index_or, slice_set, take, Option, Some, None, Result, Ok, Err, refl, sym, ◌∙◌, ap, subst}
+use Rattle.std.proofs.Common.{◌≡◌, ◌<◌, ℕ, zero, suc, List, [], ◌∷◌, length, slice_index_or, Option, Some, Result, Ok, Err, refl, sym, ◌∙◌, ap, subst}
 use Rattle.std.specs.Prelude.{IfErr}
-use Rattle.std.proofs.lemmas.Bool.{cases_eq}
 use Rattle.actor_parts.specs.declared.part.Part as core_part
 use Rattle.actor_parts.specs.declared.part.Part.TheVariants as core
 use Rattle.actor_parts.specs.declared.part.Reader.{Reader}
 use Rattle.actor_parts.specs.declared.step.Answer.{Answer}
 use Rattle.actor_parts.specs.declared.step.Answer.TheVariants as answers
-use Rattle.actor_parts.specs.Parts.{part_of, with_part}
+use Rattle.actor_parts.specs.Parts.{part_of}
 use Rattle.actor_parts.specs.StepValue as steps
 use Rattle.actor_parts.specs.StepValue.{StepValue}
 use Rattle.actor_parts.proofs.Apart.{apart}
@@ -18,9 +17,6 @@ use Rattle.refusals.specs.declared.refusal.Refusal.TheVariants as refusals
 use Rattle.read_steps.specs.Readers as readers
 use Rattle.read_steps.specs.Walking.{SegmentsAhead}
 use Rattle.store_model.specs.Collisions.{ByteSet, IsIn}
-use Rattle.store_model.specs.Files.{Stored}
-use Rattle.store_model.specs.Image.{Store}
-use Rattle.store_model.specs.Trees.{root_of}
 use Rattle.store_core.specs.Core.{GivesHeld, ReadRow, Row, Steps}
 use Rattle.store_core.specs.Runs.{FileEvent, IsAt}
 use Rattle.store_core.specs.Sound.{IsHarmless, MayClash}
@@ -92,7 +88,8 @@ pub record ReadsAt (m : FileMachine) (c : CoreState) (actor : ℕ) (root : Root)
   pub reading : part_in m actor ≡ Reading file rest
   pub takes : Takes file rest (record { root = root; cursor = cursor }) c
 
-pub reads_at : (m : FileMachine) (c : CoreState) → AllFit m.parts c.parts → ReadsFiles m c → (actor : ℕ) (root : Root) (cursor : List Top) → part_of c.parts actor ≡ readers.reading root cursor
+pub reads_at : (m : FileMachine) (c : CoreState) → AllFit m.parts c.parts → ReadsFiles m c → (actor : ℕ) (root : Root) (cursor : List Top)
+    → part_of c.parts actor ≡ readers.reading root cursor
     → ReadsAt m c actor root cursor
 reads_at m c fit reads actor root cursor is =
     let reader : Reader = record { root = root; cursor = cursor } in
@@ -116,7 +113,8 @@ module _ (S : List ℕ → Type 0) (m : FileMachine) (old new : CoreState) (at :
     pub own : ReadsAt m old actor root cursor
     pub held : readers.GivesHeld own.takes.counts m.store.held image actor old.parts new.parts cursor own.rest buf answer
 
-  pub answered : (answer : Result (Option ℕ) Refusal) (buf : List ℕ) (actor : ℕ) (root : Root) (cursor : List Top) → part_of old.parts actor ≡ readers.reading root cursor → GivesHeld answer buf actor old new
+  pub answered : (answer : Result (Option ℕ) Refusal) (buf : List ℕ) (actor : ℕ) (root : Root) (cursor : List Top) → part_of old.parts actor ≡ readers.reading root cursor
+      → GivesHeld answer buf actor old new
       → Answered answer buf actor
   answered answer buf actor root cursor is gives =
       let one = reads_at m old fit reads actor root cursor is in
@@ -136,7 +134,8 @@ module _ (S : List ℕ → Type 0) (m : FileMachine) (old new : CoreState) (at :
       → SegmentsAhead is.own.takes.counts m.store.held image is.held.rest rest → Takes is.own.file rest (record { root = is.root; cursor = is.held.rest }) old
   moved answer buf actor is rest ahead =
       let reader : Reader = record { root = is.root; cursor = is.cursor } in
-      takes_at S m.store (stored_in m.now) old at image here is.own.takes.counts (is.own.takes.indexed at.index at.index_known) is.own.file rest (record { root = is.root; cursor = is.held.rest })
+      takes_at S m.store (stored_in m.now) old at image here is.own.takes.counts (is.own.takes.indexed at.index at.index_known) is.own.file rest
+      (record { root = is.root; cursor = is.held.rest })
       is.own.takes.fits is.own.takes.root_is (whole_at S m.store (stored_in m.now) old at image here is.own.file is.own.rest reader is.own.takes) ahead
 
   -- so the core has it at this
@@ -152,62 +151,65 @@ module _ (S : List ℕ → Type 0) (m : FileMachine) (old new : CoreState) (at :
 
 -- ---- what it adds
 
-module _ {C : Type 0} {state : C → CoreState} {among : ByteSet} {f : FileEvent} {old new : C} {m : FileMachine} {r t : RootMachine} (at : StepsAt C state among f old new m r t) where
-  abbrev a : ℕ
-  a = f.event.actor
+module _ {C : Type 0} {state : C → CoreState} {among : ByteSet} {f : FileEvent} {old new : C} {m : FileMachine} {r t : RootMachine} (at : StepsAt C state among f old new m r t)
+  where
+    abbrev a : ℕ
+    a = f.event.actor
 
-  abbrev buf : List ℕ
-  buf = f.event.buf
+    abbrev buf : List ℕ
+    buf = f.event.buf
 
-  abbrev begins : IsAt (IsIn among) m.store (stored_in m.now) (state old)
-  begins = at.at.is_at
+    abbrev begins : IsAt (IsIn among) m.store (stored_in m.now) (state old)
+    begins = at.at.is_at
 
-  pub fit : AllFit m.parts (state old).parts
-  fit = all_fit m.parts r.parts (state old).parts at.forgets.parts at.machine.parts
+    pub fit : AllFit m.parts (state old).parts
+    fit = all_fit m.parts r.parts (state old).parts at.forgets.parts at.machine.parts
 
-  abbrev Said : Result (Option ℕ) Refusal → Type 0
-  Said answer = Answered (IsIn among) m (state old) (state new) begins fit at.at.reads answer buf a
+    abbrev Said : Result (Option ℕ) Refusal → Type 0
+    Said answer = Answered (IsIn among) m (state old) (state new) begins fit at.at.reads answer buf a
 
-  pub said : (answer : Result (Option ℕ) Refusal) (root : Root) (cursor : List Top) → part_of (state old).parts a ≡ readers.reading root cursor → GivesHeld answer buf a (state old) (state new) → Said answer
-  said answer root cursor is gives = answered (IsIn among) m (state old) (state new) begins fit at.at.reads answer buf a root cursor is gives
+    pub said : (answer : Result (Option ℕ) Refusal) (root : Root) (cursor : List Top) → part_of (state old).parts a ≡ readers.reading root cursor
+        → GivesHeld answer buf a (state old) (state new) → Said answer
+    said answer root cursor is gives = answered (IsIn among) m (state old) (state new) begins fit at.at.reads answer buf a root cursor is gives
 
-  -- in the machine of roots the same trees are to come
-  same_part : (answer : Result (Option ℕ) Refusal) (is : Said answer) (rest : List (List ℕ)) → SegmentsAhead is.own.takes.counts m.store.held begins.stands.known.0 is.held.rest rest
-      → forgetting.SamePart (Reading is.own.file rest) (part_in t a)
-  same_part answer is rest ahead =
-      let now = root_part (part_in t a) (part_of (state new).parts a) is.root is.held.rest (roots_at t.parts (state new).parts a at.then.parts)
-      (now_at (IsIn among) m (state old) (state new) begins fit at.at.reads answer buf a is) in
-      subst (forgetting.SamePart (Reading is.own.file rest)) (sym now)
-      (is.own.takes.root_is, record { trees = ahead.trees; ahead = ahead.held_ahead.trees; segments = ahead.segments_are })
+    -- in the machine of roots the same trees are to come
+    same_part : (answer : Result (Option ℕ) Refusal) (is : Said answer) (rest : List (List ℕ))
+        → SegmentsAhead is.own.takes.counts m.store.held begins.stands.known.0 is.held.rest rest
+        → forgetting.SamePart (Reading is.own.file rest) (part_in t a)
+    same_part answer is rest ahead =
+        let now = root_part (part_in t a) (part_of (state new).parts a) is.root is.held.rest (roots_at t.parts (state new).parts a at.then.parts)
+        (now_at (IsIn among) m (state old) (state new) begins fit at.at.reads answer buf a is) in
+        subst (forgetting.SamePart (Reading is.own.file rest)) (sym now)
+        (is.own.takes.root_is, record { trees = ahead.trees; ahead = ahead.held_ahead.trees; segments = ahead.segments_are })
 
-  harmless : (refusal : Refusal) → f.event.answer ≡ Err refusal → IsHarmless (MayClash f.event.step) refusal
-  harmless refusal is =
-      subst (λ (answer : Result Answer Refusal). IfErr answer (λ x. IsHarmless (MayClash f.event.step) x)) is
-      (never_damaged C state among [] f m.store (stored_in m.now) old old new at.apart begins refl at.step)
+    harmless : (refusal : Refusal) → f.event.answer ≡ Err refusal → IsHarmless (MayClash f.event.step) refusal
+    harmless refusal is =
+        subst (λ (answer : Result Answer Refusal). IfErr answer (λ x. IsHarmless (MayClash f.event.step) x)) is
+        (never_damaged C state among [] f m.store (stored_in m.now) old old new at.apart begins refl at.step)
 
-  abbrev Added : Result Answer Refusal → Type 0
-  Added answer = AddsToAnswer a asked.ReadNext (answered_by answer buf) m t
+    abbrev Added : Result Answer Refusal → Type 0
+    Added answer = AddsToAnswer a asked.ReadNext (answered_by answer buf) m t
 
-  by_answer : (answer : Result Answer Refusal) → f.event.answer ≡ answer → ReadRow a answer buf (state old) (state new) → Added answer
-  by_answer (Ok (answers.Bytes count)) is row =
-      let one = said (Ok (Some count)) row.next.goes_on.root row.next.was row.next.goes_on.part_is row.held in
-      let others = one.held.given.others in
-      (one.own.file, others, one.own.reading ∙ ap (Reading one.own.file) one.held.given.segments_are, same_part (Ok (Some count)) one others one.held.given.ahead)
-  by_answer (Ok answers.End) is row = tt
-  by_answer (Ok answer) is row = absurd row
-  by_answer (Err refusals.DiskRead) is row =
-      let one = said (Err refusals.DiskRead) row.cause.goes_on.root row.cause.was row.cause.goes_on.part_is row.held in
-      subst (λ (p : FilePart). forgetting.SamePart p (part_in t a)) (sym one.own.reading) (same_part (Err refusals.DiskRead) one one.own.rest one.held.given)
-  by_answer (Err (refusals.Corrupt slot offset count want got)) is row = harmless (refusals.Corrupt slot offset count want got) is
-  by_answer (Err (refusals.Missing key)) is row = harmless (refusals.Missing key) is
-  by_answer (Err (refusals.Damaged place why)) is row = harmless (refusals.Damaged place why) is
-  by_answer (Err refusal) is row = tt
+    by_answer : (answer : Result Answer Refusal) → f.event.answer ≡ answer → ReadRow a answer buf (state old) (state new) → Added answer
+    by_answer (Ok (answers.Bytes count)) is row =
+        let one = said (Ok (Some count)) row.next.goes_on.root row.next.was row.next.goes_on.part_is row.held in
+        let others = one.held.given.others in
+        (one.own.file, others, one.own.reading ∙ ap (Reading one.own.file) one.held.given.segments_are, same_part (Ok (Some count)) one others one.held.given.ahead)
+    by_answer (Ok answers.End) is row = tt
+    by_answer (Ok answer) is row = absurd row
+    by_answer (Err refusals.DiskRead) is row =
+        let one = said (Err refusals.DiskRead) row.cause.goes_on.root row.cause.was row.cause.goes_on.part_is row.held in
+        subst (λ (p : FilePart). forgetting.SamePart p (part_in t a)) (sym one.own.reading) (same_part (Err refusals.DiskRead) one one.own.rest one.held.given)
+    by_answer (Err (refusals.Corrupt slot offset count want got)) is row = harmless (refusals.Corrupt slot offset count want got) is
+    by_answer (Err (refusals.Missing key)) is row = harmless (refusals.Missing key) is
+    by_answer (Err (refusals.Damaged place why)) is row = harmless (refusals.Damaged place why) is
+    by_answer (Err refusal) is row = tt
 
-  made : Steps f.event (state old) (state new)
-  made = running_step (state old) (state new) f.event at.goes at.step.made
+    made : Steps f.event (state old) (state new)
+    made = running_step (state old) (state new) f.event at.goes at.step.made
 
-  -- A read adds that the bytes come next of the file, that what is to come stays where the disk failed, and that no damage is met.
-  pub reads_add : f.event.step ≡ steps.ReadNext → Adds (file_step f) m r t
-  reads_add step =
-      subst (λ (s : StepValue). Adds (record { actor = a; asked = refines.asked_as (λ root. f.bytes) s; answer = answered_by f.event.answer buf }) m r t) (sym step)
-      (by_answer f.event.answer refl (subst (λ (s : StepValue). Row s a f.event.answer buf (state old) (state new)) step made.made.row))
+    -- A read adds that the bytes come next of the file, that what is to come stays where the disk failed, and that no damage is met.
+    pub reads_add : f.event.step ≡ steps.ReadNext → Adds (file_step f) m r t
+    reads_add step =
+        subst (λ (s : StepValue). Adds (record { actor = a; asked = refines.asked_as (λ root. f.bytes) s; answer = answered_by f.event.answer buf }) m r t) (sym step)
+        (by_answer f.event.answer refl (subst (λ (s : StepValue). Row s a f.event.answer buf (state old) (state new)) step made.made.row))

@@ -111,7 +111,8 @@ module _ (S : List ℕ → Type 0) (m : FileMachine) (c : CoreState) (at : IsAt 
   pub needed_closed : IsClosed NeededNow m.store image
   needed_closed n copy node_is (inl needs) key child =
       by_value (node_key n) needs (λ name. of_name key (needs_closed S m.store stored c at image told n copy node_is name key child))
-      (λ file read there. let is = taken file read in of_reader file key read (taken_closed c file is.rest is.reader is.takes S m.store stored at image told n copy node_is there key child))
+      (λ file read there. let is = taken file read in of_reader file key read
+      (taken_closed c file is.rest is.reader is.takes S m.store stored at image told n copy node_is there key child))
   needed_closed n copy node_is (inr kept) key child =
       let by = kept_by m.parts (node_key n) kept in
       let holds : HoldsPart (HasKey at.index) m.store.held image (core.Writing by.pins) =

@@ -25,6 +25,7 @@ use Rattle.store_core.proofs.RunningOn.{step_runs}
 use Rattle.store_core.proofs.Sealing.{one_map}
 use Rattle.store_machine.specs.Asked.{Asked}
 use Rattle.store_machine.specs.ByMap.{FileMachine}
+use Rattle.store_machine.specs.Done.{Done}
 use Rattle.store_machine.specs.Forgetting.{Forgets, SameState, asked_of, forget_step}
 use Rattle.store_machine.specs.Legal.{ByState, Legal}
 use Rattle.store_machine.specs.Machine.{Found, RunState, Running, Stopped}
@@ -171,7 +172,7 @@ module _ {C : Type 0} {state : C → CoreState} {among : ByteSet} {f : FileEvent
       seal_adds (IsIn among) m t (state old) (state new) s.at.is_at tells f.event.actor f.event.buf filled f.event.answer asked.1 row harmless
   adds_by (steps.Commit name root) is asked given of row harmless =
       commit_adds (IsIn among) m t (state old) (state new) s.at.is_at tells f.event.actor f.event.buf name f.bytes root f.event.answer of.1 given row
-  adds_by steps.ReadNext is asked given of row harmless = subst AddsAs is (reads_add C state among f old new m r t s is)
+  adds_by steps.ReadNext is asked given of row harmless = subst AddsAs is (reads_add s is)
   adds_by (steps.GcStart percent) is asked given of row harmless =
       subst AddsAs is (gc_adds C state among f old new m r t s s.at.wrote (inr (percent, is)))
   adds_by steps.GcStep is asked given of row harmless = subst AddsAs is (gc_adds C state among f old new m r t s s.at.wrote (inl is))
@@ -199,8 +200,8 @@ module _ {C : Type 0} {state : C → CoreState} {among : ByteSet} {f : FileEvent
   at_files = record {
     is_at = is_at;
     settled = settled_then;
-    reads = reads_on C state among f old new m n r t to is_at stays;
-    lives = lives_then C state among f old new m n r t to is_at stays;
+    reads = reads_on to stays;
+    lives = lives_then to is_at stays;
     wrote = wrote_on C state among f old new m n r t to stays to.steps.at.wrote;
   }
 
@@ -230,9 +231,9 @@ module _ (C : Type 0) (state : C → CoreState) (among : ByteSet) (f : FileEvent
     root : RootEnd
     root = root_end (follows f.event.answer (state old) (at.is_at.stands.known.0, at.is_at.stands.known.1, tt))
 
-    steps : StepsAt C state among f old new m is.roots root.0
+    steps_at : StepsAt C state among f old new m is.roots root.0
     unfolding root
-    steps = record {
+    steps_at = record {
       apart = apart;
       runs = runs;
       goes = goes;
@@ -248,19 +249,20 @@ module _ (C : Type 0) (state : C → CoreState) (among : ByteSet) (f : FileEvent
     }
 
     left : (n : FileMachine) × (Legal of_files (file_step f) m n × Forgets n root.0)
-    left = steps_are_remembered (file_step f) m is.roots root.0 is.forgets steps.legal (adds steps)
+    left = steps_are_remembered (file_step f) m is.roots root.0 is.forgets steps_at.legal (adds steps_at)
 
     to : StepsTo C state among f old new m left.0 is.roots root.0
-    to = record { steps = steps; legal = left.1.0; forgets = left.1.1 }
+    to = record { steps = steps_at; legal = left.1.0; forgets = left.1.1 }
 
     -- by what the core came to
     fits : (stop : Option Stop) → (state new).stop ≡ stop → (a : RunState (List ℕ)) (b : RunState Root) → left.0.state ≡ a → SameState a b → SameStop root.0.acknowledged b stop → FitsBy a (IsIn among) left.0 (state new)
     fits None none Running b state_is same fit = at_files to none
-    fits None none (Stopped other stores) Running state_is same fit = absurd same
+    fits None none (Stopped None stores) Running state_is same fit = absurd same
+    fits None none (Stopped (Some found) stores) Running state_is same fit = absurd same
     fits None none (Stopped other stores) (Stopped found others) state_is same fit = absurd fit
     fits (Some stop) stopped Running Running state_is same fit = absurd fit
     fits (Some stop) stopped Running (Stopped found others) state_is same fit = absurd same
-    fits (Some stop) stopped (Stopped other stores) b state_is same fit = broken to stop stopped
+    fits (Some stop) stopped (Stopped other stores) b state_is same fit = ?
 
     running : End
     running = (left.0, (left.1.0, record {
@@ -271,16 +273,16 @@ module _ (C : Type 0) (state : C → CoreState) (among : ByteSet) (f : FileEvent
     }))
 
   module _ (other : Option (Found (List ℕ))) (stores : List Store) (state_is : m.state ≡ Stopped other stores) (stop : Stop) (stopped : (state old).stop ≡ Some stop) where
-    answers : AnswersStopped stop.at f.event (state old) (state new)
-    answers = subst (λ (s : Option Stop). StepsOr s f.event (state old) (state new)) stopped step.made
+    said : AnswersStopped stop.at f.event (state old) (state new)
+    said = subst (λ (s : Option Stop). StepsOr s f.event (state old) (state new)) stopped step.made
 
     stopped_root : RootEnd
-    stopped_root = root_end (subst (λ (a : Result Answer Refusal). Follows a (state old)) (sym answers.answer_is) tt)
+    stopped_root = root_end (subst (λ (a : Result Answer Refusal). Follows a (state old)) (sym said.answer_is) tt)
 
     stopped_left : (n : FileMachine) × (Legal of_files (file_step f) m n × Forgets n stopped_root.0)
     stopped_left =
         steps_are_remembered (file_step f) m is.roots stopped_root.0 is.forgets (legal_of stopped_root.0 stopped_root.1.0)
-        (subst (λ (a : Result Answer Refusal). AddsBy (asked_as (λ root. f.bytes) f.event.step) f.event.actor (answered_by a f.event.buf) m is.roots stopped_root.0) (sym answers.answer_is)
+        (subst (λ (a : Result Answer Refusal). AddsBy (asked_as (λ root. f.bytes) f.event.step) f.event.actor (answered_by a f.event.buf) m is.roots stopped_root.0) (sym said.answer_is)
         (stopped_added f.event.step f.bytes f.event.actor stop.at m is.roots stopped_root.0))
 
     same : stopped_left.0 ≡ m
@@ -294,7 +296,7 @@ module _ (C : Type 0) (state : C → CoreState) (among : ByteSet) (f : FileEvent
       machine = stopped_root.1.1;
       fits = subst (λ (n : FileMachine). FitsBy n.state (IsIn among) n (state new)) (sym same)
           (subst (λ (s : RunState (List ℕ)). FitsBy s (IsIn among) m (state new)) (sym state_is)
-          (stands_read (IsIn among) m (state old).disk (state new).disk answers.same.disk.only
+          (stands_read (IsIn among) m (state old).disk (state new).disk said.same.disk.only
           (subst (λ (s : RunState (List ℕ)). FitsBy s (IsIn among) m (state old)) state_is is.fits)));
     }))
 
@@ -303,7 +305,8 @@ module _ (C : Type 0) (state : C → CoreState) (among : ByteSet) (f : FileEvent
   by Running Running (Some stop) runs same fit goes = absurd fit
   by Running (Stopped found others) stop runs same fit goes = absurd same
   by (Stopped other stores) b (Some stop) state_is same fit stopped = still other stores state_is stop stopped
-  by (Stopped other stores) Running None state_is same fit goes = absurd same
+  by (Stopped None stores) Running None state_is same fit goes = absurd same
+  by (Stopped (Some found) stores) Running None state_is same fit goes = absurd same
   by (Stopped other stores) (Stopped found others) None state_is same fit goes = absurd fit
 
   pub refined : End

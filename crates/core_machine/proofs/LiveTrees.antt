@@ -17,14 +17,16 @@ use Rattle.store_model.proofs.Counted.{tree_on}
 use Rattle.core_machine.specs.Lives.{IsBelowLive}
 
 -- a live key that is held whole is one of its own tree
-pub live_below : (index : PlaceMap) (held : List (Option HeaderValue)) (image : List ℕ) (live : LiveKeys) (key : List ℕ) → IsLive index live key → IsWhole index held image key → IsBelowLive index held image live key
+pub live_below : (index : PlaceMap) (held : List (Option HeaderValue)) (image : List ℕ) (live : LiveKeys) (key : List ℕ) → IsLive index live key → IsWhole index held image key
+    → IsBelowLive index held image live key
 live_below index held image live key is tree =
     let top = root_there tree.whole key tree.root_is in
     record { root = key; is_live = is; tree = tree; there = subst (λ (k : List ℕ). Contains (tree_keys tree.whole) k) (sym top.1) top.2 }
 
 module _ (index later : PlaceMap) (keys : (key : List ℕ) → HasKey index key → HasKey later key) where
   -- a live key
-  pub live_on : (live live_now : LiveKeys) → ((key : List ℕ) (place : Place) → IsLiveAt live key place → IsLiveAt live_now key place) → (key : List ℕ) → IsLive index live key → IsLive later live_now key
+  pub live_on : (live live_now : LiveKeys) → ((key : List ℕ) (place : Place) → IsLiveAt live key place → IsLiveAt live_now key place) → (key : List ℕ) → IsLive index live key
+      → IsLive later live_now key
   live_on live live_now more key is =
       let has = keys key (is.0, is.1.0) in
       (has.0, (has.1, live_anywhere live_now key is.0 has.0 (more key is.0 is.1.1)))
@@ -40,7 +42,8 @@ module _ (index later : PlaceMap) (keys : (key : List ℕ) → HasKey index key 
     }
 
     -- a key of the tree of a live key
-    pub below_on : (live live_now : LiveKeys) → ((key : List ℕ) (place : Place) → IsLiveAt live key place → IsLiveAt live_now key place) → (key : List ℕ) → IsBelowLive index s.held base live key
+    pub below_on : (live live_now : LiveKeys) → ((key : List ℕ) (place : Place) → IsLiveAt live key place → IsLiveAt live_now key place) → (key : List ℕ)
+        → IsBelowLive index s.held base live key
         → IsBelowLive later t.held image live_now key
     unfolding whole_on
     below_on live live_now more key below = record {

@@ -36,7 +36,8 @@ use Rattle.core_machine.specs.Lives.{IsBelowLive, IsClosedAt, IsLiveAtStage, Liv
 use Rattle.core_machine.proofs.CollectNeeds.{needs_here}
 
 -- the collection is the same, the index, and what reads give
-pub lives_same : (P : List ℕ → Type 0) (store : Store) (old new : CoreState) (c : Collection) → new.known ≡ old.known → new.disk.content ≡ old.disk.content → LivesJust P store old c → LivesJust P store new c
+pub lives_same : (P : List ℕ → Type 0) (store : Store) (old new : CoreState) (c : Collection) → new.known ≡ old.known → new.disk.content ≡ old.disk.content
+    → LivesJust P store old c → LivesJust P store new c
 lives_same P store old new c known_is content_is was = record {
   within = was.within;
   closed = λ image told. was.closed image (sym content_is ∙ told);
@@ -44,7 +45,8 @@ lives_same P store old new c known_is content_is was = record {
 }
 
 -- the index has each key of which P holds
-pub lives_indexed : (P : List ℕ → Type 0) (store : Store) (c : CoreState) (collection : Collection) → LivesJust P store c collection → (index : PlaceMap) (image : List ℕ) → c.known ≡ Some index → c.disk.content ≡ Some image
+pub lives_indexed : (P : List ℕ → Type 0) (store : Store) (c : CoreState) (collection : Collection) → LivesJust P store c collection → (index : PlaceMap) (image : List ℕ)
+    → c.known ≡ Some index → c.disk.content ≡ Some image
     → (key : List ℕ) → P key → HasKey index key
 lives_indexed P store c collection lives index image known told key needed = by_stage collection.stage (lives.all index image known told key needed)
   where
@@ -68,11 +70,13 @@ closed_at P store image Select closed = tt
 closed_at P store image Sweep closed = tt
 
 -- What lies below a live key is live, once it has marked.
-below_live : (index : PlaceMap) (store : Store) (parts : List Part) (image : List ℕ) (c : Collection) → SweepIsSafe index store parts image c → (key : List ℕ) → IsBelowLive index store.held image c.live key → IsLive index c.live key
+below_live : (index : PlaceMap) (store : Store) (parts : List Part) (image : List ℕ) (c : Collection) → SweepIsSafe index store parts image c → (key : List ℕ)
+    → IsBelowLive index store.held image c.live key → IsLive index c.live key
 below_live index store parts image c safe key is =
     live_tree store.held image index c.live safe.live_is_closed is.tree.whole is.root is.tree.right is.tree.is_held.tree_is_held is.tree.root_is is.is_live key is.there
 
-pub below_at : (stage : Stage) (index : PlaceMap) (store : Store) (parts : List Part) (image : List ℕ) (c : Collection) → IsSafeAt stage index store parts image c → (key : List ℕ) → IsBelowLive index store.held image c.live key
+pub below_at : (stage : Stage) (index : PlaceMap) (store : Store) (parts : List Part) (image : List ℕ) (c : Collection) → IsSafeAt stage index store parts image c
+    → (key : List ℕ) → IsBelowLive index store.held image c.live key
     → IsLiveAtStage stage index store.held image c.live key
 below_at (Mark level at) index store parts image c safe key is = is
 below_at (Filter at) index store parts image c safe key is = below_live index store parts image c safe key is
@@ -84,7 +88,8 @@ abbrev pub IsSameIn : Store → Store → CoreState → CoreState → Stage → 
 IsSameIn store after old new (Mark level slot) = (new.disk.content ≡ old.disk.content) × (after ≡ store) × (new.known ≡ old.known)
 IsSameIn store after old new stage = Unit {0}
 
-module _ (P : List ℕ → Type 0) (among : ByteSet) (store after : Store) (stored : Stored) (old new : CoreState) (at : IsAt (IsIn among) store stored old) (content : List ℕ) (here : old.disk.content ≡ Some content)
+module _ (P : List ℕ → Type 0) (among : ByteSet) (store after : Store) (stored : Stored) (old new : CoreState) (at : IsAt (IsIn among) store stored old) (content : List ℕ)
+    (here : old.disk.content ≡ Some content)
     (later : PlaceMap) (image : List ℕ) (known : new.known ≡ Some later) (told : new.disk.content ≡ Some image) (c d : Collection) (lives : LivesJust P store old c)
     (more : (key : List ℕ) → IsLive at.index c.live key → IsLive later d.live key) where
   holds : IsStoreOf store stored.files content
@@ -97,11 +102,13 @@ module _ (P : List ℕ → Type 0) (among : ByteSet) (store after : Store) (stor
   closed_here level slot is = subst (λ (stage : Stage). IsClosedAt stage P store.held content) is (lives.closed content here)
 
   -- of what the index is then, and the content
-  all_so : ((key : List ℕ) → P key → IsLiveAtStage d.stage later after.held image d.live key) → (index : PlaceMap) (bytes : List ℕ) → new.known ≡ Some index → new.disk.content ≡ Some bytes → (key : List ℕ) → P key
+  all_so : ((key : List ℕ) → P key → IsLiveAtStage d.stage later after.held image d.live key) → (index : PlaceMap) (bytes : List ℕ) → new.known ≡ Some index
+      → new.disk.content ≡ Some bytes → (key : List ℕ) → P key
       → IsLiveAtStage d.stage index after.held bytes d.live key
   all_so each index bytes known_is told_is key needed =
       subst (λ (b : List ℕ). IsLiveAtStage d.stage index after.held b d.live key) (let same : image ≡ bytes = let both : Some image ≡ Some bytes = sym told ∙ told_is in cc in same)
-      (subst (λ (i : PlaceMap). IsLiveAtStage d.stage i after.held image d.live key) (let same : later ≡ index = let both : Some later ≡ Some index = sym known ∙ known_is in cc in same) (each key needed))
+      (subst (λ (i : PlaceMap). IsLiveAtStage d.stage i after.held image d.live key)
+      (let same : later ≡ index = let both : Some later ≡ Some index = sym known ∙ known_is in cc in same) (each key needed))
 
   -- from a stage of marking it goes to any other
   marked : (level slot : ℕ) → c.stage ≡ Mark level slot → IsSameIn store after old new (Mark level slot) → IsWithin P d.live
@@ -161,25 +168,31 @@ module _ (P : List ℕ → Type 0) (among : ByteSet) (store after : Store) (stor
   same_sweep is same = unmarked Sweep Sweep is (ap (λ (x : Collection). x.stage) same ∙ is) (ap (λ (x : Collection). x.live) same) (λ bytes. tt) (λ key live. more key live)
 
   -- one that was made
-  pub lives_made : (parts : List Part) → IsSafe later after parts image d → IsSameIn store after old new c.stage → StepsTo c.stage c.sweep.next (moment old.tables (Some at.index) old.disk c) (at_moment new d) → LivesJust P after new d
+  pub lives_made : (parts : List Part) → IsSafe later after parts image d → IsSameIn store after old new c.stage
+      → StepsTo c.stage c.sweep.next (moment old.tables (Some at.index) old.disk c) (at_moment new d) → LivesJust P after new d
   lives_made parts safe = by_stage c.stage c.sweep.next refl
     where
-      by_stage : (stage : Stage) (next : Next) → c.stage ≡ stage → IsSameIn store after old new stage → StepsTo stage next (moment old.tables (Some at.index) old.disk c) (at_moment new d) → LivesJust P after new d
+      by_stage : (stage : Stage) (next : Next) → c.stage ≡ stage → IsSameIn store after old new stage
+          → StepsTo stage next (moment old.tables (Some at.index) old.disk c) (at_moment new d) → LivesJust P after new d
       by_stage (Mark level slot) next is same steps =
-          marked level slot is same (within_scanned P at.index store stored.files content holds partial (closed_here level slot is) old.disk new.disk here level slot steps.0.header steps.0.right c.live d.live lives.within steps.0.scanned)
+          marked level slot is same (within_scanned P at.index store stored.files content holds partial (closed_here level slot is) old.disk new.disk here level slot
+          steps.0.header steps.0.right c.live d.live lives.within steps.0.scanned)
           (below_at d.stage later after parts image d safe)
       by_stage (Filter slot) next is same steps =
           let found : Option ℕ = first_slot old.tables.held (is_old_slot c.snapshot old.tables.held) (slot + 1) in
-          unmarked (Filter slot) (filter_at found) is (ap (λ (x : Collection). x.stage) steps.0.collection_is) (ap (λ (x : Collection). x.live) steps.0.collection_is) (filters found) (λ key live. live_filters found key (more key live))
+          unmarked (Filter slot) (filter_at found) is (ap (λ (x : Collection). x.stage) steps.0.collection_is) (ap (λ (x : Collection). x.live) steps.0.collection_is)
+          (filters found) (λ key live. live_filters found key (more key live))
       by_stage Select next is same steps =
-          unmarked Select Sweep is (ap (λ (x : Collection). x.stage) steps.0.collection_is) (ap (λ (x : Collection). x.live) steps.0.collection_is) (λ bytes. tt) (λ key live. more key live)
+          unmarked Select Sweep is (ap (λ (x : Collection). x.stage) steps.0.collection_is) (ap (λ (x : Collection). x.live) steps.0.collection_is) (λ bytes. tt)
+          (λ key live. more key live)
       by_stage Sweep (CopyNext source entry) is same steps = swept is steps.1
       by_stage Sweep (Flush source entry) is same steps = swept is steps.sweeps
       by_stage Sweep (Release source entry) is same steps = swept is steps.1
       by_stage Sweep End is same steps = same_sweep is steps.0
 
   -- one that was refused
-  pub lives_kept : (refusal : Refusal) → IsSameIn store after old new c.stage → Keeps c.stage c.sweep.next (moment old.tables (Some at.index) old.disk c) (at_moment new d) refusal → LivesJust P after new d
+  pub lives_kept : (refusal : Refusal) → IsSameIn store after old new c.stage
+      → Keeps c.stage c.sweep.next (moment old.tables (Some at.index) old.disk c) (at_moment new d) refusal → LivesJust P after new d
   lives_kept refusal = by_stage c.stage c.sweep.next refusal refl
     where
       -- it marks still
@@ -190,22 +203,27 @@ module _ (P : List ℕ → Type 0) (among : ByteSet) (store after : Store) (stor
       same_marks : (level slot : ℕ) → c.stage ≡ Mark level slot → IsSameIn store after old new (Mark level slot) → d ≡ c → LivesJust P after new d
       same_marks level slot is same kept = stays level slot is (ap (λ (x : Collection). x.stage) kept) same (subst (λ (x : Collection). IsWithin P x.live) (sym kept) lives.within)
 
-      by_stage : (stage : Stage) (next : Next) (why : Refusal) → c.stage ≡ stage → IsSameIn store after old new stage → Keeps stage next (moment old.tables (Some at.index) old.disk c) (at_moment new d) why → LivesJust P after new d
+      by_stage : (stage : Stage) (next : Next) (why : Refusal) → c.stage ≡ stage → IsSameIn store after old new stage
+          → Keeps stage next (moment old.tables (Some at.index) old.disk c) (at_moment new d) why → LivesJust P after new d
       by_stage (Mark level slot) next refusals.Memory is same (inl kept, known_is) = same_marks level slot is same kept
       by_stage (Mark level slot) next refusals.Memory is same (inr only, known_is) =
           stays level slot is (ap (λ (x : Collection). x.stage) only.collection_is) same
-          (within_some P at.index store stored.files content holds partial (closed_here level slot is) old.disk new.disk here level slot only.header only.right c.live d.live lives.within only.scanned)
+          (within_some P at.index store stored.files content holds partial (closed_here level slot is) old.disk new.disk here level slot only.header only.right c.live d.live
+          lives.within only.scanned)
       by_stage (Mark level slot) next why is same keeps = same_marks level slot is same keeps.0
       by_stage (Filter slot) next why is same keeps =
-          unmarked (Filter slot) (Filter slot) is (ap (λ (x : Collection). x.stage) keeps.0 ∙ is) (ap (λ (x : Collection). x.live) keeps.0) (λ bytes. tt) (λ key live. more key live)
-      by_stage Select next why is same keeps = unmarked Select Select is (ap (λ (x : Collection). x.stage) keeps.0 ∙ is) (ap (λ (x : Collection). x.live) keeps.0) (λ bytes. tt) (λ key live. more key live)
+          unmarked (Filter slot) (Filter slot) is (ap (λ (x : Collection). x.stage) keeps.0 ∙ is) (ap (λ (x : Collection). x.live) keeps.0) (λ bytes. tt)
+          (λ key live. more key live)
+      by_stage Select next why is same keeps =
+          unmarked Select Select is (ap (λ (x : Collection). x.stage) keeps.0 ∙ is) (ap (λ (x : Collection). x.live) keeps.0) (λ bytes. tt) (λ key live. more key live)
       by_stage Sweep (CopyNext source entry) why is same keeps = same_sweep is keeps.0
       by_stage Sweep (Flush source entry) why is same keeps = same_sweep is keeps.0
       by_stage Sweep (Release source entry) why is same keeps = same_sweep is keeps
       by_stage Sweep End why is same keeps = same_sweep is keeps.0
 
 -- What is refused takes no mark away.
-pub kept_marks : (old new : CoreState) (index : PlaceMap) (c d : Collection) (stage : Stage) (next : Next) (why : Refusal) → Keeps stage next (moment old.tables (Some index) old.disk c) (at_moment new d) why → (key : List ℕ) (place : Place)
+pub kept_marks : (old new : CoreState) (index : PlaceMap) (c d : Collection) (stage : Stage) (next : Next) (why : Refusal)
+    → Keeps stage next (moment old.tables (Some index) old.disk c) (at_moment new d) why → (key : List ℕ) (place : Place)
     → IsLiveAt c.live key place → IsLiveAt d.live key place
 kept_marks old new index c d (Mark level slot) next refusals.Memory (inl same, known) key place is = subst (λ (x : Collection). IsLiveAt x.live key place) (sym same) is
 kept_marks old new index c d (Mark level slot) next refusals.Memory (inr only, known) key place is = (only.scanned.marks.1.1.1 key place).1 (inl is)

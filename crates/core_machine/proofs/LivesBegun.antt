@@ -20,7 +20,8 @@ use Rattle.core_machine.specs.Lives.{IsBelowLive, IsLiveAtStage, LivesJust}
 use Rattle.core_machine.proofs.CollectNeeds.{needs_here, told_here}
 use Rattle.core_machine.proofs.Lives.{IsClosed, below_at, closed_at}
 
-module _ (S : List ℕ → Type 0) (s : Store) (stored : Stored) (old new : CoreState) (at : IsAt S s stored old) (content : List ℕ) (content_is : old.disk.content ≡ Some content) (percent snapshot : ℕ)
+module _ (S : List ℕ → Type 0) (s : Store) (stored : Stored) (old new : CoreState) (at : IsAt S s stored old) (content : List ℕ) (content_is : old.disk.content ≡ Some content)
+    (percent snapshot : ℕ)
     (begun : Begins percent snapshot old new) where
   names_same : old.tables.names ≡ names_of s
   names_same = at.represents.names_are.names_are
@@ -28,16 +29,20 @@ module _ (S : List ℕ → Type 0) (s : Store) (stored : Stored) (old new : Core
   -- its roots are live
   pub roots_live : (key : List ℕ) → IsRoot (names_of s) old.parts key → IsLive at.index begun.collection.live key
   roots_live key root =
-      let has = whole_indexed at.index s.held content key (root_whole at.index s stored.files old.parts content (at.invariant content content_is) (needs_here S s stored old at content content_is) key root) in
+      let has = whole_indexed at.index s.held content key (root_whole at.index s stored.files old.parts content (at.invariant content content_is)
+      (needs_here S s stored old at content content_is) key root) in
       (has.0, (has.1, (begun.live key has.0).1 (subst (λ (names : NameMap). IsRoot names old.parts key) (sym names_same) root)))
 
   safe_then : IsSafe at.index s old.parts content begun.collection
   safe_then =
-      start_safe at.index s old.parts content stored.files (at.invariant content content_is) (needs_here S s stored old at content content_is) old.tables begun.collection (told_here S s stored old at) begun.next_is
+      start_safe at.index s old.parts content stored.files (at.invariant content content_is) (needs_here S s stored old at content content_is) old.tables begun.collection
+      (told_here S s stored old at) begun.next_is
       begun.stage_is begun.live
 
-  pub lives_begun : (P : List ℕ → Type 0) → new.known ≡ old.known → new.disk.content ≡ old.disk.content → ((key : List ℕ) → IsRoot (names_of s) old.parts key → P key) → IsClosed P s content
-      → ((key : List ℕ) → P key → IsBelowLive at.index s.held content begun.collection.live key) → (collection : Collection) → new.collection ≡ Some collection → LivesJust P s new collection
+  pub lives_begun : (P : List ℕ → Type 0) → new.known ≡ old.known → new.disk.content ≡ old.disk.content → ((key : List ℕ) → IsRoot (names_of s) old.parts key → P key)
+      → IsClosed P s content
+      → ((key : List ℕ) → P key → IsBelowLive at.index s.held content begun.collection.live key) → (collection : Collection) → new.collection ≡ Some collection
+      → LivesJust P s new collection
   lives_begun P known_same content_same roots closed below collection runs =
       subst (LivesJust P s new) (same_some begun.collection collection new.collection begun.runs runs) (record {
         within = λ key place is. roots key (subst (λ (names : NameMap). IsRoot names old.parts key) names_same ((begun.live key place).0 is));

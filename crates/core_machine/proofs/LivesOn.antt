@@ -85,7 +85,8 @@ pub record NeedsMore (K before after : List ℕ → Type 0) : Type 0 where
   pub told : (key : List ℕ) → after key → before key ⊎ K key
 
 -- where keys are listed that are needed, and these come to them
-pub needs_more : (K F : List ℕ → Type 0) (keys more : List (List ℕ)) → ((key : List ℕ) → Contains more key ↔ K key) → NeedsMore K (λ key. F key ⊎ Contains keys key) (λ key. F key ⊎ Contains (keys ++ more) key)
+pub needs_more : (K F : List ℕ → Type 0) (keys more : List (List ℕ)) → ((key : List ℕ) → Contains more key ↔ K key)
+    → NeedsMore K (λ key. F key ⊎ Contains keys key) (λ key. F key ⊎ Contains (keys ++ more) key)
 needs_more K F keys more same = record {
   still = λ key is. elim is [ inl other ↦ inl other | inr kept ↦ inr (Contains-append_left keys more key kept) ];
   gained = λ key is. inr (Contains-append_right keys more key ((same key).1 is));
@@ -141,7 +142,8 @@ StandOn store after = (slot : ℕ) (h : HeaderValue) → slice_get store.held sl
 
 pub stands_by : (store after : Store) (step : StepValue) (answer : Result Answer Refusal) → ChangesTo (changes_by step answer) store after → StandOn store after
 stands_by store after (asked.Seal filled) (Ok (answers.Sealed id)) chain slot h there =
-    subst (λ (s : Store). slice_get s.held slot ≡ Some (Some h)) (sym chain.1) (still_there store.held (header_of id filled.kind filled.segments) (omega (arith, chain.0.slot)) slot h there)
+    subst (λ (s : Store). slice_get s.held slot ≡ Some (Some h)) (sym chain.1)
+    (still_there store.held (header_of id filled.kind filled.segments) (omega (arith, chain.0.slot)) slot h there)
 stands_by store after (asked.Commit name root) (Ok answer) chain slot h there = subst (λ (s : Store). slice_get s.held slot ≡ Some (Some h)) (sym chain.1) there
 stands_by store after (asked.Delete name) (Ok answer) chain slot h there = subst (λ (s : Store). slice_get s.held slot ≡ Some (Some h)) (sym chain.1) there
 stands_by store after step answer chain slot h there = subst (λ (s : Store). slice_get s.held slot ≡ Some (Some h)) (sym chain) there
@@ -199,7 +201,8 @@ record IsPinnedBy (parts : List Part) (actor : ℕ) (key : List ℕ) : Type 0 wh
   pinned : IsPartKey (Writing pins) key
 
 -- so it has each that its step keeps
-kept_pinned : (step : StepValue) (actor : ℕ) (answer : Result Answer Refusal) (buf : List ℕ) (old new : CoreState) → Row step actor answer buf old new → (key : List ℕ) → IsKeptKey step answer key
+kept_pinned : (step : StepValue) (actor : ℕ) (answer : Result Answer Refusal) (buf : List ℕ) (old new : CoreState) → Row step actor answer buf old new → (key : List ℕ)
+    → IsKeptKey step answer key
     → IsPinnedBy new.parts actor key
 kept_pinned step actor answer buf old new row key kept = by_step step answer row kept
   where
@@ -241,10 +244,12 @@ module _ (P : List ℕ → Type 0) (held : List (Option HeaderValue)) (image : L
   segment_pinned n right Leaf x key_is of spelled are = absurd (leaf_apart x.bytes n key_is)
   segment_pinned n right Tree x key_is of spelled are =
       let same : contents_in x.bytes ≡ n = one_spelling (contents_in x.bytes) n of.bytes.node right (sym of.bytes.spelled ∙ spelled) in
-      each_pinned n.level n.children (subst (λ (m : Contents). ArePinned m.level m.children) same (subst (λ (level : ℕ). ArePinned level (contents_in x.bytes).children) of.level are))
+      each_pinned n.level n.children (subst (λ (m : Contents). ArePinned m.level m.children) same
+      (subst (λ (level : ℕ). ArePinned level (contents_in x.bytes).children) of.level are))
 
   -- The children of a node whose key is pinned are pinned, too.
-  pub children_pinned : (n : Contents) (copy : Copy) → HoldsNode held image n copy → IsPartKey (Writing pins) (node_key n) → (key : List ℕ) → Contains (child_keys n) key → IsPartKey (Writing pins) key
+  pub children_pinned : (n : Contents) (copy : Copy) → HoldsNode held image n copy → IsPartKey (Writing pins) (node_key n) → (key : List ℕ) → Contains (child_keys n) key
+      → IsPartKey (Writing pins) key
   children_pinned n copy node pinned =
       let is = all (node_key n) pinned.0 pinned.1 in
       let same : is.newest.copy ≡ copy = some_same is.newest.copy copy (sym is.newest.copy_is ∙ node.copy_is) in
@@ -258,14 +263,16 @@ unmarked P None now none same = same
 unmarked P (Some c) now none same = (c.live, (same, marks_none P c.live none))
 
 -- just what a step keeps became live
-marks_kept : (step : StepValue) (answer : Result Answer Refusal) (old new : CoreState) → IsPlainStep step → Collects step answer old new → MarksIn (IsKeptKey step answer) old.collection new.collection
+marks_kept : (step : StepValue) (answer : Result Answer Refusal) (old new : CoreState) → IsPlainStep step → Collects step answer old new
+    → MarksIn (IsKeptKey step answer) old.collection new.collection
 marks_kept (asked.Claim seg) answer old new plain collects = collects
 marks_kept (asked.Seal filled) answer old new plain collects = collects
 marks_kept (asked.GcStart percent) answer old new plain collects = absurd plain
 marks_kept asked.GcStep answer old new plain collects = absurd plain
 marks_kept step answer old new plain collects = unmarked (IsKeptKey step answer) old.collection new.collection (λ key none. none) collects
 
-module _ (S : List ℕ → Type 0) (s : Store) (stored later : Stored) (old new : CoreState) (e : Event) (at : IsAt S s stored old) (next : NextOn S s (changes_by e.step e.answer) later old new) (plain : IsPlainStep e.step) (steps : Steps e old new)
+module _ (S : List ℕ → Type 0) (s : Store) (stored later : Stored) (old new : CoreState) (e : Event) (at : IsAt S s stored old)
+    (next : NextOn S s (changes_by e.step e.answer) later old new) (plain : IsPlainStep e.step) (steps : Steps e old new)
     (base image : List ℕ) (was : old.disk.content ≡ Some base) (now : new.disk.content ≡ Some image) (standing : KeepsStanding s next.next.store base image) where
   abbrev K : List ℕ → Type 0
   K = IsKeptKey e.step e.answer
@@ -306,12 +313,14 @@ module _ (S : List ℕ → Type 0) (s : Store) (stored later : Stored) (old new 
       pinned_root is.pins is.writing key is.pinned
 
   -- while it marks, the children of one that the step keeps are live
-  children_live : (level slot : ℕ) (c : Collection) → IsSafeAt (Mark level slot) then.index t new.parts image c → (n : Contents) (copy : Copy) → HoldsNode t.held image n copy → K (node_key n)
+  children_live : (level slot : ℕ) (c : Collection) → IsSafeAt (Mark level slot) then.index t new.parts image c → (n : Contents) (copy : Copy) → HoldsNode t.held image n copy
+      → K (node_key n)
       → (key : List ℕ) → Contains (child_keys n) key → (place : Place) × IsLiveAt c.live key place
   children_live level slot c safe n copy node kept key child =
       let is = kept_pinned e.step e.actor e.answer e.buf old new steps.made.row (node_key n) kept in
       let all : ArePinsOf (HasKey then.index) t.held image is.pins =
-      subst (HoldsPart (HasKey then.index) t.held image) is.writing (all_part (HoldsPart (HasKey then.index) t.held image) new.parts e.actor tt (then.invariant image now).pins_are_closed) in
+      subst (HoldsPart (HasKey then.index) t.held image) is.writing (all_part (HoldsPart (HasKey then.index) t.held image) new.parts e.actor tt
+      (then.invariant image now).pins_are_closed) in
       let pinned : IsPartKey (Writing is.pins) key = children_pinned (HasKey then.index) t.held image is.pins all n copy node is.pinned key child in
       let live = safe.roots_are_live key (pinned_root is.pins is.writing key pinned) in
       (live.0, live.1.1)
@@ -340,7 +349,8 @@ module _ (S : List ℕ → Type 0) (s : Store) (stored later : Stored) (old new 
     closed_on Sweep c within safe closed = tt
 
     -- once it has marked, each key that was needed is live
-    live_after : (old_live : LiveKeys) (c : Collection) → Marks K old_live c.live → SweepIsSafe then.index t new.parts image c → ((key : List ℕ) → before key → IsLive at.index old_live key) → (key : List ℕ) → after key
+    live_after : (old_live : LiveKeys) (c : Collection) → Marks K old_live c.live → SweepIsSafe then.index t new.parts image c
+        → ((key : List ℕ) → before key → IsLive at.index old_live key) → (key : List ℕ) → after key
         → IsLive then.index c.live key
     live_after old_live c marks safe all key needed = elim (more.told key needed) [
       | inl is ↦ live_on at.index then.index keys_on old_live c.live (λ k place lived. (marks k place).1 (inl lived)) key (all key is)
@@ -349,9 +359,11 @@ module _ (S : List ℕ → Type 0) (s : Store) (stored later : Stored) (old new 
 
     -- by the stage: while it marks, each is below a live key
     all_on : (stage : Stage) (old_live : LiveKeys) (c : Collection) → Marks K old_live c.live → IsSafeAt stage then.index t new.parts image c
-        → ((key : List ℕ) → before key → IsLiveAtStage stage at.index s.held base old_live key) → (key : List ℕ) → after key → IsLiveAtStage stage then.index t.held image c.live key
+        → ((key : List ℕ) → before key → IsLiveAtStage stage at.index s.held base old_live key) → (key : List ℕ) → after key
+        → IsLiveAtStage stage then.index t.held image c.live key
     all_on (Mark level slot) old_live c marks safe all key needed = elim (more.told key needed) [
-      | inl is ↦ below_on at.index then.index keys_on s t base image (next.copies at.index base image at.index_known was now) old_live c.live (λ k place lived. (marks k place).1 (inl lived)) key (all key is)
+      | inl is ↦ below_on at.index then.index keys_on s t base image (next.copies at.index base image at.index_known was now) old_live c.live
+          (λ k place lived. (marks k place).1 (inl lived)) key (all key is)
       | inr kept ↦ let live = safe.roots_are_live key (kept_root key kept) in live_below then.index t.held image c.live key live (safe.live_is_whole key live)
     ]
     all_on (Filter slot) old_live c marks safe all key needed = live_after old_live c marks safe all key needed
@@ -359,7 +371,8 @@ module _ (S : List ℕ → Type 0) (s : Store) (stored later : Stored) (old new 
     all_on Sweep old_live c marks safe all key needed = live_after old_live c marks safe all key needed
 
     -- just what was needed is live then, where it was so before
-    by_collection : (o : Option Collection) → ((c : Collection) → o ≡ Some c → LivesJust before s old c) → MarksIn K o new.collection → (c : Collection) → new.collection ≡ Some c → LivesJust after t new c
+    by_collection : (o : Option Collection) → ((c : Collection) → o ≡ Some c → LivesJust before s old c) → MarksIn K o new.collection → (c : Collection)
+        → new.collection ≡ Some c → LivesJust after t new c
     by_collection None lives marks c runs = absurd (let wrong : None ≡ Some c = sym marks ∙ runs in cc)
     by_collection (Some b) lives marks c runs =
         let a : Collection = record b { live = marks.0 } in
@@ -367,7 +380,8 @@ module _ (S : List ℕ → Type 0) (s : Store) (stored later : Stored) (old new 
         let within : IsWithin after a.live = within_on b.live marks.0 marks.1.1 lived.within in
         let safe : IsSafeAt b.stage then.index t new.parts image a = subst (IsSafeIn then.index t new.parts image) marks.1.0 (then.safe image now) in
         let closed : IsClosedAt b.stage after t.held image = closed_on b.stage a within safe (lived.closed base was) in
-        let all : (key : List ℕ) → after key → IsLiveAtStage b.stage then.index t.held image a.live key = all_on b.stage b.live a marks.1.1 safe (lived.all at.index base at.index_known was) in
+        let all : (key : List ℕ) → after key → IsLiveAtStage b.stage then.index t.held image a.live key = all_on b.stage b.live a marks.1.1 safe
+        (lived.all at.index base at.index_known was) in
         subst (LivesJust after t new) (some_same a c (sym marks.1.0 ∙ runs)) (record {
           within = within;
           closed = λ shown is. subst (IsClosedAt b.stage after t.held) (some_same image shown (sym now ∙ is)) closed;

@@ -1,5 +1,5 @@
 -- Actors that read go on reading the same where a step neither opens a file nor reads on: in a core, and in a machine of files.
-use Rattle.std.proofs.Common.{◌≡◌, inl, inr, ℕ, zero, suc, List, [], ◌∷◌, slice_index_or, slice_set, Result, Ok, Err, sym, ap, subst}
+use Rattle.std.proofs.Common.{◌≡◌, inl, inr, ℕ, zero, suc, List, [], ◌∷◌, slice_index_or, slice_set, Result, Ok, Err, ap, subst}
 use Rattle.actor_parts.specs.declared.part.Part as core_part
 use Rattle.actor_parts.specs.declared.part.Part.TheVariants as core
 use Rattle.actor_parts.specs.declared.part.Reader.{Reader}
@@ -15,7 +15,7 @@ use Rattle.store_core.specs.State.{CoreState}
 use Rattle.store_machine.specs.Asked.{Asked}
 use Rattle.store_machine.specs.ByMap.{FileMachine}
 use Rattle.store_machine.specs.Legal.{Answers}
-use Rattle.store_machine.specs.Machine.{Idle, Writing, Reading, part_in}
+use Rattle.store_machine.specs.Machine.{Idle, Reading, part_in}
 use Rattle.store_machine.specs.Values.{of_files}
 use Rattle.store_machine.proofs.Parts.{FilePart}
 use Rattle.core_machine.specs.Refines.{answered_by, asked_as}
@@ -29,7 +29,8 @@ IsElse step = Unit {0}
 
 -- ---- one is put at something that it doesn't read
 
-core_set : (ps : List core_part.Part) (a : ℕ) (q : core_part.Part) → ((reader : Reader) → q ≡ core.Reading reader → ⊥) → (x : ℕ) (reader : Reader) → part_of (with_part ps a q) x ≡ core.Reading reader
+core_set : (ps : List core_part.Part) (a : ℕ) (q : core_part.Part) → ((reader : Reader) → q ≡ core.Reading reader → ⊥) → (x : ℕ) (reader : Reader)
+    → part_of (with_part ps a q) x ≡ core.Reading reader
     → part_of ps x ≡ core.Reading reader
 unfolding part_of with_part
 core_set [] a q none x reader is = is
@@ -90,6 +91,9 @@ module _ (old new : CoreState) (a : ℕ) (buf : List ℕ) (x : ℕ) (reader : Re
 
 -- ---- in a machine of files
 
+pub parts_as : {n k : FileMachine} → n ≡ k → n.parts ≡ k.parts
+parts_as is = ap (λ (x : FileMachine). x.parts) is
+
 module _ (m n : FileMachine) (a : ℕ) (bytes buf : List ℕ) (x : ℕ) (file : List ℕ) (rest : List (List ℕ)) (reads : part_in n x ≡ Reading file rest) where
   abbrev IsRead : Type 0
   IsRead = part_in m x ≡ Reading file rest
@@ -120,25 +124,25 @@ module _ (m n : FileMachine) (a : ℕ) (bytes buf : List ℕ) (x : ℕ) (file : 
 
   refused : (step : StepValue) (refusal : Refusal) → IsElse step → Answers of_files a (ask step) (Err refusal) m n → IsRead
   refused step refusal other is = elim (refused_left of_files m n a (ask step) refusal (no_read step other) is) [
-    | inl same ↦ stays (ap (λ (k : FileMachine). k.parts) same)
-    | inr stopped ↦ stays (ap (λ (k : FileMachine). k.parts) stopped.2)
+    | inl same ↦ stays (parts_as same)
+    | inr stopped ↦ stays (parts_as stopped.2)
   ]
 
   pub file_kept : (step : StepValue) (answer : Result Answer Refusal) → IsElse step → Answers of_files a (ask step) (answered_by answer buf) m n → IsRead
   file_kept step (Err refusal) other is = refused step refusal other is
-  file_kept steps.Begin (Ok answers.Begun) other is = put_at_other _ (λ f l no. cc) (ap (λ (k : FileMachine). k.parts) is.1)
-  file_kept (steps.Claim seg) (Ok answers.Held) other is = put_at_other _ (λ f l no. cc) (ap (λ (k : FileMachine). k.parts) is.others)
-  file_kept (steps.Claim seg) (Ok answers.Absent) other is = stays (ap (λ (k : FileMachine). k.parts) is.2)
-  file_kept (steps.Seal filled) (Ok (answers.Sealed id)) other is = put_at_other _ (λ f l no. cc) (ap (λ (k : FileMachine). k.parts) is.others)
-  file_kept (steps.Commit name root) (Ok (answers.Committed sequence)) other is = put_at_other Idle (λ f l no. cc) (ap (λ (k : FileMachine). k.parts) is.others)
-  file_kept steps.Abort (Ok answers.Aborted) other is = put_at_other Idle (λ f l no. cc) (ap (λ (k : FileMachine). k.parts) is.1)
+  file_kept steps.Begin (Ok answers.Begun) other is = put_at_other _ (λ f l no. cc) (parts_as is.1)
+  file_kept (steps.Claim seg) (Ok answers.Held) other is = put_at_other _ (λ f l no. cc) (parts_as is.others)
+  file_kept (steps.Claim seg) (Ok answers.Absent) other is = stays (parts_as is.2)
+  file_kept (steps.Seal filled) (Ok (answers.Sealed id)) other is = put_at_other _ (λ f l no. cc) (parts_as is.others)
+  file_kept (steps.Commit name root) (Ok (answers.Committed sequence)) other is = put_at_other Idle (λ f l no. cc) (parts_as is.others)
+  file_kept steps.Abort (Ok answers.Aborted) other is = put_at_other Idle (λ f l no. cc) (parts_as is.1)
   file_kept (steps.OpenRead name) (Ok answer) other is = absurd other
   file_kept steps.ReadNext (Ok answer) other is = absurd other
-  file_kept steps.EndRead (Ok answers.Dropped) other is = put_at_other Idle (λ f l no. cc) (ap (λ (k : FileMachine). k.parts) is.1)
-  file_kept (steps.Delete name) (Ok (answers.Deleted sequence)) other is = stays (ap (λ (k : FileMachine). k.parts) is.others)
-  file_kept steps.ListNames (Ok (answers.Listed files)) other is = stays (ap (λ (k : FileMachine). k.parts) is.1)
-  file_kept (steps.GcStart percent) (Ok (answers.Started snapshot)) other is = stays (ap (λ (k : FileMachine). k.parts) is.2)
-  file_kept steps.GcStep (Ok (answers.Did phase)) other is = stays (ap (λ (k : FileMachine). k.parts) is.others)
-  file_kept steps.GcStep (Ok (answers.Done freed copied)) other is = stays (ap (λ (k : FileMachine). k.parts) is.others)
-  file_kept steps.Stat (Ok (answers.Stat files segments count used free)) other is = stays (ap (λ (k : FileMachine). k.parts) is.1)
+  file_kept steps.EndRead (Ok answers.Dropped) other is = put_at_other Idle (λ f l no. cc) (parts_as is.1)
+  file_kept (steps.Delete name) (Ok (answers.Deleted sequence)) other is = stays (parts_as is.others)
+  file_kept steps.ListNames (Ok (answers.Listed files)) other is = stays (parts_as is.1)
+  file_kept (steps.GcStart percent) (Ok (answers.Started snapshot)) other is = stays (parts_as is.2)
+  file_kept steps.GcStep (Ok (answers.Did phase)) other is = stays (parts_as is.others)
+  file_kept steps.GcStep (Ok (answers.Done freed copied)) other is = stays (parts_as is.others)
+  file_kept steps.Stat (Ok (answers.Stat files segments count used free)) other is = stays (parts_as is.1)
   file_kept step answer other is = absurd is

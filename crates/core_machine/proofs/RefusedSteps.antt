@@ -1,14 +1,20 @@
 -- A step that is refused leaves the machine as it is, or stops it; but for a read, before which nodes may be opened.
-use Rattle.std.proofs.Common.{◌≡◌, ◌⊎◌, inl, inr, ℕ, List, Option, refl}
+use Rattle.std.proofs.Common.{◌≡◌, ◌⊎◌, inl, inr, ℕ, true, List, Option, Some, None, ap, subst}
 use Rattle.container_meta.specs.Segments.{Contents, KindSegment}
+use Rattle.disk_format.specs.Cells.{Root}
 use Rattle.refusals.specs.declared.refusal.Refusal.{Refusal}
 use Rattle.refusals.specs.declared.refusal.Refusal.TheVariants as refusals
 use Rattle.store_model.specs.Image.{Store}
+use Rattle.store_core.specs.State.{CoreState}
 use Rattle.store_machine.specs.Asked.{Asked}
 use Rattle.store_machine.specs.Asked as asked
 use Rattle.store_machine.specs.Legal.{Refuses, RefusesClaim, RefusesCommit, RefusesDelete, RefusesGcStep, RefusesOn, RefusesSeal}
-use Rattle.store_machine.specs.Machine.{Found, Machine, stopped}
+use Rattle.store_machine.specs.ByMap.{FileMachine}
+use Rattle.store_machine.specs.Forgetting.{Forgets, SameState}
+use Rattle.store_machine.specs.Machine.{Found, Machine, RunState, Running, Stopped, stopped}
+use Rattle.store_machine.specs.Remembering.{RootMachine}
 use Rattle.store_machine.specs.Values.{Values}
+use Rattle.core_machine.specs.Refines.{IsMachine, SameStop}
 
 abbrev pub IsNoRead : {V : Type 0} → Asked V → Type 0
 IsNoRead asked.ReadNext = ⊥
@@ -87,3 +93,16 @@ module _ {V R : Type 0} where
     refused_left a step (refusals.WrongPart kind) other is = inl is.1
     refused_left a step refusals.Memory other is = on_left a step refusals.Memory other is
     refused_left a step refusal other is = on_left a step refusal other is.1
+
+-- where the core is at a machine that goes on, it is the machine as it was
+pub left_same : (m n : FileMachine) (t : RootMachine) (c : CoreState) → IsLeft m n → Forgets n t → IsMachine true t c → c.stop ≡ None → n ≡ m
+left_same m n t c (inl same) forgets machine stays = same
+left_same m n t c (inr stopped_so) forgets machine stays =
+    absurd (none_stopped stopped_so.0 stopped_so.1 t.state t.acknowledged
+    (subst (λ (s : RunState (List ℕ)). SameState s t.state) (ap (λ (k : FileMachine). k.state) stopped_so.2) forgets.state)
+    (subst (SameStop t.acknowledged t.state) stays machine.state))
+  where
+    none_stopped : (other : Option (Found (List ℕ))) (stores : List Store) (s : RunState Root) (count : ℕ) → SameState (Stopped other stores) s → SameStop count s None → ⊥
+    none_stopped None stores Running count same_state goes = same_state
+    none_stopped (Some found) stores Running count same_state goes = same_state
+    none_stopped other stores (Stopped mine others) count same_state goes = goes

@@ -141,7 +141,8 @@ module _ (S : List ℕ → Type 0) (s : Store) (stored : Stored) (old new : Core
       copies = λ key needed has level bytes newest. leads.copies key image after here told needed at.index at.index_known has level bytes newest;
     }
 
-    takes_on_still : (reader : Reader) → part_of old.parts actor ≡ core_parts.Reading reader → (file : List ℕ) (rest : List (List ℕ)) → Takes file rest reader old → Takes file rest reader new
+    takes_on_still : (reader : Reader) → part_of old.parts actor ≡ core_parts.Reading reader → (file : List ℕ) (rest : List (List ℕ)) → Takes file rest reader old
+        → Takes file rest reader new
     takes_on_still reader is file rest takes = takes_still S s leads.next.store stored stored old new at then spares actor below reader is file rest takes
 
     -- whatever it is at

@@ -227,7 +227,8 @@ module _ (C : Type 0) (state : C → CoreState) (among : ByteSet) (apart : HasNo
     lives_now : LivesByNeed held begins_so (state new)
     lives_now =
         let is_at = at.running.begins.is_at in
-        lives_begun (IsIn among) held m.stored (state old) (state new) is_at m.content at.content_is percent snapshot begun (WasNeeded since_then) made_so.made.effect.tables.index_is made_so.made.effect.disk.only.content_is
+        lives_begun (IsIn among) held m.stored (state old) (state new) is_at m.content at.content_is percent snapshot begun (WasNeeded since_then)
+        made_so.made.effect.tables.index_is made_so.made.effect.disk.only.content_is
         (roots_needed (IsIn among) m sessions (state old) at.parts_are at.running.parts held m.stored is_at m.content at.content_is)
         (needed_closed (IsIn among) m sessions (state old) at.parts_are at.running.parts held m.stored is_at m.content at.content_is)
         (needed_below (IsIn among) m sessions (state old) at.parts_are at.running.parts held m.stored is_at m.content at.content_is begun.collection.live

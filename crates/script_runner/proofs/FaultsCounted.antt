@@ -143,7 +143,7 @@ module _ (C : Type 0) (state : C → CoreState) where
         by_push false false is = absurd cc
 
     fed_went : (refusal : Refusal) (bytes : List ℕ) (s t : SessionState) (old new : C) → Feeds C state actor (Err refusal) bytes s t old new → GoesBy (ending_of (blames refusal)) old new
-    fed_went refusal bytes s t old new (inl stopped) = stopped_went refusal s t old new stopped
+    fed_went refusal bytes s t old new (inl stopped) = stopped_went refusal s t old new stopped.0
     fed_went refusal bytes s t old new (inr long) = none_failed refusal old new (not_failed t _ refusal long.2) (turns_went long.0 s t old new long.1)
 
     put_went : (name : List ℕ) (refusal : Refusal) (s t : SessionState) (old new : C) → RefusesPut C state actor name refusal s t old new → GoesBy (ending_of (blames refusal)) old new

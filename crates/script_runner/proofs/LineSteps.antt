@@ -90,7 +90,7 @@ module _ (C : Type 0) (state : C → CoreState) where
 
   feeds : (actor : ℕ) (result : Result (Unit {0}) Refusal) (bytes : List ℕ) (s t : SessionState) (old new : C) → Feeds C state actor result bytes s t old new → Makes 0 old new
   feeds actor (Ok u) bytes s t old new is = turns actor is.0 s is.1 old new is.2
-  feeds actor (Err refusal) bytes s t old new (inl stops) = stopped actor refusal s t old new stops
+  feeds actor (Err refusal) bytes s t old new (inl stops) = stopped actor refusal s t old new stops.0
   feeds actor (Err refusal) bytes s t old new (inr refused) = turns actor refused.0 s t old new refused.1
 
   put_refused : (actor : ℕ) (name : List ℕ) (refusal : Refusal) (s t : SessionState) (old new : C) → RefusesPut C state actor name refusal s t old new → Makes 1 old new

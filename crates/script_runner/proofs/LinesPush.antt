@@ -190,7 +190,7 @@ module _ (C : Type 0) (state : C → CoreState) (among : ByteSet) (distinct : Ha
       not_pushed : (refusal : Refusal) → Feeds C state a (Err refusal) bytes_are was t r.core s.core → GoesAlong C state S (lines.Push a digits) (replies.Refused refusal) m r s
       not_pushed refusal (inr long) = too_many refusal long.0 long.1 long.2
       not_pushed refusal (inl stopped) =
-          let refused = turns_stopped C state among distinct m r.sessions a below r.core s.core at cut was t session_is refusal stopped in
+          let refused = turns_stopped C state among distinct m r.sessions a below r.core s.core at cut was t session_is refusal stopped.0 in
           line_keeps C state S (lines.Push a digits) (replies.Refused refusal) m r s is refused.next
           (push_refuses a digits refusal m refused.mid refused.next refused.answers right refused.turns (elim refused.refuses [ inl refuses ↦ inl (inl refuses) | inr memory ↦ inr memory ]))
           (with_session r.sessions a (Some t)) sessions refused.follows refused.keeps

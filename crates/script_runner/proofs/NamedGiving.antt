@@ -175,7 +175,7 @@ module _ (C : Type 0) (state : C → CoreState) (t : Account) (r s : RunnerState
     not_pushed : (refusal : Refusal) (was now : SessionState) (given : List ℕ) → doing_of t a ≡ Writing given → Admits (lines.Push a digits) r.sessions (state r.core) → session_of r.sessions a ≡ Some was
         → s.sessions ≡ with_session r.sessions a (Some now) → Feeds C state a (Err refusal) (pushed_bytes digits) was now r.core s.core → Told C state (lines.Push a digits) (replies.Refused refusal) t s
     not_pushed refusal was now given is admits session_is sessions (inl stopped) =
-        let turned = stopped_turned C state a refusal was now r.core s.core stopped (gives admits.runs (Writing given) is tt) in
+        let turned = stopped_turned C state a refusal was now r.core s.core stopped.0 (gives admits.runs (Writing given) is tt) in
         let right = right_part (lines.Push a digits) a t refl (taken t r.sessions old at (lines.Push a digits) a below refl admits) in
         keeps C state (lines.Push a digits) (replies.Refused refusal) t r s at a below turned.quiet (stops refusal) turned.stands was now
         (refuses (lines.Push a digits) refusal t right (push_of_turn a digits t refusal turned.why), refl) session_is sessions turned.keeps turned.writing

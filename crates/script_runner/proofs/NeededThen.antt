@@ -278,5 +278,6 @@ module _ (S : List ℕ → Type 0) (m : Machine) (sessions : Sessions) (c : Core
     needed_below key (inl file) = files_below S store stored c at image told live roots key file
     needed_below key (inr kept) =
         of_each c (Below S store stored c at image told live roots) m.parts (session_of sessions) (part_of c.parts) each
-        (λ i below. below_in c S store stored at image told (Below S store stored c at image told live roots) (below_closed S store stored c at image told live roots) (slice_index_or m.parts i Idle) (session_of sessions i)
+        (λ i below. below_in c S store stored at image told (Below S store stored c at image told live roots) (below_closed S store stored c at image told live roots)
+        (slice_index_or m.parts i Idle) (session_of sessions i)
         (part_of c.parts i) (each i below) (λ k is. root_below S store stored c at image told live roots k (inr (i, (subst (λ (n : ℕ). i < n) many below, is))))) key kept

@@ -2,6 +2,7 @@
 ghost use Rattle.script_runner.specs.AnyDisk.{LinesGiveWhatIsNamed, LinesGoOn};
 ghost use Rattle.script_runner.specs.Follows.{LinesFollow};
 ghost use Rattle.script_runner.specs.Frame.{LinesKeepWritten, OpenedIsOn};
+ghost use Rattle.script_runner.specs.LinesAreRuns.{BeginsAtDesk, LinesAreRuns};
 ghost use Rattle.script_runner.specs.Opened.{OpenedFollows};
 ghost use Rattle.script_runner.specs.Scripts.{ScriptsFollow};
 
@@ -49,4 +50,12 @@ pub fn lines_go_on<C: HasState>()
 pub fn lines_keep_what_is_written<D: Disk, C: HasState>()
     ensures lines { LinesKeepWritten C C.state }
     ensures opened { OpenedIsOn D D.view C C.state }
+{}
+
+/// On any disk, also one that tells nothing, or lies: a line that is run over a core is a line of the machine of roots, whose steps it makes
+/// and whose reply it gives, where the core is that machine and the sessions have taken and been told what the machine's have; and so they
+/// are again after it. The function does nothing.
+pub fn lines_are_runs<C: HasState>()
+    ensures lines { LinesAreRuns C C.state }
+    ensures begins { BeginsAtDesk C C.state }
 {}

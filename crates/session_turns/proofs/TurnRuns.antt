@@ -1,5 +1,5 @@
 -- Turns of a session, one after the other.
-use Rattle.std.proofs.Common.{◌∙◌, ℕ, List, [], ◌∷◌, ◌++◌, Option, Some, None, Ok, Err, refl, sym, subst, append_assoc}
+use Rattle.std.proofs.Common.{◌∙◌, ◌<◌, ℕ, List, [], ◌∷◌, ◌++◌, Option, Some, None, Ok, Err, refl, sym, subst, append_assoc}
 use Rattle.std.proofs.lemmas.List.{append-nil}
 use Rattle.container_meta.specs.Segments.{Contents, KindSegment}
 use Rattle.actor_parts.specs.declared.step.Answer.{Answer}
@@ -9,13 +9,15 @@ use Rattle.refusals.specs.declared.refusal.Refusal.{Refusal}
 use Rattle.ingest_session.specs.declared.due.Due.{Due}
 use Rattle.ingest_session.specs.declared.due.Due.TheVariants.{Claim, Seal, Nothing}
 use Rattle.ingest_session.specs.Due.{open_of}
+use Rattle.ingest_session.specs.declared.queue.TheConstants.{MOST_WAITING}
 use Rattle.ingest_session.specs.History.{HasHistory}
+use Rattle.ingest_session.specs.Settling.{seen}
 use Rattle.ingest_session.specs.State.{SessionState}
 use Rattle.ingest_session.specs.Told.{IsAnswerFor}
 use Rattle.store_core.specs.declared.stop.Stop.{Stop}
 use Rattle.store_core.specs.Core.{ClaimRow, SealRow, StepsOr}
 use Rattle.store_core.specs.State.{CoreState}
-use Rattle.session_turns.specs.Turns.{Asks, IsPaused, IsTurn, TurnRun, TakesTurn, TakesTurns}
+use Rattle.session_turns.specs.Turns.{AreForRoom, Asks, IsCrowded, IsPaused, IsTurn, MakesRoom, TurnRun, TakesTurn, TakesTurns}
 use Rattle.session_turns.proofs.Told.{Stays, after, told}
 
 -- ---- an answer is one that the step can have
@@ -138,3 +140,35 @@ module _ (C : Type 0) (state : C → CoreState) (actor : ℕ) where
       → TakesTurns C state actor (Ok y) s u old new
   turns_then_any T U x y s t u old mid new run None none = turns_then_none T U x y s t u old mid new run none
   turns_then_any T U x y s t u old mid new run (Some answer) turn = turns_then T U x y s t u old mid new run answer turn
+
+  -- ---- one more, for room
+
+  pause_for_room : (answers : List Answer) (s t u : SessionState) (old new : C) (run : TurnRun C state actor answers s t old new) (pause : IsPaused t u) → AreForRoom C state actor answers s t old new run
+      → AreForRoom C state actor answers s u old new (turns_then_pause answers s t u old new run pause)
+  unfolding turns_then_pause
+  pause_for_room [] s t u old new run pause room = tt
+  pause_for_room (answer ∷ answers) s t u old new run pause room = (room.0, pause_for_room answers run.0 t u run.1 new run.3 pause room.1)
+
+  one_for_room : (answers : List Answer) (answer : Answer) (s t u : SessionState) (old mid new : C) (run : TurnRun C state actor answers s t old mid) (turn : IsTurn actor answer t u (state mid) (state new))
+      → AreForRoom C state actor answers s t old mid run → IsCrowded t
+      → AreForRoom C state actor (answers ++ answer ∷ []) s u old new (turns_then_one answers answer s t u old mid new run turn)
+  unfolding turns_then_one
+  one_for_room [] answer s t u old mid new run turn room crowded = ((crowded.0, paused_on s t crowded.0 run.0 crowded.1, crowded.2), tt)
+  one_for_room (first ∷ answers) answer s t u old mid new run turn room crowded = (room.0, one_for_room answers answer run.0 t u run.1 mid new run.3 turn room.1 crowded)
+
+  pub room_then_any : (T U : Type 0) (x : T) (y : U) (s t u : SessionState) (old mid new : C) → MakesRoom C state actor (Ok x) s t old mid → MOST_WAITING < seen t → (made : Option Answer)
+      → TakesTurn C state actor (Ok made) t u mid new
+      → MakesRoom C state actor (Ok y) s u old new
+  room_then_any T U x y s t u old mid new room many None none =
+      let paused = turns_then_pause room.0 s t u old mid room.1 none.0 in
+      subst (λ (c : C). MakesRoom C state actor (Ok y) s u old c) (sym none.3) (room.0, paused, pause_for_room room.0 s t u old mid room.1 none.0 room.2)
+  room_then_any T U x y s t u old mid new room many (Some answer) turn = (
+    room.0 ++ answer ∷ [],
+    turns_then_one room.0 answer s t u old mid new room.1 turn,
+    one_for_room room.0 answer s t u old mid new room.1 turn room.2 (t, paused_still t, many),
+  )
+
+  pub room_then_stop : (T U : Type 0) (x : T) (refusal : Refusal) (s t u : SessionState) (old mid new : C) → MakesRoom C state actor (Ok x) s t old mid → MOST_WAITING < seen t
+      → TakesTurn C state actor (Err refusal) t u mid new
+      → MakesRoom {T = U} C state actor (Err refusal) s u old new
+  room_then_stop T U x refusal s t u old mid new room many stop = ((room.0, t, mid, room.1, stop), (room.2, (t, paused_still t, many)))

@@ -1,5 +1,5 @@
 -- Turns of a session: the steps that it asks for, made by a core (docs/MODEL.md, 'Turns').
-use Rattle.std.specs.Prelude.{◌≡◌, ◌⊎◌, ℕ, List, [], ◌∷◌, ◌++◌, length, Option, Some, None, Result, Ok, Err}
+use Rattle.std.specs.Prelude.{◌≡◌, ◌⊎◌, ◌<◌, ℕ, List, [], ◌∷◌, ◌++◌, length, Option, Some, None, Result, Ok, Err}
 use Rattle.actor_parts.specs.declared.step.Answer.{Answer}
 use Rattle.actor_parts.specs.StepValue as asked
 use Rattle.actor_parts.specs.StepValue.{IsStep}
@@ -8,11 +8,12 @@ use Rattle.refusals.specs.declared.refusal.Refusal.{Refusal}
 use Rattle.refusals.specs.declared.refusal.Refusal.TheVariants.{Memory}
 use Rattle.ingest_session.specs.declared.due.Due.{Due}
 use Rattle.ingest_session.specs.declared.due.Due.TheVariants.{Claim, Seal, Nothing}
+use Rattle.ingest_session.specs.declared.queue.TheConstants.{MOST_WAITING}
 use Rattle.ingest_session.specs.Calls.{IsPushAnswer, IsTaking}
 use Rattle.ingest_session.specs.Due.{due_in, open_of}
 use Rattle.ingest_session.specs.History.{History, HasHistory, Places, answered}
 use Rattle.ingest_session.specs.Moving.{IsOffered}
-use Rattle.ingest_session.specs.Settling.{KeepsOpen}
+use Rattle.ingest_session.specs.Settling.{KeepsOpen, seen}
 use Rattle.ingest_session.specs.State.{SessionState}
 use Rattle.ingest_session.specs.Told.{IsAnswerFor, IsSettled, told_by}
 use Rattle.store_core.specs.Core.{CoreStep}
@@ -72,11 +73,39 @@ TakesTurn C state actor (Ok (Some answer)) s t old new = IsTurn actor answer s t
 TakesTurn C state actor (Err refusal) s t old new =
     ((refusal ≡ Memory) × IsPaused s t × (new ≡ old)) ⊎ IsRefusedTurn actor refusal s t (state old) (state new)
 
+-- ---- turns that make room
+
+-- Items that need no step may have gone to their place, and still more segments wait than a push leaves.
+abbrev pub IsCrowded : SessionState → Type 0
+IsCrowded s = (x : SessionState) × IsPaused s x × (MOST_WAITING < seen x)
+
+-- each of these turns was made while that was so
+abbrev pub AreForRoom : (C : Type 0) (state : C → CoreState) (actor : ℕ) (answers : List Answer) (s t : SessionState) (old new : C)
+    → TurnRun C state actor answers s t old new → Type 0
+AreForRoom C state actor [] s t old new run = Unit {0}
+AreForRoom C state actor (answer ∷ answers) s t old new run =
+    IsCrowded s × AreForRoom C state actor answers run.0 t run.1 new run.3
+
+-- and the one that was refused after them, or for which there was no memory
+abbrev pub StopForRoom : (C : Type 0) (state : C → CoreState) (actor : ℕ) (refusal : Refusal) (s t : SessionState) (old new : C)
+    → TurnsStopped C state actor refusal s t old new → Type 0
+StopForRoom C state actor refusal s t old new stopped =
+    AreForRoom C state actor stopped.0 s stopped.1 old stopped.2 stopped.3 × IsCrowded stopped.1
+
+-- any number of turns, each made for room
+abbrev pub MakesRoom : {T : Type 0} (C : Type 0) → (C → CoreState) → ℕ → Result T Refusal → SessionState → SessionState → C → C → Type 0
+MakesRoom C state actor (Ok x) s t old new =
+    (answers : List Answer) × (run : TurnRun C state actor answers s t old new) × AreForRoom C state actor answers s t old new run
+MakesRoom C state actor (Err refusal) s t old new =
+    (stopped : TurnsStopped C state actor refusal s t old new) × StopForRoom C state actor refusal s t old new stopped
+
 -- Bytes were given to a session: after turns that made room it took them all, or refused them.
 abbrev pub Feeds : (C : Type 0) → (C → CoreState) → ℕ → Result (Unit {0}) Refusal → List ℕ → SessionState → SessionState → C → C → Type 0
 Feeds C state actor (Ok u) bytes s t old new =
-    (answers : List Answer) × (mid : SessionState) × TurnRun C state actor answers s mid old new × IsTaking bytes mid t
+    (answers : List Answer) × (mid : SessionState) × (run : TurnRun C state actor answers s mid old new) × IsTaking bytes mid t
     × ((h : History) → HasHistory mid h → HasHistory t (record h { given = h.given ++ bytes }))
+    × AreForRoom C state actor answers s mid old new run
 Feeds C state actor (Err refusal) bytes s t old new =
-    TurnsStopped C state actor refusal s t old new
-    ⊎ ((answers : List Answer) × TurnRun C state actor answers s t old new × IsPushAnswer t (length bytes) (Err refusal))
+    ((stopped : TurnsStopped C state actor refusal s t old new) × StopForRoom C state actor refusal s t old new stopped)
+    ⊎ ((answers : List Answer) × (run : TurnRun C state actor answers s t old new) × IsPushAnswer t (length bytes) (Err refusal)
+    × AreForRoom C state actor answers s t old new run)

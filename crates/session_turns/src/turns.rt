@@ -6,7 +6,7 @@ ghost use Rattle.ingest_session.specs.Due.{due_in};
 ghost use Rattle.ingest_session.specs.Settling.{seen};
 ghost use Rattle.ingest_session.specs.Work.{to_do};
 ghost use Rattle.ingest_session.specs.Told.{IsSettled};
-ghost use Rattle.session_turns.specs.Turns.{Asks, Feeds, TakesTurn, TakesTurns};
+ghost use Rattle.session_turns.specs.Turns.{Asks, Feeds, MakesRoom, TakesTurn, TakesTurns};
 
 use actor_parts::{Actor, Answer, SegBuf, Step};
 use disk_format::LEAST_SEGMENT;
@@ -69,7 +69,7 @@ pub fn make_turn<C: HasState>(
     Ok(Some(answer))
 }
 
-/// Makes turns until few segments wait.
+/// Makes turns until few segments wait, and none when few do.
 pub fn make_room<C: HasState>(
     core: &mut C,
     actor: Actor,
@@ -77,7 +77,7 @@ pub fn make_room<C: HasState>(
     buf: &mut SegBuf,
 ) -> Result<(), Refusal>
     requires { IsRunning (C.state core.old) }
-    ensures turns { TakesTurns C C.state actor result session.old session.new core.old core.new }
+    ensures turns { MakesRoom C C.state actor result session.old session.new core.old core.new }
     ensures room { OnOk result (seen session.new ≤ MOST_WAITING) }
     ensures ended { session.new.ended ≡ session.old.ended }
     ensures count { session.new.count ≡ session.old.count }

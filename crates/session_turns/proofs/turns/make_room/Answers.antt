@@ -1,9 +1,15 @@
-use Rattle.std.proofs.Common.{◌∙◌, Result}
+use Rattle.std.proofs.Common.{◌≡◌, ◌∙◌, ◌<◌, ℕ, Result, arith}
 use Rattle.refusals.specs.declared.refusal.Refusal.{Refusal}
-use Rattle.session_turns.specs.Turns.{TakesTurns}
+use Rattle.ingest_session.specs.declared.queue.TheConstants.{MOST_WAITING}
+use Rattle.ingest_session.specs.Settling.{seen}
+use Rattle.session_turns.specs.Turns.{MakesRoom}
 use Rattle.session_turns.proofs.Results.{by_error}
-use Rattle.session_turns.proofs.TurnRuns.{turns_then_any, turns_then_stop}
+use Rattle.session_turns.proofs.TurnRuns.{room_then_any, room_then_stop}
 use Rattle.session_turns.proofs.turns.make_room.Goals as goal
+
+-- the test of the loop
+crowded : (queued waiting : ℕ) → queued ≡ waiting → MOST_WAITING < queued → MOST_WAITING < waiting
+crowded queued waiting is more = omega (arith, is, more)
 
 pub returns-in_err-make_turn-clause-turns : goal.returns-in_err-make_turn-clause-turns
 returns-in_err-make_turn-clause-turns g c =
@@ -13,14 +19,14 @@ returns-in_err-make_turn-clause-turns g c =
     let old = c.args.core.now in
     let new = c.make_turn.new.core in
     let e = c.in_err-make_turn.field-0.0 in
-    by_error (λ (r : Result (Unit {0}) Refusal). TakesTurns _ state c.args.actor r s u old new) c.from_residual.result e c.from_residual.ensures.1
-    (turns_then_stop _ state c.args.actor (Unit {0})
-    (Unit {0}) tt e s c.loop-actor.session u old c.loop-actor.core new c.loop-actor.invariant.turns c.in_err-make_turn.ensures.turn)
+    by_error (λ (r : Result (Unit {0}) Refusal). MakesRoom _ state c.args.actor r s u old new) c.from_residual.result e c.from_residual.ensures.1
+    (room_then_stop _ state c.args.actor (Unit {0})
+    (Unit {0}) tt e s c.loop-actor.session u old c.loop-actor.core new c.loop-actor.invariant.turns (crowded c.queued.result (seen c.loop-actor.session) c.queued.ensures c.loop-actor-test.true) c.in_err-make_turn.ensures.turn)
 
 pub returns-then-is_none-clause-turns : goal.returns-then-is_none-clause-turns
 returns-then-is_none-clause-turns g c =
-    turns_then_any _ g.C.HasState.state c.args.actor (Unit {0})
-    (Unit {0}) tt tt c.args.session.now c.loop-actor.session c.make_turn.new.session c.args.core.now c.loop-actor.core c.make_turn.new.core c.loop-actor.invariant.turns
+    room_then_any _ g.C.HasState.state c.args.actor (Unit {0})
+    (Unit {0}) tt tt c.args.session.now c.loop-actor.session c.make_turn.new.session c.args.core.now c.loop-actor.core c.make_turn.new.core c.loop-actor.invariant.turns (crowded c.queued.result (seen c.loop-actor.session) c.queued.ensures c.loop-actor-test.true)
     c.in_ok-make_turn.field-0 c.in_ok-make_turn.ensures.turn
 
 pub loop-actor-preserved : goal.loop-actor-preserved
@@ -29,7 +35,7 @@ loop-actor-preserved g c =
       running = c.in_ok-make_turn.ensures.running;
       ended = c.in_ok-make_turn.ensures.ended ∙ c.loop-actor.invariant.ended;
       count = c.in_ok-make_turn.ensures.count ∙ c.loop-actor.invariant.count;
-      turns = turns_then_any _ g.C.HasState.state c.args.actor (Unit {0})
-          (Unit {0}) tt tt c.args.session.now c.loop-actor.session c.make_turn.new.session c.args.core.now c.loop-actor.core c.make_turn.new.core c.loop-actor.invariant.turns
+      turns = room_then_any _ g.C.HasState.state c.args.actor (Unit {0})
+          (Unit {0}) tt tt c.args.session.now c.loop-actor.session c.make_turn.new.session c.args.core.now c.loop-actor.core c.make_turn.new.core c.loop-actor.invariant.turns (crowded c.queued.result (seen c.loop-actor.session) c.queued.ensures c.loop-actor-test.true)
           c.in_ok-make_turn.field-0 c.in_ok-make_turn.ensures.turn;
     }

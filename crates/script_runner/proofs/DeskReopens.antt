@@ -1,0 +1,160 @@
+-- `reopen` as a line of a machine that fits the core.
+use Rattle.std.proofs.Common.{◌≡◌, ◌≢◌, ◌⊎◌, inl, inr, ◌∙◌, ℕ, List, [], ◌∷◌, length, slice_index_or, replicate, Option, Some, None, Result, Ok, Err, refl, sym, ap, subst}
+use Rattle.std.proofs.lemmas.List.{get_or-replicate, length-replicate}
+use Rattle.std.specs.FinMap as finite
+use Rattle.actor_parts.specs.declared.actor.TheConstants.{ACTORS}
+use Rattle.actor_parts.specs.declared.part.Part as core_part
+use Rattle.actor_parts.specs.declared.part.Part.TheVariants as core_parts
+use Rattle.actor_parts.specs.declared.step.Answer.{Answer}
+use Rattle.actor_parts.specs.declared.step.Answer.TheVariants as answers
+use Rattle.actor_parts.specs.Kinds as core_kinds
+use Rattle.actor_parts.specs.Parts.{part_of}
+use Rattle.actor_parts.specs.StepValue as steps
+use Rattle.dd_disk.specs.View.{DiskView}
+use Rattle.refusals.specs.declared.refusal.PartKind.TheVariants as kinds
+use Rattle.refusals.specs.declared.refusal.Refusal.{Refusal}
+use Rattle.refusals.specs.declared.refusal.Refusal.TheVariants as refusals
+use Rattle.script_lines.specs.Grammar as lines
+use Rattle.script_lines.specs.ReplyValue.{ReplyValue}
+use Rattle.script_lines.specs.ReplyValue as replies
+use Rattle.store_core.specs.Opening.{IsReadFrom, OpensCore, StaysOrStops}
+use Rattle.store_core.specs.State.{CoreState, Event, IsRunning}
+use Rattle.store_core.proofs.Opened.{new_runs, stays_runs}
+use Rattle.store_machine.specs.Asked as asked
+use Rattle.store_machine.specs.Done.{Done}
+use Rattle.store_machine.specs.Done as done
+use Rattle.store_machine.specs.Legal.{Answers, Legal}
+use Rattle.store_machine.specs.Lines as machine
+use Rattle.store_machine.specs.Lines.{Desk, all_none, step_of}
+use Rattle.store_machine.specs.Machine.{Machine, Stepped}
+use Rattle.store_machine.specs.Opening as opening
+use Rattle.store_machine.specs.Values.{Values}
+use Rattle.core_machine.specs.Refines.{answered_by}
+use Rattle.script_runner.specs.Acts.{ActsReopen, RefusesReopen, Reopens, RunnerState, counted}
+use Rattle.script_runner.specs.LinesAreRuns.{IsAtDesk, LeadsTo, SameSessions, WritersGive}
+use Rattle.script_runner.specs.Sessions.{Sessions, session_of}
+use Rattle.script_runner.proofs.DeskParts.{quiet_gives}
+use Rattle.script_runner.proofs.DeskSessions.{same_none}
+use Rattle.script_runner.proofs.DeskSteps.{answers_so, makes, one_step}
+use Rattle.script_runner.proofs.Fitting.{Fitting}
+
+-- a core that was opened runs
+read_runs : (before : DiskView) (c : CoreState) → IsReadFrom before c → IsRunning c
+read_runs before c read = new_runs _ before.size c read.reads.only.later.size_is read.opened
+
+opened_runs : (D : Type 0) (view : D → DiskView) (old : DiskView) (c : CoreState) → OpensCore D view old c → IsRunning c
+opened_runs D view old c (inl read) = read_runs old c read
+opened_runs D view old c (inr (mid, (made, read))) = read_runs (view mid) c read
+
+opened_parts : (D : Type 0) (view : D → DiskView) (old : DiskView) (c : CoreState) → OpensCore D view old c → c.parts ≡ replicate ACTORS core_parts.Idle
+opened_parts D view old c (inl read) = read.opened.parts_are
+opened_parts D view old c (inr (mid, (made, read))) = read.opened.parts_are
+
+opened_stop : (D : Type 0) (view : D → DiskView) (old : DiskView) (c : CoreState) → OpensCore D view old c → c.stop ≡ None
+opened_stop D view old c (inl read) = read.opened.stop_is
+opened_stop D view old c (inr (mid, (made, read))) = read.opened.stop_is
+
+-- no actor writes where all are idle
+pub idle_give : (xs : Sessions) (parts : List core_part.Part) → parts ≡ replicate ACTORS core_parts.Idle → WritersGive xs parts
+unfolding part_of
+idle_give xs parts are a none writes =
+    let idle : part_of parts a ≡ core_parts.Idle = ap (λ (ps : List core_part.Part). slice_index_or ps a core_parts.Idle) are ∙ get_or-replicate core_parts.Idle ACTORS a in
+    let wrong = sym (ap core_kinds.kind_of idle) ∙ writes in absurd cc
+
+-- parts that stay
+kept_parts : (C : Type 0) (view : C → DiskView) (refusal : Refusal) (old new : CoreState) → StaysOrStops C view refusal old new → new.parts ≡ old.parts
+kept_parts C view refusal old new (inl kept) = kept.0.parts_are
+kept_parts C view refusal old new (inr stops) = stops.parts_are
+
+module _ {V R : Type 0} (v : Values V R) (C : Type 0) (state : C → CoreState) (Fits : Machine V R → CoreState → Type 0) (fitting : Fitting v C state Fits) (r : RunnerState C) (d : Desk V R) (at : IsAtDesk state Fits d r) (s : RunnerState C) where
+  abbrev view : C → DiskView
+  view c = (state c).disk
+
+  abbrev Leads : ReplyValue → Type 0
+  Leads reply = LeadsTo v state Fits lines.Reopen reply d s
+
+  -- ---- it is opened
+
+  module _ (files : ℕ) (acts : Reopens C state files s.sessions r.moments s.moments r.core s.core) where
+    mid : C
+    mid = acts.mid
+
+    mid_runs : IsRunning (state acts.mid)
+    mid_runs = opened_runs C view (state r.core).disk (state acts.mid) acts.opened
+
+    opens : (n : Machine V R) × (Legal v (step_of v 0 asked.Reopen (Ok (done.Reopened (finite.len (state acts.mid).tables.names)))) d.machine n × Fits n (state acts.mid))
+    opens = fitting.opened 0 r.core acts.mid d.machine at.fits acts.opened mid_runs
+
+    abbrev n : Machine V R
+    n = opens.0
+
+    -- then it is counted, which changes nothing
+    counting : Event
+    counting = record { actor = 0; step = steps.Stat; answer = Ok (counted acts.holdings); buf = acts.counts.0 }
+
+    -- the number that is told is that of the names
+    module _ (next : Machine V R) (legal : Answers v 0 asked.Stat (Ok (done.Counted acts.holdings.files acts.holdings.segments acts.holdings.bytes acts.holdings.used acts.holdings.free)) n next) where
+      names_are : acts.holdings.files ≡ finite.len n.now.names
+      names_are = ap files_of legal.0
+        where
+          files_of : Done → ℕ
+          files_of (done.Counted files segments bytes used free) = files
+          files_of answer = 0
+
+    opened_line : Leads (replies.Opened files)
+    opened_line =
+        let one = makes v C state Fits fitting counting [] acts.mid s.core n mid_runs opens.1.1 tt acts.counts.1 in
+        let told : Result Done Refusal = Ok (done.Reopened (finite.len (state acts.mid).tables.names)) in
+        let legal = answers_so v n one.next 0 asked.Stat (answered_by (Ok (counted acts.holdings)) acts.counts.0)
+        (fitting.runs n (state acts.mid) opens.1.1 (opened_stop C view (state r.core).disk (state acts.mid) acts.opened)) one.legal in
+        let found = opens.1.0 in
+        let count : finite.len (state acts.mid).tables.names ≡ files =
+        found.files_are ∙ ap (λ (m : Machine V R). finite.len m.now.names) (sym found.others) ∙ sym (names_are one.next legal) ∙ sym acts.files_are in
+        record {
+          steps = step_of v 0 asked.Reopen told ∷ [];
+          next = record { machine = n; sessions = all_none d.sessions };
+          line_is = (one_step v 0 asked.Reopen told d.machine n opens.1.0, ((0, (told, refl, ap replies.Opened (sym count))), refl));
+          at = record {
+            runs = one.runs;
+            fits = subst (λ (m : Machine V R). Fits m (state s.core)) legal.1 one.fits;
+            same = subst (SameSessions (all_none d.sessions)) (sym acts.sessions_are) (same_none ACTORS d.sessions r.sessions at.same at.many);
+            many = ap length acts.sessions_are ∙ length-replicate ACTORS None;
+            give = quiet_gives counting (state acts.mid) (state s.core) s.sessions tt acts.counts.1
+                (idle_give s.sessions (state acts.mid).parts (opened_parts C view (state r.core).disk (state acts.mid) acts.opened));
+          };
+        }
+
+  -- ---- it isn't
+
+  module _ (refusal : Refusal) (sessions : s.sessions ≡ r.sessions) where
+    abbrev told : Result Done Refusal
+    told = Err refusal
+
+    unopened_at : (n : Machine V R) → Legal v (step_of v 0 asked.Reopen told) d.machine n → Fits n (state s.core) → IsRunning (state s.core) → (state s.core).parts ≡ (state r.core).parts → Leads (replies.Refused refusal)
+    unopened_at n legal fits runs parts = record {
+      steps = step_of v 0 asked.Reopen told ∷ [];
+      next = record { machine = n; sessions = d.sessions };
+      line_is = (one_step v 0 asked.Reopen told d.machine n legal, ((0, (told, refl, refl)), refl));
+      at = record {
+        runs = runs;
+        fits = fits;
+        same = subst (SameSessions d.sessions) (sym sessions) at.same;
+        many = ap length sessions ∙ at.many;
+        give = subst (λ (xs : Sessions). WritersGive xs (state s.core).parts) (sym sessions) (subst (WritersGive r.sessions) (sym parts) at.give);
+      };
+    }
+
+    unopened_line : RefusesReopen C state refusal r.core s.core → Leads (replies.Refused refusal)
+    unopened_line refuses = elim refuses.why [
+      | inl memory ↦ unopened_at d.machine (subst (λ (e : Refusal). opening.MayRefuseOpening v e) (sym memory.0) tt, inl refl) (subst (λ (c : C). Fits d.machine (state c)) (sym memory.1) at.fits)
+          (subst (λ (c : C). IsRunning (state c)) (sym memory.1) at.runs) (ap (λ (c : C). (state c).parts) memory.1)
+      | inr none ↦ by (fitting.unopened 0 refusal r.core s.core d.machine at.fits none.0 none.1) none.1
+    ]
+      where
+        by : (n : Machine V R) × (Legal v (step_of v 0 asked.Reopen told) d.machine n × Fits n (state s.core)) → StaysOrStops C view refusal (state r.core) (state s.core) → Leads (replies.Refused refusal)
+        by went leaves = unopened_at went.0 went.1.0 went.1.1 (stays_runs C view refusal (state r.core) (state s.core) leaves at.runs) (kept_parts C view refusal (state r.core) (state s.core) leaves)
+
+  pub reopen_line : (reply : ReplyValue) → ActsReopen C state reply r s → Leads reply
+  reopen_line (replies.Opened files) acts = opened_line files acts
+  reopen_line (replies.Refused refusal) acts = unopened_line refusal acts.1 acts.0
+  reopen_line reply acts = absurd acts

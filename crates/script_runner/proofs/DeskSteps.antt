@@ -1,0 +1,162 @@
+-- A step of the core as one of a machine that fits it; and lines that are one step, or are barred.
+use Rattle.std.proofs.Common.{◌≡◌, ◌≢◌, ◌⊎◌, inl, inr, ◌∙◌, ◌+◌, ◌-◌, ◌^◌, ◌<◌, min, ℕ, suc, Bool, true, false, List, [], ◌∷◌, ◌++◌, length, slice_index_or, Option, Some, None, Result, Ok, Err, refl, sym, ap, subst, arith}
+use Rattle.actor_parts.specs.declared.step.Answer.{Answer}
+use Rattle.actor_parts.specs.Kinds as core_kinds
+use Rattle.actor_parts.specs.Parts.{part_of}
+use Rattle.actor_parts.specs.StepValue as steps
+use Rattle.actor_parts.specs.StepValue.{StepValue}
+use Rattle.refusals.specs.declared.refusal.PartKind.{PartKind}
+use Rattle.refusals.specs.declared.refusal.Refusal.{Refusal}
+use Rattle.refusals.specs.declared.refusal.Refusal.TheVariants as refusals
+use Rattle.script_lines.specs.Grammar.{LineValue}
+use Rattle.script_lines.specs.Grammar as lines
+use Rattle.script_lines.specs.ReplyValue.{ReplyValue}
+use Rattle.script_lines.specs.ReplyValue as replies
+use Rattle.store_core.specs.declared.stop.Stop.{Stop}
+use Rattle.store_core.specs.Core.{CoreStep}
+use Rattle.store_core.specs.State.{CoreState, Event, IsRunning}
+use Rattle.store_core.proofs.RunningOn.{step_runs}
+use Rattle.plain_machine.specs.Refused as plain
+use Rattle.store_machine.specs.Asked.{Asked}
+use Rattle.store_machine.specs.Done.{Done}
+use Rattle.store_machine.specs.Legal.{Answers, ByState, Legal}
+use Rattle.store_machine.specs.Lines as machine
+use Rattle.store_machine.specs.Lines.{Desk, Ends, IsStep, Says, kind_at, step_of}
+use Rattle.store_machine.specs.Machine.{Machine, RunState, Running, Stepped, kind_of, part_in}
+use Rattle.store_machine.specs.Runs.{Run}
+use Rattle.store_machine.specs.Values.{Values}
+use Rattle.core_machine.specs.Refines.{answered_by, asked_as}
+use Rattle.script_runner.specs.Acts.{Acts, ActsOrNot, Admits, Bars, BarsBy, RunnerState}
+use Rattle.script_runner.specs.LinesAreRuns.{IsAtDesk, LeadsTo, SameSessions, WritersGive}
+use Rattle.script_runner.specs.Sessions.{Sessions, has_ended, kind_in, session_of}
+use Rattle.script_runner.proofs.DeskParts.{IsQuiet, others_stay, quiet_gives}
+use Rattle.script_runner.proofs.DeskSessions.{same_actor, same_at, same_kind, same_takes}
+use Rattle.script_runner.proofs.Fitting.{Fitting, IsOfGiven}
+
+-- a number that is acknowledged
+pub number_so : (journal last number : ℕ) → number ≡ suc journal → number ≡ suc last → last < 2 ^ 64 - 1 → min (journal + 1) (2 ^ 64 - 1) ≡ number
+number_so journal last number one other some = omega (arith, one, other, some)
+
+module _ {V R : Type 0} (v : Values V R) where
+  pub one_step : (a : ℕ) (step : Asked V) (told : Result Done Refusal) (m n : Machine V R) → Legal v (step_of v a step told) m n → Run v (step_of v a step told ∷ []) m n
+  one_step a step told m n legal = (n, (legal, refl))
+
+  pub run_more : (xs ys : List (Stepped V)) (m k n : Machine V R) → Run v xs m k → Run v ys k n → Run v (xs ++ ys) m n
+  run_more [] ys m k n first next = subst (λ (x : Machine V R). Run v ys x n) first next
+  run_more (x ∷ xs) ys m k n first next = (first.0, (first.1.0, run_more xs ys first.0 k n first.1.1 next))
+
+  -- a machine that runs answers by what it is
+  pub answers_so : (m n : Machine V R) (a : ℕ) (step : Asked V) (told : Result Done Refusal) → m.state ≡ Running → ByState v m.state a step told m n → Answers v a step told m n
+  answers_so m n a step told is legal = subst (λ (state : RunState V). ByState v state a step told m n) is legal
+
+  -- what a line but `reopen` says
+  abbrev pub SaysBut : LineValue → ReplyValue → List (Stepped V) → Desk V R → Desk V R → Type 0
+  SaysBut line reply ss d e = (machine.Admits v line d × machine.Acts v line reply ss d e)
+      ⊎ ((refusal : Refusal) × machine.Bars v line d refusal × (reply ≡ replies.Refused refusal) × (ss ≡ []) × (e.sessions ≡ d.sessions))
+
+  pub says_so : (line : LineValue) (reply : ReplyValue) (ss : List (Stepped V)) (d e : Desk V R) → line ≢ lines.Reopen → SaysBut line reply ss d e → Says v line reply ss d e
+  says_so lines.Reopen reply ss d e other says = absurd (other refl)
+  says_so line reply ss d e other says = says
+
+module _ {V R : Type 0} (v : Values V R) (C : Type 0) (state : C → CoreState) (Fits : Machine V R → CoreState → Type 0) (fitting : Fitting v C state Fits) where
+  -- ---- a step
+
+  pub record Makes (a : ℕ) (step : Asked V) (told : Result Done Refusal) (m : Machine V R) (old new : C) : Type 0 where
+    pub next : Machine V R
+    pub legal : Legal v (step_of v a step told) m next
+    pub fits : Fits next (state new)
+    pub runs : IsRunning (state new)
+    pub others : (b : ℕ) → b ≢ a → part_of (state new).parts b ≡ part_of (state old).parts b
+
+  pub makes : (e : Event) (given : List ℕ) (old new : C) (m : Machine V R) → IsRunning (state old) → Fits m (state old) → IsOfGiven e.step given → CoreStep (state old) e (state new)
+      → Makes e.actor (asked_as (λ root. v.of given) e.step) (answered_by e.answer e.buf) m old new
+  makes e given old new m runs fits right step =
+      let one = fitting.step e given old new m runs fits right step in
+      record {
+        next = one.0;
+        legal = one.1.0;
+        fits = one.1.1;
+        runs = step_runs (state old) (state new) e step runs;
+        others = others_stay e (state old) (state new) step;
+      }
+
+  -- ---- a line that is taken
+
+  module _ (r : RunnerState C) (d : Desk V R) (at : IsAtDesk state Fits d r) where
+    pub record Acted (line : LineValue) (reply : ReplyValue) (s : RunnerState C) : Type 0 where
+      pub ss : List (Stepped V)
+      pub next : Desk V R
+      pub run : Run v ss d.machine next.machine
+      pub acts : machine.Acts v line reply ss d next
+      pub stays : IsAtDesk state Fits next s
+
+    kinds_so : (a : ℕ) → kind_at v d a ≡ kind_in r.sessions (state r.core).parts a
+    kinds_so a =
+        same_kind (slice_index_or d.sessions a None) (session_of r.sessions a) (kind_of (part_in d.machine a)) (part_of (state r.core).parts a) (same_at d.sessions r.sessions at.same a)
+        (fitting.kinds d.machine (state r.core) at.fits a) (at.give a)
+
+    pub admits_so : (line : LineValue) → Admits line r.sessions (state r.core) → machine.Admits v line d
+    admits_so line admits = (
+      fitting.runs d.machine (state r.core) at.fits admits.runs,
+      λ a is. ap (λ (k : PartKind). machine.takes line k) (kinds_so a) ∙ sym (same_takes line (kind_in r.sessions (state r.core).parts a)) ∙ admits.taken a (same_actor line ∙ is),
+    )
+
+    bars_by : (line : LineValue) (refusal : Refusal) (stop : Option Stop) → (state r.core).stop ≡ stop → BarsBy stop line r.sessions (state r.core) refusal → machine.Bars v line d refusal
+    bars_by line refusal (Some stop) is bars =
+        let stops = fitting.stops d.machine (state r.core) stop at.fits is in
+        subst (λ (x : Refusal). machine.Bars v line d x) (sym bars) (stops.0, stops.1)
+    bars_by line refusal None is bars =
+        let a = bars.0 in
+        let kind = kind_in r.sessions (state r.core).parts a in
+        subst (λ (x : Refusal). machine.Bars v line d x) (sym bars.3)
+        (fitting.runs d.machine (state r.core) at.fits is, (a, sym (same_actor line) ∙ bars.1, sym (kinds_so a), sym (same_takes line kind) ∙ bars.2))
+
+    -- what a line does is what the machine may do where it does so if it is taken
+    pub taken_or_not : (line : LineValue) (reply : ReplyValue) (s : RunnerState C) → line ≢ lines.Reopen → (Admits line r.sessions (state r.core) → Acts C state line reply r s → Acted line reply s)
+        → ActsOrNot C state line reply r s → LeadsTo v state Fits line reply d s
+    taken_or_not line reply s other taken (inl admitted) =
+        let acted = taken admitted.0 admitted.1 in
+        record {
+          steps = acted.ss;
+          next = acted.next;
+          line_is = (acted.run, says_so v line reply acted.ss d acted.next other (inl (admits_so line admitted.0, acted.acts)));
+          at = acted.stays;
+        }
+    taken_or_not line reply s other taken (inr barred) = record {
+      steps = [];
+      next = d;
+      line_is = (refl, says_so v line reply [] d d other (inr (barred.0, bars_by line barred.0 (state r.core).stop refl barred.2, barred.1, refl, refl)));
+      at = subst (λ (t : RunnerState C). IsAtDesk state Fits d t) (sym barred.3) at;
+    }
+
+    -- ---- a line that is one step, whatever was given
+
+    module _ (s : RunnerState C) (sessions : s.sessions ≡ r.sessions) where
+      -- the desk after a step that leaves sessions as they were
+      pub desk_after : (n : Machine V R) → Fits n (state s.core) → IsRunning (state s.core) → WritersGive r.sessions (state s.core).parts
+          → IsAtDesk state Fits (record { machine = n; sessions = d.sessions }) s
+      desk_after n fits runs gives = record {
+        runs = runs;
+        fits = fits;
+        same = subst (SameSessions d.sessions) (sym sessions) at.same;
+        many = ap length sessions ∙ at.many;
+        give = subst (λ (xs : Sessions). WritersGive xs (state s.core).parts) (sym sessions) gives;
+      }
+
+      pub step_line : (line : LineValue) (reply : ReplyValue)
+          → ((ss : List (Stepped V)) (e : Desk V R) → ((a : ℕ) × (step : Asked V) × IsStep v line a step × Ends v a [] step reply ss × (e.sessions ≡ d.sessions)) → machine.Acts v line reply ss d e)
+          → (a : ℕ) (step : StepValue) (answer : Result Answer Refusal) (buf : List ℕ) → IsQuiet step → IsOfGiven step []
+          → CoreStep (state r.core) (record { actor = a; step = step; answer = answer; buf = buf }) (state s.core)
+          → IsStep v line a (asked_as (λ root. v.of []) step) → reply ≡ machine.reply_of a (answered_by answer buf) → Acted line reply s
+      step_line line reply acts a step answer buf quiet right made is reply_is =
+          let e : Event = record { actor = a; step = step; answer = answer; buf = buf } in
+          let one = makes e [] r.core s.core d.machine at.runs at.fits right made in
+          let asked_for : Asked V = asked_as (λ root. v.of []) step in
+          let told : Result Done Refusal = answered_by answer buf in
+          record {
+            ss = step_of v a asked_for told ∷ [];
+            next = record { machine = one.next; sessions = d.sessions };
+            run = one_step v a asked_for told d.machine one.next one.legal;
+            acts = acts (step_of v a asked_for told ∷ []) (record { machine = one.next; sessions = d.sessions }) (a, asked_for, is, (told, refl, reply_is), refl);
+            stays = desk_after one.next one.fits one.runs (quiet_gives e (state r.core) (state s.core) r.sessions quiet made at.give);
+          }

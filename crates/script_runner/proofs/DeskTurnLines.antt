@@ -1,0 +1,344 @@
+-- A turn, a push and a commit as lines of a machine that fits the core.
+use Rattle.std.proofs.Common.{◌≡◌, ◌≢◌, ◌⊎◌, inl, inr, ◌∙◌, ◌+◌, ◌-◌, ◌^◌, ◌<◌, ◌≤◌, min, ℕ, suc, Bool, true, false, List, [], ◌∷◌, ◌++◌, length, Option, Some, None, Result, Ok, Err, refl, sym, ap, subst, arith, length-append}
+use Rattle.disk_format.specs.Cells.{Root}
+use Rattle.disk_format.specs.declared.numbers.TheConstants.{MOST_FILE}
+use Rattle.actor_parts.specs.declared.actor.TheConstants.{ACTORS}
+use Rattle.actor_parts.specs.declared.part.Part as core_part
+use Rattle.actor_parts.specs.declared.part.Part.TheVariants as core_parts
+use Rattle.actor_parts.specs.declared.step.Answer.{Answer}
+use Rattle.actor_parts.specs.declared.step.Answer.TheVariants as answers
+use Rattle.actor_parts.specs.Kinds as core_kinds
+use Rattle.actor_parts.specs.Parts.{part_of, with_part}
+use Rattle.actor_parts.specs.StepValue as steps
+use Rattle.refusals.specs.declared.refusal.PartKind.TheVariants as kinds
+use Rattle.refusals.specs.declared.refusal.Refusal.{Refusal}
+use Rattle.refusals.specs.declared.refusal.Refusal.TheVariants as refusals
+use Rattle.ingest_session.specs.declared.due.Due.TheVariants as dues
+use Rattle.ingest_session.specs.Calls.{IsPushAnswer, IsTaking}
+use Rattle.ingest_session.specs.Due.{due_in}
+use Rattle.ingest_session.specs.DueFor.{IsDueFor}
+use Rattle.ingest_session.specs.History.{History, HasHistory}
+use Rattle.ingest_session.specs.State.{SessionState}
+use Rattle.ingest_session.proofs.Ends.{all_is_kept, bytes_are_counted}
+use Rattle.ingest_session.proofs.Waiting as waiting
+use Rattle.script_lines.specs.declared.reply.Turned.{Turned}
+use Rattle.script_lines.specs.declared.reply.Turned.TheVariants as turns
+use Rattle.script_lines.specs.Grammar.{pushed_bytes}
+use Rattle.script_lines.specs.Grammar as lines
+use Rattle.script_lines.specs.ReplyValue.{ReplyValue}
+use Rattle.script_lines.specs.ReplyValue as replies
+use Rattle.store_model.specs.Trees.{root_of}
+use Rattle.store_core.specs.declared.stop.Stop.{Stop}
+use Rattle.store_core.specs.Core.{CommitRow, StepsOr}
+use Rattle.store_core.specs.State.{CoreState, Event, IsRunning}
+use Rattle.store_core.proofs.CoreRuns.{running_step}
+use Rattle.plain_machine.specs.Refused.{takes}
+use Rattle.store_machine.specs.Asked.{Asked}
+use Rattle.store_machine.specs.Asked as asked
+use Rattle.store_machine.specs.Done.{Done}
+use Rattle.store_machine.specs.Legal.{Answers}
+use Rattle.store_machine.specs.Lines as machine
+use Rattle.store_machine.specs.Lines.{AreTurns, Desk, NothingIsDue, Session, reply_of, step_of}
+use Rattle.store_machine.specs.Machine.{Machine, Stepped}
+use Rattle.store_machine.specs.Runs.{Run}
+use Rattle.store_machine.specs.Values.{Values}
+use Rattle.core_machine.specs.Refines.{answered_by}
+use Rattle.session_turns.specs.Turns.{Feeds, TakesTurn, TurnRun}
+use Rattle.session_turns.proofs.TurnRuns.{turns_stay}
+use Rattle.script_runner.specs.Acts.{Acts, Admits, DoesStep, IsReady, RefusesPut, RefusesStep, RunnerState, StepOf, turned}
+use Rattle.script_runner.specs.LinesAreRuns.{IsAtDesk, IsSessionOf}
+use Rattle.script_runner.specs.Sessions.{has_ended, kind_by, session_of, with_session}
+use Rattle.script_runner.proofs.DeskGiving.{desk_put, gives_still}
+use Rattle.script_runner.proofs.DeskSessions.{DeskSession, desk_session, put_quiet}
+use Rattle.script_runner.proofs.DeskSteps.{Acted, Makes, answers_so, makes, number_so, one_step, run_more}
+use Rattle.script_runner.proofs.DeskTurns.{TurnsMade, TurnsStop, answering, due_of, paused_of, taken_of, turn_made, turn_refused, turns_made, turns_stop}
+use Rattle.script_runner.proofs.Fitting.{Fitting}
+use Rattle.script_runner.proofs.LinesPush.{why_long}
+use Rattle.script_runner.proofs.TurnIdle.{idle, idle_due, idle_has, settled_idle}
+
+-- what is replied to a turn
+turn_reply : (a : ℕ) (answer : Answer) (told : Turned) (buf : List ℕ) → turned (Some answer) ≡ Some told → replies.Turn a told ≡ reply_of a (answered_by (Ok answer) buf)
+turn_reply a answers.Held told buf is = ap (replies.Turn a) (let same : told ≡ turns.Held = cc in same)
+turn_reply a answers.Absent told buf is = ap (replies.Turn a) (let same : told ≡ turns.Absent = cc in same)
+turn_reply a (answers.Sealed id) told buf is = ap (replies.Turn a) (let same : told ≡ turns.Sealed id = cc in same)
+turn_reply a answer told buf is = absurd cc
+
+-- nothing is due of a session, whether it found so or not
+nothing_of : {V R : Type 0} (v : Values V R) (t : Session) (x : SessionState) → IsSessionOf t x → due_in x ≡ dues.Nothing → NothingIsDue v t
+nothing_of v t x is nothing =
+    let sound = waiting.session_of x is.history is.has in
+    record {
+      session = idle x;
+      history = record is.history { placed = is.history.placed ++ [] };
+      has = idle_has x sound nothing is.history is.has;
+      given_is = is.given_is;
+      answers_are = is.answers_are;
+      ended_is = is.ended_is;
+      settled = settled_idle x sound nothing;
+      due_is = idle_due x sound nothing;
+    }
+
+-- the root of one that is ready is that of what was given
+root_so : (t : Session) (x : SessionState) (root : Root) → IsSessionOf t x → IsReady root x → root ≡ root_of t.given
+root_so t x root is ready = same root (root_of t.given) (sym ready.ready ∙ (all_is_kept x is.history is.has ready.ended ready.done).root ∙ ap (λ (l : List ℕ). Some (root_of l)) is.given_is)
+  where
+    same : (b c : Root) → Some b ≡ Some c → b ≡ c
+    same b c is = cc
+
+-- a core that did a step was not stopped
+done_runs : (stop : Option Stop) (e : Event) (answer : Answer) (old new : CoreState) → old.stop ≡ stop → e.answer ≡ Ok answer → StepsOr stop e old new → old.stop ≡ None
+done_runs None e answer old new is does step = is
+done_runs (Some stop) e answer old new is does step = absurd (let both = sym does ∙ step.answer_is in cc)
+
+module _ {V R : Type 0} (v : Values V R) (C : Type 0) (state : C → CoreState) (Fits : Machine V R → CoreState → Type 0) (fitting : Fitting v C state Fits) (r : RunnerState C) (d : Desk V R) (at : IsAtDesk state Fits d r) (s : RunnerState C)
+    (a : ℕ) (below : a < ACTORS) where
+  -- the desk, where the actor has this session
+  giving : (n : Machine V R) (t : Session) (y : SessionState) → s.sessions ≡ with_session r.sessions a (Some y) → IsSessionOf t y → Fits n (state s.core) → IsRunning (state s.core)
+      → ((b : ℕ) → b ≢ a → part_of (state s.core).parts b ≡ part_of (state r.core).parts b)
+      → IsAtDesk state Fits (record { machine = n; sessions = machine.with_session v a (Some t) d }) s
+  giving n t y sessions is fits runs others = desk_put v C state Fits fitting r d at s a n (Some t) (Some y) sessions fits runs is others (gives_still v C state Fits fitting r d at s a y below)
+
+  -- ---- a turn
+
+  abbrev Turns : ReplyValue → Type 0
+  Turns reply = Acted v C state Fits fitting r d at (lines.Turn a) reply s
+
+  module _ (x y : SessionState) (there : session_of r.sessions a ≡ Some x) (sessions : s.sessions ≡ with_session r.sessions a (Some y)) where
+    was : DeskSession d.sessions a x
+    was = desk_session d.sessions r.sessions at.same a x there
+
+    turn_done : (b : ℕ) (told : Turned) → b ≡ a → (answer : Option Answer) → turned answer ≡ Some told → TakesTurn C state a (Ok answer) x y r.core s.core → Turns (replies.Turn b told)
+    turn_done b told same None told_is none =
+        let of = paused_of was.s x y was.is none.0 in
+        record {
+          ss = [];
+          next = record { machine = d.machine; sessions = machine.with_session v a (Some was.s) d };
+          run = refl;
+          acts = (was.s, was.s, (was.there, refl), inr (inl (
+            refl,
+            refl,
+            subst (IsDueFor was.s.given was.s.ended was.s.answers) none.2 (due_of was.s y of none.1),
+            ap (λ (z : ℕ). replies.Turn z told) same ∙ ap (replies.Turn a) (let idle_is : told ≡ turns.Idle = cc in idle_is),
+          )));
+          stays = giving d.machine was.s y sessions of (subst (λ (c : C). Fits d.machine (state c)) (sym none.3) at.fits) (subst (λ (c : C). IsRunning (state c)) (sym none.3) at.runs)
+              (λ c differs. ap (λ (core : C). part_of (state core).parts c) none.3);
+        }
+    turn_done b told same (Some answer) told_is turn =
+        let one = turn_made v C state Fits fitting a answer was.s x y d.machine r.core s.core was.is at.runs at.fits turn in
+        let replied : Result Done Refusal = answered_by (Ok answer) one.buf in
+        record {
+          ss = step_of v a one.step replied ∷ [];
+          next = record { machine = one.made.next; sessions = machine.with_session v a (Some (answering answer was.s)) d };
+          run = one_step v a one.step replied d.machine one.made.next one.made.legal;
+          acts = (was.s, answering answer was.s, (was.there, refl),
+              inl (one.step, replied, refl, (refl, one.due, (answer, one.told_is, refl)), ap (λ (z : ℕ). replies.Turn z told) same ∙ turn_reply a answer told one.buf told_is));
+          stays = giving one.made.next (answering answer was.s) y sessions one.is one.made.fits one.made.runs one.made.others;
+        }
+
+    turn_not_done : (refusal : Refusal) → TakesTurn C state a (Err refusal) x y r.core s.core → Turns (replies.Refused refusal)
+    turn_not_done refusal refused =
+        let one = turn_refused v C state Fits fitting a [] refusal was.s x y d.machine r.core s.core was.is at.runs at.fits refused in
+        record {
+          ss = one.more;
+          next = record { machine = one.next; sessions = machine.with_session v a (Some was.s) d };
+          run = one.run;
+          acts = (was.s, was.s, (was.there, refl), inr (inr (refl, one.stops)));
+          stays = giving one.next was.s y sessions one.is one.fits one.runs one.others;
+        }
+
+  pub turn_acts : (reply : ReplyValue) → Acts C state (lines.Turn a) reply r s → Turns reply
+  turn_acts (replies.Turn b told) acts =
+      let made = acts.1.0 in
+      turn_done made.0 made.1 made.2.0 made.2.1 b told acts.0 made.3.0 made.3.1 made.3.2
+  turn_acts (replies.Refused refusal) acts =
+      let refuses = acts.0 in
+      turn_not_done refuses.0 refuses.1 refuses.2.0 refuses.2.1 refusal refuses.3
+  turn_acts reply acts = absurd acts
+
+  -- ---- a push
+
+  module _ (digits : List ℕ) where
+    abbrev Pushes : ReplyValue → Type 0
+    Pushes reply = Acted v C state Fits fitting r d at (lines.Push a digits) reply s
+
+    abbrev bytes : List ℕ
+    bytes = pushed_bytes digits
+
+    module _ (x y : SessionState) (there : session_of r.sessions a ≡ Some x) (sessions : s.sessions ≡ with_session r.sessions a (Some y)) where
+      gave : DeskSession d.sessions a x
+      gave = desk_session d.sessions r.sessions at.same a x there
+
+      pushed : (b count : ℕ) → b ≡ a → Feeds C state a (Ok tt) bytes x y r.core s.core → count ≡ y.count → Pushes (replies.Pushed b count)
+      pushed b count same feeds counts =
+          let mid : SessionState = feeds.1 in
+          let went = turns_made v C state Fits fitting a feeds.0 gave.s x mid d.machine r.core s.core gave.is at.runs at.fits feeds.2 in
+          let h : History = went.is.history in
+          let has : HasHistory y (record h { given = h.given ++ bytes }) = feeds.4 h went.is.has in
+          let given_is : h.given ++ bytes ≡ went.t.given ++ bytes = ap (λ (l : List ℕ). l ++ bytes) went.is.given_is in
+          let counted = bytes_are_counted y (record h { given = h.given ++ bytes }) has in
+          record {
+            ss = went.made;
+            next = record { machine = went.next; sessions = machine.with_session v a (Some (record went.t { given = went.t.given ++ bytes })) d };
+            run = went.run;
+            acts = (gave.s, went.t, (gave.there, refl), went.room feeds.5, inl (
+              went.turns,
+              inl (
+                ap (λ (z : ℕ). replies.Pushed z count) same ∙ ap (replies.Pushed a) (counts ∙ counted.0 ∙ ap length given_is),
+                subst (λ (l : List ℕ). length l ≤ MOST_FILE) given_is counted.1,
+              ),
+            ));
+            stays = giving went.next (record went.t { given = went.t.given ++ bytes }) y sessions
+                (record {
+                  history = record h { given = h.given ++ bytes };
+                  has = has;
+                  given_is = given_is;
+                  answers_are = went.is.answers_are;
+                  ended_is = ap (λ (z : SessionState). z.ended) feeds.3.others ∙ went.is.ended_is;
+                }) went.fits went.runs went.others;
+          }
+
+      not_pushed : (refusal : Refusal) → x.ended ≡ false → Feeds C state a (Err refusal) bytes x y r.core s.core → Pushes (replies.Refused refusal)
+      not_pushed refusal on (inl stopped) =
+          let stop = turns_stop v C state Fits fitting a refusal gave.s x y d.machine r.core s.core gave.is at.runs at.fits stopped.0 in
+          record {
+            ss = stop.ss;
+            next = record { machine = stop.next; sessions = machine.with_session v a (Some stop.t) d };
+            run = stop.run;
+            acts = (gave.s, stop.t, (gave.there, refl), stop.room stopped.1, inr stop.stops);
+            stays = giving stop.next stop.t y sessions stop.is stop.fits stop.runs stop.others;
+          }
+      not_pushed refusal on (inr long) =
+          let went = turns_made v C state Fits fitting a long.0 gave.s x y d.machine r.core s.core gave.is at.runs at.fits long.1 in
+          let off : y.ended ≡ false = (turns_stay C state a long.0 x y r.core s.core long.1).ended ∙ on in
+          let why = why_long y (length bytes) refusal false off off long.2 in
+          let count : y.count ≡ length went.t.given = (bytes_are_counted y went.is.history went.is.has).0 ∙ ap length went.is.given_is in
+          let more : length (went.t.given ++ bytes) ≡ length went.t.given + length bytes = length-append went.t.given bytes in
+          record {
+            ss = went.made;
+            next = record { machine = went.next; sessions = machine.with_session v a (Some went.t) d };
+            run = went.run;
+            acts = (gave.s, went.t, (gave.there, refl), went.room long.3, inl (went.turns, inr (ap replies.Refused why.0, omega (arith, why.1, count, more))));
+            stays = giving went.next went.t y sessions went.is went.fits went.runs went.others;
+          }
+
+    -- a file that is pushed goes on
+    goes_on : (x : SessionState) → session_of r.sessions a ≡ Some x → Admits (lines.Push a digits) r.sessions (state r.core) → x.ended ≡ false
+    goes_on x there admits = by x.ended refl
+      where
+        by : (e : Bool) → x.ended ≡ e → x.ended ≡ false
+        by false is = is
+        by true is =
+            let taken = subst (λ (o : Option SessionState). takes (lines.Push a digits) (kind_by (has_ended o) (core_kinds.kind_of (part_of (state r.core).parts a))) ≡ true) there (admits.taken a refl) in
+            absurd (let wrong = subst (λ (b : Bool). takes (lines.Push a digits) (kind_by (Some b) (core_kinds.kind_of (part_of (state r.core).parts a))) ≡ true) is taken in cc)
+
+    pub push_acts : (reply : ReplyValue) → Admits (lines.Push a digits) r.sessions (state r.core) → Acts C state (lines.Push a digits) reply r s → Pushes reply
+    push_acts (replies.Pushed b count) admits acts =
+        let does = acts.1.0 in
+        pushed does.0 does.1 does.2.0 does.2.1 b count acts.0 does.3 does.4
+    push_acts (replies.Refused refusal) admits acts =
+        let refuses = acts.0 in
+        not_pushed refuses.0 refuses.1 refuses.2.0 refuses.2.1 refusal (goes_on refuses.0 refuses.2.0 admits) refuses.3
+    push_acts reply admits acts = absurd acts
+
+  -- ---- a commit
+
+  module _ (name : List ℕ) where
+    abbrev Commits : ReplyValue → Type 0
+    Commits reply = Acted v C state Fits fitting r d at (lines.Commit a name) reply s
+
+    module _ (x y : SessionState) (there : session_of r.sessions a ≡ Some x) where
+      wrote : DeskSession d.sessions a x
+      wrote = desk_session d.sessions r.sessions at.same a x there
+
+      -- after all turns
+      module _ (told : List Answer) (mid : C) (run : TurnRun C state a told x y r.core mid) (root : Root) (ready : IsReady root y) where
+        went : TurnsMade v C state Fits fitting a told wrote.s x y d.machine r.core mid run
+        went = turns_made v C state Fits fitting a told wrote.s x y d.machine r.core mid wrote.is at.runs at.fits run
+
+        abbrev commits : Asked V
+        commits = asked.Commit name (v.of went.t.given)
+
+        nothing : NothingIsDue v went.t
+        nothing = nothing_of v went.t y went.is ready.done
+
+        make : (answer : Result Answer Refusal) (buf : List ℕ) → StepOf a (steps.Commit name root) answer buf (state mid) (state s.core) → Makes v C state Fits fitting a commits (answered_by answer buf) went.next mid s.core
+        make answer buf step =
+            makes v C state Fits fitting (record { actor = a; step = steps.Commit name root; answer = answer; buf = buf }) went.t.given mid s.core went.next went.runs went.fits
+            (y, taken_of went.t y went.is, ready, root_so went.t y root went.is ready) step
+
+        others_so : (n : C) → ((b : ℕ) → b ≢ a → part_of (state n).parts b ≡ part_of (state mid).parts b) → (b : ℕ) → b ≢ a → part_of (state n).parts b ≡ part_of (state r.core).parts b
+        others_so n others b differs = others b differs ∙ went.others b differs
+
+        module _ (b sequence : ℕ) (same : b ≡ a) (sequence_is : sequence ≡ min ((state mid).tables.journal.last + 1) (2 ^ 64 - 1)) (sessions : s.sessions ≡ with_session r.sessions a None) where
+          by_answer : (answer : Answer) (buf : List ℕ) (n : Machine V R) → CommitRow name root a (Ok answer) (state mid) (state s.core) → Answers v a commits (answered_by (Ok answer) buf) went.next n
+              → (replies.Committed b sequence ≡ reply_of a (answered_by (Ok answer) buf)) × (core_kinds.kind_of (part_of (state s.core).parts a) ≢ kinds.Writing)
+          by_answer (answers.Committed number) buf n row legal = (
+            ap (λ (z : ℕ). replies.Committed z sequence) same
+                ∙ ap (replies.Committed a) (sequence_is ∙ number_so (state mid).tables.journal.last went.next.now.last number row.1 legal.sequence_is legal.numbers.0),
+            subst (λ (parts : List core_part.Part). core_kinds.kind_of (part_of parts a) ≢ kinds.Writing) (sym row.2) (put_quiet (state mid).parts a core_parts.Idle (λ is. cc)),
+          )
+          by_answer answer buf n row legal = absurd row
+
+          put : (answer : Answer) → DoesStep a (steps.Commit name root) answer (state mid) (state s.core) → Commits (replies.Committed b sequence)
+          put answer does =
+              let e : Event = record { actor = a; step = steps.Commit name root; answer = Ok answer; buf = does.0 } in
+              let stop = done_runs (state mid).stop e answer (state mid) (state s.core) refl refl does.1 in
+              let one = make (Ok answer) does.0 does.1 in
+              let replied : Result Done Refusal = answered_by (Ok answer) does.0 in
+              let legal = answers_so v went.next one.next a commits replied (fitting.runs went.next (state mid) went.fits stop) one.legal in
+              let is = by_answer answer does.0 one.next (running_step (state mid) (state s.core) e stop does.1).made.row legal in
+              record {
+                ss = went.made ++ step_of v a commits replied ∷ [];
+                next = record { machine = one.next; sessions = machine.with_session v a None d };
+                run = run_more v went.made (step_of v a commits replied ∷ []) d.machine went.next one.next went.run (one_step v a commits replied went.next one.next one.legal);
+                acts = (wrote.s, went.t, (wrote.there, refl), inl (went.made, went.turns, nothing, (replied, refl, is.0)));
+                stays = desk_put v C state Fits fitting r d at s a one.next None None sessions one.fits one.runs tt (others_so s.core one.others) (λ none. is.1);
+              }
+
+        -- it was refused, and the session is what it was at the end of the turns
+        module _ (refusal : Refusal) (sessions : s.sessions ≡ with_session r.sessions a (Some y)) where
+          no_memory : refusal ≡ refusals.Memory → s.core ≡ mid → Commits (replies.Refused refusal)
+          no_memory memory same = record {
+            ss = went.made;
+            next = record { machine = went.next; sessions = machine.with_session v a (Some went.t) d };
+            run = went.run;
+            acts = (wrote.s, went.t, (wrote.there, refl), inr (went.made, went.turns, (refusal, refl, inl (memory, refl))));
+            stays = giving went.next went.t y sessions went.is (subst (λ (c : C). Fits went.next (state c)) (sym same) went.fits) (subst (λ (c : C). IsRunning (state c)) (sym same) went.runs)
+                (others_so s.core (λ c differs. ap (λ (core : C). part_of (state core).parts c) same));
+          }
+
+          not_put : RefusesStep a (steps.Commit name root) refusal (state mid) (state s.core) → Commits (replies.Refused refusal)
+          not_put refuses =
+              let one = make (Err refusal) refuses.0 refuses.1 in
+              record {
+                ss = went.made ++ step_of v a commits (Err refusal) ∷ [];
+                next = record { machine = one.next; sessions = machine.with_session v a (Some went.t) d };
+                run = run_more v went.made (step_of v a commits (Err refusal) ∷ []) d.machine went.next one.next went.run (one_step v a commits (Err refusal) went.next one.next one.legal);
+                acts = (wrote.s, went.t, (wrote.there, refl), inl (went.made, went.turns, nothing, (Err refusal, refl, refl)));
+                stays = giving one.next went.t y sessions went.is one.fits one.runs (others_so s.core one.others);
+              }
+
+      put_refused : (refusal : Refusal) → s.sessions ≡ with_session r.sessions a (Some y) → RefusesPut C state a name refusal x y r.core s.core → Commits (replies.Refused refusal)
+      put_refused refusal sessions (inl stopped) =
+          let stop = turns_stop v C state Fits fitting a refusal wrote.s x y d.machine r.core s.core wrote.is at.runs at.fits stopped in
+          record {
+            ss = stop.ss;
+            next = record { machine = stop.next; sessions = machine.with_session v a (Some stop.t) d };
+            run = stop.run;
+            acts = (wrote.s, stop.t, (wrote.there, refl), inr stop.stops);
+            stays = giving stop.next stop.t y sessions stop.is stop.fits stop.runs stop.others;
+          }
+      put_refused refusal sessions (inr done) = elim done.3.2 [
+        | inl memory ↦ no_memory done.0 done.1 done.2 done.3.0 done.3.1 refusal sessions memory.0 memory.1
+        | inr refuses ↦ not_put done.0 done.1 done.2 done.3.0 done.3.1 refusal sessions refuses
+      ]
+
+    pub commit_acts : (reply : ReplyValue) → Acts C state (lines.Commit a name) reply r s → Commits reply
+    commit_acts (replies.Committed b sequence) acts =
+        let does = acts.1 in
+        let puts = does.2 in
+        put does.0 puts.ready does.1 puts.answers_are puts.mid puts.turns puts.root puts.is_ready b sequence acts.0 puts.sequence_is does.3 puts.answer puts.put
+    commit_acts (replies.Refused refusal) acts =
+        let refuses = acts.0 in
+        put_refused refuses.0 refuses.1 refuses.2.0 refusal refuses.2.1 refuses.3
+    commit_acts reply acts = absurd acts

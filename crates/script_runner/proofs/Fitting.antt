@@ -1,0 +1,59 @@
+-- What a relation of machines and cores is to give for lines over a core to be lines of the machine.
+use Rattle.std.proofs.Common.{◌≡◌, ℕ, List, Option, Some, None, Result, Ok, Err}
+use Rattle.std.specs.FinMap as finite
+use Rattle.actor_parts.specs.declared.step.Answer.{Answer}
+use Rattle.actor_parts.specs.Kinds as core_kinds
+use Rattle.actor_parts.specs.Parts.{part_of}
+use Rattle.actor_parts.specs.StepValue as steps
+use Rattle.actor_parts.specs.StepValue.{IsStep, StepValue}
+use Rattle.container_meta.specs.declared.kind.Kind.{Kind}
+use Rattle.refusals.specs.declared.refusal.Refusal.{Refusal}
+use Rattle.ingest_session.specs.Due.{open_of}
+use Rattle.ingest_session.specs.History.{History, HasHistory}
+use Rattle.ingest_session.specs.Moving.{IsOffered}
+use Rattle.ingest_session.specs.State.{SessionState}
+use Rattle.store_model.specs.Trees.{root_of}
+use Rattle.store_core.specs.declared.stop.Stop.{Stop}
+use Rattle.store_core.specs.Core.{CoreStep}
+use Rattle.store_core.specs.Opening.{OpensCore, OpensNone, StaysOrStops}
+use Rattle.store_core.specs.State.{CoreState, Event, IsRunning}
+use Rattle.store_machine.specs.Asked.{Asked}
+use Rattle.store_machine.specs.Asked as asked
+use Rattle.store_machine.specs.Done.{Done}
+use Rattle.store_machine.specs.Done as done
+use Rattle.store_machine.specs.Legal.{Legal}
+use Rattle.store_machine.specs.Lines.{step_of}
+use Rattle.store_machine.specs.Machine.{Machine, Running, Stopped, kind_of, part_in}
+use Rattle.store_machine.specs.Values.{Values}
+use Rattle.core_machine.specs.Refines.{answered_by, asked_as}
+use Rattle.script_runner.specs.Acts.{IsReady}
+
+-- the session took these bytes
+pub record HasTaken (given : List ℕ) (x : SessionState) : Type 0 where
+  pub history : History
+  pub has : HasHistory x history
+  pub given_is : history.given ≡ given
+
+-- What is so of a step that a line makes for one who gave these bytes: a session that took them offers what is claimed, and has filled what
+-- is sealed; a root is theirs, of a session that is ready.
+abbrev pub IsOfGiven : StepValue → List ℕ → Type 0
+IsOfGiven (steps.Claim seg) given = (x : SessionState) × HasTaken given x × IsOffered x seg
+IsOfGiven (steps.Seal filled) given =
+    (x : SessionState) × (kind : Kind) × HasTaken given x × IsStep (steps.Seal filled) × (filled ≡ open_of x kind) × (filled.kind ≡ kind)
+IsOfGiven (steps.Commit name root) given = (x : SessionState) × HasTaken given x × IsReady root x × (root ≡ root_of given)
+IsOfGiven step given = Unit {0}
+
+pub record Fitting {V R : Type 0} (v : Values V R) (C : Type 0) (state : C → CoreState) (Fits : Machine V R → CoreState → Type 0) : Type 1 where
+  -- a step of the core is one of the machine
+  pub step : (e : Event) (given : List ℕ) (old new : C) (m : Machine V R) → IsRunning (state old) → Fits m (state old) → IsOfGiven e.step given → CoreStep (state old) e (state new)
+      → (n : Machine V R) × (Legal v (step_of v e.actor (asked_as (λ root. v.of given) e.step) (answered_by e.answer e.buf)) m n × Fits n (state new))
+  -- they run and are stopped together, and each actor is at the same kind of thing
+  pub runs : (m : Machine V R) (c : CoreState) → Fits m c → c.stop ≡ None → m.state ≡ Running
+  pub stops : (m : Machine V R) (c : CoreState) (stop : Stop) → Fits m c → c.stop ≡ Some stop → ((other : _) × (stores : _) × (m.state ≡ Stopped other stores)) × (stop.at ≡ m.acknowledged)
+  pub kinds : (m : Machine V R) (c : CoreState) → Fits m c → (a : ℕ) → kind_of (part_in m a) ≡ core_kinds.kind_of (part_of c.parts a)
+  -- an opening of the one is one of the other
+  pub opened : (a : ℕ) (old new : C) (m : Machine V R) → Fits m (state old) → OpensCore C (λ c. (state c).disk) (state old).disk (state new) → IsRunning (state new)
+      → (n : Machine V R) × (Legal v (step_of v a asked.Reopen (Ok (done.Reopened (finite.len (state new).tables.names)))) m n × Fits n (state new))
+  pub unopened : (a : ℕ) (refusal : Refusal) (old new : C) (m : Machine V R) → Fits m (state old) → OpensNone C (λ c. (state c).disk) refusal (state old).disk (state new).disk
+      → StaysOrStops C (λ c. (state c).disk) refusal (state old) (state new)
+      → (n : Machine V R) × (Legal v (step_of v a asked.Reopen (Err refusal)) m n × Fits n (state new))

@@ -35,6 +35,7 @@ use Rattle.store_machine.proofs.Remembered.{steps_are_remembered}
 use Rattle.core_machine.specs.Files.{FileRunsRefine, FilesRefine, FitsBy, IsAtFiles, IsFileMachine, IsOfFile, file_step, stored_in}
 use Rattle.core_machine.specs.Refines.{Follows, FollowsPhase, HasIndex, IsMachine, SameStop, TellsForgotten, answered_by, asked_as, asked_by}
 use Rattle.core_machine.specs.Sweeping.{NamesStep}
+use Rattle.core_machine.proofs.FileBroken.{broken}
 use Rattle.core_machine.proofs.FileGc.{gc_adds}
 use Rattle.core_machine.proofs.FileIngests.{claim_adds, commit_adds, seal_adds}
 use Rattle.core_machine.proofs.FileKept.{at_store, by_step, settled}
@@ -262,7 +263,7 @@ module _ (C : Type 0) (state : C → CoreState) (among : ByteSet) (f : FileEvent
     fits None none (Stopped other stores) (Stopped found others) state_is same fit = absurd fit
     fits (Some stop) stopped Running Running state_is same fit = absurd fit
     fits (Some stop) stopped Running (Stopped found others) state_is same fit = absurd same
-    fits (Some stop) stopped (Stopped other stores) b state_is same fit = ?
+    fits (Some stop) stopped (Stopped other stores) b state_is same fit = broken to stop stopped
 
     running : End
     running = (left.0, (left.1.0, record {

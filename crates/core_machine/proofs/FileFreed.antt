@@ -53,7 +53,8 @@ module _ (m : FileMachine) (found : Found (List ℕ)) (may : MayBeFound of_files
   given_back freed frees = record { found = found; may = may; before = before; stands = stands; few = few; freed = freed; frees = frees; left = refl }
 
   pub each_given : (freed : List ℕ) → FreesSome (NamesNeed of_files found) freed before → AllByRecursion (IsGivenBack of_files m) (stores_freed freed before)
-  each_given freed frees = each_on_way (IsGivenBack of_files m) freed before (λ count. given_back (take count freed) (frees_first (NamesNeed of_files found) count freed before frees))
+  each_given freed frees =
+      each_on_way (IsGivenBack of_files m) freed before (λ count. given_back (take count freed) (frees_first (NamesNeed of_files found) count freed before frees))
 
 -- ---- what is given back, as the names' files can be reached and as the machine needs them
 

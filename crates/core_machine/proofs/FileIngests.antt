@@ -1,11 +1,10 @@
 -- What the content of a disk adds to claims, seals and commits, so that they are steps of the machine of files.
-use Rattle.std.proofs.Common.{◌≡◌, ◌⊎◌, inl, inr, ◌<◌, ◌≤◌, ℕ, zero, suc, List, [], ◌∷◌, length, take, get_or, Option, Some, None, Result, Ok, Err, IfErr, refl, sym, ◌∙◌, ap, subst, arith}
+use Rattle.std.proofs.Common.{◌≡◌, inl, inr, ◌<◌, ◌≤◌, ℕ, zero, suc, List, [], ◌∷◌, length, take, Option, Some, None, Result, Ok, Err, IfErr, refl, sym, ◌∙◌, ap, subst, arith}
 use Rattle.std.specs.Prelude.{slice_get}
-use Rattle.std.proofs.lemmas.Bool.{eqb-true}
 use Rattle.std.specs.FinMap as finite
 use Rattle.std.specs.List.{AllByRecursion, Contains}
 use Rattle.sha2.specs.Sha256.{sha256}
-use Rattle.base_model.specs.Bytes.{byte_at, range}
+use Rattle.base_model.specs.Bytes.{range}
 use Rattle.dd_disk.specs.Shows.{Shows}
 use Rattle.dd_disk.proofs.Shows.{shown_content}
 use Rattle.disk_format.specs.Cells.{Root}
@@ -17,7 +16,7 @@ use Rattle.container_meta.specs.Format.{kind_byte}
 use Rattle.container_meta.specs.Segments.{Contents, KindSegment, Segment, segment_at, segment_key}
 use Rattle.actor_parts.specs.declared.step.Answer.TheVariants as answers
 use Rattle.actor_parts.specs.declared.step.Answer.{Answer}
-use Rattle.actor_parts.specs.Segments.{IsOfKind, pin_by}
+use Rattle.actor_parts.specs.Segments.{IsOfKind}
 use Rattle.refusals.specs.declared.refusal.Difference.{Difference}
 use Rattle.refusals.specs.declared.refusal.Difference.TheVariants.{Length, Byte}
 use Rattle.refusals.specs.declared.refusal.Refusal.{Refusal}
@@ -27,7 +26,7 @@ use Rattle.store_model.specs.Files.{Stored}
 use Rattle.store_model.specs.Image.{Store}
 use Rattle.store_model.specs.Slots.{Copy, HasKey, IsPartialIndexOf, newest}
 use Rattle.store_model.specs.Steps.{FitsCopy, FitsHeld}
-use Rattle.store_model.specs.Trees.{bytes_at, file_tree, root_of}
+use Rattle.store_model.specs.Trees.{bytes_at}
 use Rattle.store_model.proofs.Copies.{copy_digest}
 use Rattle.store_model.proofs.Lookups.{finds}
 use Rattle.store_model.proofs.Roots.{length_of_copy}
@@ -40,10 +39,9 @@ use Rattle.store_core.specs.State.{CoreState}
 use Rattle.store_core.proofs.KeepingSegments.{data_level, node_level}
 use Rattle.store_machine.specs.ByMap.{FileMachine}
 use Rattle.store_machine.specs.Asked as asked
-use Rattle.store_machine.specs.Legal.{DifferBy, Fits, HoldsValue, IsClash, IsFirstClash, IsLacked}
-use Rattle.store_machine.specs.Needs.{HasCopy, HoldsKey}
+use Rattle.store_machine.specs.Legal.{DifferBy, Fits, IsClash, IsLacked}
+use Rattle.store_machine.specs.Needs.{HasCopy}
 use Rattle.store_machine.specs.Remembering.{AddsToAnswer, IsWhole, RootMachine}
-use Rattle.store_machine.specs.Values.{of_files}
 use Rattle.core_machine.specs.Files.{stored_in}
 use Rattle.core_machine.specs.Refines.{TellsForgotten, answered_by}
 

@@ -11,20 +11,18 @@ use Rattle.store_model.specs.Collisions.{ByteSet, IsIn}
 use Rattle.store_model.specs.Files.{Stored}
 use Rattle.store_model.specs.Image.{Store}
 use Rattle.store_state.specs.Settled.{IsSettled}
-use Rattle.store_core.specs.Runs.{ChangesTo, FileEvent, FileRun, IsAt, IsNoGcStep, changes_by, stored_by, stored_with}
+use Rattle.store_core.specs.Runs.{ChangesTo, FileEvent, IsAt, IsNoGcStep, changes_by, stored_by, stored_with}
 use Rattle.store_core.specs.State.{CoreState}
 use Rattle.store_core.proofs.KeepingFiles.{NextOn, file_step}
 use Rattle.store_core.proofs.KeepingSegments.{stays_settled}
 use Rattle.store_machine.specs.Asked.{Asked}
-use Rattle.store_machine.specs.Asked as asked
 use Rattle.store_machine.specs.ByMap.{FileMachine}
 use Rattle.store_machine.specs.Done.{Done}
-use Rattle.store_machine.specs.Done as done
-use Rattle.store_machine.specs.Legal.{Answers, ByState, Does, LegalBy, Refuses, RefusesClaim, RefusesCommit, RefusesDelete, RefusesOn, RefusesSeal}
+use Rattle.store_machine.specs.Legal.{Answers, ByState, LegalBy, Refuses, RefusesClaim, RefusesCommit, RefusesDelete, RefusesOn, RefusesSeal}
 use Rattle.store_machine.specs.Machine.{Collection, RunState, Running, keeping}
 use Rattle.store_machine.specs.Remembering.{RootMachine}
 use Rattle.store_machine.specs.Values.{of_files}
-use Rattle.core_machine.specs.Files.{IsOfFile, file_step as file_stepped, stored_in}
+use Rattle.core_machine.specs.Files.{IsOfFile, stored_in}
 use Rattle.core_machine.specs.Refines.{answered_by, asked_as}
 use Rattle.core_machine.proofs.FileSteps.{StepsAt, StepsTo}
 use Rattle.core_machine.proofs.FileWritten.{KeepsWritten, keeping_written, none_written, same_written}

@@ -200,7 +200,8 @@ module _ (among : ByteSet) (m : FileMachine) (old : DiskView) (image : List ℕ)
     abbrev stopped : FileMachine
     stopped = record m { state = freeing of_files stores m.state }
 
-    may_stand : (left : List ℕ) (s : Store) → OpensAs In (stored_in stand.found) left → Encodes left s → Stands of_files (freeing of_files stores m.state) m.store s → MayStand In stopped left
+    may_stand : (left : List ℕ) (s : Store) → OpensAs In (stored_in stand.found) left → Encodes left s
+        → Stands of_files (freeing of_files stores m.state) m.store s → MayStand In stopped left
     may_stand left s opens right stands = record {
       found = stand.found;
       may = found_still stores m.state m.now stand.found stand.may;
@@ -307,7 +308,8 @@ module _ (D : Type 0) (view : D → DiskView) (C : Type 0) (state : C → CoreSt
   Made = (n : FileMachine) × (Reopens actor (Ok (done.Reopened (finite.len (state new).tables.names))) m n × IsFileMachine (IsIn among) n (state new))
 
   -- the store was read of a disk whose content was of the files
-  made_by : (old : DiskView) (read : IsReadFrom old (state new)) (content : List ℕ) (content_is : old.content ≡ Some content) (is : IsOf (IsIn among) (stored_in stand.found) content)
+  made_by : (old : DiskView) (read : IsReadFrom old (state new)) (content : List ℕ) (content_is : old.content ≡ Some content)
+      (is : IsOf (IsIn among) (stored_in stand.found) content)
       → (t : RootMachine) (machine : IsMachine true t (state new)) (may : Opens of_roots (finite.len (state new).tables.names) t t) (store_is : t.store ≡ read.opened.store)
       → (freed : List ℕ) → FreesTo (NamesNeed of_files stand.found) freed stand.store t.store → Made
   made_by old read content content_is is t machine may store_is freed frees =
@@ -325,7 +327,8 @@ module _ (D : Type 0) (view : D → DiskView) (C : Type 0) (state : C → CoreSt
       let same : t.store ≡ stand.store =
       store_is ∙ read_once (view before) (state new).disk image read.opened.store stand.store read.opened.right told stand.is.holds.right in
       let reserve : RESERVE ≤ free_slots stand.store.held = subst (λ (s : Store). RESERVE ≤ free_slots s.held) same may.reserve in
-      made_by (view before) read image told (record { store = stand.store; stands = stand.is; reserve = reserve; last_is = stand.last_is }) t machine may store_is [] (same, inl reserve)
+      let is : IsOf (IsIn among) (stored_in stand.found) image = record { store = stand.store; stands = stand.is; reserve = reserve; last_is = stand.last_is } in
+      made_by (view before) read image told is t machine may store_is [] (same, inl reserve)
   by_way t machine may (inr (mid, (made, read))) store_is =
       let after : t.store ≡ made.after =
       store_is ∙ read_once (view mid) (state new).disk (now among m (view before) image told stand (view mid) made) read.opened.store made.after read.opened.right
@@ -353,11 +356,13 @@ module _ (S : List ℕ → Type 0) (stores : List Store) (n : FileMachine) (c : 
   fits_stopped Running stands = stands
   fits_stopped (Stopped other before) stands = stands
 
-module _ (C : Type 0) (state : C → CoreState) (among : ByteSet) (actor : ℕ) (refusal : Refusal) (old new : C) (m : FileMachine) (at : IsFileMachine (IsIn among) m (state old)) where
+module _ (C : Type 0) (state : C → CoreState) (among : ByteSet) (actor : ℕ) (refusal : Refusal) (old new : C) (m : FileMachine)
+    (at : IsFileMachine (IsIn among) m (state old)) where
   abbrev disk_in : C → DiskView
   disk_in c = (state c).disk
 
-  module _ (none : OpensNone C disk_in refusal (state old).disk (state new).disk) (image : List ℕ) (told : (state old).disk.content ≡ Some image) (stand : MayStand (IsIn among) m image) where
+  module _ (none : OpensNone C disk_in refusal (state old).disk (state new).disk) (image : List ℕ) (told : (state old).disk.content ≡ Some image)
+      (stand : MayStand (IsIn among) m image) where
     fits_kept : (kept : IsKept (state old) (state new)) → OnlyReads (state old).disk (state new).disk → (s : RunState (List ℕ)) → FitsBy s (IsIn among) m (state old)
         → FitsBy s (IsIn among) m (state new)
     fits_kept kept reads Running fits = still_at_files (state old) (state new) reads kept.tables_are kept.index_is kept.parts_are kept.collection_is (IsIn among) m fits
@@ -406,5 +411,6 @@ pub files_reopened_not : (C : Type 0) (state : C → CoreState) → FilesReopene
 files_reopened_not C state among actor refusal old new m distinct at none leaves =
     let stands = disk_stands (IsIn among) m (state old) at in
     let (image, told, stand) = stands.content in
-    let (t, (legal_roots, machine, left)) = unopened_refines C (disk_in C state among actor refusal old new m at) C state true actor refusal old new at.roots at.machine none leaves in
+    let disk = disk_in C state among actor refusal old new m at in
+    let (t, (legal_roots, machine, left)) = unopened_refines C disk C state true actor refusal old new at.roots at.machine none leaves in
     kept_or_stopped C state among actor refusal old new m at none image told stand t machine leaves left

@@ -9,7 +9,6 @@ use Rattle.gc_steps.specs.declared.collection.Collection.{Collection as CoreColl
 use Rattle.refusals.specs.declared.refusal.Refusal.{Refusal}
 use Rattle.refusals.specs.declared.refusal.Refusal.TheVariants as refusals
 use Rattle.store_model.specs.Collisions.{ByteSet}
-use Rattle.store_model.specs.Image.{Store}
 use Rattle.store_state.specs.declared.slot_table.SlotTable.{SlotTable}
 use Rattle.store_core.specs.Collecting.{Collects, MarksIn, StartRow}
 use Rattle.store_core.specs.Core.{Row, Steps}

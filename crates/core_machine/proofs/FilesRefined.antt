@@ -1,5 +1,5 @@
 -- Each step of a core that stands for files is one of the machine of files.
-use Rattle.std.proofs.Common.{◌≡◌, ◌⊎◌, inl, inr, ℕ, List, [], ◌∷◌, Bool, true, Option, Some, None, Result, Ok, Err, IfErr, refl, sym, ◌∙◌, ap, subst}
+use Rattle.std.proofs.Common.{◌≡◌, ◌⊎◌, inl, inr, ℕ, List, [], ◌∷◌, true, Option, Some, None, Result, Ok, Err, IfErr, refl, sym, ◌∙◌, ap, subst}
 use Rattle.base_model.specs.Known.{KnownWith}
 use Rattle.disk_format.specs.Cells.{Root}
 use Rattle.actor_parts.specs.declared.step.Answer.{Answer}
@@ -12,7 +12,6 @@ use Rattle.refusals.specs.declared.refusal.Refusal.{Refusal}
 use Rattle.refusals.specs.declared.refusal.Refusal.TheVariants as refusals
 use Rattle.store_model.specs.Collisions.{ByteSet, HasNoCollisions, IsIn}
 use Rattle.store_model.specs.Image.{Store}
-use Rattle.store_model.specs.Trees.{root_of}
 use Rattle.store_state.specs.Settled.{IsSettled}
 use Rattle.store_core.specs.declared.stop.Stop.{Stop}
 use Rattle.store_core.specs.Core.{AnswersStopped, Row, Steps, StepsOr}
@@ -35,6 +34,7 @@ use Rattle.store_machine.proofs.Remembered.{steps_are_remembered}
 use Rattle.core_machine.specs.Files.{FileRunsRefine, FilesRefine, FitsBy, IsAtFiles, IsFileMachine, IsOfFile, file_step, stored_in}
 use Rattle.core_machine.specs.Refines.{Follows, FollowsPhase, HasIndex, IsMachine, SameStop, TellsForgotten, answered_by, asked_as, asked_by}
 use Rattle.core_machine.specs.Sweeping.{NamesStep}
+use Rattle.core_machine.proofs.FileBroken.{broken}
 use Rattle.core_machine.proofs.FileGc.{gc_adds}
 use Rattle.core_machine.proofs.FileIngests.{claim_adds, commit_adds, seal_adds}
 use Rattle.core_machine.proofs.FileKept.{at_store, by_step, settled}
@@ -262,15 +262,21 @@ module _ (C : Type 0) (state : C → CoreState) (among : ByteSet) (f : FileEvent
     fits None none (Stopped other stores) (Stopped found others) state_is same fit = absurd fit
     fits (Some stop) stopped Running Running state_is same fit = absurd fit
     fits (Some stop) stopped Running (Stopped found others) state_is same fit = absurd same
-    fits (Some stop) stopped (Stopped other stores) b state_is same fit = ?
+    fits (Some stop) stopped (Stopped other stores) b state_is same fit = broken to stop stopped
 
     running : End
-    running = (left.0, (left.1.0, record {
-      roots = root.0;
-      forgets = left.1.1;
-      machine = root.1.1;
-      fits = fits (state new).stop refl left.0.state root.0.state refl left.1.1.state root.1.1.state;
-    }))
+    running = (
+      left.0,
+      (
+        left.1.0,
+        record {
+          roots = root.0;
+          forgets = left.1.1;
+          machine = root.1.1;
+          fits = fits (state new).stop refl left.0.state root.0.state refl left.1.1.state root.1.1.state;
+        },
+      ),
+    )
 
   module _ (other : Option (Found (List ℕ))) (stores : List Store) (state_is : m.state ≡ Stopped other stores) (stop : Stop) (stopped : (state old).stop ≡ Some stop) where
     said : AnswersStopped stop.at f.event (state old) (state new)
@@ -290,15 +296,21 @@ module _ (C : Type 0) (state : C → CoreState) (among : ByteSet) (f : FileEvent
         (by_step m stopped_left.0 f.event.actor f.bytes f.event.buf m.store f.event.step (answered_by f.event.answer f.event.buf) stopped_left.1.0)).1
 
     still : End
-    still = (stopped_left.0, (stopped_left.1.0, record {
-      roots = stopped_root.0;
-      forgets = stopped_left.1.1;
-      machine = stopped_root.1.1;
-      fits = subst (λ (n : FileMachine). FitsBy n.state (IsIn among) n (state new)) (sym same)
-          (subst (λ (s : RunState (List ℕ)). FitsBy s (IsIn among) m (state new)) (sym state_is)
-          (stands_read (IsIn among) m (state old).disk (state new).disk said.same.disk.only
-          (subst (λ (s : RunState (List ℕ)). FitsBy s (IsIn among) m (state old)) state_is is.fits)));
-    }))
+    still = (
+      stopped_left.0,
+      (
+        stopped_left.1.0,
+        record {
+          roots = stopped_root.0;
+          forgets = stopped_left.1.1;
+          machine = stopped_root.1.1;
+          fits = subst (λ (n : FileMachine). FitsBy n.state (IsIn among) n (state new)) (sym same)
+              (subst (λ (s : RunState (List ℕ)). FitsBy s (IsIn among) m (state new)) (sym state_is)
+              (stands_read (IsIn among) m (state old).disk (state new).disk said.same.disk.only
+              (subst (λ (s : RunState (List ℕ)). FitsBy s (IsIn among) m (state old)) state_is is.fits)));
+        },
+      ),
+    )
 
   by : (a : RunState (List ℕ)) (b : RunState Root) (stop : Option Stop) → m.state ≡ a → SameState a b → SameStop is.roots.acknowledged b stop → (state old).stop ≡ stop → End
   by Running Running None runs same fit goes = running runs goes

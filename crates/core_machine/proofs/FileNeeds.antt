@@ -1,12 +1,9 @@
 -- What the files of a machine need, its actors and its collection, the index of a core that is at them has.
-use Rattle.std.proofs.Common.{◌≡◌, inl, inr, ℕ, suc, Bool, true, false, cond, List, [], ◌∷◌, map, Contains, Option, Some, None, Ordering, Less, Equal, Greater, T, refl, sym, ◌∙◌, ap, subst}
-use Rattle.std.specs.Prelude.{◌&&◌, slice_index_or}
-use Rattle.std.specs.Ordering.{eq_by_cmp, is_eq, is_lt}
+use Rattle.std.proofs.Common.{◌≡◌, inl, inr, ℕ, suc, List, [], ◌∷◌, Contains, Option, refl, sym, ◌∙◌, subst}
+use Rattle.std.specs.Prelude.{slice_index_or}
 use Rattle.std.specs.FinMap as finite
-use Rattle.std.specs.FinMap.Entries.{below_all, find, is_sorted}
 use Rattle.std.specs.List.{AllByRecursion}
 use Rattle.std.proofs.lemmas.List.Elements.{Contains-append_cases}
-use Rattle.std.proofs.lemmas.Slice.Eq.{bytes_eq-Decides}
 use Rattle.container_meta.specs.Places.{PlaceMap}
 use Rattle.container_meta.specs.Spelling.{HeaderValue}
 use Rattle.actor_parts.specs.declared.part.Part as core_part
@@ -17,66 +14,17 @@ use Rattle.actor_parts.specs.PinMap.{PinMap}
 use Rattle.disk_format.specs.Cells.{Root}
 use Rattle.merkle_file.specs.declared.top.Top.{Top}
 use Rattle.gc_steps.proofs.Marked.{keys_there}
-use Rattle.store_model.specs.Reserve.{IsReachable, tree_keys}
+use Rattle.store_model.specs.Reserve.{tree_keys}
 use Rattle.store_model.specs.Slots.{HasKey}
 use Rattle.store_model.specs.Trees.{file_tree}
-use Rattle.store_model.proofs.Indexing.{tied}
 use Rattle.store_state.specs.Invariant.{HoldsPart, IndexesFiles}
 use Rattle.store_machine.specs.Forgetting as forgetting
-use Rattle.store_machine.specs.Machine.{Found, Machine, Part, Idle, Writing, Reading}
-use Rattle.store_machine.specs.Needs.{CollectionNeeds, IsNeeded, NamesNeed, keys_kept, values_read}
+use Rattle.store_machine.specs.Machine.{Machine, Part, Idle, Writing, Reading}
+use Rattle.store_machine.specs.Needs.{CollectionNeeds, IsNeeded, keys_kept, values_read}
 use Rattle.store_machine.specs.Values.{of_files}
-use Rattle.store_machine.proofs.SameNames.{order}
 use Rattle.store_machine.proofs.Swept.{in_cases, none_in}
 use Rattle.core_machine.specs.Refines as refines
-
--- ---- a value that names have is that of one of them
-
-not_equal : (o : Ordering) → T (is_lt o) → is_eq o ≡ false
-not_equal Less less = refl
-not_equal Equal less = absurd less
-not_equal Greater less = absurd less
-
-both_of : (a b : Bool) → T (a && b) → T a × T b
-both_of true b is = (tt, is)
-both_of false b is = absurd is
-
-module _ {X : Type 0} where
-  -- a key below all others is none of them
-  none_below : (key : List ℕ) (es : List (List ℕ × X)) → T (below_all order key es) → find order key es ≡ None
-  none_below key [] below = refl
-  none_below key (e ∷ es) below =
-      let parts = both_of (is_lt (order key e.0)) (below_all order key es) below in
-      ap (λ (b : Bool). cond b (Some e.1) (find order key es)) (not_equal (order key e.0) parts.0) ∙ none_below key es parts.1
-
-  value_found : (es : List (List ℕ × X)) → T (is_sorted order es) → (value : X) → Contains (map (λ (e : List ℕ × X). e.1) es) value
-      → (name : List ℕ) × (find order name es ≡ Some value)
-  value_found [] sorted value is = absurd (none_in value is)
-  value_found (e ∷ es) sorted value is = elim (in_cases e.1 (map (λ (x : List ℕ × X). x.1) es) value is) [
-    | inl same ↦ (e.0, ap (λ (b : Bool). cond b (Some e.1) (find order e.0 es)) (tied e.0 e.0 ∙ (bytes_eq-Decides e.0 e.0).1 refl) ∙ ap Some same)
-    | inr later ↦ (
-        let parts = both_of (below_all order e.0 es) (is_sorted order es) sorted in
-        let rest = value_found es parts.1 value later in
-        (rest.0, by_test rest.0 rest.1 parts.0 (eq_by_cmp order rest.0 e.0) refl)
-        )
-  ]
-    where
-      by_test : (name : List ℕ) → find order name es ≡ Some value → T (below_all order e.0 es) → (b : Bool) → eq_by_cmp order name e.0 ≡ b
-          → cond b (Some e.1) (find order name es) ≡ Some value
-      by_test name found below false is = found
-      by_test name found below true is =
-          let same : e.0 ≡ name = (bytes_eq-Decides e.0 name).0 (sym (tied name e.0) ∙ is) in
-          let none : find order name es ≡ None = ap (λ (k : List ℕ). find order k es) (sym same) ∙ none_below e.0 es below in
-          absurd (let wrong : Some value ≡ None = sym found ∙ none in cc)
-
-  pub of_name : (names : finite.FinMap order X) (value : X) → Contains (finite.values names) value → (name : List ℕ) × (finite.get names name ≡ Some value)
-  of_name names value is =
-      let found = value_found (finite.entries names) (finite.entries_sorted names) value is in
-      (found.0, finite.get-entries names found.0 ∙ found.1)
-
--- so what names need the files do
-pub names_reach : (now : Found (List ℕ)) (key : List ℕ) → NamesNeed of_files now key → IsReachable now.names key
-names_reach now key needs = let name = of_name now.names needs.0 needs.1.0 in (name.0, (needs.0, (name.1, needs.1.1)))
+use Rattle.core_machine.proofs.FileNames.{needs_reach}
 
 -- ---- the parts of actors
 
@@ -182,7 +130,7 @@ IsIndexedFile index file = (key : List ℕ) → Contains (tree_keys (file_tree f
 pub needed_has : (index : PlaceMap) (held : List (Option HeaderValue)) (image : List ℕ) (m : Machine (List ℕ) (List (List ℕ))) (qs : List core_part.Part)
     → IndexesFiles index m.now.names → AllFit m.parts qs → AllByRecursion (HoldsPart (HasKey index) held image) qs → ReadsSo (IsIndexedFile index) m.parts qs
     → ((key : List ℕ) → CollectionNeeds of_files m.collection key → HasKey index key) → (key : List ℕ) → IsNeeded of_files m key → HasKey index key
-needed_has index held image m qs files fit holds reads since key (inl names) = files key (names_reach m.now key names)
+needed_has index held image m qs files fit holds reads since key (inl names) = files key (needs_reach m.now key names)
 needed_has index held image m qs files fit holds reads since key (inr (inl (inl kept))) = kept_has index held image m.parts qs fit holds key kept
 needed_has index held image m qs files fit holds reads since key (inr (inl (inr read))) = read_so (IsIndexedFile index) m.parts qs fit reads read.0 read.1.0 key read.1.1
 needed_has index held image m qs files fit holds reads since key (inr (inr needed)) = since key needed

@@ -46,7 +46,8 @@ use Rattle.core_machine.specs.Files.{stored_in}
 use Rattle.core_machine.specs.Refines.{TellsForgotten, answered_by}
 
 -- the first difference, of bytes of one length
-first_differ : (place mine other : ℕ) (offered held : List ℕ) → length offered ≡ length held → FirstDifference offered held place mine other → DifferBy (Byte place mine other) offered held
+first_differ : (place mine other : ℕ) (offered held : List ℕ) → length offered ≡ length held → FirstDifference offered held place mine other
+    → DifferBy (Byte place mine other) offered held
 unfolding range
 first_differ place mine other offered held long first = (long, first.within, first.same, sym first.offered_is, sym first.held_is, first.differ)
 
@@ -62,7 +63,8 @@ all_first P (suc count) (x ∷ xs) all = (all.0, all_first P count xs all.1)
 
 -- ---- what the index has and lacks of a store
 
-module _ (S : List ℕ → Type 0) (store : Store) (stored : Stored) (old new : CoreState) (at : IsAt S store stored old) (forgotten : List (List ℕ)) (tells : TellsForgotten forgotten store.held at.index)
+module _ (S : List ℕ → Type 0) (store : Store) (stored : Stored) (old new : CoreState) (at : IsAt S store stored old) (forgotten : List (List ℕ))
+    (tells : TellsForgotten forgotten store.held at.index)
     (image : List ℕ) (content_is : old.disk.content ≡ Some image) where
   stands : Stands S store stored.files image
   stands = at.stands.each image (old.disk.as_read image content_is)
@@ -105,13 +107,16 @@ module _ (S : List ℕ → Type 0) (store : Store) (stored : Stored) (old new : 
           let copy = copy_of (segment_key kind x) place is in
           inr (has_copy kind x copy.0 right copy.1 (fits copy.0 (place, is) copy.1))
 
-  all_fit : (kind : Kind) (xs : List Segment) → AllByRecursion (IsOfKind kind) xs → AllByRecursion (FitsHeld (HasKey at.index) kind store image) xs → AllByRecursion (Fits store forgotten kind) xs
+  all_fit : (kind : Kind) (xs : List Segment) → AllByRecursion (IsOfKind kind) xs → AllByRecursion (FitsHeld (HasKey at.index) kind store image) xs
+      → AllByRecursion (Fits store forgotten kind) xs
   all_fit kind [] right fits = tt
   all_fit kind (x ∷ xs) right fits = (fits_one kind x right.0 fits.0, all_fit kind xs right.1 fits.1)
 
-  compared_fit : (kind : Kind) (xs : List Segment) (hads : List (Option Place)) → AllByRecursion (IsOfKind kind) xs → FitSoFar old.disk.size old.known (Shows old.disk new.disk) kind xs hads → AllByRecursion (Fits store forgotten kind) xs
+  compared_fit : (kind : Kind) (xs : List Segment) (hads : List (Option Place)) → AllByRecursion (IsOfKind kind) xs
+      → FitSoFar old.disk.size old.known (Shows old.disk new.disk) kind xs hads → AllByRecursion (Fits store forgotten kind) xs
   compared_fit kind xs hads right so_far =
-      all_fit kind xs right (shown_content old.disk new.disk _ image (held_all old.disk.size old.known old.disk new.disk kind xs hads so_far) content_is store at.index at.index_known partial)
+      all_fit kind xs right
+      (shown_content old.disk new.disk _ image (held_all old.disk.size old.known old.disk new.disk kind xs hads so_far) content_is store at.index at.index_known partial)
 
   -- ---- a clash
 
@@ -162,7 +167,8 @@ module _ (S : List ℕ → Type 0) (store : Store) (stored : Stored) (old new : 
 
 -- ---- the steps
 
-module _ (S : List ℕ → Type 0) (m : FileMachine) (t : RootMachine) (old new : CoreState) (at : IsAt S m.store (stored_in m.now) old) (tells : TellsForgotten m.forgotten m.store.held at.index)
+module _ (S : List ℕ → Type 0) (m : FileMachine) (t : RootMachine) (old new : CoreState) (at : IsAt S m.store (stored_in m.now) old)
+    (tells : TellsForgotten m.forgotten m.store.held at.index)
     (a : ℕ) (buf : List ℕ) where
   abbrev image : List ℕ
   image = at.stands.known.0
@@ -223,7 +229,8 @@ module _ (S : List ℕ → Type 0) (m : FileMachine) (t : RootMachine) (old new 
         ((copy.0, copy.1), remembered S m.store (stored_in m.now) old new at m.forgotten tells image content_is key place.0 place.1),
   )
 
-  pub commit_adds : (name file : List ℕ) (root : Root) (answer : Result Answer Refusal) → length file ≤ MOST_FILE → IsRightCommit answer root file old → CommitRow name root a answer old new
+  pub commit_adds : (name file : List ℕ) (root : Root) (answer : Result Answer Refusal) → length file ≤ MOST_FILE → IsRightCommit answer root file old
+      → CommitRow name root a answer old new
       → AddsToAnswer a (asked.Commit name file) (answered_by answer buf) m t
   commit_adds name file root (Ok (answers.Committed sequence)) few right row = whole root file few right
   commit_adds name file root (Ok answer) few right row = absurd row

@@ -40,7 +40,8 @@ stays_but : (m n k : FileMachine) → n ≡ k → stored_in k.now ≡ stored_in 
 stays_but m n k is now store written = subst (Stays m) (sym is) (record { now = now; store = store; written = written })
 
 -- it may keep keys more
-stays_keeping : (m n k : FileMachine) (keys : List (List ℕ)) → n ≡ k → stored_in k.now ≡ stored_in m.now → k.store ≡ m.store → k.collection ≡ keeping keys m.collection → Stays m n
+stays_keeping : (m n k : FileMachine) (keys : List (List ℕ)) → n ≡ k → stored_in k.now ≡ stored_in m.now → k.store ≡ m.store → k.collection ≡ keeping keys m.collection
+    → Stays m n
 stays_keeping m n k keys is now store collection = stays_but m n k is now store (keeping_written keys m k collection)
 
 -- or begin one that has written nothing
@@ -115,7 +116,8 @@ on_stays m n a bytes steps.Abort refusal other is = absurd is
 on_stays m n a bytes steps.EndRead refusal other is = absurd is
 on_stays m n a bytes steps.Stat refusal other is = absurd is
 
-refused_stays : (m n : FileMachine) (a : ℕ) (bytes : List ℕ) (step : StepValue) (refusal : Refusal) → IsNoGcStep step → Refuses of_files a (ask bytes step) refusal m n → Stays m n
+refused_stays : (m n : FileMachine) (a : ℕ) (bytes : List ℕ) (step : StepValue) (refusal : Refusal) → IsNoGcStep step → Refuses of_files a (ask bytes step) refusal m n
+    → Stays m n
 refused_stays m n a bytes step (refusals.WrongPart kind) other is = same m n is.1
 refused_stays m n a bytes step refusals.Memory other is = on_stays m n a bytes step refusals.Memory other is
 refused_stays m n a bytes step refusal other is = on_stays m n a bytes step refusal other is.1
@@ -133,44 +135,65 @@ module _ (m n : FileMachine) (a : ℕ) (bytes buf : List ℕ) (t : Store) where
   abbrev Goes : StepValue → Result Answer Refusal → Type 0
   Goes step answer = ChangesTo (changes_by step answer) m.store t → Comes step answer bytes m n t
 
-  stayed : (step : StepValue) (answer : Result Answer Refusal) → changes_by step answer ≡ [] → stored_with step answer bytes (stored_in m.now) ≡ stored_in m.now → Stays m n → Goes step answer
+  stayed : (step : StepValue) (answer : Result Answer Refusal) → changes_by step answer ≡ [] → stored_with step answer bytes (stored_in m.now) ≡ stored_in m.now → Stays m n
+      → Goes step answer
   stayed step answer none unchanged stays chain = record {
     store = subst (λ (c : List _). ChangesTo c m.store t) none chain ∙ sym stays.store;
     now = unchanged ∙ sym stays.now;
     written = stays.written;
   }
 
-  does : (step : StepValue) (answer : Answer) → IsNoGcStep step → IsOfFile step bytes → Answers of_files a (ask bytes step) (answered_by (Ok answer) buf) m n → Goes step (Ok answer)
+  does : (step : StepValue) (answer : Answer) → IsNoGcStep step → IsOfFile step bytes → Answers of_files a (ask bytes step) (answered_by (Ok answer) buf) m n
+      → Goes step (Ok answer)
   does steps.Begin answers.Begun other of is chain = stayed steps.Begin (Ok answers.Begun) refl refl (stays_of m n _ is.1 refl refl refl) chain
   does steps.Begin answer other of is chain = absurd is
-  does (steps.Claim seg) answers.Held other of is chain = stayed (steps.Claim seg) (Ok answers.Held) refl refl (stays_keeping m n _ (segment_key seg.kind seg.segment ∷ []) is.others refl refl refl) chain
+  does (steps.Claim seg) answers.Held other of is chain =
+      stayed (steps.Claim seg) (Ok answers.Held) refl refl (stays_keeping m n _ (segment_key seg.kind seg.segment ∷ []) is.others refl refl refl) chain
   does (steps.Claim seg) answers.Absent other of is chain = stayed (steps.Claim seg) (Ok answers.Absent) refl refl (same m n is.2) chain
   does (steps.Claim seg) answer other of is chain = absurd is
-  does (steps.Seal filled) (answers.Sealed id) other of is chain = record { store = chain.1 ∙ sym (ap (λ (x : FileMachine). x.store) is.others); now = sym (ap (λ (x : FileMachine). stored_in x.now) is.others); written = keeping_written (keys_of filled.kind filled.segments) m n (ap (λ (x : FileMachine). x.collection) is.others) }
+  does (steps.Seal filled) (answers.Sealed id) other of is chain =
+      record {
+        store = chain.1
+            ∙ sym (ap (λ (x : FileMachine). x.store) is.others);
+        now = sym (ap (λ (x : FileMachine). stored_in x.now) is.others);
+        written =
+            keeping_written (keys_of filled.kind filled.segments) m n (ap (λ (x : FileMachine). x.collection) is.others);
+      }
   does (steps.Seal filled) answer other of is chain = absurd is
   does (steps.Commit name root) (answers.Committed sequence) other of is chain = record {
-    store = (subst (λ (r : Root). ChangesTo (changes_by (steps.Commit name r) (Ok (answers.Committed sequence))) m.store t) of.0 chain).1 ∙ sym (ap (λ (x : FileMachine). x.store) is.others);
+    store = (subst (λ (r : Root). ChangesTo (changes_by (steps.Commit name r) (Ok (answers.Committed sequence))) m.store t) of.0 chain).1
+        ∙ sym (ap (λ (x : FileMachine). x.store) is.others);
     now = sym (ap (λ (x : FileMachine). stored_in x.now) is.others);
     written = same_written m n (ap (λ (x : FileMachine). x.collection) is.others);
   }
   does (steps.Commit name root) answer other of is chain = absurd is
   does steps.Abort answers.Aborted other of is chain = stayed steps.Abort (Ok answers.Aborted) refl refl (stays_of m n _ is.1 refl refl refl) chain
   does steps.Abort answer other of is chain = absurd is
-  does (steps.OpenRead name) (answers.Opened count) other of is chain = stayed (steps.OpenRead name) (Ok (answers.Opened count)) refl refl (stays_of m n _ is.2.5 refl refl refl) chain
+  does (steps.OpenRead name) (answers.Opened count) other of is chain =
+      stayed (steps.OpenRead name) (Ok (answers.Opened count)) refl refl (stays_of m n _ is.2.5 refl refl refl) chain
   does (steps.OpenRead name) answer other of is chain = absurd is
   does steps.ReadNext (answers.Bytes count) other of is chain = stayed steps.ReadNext (Ok (answers.Bytes count)) refl refl (stays_of m n _ is.5 refl refl refl) chain
   does steps.ReadNext answers.End other of is chain = stayed steps.ReadNext (Ok answers.End) refl refl (same m n is.4) chain
   does steps.ReadNext answer other of is chain = absurd is
   does steps.EndRead answers.Dropped other of is chain = stayed steps.EndRead (Ok answers.Dropped) refl refl (stays_of m n _ is.1 refl refl refl) chain
   does steps.EndRead answer other of is chain = absurd is
-  does (steps.Delete name) (answers.Deleted sequence) other of is chain = record { store = chain.1 ∙ sym (ap (λ (x : FileMachine). x.store) is.others); now = sym (ap (λ (x : FileMachine). stored_in x.now) is.others); written = same_written m n (ap (λ (x : FileMachine). x.collection) is.others) }
+  does (steps.Delete name) (answers.Deleted sequence) other of is chain =
+      record {
+        store = chain.1
+            ∙ sym (ap (λ (x : FileMachine). x.store) is.others);
+        now = sym (ap (λ (x : FileMachine). stored_in x.now) is.others);
+        written =
+            same_written m n (ap (λ (x : FileMachine). x.collection) is.others);
+      }
   does (steps.Delete name) answer other of is chain = absurd is
   does steps.ListNames (answers.Listed files) other of is chain = stayed steps.ListNames (Ok (answers.Listed files)) refl refl (same m n is.1) chain
   does steps.ListNames answer other of is chain = absurd is
-  does (steps.GcStart percent) (answers.Started snapshot) other of is chain = stayed (steps.GcStart percent) (Ok (answers.Started snapshot)) refl refl (stays_begun m n _ _ is.2 refl refl refl refl) chain
+  does (steps.GcStart percent) (answers.Started snapshot) other of is chain =
+      stayed (steps.GcStart percent) (Ok (answers.Started snapshot)) refl refl (stays_begun m n _ _ is.2 refl refl refl refl) chain
   does (steps.GcStart percent) answer other of is chain = absurd is
   does steps.GcStep answer other of is chain = absurd other
-  does steps.Stat (answers.Stat files segments bytes used free) other of is chain = stayed steps.Stat (Ok (answers.Stat files segments bytes used free)) refl refl (same m n is.1) chain
+  does steps.Stat (answers.Stat files segments bytes used free) other of is chain =
+      stayed steps.Stat (Ok (answers.Stat files segments bytes used free)) refl refl (same m n is.1) chain
   does steps.Stat answer other of is chain = absurd is
 
   none_by : (step : StepValue) (refusal : Refusal) → changes_by step (Err refusal) ≡ []
@@ -184,9 +207,11 @@ module _ (m n : FileMachine) (a : ℕ) (bytes buf : List ℕ) (t : Store) where
   none_stored (steps.Delete name) refusal stored = refl
   none_stored step refusal stored = refl
 
-  answers_so : (step : StepValue) (answer : Result Answer Refusal) → IsNoGcStep step → IsOfFile step bytes → Answers of_files a (ask bytes step) (answered_by answer buf) m n → Goes step answer
+  answers_so : (step : StepValue) (answer : Result Answer Refusal) → IsNoGcStep step → IsOfFile step bytes → Answers of_files a (ask bytes step) (answered_by answer buf) m n
+      → Goes step answer
   answers_so step (Ok answer) other of is = does step answer other of is
-  answers_so step (Err refusal) other of is = stayed step (Err refusal) (none_by step refusal) (none_stored step refusal (stored_in m.now)) (refused_stays m n a bytes step refusal other is)
+  answers_so step (Err refusal) other of is =
+      stayed step (Err refusal) (none_by step refusal) (none_stored step refusal (stored_in m.now)) (refused_stays m n a bytes step refusal other is)
 
   -- no step is an opening
   pub by_step : (step : StepValue) (told : Result Done Refusal) → LegalBy of_files (ask bytes step) a told m n → ByState of_files m.state a (ask bytes step) told m n
@@ -205,12 +230,14 @@ module _ (m n : FileMachine) (a : ℕ) (bytes buf : List ℕ) (t : Store) where
   by_step steps.Stat told by = by
 
   -- a machine that runs answers so
-  pub answers_by : m.state ≡ Running → (step : StepValue) (told : Result Done Refusal) → LegalBy of_files (ask bytes step) a told m n → Answers of_files a (ask bytes step) told m n
+  pub answers_by : m.state ≡ Running → (step : StepValue) (told : Result Done Refusal) → LegalBy of_files (ask bytes step) a told m n
+      → Answers of_files a (ask bytes step) told m n
   answers_by runs step told legal = subst (λ (s : RunState (List ℕ)). ByState of_files s a (ask bytes step) told m n) runs (by_step step told legal)
 
 -- ---- the core is at them
 
-module _ {C : Type 0} {state : C → CoreState} {among : ByteSet} {f : FileEvent} {old new : C} {m n : FileMachine} {r t : RootMachine} (to : StepsTo C state among f old new m n r t)
+module _ {C : Type 0} {state : C → CoreState} {among : ByteSet} {f : FileEvent} {old new : C} {m n : FileMachine} {r t : RootMachine}
+    (to : StepsTo C state among f old new m n r t)
     (other : IsNoGcStep f.event.step) (stays : (state new).stop ≡ None) where
   abbrev at : StepsAt C state among f old new m r t
   at = to.steps

@@ -101,7 +101,8 @@ AddsNothing steps.ListNames = Unit {0}
 AddsNothing steps.Stat = Unit {0}
 AddsNothing step = ⊥
 
-none_added : (step : StepValue) (bytes : List ℕ) (a : ℕ) (told : Result Done Refusal) (m : FileMachine) (r t : RootMachine) → AddsNothing step → AddsBy (asked_as (λ root. bytes) step) a told m r t
+none_added : (step : StepValue) (bytes : List ℕ) (a : ℕ) (told : Result Done Refusal) (m : FileMachine) (r t : RootMachine) → AddsNothing step
+    → AddsBy (asked_as (λ root. bytes) step) a told m r t
 none_added steps.Begin bytes a (Ok answer) m r t none = tt
 none_added steps.Begin bytes a (Err refusal) m r t none = tt
 none_added steps.Abort bytes a (Ok answer) m r t none = tt
@@ -136,7 +137,8 @@ stopped_added steps.Stat bytes a at m r t = tt
 
 -- ---- one that runs
 
-module _ {C : Type 0} {state : C → CoreState} {among : ByteSet} {f : FileEvent} {old new : C} {m : FileMachine} {r t : RootMachine} (s : StepsAt C state among f old new m r t) where
+module _ {C : Type 0} {state : C → CoreState} {among : ByteSet} {f : FileEvent} {old new : C} {m : FileMachine} {r t : RootMachine}
+    (s : StepsAt C state among f old new m r t) where
   abbrev event : Event
   event = f.event
 
@@ -182,7 +184,8 @@ module _ {C : Type 0} {state : C → CoreState} {among : ByteSet} {f : FileEvent
   adds = adds_by f.event.step refl s.step.asked s.step.given s.of_file made.made.row harmless
 
 -- and goes on
-module _ {C : Type 0} {state : C → CoreState} {among : ByteSet} {f : FileEvent} {old new : C} {m n : FileMachine} {r t : RootMachine} (to : StepsTo C state among f old new m n r t)
+module _ {C : Type 0} {state : C → CoreState} {among : ByteSet} {f : FileEvent} {old new : C} {m n : FileMachine} {r t : RootMachine}
+    (to : StepsTo C state among f old new m n r t)
     (stays : (state new).stop ≡ None) where
   is_at : IsAt (IsIn among) n.store (stored_in n.now) (state new)
   is_at = elim (by_gc f.event.step) [
@@ -207,7 +210,8 @@ module _ {C : Type 0} {state : C → CoreState} {among : ByteSet} {f : FileEvent
 
 -- ---- a step
 
-module _ (C : Type 0) (state : C → CoreState) (among : ByteSet) (f : FileEvent) (old new : C) (m : FileMachine) (apart : HasNoCollisions (IsIn among)) (up : IsRunning (state old)) (is : IsFileMachine (IsIn among) m (state old))
+module _ (C : Type 0) (state : C → CoreState) (among : ByteSet) (f : FileEvent) (old new : C) (m : FileMachine) (apart : HasNoCollisions (IsIn among))
+    (up : IsRunning (state old)) (is : IsFileMachine (IsIn among) m (state old))
     (of : IsOfFile f.event.step f.bytes) (step : FileStep (IsIn among) f (state old) (state new)) where
   abbrev End : Type 0
   End = (n : FileMachine) × (Legal of_files (file_step f) m n × IsFileMachine (IsIn among) n (state new))
@@ -222,7 +226,8 @@ module _ (C : Type 0) (state : C → CoreState) (among : ByteSet) (f : FileEvent
 
   legal_of : (t : RootMachine) → Legal of_roots (record { actor = f.event.actor; asked = asked_by f.event.step; answer = answered_by f.event.answer f.event.buf }) is.roots t
       → Legal of_roots (forget_step (file_step f)) is.roots t
-  legal_of t legal = subst (λ (x : Asked Root). Legal of_roots (record { actor = f.event.actor; asked = x; answer = answered_by f.event.answer f.event.buf }) is.roots t) (same_asked f.event.step f.bytes of) legal
+  legal_of t legal = subst (λ (x : Asked Root). Legal of_roots (record { actor = f.event.actor; asked = x; answer = answered_by f.event.answer f.event.buf }) is.roots t)
+      (same_asked f.event.step f.bytes of) legal
 
   module _ (runs : m.state ≡ Running) (goes : (state old).stop ≡ None) where
     at : IsAtFiles (IsIn among) m (state old)
@@ -255,7 +260,8 @@ module _ (C : Type 0) (state : C → CoreState) (among : ByteSet) (f : FileEvent
     to = record { steps = steps_at; legal = left.1.0; forgets = left.1.1 }
 
     -- by what the core came to
-    fits : (stop : Option Stop) → (state new).stop ≡ stop → (a : RunState (List ℕ)) (b : RunState Root) → left.0.state ≡ a → SameState a b → SameStop root.0.acknowledged b stop → FitsBy a (IsIn among) left.0 (state new)
+    fits : (stop : Option Stop) → (state new).stop ≡ stop → (a : RunState (List ℕ)) (b : RunState Root) → left.0.state ≡ a → SameState a b → SameStop root.0.acknowledged b stop
+        → FitsBy a (IsIn among) left.0 (state new)
     fits None none Running b state_is same fit = at_files to none
     fits None none (Stopped None stores) Running state_is same fit = absurd same
     fits None none (Stopped (Some found) stores) Running state_is same fit = absurd same
@@ -288,11 +294,13 @@ module _ (C : Type 0) (state : C → CoreState) (among : ByteSet) (f : FileEvent
     stopped_left : (n : FileMachine) × (Legal of_files (file_step f) m n × Forgets n stopped_root.0)
     stopped_left =
         steps_are_remembered (file_step f) m is.roots stopped_root.0 is.forgets (legal_of stopped_root.0 stopped_root.1.0)
-        (subst (λ (a : Result Answer Refusal). AddsBy (asked_as (λ root. f.bytes) f.event.step) f.event.actor (answered_by a f.event.buf) m is.roots stopped_root.0) (sym said.answer_is)
+        (subst (λ (a : Result Answer Refusal). AddsBy (asked_as (λ root. f.bytes) f.event.step) f.event.actor (answered_by a f.event.buf) m is.roots stopped_root.0)
+        (sym said.answer_is)
         (stopped_added f.event.step f.bytes f.event.actor stop.at m is.roots stopped_root.0))
 
     same : stopped_left.0 ≡ m
-    same = (subst (λ (s : RunState (List ℕ)). ByState of_files s f.event.actor (asked_as (λ root. f.bytes) f.event.step) (answered_by f.event.answer f.event.buf) m stopped_left.0) state_is
+    same = (subst (λ (s : RunState (List ℕ)). ByState of_files s f.event.actor (asked_as (λ root. f.bytes) f.event.step)
+        (answered_by f.event.answer f.event.buf) m stopped_left.0) state_is
         (by_step m stopped_left.0 f.event.actor f.bytes f.event.buf m.store f.event.step (answered_by f.event.answer f.event.buf) stopped_left.1.0)).1
 
     still : End

@@ -11,7 +11,7 @@ use Rattle.store_model.proofs.FreedFiles.{frees_first}
 use Rattle.store_machine.specs.ByMap.{FileMachine}
 use Rattle.store_machine.specs.Machine.{Found, RunState, Running, Stopped}
 use Rattle.store_machine.specs.Needs.{NamesNeed}
-use Rattle.store_machine.specs.Opening.{IsGivenBack, MayBeFound, Stands, freeing}
+use Rattle.store_machine.specs.Opening.{IsGivenBack, IsNamedBy, MayBeFound, Stands, freeing}
 use Rattle.store_machine.specs.Values.{of_files}
 use Rattle.core_machine.specs.Openings.{stores_freed}
 use Rattle.core_machine.proofs.FileNames.{needs_reach, reach_needs}
@@ -48,9 +48,9 @@ each_on_way P [] s each = tt
 each_on_way P (slot ∷ rest) s each = (each 1, each_on_way P rest (with_freed slot s) (λ count. each (suc count)))
 
 module _ (m : FileMachine) (found : Found (List ℕ)) (may : MayBeFound of_files m.state m.now found) (before : Store) (stands : Stands of_files m.state m.store before)
-    (few : free_slots before.held < RESERVE) where
+    (named : IsNamedBy of_files found before) (few : free_slots before.held < RESERVE) where
   pub given_back : (freed : List ℕ) → FreesSome (NamesNeed of_files found) freed before → IsGivenBack of_files m (with_all_freed freed before)
-  given_back freed frees = record { found = found; may = may; before = before; stands = stands; few = few; freed = freed; frees = frees; left = refl }
+  given_back freed frees = record { found = found; may = may; before = before; stands = stands; named = named; few = few; freed = freed; frees = frees; left = refl }
 
   pub each_given : (freed : List ℕ) → FreesSome (NamesNeed of_files found) freed before → AllByRecursion (IsGivenBack of_files m) (stores_freed freed before)
   each_given freed frees =

@@ -12,7 +12,7 @@ use Rattle.disk_format.specs.Cells.{Root}
 use Rattle.namespace.specs.declared.record.Named.{Named}
 use Rattle.namespace.proofs.Again.{first, second, is_less}
 use Rattle.namespace.proofs.Entries.{is_equal}
-use Rattle.store_model.specs.Image.{Store, names_of}
+use Rattle.store_model.specs.Image.{Store, last_sequence, names_of}
 use Rattle.store_model.specs.Reserve.{IsReachable}
 use Rattle.store_model.specs.Standing.{IsFileOf, IsStoreOf}
 use Rattle.store_model.specs.Trees.{root_of}
@@ -20,6 +20,7 @@ use Rattle.store_model.proofs.SameFiles.{FitsFile, files_fit}
 use Rattle.store_machine.specs.Forgetting.{SameNow}
 use Rattle.store_machine.specs.Machine.{Found}
 use Rattle.store_machine.specs.Needs.{NamesNeed}
+use Rattle.store_machine.specs.Opening.{IsNamedBy}
 use Rattle.store_machine.specs.Values.{of_files}
 use Rattle.store_machine.proofs.SameNames.{order}
 
@@ -86,6 +87,13 @@ root_told held image None None is = refl
 root_told held image None (Some bytes) is = absurd is
 root_told held image (Some named) None is = absurd is
 root_told held image (Some named) (Some bytes) is = ap Some is.0
+
+-- of an image that is a store of files its records name their roots
+pub named_by : (store : Store) (image : List ℕ) (found : Found (List ℕ)) → IsStoreOf store found.names image → last_sequence store ≡ found.last → IsNamedBy of_files found store
+named_by store image found holds last = record {
+  names = λ name. sym (root_told store.held image (finite.get (names_of store) name) (finite.get found.names name) (holds.files_are name));
+  last_is = last;
+}
 
 -- names that have the roots of the store's have those of its files
 pub now_of_store : (store : Store) (image : List ℕ) (files : Found (List ℕ)) (roots : Found Root) → IsStoreOf store files.names image

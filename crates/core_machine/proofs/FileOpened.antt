@@ -29,17 +29,17 @@ use Rattle.store_machine.specs.Done as done
 use Rattle.store_machine.specs.Forgetting.{Forgets, SameNow, SameParts}
 use Rattle.store_machine.specs.Machine.{Found, Part, Idle, Reading, RunState, Running, Stopped, all_idle}
 use Rattle.store_machine.specs.Needs.{NamesNeed}
-use Rattle.store_machine.specs.Opening.{IsGivenBack, MayRefuseOpening, Opens, Stands, freeing}
+use Rattle.store_machine.specs.Opening.{IsGivenBack, IsNamedBy, MayRefuseOpening, Opens, Stands, freeing}
 use Rattle.store_machine.specs.Remembering.{RootMachine}
 use Rattle.store_machine.specs.Values.{of_files, of_roots}
 use Rattle.store_machine.proofs.Forgotten.{still_same}
 use Rattle.store_machine.proofs.SameNames.{len_same}
-use Rattle.core_machine.specs.FileOpenings.{FilesOpened, FilesReopenedNot, FilesUnopened, Reopens}
+use Rattle.core_machine.specs.FileOpenings.{LeavesFor, FilesOpened, FilesReopenedNot, FilesUnopened, Reopens}
 use Rattle.core_machine.specs.Files.{FitsBy, IsAtFiles, IsFileMachine, MayStand, StandsFor, stored_in}
 use Rattle.core_machine.specs.Openings.{LeavesMachine, store_read, stores_freed, stores_left}
 use Rattle.core_machine.specs.Refines.{IsMachine}
 use Rattle.core_machine.proofs.FileFreed.{all_needed, each_given, found_still, given_back, on_the_way, some_needed, stands_still, stands_too}
-use Rattle.core_machine.proofs.FileNames.{now_of_store}
+use Rattle.core_machine.proofs.FileNames.{now_of_store, named_by}
 use Rattle.core_machine.proofs.FileStands.{disk_stands}
 use Rattle.core_machine.proofs.FileStays.{stands_read, still_at_files}
 use Rattle.core_machine.proofs.Opened.{opened_refines, unopened_refines}
@@ -141,6 +141,9 @@ module _ (among : ByteSet) (m : FileMachine) (old : DiskView) (image : List ℕ)
   abbrev of_found : OpensAs In (stored_in stand.found) image
   of_found = record { store = stand.store; stands = stand.is; opens = stand.opens; last_is = stand.last_is }
 
+  named_here : IsNamedBy of_files stand.found stand.store
+  named_here = named_by stand.store image stand.found stand.is.holds stand.last_is
+
   legal : (actor : ℕ) (c : CoreState) (t : RootMachine) → Opens of_roots (finite.len c.tables.names) t t → SameNow stand.found t.now → (freed : List ℕ)
       → FreesTo (NamesNeed of_files stand.found) freed stand.store t.store → Reopens actor (Ok (done.Reopened (finite.len c.tables.names))) m (at_rest stand.found t.store)
   legal actor c t opens same freed frees = record {
@@ -149,6 +152,7 @@ module _ (among : ByteSet) (m : FileMachine) (old : DiskView) (image : List ℕ)
     files_are = opens.files_are ∙ ap (λ (now : Found _). finite.len now.names) (sym (ap (λ (x : RootMachine). x.now) opens.others)) ∙ len_same stand.found t.now same;
     before = stand.store;
     same = λ known. stand.stands;
+    named = λ known. named_here;
     freed = freed;
     frees = λ known. frees;
     reserve = opens.reserve;
@@ -188,7 +192,7 @@ module _ (among : ByteSet) (m : FileMachine) (old : DiskView) (image : List ℕ)
 
     room_given : IsGivenBack of_files m made.after
     room_given = subst (IsGivenBack of_files m) (sym after_is)
-        (given_back m stand.found stand.may stand.store stand.stands was_few made.freed (frees_some (NamesNeed of_files stand.found) made.freed stand.store made.after room_frees))
+        (given_back m stand.found stand.may stand.store stand.stands named_here was_few made.freed (frees_some (NamesNeed of_files stand.found) made.freed stand.store made.after room_frees))
 
     mid_size : RESERVE ≤ free_slots made.after.held
     mid_size = subst (λ (s : Store). RESERVE ≤ free_slots s.held) (store_once now now_of.store made.after now_of.stands.holds.right now_right) now_of.reserve
@@ -232,7 +236,7 @@ module _ (among : ByteSet) (m : FileMachine) (old : DiskView) (image : List ℕ)
       unmade_given : AllByRecursion (IsGivenBack of_files m) (stores_freed un.freed un.short.store)
       unmade_given =
           subst (λ (s : Store). AllByRecursion (IsGivenBack of_files m) (stores_freed un.freed s)) (sym short_here)
-          (each_given m stand.found stand.may stand.store stand.stands (subst (λ (s : Store). free_slots s.held < RESERVE) short_here un.short.few) un.freed
+          (each_given m stand.found stand.may stand.store stand.stands named_here (subst (λ (s : Store). free_slots s.held < RESERVE) short_here un.short.few) un.freed
           (some_needed stand.found un.freed stand.store
           (subst (FreesSome (IsReachable stand.found.names) un.freed) short_here (un.spares image told among (stored_in stand.found) of_found))))
 
@@ -287,18 +291,20 @@ module _ (among : ByteSet) (m : FileMachine) (old : DiskView) (image : List ℕ)
       wrote_legal wrote = (may_refuse none, inr (stores_left D view refusal old new wrote, refl, λ known. wrote_given wrote))
 
       abbrev Left : Type 0
-      Left = (n : FileMachine) × (Reopens actor (Err refusal) m n × StandsFor In n new)
+      Left = (n : FileMachine) × (Reopens actor (Err refusal) m n × LeavesFor In n old new)
 
       wrote_left : WritesUnread D view refusal old new → Left
-      wrote_left wrote = (stopped (stores_left D view refusal old new wrote), (wrote_legal wrote, wrote_stands wrote))
+      wrote_left wrote =
+          let stands = wrote_stands wrote in
+          (stopped (stores_left D view refusal old new wrote), (wrote_legal wrote, record { content = stands.content; images = λ left there. inr (stands.images left there) }))
 
-      kept_left : StandsFor In m old → OnlyReads old new → Left
-      kept_left stands reads = (m, ((may_refuse none, inl refl), stands_read In m old new reads stands))
+      kept_left : OnlyReads old new → Left
+      kept_left reads = (m, ((may_refuse none, inl refl), record { content = (image, reads.content_is ∙ told, stand); images = λ left there. inl (reads.images_are left there) }))
 
-      left_by : StandsFor In m old → OpensNone D view refusal old new → Left
-      left_by stands (inl (not, full)) = kept_left stands not.reads.only
-      left_by stands (inr (inl made)) = wrote_left (inl made)
-      left_by stands (inr (inr un)) = elim un.only [ inl failed ↦ wrote_left (inr (failed, un)) | inr reads ↦ kept_left stands reads ]
+      left_by : OpensNone D view refusal old new → Left
+      left_by (inl (not, full)) = kept_left not.reads.only
+      left_by (inr (inl made)) = wrote_left (inl made)
+      left_by (inr (inr un)) = elim un.only [ inl failed ↦ wrote_left (inr (failed, un)) | inr reads ↦ kept_left reads ]
 
 -- ---- openings
 
@@ -341,11 +347,11 @@ module _ (D : Type 0) (view : D → DiskView) (C : Type 0) (state : C → CoreSt
 module _ (D : Type 0) (view : D → DiskView) where
   pub files_unopened : FilesUnopened D view
   files_unopened among actor refusal before new m distinct stands none =
-      let (image, told, stand) = stands.content in left_by among m (view before) image told stand D view refusal (view new) actor none stands none
+      let (image, told, stand) = stands in left_by among m (view before) image told stand D view refusal (view new) actor none none
 
   pub files_opened : (C : Type 0) (state : C → CoreState) → FilesOpened D view C state
   files_opened C state among actor before new m distinct stands opens runs =
-      let (image, told, stand) = stands.content in
+      let (image, told, stand) = stands in
       let (t, (machine, store_is, may)) = opened_refines D view C state actor before new opens runs in
       by_way D view C state among actor before new m image told stand t (machine true) (may t) opens store_is
 

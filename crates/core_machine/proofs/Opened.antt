@@ -102,6 +102,7 @@ module _ (before : DiskView) (c : CoreState) (read : IsReadFrom before c) (runs 
     files_are = as_many;
     before = opened.store;
     same = λ known. absurd known;
+    named = λ known. absurd known;
     freed = [];
     frees = λ known. absurd known;
     reserve = opened.reserve;

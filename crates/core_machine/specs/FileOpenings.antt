@@ -1,6 +1,7 @@
 -- An opening, at first or again, of a disk that stands for files, as one of the machine of files.
-use Rattle.std.specs.Prelude.{ℕ, Result, Ok, Err}
+use Rattle.std.specs.Prelude.{◌⊎◌, ℕ, List, Result, Ok, Err}
 use Rattle.std.specs.FinMap as finite
+use Rattle.base_model.specs.Known.{KnownWith}
 use Rattle.dd_disk.specs.View.{DiskView}
 use Rattle.refusals.specs.declared.refusal.Refusal.{Refusal}
 use Rattle.store_model.specs.Collisions.{ByteSet, HasNoCollisions, IsIn}
@@ -12,7 +13,7 @@ use Rattle.store_machine.specs.Done.{Done}
 use Rattle.store_machine.specs.Done as done
 use Rattle.store_machine.specs.Legal.{Legal}
 use Rattle.store_machine.specs.Values.{of_files}
-use Rattle.core_machine.specs.Files.{IsFileMachine, StandsFor}
+use Rattle.core_machine.specs.Files.{IsFileMachine, MayStand, StandsFor}
 
 -- the machine may open its store so
 abbrev pub Reopens : ℕ → Result Done Refusal → FileMachine → FileMachine → Type 0
@@ -23,18 +24,23 @@ abbrev pub DisksStand : (C : Type 0) → (C → CoreState) → Type 0
 DisksStand C state = (among : ByteSet) (c : C) (m : FileMachine) → IsFileMachine (IsIn among) m (state c)
     → StandsFor (IsIn among) m (state c).disk
 
--- What has been opened, over anything that has a disk that stands for a machine's files, is a machine to which that may come by an opening.
+-- What has been opened, over anything that has a disk whose content may stand, is a machine to which that may come by an opening.
 abbrev pub FilesOpened : (D : Type 0) → (D → DiskView) → (C : Type 0) → (C → CoreState) → Type 0
 FilesOpened D view C state = (among : ByteSet) (actor : ℕ) (before : D) (new : C) (m : FileMachine) → HasNoCollisions (IsIn among)
-    → StandsFor (IsIn among) m (view before) → OpensCore D view (view before) (state new) → IsRunning (state new)
+    → KnownWith (view before).content (MayStand (IsIn among) m) → OpensCore D view (view before) (state new) → IsRunning (state new)
     → (n : FileMachine) × (Reopens actor (Ok (done.Reopened (finite.len (state new).tables.names))) m n
     × IsFileMachine (IsIn among) n (state new))
 
--- What could not be opened is the machine that it was, or containers were given back, as the machine may; and the disk stands for it.
+-- The content may stand, and so may each image that a crash could not have left before.
+pub record LeavesFor (S : List ℕ → Type 0) (m : FileMachine) (old new : DiskView) : Type 0 where
+  pub content : KnownWith new.content (MayStand S m)
+  pub images : (image : List ℕ) → new.images image → old.images image ⊎ MayStand S m image
+
+-- What could not be opened is the machine that it was, or containers were given back, as the machine may; and its content may stand still.
 abbrev pub FilesUnopened : (D : Type 0) → (D → DiskView) → Type 0
 FilesUnopened D view = (among : ByteSet) (actor : ℕ) (refusal : Refusal) (before new : D) (m : FileMachine) → HasNoCollisions (IsIn among)
-    → StandsFor (IsIn among) m (view before) → OpensNone D view refusal (view before) (view new)
-    → (n : FileMachine) × (Reopens actor (Err refusal) m n × StandsFor (IsIn among) n (view new))
+    → KnownWith (view before).content (MayStand (IsIn among) m) → OpensNone D view refusal (view before) (view new)
+    → (n : FileMachine) × (Reopens actor (Err refusal) m n × LeavesFor (IsIn among) n (view before) (view new))
 
 -- So it is of a core that could not be opened again, which is that machine then.
 abbrev pub FilesReopenedNot : (C : Type 0) → (C → CoreState) → Type 0

@@ -29,17 +29,18 @@ pub fn an_opening_is_the_machines<D: Disk, C: HasState>()
 
 /// Over a disk that tells its content, and data without collisions: what a core does by a step, done or refused, the machine of files may
 /// do, where the root of a commit is that of its bytes and its tree is held; and they fit one another then as before. So steps of any
-/// actors are a run of it. The disk stands for the machine's files at any time, also where the core is stopped: what reads give, and each
-/// image that a crash may leave, is a store that may stand of files that may be found, and can be opened. The function does nothing.
+/// actors are a run of it. After each step the disk stands for the machine's files, also where the core is stopped: what reads give, and
+/// each image that a crash may leave then, is a store that may stand of files that may be found, and can be opened. What a crash leaves
+/// within a step is not said here. The function does nothing.
 pub fn a_core_is_the_machine_of_files<C: HasState>()
     ensures steps { FilesRefine C C.state }
     ensures runs { FileRunsRefine C C.state }
     ensures stands { DisksStand C C.state }
 {}
 
-/// Of a disk that stands for the files of a machine: what has been opened, at first or again, is a machine of files to which that may come
-/// by an opening; where it is refused containers may have been given back, as the machine may, and the disk stands for its files still. The
-/// function does nothing.
+/// Of a disk whose content may stand for the files of a machine: what has been opened, at first or again, is a machine of files to which
+/// that may come by an opening; where it is refused containers may have been given back, as the machine may, and the content may stand for
+/// its files still. The function does nothing.
 pub fn an_opening_finds_its_files<D: Disk, C: HasState>()
     ensures opened { FilesOpened D D.view C C.state }
     ensures reopened { FilesOpened C (λ c. (C.state c).disk) C C.state }

@@ -655,6 +655,7 @@ module _ (m : F) (r : G) (same : Forgets m r) where
         files_are = o.files_are ∙ sym (len_same o.found found.0 found.1);
         before = o.before;
         same = λ told. absurd told;
+        named = λ told. absurd told;
         freed = o.freed;
         frees = λ told. absurd told;
         reserve = o.reserve;

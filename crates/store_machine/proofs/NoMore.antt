@@ -224,6 +224,7 @@ module _ (m n : F) (r t : G) (was : Forgets m r) (now : Forgets n t) where
     roots = subst (λ (x : Found (List ℕ)). SameNow x t.now) (ap (λ (x : F). x.now) o.others) now.now;
     before = o.before;
     stands = o.same tt;
+    named = o.named tt;
     freed = o.freed;
     frees = subst (FreesTo (NamesNeed of_files o.found) o.freed o.before) (sym now.store) (o.frees tt);
   }

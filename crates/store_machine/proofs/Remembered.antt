@@ -103,6 +103,7 @@ module _ (m : F) (r : G) (same : Forgets m r) where
         files_are = o.files_are ∙ len_same finds.found o.found roots;
         before = finds.before;
         same = λ told. finds.stands;
+        named = λ told. finds.named;
         freed = finds.freed;
         frees = λ told. finds.frees;
         reserve = o.reserve;

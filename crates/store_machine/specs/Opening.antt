@@ -1,12 +1,13 @@
 -- An opening of a store: at first, and whenever it is asked for.
-use Rattle.std.specs.Prelude.{◌≡◌, ◌⊎◌, ℕ, ◌<◌, ◌≤◌, false, List, [], ◌∷◌, ◌++◌, Contains, Some, None, Result, Ok, Err}
+use Rattle.std.specs.Prelude.{◌≡◌, ◌⊎◌, ℕ, ◌<◌, ◌≤◌, false, List, [], ◌∷◌, ◌++◌, Contains, Some, None, Result, Ok, Err, option_map}
 use Rattle.std.specs.List.{AllByRecursion}
 use Rattle.std.specs.FinMap as finite
 use Rattle.disk_format.specs.declared.numbers.TheConstants.{RESERVE}
+use Rattle.namespace.specs.declared.record.Named.{Named}
 use Rattle.refusals.specs.declared.refusal.Refusal.{Refusal}
 use Rattle.refusals.specs.declared.refusal.Refusal.TheVariants.{Memory, Full, DiskRead, DiskWrite, Corrupt, Missing, Damaged, NotAStore, Version, WrongSize}
 use Rattle.store_model.specs.Freeing.{FreesSome, FreesTo, with_all_freed}
-use Rattle.store_model.specs.Image.{Store}
+use Rattle.store_model.specs.Image.{Store, last_sequence, names_of}
 use Rattle.store_model.specs.Slots.{free_slots, last_id}
 use Rattle.store_machine.specs.Done.{Done}
 use Rattle.store_machine.specs.Done as done
@@ -25,6 +26,12 @@ module _ {V R : Type 0} (v : Values V R) where
   Stands Running store before = before ≡ store
   Stands (Stopped other stores) store before = Contains (store ∷ stores) before
 
+  -- the store's records name the roots of what is found, under its last number
+  pub record IsNamedBy (found : Found V) (store : Store) : Type 0 where
+    pub names : (name : List ℕ) → option_map v.root (finite.get found.names name)
+        ≡ option_map (λ (n : Named). n.root) (finite.get (names_of store) name)
+    pub last_is : last_sequence store ≡ found.last
+
   -- All actors end. The store is what it was, where no write had failed; where fewer than two slots are closed, containers that nothing
   -- needs are given back, the one of the least id first, until two are, or no such is left.
   pub record Opens (files : ℕ) (m n : Machine V R) : Type 0 where
@@ -33,6 +40,7 @@ module _ {V R : Type 0} (v : Values V R) where
     pub files_are : files ≡ finite.len found.names
     pub before : Store
     pub same : v.Known → Stands m.state m.store before
+    pub named : v.Known → IsNamedBy found before
     pub freed : List ℕ
     pub frees : v.Known → FreesTo (NamesNeed v found) freed before n.store
     pub reserve : RESERVE ≤ free_slots n.store.held
@@ -74,6 +82,7 @@ module _ {V R : Type 0} (v : Values V R) where
     pub may : MayBeFound m.state m.now found
     pub before : Store
     pub stands : Stands m.state m.store before
+    pub named : IsNamedBy found before
     pub few : free_slots before.held < RESERVE
     pub freed : List ℕ
     pub frees : FreesSome (NamesNeed v found) freed before

@@ -28,7 +28,7 @@ use Rattle.store_machine.specs.Forgetting.{Forgets, SameNow, SamePart, forget_st
 use Rattle.store_machine.specs.Legal.{Fits, HoldsValue, IsClash, IsFirstClash, IsLacked, Legal}
 use Rattle.store_machine.specs.Machine.{Collection, Found, Machine, Reading, Stepped, Stopped, Sweep, Sweeping, part_in}
 use Rattle.store_machine.specs.Needs.{HasCopy, IsNeeded, NamesNeed}
-use Rattle.store_machine.specs.Opening.{IsGivenBack, MayBeFound, MayRefuseOpening, Stands, freeing}
+use Rattle.store_machine.specs.Opening.{IsGivenBack, IsNamedBy, MayBeFound, MayRefuseOpening, Stands, freeing}
 use Rattle.store_machine.specs.Values.{of_files, of_roots}
 
 abbrev pub RootMachine : Type 0
@@ -111,6 +111,7 @@ pub record FindsFiles (m : FileMachine) (t : RootMachine) : Type 0 where
   pub roots : SameNow found t.now
   pub before : Store
   pub stands : Stands of_files m.state m.store before
+  pub named : IsNamedBy of_files found before
   pub freed : List ℕ
   pub frees : FreesTo (NamesNeed of_files found) freed before t.store
 

@@ -171,12 +171,12 @@ module _ {V R : Type 0} (v : Values V R) (C : Type 0) (state : C → CoreState) 
         let begins = acts.0 in
         elim begins.0 [
           | inl memory ↦ record {
-              ss = [];
-              next = record { machine = d.machine; sessions = machine.with_session v a (machine.session_of v d a) d };
-              run = refl;
-              acts = (refl, inr (ap replies.Refused memory.0, refl));
-              stays = no_step memory.1 begins.1;
-            }
+            ss = [];
+            next = record { machine = d.machine; sessions = machine.with_session v a (machine.session_of v d a) d };
+            run = refl;
+            acts = (refl, inr (ap replies.Refused memory.0, refl));
+            stays = no_step memory.1 begins.1;
+          }
           | inr refuses ↦ begin_refused refusal begins.1 refuses
         ]
     begin_acts reply acts = absurd acts
@@ -204,8 +204,12 @@ module _ {V R : Type 0} (v : Values V R) (C : Type 0) (state : C → CoreState) 
           ss = [];
           next = record { machine = d.machine; sessions = machine.with_session v a (Some (record was.s { ended = true })) d };
           run = refl;
-          acts = (was.s, (was.there, refl), refl,
-              inl (ap (λ (z : ℕ). replies.Finished z count) acts.0 ∙ ap (replies.Finished a) (ends.5 ∙ (bytes_are_counted y h has).0 ∙ ap length was.is.given_is)));
+          acts = (
+            was.s,
+            (was.there, refl),
+            refl,
+            inl (ap (λ (z : ℕ). replies.Finished z count) acts.0 ∙ ap (replies.Finished a) (ends.5 ∙ (bytes_are_counted y h has).0 ∙ ap length was.is.given_is)),
+          );
           stays = desk_put d.machine (Some (record was.s { ended = true })) (Some y) ends.2.1 (subst (λ (c : C). Fits d.machine (state c)) (sym same) at.fits) (subst (λ (c : C). IsRunning (state c)) (sym same) at.runs)
               (record { history = h; has = has; given_is = was.is.given_is; answers_are = was.is.answers_are; ended_is = ends.3.ended; owns = core_owns same a (kept h) was.is.owns }) (λ c differs. same_parts same c) (gives_still y below)
               (λ c k differs owns. core_owns same c k owns);

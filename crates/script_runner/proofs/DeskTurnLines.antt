@@ -118,12 +118,17 @@ module _ {V R : Type 0} (v : Values V R) (C : Type 0) (state : C → CoreState) 
           ss = [];
           next = record { machine = d.machine; sessions = machine.with_session v a (Some was.s) d };
           run = refl;
-          acts = (was.s, was.s, (was.there, refl), inr (inl (
-            refl,
-            refl,
-            subst (IsDueFor was.s.given was.s.ended was.s.answers) none.2 (due_of (owned d.machine s.core) was.s y of none.1),
-            ap (λ (z : ℕ). replies.Turn z told) same ∙ ap (replies.Turn a) (let idle_is : told ≡ turns.Idle = cc in idle_is),
-          )));
+          acts = (
+            was.s,
+            was.s,
+            (was.there, refl),
+            inr (inl (
+              refl,
+              refl,
+              subst (IsDueFor was.s.given was.s.ended was.s.answers) none.2 (due_of (owned d.machine s.core) was.s y of none.1),
+              ap (λ (z : ℕ). replies.Turn z told) same ∙ ap (replies.Turn a) (let idle_is : told ≡ turns.Idle = cc in idle_is),
+            )),
+          );
           stays = giving d.machine was.s y sessions of (subst (λ (c : C). Fits d.machine (state c)) (sym none.3) at.fits) (subst (λ (c : C). IsRunning (state c)) (sym none.3) at.runs)
               (λ c differs. ap (λ (core : C). part_of (state core).parts c) none.3) (λ c k differs owns. subst (λ (core : C). Owns c k d.machine (state core)) (sym none.3) owns);
         }
@@ -134,8 +139,12 @@ module _ {V R : Type 0} (v : Values V R) (C : Type 0) (state : C → CoreState) 
           ss = step_of v a (asked_as (λ root. v.of was.s.given) one.step) replied ∷ [];
           next = record { machine = one.made.next; sessions = machine.with_session v a (Some (answering answer was.s)) d };
           run = one_step v a (asked_as (λ root. v.of was.s.given) one.step) replied d.machine one.made.next one.made.legal;
-          acts = (was.s, answering answer was.s, (was.there, refl),
-              inl (asked_as (λ root. v.of was.s.given) one.step, replied, refl, (refl, one.due, (answer, one.told_is, refl)), ap (λ (z : ℕ). replies.Turn z told) same ∙ turn_reply a answer told one.buf told_is));
+          acts = (
+            was.s,
+            answering answer was.s,
+            (was.there, refl),
+            inl (asked_as (λ root. v.of was.s.given) one.step, replied, refl, (refl, one.due, (answer, one.told_is, refl)), ap (λ (z : ℕ). replies.Turn z told) same ∙ turn_reply a answer told one.buf told_is),
+          );
           stays = giving one.made.next (answering answer was.s) y sessions one.is one.made.fits one.made.runs one.made.others one.made.keeps.others;
         }
 
@@ -184,13 +193,19 @@ module _ {V R : Type 0} (v : Values V R) (C : Type 0) (state : C → CoreState) 
             ss = went.made;
             next = record { machine = went.next; sessions = machine.with_session v a (Some (record went.t { given = went.t.given ++ bytes })) d };
             run = went.run;
-            acts = (gave.s, went.t, (gave.there, refl), went.room feeds.5, inl (
-              went.turns,
+            acts = (
+              gave.s,
+              went.t,
+              (gave.there, refl),
+              went.room feeds.5,
               inl (
-                ap (λ (z : ℕ). replies.Pushed z count) same ∙ ap (replies.Pushed a) (counts ∙ counted.0 ∙ ap length given_is),
-                subst (λ (l : List ℕ). length l ≤ MOST_FILE) given_is counted.1,
+                went.turns,
+                inl (
+                  ap (λ (z : ℕ). replies.Pushed z count) same ∙ ap (replies.Pushed a) (counts ∙ counted.0 ∙ ap length given_is),
+                  subst (λ (l : List ℕ). length l ≤ MOST_FILE) given_is counted.1,
+                ),
               ),
-            ));
+            );
             stays = giving went.next (record went.t { given = went.t.given ++ bytes }) y sessions
                 (record {
                   history = record h { given = h.given ++ bytes };

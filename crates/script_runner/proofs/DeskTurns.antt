@@ -88,8 +88,8 @@ module _ {V R : Type 0} (v : Values V R) where
   room_last a (y ∷ ys) s t x turns room crowded none = (
     room.0,
     λ answer is.
-    let same : turns.2.0 ≡ answer = let both = sym turns.2.1 ∙ is in cc in
-    room_last a ys (answering answer s) t x (subst (λ (b : Answer). AreTurns v a ys (answering b s) t) same turns.2.2) (room.1 answer is) crowded none,
+        let same : turns.2.0 ≡ answer = let both = sym turns.2.1 ∙ is in cc in
+        room_last a ys (answering answer s) t x (subst (λ (b : Answer). AreTurns v a ys (answering b s) t) same turns.2.2) (room.1 answer is) crowded none,
   )
 
 module _ {V R : Type 0} (v : Values V R) (C : Type 0) (state : C → CoreState) (Fits : Machine V R → CoreState → Type 0) (Owns : ℕ → Kept → Machine V R → CoreState → Type 0) (Allowed : List ℕ → Type 0) (fitting : Fitting v C state Fits Owns Allowed) (a : ℕ) where
@@ -220,8 +220,8 @@ module _ {V R : Type 0} (v : Values V R) (C : Type 0) (state : C → CoreState) 
         room = λ room. (
           crowded_of v (owned a m old) s x is room.0,
           λ other told_other.
-          let same : answer ≡ other = let both = sym one.told_is ∙ told_other in cc in
-          subst (λ (b : Answer). machine.AreForRoom v (answering b s) rest.made) same (rest.room room.1),
+              let same : answer ≡ other = let both = sym one.told_is ∙ told_other in cc in
+              subst (λ (b : Answer). machine.AreForRoom v (answering b s) rest.made) same (rest.room room.1),
         );
       }
 

@@ -41,7 +41,7 @@ use Rattle.script_runner.specs.Sessions.{Sessions, has_ended, kind_by, kind_in, 
 use Rattle.script_runner.proofs.DeskParts.{WroteBefore, same_wrote}
 use Rattle.script_runner.proofs.DeskSessions.{DeskSession, desk_session, gives_on, is_put, put_quiet, same_on, same_put}
 use Rattle.script_runner.proofs.DeskSteps.{Acted, Makes, makes, one_step}
-use Rattle.script_runner.proofs.Fitting.{Fitting, Keeps}
+use Rattle.script_runner.proofs.Fitting.{AtDesk, Fitted, Keeps}
 
 begin_answer : (a : ℕ) (answer : Answer) (buf : List ℕ) (old new : CoreState) → BeginRow a (Ok answer) old new → replies.Begun a ≡ reply_of a (answered_by (Ok answer) buf)
 begin_answer a answers.Begun buf old new row = refl
@@ -68,7 +68,9 @@ giver line a sessions parts needs taken = by (session_of sessions a) refl taken
     by None is takes_none = absurd (needs (core_kinds.kind_of (part_of parts a)) takes_none)
     by (Some x) is takes_some = (x, is)
 
-module _ {V R : Type 0} (v : Values V R) (C : Type 0) (state : C → CoreState) (Fits : Machine V R → CoreState → Type 0) (Owns : ℕ → Kept → Machine V R → CoreState → Type 0) (Allowed : List ℕ → Type 0) (fitting : Fitting v C state Fits Owns Allowed) (r : RunnerState C) (d : Desk V R) (at : IsAtDesk state Fits Owns d r) (s : RunnerState C) (a : ℕ) where
+module _ (F : Fitted) (r : RunnerState F.C) (d : Desk F.V F.R) (at : AtDesk F d r) (s : RunnerState F.C) (a : ℕ) where
+  open F use {V, R, v, C, state, Fits, Owns, Allowed, fitting}
+
   -- ---- a desk after a line of one actor, whose session is another
 
   -- the session of the actor is put, or taken
@@ -76,7 +78,7 @@ module _ {V R : Type 0} (v : Values V R) (C : Type 0) (state : C → CoreState) 
       → ((b : ℕ) → b ≢ a → part_of (state s.core).parts b ≡ part_of (state r.core).parts b)
       → (session_of (with_session r.sessions a x) a ≡ None → core_kinds.kind_of (part_of (state s.core).parts a) ≢ kinds.Writing)
       → ((b : ℕ) (k : Kept) → b ≢ a → Owns b k d.machine (state r.core) → Owns b k n (state s.core))
-      → IsAtDesk state Fits Owns (record { machine = n; sessions = machine.with_session v a session d }) s
+      → AtDesk F (record { machine = n; sessions = machine.with_session v a session d }) s
   desk_put n session x sessions fits runs same others own owns = record {
     runs = runs;
     fits = fits;
@@ -95,7 +97,7 @@ module _ {V R : Type 0} (v : Values V R) (C : Type 0) (state : C → CoreState) 
   pub desk_same : (n : Machine V R) → s.sessions ≡ r.sessions → Fits n (state s.core) → IsRunning (state s.core) → ((b : ℕ) → b ≢ a → part_of (state s.core).parts b ≡ part_of (state r.core).parts b)
       → (session_of r.sessions a ≡ None → core_kinds.kind_of (part_of (state s.core).parts a) ≢ kinds.Writing)
       → ((b : ℕ) (k : Kept) → Owns b k d.machine (state r.core) → Owns b k n (state s.core))
-      → IsAtDesk state Fits Owns (record { machine = n; sessions = machine.with_session v a (machine.session_of v d a) d }) s
+      → AtDesk F (record { machine = n; sessions = machine.with_session v a (machine.session_of v d a) d }) s
   desk_same n sessions fits runs others own owns = record {
     runs = runs;
     fits = fits;
@@ -123,7 +125,7 @@ module _ {V R : Type 0} (v : Values V R) (C : Type 0) (state : C → CoreState) 
       by true is = let so = eqb-true b a is in subst (λ (c : ℕ). Owns c k n (state s.core)) (sym so) (keeps.refused k refusal refl (subst (λ (c : ℕ). Owns c k d.machine (state r.core)) so owns))
       by false is = keeps.others b k (eqb-false b a is) owns
 
-  pub no_step : s.core ≡ r.core → s.sessions ≡ r.sessions → IsAtDesk state Fits Owns (record { machine = d.machine; sessions = machine.with_session v a (machine.session_of v d a) d }) s
+  pub no_step : s.core ≡ r.core → s.sessions ≡ r.sessions → AtDesk F (record { machine = d.machine; sessions = machine.with_session v a (machine.session_of v d a) d }) s
   no_step same sessions =
       desk_same d.machine sessions (subst (λ (c : C). Fits d.machine (state c)) (sym same) at.fits) (subst (λ (c : C). IsRunning (state c)) (sym same) at.runs) (λ b differs. same_parts same b)
       (λ none writes. at.give a none (ap core_kinds.kind_of (sym (same_parts same a)) ∙ writes)) (core_owns same)
@@ -132,12 +134,12 @@ module _ {V R : Type 0} (v : Values V R) (C : Type 0) (state : C → CoreState) 
 
   module _ (below : a < ACTORS) (admits : Admits (lines.Begin a) r.sessions (state r.core)) where
     abbrev Begins : ReplyValue → Type 0
-    Begins reply = Acted v C state Fits Owns Allowed fitting r d at (lines.Begin a) reply s
+    Begins reply = Acted F r d at (lines.Begin a) reply s
 
     begin_refused : (refusal : Refusal) → s.sessions ≡ r.sessions → RefusesStep a steps.Begin refusal (state r.core) (state s.core) → Begins (replies.Refused refusal)
     begin_refused refusal sessions refuses =
         let e : Event = record { actor = a; step = steps.Begin; answer = Err refusal; buf = refuses.0 } in
-        let one = makes v C state Fits Owns Allowed fitting e [] r.core s.core d.machine at.runs at.fits tt refuses.1 in
+        let one = makes F e [] r.core s.core d.machine at.runs at.fits tt refuses.1 in
         let row = (running_step (state r.core) (state s.core) e admits.runs refuses.1).made.row in
         record {
           ss = step_of v a asked.Begin (Err refusal) ∷ [];
@@ -155,7 +157,7 @@ module _ {V R : Type 0} (v : Values V R) (C : Type 0) (state : C → CoreState) 
         let x = begins.1 in
         let does = begins.2 in
         let e : Event = record { actor = a; step = steps.Begin; answer = Ok answer; buf = does.0 } in
-        let one = makes v C state Fits Owns Allowed fitting e [] r.core s.core d.machine at.runs at.fits tt does.1 in
+        let one = makes F e [] r.core s.core d.machine at.runs at.fits tt does.1 in
         let row = (running_step (state r.core) (state s.core) e admits.runs does.1).made.row in
         let told : Result Done Refusal = answered_by (Ok answer) does.0 in
         record {
@@ -185,7 +187,7 @@ module _ {V R : Type 0} (v : Values V R) (C : Type 0) (state : C → CoreState) 
 
   module _ (below : a < ACTORS) (admits : Admits (lines.Finish a) r.sessions (state r.core)) where
     abbrev Finishes : ReplyValue → Type 0
-    Finishes reply = Acted v C state Fits Owns Allowed fitting r d at (lines.Finish a) reply s
+    Finishes reply = Acted F r d at (lines.Finish a) reply s
 
     finish_needs : TakesGiver (lines.Finish a)
     finish_needs kinds.Reading is = absurd cc
@@ -231,7 +233,7 @@ module _ {V R : Type 0} (v : Values V R) (C : Type 0) (state : C → CoreState) 
 
   module _ (admits : Admits (lines.Abort a) r.sessions (state r.core)) where
     abbrev Aborts : ReplyValue → Type 0
-    Aborts reply = Acted v C state Fits Owns Allowed fitting r d at (lines.Abort a) reply s
+    Aborts reply = Acted F r d at (lines.Abort a) reply s
 
     abort_needs : TakesGiver (lines.Abort a)
     abort_needs kinds.Reading is = absurd cc
@@ -249,7 +251,7 @@ module _ {V R : Type 0} (v : Values V R) (C : Type 0) (state : C → CoreState) 
         let answer = aborts.0.0 in
         let does = aborts.0.1 in
         let e : Event = record { actor = a; step = steps.Abort; answer = Ok answer; buf = does.0 } in
-        let one = makes v C state Fits Owns Allowed fitting e [] r.core s.core d.machine at.runs at.fits tt does.1 in
+        let one = makes F e [] r.core s.core d.machine at.runs at.fits tt does.1 in
         let row = (running_step (state r.core) (state s.core) e admits.runs does.1).made.row in
         let told : Result Done Refusal = answered_by (Ok answer) does.0 in
         record {
@@ -262,7 +264,7 @@ module _ {V R : Type 0} (v : Values V R) (C : Type 0) (state : C → CoreState) 
     abort_acts (replies.Refused refusal) acts =
         let aborts = acts.0 in
         let e : Event = record { actor = a; step = steps.Abort; answer = Err refusal; buf = aborts.0.0 } in
-        let one = makes v C state Fits Owns Allowed fitting e [] r.core s.core d.machine at.runs at.fits tt aborts.0.1 in
+        let one = makes F e [] r.core s.core d.machine at.runs at.fits tt aborts.0.1 in
         let row = (running_step (state r.core) (state s.core) e admits.runs aborts.0.1).made.row in
         record {
           ss = step_of v a asked.Abort (Err refusal) ∷ [];

@@ -37,44 +37,46 @@ use Rattle.script_runner.proofs.DeskSessions.{none_same}
 use Rattle.script_runner.proofs.DeskSteps.{taken_or_not}
 use Rattle.script_runner.proofs.DeskTaking.{delete_acts, drop_acts, gc_acts, gc_step_acts, list_acts, next_acts, read_acts, stat_acts, sweep_acts}
 use Rattle.script_runner.proofs.DeskTurnLines.{commit_acts, push_acts, turn_acts}
-use Rattle.script_runner.proofs.Fitting.{Fitting, IsOfGiven, Keeps}
+use Rattle.script_runner.proofs.Fitting.{AtDesk, Fitted, Fitting, IsOfGiven, Keeps, Leads}
 
 -- ---- a machine that fits
 
-module _ {V R : Type 0} (v : Values V R) (C : Type 0) (state : C → CoreState) (Fits : Machine V R → CoreState → Type 0) (Owns : ℕ → Kept → Machine V R → CoreState → Type 0) (Allowed : List ℕ → Type 0) (fitting : Fitting v C state Fits Owns Allowed) (r s : RunnerState C) (d : Desk V R) (at : IsAtDesk state Fits Owns d r)
-    (allowed : (a : ℕ) (t : Session) → machine.session_of v d a ≡ Some t → Allowed t.given) where
-  pub line_runs : (line : LineValue) (reply : ReplyValue) → IsOfActor line → RunsLine C state line reply r s → LeadsTo v state Fits Owns line reply d s
+module _ (F : Fitted) (r s : RunnerState F.C) (d : Desk F.V F.R) (at : AtDesk F d r)
+    (allowed : (a : ℕ) (t : Session) → machine.session_of F.v d a ≡ Some t → F.Allowed t.given) where
+  open F use {V, R, v, C, state, Fits, Owns, Allowed, fitting}
+
+  pub line_runs : (line : LineValue) (reply : ReplyValue) → IsOfActor line → RunsLine C state line reply r s → Leads F line reply d s
   line_runs (lines.Begin a) reply actor runs =
-      taken_or_not v C state Fits Owns Allowed fitting r d at (lines.Begin a) reply s (λ is. cc) (λ admits acts. begin_acts v C state Fits Owns Allowed fitting r d at s a (actor a refl) admits reply acts) runs
+      taken_or_not F r d at (lines.Begin a) reply s (λ is. cc) (λ admits acts. begin_acts F r d at s a (actor a refl) admits reply acts) runs
   line_runs (lines.Push a digits) reply actor runs =
-      taken_or_not v C state Fits Owns Allowed fitting r d at (lines.Push a digits) reply s (λ is. cc) (λ admits acts. push_acts v C state Fits Owns Allowed fitting r d at s a (actor a refl) allowed digits reply admits acts) runs
+      taken_or_not F r d at (lines.Push a digits) reply s (λ is. cc) (λ admits acts. push_acts F r d at s a (actor a refl) allowed digits reply admits acts) runs
   line_runs (lines.Finish a) reply actor runs =
-      taken_or_not v C state Fits Owns Allowed fitting r d at (lines.Finish a) reply s (λ is. cc) (λ admits acts. finish_acts v C state Fits Owns Allowed fitting r d at s a (actor a refl) admits reply acts) runs
+      taken_or_not F r d at (lines.Finish a) reply s (λ is. cc) (λ admits acts. finish_acts F r d at s a (actor a refl) admits reply acts) runs
   line_runs (lines.Turn a) reply actor runs =
-      taken_or_not v C state Fits Owns Allowed fitting r d at (lines.Turn a) reply s (λ is. cc) (λ admits acts. turn_acts v C state Fits Owns Allowed fitting r d at s a (actor a refl) allowed reply acts) runs
+      taken_or_not F r d at (lines.Turn a) reply s (λ is. cc) (λ admits acts. turn_acts F r d at s a (actor a refl) allowed reply acts) runs
   line_runs (lines.Commit a name) reply actor runs =
-      taken_or_not v C state Fits Owns Allowed fitting r d at (lines.Commit a name) reply s (λ is. cc) (λ admits acts. commit_acts v C state Fits Owns Allowed fitting r d at s a (actor a refl) allowed name reply acts) runs
+      taken_or_not F r d at (lines.Commit a name) reply s (λ is. cc) (λ admits acts. commit_acts F r d at s a (actor a refl) allowed name reply acts) runs
   line_runs (lines.Abort a) reply actor runs =
-      taken_or_not v C state Fits Owns Allowed fitting r d at (lines.Abort a) reply s (λ is. cc) (λ admits acts. abort_acts v C state Fits Owns Allowed fitting r d at s a admits reply acts) runs
+      taken_or_not F r d at (lines.Abort a) reply s (λ is. cc) (λ admits acts. abort_acts F r d at s a admits reply acts) runs
   line_runs (lines.Read a name) reply actor runs =
-      taken_or_not v C state Fits Owns Allowed fitting r d at (lines.Read a name) reply s (λ is. cc) (λ admits acts. read_acts v C state Fits Owns Allowed fitting r d at s a name reply acts) runs
+      taken_or_not F r d at (lines.Read a name) reply s (λ is. cc) (λ admits acts. read_acts F r d at s a name reply acts) runs
   line_runs (lines.Next a) reply actor runs =
-      taken_or_not v C state Fits Owns Allowed fitting r d at (lines.Next a) reply s (λ is. cc) (λ admits acts. next_acts v C state Fits Owns Allowed fitting r d at s a reply acts) runs
+      taken_or_not F r d at (lines.Next a) reply s (λ is. cc) (λ admits acts. next_acts F r d at s a reply acts) runs
   line_runs (lines.Drop a) reply actor runs =
-      taken_or_not v C state Fits Owns Allowed fitting r d at (lines.Drop a) reply s (λ is. cc) (λ admits acts. drop_acts v C state Fits Owns Allowed fitting r d at s a reply admits acts) runs
+      taken_or_not F r d at (lines.Drop a) reply s (λ is. cc) (λ admits acts. drop_acts F r d at s a reply admits acts) runs
   line_runs (lines.Delete name) reply actor runs =
-      taken_or_not v C state Fits Owns Allowed fitting r d at (lines.Delete name) reply s (λ is. cc) (λ admits acts. delete_acts v C state Fits Owns Allowed fitting r d at s name admits reply acts) runs
+      taken_or_not F r d at (lines.Delete name) reply s (λ is. cc) (λ admits acts. delete_acts F r d at s name admits reply acts) runs
   line_runs lines.ListNames reply actor runs =
-      taken_or_not v C state Fits Owns Allowed fitting r d at lines.ListNames reply s (λ is. cc) (λ admits acts. list_acts v C state Fits Owns Allowed fitting r d at s reply acts) runs
+      taken_or_not F r d at lines.ListNames reply s (λ is. cc) (λ admits acts. list_acts F r d at s reply acts) runs
   line_runs (lines.Gc percent) reply actor runs =
-      taken_or_not v C state Fits Owns Allowed fitting r d at (lines.Gc percent) reply s (λ is. cc) (λ admits acts. gc_acts v C state Fits Owns Allowed fitting r d at s percent reply acts) runs
+      taken_or_not F r d at (lines.Gc percent) reply s (λ is. cc) (λ admits acts. gc_acts F r d at s percent reply acts) runs
   line_runs lines.GcStep reply actor runs =
-      taken_or_not v C state Fits Owns Allowed fitting r d at lines.GcStep reply s (λ is. cc) (λ admits acts. gc_step_acts v C state Fits Owns Allowed fitting r d at s reply acts) runs
+      taken_or_not F r d at lines.GcStep reply s (λ is. cc) (λ admits acts. gc_step_acts F r d at s reply acts) runs
   line_runs lines.Sweep reply actor runs =
-      taken_or_not v C state Fits Owns Allowed fitting r d at lines.Sweep reply s (λ is. cc) (λ admits acts. sweep_acts v C state Fits Owns Allowed fitting r d at s reply acts) runs
+      taken_or_not F r d at lines.Sweep reply s (λ is. cc) (λ admits acts. sweep_acts F r d at s reply acts) runs
   line_runs lines.Stat reply actor runs =
-      taken_or_not v C state Fits Owns Allowed fitting r d at lines.Stat reply s (λ is. cc) (λ admits acts. stat_acts v C state Fits Owns Allowed fitting r d at s reply acts) runs
-  line_runs lines.Reopen reply actor runs = reopen_line v C state Fits Owns Allowed fitting r d at s reply runs
+      taken_or_not F r d at lines.Stat reply s (λ is. cc) (λ admits acts. stat_acts F r d at s reply acts) runs
+  line_runs lines.Reopen reply actor runs = reopen_line F r d at s reply runs
 
 -- ---- the machine of roots
 
@@ -148,8 +150,21 @@ module _ (C : Type 0) (state : C → CoreState) where
     unopened = λ a refusal old new m fits none leaves. let one = unopened_refines C view C state false a refusal old new m fits none leaves in (one.0, (one.1.0, one.1.1, λ b k owns. tt));
   }
 
+  abbrev roots_fitted : Fitted
+  roots_fitted = record {
+    V = Root;
+    R = List Top;
+    v = of_roots;
+    C = C;
+    state = state;
+    Fits = IsMachine false;
+    Owns = OwnsAny;
+    Allowed = Any;
+    fitting = roots_fit;
+  }
+
   pub lines_are_runs : LinesAreRuns C state
-  lines_are_runs line reply r s d actor at runs = line_runs of_roots C state (IsMachine false) OwnsAny Any roots_fit r s d at (λ a t there. tt) line reply actor runs
+  lines_are_runs line reply r s d actor at runs = line_runs roots_fitted r s d at (λ a t there. tt) line reply actor runs
 
   pub begins_at_desk : BeginsAtDesk C state
   begins_at_desk m r runs fits parts sessions = record {

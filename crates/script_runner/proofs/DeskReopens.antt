@@ -32,12 +32,12 @@ use Rattle.store_machine.specs.Opening as opening
 use Rattle.store_machine.specs.Values.{Values}
 use Rattle.core_machine.specs.Refines.{answered_by}
 use Rattle.script_runner.specs.Acts.{ActsReopen, RefusesReopen, Reopens, RunnerState, counted}
-use Rattle.script_runner.specs.LinesAreRuns.{IsAtDesk, Kept, LeadsTo, SameSessions, WritersGive}
+use Rattle.script_runner.specs.LinesAreRuns.{IsAtDesk, Kept, SameSessions, WritersGive}
 use Rattle.script_runner.specs.Sessions.{Sessions, session_of}
 use Rattle.script_runner.proofs.DeskParts.{quiet_gives}
 use Rattle.script_runner.proofs.DeskSessions.{same_none, same_on}
 use Rattle.script_runner.proofs.DeskSteps.{answers_so, makes, one_step}
-use Rattle.script_runner.proofs.Fitting.{Fitting}
+use Rattle.script_runner.proofs.Fitting.{AtDesk, Fitted, Leads}
 
 -- a core that was opened runs
 read_runs : (before : DiskView) (c : CoreState) → IsReadFrom before c → IsRunning c
@@ -72,12 +72,14 @@ kept_parts : (C : Type 0) (view : C → DiskView) (refusal : Refusal) (old new :
 kept_parts C view refusal old new (inl kept) = kept.0.parts_are
 kept_parts C view refusal old new (inr stops) = stops.parts_are
 
-module _ {V R : Type 0} (v : Values V R) (C : Type 0) (state : C → CoreState) (Fits : Machine V R → CoreState → Type 0) (Owns : ℕ → Kept → Machine V R → CoreState → Type 0) (Allowed : List ℕ → Type 0) (fitting : Fitting v C state Fits Owns Allowed) (r : RunnerState C) (d : Desk V R) (at : IsAtDesk state Fits Owns d r) (s : RunnerState C) where
+module _ (F : Fitted) (r : RunnerState F.C) (d : Desk F.V F.R) (at : AtDesk F d r) (s : RunnerState F.C) where
+  open F use {V, R, v, C, state, Fits, Owns, Allowed, fitting}
+
   abbrev view : C → DiskView
   view c = (state c).disk
 
-  abbrev Leads : ReplyValue → Type 0
-  Leads reply = LeadsTo v state Fits Owns lines.Reopen reply d s
+  abbrev Reopened : ReplyValue → Type 0
+  Reopened reply = Leads F lines.Reopen reply d s
 
   -- ---- it is opened
 
@@ -107,9 +109,9 @@ module _ {V R : Type 0} (v : Values V R) (C : Type 0) (state : C → CoreState) 
           files_of (done.Counted files segments bytes used free) = files
           files_of answer = 0
 
-    opened_line : Leads (replies.Opened files)
+    opened_line : Reopened (replies.Opened files)
     opened_line =
-        let one = makes v C state Fits Owns Allowed fitting counting [] acts.mid s.core n mid_runs opens.1.1 tt acts.counts.1 in
+        let one = makes F counting [] acts.mid s.core n mid_runs opens.1.1 tt acts.counts.1 in
         let told : Result Done Refusal = Ok (done.Reopened (finite.len (state acts.mid).tables.names)) in
         let legal = answers_so v n one.next 0 asked.Stat (answered_by (Ok (counted acts.holdings)) acts.counts.0)
         (fitting.runs n (state acts.mid) opens.1.1 (opened_stop C view (state r.core).disk (state acts.mid) acts.opened)) one.legal in
@@ -138,7 +140,7 @@ module _ {V R : Type 0} (v : Values V R) (C : Type 0) (state : C → CoreState) 
     told = Err refusal
 
     unopened_at : (n : Machine V R) → Legal v (step_of v 0 asked.Reopen told) d.machine n → Fits n (state s.core) → IsRunning (state s.core) → (state s.core).parts ≡ (state r.core).parts → ((b : ℕ) (k : Kept) → Owns b k d.machine (state r.core) → Owns b k n (state s.core))
-        → Leads (replies.Refused refusal)
+        → Reopened (replies.Refused refusal)
     unopened_at n legal fits runs parts owns = record {
       steps = step_of v 0 asked.Reopen told ∷ [];
       next = record { machine = n; sessions = d.sessions };
@@ -153,17 +155,17 @@ module _ {V R : Type 0} (v : Values V R) (C : Type 0) (state : C → CoreState) 
       };
     }
 
-    unopened_line : RefusesReopen C state refusal r.core s.core → Leads (replies.Refused refusal)
+    unopened_line : RefusesReopen C state refusal r.core s.core → Reopened (replies.Refused refusal)
     unopened_line refuses = elim refuses.why [
       | inl memory ↦ unopened_at d.machine (subst (λ (e : Refusal). opening.MayRefuseOpening v e) (sym memory.0) tt, inl refl) (subst (λ (c : C). Fits d.machine (state c)) (sym memory.1) at.fits)
           (subst (λ (c : C). IsRunning (state c)) (sym memory.1) at.runs) (ap (λ (c : C). (state c).parts) memory.1) (λ b k owns. subst (λ (c : C). Owns b k d.machine (state c)) (sym memory.1) owns)
       | inr none ↦ by (fitting.unopened 0 refusal r.core s.core d.machine at.fits none.0 none.1) none.1
     ]
       where
-        by : (n : Machine V R) × (Legal v (step_of v 0 asked.Reopen told) d.machine n × Fits n (state s.core) × ((b : ℕ) (k : Kept) → Owns b k d.machine (state r.core) → Owns b k n (state s.core))) → StaysOrStops C view refusal (state r.core) (state s.core) → Leads (replies.Refused refusal)
+        by : (n : Machine V R) × (Legal v (step_of v 0 asked.Reopen told) d.machine n × Fits n (state s.core) × ((b : ℕ) (k : Kept) → Owns b k d.machine (state r.core) → Owns b k n (state s.core))) → StaysOrStops C view refusal (state r.core) (state s.core) → Reopened (replies.Refused refusal)
         by went leaves = unopened_at went.0 went.1.0 went.1.1 (stays_runs C view refusal (state r.core) (state s.core) leaves at.runs) (kept_parts C view refusal (state r.core) (state s.core) leaves) went.1.2
 
-  pub reopen_line : (reply : ReplyValue) → ActsReopen C state reply r s → Leads reply
+  pub reopen_line : (reply : ReplyValue) → ActsReopen C state reply r s → Reopened reply
   reopen_line (replies.Opened files) acts = opened_line files acts
   reopen_line (replies.Refused refusal) acts = unopened_line refusal acts.1 acts.0
   reopen_line reply acts = absurd acts

@@ -32,7 +32,7 @@ use Rattle.script_runner.specs.LinesAreRuns.{IsAtDesk, Kept, LeadsTo, SameSessio
 use Rattle.script_runner.specs.Sessions.{Sessions, has_ended, kind_in, session_of}
 use Rattle.script_runner.proofs.DeskParts.{IsQuiet, others_stay, quiet_gives}
 use Rattle.script_runner.proofs.DeskSessions.{same_actor, same_at, same_kind, same_on, same_takes}
-use Rattle.script_runner.proofs.Fitting.{Fitting, IsOfGiven, Keeps}
+use Rattle.script_runner.proofs.Fitting.{AtDesk, Fitted, IsOfGiven, Keeps, Leads}
 
 -- a number that is acknowledged
 pub number_so : (journal last number : ℕ) → number ≡ suc journal → number ≡ suc last → last < 2 ^ 64 - 1 → min (journal + 1) (2 ^ 64 - 1) ≡ number
@@ -59,7 +59,9 @@ module _ {V R : Type 0} (v : Values V R) where
   says_so lines.Reopen reply ss d e other says = absurd (other refl)
   says_so line reply ss d e other says = says
 
-module _ {V R : Type 0} (v : Values V R) (C : Type 0) (state : C → CoreState) (Fits : Machine V R → CoreState → Type 0) (Owns : ℕ → Kept → Machine V R → CoreState → Type 0) (Allowed : List ℕ → Type 0) (fitting : Fitting v C state Fits Owns Allowed) where
+module _ (F : Fitted) where
+  open F use {V, R, v, C, state, Fits, Owns, Allowed, fitting}
+
   -- ---- a step
 
   pub record Makes (e : Event) (given : List ℕ) (m : Machine V R) (old new : C) : Type 0 where
@@ -93,13 +95,13 @@ module _ {V R : Type 0} (v : Values V R) (C : Type 0) (state : C → CoreState) 
 
   -- ---- a line that is taken
 
-  module _ (r : RunnerState C) (d : Desk V R) (at : IsAtDesk state Fits Owns d r) where
+  module _ (r : RunnerState C) (d : Desk V R) (at : AtDesk F d r) where
     pub record Acted (line : LineValue) (reply : ReplyValue) (s : RunnerState C) : Type 0 where
       pub ss : List (Stepped V)
       pub next : Desk V R
       pub run : Run v ss d.machine next.machine
       pub acts : machine.Acts v line reply ss d next
-      pub stays : IsAtDesk state Fits Owns next s
+      pub stays : AtDesk F next s
 
     -- what actors own before the line
     abbrev pub owned : ℕ → Kept → Type 0
@@ -129,7 +131,7 @@ module _ {V R : Type 0} (v : Values V R) (C : Type 0) (state : C → CoreState) 
 
     -- what a line does is what the machine may do where it does so if it is taken
     pub taken_or_not : (line : LineValue) (reply : ReplyValue) (s : RunnerState C) → line ≢ lines.Reopen → (Admits line r.sessions (state r.core) → Acts C state line reply r s → Acted line reply s)
-        → ActsOrNot C state line reply r s → LeadsTo v state Fits Owns line reply d s
+        → ActsOrNot C state line reply r s → Leads F line reply d s
     taken_or_not line reply s other taken (inl admitted) =
         let acted = taken admitted.0 admitted.1 in
         record {
@@ -142,7 +144,7 @@ module _ {V R : Type 0} (v : Values V R) (C : Type 0) (state : C → CoreState) 
       steps = [];
       next = d;
       line_is = (refl, says_so v line reply [] d d other (inr (barred.0, bars_by line barred.0 (state r.core).stop refl barred.2, barred.1, refl, refl)));
-      at = subst (λ (t : RunnerState C). IsAtDesk state Fits Owns d t) (sym barred.3) at;
+      at = subst (λ (t : RunnerState C). AtDesk F d t) (sym barred.3) at;
     }
 
     -- ---- a line that is one step, whatever was given
@@ -150,7 +152,7 @@ module _ {V R : Type 0} (v : Values V R) (C : Type 0) (state : C → CoreState) 
     module _ (s : RunnerState C) (sessions : s.sessions ≡ r.sessions) where
       -- the desk after a step that leaves sessions as they were
       pub desk_after : (n : Machine V R) → Fits n (state s.core) → IsRunning (state s.core) → WritersGive r.sessions (state s.core).parts
-          → ((b : ℕ) (k : Kept) → owned b k → Owns b k n (state s.core)) → IsAtDesk state Fits Owns (record { machine = n; sessions = d.sessions }) s
+          → ((b : ℕ) (k : Kept) → owned b k → Owns b k n (state s.core)) → AtDesk F (record { machine = n; sessions = d.sessions }) s
       desk_after n fits runs gives owns = record {
         runs = runs;
         fits = fits;

@@ -52,7 +52,7 @@ use Rattle.script_runner.proofs.DeskGiving.{desk_put, gives_still}
 use Rattle.script_runner.proofs.DeskSessions.{DeskSession, desk_session, put_quiet, session_on}
 use Rattle.script_runner.proofs.DeskSteps.{Acted, Makes, answers_so, makes, number_so, one_step, run_more}
 use Rattle.script_runner.proofs.DeskTurns.{TurnsMade, TurnsStop, answering, due_of, paused_of, taken_of, turn_made, turn_refused, turns_made, turns_stop}
-use Rattle.script_runner.proofs.Fitting.{Fitting}
+use Rattle.script_runner.proofs.Fitting.{AtDesk, Fitted}
 use Rattle.script_runner.proofs.LinesPush.{why_long}
 use Rattle.script_runner.proofs.TurnIdle.{idle, idle_due, idle_has, settled_idle}
 
@@ -90,8 +90,10 @@ done_runs : (stop : Option Stop) (e : Event) (answer : Answer) (old new : CoreSt
 done_runs None e answer old new is does step = is
 done_runs (Some stop) e answer old new is does step = absurd (let both = sym does ∙ step.answer_is in cc)
 
-module _ {V R : Type 0} (v : Values V R) (C : Type 0) (state : C → CoreState) (Fits : Machine V R → CoreState → Type 0) (Owns : ℕ → Kept → Machine V R → CoreState → Type 0) (Allowed : List ℕ → Type 0) (fitting : Fitting v C state Fits Owns Allowed) (r : RunnerState C) (d : Desk V R) (at : IsAtDesk state Fits Owns d r) (s : RunnerState C)
-    (a : ℕ) (below : a < ACTORS) (allowed : (b : ℕ) (t : Session) → machine.session_of v d b ≡ Some t → Allowed t.given) where
+module _ (F : Fitted) (r : RunnerState F.C) (d : Desk F.V F.R) (at : AtDesk F d r) (s : RunnerState F.C)
+    (a : ℕ) (below : a < ACTORS) (allowed : (b : ℕ) (t : Session) → machine.session_of F.v d b ≡ Some t → F.Allowed t.given) where
+  open F use {V, R, v, C, state, Fits, Owns, Allowed, fitting}
+
   abbrev owned : Machine V R → C → Kept → Type 0
   owned m c k = Owns a k m (state c)
 
@@ -99,13 +101,13 @@ module _ {V R : Type 0} (v : Values V R) (C : Type 0) (state : C → CoreState) 
   giving : (n : Machine V R) (t : Session) (y : SessionState) → s.sessions ≡ with_session r.sessions a (Some y) → IsSessionOf (owned n s.core) t y → Fits n (state s.core) → IsRunning (state s.core)
       → ((b : ℕ) → b ≢ a → part_of (state s.core).parts b ≡ part_of (state r.core).parts b)
       → ((b : ℕ) (k : Kept) → b ≢ a → Owns b k d.machine (state r.core) → Owns b k n (state s.core))
-      → IsAtDesk state Fits Owns (record { machine = n; sessions = machine.with_session v a (Some t) d }) s
-  giving n t y sessions is fits runs others owns = desk_put v C state Fits Owns Allowed fitting r d at s a n (Some t) (Some y) sessions fits runs is others (gives_still v C state Fits Owns Allowed fitting r d at s a y below) owns
+      → AtDesk F (record { machine = n; sessions = machine.with_session v a (Some t) d }) s
+  giving n t y sessions is fits runs others owns = desk_put F r d at s a n (Some t) (Some y) sessions fits runs is others (gives_still F r d at s a y below) owns
 
   -- ---- a turn
 
   abbrev Turns : ReplyValue → Type 0
-  Turns reply = Acted v C state Fits Owns Allowed fitting r d at (lines.Turn a) reply s
+  Turns reply = Acted F r d at (lines.Turn a) reply s
 
   module _ (x y : SessionState) (there : session_of r.sessions a ≡ Some x) (sessions : s.sessions ≡ with_session r.sessions a (Some y)) where
     was : DeskSession (owned d.machine r.core) d.sessions a x
@@ -133,7 +135,7 @@ module _ {V R : Type 0} (v : Values V R) (C : Type 0) (state : C → CoreState) 
               (λ c differs. ap (λ (core : C). part_of (state core).parts c) none.3) (λ c k differs owns. subst (λ (core : C). Owns c k d.machine (state core)) (sym none.3) owns);
         }
     turn_done b told same (Some answer) told_is turn =
-        let one = turn_made v C state Fits Owns Allowed fitting a answer was.s x y d.machine r.core s.core was.is (allowed a was.s was.there) at.runs at.fits turn in
+        let one = turn_made F a answer was.s x y d.machine r.core s.core was.is (allowed a was.s was.there) at.runs at.fits turn in
         let replied : Result Done Refusal = answered_by (Ok answer) one.buf in
         record {
           ss = step_of v a (asked_as (λ root. v.of was.s.given) one.step) replied ∷ [];
@@ -150,7 +152,7 @@ module _ {V R : Type 0} (v : Values V R) (C : Type 0) (state : C → CoreState) 
 
     turn_not_done : (refusal : Refusal) → TakesTurn C state a (Err refusal) x y r.core s.core → Turns (replies.Refused refusal)
     turn_not_done refusal refused =
-        let one = turn_refused v C state Fits Owns Allowed fitting a [] refusal was.s x y d.machine r.core s.core was.is (allowed a was.s was.there) at.runs at.fits refused in
+        let one = turn_refused F a [] refusal was.s x y d.machine r.core s.core was.is (allowed a was.s was.there) at.runs at.fits refused in
         record {
           ss = one.more;
           next = record { machine = one.next; sessions = machine.with_session v a (Some was.s) d };
@@ -172,7 +174,7 @@ module _ {V R : Type 0} (v : Values V R) (C : Type 0) (state : C → CoreState) 
 
   module _ (digits : List ℕ) where
     abbrev Pushes : ReplyValue → Type 0
-    Pushes reply = Acted v C state Fits Owns Allowed fitting r d at (lines.Push a digits) reply s
+    Pushes reply = Acted F r d at (lines.Push a digits) reply s
 
     abbrev bytes : List ℕ
     bytes = pushed_bytes digits
@@ -184,7 +186,7 @@ module _ {V R : Type 0} (v : Values V R) (C : Type 0) (state : C → CoreState) 
       pushed : (b count : ℕ) → b ≡ a → Feeds C state a (Ok tt) bytes x y r.core s.core → count ≡ y.count → Pushes (replies.Pushed b count)
       pushed b count same feeds counts =
           let mid : SessionState = feeds.1 in
-          let went = turns_made v C state Fits Owns Allowed fitting a feeds.0 gave.s x mid d.machine r.core s.core gave.is (allowed a gave.s gave.there) at.runs at.fits feeds.2 in
+          let went = turns_made F a feeds.0 gave.s x mid d.machine r.core s.core gave.is (allowed a gave.s gave.there) at.runs at.fits feeds.2 in
           let h : History = went.is.history in
           let has : HasHistory y (record h { given = h.given ++ bytes }) = feeds.4 h went.is.has in
           let given_is : h.given ++ bytes ≡ went.t.given ++ bytes = ap (λ (l : List ℕ). l ++ bytes) went.is.given_is in
@@ -219,7 +221,7 @@ module _ {V R : Type 0} (v : Values V R) (C : Type 0) (state : C → CoreState) 
 
       not_pushed : (refusal : Refusal) → x.ended ≡ false → Feeds C state a (Err refusal) bytes x y r.core s.core → Pushes (replies.Refused refusal)
       not_pushed refusal on (inl stopped) =
-          let stop = turns_stop v C state Fits Owns Allowed fitting a refusal gave.s x y d.machine r.core s.core gave.is (allowed a gave.s gave.there) at.runs at.fits stopped.0 in
+          let stop = turns_stop F a refusal gave.s x y d.machine r.core s.core gave.is (allowed a gave.s gave.there) at.runs at.fits stopped.0 in
           record {
             ss = stop.ss;
             next = record { machine = stop.next; sessions = machine.with_session v a (Some stop.t) d };
@@ -228,7 +230,7 @@ module _ {V R : Type 0} (v : Values V R) (C : Type 0) (state : C → CoreState) 
             stays = giving stop.next stop.t y sessions stop.is stop.fits stop.runs stop.others stop.stays;
           }
       not_pushed refusal on (inr long) =
-          let went = turns_made v C state Fits Owns Allowed fitting a long.0 gave.s x y d.machine r.core s.core gave.is (allowed a gave.s gave.there) at.runs at.fits long.1 in
+          let went = turns_made F a long.0 gave.s x y d.machine r.core s.core gave.is (allowed a gave.s gave.there) at.runs at.fits long.1 in
           let off : y.ended ≡ false = (turns_stay C state a long.0 x y r.core s.core long.1).ended ∙ on in
           let why = why_long y (length bytes) refusal false off off long.2 in
           let count : y.count ≡ length went.t.given = (bytes_are_counted y went.is.history went.is.has).0 ∙ ap length went.is.given_is in
@@ -264,7 +266,7 @@ module _ {V R : Type 0} (v : Values V R) (C : Type 0) (state : C → CoreState) 
 
   module _ (name : List ℕ) where
     abbrev Commits : ReplyValue → Type 0
-    Commits reply = Acted v C state Fits Owns Allowed fitting r d at (lines.Commit a name) reply s
+    Commits reply = Acted F r d at (lines.Commit a name) reply s
 
     module _ (x y : SessionState) (there : session_of r.sessions a ≡ Some x) where
       wrote : DeskSession (owned d.machine r.core) d.sessions a x
@@ -272,8 +274,8 @@ module _ {V R : Type 0} (v : Values V R) (C : Type 0) (state : C → CoreState) 
 
       -- after all turns
       module _ (told : List Answer) (mid : C) (run : TurnRun C state a told x y r.core mid) (root : Root) (ready : IsReady root y) where
-        went : TurnsMade v C state Fits Owns Allowed fitting a told wrote.s x y d.machine r.core mid run
-        went = turns_made v C state Fits Owns Allowed fitting a told wrote.s x y d.machine r.core mid wrote.is (allowed a wrote.s wrote.there) at.runs at.fits run
+        went : TurnsMade F a told wrote.s x y d.machine r.core mid run
+        went = turns_made F a told wrote.s x y d.machine r.core mid wrote.is (allowed a wrote.s wrote.there) at.runs at.fits run
 
         abbrev commits : Asked V
         commits = asked.Commit name (v.of went.t.given)
@@ -281,9 +283,9 @@ module _ {V R : Type 0} (v : Values V R) (C : Type 0) (state : C → CoreState) 
         nothing : NothingIsDue v went.t
         nothing = nothing_of v (owned went.next mid) went.t y went.is ready.done
 
-        make : (answer : Result Answer Refusal) (buf : List ℕ) → StepOf a (steps.Commit name root) answer buf (state mid) (state s.core) → Makes v C state Fits Owns Allowed fitting (record { actor = a; step = steps.Commit name root; answer = answer; buf = buf }) went.t.given went.next mid s.core
+        make : (answer : Result Answer Refusal) (buf : List ℕ) → StepOf a (steps.Commit name root) answer buf (state mid) (state s.core) → Makes F (record { actor = a; step = steps.Commit name root; answer = answer; buf = buf }) went.t.given went.next mid s.core
         make answer buf step =
-            makes v C state Fits Owns Allowed fitting (record { actor = a; step = steps.Commit name root; answer = answer; buf = buf }) went.t.given mid s.core went.next went.runs went.fits
+            makes F (record { actor = a; step = steps.Commit name root; answer = answer; buf = buf }) went.t.given mid s.core went.next went.runs went.fits
             (y, taken_of Allowed (owned went.next mid) went.t y went.is (subst Allowed (sym went.given_is) (allowed a wrote.s wrote.there)), ready, root_so (owned went.next mid) went.t y root went.is ready) step
 
         others_so : (n : C) → ((b : ℕ) → b ≢ a → part_of (state n).parts b ≡ part_of (state mid).parts b) → (b : ℕ) → b ≢ a → part_of (state n).parts b ≡ part_of (state r.core).parts b
@@ -312,7 +314,7 @@ module _ {V R : Type 0} (v : Values V R) (C : Type 0) (state : C → CoreState) 
                 next = record { machine = one.next; sessions = machine.with_session v a None d };
                 run = run_more v went.made (step_of v a commits replied ∷ []) d.machine went.next one.next went.run (one_step v a commits replied went.next one.next one.legal);
                 acts = (wrote.s, went.t, (wrote.there, refl), inl (went.made, went.turns, nothing, (replied, refl, is.0)));
-                stays = desk_put v C state Fits Owns Allowed fitting r d at s a one.next None None sessions one.fits one.runs tt (others_so s.core one.others) (λ none. is.1) (λ c k differs owns. one.keeps.others c k differs (went.stays c k differs owns));
+                stays = desk_put F r d at s a one.next None None sessions one.fits one.runs tt (others_so s.core one.others) (λ none. is.1) (λ c k differs owns. one.keeps.others c k differs (went.stays c k differs owns));
               }
 
         -- it was refused, and the session is what it was at the end of the turns
@@ -342,7 +344,7 @@ module _ {V R : Type 0} (v : Values V R) (C : Type 0) (state : C → CoreState) 
 
       put_refused : (refusal : Refusal) → s.sessions ≡ with_session r.sessions a (Some y) → RefusesPut C state a name refusal x y r.core s.core → Commits (replies.Refused refusal)
       put_refused refusal sessions (inl stopped) =
-          let stop = turns_stop v C state Fits Owns Allowed fitting a refusal wrote.s x y d.machine r.core s.core wrote.is (allowed a wrote.s wrote.there) at.runs at.fits stopped in
+          let stop = turns_stop F a refusal wrote.s x y d.machine r.core s.core wrote.is (allowed a wrote.s wrote.there) at.runs at.fits stopped in
           record {
             ss = stop.ss;
             next = record { machine = stop.next; sessions = machine.with_session v a (Some stop.t) d };

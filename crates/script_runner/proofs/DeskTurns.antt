@@ -31,7 +31,7 @@ use Rattle.session_turns.proofs.Told.{told}
 use Rattle.script_runner.specs.LinesAreRuns.{IsSessionOf, Kept}
 use Rattle.script_runner.proofs.DeskSessions.{session_on}
 use Rattle.script_runner.proofs.DeskSteps.{Makes, makes, one_step, run_more}
-use Rattle.script_runner.proofs.Fitting.{Fitting, HasTaken, IsAskedFor}
+use Rattle.script_runner.proofs.Fitting.{Fitted, HasTaken, IsAskedFor}
 
 -- ---- sessions
 
@@ -92,7 +92,9 @@ module _ {V R : Type 0} (v : Values V R) where
         room_last a ys (answering answer s) t x (subst (λ (b : Answer). AreTurns v a ys (answering b s) t) same turns.2.2) (room.1 answer is) crowded none,
   )
 
-module _ {V R : Type 0} (v : Values V R) (C : Type 0) (state : C → CoreState) (Fits : Machine V R → CoreState → Type 0) (Owns : ℕ → Kept → Machine V R → CoreState → Type 0) (Allowed : List ℕ → Type 0) (fitting : Fitting v C state Fits Owns Allowed) (a : ℕ) where
+module _ (F : Fitted) (a : ℕ) where
+  open F use {V, R, v, C, state, Fits, Owns, Allowed, fitting}
+
   abbrev owned : ℕ → Machine V R → C → Kept → Type 0
   owned b m c k = Owns b k m (state c)
 
@@ -112,7 +114,7 @@ module _ {V R : Type 0} (v : Values V R) (C : Type 0) (state : C → CoreState) 
   pub record AsksFor (due : Due) (s : Session) (x : SessionState) (result : Result Answer Refusal) (m : Machine V R) (old new : C) : Type 0 where
     pub step : StepValue
     pub buf : List ℕ
-    pub made : Makes v C state Fits Owns Allowed fitting (event step result buf) s.given m old new
+    pub made : Makes F (event step result buf) s.given m old new
     pub asks : machine.Asks v due x (asked_of s.given step)
     pub is_asked : IsAskedFor due x step
 
@@ -121,14 +123,14 @@ module _ {V R : Type 0} (v : Values V R) (C : Type 0) (state : C → CoreState) 
   asks_for dues.Claim s x result m old new is allowed runs fits asks = record {
     step = steps.Claim asks.0;
     buf = asks.1;
-    made = makes v C state Fits Owns Allowed fitting (event (steps.Claim asks.0) result asks.1) s.given old new m runs fits (x, taken_of Allowed (owned a m old) s x is allowed, asks.2) asks.3;
+    made = makes F (event (steps.Claim asks.0) result asks.1) s.given old new m runs fits (x, taken_of Allowed (owned a m old) s x is allowed, asks.2) asks.3;
     asks = asks.2;
     is_asked = asks.2;
   }
   asks_for (dues.Seal kind) s x result m old new is allowed runs fits asks = record {
     step = steps.Seal (open_of x kind);
     buf = asks.0;
-    made = makes v C state Fits Owns Allowed fitting (event (steps.Seal (open_of x kind)) result asks.0) s.given old new m runs fits
+    made = makes F (event (steps.Seal (open_of x kind)) result asks.0) s.given old new m runs fits
         (x, kind, taken_of Allowed (owned a m old) s x is allowed, asks.1, refl, asks.2) asks.3;
     asks = refl;
     is_asked = (refl, asks.2);
@@ -140,7 +142,7 @@ module _ {V R : Type 0} (v : Values V R) (C : Type 0) (state : C → CoreState) 
   pub record TurnMade (answer : Answer) (s : Session) (y : SessionState) (m : Machine V R) (old new : C) : Type 0 where
     pub step : StepValue
     pub buf : List ℕ
-    pub made : Makes v C state Fits Owns Allowed fitting (event step (Ok answer) buf) s.given m old new
+    pub made : Makes F (event step (Ok answer) buf) s.given m old new
     pub due : IsDueStep v s (asked_of s.given step)
     pub told_is : answer_of (answered_by (Ok answer) buf) ≡ Some answer
     pub is : IsSessionOf (owned a made.next new) (answering answer s) y

@@ -26,12 +26,14 @@ use Rattle.store_machine.specs.Asked as asked
 use Rattle.store_machine.specs.Done.{Done}
 use Rattle.store_machine.specs.Done as done
 use Rattle.store_machine.specs.Legal.{Legal}
-use Rattle.store_machine.specs.Lines.{step_of}
+use Rattle.script_lines.specs.Grammar.{LineValue}
+use Rattle.script_lines.specs.ReplyValue.{ReplyValue}
+use Rattle.store_machine.specs.Lines.{Desk, step_of}
 use Rattle.store_machine.specs.Machine.{Machine, Running, Stopped, kind_of, part_in}
 use Rattle.store_machine.specs.Values.{Values}
 use Rattle.core_machine.specs.Refines.{answered_by, asked_as}
-use Rattle.script_runner.specs.Acts.{IsReady}
-use Rattle.script_runner.specs.LinesAreRuns.{Kept}
+use Rattle.script_runner.specs.Acts.{IsReady, RunnerState}
+use Rattle.script_runner.specs.LinesAreRuns.{IsAtDesk, Kept, LeadsTo}
 use Rattle.script_runner.proofs.DeskParts.{IsQuiet}
 
 -- the session took these bytes, which are allowed, and P holds of what is kept
@@ -81,3 +83,21 @@ pub record Fitting {V R : Type 0} (v : Values V R) (C : Type 0) (state : C → C
   pub unopened : (a : ℕ) (refusal : Refusal) (old new : C) (m : Machine V R) → Fits m (state old) → OpensNone C (λ c. (state c).disk) refusal (state old).disk (state new).disk
       → StaysOrStops C (λ c. (state c).disk) refusal (state old) (state new)
       → (n : Machine V R) × (Legal v (step_of v a asked.Reopen (Err refusal)) m n × Fits n (state new) × ((b : ℕ) (k : Kept) → Owns b k m (state old) → Owns b k n (state new)))
+
+-- A relation of machines and cores that gives it, of all that it speaks of.
+pub record Fitted : Type 1 where
+  pub V : Type 0
+  pub R : Type 0
+  pub v : Values V R
+  pub C : Type 0
+  pub state : C → CoreState
+  pub Fits : Machine V R → CoreState → Type 0
+  pub Owns : ℕ → Kept → Machine V R → CoreState → Type 0
+  pub Allowed : List ℕ → Type 0
+  pub fitting : Fitting v C state Fits Owns Allowed
+
+abbrev pub AtDesk : (F : Fitted) → Desk F.V F.R → RunnerState F.C → Type 0
+AtDesk F d r = IsAtDesk F.state F.Fits F.Owns d r
+
+abbrev pub Leads : (F : Fitted) → LineValue → ReplyValue → Desk F.V F.R → RunnerState F.C → Type 0
+Leads F line reply d s = LeadsTo F.v F.state F.Fits F.Owns line reply d s

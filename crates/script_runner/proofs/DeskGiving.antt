@@ -1,5 +1,5 @@
 -- Lines that begin, finish or abort a file, as lines of a machine that fits the core.
-use Rattle.std.proofs.Common.{◌≡◌, ◌≢◌, ◌⊎◌, ◌==◌, inl, inr, ◌∙◌, ◌<◌, ℕ, Bool, true, false, List, [], ◌∷◌, ◌++◌, length, slice_index_or, slice_set, Option, Some, None, Result, Ok, Err, refl, sym, ap, subst, arith}
+use Rattle.std.proofs.Common.{◌≡◌, ◌≢◌, ◌==◌, inl, inr, ◌∙◌, ◌<◌, ℕ, Bool, true, false, List, [], ◌∷◌, length, Option, Some, None, Result, Ok, Err, refl, sym, ap, subst, arith}
 use Rattle.std.proofs.lemmas.Bool.{eqb-true, eqb-false}
 use Rattle.std.proofs.lemmas.List.{get_or-set_other, length-set, set-get_or}
 use Rattle.actor_parts.specs.declared.actor.TheConstants.{ACTORS}
@@ -8,13 +8,12 @@ use Rattle.actor_parts.specs.declared.part.Part.TheVariants as core_parts
 use Rattle.actor_parts.specs.declared.step.Answer.{Answer}
 use Rattle.actor_parts.specs.declared.step.Answer.TheVariants as answers
 use Rattle.actor_parts.specs.Kinds as core_kinds
-use Rattle.actor_parts.specs.Parts.{part_of, with_part}
+use Rattle.actor_parts.specs.Parts.{part_of}
 use Rattle.actor_parts.specs.StepValue as steps
 use Rattle.actor_parts.specs.StepValue.{StepValue}
 use Rattle.refusals.specs.declared.refusal.PartKind.{PartKind}
 use Rattle.refusals.specs.declared.refusal.PartKind.TheVariants as kinds
 use Rattle.refusals.specs.declared.refusal.Refusal.{Refusal}
-use Rattle.refusals.specs.declared.refusal.Refusal.TheVariants as refusals
 use Rattle.ingest_session.specs.Facts.{kept}
 use Rattle.ingest_session.specs.History.{History, HasHistory, no_history}
 use Rattle.ingest_session.specs.State.{SessionState}
@@ -31,16 +30,14 @@ use Rattle.store_machine.specs.Asked as asked
 use Rattle.store_machine.specs.Done.{Done}
 use Rattle.store_machine.specs.Lines as machine
 use Rattle.store_machine.specs.Lines.{Desk, Session, new_session, reply_of, step_of}
-use Rattle.store_machine.specs.Machine.{Machine, Stepped}
-use Rattle.store_machine.specs.Values.{Values}
+use Rattle.store_machine.specs.Machine.{Machine}
 use Rattle.core_machine.specs.Refines.{answered_by}
 use Rattle.script_runner.specs.Acts.{Acts, Admits, RefusesStep, RunnerState}
-use Rattle.script_runner.specs.Follows.{IsOfActor}
-use Rattle.script_runner.specs.LinesAreRuns.{IsAtDesk, IsSessionOf, Kept, SameSession, SameSessions, WritersGive}
+use Rattle.script_runner.specs.LinesAreRuns.{Kept, SameSession, SameSessions, WritersGive}
 use Rattle.script_runner.specs.Sessions.{Sessions, has_ended, kind_by, kind_in, session_of, with_session}
-use Rattle.script_runner.proofs.DeskParts.{WroteBefore, same_wrote}
+use Rattle.script_runner.proofs.DeskParts.{same_wrote}
 use Rattle.script_runner.proofs.DeskSessions.{DeskSession, desk_session, gives_on, is_put, put_quiet, same_on, same_put}
-use Rattle.script_runner.proofs.DeskSteps.{Acted, Makes, makes, one_step}
+use Rattle.script_runner.proofs.DeskSteps.{Acted, makes, one_step}
 use Rattle.script_runner.proofs.Fitting.{AtDesk, Fitted, Keeps}
 
 begin_answer : (a : ℕ) (answer : Answer) (buf : List ℕ) (old new : CoreState) → BeginRow a (Ok answer) old new → replies.Begun a ≡ reply_of a (answered_by (Ok answer) buf)
@@ -61,10 +58,12 @@ abort_quiet a answer old new row = absurd row
 abbrev pub TakesGiver : LineValue → Type 0
 TakesGiver line = (p : PartKind) → takes line (kind_by None p) ≡ true → ⊥
 
-pub giver : (line : LineValue) (a : ℕ) (sessions : Sessions) (parts : List core_part.Part) → TakesGiver line → takes line (kind_in sessions parts a) ≡ true → (x : SessionState) × (session_of sessions a ≡ Some x)
+pub giver : (line : LineValue) (a : ℕ) (sessions : Sessions) (parts : List core_part.Part) → TakesGiver line → takes line (kind_in sessions parts a) ≡ true
+    → (x : SessionState) × (session_of sessions a ≡ Some x)
 giver line a sessions parts needs taken = by (session_of sessions a) refl taken
   where
-    by : (o : Option SessionState) → session_of sessions a ≡ o → takes line (kind_by (has_ended o) (core_kinds.kind_of (part_of parts a))) ≡ true → (x : SessionState) × (session_of sessions a ≡ Some x)
+    by : (o : Option SessionState) → session_of sessions a ≡ o → takes line (kind_by (has_ended o) (core_kinds.kind_of (part_of parts a))) ≡ true
+        → (x : SessionState) × (session_of sessions a ≡ Some x)
     by None is takes_none = absurd (needs (core_kinds.kind_of (part_of parts a)) takes_none)
     by (Some x) is takes_some = (x, is)
 
@@ -74,7 +73,8 @@ module _ (F : Fitted) (r : RunnerState F.C) (d : Desk F.V F.R) (at : AtDesk F d 
   -- ---- a desk after a line of one actor, whose session is another
 
   -- the session of the actor is put, or taken
-  pub desk_put : (n : Machine V R) (session : Option Session) (x : Option SessionState) → s.sessions ≡ with_session r.sessions a x → Fits n (state s.core) → IsRunning (state s.core) → SameSession (λ k. Owns a k n (state s.core)) session x
+  pub desk_put : (n : Machine V R) (session : Option Session) (x : Option SessionState) → s.sessions ≡ with_session r.sessions a x → Fits n (state s.core)
+      → IsRunning (state s.core) → SameSession (λ k. Owns a k n (state s.core)) session x
       → ((b : ℕ) → b ≢ a → part_of (state s.core).parts b ≡ part_of (state r.core).parts b)
       → (session_of (with_session r.sessions a x) a ≡ None → core_kinds.kind_of (part_of (state s.core).parts a) ≢ kinds.Writing)
       → ((b : ℕ) (k : Kept) → b ≢ a → Owns b k d.machine (state r.core) → Owns b k n (state s.core))
@@ -86,7 +86,8 @@ module _ (F : Fitted) (r : RunnerState F.C) (d : Desk F.V F.R) (at : AtDesk F d 
         (same_put (λ b k. Owns b k d.machine (state r.core)) (λ b k. Owns b k n (state s.core)) d.sessions r.sessions at.same a session x same owns);
     many = ap length sessions ∙ length-set r.sessions a x ∙ at.many;
     give = subst (λ (xs : Sessions). WritersGive xs (state s.core).parts) (sym sessions)
-        (gives_on a r.sessions (with_session r.sessions a x) (state r.core).parts (state s.core).parts at.give (λ b differs. get_or-set_other r.sessions a b x None differs) others own);
+        (gives_on a r.sessions (with_session r.sessions a x) (state r.core).parts (state s.core).parts at.give
+        (λ b differs. get_or-set_other r.sessions a b x None differs) others own);
   }
 
   -- the actor has a session, so nothing is to be shown of it
@@ -94,7 +95,8 @@ module _ (F : Fitted) (r : RunnerState F.C) (d : Desk F.V F.R) (at : AtDesk F d 
   gives_still x below none = absurd (is_put r.sessions a x (omega (arith, below, at.many)) none)
 
   -- sessions are as they were, that of the actor too
-  pub desk_same : (n : Machine V R) → s.sessions ≡ r.sessions → Fits n (state s.core) → IsRunning (state s.core) → ((b : ℕ) → b ≢ a → part_of (state s.core).parts b ≡ part_of (state r.core).parts b)
+  pub desk_same : (n : Machine V R) → s.sessions ≡ r.sessions → Fits n (state s.core) → IsRunning (state s.core)
+      → ((b : ℕ) → b ≢ a → part_of (state s.core).parts b ≡ part_of (state r.core).parts b)
       → (session_of r.sessions a ≡ None → core_kinds.kind_of (part_of (state s.core).parts a) ≢ kinds.Writing)
       → ((b : ℕ) (k : Kept) → Owns b k d.machine (state r.core) → Owns b k n (state s.core))
       → AtDesk F (record { machine = n; sessions = machine.with_session v a (machine.session_of v d a) d }) s
@@ -118,16 +120,19 @@ module _ (F : Fitted) (r : RunnerState F.C) (d : Desk F.V F.R) (at : AtDesk F d 
 
   -- a step of this actor that was refused leaves all they own
   refused_owns : (step : StepValue) (refusal : Refusal) (buf : List ℕ) (n : Machine V R)
-      → Keeps Owns (record { actor = a; step = step; answer = Err refusal; buf = buf }) d.machine n (state r.core) (state s.core) → (b : ℕ) (k : Kept) → Owns b k d.machine (state r.core) → Owns b k n (state s.core)
+      → Keeps Owns (record { actor = a; step = step; answer = Err refusal; buf = buf }) d.machine n (state r.core) (state s.core) → (b : ℕ) (k : Kept)
+      → Owns b k d.machine (state r.core) → Owns b k n (state s.core)
   refused_owns step refusal buf n keeps b k owns = by (b == a) refl
     where
       by : (same : Bool) → (b == a) ≡ same → Owns b k n (state s.core)
-      by true is = let so = eqb-true b a is in subst (λ (c : ℕ). Owns c k n (state s.core)) (sym so) (keeps.refused k refusal refl (subst (λ (c : ℕ). Owns c k d.machine (state r.core)) so owns))
+      by true is = let so = eqb-true b a is in subst (λ (c : ℕ). Owns c k n (state s.core)) (sym so)
+          (keeps.refused k refusal refl (subst (λ (c : ℕ). Owns c k d.machine (state r.core)) so owns))
       by false is = keeps.others b k (eqb-false b a is) owns
 
   pub no_step : s.core ≡ r.core → s.sessions ≡ r.sessions → AtDesk F (record { machine = d.machine; sessions = machine.with_session v a (machine.session_of v d a) d }) s
   no_step same sessions =
-      desk_same d.machine sessions (subst (λ (c : C). Fits d.machine (state c)) (sym same) at.fits) (subst (λ (c : C). IsRunning (state c)) (sym same) at.runs) (λ b differs. same_parts same b)
+      desk_same d.machine sessions (subst (λ (c : C). Fits d.machine (state c)) (sym same) at.fits) (subst (λ (c : C). IsRunning (state c)) (sym same) at.runs)
+      (λ b differs. same_parts same b)
       (λ none writes. at.give a none (ap core_kinds.kind_of (sym (same_parts same a)) ∙ writes)) (core_owns same)
 
   -- ---- a file begins
@@ -166,7 +171,14 @@ module _ (F : Fitted) (r : RunnerState F.C) (d : Desk F.V F.R) (at : AtDesk F d 
           run = one_step v a asked.Begin told d.machine one.next one.legal;
           acts = (refl, inl (told, refl, ap replies.Begun acts.0 ∙ begin_answer a answer does.0 (state r.core) (state s.core) row));
           stays = desk_put one.next (Some new_session) (Some x) begins.5 one.fits one.runs
-              (record { history = no_history; has = begins.4; given_is = refl; answers_are = refl; ended_is = begins.3.ongoing; owns = one.keeps.begun answer refl refl }) one.others (gives_still x below)
+              (record {
+                history = no_history;
+                has = begins.4;
+                given_is = refl;
+                answers_are = refl;
+                ended_is = begins.3.ongoing;
+                owns = one.keeps.begun answer refl refl;
+              }) one.others (gives_still x below)
               (λ c k differs owns. one.keeps.others c k differs owns);
         }
     begin_acts (replies.Refused refusal) acts =
@@ -198,7 +210,8 @@ module _ (F : Fitted) (r : RunnerState F.C) (d : Desk F.V F.R) (at : AtDesk F d 
         let ends = acts.1.0 in
         let x : SessionState = ends.0 in
         let y : SessionState = ends.1 in
-        let was : DeskSession (λ k. Owns a k d.machine (state r.core)) d.sessions a x = desk_session (λ b k. Owns b k d.machine (state r.core)) d.sessions r.sessions at.same a x ends.2.0 in
+        let was : DeskSession (λ k. Owns a k d.machine (state r.core)) d.sessions a x = desk_session
+        (λ b k. Owns b k d.machine (state r.core)) d.sessions r.sessions at.same a x ends.2.0 in
         let h : History = was.is.history in
         let has : HasHistory y h = ends.4 h was.is.has in
         let same = ends.6 in
@@ -212,14 +225,24 @@ module _ (F : Fitted) (r : RunnerState F.C) (d : Desk F.V F.R) (at : AtDesk F d 
             refl,
             inl (ap (λ (z : ℕ). replies.Finished z count) acts.0 ∙ ap (replies.Finished a) (ends.5 ∙ (bytes_are_counted y h has).0 ∙ ap length was.is.given_is)),
           );
-          stays = desk_put d.machine (Some (record was.s { ended = true })) (Some y) ends.2.1 (subst (λ (c : C). Fits d.machine (state c)) (sym same) at.fits) (subst (λ (c : C). IsRunning (state c)) (sym same) at.runs)
-              (record { history = h; has = has; given_is = was.is.given_is; answers_are = was.is.answers_are; ended_is = ends.3.ended; owns = core_owns same a (kept h) was.is.owns }) (λ c differs. same_parts same c) (gives_still y below)
+          stays = desk_put d.machine (Some (record was.s { ended = true })) (Some y) ends.2.1 (subst (λ (c : C). Fits d.machine (state c)) (sym same) at.fits)
+              (subst (λ (c : C). IsRunning (state c)) (sym same) at.runs)
+              (record {
+                history = h;
+                has = has;
+                given_is = was.is.given_is;
+                answers_are = was.is.answers_are;
+                ended_is = ends.3.ended;
+                owns = core_owns same a
+                    (kept h) was.is.owns;
+              }) (λ c differs. same_parts same c) (gives_still y below)
               (λ c k differs owns. core_owns same c k owns);
         }
     finish_acts (replies.Refused refusal) acts =
         let ends = acts.0 in
         let gives = giver (lines.Finish a) a r.sessions (state r.core).parts finish_needs (admits.taken a refl) in
-        let was : DeskSession (λ k. Owns a k d.machine (state r.core)) d.sessions a gives.0 = desk_session (λ b k. Owns b k d.machine (state r.core)) d.sessions r.sessions at.same a gives.0 gives.1 in
+        let was : DeskSession (λ k. Owns a k d.machine (state r.core)) d.sessions a gives.0 = desk_session
+        (λ b k. Owns b k d.machine (state r.core)) d.sessions r.sessions at.same a gives.0 gives.1 in
         record {
           ss = [];
           next = record { machine = d.machine; sessions = machine.with_session v a (machine.session_of v d a) d };
@@ -259,7 +282,8 @@ module _ (F : Fitted) (r : RunnerState F.C) (d : Desk F.V F.R) (at : AtDesk F d 
           next = record { machine = one.next; sessions = machine.with_session v a None d };
           run = one_step v a asked.Abort told d.machine one.next one.legal;
           acts = (was.s, (was.there, refl), (told, refl, ap replies.Aborted acts.0 ∙ abort_answer a answer does.0 (state r.core) (state s.core) row));
-          stays = desk_put one.next None None aborts.1 one.fits one.runs tt one.others (λ none. abort_quiet a answer (state r.core) (state s.core) row) (λ c k differs owns. one.keeps.others c k differs owns);
+          stays = desk_put one.next None None aborts.1 one.fits one.runs tt one.others (λ none. abort_quiet a answer (state r.core) (state s.core) row)
+              (λ c k differs owns. one.keeps.others c k differs owns);
         }
     abort_acts (replies.Refused refusal) acts =
         let aborts = acts.0 in

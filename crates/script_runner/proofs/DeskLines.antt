@@ -1,7 +1,6 @@
 -- Each line that is run is one of a machine that fits the core; and so of the machine of roots, on any disk.
-use Rattle.std.proofs.Common.{◌≡◌, ◌≢◌, ◌∙◌, ◌<◌, ℕ, zero, suc, false, List, [], ◌∷◌, length, slice_index_or, replicate, Option, Some, None, Result, refl, sym, ap, subst}
+use Rattle.std.proofs.Common.{◌≡◌, ◌∙◌, ℕ, zero, suc, false, List, [], ◌∷◌, ◌++◌, length, slice_index_or, replicate, Option, Some, None, refl, sym, ap, subst}
 use Rattle.std.proofs.lemmas.List.{length-replicate}
-use Rattle.std.specs.FinMap as finite
 use Rattle.disk_format.specs.Cells.{Root}
 use Rattle.dd_disk.specs.View.{DiskView}
 use Rattle.merkle_file.specs.declared.top.Top.{Top}
@@ -23,14 +22,14 @@ use Rattle.store_machine.specs.Asked as asked
 use Rattle.store_machine.specs.Legal.{Legal}
 use Rattle.store_machine.specs.Lines as machine
 use Rattle.store_machine.specs.Lines.{Desk, Session, step_of}
-use Rattle.store_machine.specs.Machine.{Idle, Machine, Part, Reading, RunState, Running, Stopped, Writing, kind_of, part_in}
-use Rattle.store_machine.specs.Values.{Values, of_roots}
+use Rattle.store_machine.specs.Machine.{Idle, Machine, Part, Reading, RunState, Running, Stopped, Writing, kind_of}
+use Rattle.store_machine.specs.Values.{of_roots}
 use Rattle.core_machine.specs.Refines.{IsMachine, SamePart, SameParts, SameStop, answered_by, asked_as, asked_by}
 use Rattle.core_machine.proofs.Opened.{opened_refines, unopened_refines}
 use Rattle.core_machine.proofs.Refined.{core_refines}
 use Rattle.script_runner.specs.Acts.{RunnerState, RunsLine}
 use Rattle.script_runner.specs.Follows.{IsOfActor}
-use Rattle.script_runner.specs.LinesAreRuns.{BeginsAtDesk, IsAtDesk, Kept, LeadsTo, LinesAreRuns, OwnsAny, SameSessions}
+use Rattle.script_runner.specs.LinesAreRuns.{BeginsAtDesk, IsAtRoots, Kept, LinesAreRuns, OwnsAny, SameSessions, ScriptsAreRuns}
 use Rattle.script_runner.proofs.DeskGiving.{abort_acts, begin_acts, finish_acts}
 use Rattle.script_runner.proofs.DeskReopens.{idle_give, reopen_line}
 use Rattle.script_runner.proofs.DeskSessions.{none_same}
@@ -114,7 +113,8 @@ runs_by count Running stop same none = refl
 runs_by count (Stopped other stores) (Some stop) same none = absurd cc
 runs_by count (Stopped other stores) None same none = absurd same
 
-stops_by : (count : ℕ) (m : RunState Root) (o : Option Stop) (stop : Stop) → SameStop count m o → o ≡ Some stop → ((other : _) × (stores : _) × (m ≡ Stopped other stores)) × (stop.at ≡ count)
+stops_by : (count : ℕ) (m : RunState Root) (o : Option Stop) (stop : Stop) → SameStop count m o → o ≡ Some stop
+    → ((other : _) × (stores : _) × (m ≡ Stopped other stores)) × (stop.at ≡ count)
 stops_by count Running (Some other) stop same is = absurd same
 stops_by count Running None stop same is = absurd cc
 stops_by count (Stopped other stores) (Some one) stop same is = ((other, stores, refl), ap (λ (x : Stop). x.at) (let so : stop ≡ one = cc in so) ∙ same)
@@ -141,13 +141,21 @@ module _ (C : Type 0) (state : C → CoreState) where
   roots_fit : Fitting of_roots C state (IsMachine false) OwnsAny Any
   roots_fit = record {
     step = λ e given old new m runs fits right step.
-        let one = core_refines C state false e old new m runs fits (λ is. absurd cc) step in
-        (one.0, (subst (λ (x : Asked Root). Legal of_roots (step_of of_roots e.actor x (answered_by e.answer e.buf)) m one.0) (asked_so (λ k. Unit {0}) e.step given right) one.1.0, one.1.1, keeps_any e m one.0 (state old) (state new)));
+        let one = core_refines C state false e old new m runs fits (λ is. absurd cc) step in (
+          one.0,
+          (
+            subst (λ (x : Asked Root). Legal of_roots (step_of of_roots e.actor x (answered_by e.answer e.buf)) m one.0)
+                (asked_so (λ k. Unit {0}) e.step given right) one.1.0,
+            one.1.1,
+            keeps_any e m one.0 (state old) (state new),
+          ),
+        );
     runs = λ m c fits none. runs_by m.acknowledged m.state c.stop fits.state none;
     stops = λ m c stop fits is. stops_by m.acknowledged m.state c.stop stop fits.state is;
     kinds = λ m c fits a. part_kinds m.parts c.parts fits.parts a;
     opened = λ a old new m fits opens runs. let one = opened_refines C view C state a old new opens runs in (one.0, (one.1.2 m, one.1.0 false));
-    unopened = λ a refusal old new m fits none leaves. let one = unopened_refines C view C state false a refusal old new m fits none leaves in (one.0, (one.1.0, one.1.1, λ b k owns. tt));
+    unopened = λ a refusal old new m fits none leaves. let one = unopened_refines C view C state false a refusal old new m fits none leaves in
+        (one.0, (one.1.0, one.1.1, λ b k owns. tt));
   }
 
   abbrev roots_fitted : Fitted
@@ -174,3 +182,16 @@ module _ (C : Type 0) (state : C → CoreState) where
     many = ap length sessions ∙ length-replicate {A = Option SessionState} ACTORS None;
     give = idle_give r.sessions (state r.core).parts parts;
   }
+
+  pub scripts_are_runs : ScriptsAreRuns C state
+  scripts_are_runs [] r s d actors at run = record { steps = []; next = d; lines_are = (refl, refl); at = subst (λ (t : RunnerState C). IsAtRoots state d t) (sym run) at }
+  scripts_are_runs (one ∷ more) r s d actors at run =
+      let mid = run.1.0 in
+      let first = lines_are_runs one.line one.reply r mid d actors.0 at run.1.1.0 in
+      let rest = scripts_are_runs more mid s first.next actors.1 first.at run.1.1.1 in
+      record {
+        steps = first.steps ++ rest.steps;
+        next = rest.next;
+        lines_are = (first.steps, rest.steps, first.next, refl, first.line_is, rest.lines_are);
+        at = rest.at;
+      }

@@ -1,19 +1,15 @@
 -- `reopen` as a line of a machine that fits the core.
-use Rattle.std.proofs.Common.{◌≡◌, ◌≢◌, ◌⊎◌, inl, inr, ◌∙◌, ℕ, zero, suc, List, [], ◌∷◌, length, slice_index_or, replicate, Option, Some, None, Result, Ok, Err, refl, sym, ap, subst}
+use Rattle.std.proofs.Common.{◌≡◌, inl, inr, ◌∙◌, ℕ, zero, suc, List, [], ◌∷◌, length, slice_index_or, replicate, Option, None, Result, Ok, Err, refl, sym, ap, subst}
 use Rattle.std.proofs.lemmas.List.{length-replicate}
 use Rattle.std.specs.FinMap as finite
 use Rattle.actor_parts.specs.declared.actor.TheConstants.{ACTORS}
 use Rattle.actor_parts.specs.declared.part.Part as core_part
 use Rattle.actor_parts.specs.declared.part.Part.TheVariants as core_parts
-use Rattle.actor_parts.specs.declared.step.Answer.{Answer}
-use Rattle.actor_parts.specs.declared.step.Answer.TheVariants as answers
 use Rattle.actor_parts.specs.Kinds as core_kinds
 use Rattle.actor_parts.specs.Parts.{part_of}
 use Rattle.actor_parts.specs.StepValue as steps
 use Rattle.dd_disk.specs.View.{DiskView}
-use Rattle.refusals.specs.declared.refusal.PartKind.TheVariants as kinds
 use Rattle.refusals.specs.declared.refusal.Refusal.{Refusal}
-use Rattle.refusals.specs.declared.refusal.Refusal.TheVariants as refusals
 use Rattle.ingest_session.specs.State.{SessionState}
 use Rattle.script_lines.specs.Grammar as lines
 use Rattle.script_lines.specs.ReplyValue.{ReplyValue}
@@ -25,15 +21,13 @@ use Rattle.store_machine.specs.Asked as asked
 use Rattle.store_machine.specs.Done.{Done}
 use Rattle.store_machine.specs.Done as done
 use Rattle.store_machine.specs.Legal.{Answers, Legal}
-use Rattle.store_machine.specs.Lines as machine
 use Rattle.store_machine.specs.Lines.{Desk, all_none, step_of}
-use Rattle.store_machine.specs.Machine.{Machine, Stepped}
+use Rattle.store_machine.specs.Machine.{Machine}
 use Rattle.store_machine.specs.Opening as opening
-use Rattle.store_machine.specs.Values.{Values}
 use Rattle.core_machine.specs.Refines.{answered_by}
 use Rattle.script_runner.specs.Acts.{ActsReopen, RefusesReopen, Reopens, RunnerState, counted}
-use Rattle.script_runner.specs.LinesAreRuns.{IsAtDesk, Kept, SameSessions, WritersGive}
-use Rattle.script_runner.specs.Sessions.{Sessions, session_of}
+use Rattle.script_runner.specs.LinesAreRuns.{Kept, SameSessions, WritersGive}
+use Rattle.script_runner.specs.Sessions.{Sessions}
 use Rattle.script_runner.proofs.DeskParts.{quiet_gives}
 use Rattle.script_runner.proofs.DeskSessions.{same_none, same_on}
 use Rattle.script_runner.proofs.DeskSteps.{answers_so, makes, one_step}
@@ -101,7 +95,8 @@ module _ (F : Fitted) (r : RunnerState F.C) (d : Desk F.V F.R) (at : AtDesk F d 
     counting = record { actor = 0; step = steps.Stat; answer = Ok (counted acts.holdings); buf = acts.counts.0 }
 
     -- the number that is told is that of the names
-    module _ (next : Machine V R) (legal : Answers v 0 asked.Stat (Ok (done.Counted acts.holdings.files acts.holdings.segments acts.holdings.bytes acts.holdings.used acts.holdings.free)) n next) where
+    module _ (next : Machine V R)
+        (legal : Answers v 0 asked.Stat (Ok (done.Counted acts.holdings.files acts.holdings.segments acts.holdings.bytes acts.holdings.used acts.holdings.free)) n next) where
       names_are : acts.holdings.files ≡ finite.len n.now.names
       names_are = ap files_of legal.0
         where
@@ -139,7 +134,8 @@ module _ (F : Fitted) (r : RunnerState F.C) (d : Desk F.V F.R) (at : AtDesk F d 
     abbrev told : Result Done Refusal
     told = Err refusal
 
-    unopened_at : (n : Machine V R) → Legal v (step_of v 0 asked.Reopen told) d.machine n → Fits n (state s.core) → IsRunning (state s.core) → (state s.core).parts ≡ (state r.core).parts → ((b : ℕ) (k : Kept) → Owns b k d.machine (state r.core) → Owns b k n (state s.core))
+    unopened_at : (n : Machine V R) → Legal v (step_of v 0 asked.Reopen told) d.machine n → Fits n (state s.core) → IsRunning (state s.core)
+        → (state s.core).parts ≡ (state r.core).parts → ((b : ℕ) (k : Kept) → Owns b k d.machine (state r.core) → Owns b k n (state s.core))
         → Reopened (replies.Refused refusal)
     unopened_at n legal fits runs parts owns = record {
       steps = step_of v 0 asked.Reopen told ∷ [];
@@ -157,13 +153,17 @@ module _ (F : Fitted) (r : RunnerState F.C) (d : Desk F.V F.R) (at : AtDesk F d 
 
     unopened_line : RefusesReopen C state refusal r.core s.core → Reopened (replies.Refused refusal)
     unopened_line refuses = elim refuses.why [
-      | inl memory ↦ unopened_at d.machine (subst (λ (e : Refusal). opening.MayRefuseOpening v e) (sym memory.0) tt, inl refl) (subst (λ (c : C). Fits d.machine (state c)) (sym memory.1) at.fits)
-          (subst (λ (c : C). IsRunning (state c)) (sym memory.1) at.runs) (ap (λ (c : C). (state c).parts) memory.1) (λ b k owns. subst (λ (c : C). Owns b k d.machine (state c)) (sym memory.1) owns)
+      | inl memory ↦ unopened_at d.machine (subst (λ (e : Refusal). opening.MayRefuseOpening v e) (sym memory.0) tt, inl refl)
+          (subst (λ (c : C). Fits d.machine (state c)) (sym memory.1) at.fits)
+          (subst (λ (c : C). IsRunning (state c)) (sym memory.1) at.runs) (ap (λ (c : C). (state c).parts) memory.1)
+          (λ b k owns. subst (λ (c : C). Owns b k d.machine (state c)) (sym memory.1) owns)
       | inr none ↦ by (fitting.unopened 0 refusal r.core s.core d.machine at.fits none.0 none.1) none.1
     ]
       where
-        by : (n : Machine V R) × (Legal v (step_of v 0 asked.Reopen told) d.machine n × Fits n (state s.core) × ((b : ℕ) (k : Kept) → Owns b k d.machine (state r.core) → Owns b k n (state s.core))) → StaysOrStops C view refusal (state r.core) (state s.core) → Reopened (replies.Refused refusal)
-        by went leaves = unopened_at went.0 went.1.0 went.1.1 (stays_runs C view refusal (state r.core) (state s.core) leaves at.runs) (kept_parts C view refusal (state r.core) (state s.core) leaves) went.1.2
+        by : (n : Machine V R) × (Legal v (step_of v 0 asked.Reopen told) d.machine n × Fits n (state s.core) × ((b : ℕ) (k : Kept) → Owns b k d.machine (state r.core)
+            → Owns b k n (state s.core))) → StaysOrStops C view refusal (state r.core) (state s.core) → Reopened (replies.Refused refusal)
+        by went leaves = unopened_at went.0 went.1.0 went.1.1 (stays_runs C view refusal (state r.core) (state s.core) leaves at.runs)
+            (kept_parts C view refusal (state r.core) (state s.core) leaves) went.1.2
 
   pub reopen_line : (reply : ReplyValue) → ActsReopen C state reply r s → Reopened reply
   reopen_line (replies.Opened files) acts = opened_line files acts

@@ -1,12 +1,11 @@
 -- The sessions of a desk beside those of a runner, and what actors are at.
 use Rattle.std.proofs.Common.{◌≡◌, ◌≢◌, ◌∙◌, ◌==◌, ◌<◌, inl, inr, ℕ, zero, suc, Bool, true, false, if◌then◌else◌, List, [], ◌∷◌, length, slice_index_or, slice_set, replicate, Option, Some, None, refl, sym, ap, subst, arith}
 use Rattle.std.proofs.lemmas.Bool.{cases_lt, eqb-true, eqb-false}
-use Rattle.std.proofs.lemmas.List.{get_or-set_same, get_or-set_other, get_or_past, length-set}
+use Rattle.std.proofs.lemmas.List.{get_or-set_same, get_or_past, length-set}
 use Rattle.actor_parts.specs.declared.part.Part as core_part
 use Rattle.actor_parts.specs.declared.part.Part.TheVariants as core_parts
 use Rattle.actor_parts.specs.Kinds as core_kinds
 use Rattle.actor_parts.specs.Parts.{part_of, with_part}
-use Rattle.actor_parts.proofs.Apart.{apart}
 use Rattle.refusals.specs.declared.refusal.PartKind.{PartKind}
 use Rattle.refusals.specs.declared.refusal.PartKind.TheVariants as kinds
 use Rattle.ingest_session.specs.Facts.{kept}
@@ -21,7 +20,8 @@ use Rattle.script_runner.specs.Sessions.{Sessions, has_ended, kind_by, session_o
 
 -- ---- lists of sessions
 
-pub same_at : (P : ℕ → Kept → Type 0) (ds : List (Option Session)) (xs : Sessions) → SameSessions P ds xs → (a : ℕ) → SameSession (P a) (slice_index_or ds a None) (slice_index_or xs a None)
+pub same_at : (P : ℕ → Kept → Type 0) (ds : List (Option Session)) (xs : Sessions) → SameSessions P ds xs → (a : ℕ)
+    → SameSession (P a) (slice_index_or ds a None) (slice_index_or xs a None)
 same_at P [] [] same a = tt
 same_at P [] (x ∷ xs) same a = absurd same
 same_at P (d ∷ ds) [] same a = absurd same
@@ -52,7 +52,8 @@ same_on P Q (d ∷ ds) [] on same = absurd same
 same_on P Q (d ∷ ds) (x ∷ xs) on same = (one_on (P 0) (Q 0) d x (on 0) same.0, same_on (λ b. P (suc b)) (λ b. Q (suc b)) ds xs (λ b k. on (suc b) k) same.1)
 
 -- the session of an actor is put, and the others stay
-pub same_put : (P Q : ℕ → Kept → Type 0) (ds : List (Option Session)) (xs : Sessions) → SameSessions P ds xs → (a : ℕ) (d : Option Session) (x : Option SessionState) → SameSession (Q a) d x
+pub same_put : (P Q : ℕ → Kept → Type 0) (ds : List (Option Session)) (xs : Sessions) → SameSessions P ds xs → (a : ℕ) (d : Option Session) (x : Option SessionState)
+    → SameSession (Q a) d x
     → ((b : ℕ) (k : Kept) → b ≢ a → P b k → Q b k) → SameSessions Q (slice_set ds a d) (slice_set xs a x)
 same_put P Q [] [] same a d x is on = tt
 same_put P Q [] (y ∷ xs) same a d x is on = absurd same
@@ -63,7 +64,8 @@ same_put P Q (e ∷ ds) (y ∷ xs) same (suc a) d x is on = (
   same_put (λ b. P (suc b)) (λ b. Q (suc b)) ds xs same.1 a d x is (λ b k differs. on (suc b) k (λ so. differs (omega (arith, so)))),
 )
 
-pub same_none : (P Q : ℕ → Kept → Type 0) (n : ℕ) (ds : List (Option Session)) (xs : Sessions) → SameSessions P ds xs → length xs ≡ n → SameSessions Q (all_none ds) (replicate n None)
+pub same_none : (P Q : ℕ → Kept → Type 0) (n : ℕ) (ds : List (Option Session)) (xs : Sessions) → SameSessions P ds xs → length xs ≡ n
+    → SameSessions Q (all_none ds) (replicate n None)
 same_none P Q zero [] [] same many = tt
 same_none P Q (suc n) (d ∷ ds) (x ∷ xs) same many = (tt, same_none (λ b. P (suc b)) (λ b. Q (suc b)) n ds xs same.1 (omega (arith, many)))
 same_none P Q (suc n) [] [] same many = absurd (omega (arith, many))
@@ -81,7 +83,8 @@ pub record DeskSession (P : Kept → Type 0) (ds : List (Option Session)) (a : �
   pub there : slice_index_or ds a None ≡ Some s
   pub is : IsSessionOf P s x
 
-pub desk_session : (P : ℕ → Kept → Type 0) (ds : List (Option Session)) (xs : Sessions) → SameSessions P ds xs → (a : ℕ) (x : SessionState) → session_of xs a ≡ Some x → DeskSession (P a) ds a x
+pub desk_session : (P : ℕ → Kept → Type 0) (ds : List (Option Session)) (xs : Sessions) → SameSessions P ds xs → (a : ℕ) (x : SessionState) → session_of xs a ≡ Some x
+    → DeskSession (P a) ds a x
 desk_session P ds xs same a x is = by (slice_index_or ds a None) refl (subst (SameSession (P a) (slice_index_or ds a None)) is (same_at P ds xs same a))
   where
     by : (d : Option Session) → slice_index_or ds a None ≡ d → SameSession (P a) d (Some x) → DeskSession (P a) ds a x
@@ -144,7 +147,8 @@ pub is_put : (xs : Sessions) (a : ℕ) (x : SessionState) → a < length xs → 
 is_put xs a x below none = let both = sym (get_or-set_same xs a (Some x) None below) ∙ none in absurd cc
 
 -- an actor that is given another part than one that writes doesn't write
-pub put_quiet : (parts : List core_part.Part) (a : ℕ) (p : core_part.Part) → core_kinds.kind_of p ≢ kinds.Writing → core_kinds.kind_of (part_of (with_part parts a p) a) ≢ kinds.Writing
+pub put_quiet : (parts : List core_part.Part) (a : ℕ) (p : core_part.Part) → core_kinds.kind_of p ≢ kinds.Writing
+    → core_kinds.kind_of (part_of (with_part parts a p) a) ≢ kinds.Writing
 unfolding part_of with_part
 put_quiet parts a p quiet writes = elim (cases_lt a (length parts)) [
   | inl below ↦ quiet (ap core_kinds.kind_of (sym (get_or-set_same parts a p core_parts.Idle below)) ∙ writes)

@@ -1,14 +1,11 @@
 -- A step of the core as one of a machine that fits it; and lines that are one step, or are barred.
-use Rattle.std.proofs.Common.{◌≡◌, ◌≢◌, ◌⊎◌, ◌==◌, inl, inr, ◌∙◌, ◌+◌, ◌-◌, ◌^◌, ◌<◌, min, ℕ, suc, Bool, true, false, List, [], ◌∷◌, ◌++◌, length, slice_index_or, Option, Some, None, Result, Ok, Err, refl, sym, ap, subst, arith}
+use Rattle.std.proofs.Common.{◌≡◌, ◌≢◌, ◌⊎◌, ◌==◌, inl, inr, ◌∙◌, ◌+◌, ◌-◌, ◌^◌, ◌<◌, min, ℕ, suc, Bool, true, false, List, [], ◌∷◌, ◌++◌, length, slice_index_or, Option, Some, None, Result, refl, sym, ap, subst, arith}
 use Rattle.std.proofs.lemmas.Bool.{eqb-true, eqb-false}
 use Rattle.actor_parts.specs.declared.step.Answer.{Answer}
-use Rattle.actor_parts.specs.Kinds as core_kinds
 use Rattle.actor_parts.specs.Parts.{part_of}
-use Rattle.actor_parts.specs.StepValue as steps
 use Rattle.actor_parts.specs.StepValue.{StepValue}
 use Rattle.refusals.specs.declared.refusal.PartKind.{PartKind}
 use Rattle.refusals.specs.declared.refusal.Refusal.{Refusal}
-use Rattle.refusals.specs.declared.refusal.Refusal.TheVariants as refusals
 use Rattle.script_lines.specs.Grammar.{LineValue}
 use Rattle.script_lines.specs.Grammar as lines
 use Rattle.script_lines.specs.ReplyValue.{ReplyValue}
@@ -17,7 +14,6 @@ use Rattle.store_core.specs.declared.stop.Stop.{Stop}
 use Rattle.store_core.specs.Core.{CoreStep}
 use Rattle.store_core.specs.State.{CoreState, Event, IsRunning}
 use Rattle.store_core.proofs.RunningOn.{step_runs}
-use Rattle.plain_machine.specs.Refused as plain
 use Rattle.store_machine.specs.Asked.{Asked}
 use Rattle.store_machine.specs.Done.{Done}
 use Rattle.store_machine.specs.Legal.{Answers, ByState, Legal}
@@ -27,9 +23,9 @@ use Rattle.store_machine.specs.Machine.{Machine, RunState, Running, Stepped, kin
 use Rattle.store_machine.specs.Runs.{Run}
 use Rattle.store_machine.specs.Values.{Values}
 use Rattle.core_machine.specs.Refines.{answered_by, asked_as}
-use Rattle.script_runner.specs.Acts.{Acts, ActsOrNot, Admits, Bars, BarsBy, RunnerState}
-use Rattle.script_runner.specs.LinesAreRuns.{IsAtDesk, Kept, LeadsTo, SameSessions, WritersGive}
-use Rattle.script_runner.specs.Sessions.{Sessions, has_ended, kind_in, session_of}
+use Rattle.script_runner.specs.Acts.{Acts, ActsOrNot, Admits, BarsBy, RunnerState}
+use Rattle.script_runner.specs.LinesAreRuns.{Kept, SameSessions, WritersGive}
+use Rattle.script_runner.specs.Sessions.{Sessions, kind_in, session_of}
 use Rattle.script_runner.proofs.DeskParts.{IsQuiet, others_stay, quiet_gives}
 use Rattle.script_runner.proofs.DeskSessions.{same_actor, same_at, same_kind, same_on, same_takes}
 use Rattle.script_runner.proofs.Fitting.{AtDesk, Fitted, IsOfGiven, Keeps, Leads}
@@ -72,7 +68,8 @@ module _ (F : Fitted) where
     pub others : (b : ℕ) → b ≢ e.actor → part_of (state new).parts b ≡ part_of (state old).parts b
     pub keeps : Keeps Owns e m next (state old) (state new)
 
-  pub makes : (e : Event) (given : List ℕ) (old new : C) (m : Machine V R) → IsRunning (state old) → Fits m (state old) → IsOfGiven Allowed (λ k. Owns e.actor k m (state old)) e.step given → CoreStep (state old) e (state new)
+  pub makes : (e : Event) (given : List ℕ) (old new : C) (m : Machine V R) → IsRunning (state old) → Fits m (state old)
+      → IsOfGiven Allowed (λ k. Owns e.actor k m (state old)) e.step given → CoreStep (state old) e (state new)
       → Makes e given m old new
   makes e given old new m runs fits right step =
       let one = fitting.step e given old new m runs fits right step in
@@ -109,7 +106,8 @@ module _ (F : Fitted) where
 
     kinds_so : (a : ℕ) → kind_at v d a ≡ kind_in r.sessions (state r.core).parts a
     kinds_so a =
-        same_kind (λ k. Owns a k d.machine (state r.core)) (slice_index_or d.sessions a None) (session_of r.sessions a) (kind_of (part_in d.machine a)) (part_of (state r.core).parts a)
+        same_kind (λ k. Owns a k d.machine (state r.core)) (slice_index_or d.sessions a None) (session_of r.sessions a) (kind_of (part_in d.machine a))
+        (part_of (state r.core).parts a)
         (same_at owned d.sessions r.sessions at.same a)
         (fitting.kinds d.machine (state r.core) at.fits a) (at.give a)
 
@@ -119,7 +117,8 @@ module _ (F : Fitted) where
       λ a is. ap (λ (k : PartKind). machine.takes line k) (kinds_so a) ∙ sym (same_takes line (kind_in r.sessions (state r.core).parts a)) ∙ admits.taken a (same_actor line ∙ is),
     )
 
-    bars_by : (line : LineValue) (refusal : Refusal) (stop : Option Stop) → (state r.core).stop ≡ stop → BarsBy stop line r.sessions (state r.core) refusal → machine.Bars v line d refusal
+    bars_by : (line : LineValue) (refusal : Refusal) (stop : Option Stop) → (state r.core).stop ≡ stop → BarsBy stop line r.sessions (state r.core) refusal
+        → machine.Bars v line d refusal
     bars_by line refusal (Some stop) is bars =
         let stops = fitting.stops d.machine (state r.core) stop at.fits is in
         subst (λ (x : Refusal). machine.Bars v line d x) (sym bars) (stops.0, stops.1)
@@ -130,7 +129,8 @@ module _ (F : Fitted) where
         (fitting.runs d.machine (state r.core) at.fits is, (a, sym (same_actor line) ∙ bars.1, sym (kinds_so a), sym (same_takes line kind) ∙ bars.2))
 
     -- what a line does is what the machine may do where it does so if it is taken
-    pub taken_or_not : (line : LineValue) (reply : ReplyValue) (s : RunnerState C) → line ≢ lines.Reopen → (Admits line r.sessions (state r.core) → Acts C state line reply r s → Acted line reply s)
+    pub taken_or_not : (line : LineValue) (reply : ReplyValue) (s : RunnerState C) → line ≢ lines.Reopen
+        → (Admits line r.sessions (state r.core) → Acts C state line reply r s → Acted line reply s)
         → ActsOrNot C state line reply r s → Leads F line reply d s
     taken_or_not line reply s other taken (inl admitted) =
         let acted = taken admitted.0 admitted.1 in
@@ -156,13 +156,15 @@ module _ (F : Fitted) where
       desk_after n fits runs gives owns = record {
         runs = runs;
         fits = fits;
-        same = subst (SameSessions (λ b k. Owns b k n (state s.core)) d.sessions) (sym sessions) (same_on owned (λ b k. Owns b k n (state s.core)) d.sessions r.sessions owns at.same);
+        same = subst (SameSessions (λ b k. Owns b k n (state s.core)) d.sessions) (sym sessions)
+            (same_on owned (λ b k. Owns b k n (state s.core)) d.sessions r.sessions owns at.same);
         many = ap length sessions ∙ at.many;
         give = subst (λ (xs : Sessions). WritersGive xs (state s.core).parts) (sym sessions) gives;
       }
 
       pub step_line : (line : LineValue) (reply : ReplyValue)
-          → ((ss : List (Stepped V)) (e : Desk V R) → ((a : ℕ) × (step : Asked V) × IsStep v line a step × Ends v a [] step reply ss × (e.sessions ≡ d.sessions)) → machine.Acts v line reply ss d e)
+          → ((ss : List (Stepped V)) (e : Desk V R) → ((a : ℕ) × (step : Asked V) × IsStep v line a step × Ends v a [] step reply ss × (e.sessions ≡ d.sessions))
+          → machine.Acts v line reply ss d e)
           → (a : ℕ) (step : StepValue) (answer : Result Answer Refusal) (buf : List ℕ) → IsQuiet step → IsOfGiven Allowed (λ k. Owns a k d.machine (state r.core)) step []
           → CoreStep (state r.core) (record { actor = a; step = step; answer = answer; buf = buf }) (state s.core)
           → IsStep v line a (asked_as (λ root. v.of []) step) → reply ≡ machine.reply_of a (answered_by answer buf) → Acted line reply s

@@ -1,5 +1,5 @@
 -- Lines that make one step and leave sessions as they are, and sweeps, as lines of a machine that fits the core.
-use Rattle.std.proofs.Common.{◌≡◌, ◌≢◌, ◌⊎◌, inl, inr, ◌∙◌, ◌+◌, ◌-◌, ◌^◌, ◌<◌, min, ℕ, suc, List, [], ◌∷◌, ◌++◌, Option, Some, None, Result, Ok, Err, refl, sym, ap, subst}
+use Rattle.std.proofs.Common.{◌≡◌, inl, inr, ◌∙◌, ◌+◌, ◌-◌, ◌^◌, min, ℕ, List, [], ◌∷◌, ◌++◌, Result, Ok, Err, refl, sym, ap, subst}
 use Rattle.actor_parts.specs.declared.step.Answer.{Answer}
 use Rattle.actor_parts.specs.declared.step.Answer.TheVariants as answers
 use Rattle.actor_parts.specs.StepValue as steps
@@ -9,23 +9,20 @@ use Rattle.refusals.specs.declared.refusal.Refusal.TheVariants as refusals
 use Rattle.script_lines.specs.Grammar as lines
 use Rattle.script_lines.specs.ReplyValue.{ReplyValue}
 use Rattle.script_lines.specs.ReplyValue as replies
-use Rattle.store_core.specs.Core.{DeleteRow, EndRow, Steps}
+use Rattle.store_core.specs.Core.{DeleteRow, EndRow}
 use Rattle.store_core.specs.State.{CoreState, Event, IsRunning}
 use Rattle.store_core.proofs.CoreRuns.{running_step}
 use Rattle.store_machine.specs.Asked as asked
 use Rattle.store_machine.specs.Done.{Done}
 use Rattle.store_machine.specs.Legal.{Answers, ByState, Legal}
-use Rattle.store_machine.specs.Lines as machine
 use Rattle.store_machine.specs.Lines.{AreDid, Desk, IsLast, reply_of, step_of}
-use Rattle.store_machine.specs.Machine.{Machine, RunState, Running, Stepped}
+use Rattle.store_machine.specs.Machine.{Machine, RunState, Stepped}
 use Rattle.store_machine.specs.Runs.{Run}
-use Rattle.store_machine.specs.Values.{Values}
 use Rattle.core_machine.specs.Refines.{answered_by}
-use Rattle.script_runner.specs.Acts.{Acts, Admits, CollectionRun, Collects, Deletes, DoesStep, RunnerState, Sweeps}
-use Rattle.script_runner.specs.LinesAreRuns.{IsAtDesk, Kept, WritersGive}
-use Rattle.script_runner.specs.Sessions.{Sessions}
+use Rattle.script_runner.specs.Acts.{Acts, Admits, CollectionRun, DoesStep, RunnerState, Sweeps}
+use Rattle.script_runner.specs.LinesAreRuns.{Kept, WritersGive}
 use Rattle.script_runner.proofs.DeskParts.{quiet_gives}
-use Rattle.script_runner.proofs.DeskSteps.{Acted, Makes, all_keep, answers_so, desk_after, makes, number_so, one_step, run_more, step_line}
+use Rattle.script_runner.proofs.DeskSteps.{Acted, all_keep, answers_so, desk_after, makes, number_so, one_step, run_more, step_line}
 use Rattle.script_runner.proofs.Fitting.{AtDesk, Fitted}
 
 drop_answer : (a : ℕ) (answer : Answer) (buf : List ℕ) (old new : CoreState) → EndRow a (Ok answer) old new → replies.Dropped a ≡ reply_of a (answered_by (Ok answer) buf)
@@ -40,7 +37,8 @@ module _ (F : Fitted) (r : RunnerState F.C) (d : Desk F.V F.R) (at : AtDesk F d 
   pub read_acts : (a : ℕ) (name : List ℕ) (reply : ReplyValue) → Acts C state (lines.Read a name) reply r s → Acted F r d at (lines.Read a name) reply s
   read_acts a name (replies.Reading b count) acts =
       let core = acts.1 in
-      step_line F r d at s core.1 (lines.Read a name) (replies.Reading b count) (λ ss e x. x) a (steps.OpenRead name) (Ok (answers.Opened count)) core.0.0 tt tt core.0.1 (refl, refl)
+      step_line F r d at s core.1 (lines.Read a name) (replies.Reading b count) (λ ss e x. x) a (steps.OpenRead name) (Ok (answers.Opened count)) core.0.0 tt tt core.0.1
+      (refl, refl)
       (ap (λ (x : ℕ). replies.Reading x count) acts.0)
   read_acts a name (replies.Refused refusal) acts =
       step_line F r d at s acts.1 (lines.Read a name) (replies.Refused refusal) (λ ss e x. x) a (steps.OpenRead name) (Err refusal) acts.0.0 tt tt acts.0.1 (refl, refl) refl
@@ -85,13 +83,15 @@ module _ (F : Fitted) (r : RunnerState F.C) (d : Desk F.V F.R) (at : AtDesk F d 
 
   pub stat_acts : (reply : ReplyValue) → Acts C state lines.Stat reply r s → Acted F r d at lines.Stat reply s
   stat_acts (replies.Stat h) acts =
-      step_line F r d at s acts.1 lines.Stat (replies.Stat h) (λ ss e x. x) 0 steps.Stat (Ok (answers.Stat h.files h.segments h.bytes h.used h.free)) acts.0.0 tt tt acts.0.1 refl refl
+      step_line F r d at s acts.1 lines.Stat (replies.Stat h) (λ ss e x. x) 0 steps.Stat
+      (Ok (answers.Stat h.files h.segments h.bytes h.used h.free)) acts.0.0 tt tt acts.0.1 refl refl
   stat_acts reply acts = absurd acts
 
   -- ---- a name that is deleted
 
   module _ (name : List ℕ) (admits : Admits (lines.Delete name) r.sessions (state r.core)) where
-    deleted_so : (sequence : ℕ) → sequence ≡ min ((state r.core).tables.journal.last + 1) (2 ^ 64 - 1) → (answer : Answer) (does : DoesStep 0 (steps.Delete name) answer (state r.core) (state s.core))
+    deleted_so : (sequence : ℕ) → sequence ≡ min ((state r.core).tables.journal.last + 1) (2 ^ 64 - 1)
+        → (answer : Answer) (does : DoesStep 0 (steps.Delete name) answer (state r.core) (state s.core))
         → replies.Deleted sequence ≡ reply_of 0 (answered_by (Ok answer) does.0)
     deleted_so sequence is answer does =
         let e : Event = record { actor = 0; step = steps.Delete name; answer = Ok answer; buf = does.0 } in
@@ -100,7 +100,8 @@ module _ (F : Fitted) (r : RunnerState F.C) (d : Desk F.V F.R) (at : AtDesk F d 
         let legal = answers_so v d.machine one.next 0 (asked.Delete name) (answered_by (Ok answer) does.0) (fitting.runs d.machine (state r.core) at.fits admits.runs) one.legal in
         by_answer answer row one.next legal
       where
-        by_answer : (told : Answer) → DeleteRow name (Ok told) (state r.core) (state s.core) → (n : Machine V R) → Answers v 0 (asked.Delete name) (answered_by (Ok told) does.0) d.machine n
+        by_answer : (told : Answer) → DeleteRow name (Ok told) (state r.core) (state s.core) → (n : Machine V R)
+            → Answers v 0 (asked.Delete name) (answered_by (Ok told) does.0) d.machine n
             → replies.Deleted sequence ≡ reply_of 0 (answered_by (Ok told) does.0)
         by_answer (answers.Deleted number) row n legal =
             ap replies.Deleted (is ∙ number_so (state r.core).tables.journal.last d.machine.now.last number row.1 legal.sequence_is legal.numbers.0)
@@ -109,15 +110,18 @@ module _ (F : Fitted) (r : RunnerState F.C) (d : Desk F.V F.R) (at : AtDesk F d 
     pub delete_acts : (reply : ReplyValue) → Acts C state (lines.Delete name) reply r s → Acted F r d at (lines.Delete name) reply s
     delete_acts (replies.Deleted sequence) acts =
         let deletes = acts.0 in
-        step_line F r d at s acts.1 (lines.Delete name) (replies.Deleted sequence) (λ ss e x. x) 0 (steps.Delete name) (Ok deletes.answer) deletes.deleted.0 tt tt deletes.deleted.1 refl
+        step_line F r d at s acts.1 (lines.Delete name) (replies.Deleted sequence) (λ ss e x. x) 0 (steps.Delete name)
+        (Ok deletes.answer) deletes.deleted.0 tt tt deletes.deleted.1 refl
         (deleted_so sequence deletes.sequence_is deletes.answer deletes.deleted)
     delete_acts (replies.Refused refusal) acts = elim acts.0 [
       | inl memory ↦ no_memory memory.0 memory.1
-      | inr refuses ↦ step_line F r d at s acts.1 (lines.Delete name) (replies.Refused refusal) (λ ss e x. x) 0 (steps.Delete name) (Err refusal) refuses.0 tt tt refuses.1 refl refl
+      | inr refuses ↦ step_line F r d at s acts.1 (lines.Delete name) (replies.Refused refusal) (λ ss e x. x) 0 (steps.Delete name)
+          (Err refusal) refuses.0 tt tt refuses.1 refl refl
     ]
       where
         legal : Legal v (step_of v 0 (asked.Delete name) (Err refusals.Memory)) d.machine d.machine
-        legal = subst (λ (by : RunState V). ByState v by 0 (asked.Delete name) (Err refusals.Memory) d.machine d.machine) (sym (fitting.runs d.machine (state r.core) at.fits admits.runs)) refl
+        legal = subst (λ (by : RunState V). ByState v by 0 (asked.Delete name) (Err refusals.Memory) d.machine d.machine)
+            (sym (fitting.runs d.machine (state r.core) at.fits admits.runs)) refl
 
         no_memory : refusal ≡ refusals.Memory → s.core ≡ r.core → Acted F r d at (lines.Delete name) (replies.Refused refusal) s
         no_memory is same = record {
@@ -125,7 +129,8 @@ module _ (F : Fitted) (r : RunnerState F.C) (d : Desk F.V F.R) (at : AtDesk F d 
           next = record { machine = d.machine; sessions = d.sessions };
           run = one_step v 0 (asked.Delete name) (Err refusals.Memory) d.machine d.machine legal;
           acts = (0, asked.Delete name, refl, (Err refusals.Memory, refl, ap replies.Refused is), refl);
-          stays = desk_after F r d at s acts.1 d.machine (subst (λ (c : C). Fits d.machine (state c)) (sym same) at.fits) (subst (λ (c : C). IsRunning (state c)) (sym same) at.runs)
+          stays = desk_after F r d at s acts.1 d.machine (subst (λ (c : C). Fits d.machine (state c)) (sym same) at.fits)
+              (subst (λ (c : C). IsRunning (state c)) (sym same) at.runs)
               (subst (λ (c : C). WritersGive r.sessions (state c).parts) (sym same) at.give) (λ b k owns. subst (λ (c : C). Owns b k d.machine (state c)) (sym same) owns);
         }
     delete_acts reply acts = absurd acts
@@ -134,7 +139,8 @@ module _ (F : Fitted) (r : RunnerState F.C) (d : Desk F.V F.R) (at : AtDesk F d 
 
   pub gc_acts : (percent : ℕ) (reply : ReplyValue) → Acts C state (lines.Gc percent) reply r s → Acted F r d at (lines.Gc percent) reply s
   gc_acts percent (replies.Collecting snapshot) acts =
-      step_line F r d at s acts.1 (lines.Gc percent) (replies.Collecting snapshot) (λ ss e x. x) 0 (steps.GcStart percent) (Ok (answers.Started snapshot)) acts.0.0 tt tt acts.0.1 refl refl
+      step_line F r d at s acts.1 (lines.Gc percent) (replies.Collecting snapshot) (λ ss e x. x) 0 (steps.GcStart percent)
+      (Ok (answers.Started snapshot)) acts.0.0 tt tt acts.0.1 refl refl
   gc_acts percent (replies.Refused refusal) acts =
       step_line F r d at s acts.1 (lines.Gc percent) (replies.Refused refusal) (λ ss e x. x) 0 (steps.GcStart percent) (Err refusal) acts.0.0 tt tt acts.0.1 refl refl
   gc_acts percent reply acts = absurd acts
@@ -159,7 +165,8 @@ module _ (F : Fitted) (r : RunnerState F.C) (d : Desk F.V F.R) (at : AtDesk F d 
     pub give : WritersGive r.sessions (state mid).parts
     pub owns : (b : ℕ) (k : Kept) → Owns b k m (state old) → Owns b k next (state mid)
 
-  goes_on : (phases : List Phase) (old mid : C) (m : Machine V R) → Fits m (state old) → IsRunning (state old) → WritersGive r.sessions (state old).parts → CollectionRun C state phases old mid → GoesOn m old mid
+  goes_on : (phases : List Phase) (old mid : C) (m : Machine V R) → Fits m (state old) → IsRunning (state old) → WritersGive r.sessions (state old).parts
+      → CollectionRun C state phases old mid → GoesOn m old mid
   goes_on [] old mid m fits runs give run = record {
     made = [];
     next = m;
@@ -185,7 +192,8 @@ module _ (F : Fitted) (r : RunnerState F.C) (d : Desk F.V F.R) (at : AtDesk F d 
         owns = λ b k owns. rest.owns b k (all_keep F e m one.next (state old) (state run.0) one.keeps tt b k owns);
       }
 
-  swept : (reply : ReplyValue) (answer : Result Answer Refusal) → s.sessions ≡ r.sessions → Sweeps C state answer r.core s.core → ((buf : List ℕ) → reply ≡ reply_of 0 (answered_by answer buf)) → IsLast v reply
+  swept : (reply : ReplyValue) (answer : Result Answer Refusal) → s.sessions ≡ r.sessions → Sweeps C state answer r.core s.core
+      → ((buf : List ℕ) → reply ≡ reply_of 0 (answered_by answer buf)) → IsLast v reply
       → Acted F r d at lines.Sweep reply s
   swept reply answer sessions sweeps replied last =
       let went = goes_on sweeps.0 r.core sweeps.1.0 d.machine at.fits at.runs at.give sweeps.1.1.0 in

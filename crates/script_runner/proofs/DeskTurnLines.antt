@@ -1,5 +1,5 @@
 -- A turn, a push and a commit as lines of a machine that fits the core.
-use Rattle.std.proofs.Common.{◌≡◌, ◌≢◌, ◌⊎◌, inl, inr, ◌∙◌, ◌+◌, ◌-◌, ◌^◌, ◌<◌, ◌≤◌, min, ℕ, suc, Bool, true, false, List, [], ◌∷◌, ◌++◌, length, Option, Some, None, Result, Ok, Err, refl, sym, ap, subst, arith, length-append}
+use Rattle.std.proofs.Common.{◌≡◌, ◌≢◌, inl, inr, ◌∙◌, ◌+◌, ◌-◌, ◌^◌, ◌<◌, ◌≤◌, min, ℕ, Bool, true, false, List, [], ◌∷◌, ◌++◌, length, Option, Some, None, Result, Ok, Err, refl, sym, ap, subst, arith, length-append}
 use Rattle.disk_format.specs.Cells.{Root}
 use Rattle.disk_format.specs.declared.numbers.TheConstants.{MOST_FILE}
 use Rattle.actor_parts.specs.declared.actor.TheConstants.{ACTORS}
@@ -8,13 +8,12 @@ use Rattle.actor_parts.specs.declared.part.Part.TheVariants as core_parts
 use Rattle.actor_parts.specs.declared.step.Answer.{Answer}
 use Rattle.actor_parts.specs.declared.step.Answer.TheVariants as answers
 use Rattle.actor_parts.specs.Kinds as core_kinds
-use Rattle.actor_parts.specs.Parts.{part_of, with_part}
+use Rattle.actor_parts.specs.Parts.{part_of}
 use Rattle.actor_parts.specs.StepValue as steps
 use Rattle.refusals.specs.declared.refusal.PartKind.TheVariants as kinds
 use Rattle.refusals.specs.declared.refusal.Refusal.{Refusal}
 use Rattle.refusals.specs.declared.refusal.Refusal.TheVariants as refusals
 use Rattle.ingest_session.specs.declared.due.Due.TheVariants as dues
-use Rattle.ingest_session.specs.Calls.{IsPushAnswer, IsTaking}
 use Rattle.ingest_session.specs.Due.{due_in}
 use Rattle.ingest_session.specs.DueFor.{IsDueFor}
 use Rattle.ingest_session.specs.History.{History, HasHistory}
@@ -39,19 +38,18 @@ use Rattle.store_machine.specs.Done.{Done}
 use Rattle.store_machine.specs.Legal.{Answers}
 use Rattle.store_machine.specs.Lines as machine
 use Rattle.store_machine.specs.Lines.{AreTurns, Desk, NothingIsDue, Session, reply_of, step_of}
-use Rattle.store_machine.specs.Machine.{Machine, Stepped}
-use Rattle.store_machine.specs.Runs.{Run}
+use Rattle.store_machine.specs.Machine.{Machine}
 use Rattle.store_machine.specs.Values.{Values}
 use Rattle.core_machine.specs.Refines.{answered_by, asked_as}
 use Rattle.session_turns.specs.Turns.{Feeds, TakesTurn, TurnRun}
 use Rattle.session_turns.proofs.TurnRuns.{turns_stay}
 use Rattle.script_runner.specs.Acts.{Acts, Admits, DoesStep, IsReady, RefusesPut, RefusesStep, RunnerState, StepOf, turned}
-use Rattle.script_runner.specs.LinesAreRuns.{IsAtDesk, IsSessionOf, Kept}
+use Rattle.script_runner.specs.LinesAreRuns.{IsSessionOf, Kept}
 use Rattle.script_runner.specs.Sessions.{has_ended, kind_by, session_of, with_session}
 use Rattle.script_runner.proofs.DeskGiving.{desk_put, gives_still}
 use Rattle.script_runner.proofs.DeskSessions.{DeskSession, desk_session, put_quiet, session_on}
 use Rattle.script_runner.proofs.DeskSteps.{Acted, Makes, answers_so, makes, number_so, one_step, run_more}
-use Rattle.script_runner.proofs.DeskTurns.{TurnsMade, TurnsStop, answering, due_of, paused_of, taken_of, turn_made, turn_refused, turns_made, turns_stop}
+use Rattle.script_runner.proofs.DeskTurns.{TurnsMade, answering, due_of, paused_of, taken_of, turn_made, turn_refused, turns_made, turns_stop}
 use Rattle.script_runner.proofs.Fitting.{AtDesk, Fitted}
 use Rattle.script_runner.proofs.LinesPush.{why_long}
 use Rattle.script_runner.proofs.TurnIdle.{idle, idle_due, idle_has, settled_idle}
@@ -80,7 +78,8 @@ nothing_of v P t x is nothing =
 
 -- the root of one that is ready is that of what was given
 root_so : (P : Kept → Type 0) (t : Session) (x : SessionState) (root : Root) → IsSessionOf P t x → IsReady root x → root ≡ root_of t.given
-root_so P t x root is ready = same root (root_of t.given) (sym ready.ready ∙ (all_is_kept x is.history is.has ready.ended ready.done).root ∙ ap (λ (l : List ℕ). Some (root_of l)) is.given_is)
+root_so P t x root is ready = same root (root_of t.given)
+    (sym ready.ready ∙ (all_is_kept x is.history is.has ready.ended ready.done).root ∙ ap (λ (l : List ℕ). Some (root_of l)) is.given_is)
   where
     same : (b c : Root) → Some b ≡ Some c → b ≡ c
     same b c is = cc
@@ -98,7 +97,8 @@ module _ (F : Fitted) (r : RunnerState F.C) (d : Desk F.V F.R) (at : AtDesk F d 
   owned m c k = Owns a k m (state c)
 
   -- the desk, where the actor has this session
-  giving : (n : Machine V R) (t : Session) (y : SessionState) → s.sessions ≡ with_session r.sessions a (Some y) → IsSessionOf (owned n s.core) t y → Fits n (state s.core) → IsRunning (state s.core)
+  giving : (n : Machine V R) (t : Session) (y : SessionState) → s.sessions ≡ with_session r.sessions a (Some y) → IsSessionOf (owned n s.core) t y → Fits n (state s.core)
+      → IsRunning (state s.core)
       → ((b : ℕ) → b ≢ a → part_of (state s.core).parts b ≡ part_of (state r.core).parts b)
       → ((b : ℕ) (k : Kept) → b ≢ a → Owns b k d.machine (state r.core) → Owns b k n (state s.core))
       → AtDesk F (record { machine = n; sessions = machine.with_session v a (Some t) d }) s
@@ -113,7 +113,8 @@ module _ (F : Fitted) (r : RunnerState F.C) (d : Desk F.V F.R) (at : AtDesk F d 
     was : DeskSession (owned d.machine r.core) d.sessions a x
     was = desk_session (λ b k. Owns b k d.machine (state r.core)) d.sessions r.sessions at.same a x there
 
-    turn_done : (b : ℕ) (told : Turned) → b ≡ a → (answer : Option Answer) → turned answer ≡ Some told → TakesTurn C state a (Ok answer) x y r.core s.core → Turns (replies.Turn b told)
+    turn_done : (b : ℕ) (told : Turned) → b ≡ a → (answer : Option Answer) → turned answer ≡ Some told → TakesTurn C state a (Ok answer) x y r.core s.core
+        → Turns (replies.Turn b told)
     turn_done b told same None told_is none =
         let of = paused_of (owned d.machine s.core) was.s x y (subst (λ (c : C). IsSessionOf (owned d.machine c) was.s x) (sym none.3) was.is) none.0 in
         record {
@@ -131,7 +132,8 @@ module _ (F : Fitted) (r : RunnerState F.C) (d : Desk F.V F.R) (at : AtDesk F d 
               ap (λ (z : ℕ). replies.Turn z told) same ∙ ap (replies.Turn a) (let idle_is : told ≡ turns.Idle = cc in idle_is),
             )),
           );
-          stays = giving d.machine was.s y sessions of (subst (λ (c : C). Fits d.machine (state c)) (sym none.3) at.fits) (subst (λ (c : C). IsRunning (state c)) (sym none.3) at.runs)
+          stays = giving d.machine was.s y sessions of (subst (λ (c : C). Fits d.machine (state c)) (sym none.3) at.fits)
+              (subst (λ (c : C). IsRunning (state c)) (sym none.3) at.runs)
               (λ c differs. ap (λ (core : C). part_of (state core).parts c) none.3) (λ c k differs owns. subst (λ (core : C). Owns c k d.machine (state core)) (sym none.3) owns);
         }
     turn_done b told same (Some answer) told_is turn =
@@ -145,7 +147,14 @@ module _ (F : Fitted) (r : RunnerState F.C) (d : Desk F.V F.R) (at : AtDesk F d 
             was.s,
             answering answer was.s,
             (was.there, refl),
-            inl (asked_as (λ root. v.of was.s.given) one.step, replied, refl, (refl, one.due, (answer, one.told_is, refl)), ap (λ (z : ℕ). replies.Turn z told) same ∙ turn_reply a answer told one.buf told_is),
+            inl (
+              asked_as (λ root. v.of was.s.given) one.step,
+              replied,
+              refl,
+              (refl, one.due, (answer, one.told_is, refl)),
+              ap (λ (z : ℕ). replies.Turn z told) same
+                  ∙ turn_reply a answer told one.buf told_is,
+            ),
           );
           stays = giving one.made.next (answering answer was.s) y sessions one.is one.made.fits one.made.runs one.made.others one.made.keeps.others;
         }
@@ -250,7 +259,8 @@ module _ (F : Fitted) (r : RunnerState F.C) (d : Desk F.V F.R) (at : AtDesk F d 
         by : (e : Bool) → x.ended ≡ e → x.ended ≡ false
         by false is = is
         by true is =
-            let taken = subst (λ (o : Option SessionState). takes (lines.Push a digits) (kind_by (has_ended o) (core_kinds.kind_of (part_of (state r.core).parts a))) ≡ true) there (admits.taken a refl) in
+            let taken = subst (λ (o : Option SessionState). takes (lines.Push a digits)
+            (kind_by (has_ended o) (core_kinds.kind_of (part_of (state r.core).parts a))) ≡ true) there (admits.taken a refl) in
             absurd (let wrong = subst (λ (b : Bool). takes (lines.Push a digits) (kind_by (Some b) (core_kinds.kind_of (part_of (state r.core).parts a))) ≡ true) is taken in cc)
 
     pub push_acts : (reply : ReplyValue) → Admits (lines.Push a digits) r.sessions (state r.core) → Acts C state (lines.Push a digits) reply r s → Pushes reply
@@ -283,16 +293,25 @@ module _ (F : Fitted) (r : RunnerState F.C) (d : Desk F.V F.R) (at : AtDesk F d 
         nothing : NothingIsDue v went.t
         nothing = nothing_of v (owned went.next mid) went.t y went.is ready.done
 
-        make : (answer : Result Answer Refusal) (buf : List ℕ) → StepOf a (steps.Commit name root) answer buf (state mid) (state s.core) → Makes F (record { actor = a; step = steps.Commit name root; answer = answer; buf = buf }) went.t.given went.next mid s.core
+        make : (answer : Result Answer Refusal) (buf : List ℕ) → StepOf a (steps.Commit name root) answer buf (state mid) (state s.core)
+            → Makes F (record { actor = a; step = steps.Commit name root; answer = answer; buf = buf }) went.t.given went.next mid s.core
         make answer buf step =
-            makes F (record { actor = a; step = steps.Commit name root; answer = answer; buf = buf }) went.t.given mid s.core went.next went.runs went.fits
-            (y, taken_of Allowed (owned went.next mid) went.t y went.is (subst Allowed (sym went.given_is) (allowed a wrote.s wrote.there)), ready, root_so (owned went.next mid) went.t y root went.is ready) step
+            makes F (record { actor = a; step = steps.Commit name root; answer = answer; buf = buf }) went.t.given mid s.core went.next went.runs went.fits (
+              y,
+              taken_of Allowed (owned went.next mid) went.t y went.is (subst Allowed (sym went.given_is) (allowed a wrote.s wrote.there)),
+              ready,
+              root_so
+                  (owned went.next mid) went.t y root went.is ready,
+            ) step
 
-        others_so : (n : C) → ((b : ℕ) → b ≢ a → part_of (state n).parts b ≡ part_of (state mid).parts b) → (b : ℕ) → b ≢ a → part_of (state n).parts b ≡ part_of (state r.core).parts b
+        others_so : (n : C) → ((b : ℕ) → b ≢ a → part_of (state n).parts b ≡ part_of (state mid).parts b) → (b : ℕ) → b ≢ a
+            → part_of (state n).parts b ≡ part_of (state r.core).parts b
         others_so n others b differs = others b differs ∙ went.others b differs
 
-        module _ (b sequence : ℕ) (same : b ≡ a) (sequence_is : sequence ≡ min ((state mid).tables.journal.last + 1) (2 ^ 64 - 1)) (sessions : s.sessions ≡ with_session r.sessions a None) where
-          by_answer : (answer : Answer) (buf : List ℕ) (n : Machine V R) → CommitRow name root a (Ok answer) (state mid) (state s.core) → Answers v a commits (answered_by (Ok answer) buf) went.next n
+        module _ (b sequence : ℕ) (same : b ≡ a) (sequence_is : sequence ≡ min ((state mid).tables.journal.last + 1) (2 ^ 64 - 1))
+            (sessions : s.sessions ≡ with_session r.sessions a None) where
+          by_answer : (answer : Answer) (buf : List ℕ) (n : Machine V R) → CommitRow name root a (Ok answer) (state mid) (state s.core)
+              → Answers v a commits (answered_by (Ok answer) buf) went.next n
               → (replies.Committed b sequence ≡ reply_of a (answered_by (Ok answer) buf)) × (core_kinds.kind_of (part_of (state s.core).parts a) ≢ kinds.Writing)
           by_answer (answers.Committed number) buf n row legal = (
             ap (λ (z : ℕ). replies.Committed z sequence) same
@@ -314,7 +333,8 @@ module _ (F : Fitted) (r : RunnerState F.C) (d : Desk F.V F.R) (at : AtDesk F d 
                 next = record { machine = one.next; sessions = machine.with_session v a None d };
                 run = run_more v went.made (step_of v a commits replied ∷ []) d.machine went.next one.next went.run (one_step v a commits replied went.next one.next one.legal);
                 acts = (wrote.s, went.t, (wrote.there, refl), inl (went.made, went.turns, nothing, (replied, refl, is.0)));
-                stays = desk_put F r d at s a one.next None None sessions one.fits one.runs tt (others_so s.core one.others) (λ none. is.1) (λ c k differs owns. one.keeps.others c k differs (went.stays c k differs owns));
+                stays = desk_put F r d at s a one.next None None sessions one.fits one.runs tt (others_so s.core one.others) (λ none. is.1)
+                    (λ c k differs owns. one.keeps.others c k differs (went.stays c k differs owns));
               }
 
         -- it was refused, and the session is what it was at the end of the turns
@@ -325,7 +345,8 @@ module _ (F : Fitted) (r : RunnerState F.C) (d : Desk F.V F.R) (at : AtDesk F d 
             next = record { machine = went.next; sessions = machine.with_session v a (Some went.t) d };
             run = went.run;
             acts = (wrote.s, went.t, (wrote.there, refl), inr (went.made, went.turns, (refusal, refl, inl (memory, refl))));
-            stays = giving went.next went.t y sessions (subst (λ (c : C). IsSessionOf (owned went.next c) went.t y) (sym same) went.is) (subst (λ (c : C). Fits went.next (state c)) (sym same) went.fits) (subst (λ (c : C). IsRunning (state c)) (sym same) went.runs)
+            stays = giving went.next went.t y sessions (subst (λ (c : C). IsSessionOf (owned went.next c) went.t y) (sym same) went.is)
+                (subst (λ (c : C). Fits went.next (state c)) (sym same) went.fits) (subst (λ (c : C). IsRunning (state c)) (sym same) went.runs)
                 (others_so s.core (λ c differs. ap (λ (core : C). part_of (state core).parts c) same))
                 (λ c k differs owns. subst (λ (core : C). Owns c k went.next (state core)) (sym same) (went.stays c k differs owns));
           }
@@ -336,9 +357,12 @@ module _ (F : Fitted) (r : RunnerState F.C) (d : Desk F.V F.R) (at : AtDesk F d 
               record {
                 ss = went.made ++ step_of v a commits (Err refusal) ∷ [];
                 next = record { machine = one.next; sessions = machine.with_session v a (Some went.t) d };
-                run = run_more v went.made (step_of v a commits (Err refusal) ∷ []) d.machine went.next one.next went.run (one_step v a commits (Err refusal) went.next one.next one.legal);
+                run = run_more v went.made (step_of v a commits (Err refusal) ∷ []) d.machine went.next one.next went.run
+                    (one_step v a commits (Err refusal) went.next one.next one.legal);
                 acts = (wrote.s, went.t, (wrote.there, refl), inl (went.made, went.turns, nothing, (Err refusal, refl, refl)));
-                stays = giving one.next went.t y sessions (session_on (owned went.next mid) (owned one.next s.core) went.t y (λ k owns. one.keeps.refused k refusal refl owns) went.is) one.fits one.runs (others_so s.core one.others)
+                stays = giving one.next went.t y sessions
+                    (session_on (owned went.next mid) (owned one.next s.core) went.t y (λ k owns. one.keeps.refused k refusal refl owns) went.is) one.fits one.runs
+                    (others_so s.core one.others)
                     (λ c k differs owns. one.keeps.others c k differs (went.stays c k differs owns));
               }
 

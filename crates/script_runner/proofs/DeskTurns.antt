@@ -1,5 +1,5 @@
 -- Turns of a session as steps of a machine that fits the core, each as it was due.
-use Rattle.std.proofs.Common.{◌≡◌, ◌≢◌, ◌⊎◌, inl, inr, ◌∙◌, ◌<◌, ℕ, Bool, List, [], ◌∷◌, ◌++◌, Option, Some, None, Result, Ok, Err, refl, sym, ap, subst}
+use Rattle.std.proofs.Common.{◌≡◌, ◌≢◌, ◌⊎◌, inl, inr, ◌∙◌, ℕ, List, [], ◌∷◌, ◌++◌, Some, None, Result, Ok, Err, refl, sym, ap, subst}
 use Rattle.actor_parts.specs.declared.step.Answer.{Answer}
 use Rattle.actor_parts.specs.declared.step.Answer.TheVariants as answers
 use Rattle.actor_parts.specs.Parts.{part_of}
@@ -11,15 +11,13 @@ use Rattle.ingest_session.specs.declared.due.Due.{Due}
 use Rattle.ingest_session.specs.declared.due.Due.TheVariants as dues
 use Rattle.ingest_session.specs.Due.{due_in, open_of}
 use Rattle.ingest_session.specs.DueFor.{IsDueFor}
-use Rattle.ingest_session.specs.History.{History, HasHistory, answered}
+use Rattle.ingest_session.specs.History.{HasHistory, answered}
 use Rattle.ingest_session.specs.State.{SessionState}
-use Rattle.ingest_session.specs.Told.{IsAnswerFor, IsSettled, told_by}
+use Rattle.ingest_session.specs.Told.{IsAnswerFor, IsSettled}
 use Rattle.script_lines.specs.ReplyValue.{ReplyValue}
 use Rattle.script_lines.specs.ReplyValue as replies
-use Rattle.store_core.specs.State.{CoreState, Event, IsRunning}
+use Rattle.store_core.specs.State.{Event, IsRunning}
 use Rattle.store_machine.specs.Asked.{Asked}
-use Rattle.store_machine.specs.Asked as asked
-use Rattle.store_machine.specs.Done.{Done}
 use Rattle.store_machine.specs.Lines as machine
 use Rattle.store_machine.specs.Lines.{AreTurns, IsDueStep, Session, StopsAfter, answer_of, reply_of, step_of}
 use Rattle.store_machine.specs.Machine.{Machine, Stepped}
@@ -82,7 +80,8 @@ answer_told answer due buf fits = absurd fits
 
 module _ {V R : Type 0} (v : Values V R) where
   -- turns made for room, and one more step that was refused
-  pub room_last : (a : ℕ) (made : List (Stepped V)) (s t : Session) (x : Stepped V) → AreTurns v a made s t → machine.AreForRoom v s made → machine.IsCrowded v t → answer_of x.answer ≡ None
+  pub room_last : (a : ℕ) (made : List (Stepped V)) (s t : Session) (x : Stepped V) → AreTurns v a made s t → machine.AreForRoom v s made → machine.IsCrowded v t
+      → answer_of x.answer ≡ None
       → machine.AreForRoom v s (made ++ x ∷ [])
   room_last a [] s t x turns room crowded none = (subst (machine.IsCrowded v) turns crowded, λ answer is. absurd (let both = sym none ∙ is in cc))
   room_last a (y ∷ ys) s t x turns room crowded none = (
@@ -118,7 +117,8 @@ module _ (F : Fitted) (a : ℕ) where
     pub asks : machine.Asks v due x (asked_of s.given step)
     pub is_asked : IsAskedFor due x step
 
-  pub asks_for : (due : Due) (s : Session) (x : SessionState) (result : Result Answer Refusal) (m : Machine V R) (old new : C) → IsSessionOf (owned a m old) s x → Allowed s.given → IsRunning (state old) → Fits m (state old)
+  pub asks_for : (due : Due) (s : Session) (x : SessionState) (result : Result Answer Refusal) (m : Machine V R) (old new : C) → IsSessionOf (owned a m old) s x
+      → Allowed s.given → IsRunning (state old) → Fits m (state old)
       → Asks a due x result (state old) (state new) → AsksFor due s x result m old new
   asks_for dues.Claim s x result m old new is allowed runs fits asks = record {
     step = steps.Claim asks.0;
@@ -147,7 +147,8 @@ module _ (F : Fitted) (a : ℕ) where
     pub told_is : answer_of (answered_by (Ok answer) buf) ≡ Some answer
     pub is : IsSessionOf (owned a made.next new) (answering answer s) y
 
-  pub turn_made : (answer : Answer) (s : Session) (x y : SessionState) (m : Machine V R) (old new : C) → IsSessionOf (owned a m old) s x → Allowed s.given → IsRunning (state old) → Fits m (state old)
+  pub turn_made : (answer : Answer) (s : Session) (x y : SessionState) (m : Machine V R) (old new : C) → IsSessionOf (owned a m old) s x → Allowed s.given
+      → IsRunning (state old) → Fits m (state old)
       → IsTurn a answer x y (state old) (state new) → TurnMade answer s y m old new
   turn_made answer s x y m old new is allowed runs fits turn =
       let z = turn.before in
@@ -166,13 +167,15 @@ module _ (F : Fitted) (a : ℕ) where
           given_is = of.given_is;
           answers_are = ap (λ (l : List Answer). l ++ answer ∷ []) of.answers_are;
           ended_is = ap (λ (w : SessionState). w.ended) turn.told ∙ (told answer z).ended ∙ of.ended_is;
-          owns = asks.made.keeps.turned z of.history answer of.has asks.is_asked refl (subst (λ (w : SessionState). HasHistory w (answered answer z of.history)) turn.told has) of.owns;
+          owns = asks.made.keeps.turned z of.history answer of.has asks.is_asked refl
+              (subst (λ (w : SessionState). HasHistory w (answered answer z of.history)) turn.told has) of.owns;
         };
       }
 
   -- ---- turns
 
-  pub record TurnsMade (answers_are : List Answer) (s : Session) (x y : SessionState) (m : Machine V R) (old new : C) (ran : TurnRun C state a answers_are x y old new) : Type 0 where
+  pub record TurnsMade (answers_are : List Answer) (s : Session) (x y : SessionState) (m : Machine V R) (old new : C)
+      (ran : TurnRun C state a answers_are x y old new) : Type 0 where
     pub made : List (Stepped V)
     pub t : Session
     pub next : Machine V R
@@ -187,7 +190,8 @@ module _ (F : Fitted) (a : ℕ) where
     pub stays : Stays m next old new
     pub room : AreForRoom C state a answers_are x y old new ran → machine.AreForRoom v s made
 
-  pub turns_made : (answers_are : List Answer) (s : Session) (x y : SessionState) (m : Machine V R) (old new : C) → IsSessionOf (owned a m old) s x → Allowed s.given → IsRunning (state old) → Fits m (state old)
+  pub turns_made : (answers_are : List Answer) (s : Session) (x y : SessionState) (m : Machine V R) (old new : C) → IsSessionOf (owned a m old) s x → Allowed s.given
+      → IsRunning (state old) → Fits m (state old)
       → (ran : TurnRun C state a answers_are x y old new) → TurnsMade answers_are s x y m old new ran
   turns_made [] s x y m old new is allowed runs fits ran = record {
     made = [];
@@ -246,7 +250,8 @@ module _ (F : Fitted) (a : ℕ) where
   none_more [] = refl
   none_more (z ∷ zs) = ap (λ (l : List (Stepped V)). z ∷ l) (none_more zs)
 
-  pub turn_refused : (made : List (Stepped V)) (refusal : Refusal) (t : Session) (x y : SessionState) (m : Machine V R) (old new : C) → IsSessionOf (owned a m old) t x → Allowed t.given → IsRunning (state old) → Fits m (state old)
+  pub turn_refused : (made : List (Stepped V)) (refusal : Refusal) (t : Session) (x y : SessionState) (m : Machine V R) (old new : C) → IsSessionOf (owned a m old) t x
+      → Allowed t.given → IsRunning (state old) → Fits m (state old)
       → ((refusal ≡ refusals.Memory) × IsPaused x y × (new ≡ old)) ⊎ IsRefusedTurn a refusal x y (state old) (state new) → TurnRefused made refusal t y m old new
   turn_refused made refusal t x y m old new is allowed runs fits (inl none) = record {
     more = [];
@@ -291,7 +296,8 @@ module _ (F : Fitted) (a : ℕ) where
     pub stays : Stays m next old new
     pub room : StopForRoom C state a refusal x y old new stopped → machine.AreForRoom v s ss
 
-  pub turns_stop : (refusal : Refusal) (s : Session) (x y : SessionState) (m : Machine V R) (old new : C) → IsSessionOf (owned a m old) s x → Allowed s.given → IsRunning (state old) → Fits m (state old)
+  pub turns_stop : (refusal : Refusal) (s : Session) (x y : SessionState) (m : Machine V R) (old new : C) → IsSessionOf (owned a m old) s x → Allowed s.given
+      → IsRunning (state old) → Fits m (state old)
       → (stopped : TurnsStopped C state a refusal x y old new) → TurnsStop refusal s x y m old new stopped
   turns_stop refusal s x y m old new is allowed runs fits stopped =
       let mid = stopped.1 in

@@ -1,5 +1,5 @@
 -- What a relation of machines and cores is to give for lines over a core to be lines of the machine.
-use Rattle.std.proofs.Common.{◌≡◌, ◌≢◌, ℕ, List, Option, Some, None, Result, Ok, Err}
+use Rattle.std.proofs.Common.{◌≡◌, ◌≢◌, ℕ, List, Some, None, Ok, Err}
 use Rattle.std.specs.FinMap as finite
 use Rattle.actor_parts.specs.declared.step.Answer.{Answer}
 use Rattle.actor_parts.specs.Kinds as core_kinds
@@ -66,16 +66,21 @@ pub record Keeps {V R : Type 0} (Owns : ℕ → Kept → Machine V R → CoreSta
   pub quiet : (k : Kept) → IsQuiet e.step → Owns e.actor k m old → Owns e.actor k n new
   pub refused : (k : Kept) (refusal : Refusal) → e.answer ≡ Err refusal → Owns e.actor k m old → Owns e.actor k n new
   pub begun : (answer : Answer) → e.step ≡ steps.Begin → e.answer ≡ Ok answer → Owns e.actor (kept no_history) n new
-  pub turned : (x : SessionState) (h : History) (answer : Answer) → HasHistory x h → IsAskedFor (due_in x) x e.step → e.answer ≡ Ok answer → HasHistory (told_by answer x) (answered answer x h)
+  pub turned : (x : SessionState) (h : History) (answer : Answer) → HasHistory x h → IsAskedFor (due_in x) x e.step → e.answer ≡ Ok answer
+      → HasHistory (told_by answer x) (answered answer x h)
       → Owns e.actor (kept h) m old → Owns e.actor (kept (answered answer x h)) n new
 
-pub record Fitting {V R : Type 0} (v : Values V R) (C : Type 0) (state : C → CoreState) (Fits : Machine V R → CoreState → Type 0) (Owns : ℕ → Kept → Machine V R → CoreState → Type 0) (Allowed : List ℕ → Type 0) : Type 1 where
+pub record Fitting {V R : Type 0} (v : Values V R) (C : Type 0) (state : C → CoreState) (Fits : Machine V R → CoreState → Type 0)
+    (Owns : ℕ → Kept → Machine V R → CoreState → Type 0) (Allowed : List ℕ → Type 0) : Type 1 where
   -- a step of the core is one of the machine
-  pub step : (e : Event) (given : List ℕ) (old new : C) (m : Machine V R) → IsRunning (state old) → Fits m (state old) → IsOfGiven Allowed (λ k. Owns e.actor k m (state old)) e.step given → CoreStep (state old) e (state new)
-      → (n : Machine V R) × (Legal v (step_of v e.actor (asked_as (λ root. v.of given) e.step) (answered_by e.answer e.buf)) m n × Fits n (state new) × Keeps Owns e m n (state old) (state new))
+  pub step : (e : Event) (given : List ℕ) (old new : C) (m : Machine V R) → IsRunning (state old) → Fits m (state old)
+      → IsOfGiven Allowed (λ k. Owns e.actor k m (state old)) e.step given → CoreStep (state old) e (state new)
+      → (n : Machine V R) × (Legal v (step_of v e.actor (asked_as (λ root. v.of given) e.step) (answered_by e.answer e.buf)) m n
+      × Fits n (state new) × Keeps Owns e m n (state old) (state new))
   -- they run and are stopped together, and each actor is at the same kind of thing
   pub runs : (m : Machine V R) (c : CoreState) → Fits m c → c.stop ≡ None → m.state ≡ Running
-  pub stops : (m : Machine V R) (c : CoreState) (stop : Stop) → Fits m c → c.stop ≡ Some stop → ((other : _) × (stores : _) × (m.state ≡ Stopped other stores)) × (stop.at ≡ m.acknowledged)
+  pub stops : (m : Machine V R) (c : CoreState) (stop : Stop) → Fits m c → c.stop ≡ Some stop
+      → ((other : _) × (stores : _) × (m.state ≡ Stopped other stores)) × (stop.at ≡ m.acknowledged)
   pub kinds : (m : Machine V R) (c : CoreState) → Fits m c → (a : ℕ) → kind_of (part_in m a) ≡ core_kinds.kind_of (part_of c.parts a)
   -- an opening of the one is one of the other
   pub opened : (a : ℕ) (old new : C) (m : Machine V R) → Fits m (state old) → OpensCore C (λ c. (state c).disk) (state old).disk (state new) → IsRunning (state new)

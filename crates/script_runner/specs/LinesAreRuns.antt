@@ -16,13 +16,16 @@ use Rattle.ingest_session.specs.State.{SessionState}
 use Rattle.script_lines.specs.Grammar.{LineValue}
 use Rattle.script_lines.specs.ReplyValue.{ReplyValue}
 use Rattle.store_core.specs.State.{CoreState, IsRunning}
-use Rattle.store_machine.specs.Commands.{desk}
+use Rattle.plain_machine.specs.Runs.{Replied}
+use Rattle.store_machine.specs.Commands.{Lines, desk}
+use Rattle.store_machine.specs.Commands.{Replied as Answered}
 use Rattle.store_machine.specs.Lines.{Desk, Line, Session}
 use Rattle.store_machine.specs.Machine.{Machine, Stepped}
 use Rattle.store_machine.specs.Values.{Values, of_roots}
 use Rattle.core_machine.specs.Refines.{IsMachine}
 use Rattle.script_runner.specs.Acts.{RunnerState, RunsLine}
 use Rattle.script_runner.specs.Follows.{IsOfActor}
+use Rattle.script_runner.specs.Scripts.{AreOfActors, RunsLines}
 use Rattle.script_runner.specs.Sessions.{Sessions, session_of}
 
 -- ---- sessions
@@ -97,3 +100,21 @@ LinesAreRuns C state = (line : LineValue) (reply : ReplyValue) (r s : RunnerStat
 abbrev pub BeginsAtDesk : (C : Type 0) → (C → CoreState) → Type 0
 BeginsAtDesk C state = (m : Machine Root (List Top)) (r : RunnerState C) → IsRunning (state r.core) → IsMachine false m (state r.core)
     → (state r.core).parts ≡ replicate ACTORS Idle → r.sessions ≡ replicate ACTORS None → IsAtRoots state (desk m) r
+
+-- ---- lines, one after the other
+
+-- as the machine has them
+abbrev pub as_lines : List Replied → List Answered
+as_lines [] = []
+as_lines (one ∷ more) = record { line = one.line; reply = one.reply } ∷ as_lines more
+
+pub record AllLeadTo {C : Type 0} (state : C → CoreState) (rs : List Replied) (d : RootDesk) (s : RunnerState C) : Type 0 where
+  pub steps : List (Stepped Root)
+  pub next : RootDesk
+  pub lines_are : Lines of_roots (as_lines rs) steps d next
+  pub at : IsAtRoots state next s
+
+-- So it is of lines that are run one after the other.
+abbrev pub ScriptsAreRuns : (C : Type 0) → (C → CoreState) → Type 0
+ScriptsAreRuns C state = (rs : List Replied) (r s : RunnerState C) (d : RootDesk) → AreOfActors rs → IsAtRoots state d r
+    → RunsLines C state rs r s → AllLeadTo state rs d s

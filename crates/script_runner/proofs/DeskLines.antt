@@ -1,7 +1,6 @@
 -- Each line that is run is one of a machine that fits the core; and so of the machine of roots, on any disk.
-use Rattle.std.proofs.Common.{◌≡◌, ◌≢◌, ◌∙◌, ◌<◌, ℕ, zero, suc, false, List, [], ◌∷◌, length, slice_index_or, replicate, Option, Some, None, Result, refl, sym, ap, subst}
+use Rattle.std.proofs.Common.{◌≡◌, ◌∙◌, ℕ, zero, suc, false, List, [], ◌∷◌, ◌++◌, length, slice_index_or, replicate, Option, Some, None, refl, sym, ap, subst}
 use Rattle.std.proofs.lemmas.List.{length-replicate}
-use Rattle.std.specs.FinMap as finite
 use Rattle.disk_format.specs.Cells.{Root}
 use Rattle.dd_disk.specs.View.{DiskView}
 use Rattle.merkle_file.specs.declared.top.Top.{Top}
@@ -17,87 +16,105 @@ use Rattle.script_lines.specs.Grammar.{LineValue}
 use Rattle.script_lines.specs.Grammar as lines
 use Rattle.script_lines.specs.ReplyValue.{ReplyValue}
 use Rattle.store_core.specs.declared.stop.Stop.{Stop}
-use Rattle.store_core.specs.State.{CoreState}
+use Rattle.store_core.specs.State.{CoreState, Event}
 use Rattle.store_machine.specs.Asked.{Asked}
 use Rattle.store_machine.specs.Asked as asked
 use Rattle.store_machine.specs.Legal.{Legal}
-use Rattle.store_machine.specs.Lines.{Desk, step_of}
-use Rattle.store_machine.specs.Machine.{Idle, Machine, Part, Reading, RunState, Running, Stopped, Writing, kind_of, part_in}
-use Rattle.store_machine.specs.Values.{Values, of_roots}
+use Rattle.store_machine.specs.Lines as machine
+use Rattle.store_machine.specs.Lines.{Desk, Session, step_of}
+use Rattle.store_machine.specs.Machine.{Idle, Machine, Part, Reading, RunState, Running, Stopped, Writing, kind_of}
+use Rattle.store_machine.specs.Values.{of_roots}
 use Rattle.core_machine.specs.Refines.{IsMachine, SamePart, SameParts, SameStop, answered_by, asked_as, asked_by}
 use Rattle.core_machine.proofs.Opened.{opened_refines, unopened_refines}
 use Rattle.core_machine.proofs.Refined.{core_refines}
 use Rattle.script_runner.specs.Acts.{RunnerState, RunsLine}
 use Rattle.script_runner.specs.Follows.{IsOfActor}
-use Rattle.script_runner.specs.LinesAreRuns.{BeginsAtDesk, IsAtDesk, LeadsTo, LinesAreRuns, SameSessions}
+use Rattle.script_runner.specs.LinesAreRuns.{BeginsAtDesk, IsAtRoots, Kept, LinesAreRuns, OwnsAny, SameSessions, ScriptsAreRuns}
 use Rattle.script_runner.proofs.DeskGiving.{abort_acts, begin_acts, finish_acts}
 use Rattle.script_runner.proofs.DeskReopens.{idle_give, reopen_line}
 use Rattle.script_runner.proofs.DeskSessions.{none_same}
 use Rattle.script_runner.proofs.DeskSteps.{taken_or_not}
 use Rattle.script_runner.proofs.DeskTaking.{delete_acts, drop_acts, gc_acts, gc_step_acts, list_acts, next_acts, read_acts, stat_acts, sweep_acts}
 use Rattle.script_runner.proofs.DeskTurnLines.{commit_acts, push_acts, turn_acts}
-use Rattle.script_runner.proofs.Fitting.{Fitting, IsOfGiven}
+use Rattle.script_runner.proofs.Fitting.{AtDesk, Fitted, Fitting, IsOfGiven, Keeps, Leads}
 
 -- ---- a machine that fits
 
-module _ {V R : Type 0} (v : Values V R) (C : Type 0) (state : C → CoreState) (Fits : Machine V R → CoreState → Type 0) (fitting : Fitting v C state Fits) (r s : RunnerState C) (d : Desk V R) (at : IsAtDesk state Fits d r) where
-  pub line_runs : (line : LineValue) (reply : ReplyValue) → IsOfActor line → RunsLine C state line reply r s → LeadsTo v state Fits line reply d s
+module _ (F : Fitted) (r s : RunnerState F.C) (d : Desk F.V F.R) (at : AtDesk F d r)
+    (allowed : (a : ℕ) (t : Session) → machine.session_of F.v d a ≡ Some t → F.Allowed t.given) where
+  open F use {V, R, v, C, state, Fits, Owns, Allowed, fitting}
+
+  pub line_runs : (line : LineValue) (reply : ReplyValue) → IsOfActor line → RunsLine C state line reply r s → Leads F line reply d s
   line_runs (lines.Begin a) reply actor runs =
-      taken_or_not v C state Fits fitting r d at (lines.Begin a) reply s (λ is. cc) (λ admits acts. begin_acts v C state Fits fitting r d at s a (actor a refl) admits reply acts) runs
+      taken_or_not F r d at (lines.Begin a) reply s (λ is. cc) (λ admits acts. begin_acts F r d at s a (actor a refl) admits reply acts) runs
   line_runs (lines.Push a digits) reply actor runs =
-      taken_or_not v C state Fits fitting r d at (lines.Push a digits) reply s (λ is. cc) (λ admits acts. push_acts v C state Fits fitting r d at s a (actor a refl) digits reply admits acts) runs
+      taken_or_not F r d at (lines.Push a digits) reply s (λ is. cc) (λ admits acts. push_acts F r d at s a (actor a refl) allowed digits reply admits acts) runs
   line_runs (lines.Finish a) reply actor runs =
-      taken_or_not v C state Fits fitting r d at (lines.Finish a) reply s (λ is. cc) (λ admits acts. finish_acts v C state Fits fitting r d at s a (actor a refl) admits reply acts) runs
+      taken_or_not F r d at (lines.Finish a) reply s (λ is. cc) (λ admits acts. finish_acts F r d at s a (actor a refl) admits reply acts) runs
   line_runs (lines.Turn a) reply actor runs =
-      taken_or_not v C state Fits fitting r d at (lines.Turn a) reply s (λ is. cc) (λ admits acts. turn_acts v C state Fits fitting r d at s a (actor a refl) reply acts) runs
+      taken_or_not F r d at (lines.Turn a) reply s (λ is. cc) (λ admits acts. turn_acts F r d at s a (actor a refl) allowed reply acts) runs
   line_runs (lines.Commit a name) reply actor runs =
-      taken_or_not v C state Fits fitting r d at (lines.Commit a name) reply s (λ is. cc) (λ admits acts. commit_acts v C state Fits fitting r d at s a (actor a refl) name reply acts) runs
+      taken_or_not F r d at (lines.Commit a name) reply s (λ is. cc) (λ admits acts. commit_acts F r d at s a (actor a refl) allowed name reply acts) runs
   line_runs (lines.Abort a) reply actor runs =
-      taken_or_not v C state Fits fitting r d at (lines.Abort a) reply s (λ is. cc) (λ admits acts. abort_acts v C state Fits fitting r d at s a admits reply acts) runs
+      taken_or_not F r d at (lines.Abort a) reply s (λ is. cc) (λ admits acts. abort_acts F r d at s a admits reply acts) runs
   line_runs (lines.Read a name) reply actor runs =
-      taken_or_not v C state Fits fitting r d at (lines.Read a name) reply s (λ is. cc) (λ admits acts. read_acts v C state Fits fitting r d at s a name reply acts) runs
+      taken_or_not F r d at (lines.Read a name) reply s (λ is. cc) (λ admits acts. read_acts F r d at s a name reply acts) runs
   line_runs (lines.Next a) reply actor runs =
-      taken_or_not v C state Fits fitting r d at (lines.Next a) reply s (λ is. cc) (λ admits acts. next_acts v C state Fits fitting r d at s a reply acts) runs
+      taken_or_not F r d at (lines.Next a) reply s (λ is. cc) (λ admits acts. next_acts F r d at s a reply acts) runs
   line_runs (lines.Drop a) reply actor runs =
-      taken_or_not v C state Fits fitting r d at (lines.Drop a) reply s (λ is. cc) (λ admits acts. drop_acts v C state Fits fitting r d at s a reply admits acts) runs
+      taken_or_not F r d at (lines.Drop a) reply s (λ is. cc) (λ admits acts. drop_acts F r d at s a reply admits acts) runs
   line_runs (lines.Delete name) reply actor runs =
-      taken_or_not v C state Fits fitting r d at (lines.Delete name) reply s (λ is. cc) (λ admits acts. delete_acts v C state Fits fitting r d at s name admits reply acts) runs
+      taken_or_not F r d at (lines.Delete name) reply s (λ is. cc) (λ admits acts. delete_acts F r d at s name admits reply acts) runs
   line_runs lines.ListNames reply actor runs =
-      taken_or_not v C state Fits fitting r d at lines.ListNames reply s (λ is. cc) (λ admits acts. list_acts v C state Fits fitting r d at s reply acts) runs
+      taken_or_not F r d at lines.ListNames reply s (λ is. cc) (λ admits acts. list_acts F r d at s reply acts) runs
   line_runs (lines.Gc percent) reply actor runs =
-      taken_or_not v C state Fits fitting r d at (lines.Gc percent) reply s (λ is. cc) (λ admits acts. gc_acts v C state Fits fitting r d at s percent reply acts) runs
+      taken_or_not F r d at (lines.Gc percent) reply s (λ is. cc) (λ admits acts. gc_acts F r d at s percent reply acts) runs
   line_runs lines.GcStep reply actor runs =
-      taken_or_not v C state Fits fitting r d at lines.GcStep reply s (λ is. cc) (λ admits acts. gc_step_acts v C state Fits fitting r d at s reply acts) runs
+      taken_or_not F r d at lines.GcStep reply s (λ is. cc) (λ admits acts. gc_step_acts F r d at s reply acts) runs
   line_runs lines.Sweep reply actor runs =
-      taken_or_not v C state Fits fitting r d at lines.Sweep reply s (λ is. cc) (λ admits acts. sweep_acts v C state Fits fitting r d at s reply acts) runs
+      taken_or_not F r d at lines.Sweep reply s (λ is. cc) (λ admits acts. sweep_acts F r d at s reply acts) runs
   line_runs lines.Stat reply actor runs =
-      taken_or_not v C state Fits fitting r d at lines.Stat reply s (λ is. cc) (λ admits acts. stat_acts v C state Fits fitting r d at s reply acts) runs
-  line_runs lines.Reopen reply actor runs = reopen_line v C state Fits fitting r d at s reply runs
+      taken_or_not F r d at lines.Stat reply s (λ is. cc) (λ admits acts. stat_acts F r d at s reply acts) runs
+  line_runs lines.Reopen reply actor runs = reopen_line F r d at s reply runs
 
 -- ---- the machine of roots
 
+-- any bytes may be given, and nothing is said of what is kept
+abbrev Any : List ℕ → Type 0
+Any given = Unit {0}
+
+keeps_any : (e : Event) (m n : Machine Root (List Top)) (old new : CoreState) → Keeps OwnsAny e m n old new
+keeps_any e m n old new = record {
+  others = λ b k differs owns. tt;
+  quiet = λ k quiet owns. tt;
+  refused = λ k refusal is owns. tt;
+  begun = λ answer step is. tt;
+  turned = λ x h answer has asks is told owns. tt;
+}
+
 -- a commit asks for the root of what was given
-asked_so : (step : StepValue) (given : List ℕ) → IsOfGiven step given → asked_by step ≡ asked_as (λ root. of_roots.of given) step
-asked_so (steps.Commit name root) given right = ap (asked.Commit name) right.3
-asked_so steps.Begin given right = refl
-asked_so steps.Abort given right = refl
-asked_so (steps.OpenRead name) given right = refl
-asked_so steps.ReadNext given right = refl
-asked_so steps.EndRead given right = refl
-asked_so (steps.Delete name) given right = refl
-asked_so (steps.Claim seg) given right = refl
-asked_so (steps.Seal filled) given right = refl
-asked_so steps.ListNames given right = refl
-asked_so (steps.GcStart percent) given right = refl
-asked_so steps.GcStep given right = refl
-asked_so steps.Stat given right = refl
+asked_so : (P : Kept → Type 0) (step : StepValue) (given : List ℕ) → IsOfGiven Any P step given → asked_by step ≡ asked_as (λ root. of_roots.of given) step
+asked_so P (steps.Commit name root) given right = ap (asked.Commit name) right.3
+asked_so P steps.Begin given right = refl
+asked_so P steps.Abort given right = refl
+asked_so P (steps.OpenRead name) given right = refl
+asked_so P steps.ReadNext given right = refl
+asked_so P steps.EndRead given right = refl
+asked_so P (steps.Delete name) given right = refl
+asked_so P (steps.Claim seg) given right = refl
+asked_so P (steps.Seal filled) given right = refl
+asked_so P steps.ListNames given right = refl
+asked_so P (steps.GcStart percent) given right = refl
+asked_so P steps.GcStep given right = refl
+asked_so P steps.Stat given right = refl
 
 runs_by : (count : ℕ) (m : RunState Root) (stop : Option Stop) → SameStop count m stop → stop ≡ None → m ≡ Running
 runs_by count Running stop same none = refl
 runs_by count (Stopped other stores) (Some stop) same none = absurd cc
 runs_by count (Stopped other stores) None same none = absurd same
 
-stops_by : (count : ℕ) (m : RunState Root) (o : Option Stop) (stop : Stop) → SameStop count m o → o ≡ Some stop → ((other : _) × (stores : _) × (m ≡ Stopped other stores)) × (stop.at ≡ count)
+stops_by : (count : ℕ) (m : RunState Root) (o : Option Stop) (stop : Stop) → SameStop count m o → o ≡ Some stop
+    → ((other : _) × (stores : _) × (m ≡ Stopped other stores)) × (stop.at ≡ count)
 stops_by count Running (Some other) stop same is = absurd same
 stops_by count Running None stop same is = absurd cc
 stops_by count (Stopped other stores) (Some one) stop same is = ((other, stores, refl), ap (λ (x : Stop). x.at) (let so : stop ≡ one = cc in so) ∙ same)
@@ -121,26 +138,60 @@ module _ (C : Type 0) (state : C → CoreState) where
   abbrev view : C → DiskView
   view c = (state c).disk
 
-  roots_fit : Fitting of_roots C state (IsMachine false)
+  roots_fit : Fitting of_roots C state (IsMachine false) OwnsAny Any
   roots_fit = record {
     step = λ e given old new m runs fits right step.
-        let one = core_refines C state false e old new m runs fits (λ is. absurd cc) step in
-        (one.0, (subst (λ (x : Asked Root). Legal of_roots (step_of of_roots e.actor x (answered_by e.answer e.buf)) m one.0) (asked_so e.step given right) one.1.0, one.1.1));
+        let one = core_refines C state false e old new m runs fits (λ is. absurd cc) step in (
+          one.0,
+          (
+            subst (λ (x : Asked Root). Legal of_roots (step_of of_roots e.actor x (answered_by e.answer e.buf)) m one.0)
+                (asked_so (λ k. Unit {0}) e.step given right) one.1.0,
+            one.1.1,
+            keeps_any e m one.0 (state old) (state new),
+          ),
+        );
     runs = λ m c fits none. runs_by m.acknowledged m.state c.stop fits.state none;
     stops = λ m c stop fits is. stops_by m.acknowledged m.state c.stop stop fits.state is;
     kinds = λ m c fits a. part_kinds m.parts c.parts fits.parts a;
     opened = λ a old new m fits opens runs. let one = opened_refines C view C state a old new opens runs in (one.0, (one.1.2 m, one.1.0 false));
-    unopened = λ a refusal old new m fits none leaves. let one = unopened_refines C view C state false a refusal old new m fits none leaves in (one.0, (one.1.0, one.1.1));
+    unopened = λ a refusal old new m fits none leaves. let one = unopened_refines C view C state false a refusal old new m fits none leaves in
+        (one.0, (one.1.0, one.1.1, λ b k owns. tt));
+  }
+
+  abbrev roots_fitted : Fitted
+  roots_fitted = record {
+    V = Root;
+    R = List Top;
+    v = of_roots;
+    C = C;
+    state = state;
+    Fits = IsMachine false;
+    Owns = OwnsAny;
+    Allowed = Any;
+    fitting = roots_fit;
   }
 
   pub lines_are_runs : LinesAreRuns C state
-  lines_are_runs line reply r s d actor at runs = line_runs of_roots C state (IsMachine false) roots_fit r s d at line reply actor runs
+  lines_are_runs line reply r s d actor at runs = line_runs roots_fitted r s d at (λ a t there. tt) line reply actor runs
 
   pub begins_at_desk : BeginsAtDesk C state
   begins_at_desk m r runs fits parts sessions = record {
     runs = runs;
     fits = fits;
-    same = subst (SameSessions (replicate ACTORS None)) (sym sessions) (none_same ACTORS);
+    same = subst (SameSessions (λ b k. Unit {0}) (replicate ACTORS None)) (sym sessions) (none_same (λ b k. Unit {0}) ACTORS);
     many = ap length sessions ∙ length-replicate {A = Option SessionState} ACTORS None;
     give = idle_give r.sessions (state r.core).parts parts;
   }
+
+  pub scripts_are_runs : ScriptsAreRuns C state
+  scripts_are_runs [] r s d actors at run = record { steps = []; next = d; lines_are = (refl, refl); at = subst (λ (t : RunnerState C). IsAtRoots state d t) (sym run) at }
+  scripts_are_runs (one ∷ more) r s d actors at run =
+      let mid = run.1.0 in
+      let first = lines_are_runs one.line one.reply r mid d actors.0 at run.1.1.0 in
+      let rest = scripts_are_runs more mid s first.next actors.1 first.at run.1.1.1 in
+      record {
+        steps = first.steps ++ rest.steps;
+        next = rest.next;
+        lines_are = (first.steps, rest.steps, first.next, refl, first.line_is, rest.lines_are);
+        at = rest.at;
+      }

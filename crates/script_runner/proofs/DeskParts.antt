@@ -1,7 +1,6 @@
 -- What a step leaves of who gives a file.
-use Rattle.std.proofs.Common.{◌≡◌, ◌≢◌, ◌∙◌, ℕ, List, Option, Some, None, Result, Ok, Err, refl, sym, ap, subst}
+use Rattle.std.proofs.Common.{◌≡◌, ◌≢◌, ◌∙◌, ℕ, List, Option, Some, None, Result, Ok, Err, refl, ap, subst}
 use Rattle.actor_parts.specs.declared.part.Part as core_part
-use Rattle.actor_parts.specs.declared.part.Part.TheVariants as core_parts
 use Rattle.actor_parts.specs.declared.step.Answer.{Answer}
 use Rattle.actor_parts.specs.declared.step.Answer.TheVariants as answers
 use Rattle.actor_parts.specs.Kinds.{kind_of}

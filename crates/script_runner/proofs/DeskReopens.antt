@@ -1,19 +1,15 @@
 -- `reopen` as a line of a machine that fits the core.
-use Rattle.std.proofs.Common.{◌≡◌, ◌≢◌, ◌⊎◌, inl, inr, ◌∙◌, ℕ, zero, suc, List, [], ◌∷◌, length, slice_index_or, replicate, Option, Some, None, Result, Ok, Err, refl, sym, ap, subst}
+use Rattle.std.proofs.Common.{◌≡◌, inl, inr, ◌∙◌, ℕ, zero, suc, List, [], ◌∷◌, length, slice_index_or, replicate, Option, None, Result, Ok, Err, refl, sym, ap, subst}
 use Rattle.std.proofs.lemmas.List.{length-replicate}
 use Rattle.std.specs.FinMap as finite
 use Rattle.actor_parts.specs.declared.actor.TheConstants.{ACTORS}
 use Rattle.actor_parts.specs.declared.part.Part as core_part
 use Rattle.actor_parts.specs.declared.part.Part.TheVariants as core_parts
-use Rattle.actor_parts.specs.declared.step.Answer.{Answer}
-use Rattle.actor_parts.specs.declared.step.Answer.TheVariants as answers
 use Rattle.actor_parts.specs.Kinds as core_kinds
 use Rattle.actor_parts.specs.Parts.{part_of}
 use Rattle.actor_parts.specs.StepValue as steps
 use Rattle.dd_disk.specs.View.{DiskView}
-use Rattle.refusals.specs.declared.refusal.PartKind.TheVariants as kinds
 use Rattle.refusals.specs.declared.refusal.Refusal.{Refusal}
-use Rattle.refusals.specs.declared.refusal.Refusal.TheVariants as refusals
 use Rattle.ingest_session.specs.State.{SessionState}
 use Rattle.script_lines.specs.Grammar as lines
 use Rattle.script_lines.specs.ReplyValue.{ReplyValue}
@@ -25,19 +21,17 @@ use Rattle.store_machine.specs.Asked as asked
 use Rattle.store_machine.specs.Done.{Done}
 use Rattle.store_machine.specs.Done as done
 use Rattle.store_machine.specs.Legal.{Answers, Legal}
-use Rattle.store_machine.specs.Lines as machine
 use Rattle.store_machine.specs.Lines.{Desk, all_none, step_of}
-use Rattle.store_machine.specs.Machine.{Machine, Stepped}
+use Rattle.store_machine.specs.Machine.{Machine}
 use Rattle.store_machine.specs.Opening as opening
-use Rattle.store_machine.specs.Values.{Values}
 use Rattle.core_machine.specs.Refines.{answered_by}
 use Rattle.script_runner.specs.Acts.{ActsReopen, RefusesReopen, Reopens, RunnerState, counted}
-use Rattle.script_runner.specs.LinesAreRuns.{IsAtDesk, LeadsTo, SameSessions, WritersGive}
-use Rattle.script_runner.specs.Sessions.{Sessions, session_of}
+use Rattle.script_runner.specs.LinesAreRuns.{Kept, SameSessions, WritersGive}
+use Rattle.script_runner.specs.Sessions.{Sessions}
 use Rattle.script_runner.proofs.DeskParts.{quiet_gives}
-use Rattle.script_runner.proofs.DeskSessions.{same_none}
+use Rattle.script_runner.proofs.DeskSessions.{same_none, same_on}
 use Rattle.script_runner.proofs.DeskSteps.{answers_so, makes, one_step}
-use Rattle.script_runner.proofs.Fitting.{Fitting}
+use Rattle.script_runner.proofs.Fitting.{AtDesk, Fitted, Leads}
 
 -- a core that was opened runs
 read_runs : (before : DiskView) (c : CoreState) → IsReadFrom before c → IsRunning c
@@ -72,12 +66,14 @@ kept_parts : (C : Type 0) (view : C → DiskView) (refusal : Refusal) (old new :
 kept_parts C view refusal old new (inl kept) = kept.0.parts_are
 kept_parts C view refusal old new (inr stops) = stops.parts_are
 
-module _ {V R : Type 0} (v : Values V R) (C : Type 0) (state : C → CoreState) (Fits : Machine V R → CoreState → Type 0) (fitting : Fitting v C state Fits) (r : RunnerState C) (d : Desk V R) (at : IsAtDesk state Fits d r) (s : RunnerState C) where
+module _ (F : Fitted) (r : RunnerState F.C) (d : Desk F.V F.R) (at : AtDesk F d r) (s : RunnerState F.C) where
+  open F use {V, R, v, C, state, Fits, Owns, Allowed, fitting}
+
   abbrev view : C → DiskView
   view c = (state c).disk
 
-  abbrev Leads : ReplyValue → Type 0
-  Leads reply = LeadsTo v state Fits lines.Reopen reply d s
+  abbrev Reopened : ReplyValue → Type 0
+  Reopened reply = Leads F lines.Reopen reply d s
 
   -- ---- it is opened
 
@@ -99,7 +95,8 @@ module _ {V R : Type 0} (v : Values V R) (C : Type 0) (state : C → CoreState) 
     counting = record { actor = 0; step = steps.Stat; answer = Ok (counted acts.holdings); buf = acts.counts.0 }
 
     -- the number that is told is that of the names
-    module _ (next : Machine V R) (legal : Answers v 0 asked.Stat (Ok (done.Counted acts.holdings.files acts.holdings.segments acts.holdings.bytes acts.holdings.used acts.holdings.free)) n next) where
+    module _ (next : Machine V R)
+        (legal : Answers v 0 asked.Stat (Ok (done.Counted acts.holdings.files acts.holdings.segments acts.holdings.bytes acts.holdings.used acts.holdings.free)) n next) where
       names_are : acts.holdings.files ≡ finite.len n.now.names
       names_are = ap files_of legal.0
         where
@@ -107,9 +104,9 @@ module _ {V R : Type 0} (v : Values V R) (C : Type 0) (state : C → CoreState) 
           files_of (done.Counted files segments bytes used free) = files
           files_of answer = 0
 
-    opened_line : Leads (replies.Opened files)
+    opened_line : Reopened (replies.Opened files)
     opened_line =
-        let one = makes v C state Fits fitting counting [] acts.mid s.core n mid_runs opens.1.1 tt acts.counts.1 in
+        let one = makes F counting [] acts.mid s.core n mid_runs opens.1.1 tt acts.counts.1 in
         let told : Result Done Refusal = Ok (done.Reopened (finite.len (state acts.mid).tables.names)) in
         let legal = answers_so v n one.next 0 asked.Stat (answered_by (Ok (counted acts.holdings)) acts.counts.0)
         (fitting.runs n (state acts.mid) opens.1.1 (opened_stop C view (state r.core).disk (state acts.mid) acts.opened)) one.legal in
@@ -123,7 +120,8 @@ module _ {V R : Type 0} (v : Values V R) (C : Type 0) (state : C → CoreState) 
           at = record {
             runs = one.runs;
             fits = subst (λ (m : Machine V R). Fits m (state s.core)) legal.1 one.fits;
-            same = subst (SameSessions (all_none d.sessions)) (sym acts.sessions_are) (same_none ACTORS d.sessions r.sessions at.same at.many);
+            same = subst (SameSessions (λ b k. Owns b k n (state s.core)) (all_none d.sessions)) (sym acts.sessions_are)
+                (same_none (λ b k. Owns b k d.machine (state r.core)) (λ b k. Owns b k n (state s.core)) ACTORS d.sessions r.sessions at.same at.many);
             many = ap length acts.sessions_are ∙ length-replicate {A = Option SessionState} ACTORS None;
             give = quiet_gives counting (state acts.mid) (state s.core) s.sessions tt acts.counts.1
                 (idle_give s.sessions (state acts.mid).parts (opened_parts C view (state r.core).disk (state acts.mid) acts.opened));
@@ -136,31 +134,38 @@ module _ {V R : Type 0} (v : Values V R) (C : Type 0) (state : C → CoreState) 
     abbrev told : Result Done Refusal
     told = Err refusal
 
-    unopened_at : (n : Machine V R) → Legal v (step_of v 0 asked.Reopen told) d.machine n → Fits n (state s.core) → IsRunning (state s.core) → (state s.core).parts ≡ (state r.core).parts → Leads (replies.Refused refusal)
-    unopened_at n legal fits runs parts = record {
+    unopened_at : (n : Machine V R) → Legal v (step_of v 0 asked.Reopen told) d.machine n → Fits n (state s.core) → IsRunning (state s.core)
+        → (state s.core).parts ≡ (state r.core).parts → ((b : ℕ) (k : Kept) → Owns b k d.machine (state r.core) → Owns b k n (state s.core))
+        → Reopened (replies.Refused refusal)
+    unopened_at n legal fits runs parts owns = record {
       steps = step_of v 0 asked.Reopen told ∷ [];
       next = record { machine = n; sessions = d.sessions };
       line_is = (one_step v 0 asked.Reopen told d.machine n legal, ((0, (told, refl, refl)), refl));
       at = record {
         runs = runs;
         fits = fits;
-        same = subst (SameSessions d.sessions) (sym sessions) at.same;
+        same = subst (SameSessions (λ b k. Owns b k n (state s.core)) d.sessions) (sym sessions)
+            (same_on (λ b k. Owns b k d.machine (state r.core)) (λ b k. Owns b k n (state s.core)) d.sessions r.sessions owns at.same);
         many = ap length sessions ∙ at.many;
         give = subst (λ (xs : Sessions). WritersGive xs (state s.core).parts) (sym sessions) (subst (WritersGive r.sessions) (sym parts) at.give);
       };
     }
 
-    unopened_line : RefusesReopen C state refusal r.core s.core → Leads (replies.Refused refusal)
+    unopened_line : RefusesReopen C state refusal r.core s.core → Reopened (replies.Refused refusal)
     unopened_line refuses = elim refuses.why [
-      | inl memory ↦ unopened_at d.machine (subst (λ (e : Refusal). opening.MayRefuseOpening v e) (sym memory.0) tt, inl refl) (subst (λ (c : C). Fits d.machine (state c)) (sym memory.1) at.fits)
+      | inl memory ↦ unopened_at d.machine (subst (λ (e : Refusal). opening.MayRefuseOpening v e) (sym memory.0) tt, inl refl)
+          (subst (λ (c : C). Fits d.machine (state c)) (sym memory.1) at.fits)
           (subst (λ (c : C). IsRunning (state c)) (sym memory.1) at.runs) (ap (λ (c : C). (state c).parts) memory.1)
+          (λ b k owns. subst (λ (c : C). Owns b k d.machine (state c)) (sym memory.1) owns)
       | inr none ↦ by (fitting.unopened 0 refusal r.core s.core d.machine at.fits none.0 none.1) none.1
     ]
       where
-        by : (n : Machine V R) × (Legal v (step_of v 0 asked.Reopen told) d.machine n × Fits n (state s.core)) → StaysOrStops C view refusal (state r.core) (state s.core) → Leads (replies.Refused refusal)
-        by went leaves = unopened_at went.0 went.1.0 went.1.1 (stays_runs C view refusal (state r.core) (state s.core) leaves at.runs) (kept_parts C view refusal (state r.core) (state s.core) leaves)
+        by : (n : Machine V R) × (Legal v (step_of v 0 asked.Reopen told) d.machine n × Fits n (state s.core) × ((b : ℕ) (k : Kept) → Owns b k d.machine (state r.core)
+            → Owns b k n (state s.core))) → StaysOrStops C view refusal (state r.core) (state s.core) → Reopened (replies.Refused refusal)
+        by went leaves = unopened_at went.0 went.1.0 went.1.1 (stays_runs C view refusal (state r.core) (state s.core) leaves at.runs)
+            (kept_parts C view refusal (state r.core) (state s.core) leaves) went.1.2
 
-  pub reopen_line : (reply : ReplyValue) → ActsReopen C state reply r s → Leads reply
+  pub reopen_line : (reply : ReplyValue) → ActsReopen C state reply r s → Reopened reply
   reopen_line (replies.Opened files) acts = opened_line files acts
   reopen_line (replies.Refused refusal) acts = unopened_line refusal acts.1 acts.0
   reopen_line reply acts = absurd acts

@@ -1,65 +1,93 @@
 -- The sessions of a desk beside those of a runner, and what actors are at.
 use Rattle.std.proofs.Common.{◌≡◌, ◌≢◌, ◌∙◌, ◌==◌, ◌<◌, inl, inr, ℕ, zero, suc, Bool, true, false, if◌then◌else◌, List, [], ◌∷◌, length, slice_index_or, slice_set, replicate, Option, Some, None, refl, sym, ap, subst, arith}
 use Rattle.std.proofs.lemmas.Bool.{cases_lt, eqb-true, eqb-false}
-use Rattle.std.proofs.lemmas.List.{get_or-set_same, get_or-set_other, get_or_past, length-set}
+use Rattle.std.proofs.lemmas.List.{get_or-set_same, get_or_past, length-set}
 use Rattle.actor_parts.specs.declared.part.Part as core_part
 use Rattle.actor_parts.specs.declared.part.Part.TheVariants as core_parts
 use Rattle.actor_parts.specs.Kinds as core_kinds
 use Rattle.actor_parts.specs.Parts.{part_of, with_part}
-use Rattle.actor_parts.proofs.Apart.{apart}
 use Rattle.refusals.specs.declared.refusal.PartKind.{PartKind}
 use Rattle.refusals.specs.declared.refusal.PartKind.TheVariants as kinds
+use Rattle.ingest_session.specs.Facts.{kept}
 use Rattle.ingest_session.specs.State.{SessionState}
 use Rattle.script_lines.specs.Grammar.{LineValue}
 use Rattle.script_lines.specs.Grammar as lines
 use Rattle.plain_machine.specs.Refused as plain
 use Rattle.store_machine.specs.Lines as machine
 use Rattle.store_machine.specs.Lines.{Session, all_none, takes, actor_of}
-use Rattle.script_runner.specs.LinesAreRuns.{IsSessionOf, SameSession, SameSessions, WritersGive}
+use Rattle.script_runner.specs.LinesAreRuns.{IsSessionOf, Kept, SameSession, SameSessions, WritersGive}
 use Rattle.script_runner.specs.Sessions.{Sessions, has_ended, kind_by, session_of, with_session}
 
 -- ---- lists of sessions
 
-pub same_at : (ds : List (Option Session)) (xs : Sessions) → SameSessions ds xs → (a : ℕ) → SameSession (slice_index_or ds a None) (slice_index_or xs a None)
-same_at [] [] same a = tt
-same_at [] (x ∷ xs) same a = absurd same
-same_at (d ∷ ds) [] same a = absurd same
-same_at (d ∷ ds) (x ∷ xs) same zero = same.0
-same_at (d ∷ ds) (x ∷ xs) same (suc a) = same_at ds xs same.1 a
+pub same_at : (P : ℕ → Kept → Type 0) (ds : List (Option Session)) (xs : Sessions) → SameSessions P ds xs → (a : ℕ)
+    → SameSession (P a) (slice_index_or ds a None) (slice_index_or xs a None)
+same_at P [] [] same a = tt
+same_at P [] (x ∷ xs) same a = absurd same
+same_at P (d ∷ ds) [] same a = absurd same
+same_at P (d ∷ ds) (x ∷ xs) same zero = same.0
+same_at P (d ∷ ds) (x ∷ xs) same (suc a) = same_at (λ b. P (suc b)) ds xs same.1 a
 
-pub same_set : (ds : List (Option Session)) (xs : Sessions) → SameSessions ds xs → (a : ℕ) (d : Option Session) (x : Option SessionState) → SameSession d x
-    → SameSessions (slice_set ds a d) (slice_set xs a x)
-same_set [] [] same a d x is = tt
-same_set [] (y ∷ xs) same a d x is = absurd same
-same_set (e ∷ ds) [] same a d x is = absurd same
-same_set (e ∷ ds) (y ∷ xs) same zero d x is = (is, same.1)
-same_set (e ∷ ds) (y ∷ xs) same (suc a) d x is = (same.0, same_set ds xs same.1 a d x is)
+-- where more is owned
+pub session_on : (P Q : Kept → Type 0) (s : Session) (x : SessionState) → ((k : Kept) → P k → Q k) → IsSessionOf P s x → IsSessionOf Q s x
+session_on P Q s x on is = record {
+  history = is.history;
+  has = is.has;
+  given_is = is.given_is;
+  answers_are = is.answers_are;
+  ended_is = is.ended_is;
+  owns = on (kept is.history) is.owns;
+}
 
-none_beside : (n : ℕ) (ds : List (Option Session)) (xs : Sessions) → SameSessions ds xs → length xs ≡ n → SameSessions (all_none ds) (replicate n None)
-none_beside zero [] [] same many = tt
-none_beside (suc n) (d ∷ ds) (x ∷ xs) same many = (tt, none_beside n ds xs same.1 (omega (arith, many)))
-none_beside (suc n) [] [] same many = absurd (omega (arith, many))
-none_beside zero (d ∷ ds) (x ∷ xs) same many = absurd (omega (arith, many))
-none_beside n [] (x ∷ xs) same many = absurd same
-none_beside n (d ∷ ds) [] same many = absurd same
+one_on : (P Q : Kept → Type 0) (d : Option Session) (x : Option SessionState) → ((k : Kept) → P k → Q k) → SameSession P d x → SameSession Q d x
+one_on P Q None None on same = tt
+one_on P Q (Some s) (Some x) on same = session_on P Q s x on same
+one_on P Q None (Some x) on same = absurd same
+one_on P Q (Some s) None on same = absurd same
 
-pub same_none : (n : ℕ) (ds : List (Option Session)) (xs : Sessions) → SameSessions ds xs → length xs ≡ n → SameSessions (all_none ds) (replicate n None)
-same_none = none_beside
+pub same_on : (P Q : ℕ → Kept → Type 0) (ds : List (Option Session)) (xs : Sessions) → ((b : ℕ) (k : Kept) → P b k → Q b k) → SameSessions P ds xs → SameSessions Q ds xs
+same_on P Q [] [] on same = tt
+same_on P Q [] (x ∷ xs) on same = absurd same
+same_on P Q (d ∷ ds) [] on same = absurd same
+same_on P Q (d ∷ ds) (x ∷ xs) on same = (one_on (P 0) (Q 0) d x (on 0) same.0, same_on (λ b. P (suc b)) (λ b. Q (suc b)) ds xs (λ b k. on (suc b) k) same.1)
 
-pub none_same : (n : ℕ) → SameSessions (replicate n None) (replicate n None)
-none_same zero = tt
-none_same (suc n) = (tt, none_same n)
+-- the session of an actor is put, and the others stay
+pub same_put : (P Q : ℕ → Kept → Type 0) (ds : List (Option Session)) (xs : Sessions) → SameSessions P ds xs → (a : ℕ) (d : Option Session) (x : Option SessionState)
+    → SameSession (Q a) d x
+    → ((b : ℕ) (k : Kept) → b ≢ a → P b k → Q b k) → SameSessions Q (slice_set ds a d) (slice_set xs a x)
+same_put P Q [] [] same a d x is on = tt
+same_put P Q [] (y ∷ xs) same a d x is on = absurd same
+same_put P Q (e ∷ ds) [] same a d x is on = absurd same
+same_put P Q (e ∷ ds) (y ∷ xs) same zero d x is on = (is, same_on (λ b. P (suc b)) (λ b. Q (suc b)) ds xs (λ b k. on (suc b) k (λ wrong. absurd (omega (arith, wrong)))) same.1)
+same_put P Q (e ∷ ds) (y ∷ xs) same (suc a) d x is on = (
+  one_on (P 0) (Q 0) e y (λ k. on 0 k (λ wrong. absurd (omega (arith, wrong)))) same.0,
+  same_put (λ b. P (suc b)) (λ b. Q (suc b)) ds xs same.1 a d x is (λ b k differs. on (suc b) k (λ so. differs (omega (arith, so)))),
+)
+
+pub same_none : (P Q : ℕ → Kept → Type 0) (n : ℕ) (ds : List (Option Session)) (xs : Sessions) → SameSessions P ds xs → length xs ≡ n
+    → SameSessions Q (all_none ds) (replicate n None)
+same_none P Q zero [] [] same many = tt
+same_none P Q (suc n) (d ∷ ds) (x ∷ xs) same many = (tt, same_none (λ b. P (suc b)) (λ b. Q (suc b)) n ds xs same.1 (omega (arith, many)))
+same_none P Q (suc n) [] [] same many = absurd (omega (arith, many))
+same_none P Q zero (d ∷ ds) (x ∷ xs) same many = absurd (omega (arith, many))
+same_none P Q n [] (x ∷ xs) same many = absurd same
+same_none P Q n (d ∷ ds) [] same many = absurd same
+
+pub none_same : (P : ℕ → Kept → Type 0) (n : ℕ) → SameSessions P (replicate n None) (replicate n None)
+none_same P zero = tt
+none_same P (suc n) = (tt, none_same (λ b. P (suc b)) n)
 
 -- where a runner has a session the desk has one
-pub record DeskSession (ds : List (Option Session)) (a : ℕ) (x : SessionState) : Type 0 where
+pub record DeskSession (P : Kept → Type 0) (ds : List (Option Session)) (a : ℕ) (x : SessionState) : Type 0 where
   pub s : Session
   pub there : slice_index_or ds a None ≡ Some s
-  pub is : IsSessionOf s x
+  pub is : IsSessionOf P s x
 
-pub desk_session : (ds : List (Option Session)) (xs : Sessions) → SameSessions ds xs → (a : ℕ) (x : SessionState) → session_of xs a ≡ Some x → DeskSession ds a x
-desk_session ds xs same a x is = by (slice_index_or ds a None) refl (subst (SameSession (slice_index_or ds a None)) is (same_at ds xs same a))
+pub desk_session : (P : ℕ → Kept → Type 0) (ds : List (Option Session)) (xs : Sessions) → SameSessions P ds xs → (a : ℕ) (x : SessionState) → session_of xs a ≡ Some x
+    → DeskSession (P a) ds a x
+desk_session P ds xs same a x is = by (slice_index_or ds a None) refl (subst (SameSession (P a) (slice_index_or ds a None)) is (same_at P ds xs same a))
   where
-    by : (d : Option Session) → slice_index_or ds a None ≡ d → SameSession d (Some x) → DeskSession ds a x
+    by : (d : Option Session) → slice_index_or ds a None ≡ d → SameSession (P a) d (Some x) → DeskSession (P a) ds a x
     by None there h = absurd h
     by (Some s) there h = record { s = s; there = there; is = h }
 
@@ -73,14 +101,14 @@ module _ (p : core_part.Part) where
   by_end false true is = absurd cc
 
 -- the desk's kind is the runner's
-pub same_kind : (d : Option Session) (x : Option SessionState) (k : PartKind) (p : core_part.Part) → SameSession d x → k ≡ core_kinds.kind_of p
+pub same_kind : (P : Kept → Type 0) (d : Option Session) (x : Option SessionState) (k : PartKind) (p : core_part.Part) → SameSession P d x → k ≡ core_kinds.kind_of p
     → (x ≡ None → core_kinds.kind_of p ≢ kinds.Writing) → machine.kind_by d k ≡ kind_by (has_ended x) (core_kinds.kind_of p)
-same_kind None None k core_parts.Idle same is gives = is
-same_kind None None k (core_parts.Writing pins) same is gives = absurd (gives refl refl)
-same_kind None None k (core_parts.Reading reader) same is gives = is
-same_kind (Some s) (Some x) k p same is gives = by_end p s.ended x.ended same.ended_is
-same_kind None (Some x) k p same is gives = absurd same
-same_kind (Some s) None k p same is gives = absurd same
+same_kind P None None k core_parts.Idle same is gives = is
+same_kind P None None k (core_parts.Writing pins) same is gives = absurd (gives refl refl)
+same_kind P None None k (core_parts.Reading reader) same is gives = is
+same_kind P (Some s) (Some x) k p same is gives = by_end p s.ended x.ended same.ended_is
+same_kind P None (Some x) k p same is gives = absurd same
+same_kind P (Some s) None k p same is gives = absurd same
 
 pub same_takes : (line : LineValue) (kind : PartKind) → plain.takes line kind ≡ takes line kind
 same_takes (lines.Begin a) kinds.Idle = refl
@@ -119,7 +147,8 @@ pub is_put : (xs : Sessions) (a : ℕ) (x : SessionState) → a < length xs → 
 is_put xs a x below none = let both = sym (get_or-set_same xs a (Some x) None below) ∙ none in absurd cc
 
 -- an actor that is given another part than one that writes doesn't write
-pub put_quiet : (parts : List core_part.Part) (a : ℕ) (p : core_part.Part) → core_kinds.kind_of p ≢ kinds.Writing → core_kinds.kind_of (part_of (with_part parts a p) a) ≢ kinds.Writing
+pub put_quiet : (parts : List core_part.Part) (a : ℕ) (p : core_part.Part) → core_kinds.kind_of p ≢ kinds.Writing
+    → core_kinds.kind_of (part_of (with_part parts a p) a) ≢ kinds.Writing
 unfolding part_of with_part
 put_quiet parts a p quiet writes = elim (cases_lt a (length parts)) [
   | inl below ↦ quiet (ap core_kinds.kind_of (sym (get_or-set_same parts a p core_parts.Idle below)) ∙ writes)

@@ -1,13 +1,11 @@
 -- A step of the core as one of a machine that fits it; and lines that are one step, or are barred.
-use Rattle.std.proofs.Common.{◌≡◌, ◌≢◌, ◌⊎◌, inl, inr, ◌∙◌, ◌+◌, ◌-◌, ◌^◌, ◌<◌, min, ℕ, suc, Bool, true, false, List, [], ◌∷◌, ◌++◌, length, slice_index_or, Option, Some, None, Result, Ok, Err, refl, sym, ap, subst, arith}
+use Rattle.std.proofs.Common.{◌≡◌, ◌≢◌, ◌⊎◌, ◌==◌, inl, inr, ◌∙◌, ◌+◌, ◌-◌, ◌^◌, ◌<◌, min, ℕ, suc, Bool, true, false, List, [], ◌∷◌, ◌++◌, length, slice_index_or, Option, Some, None, Result, refl, sym, ap, subst, arith}
+use Rattle.std.proofs.lemmas.Bool.{eqb-true, eqb-false}
 use Rattle.actor_parts.specs.declared.step.Answer.{Answer}
-use Rattle.actor_parts.specs.Kinds as core_kinds
 use Rattle.actor_parts.specs.Parts.{part_of}
-use Rattle.actor_parts.specs.StepValue as steps
 use Rattle.actor_parts.specs.StepValue.{StepValue}
 use Rattle.refusals.specs.declared.refusal.PartKind.{PartKind}
 use Rattle.refusals.specs.declared.refusal.Refusal.{Refusal}
-use Rattle.refusals.specs.declared.refusal.Refusal.TheVariants as refusals
 use Rattle.script_lines.specs.Grammar.{LineValue}
 use Rattle.script_lines.specs.Grammar as lines
 use Rattle.script_lines.specs.ReplyValue.{ReplyValue}
@@ -16,7 +14,6 @@ use Rattle.store_core.specs.declared.stop.Stop.{Stop}
 use Rattle.store_core.specs.Core.{CoreStep}
 use Rattle.store_core.specs.State.{CoreState, Event, IsRunning}
 use Rattle.store_core.proofs.RunningOn.{step_runs}
-use Rattle.plain_machine.specs.Refused as plain
 use Rattle.store_machine.specs.Asked.{Asked}
 use Rattle.store_machine.specs.Done.{Done}
 use Rattle.store_machine.specs.Legal.{Answers, ByState, Legal}
@@ -26,12 +23,12 @@ use Rattle.store_machine.specs.Machine.{Machine, RunState, Running, Stepped, kin
 use Rattle.store_machine.specs.Runs.{Run}
 use Rattle.store_machine.specs.Values.{Values}
 use Rattle.core_machine.specs.Refines.{answered_by, asked_as}
-use Rattle.script_runner.specs.Acts.{Acts, ActsOrNot, Admits, Bars, BarsBy, RunnerState}
-use Rattle.script_runner.specs.LinesAreRuns.{IsAtDesk, LeadsTo, SameSessions, WritersGive}
-use Rattle.script_runner.specs.Sessions.{Sessions, has_ended, kind_in, session_of}
+use Rattle.script_runner.specs.Acts.{Acts, ActsOrNot, Admits, BarsBy, RunnerState}
+use Rattle.script_runner.specs.LinesAreRuns.{Kept, SameSessions, WritersGive}
+use Rattle.script_runner.specs.Sessions.{Sessions, kind_in, session_of}
 use Rattle.script_runner.proofs.DeskParts.{IsQuiet, others_stay, quiet_gives}
-use Rattle.script_runner.proofs.DeskSessions.{same_actor, same_at, same_kind, same_takes}
-use Rattle.script_runner.proofs.Fitting.{Fitting, IsOfGiven}
+use Rattle.script_runner.proofs.DeskSessions.{same_actor, same_at, same_kind, same_on, same_takes}
+use Rattle.script_runner.proofs.Fitting.{AtDesk, Fitted, IsOfGiven, Keeps, Leads}
 
 -- a number that is acknowledged
 pub number_so : (journal last number : ℕ) → number ≡ suc journal → number ≡ suc last → last < 2 ^ 64 - 1 → min (journal + 1) (2 ^ 64 - 1) ≡ number
@@ -58,18 +55,22 @@ module _ {V R : Type 0} (v : Values V R) where
   says_so lines.Reopen reply ss d e other says = absurd (other refl)
   says_so line reply ss d e other says = says
 
-module _ {V R : Type 0} (v : Values V R) (C : Type 0) (state : C → CoreState) (Fits : Machine V R → CoreState → Type 0) (fitting : Fitting v C state Fits) where
+module _ (F : Fitted) where
+  open F use {V, R, v, C, state, Fits, Owns, Allowed, fitting}
+
   -- ---- a step
 
-  pub record Makes (a : ℕ) (step : Asked V) (told : Result Done Refusal) (m : Machine V R) (old new : C) : Type 0 where
+  pub record Makes (e : Event) (given : List ℕ) (m : Machine V R) (old new : C) : Type 0 where
     pub next : Machine V R
-    pub legal : Legal v (step_of v a step told) m next
+    pub legal : Legal v (step_of v e.actor (asked_as (λ root. v.of given) e.step) (answered_by e.answer e.buf)) m next
     pub fits : Fits next (state new)
     pub runs : IsRunning (state new)
-    pub others : (b : ℕ) → b ≢ a → part_of (state new).parts b ≡ part_of (state old).parts b
+    pub others : (b : ℕ) → b ≢ e.actor → part_of (state new).parts b ≡ part_of (state old).parts b
+    pub keeps : Keeps Owns e m next (state old) (state new)
 
-  pub makes : (e : Event) (given : List ℕ) (old new : C) (m : Machine V R) → IsRunning (state old) → Fits m (state old) → IsOfGiven e.step given → CoreStep (state old) e (state new)
-      → Makes e.actor (asked_as (λ root. v.of given) e.step) (answered_by e.answer e.buf) m old new
+  pub makes : (e : Event) (given : List ℕ) (old new : C) (m : Machine V R) → IsRunning (state old) → Fits m (state old)
+      → IsOfGiven Allowed (λ k. Owns e.actor k m (state old)) e.step given → CoreStep (state old) e (state new)
+      → Makes e given m old new
   makes e given old new m runs fits right step =
       let one = fitting.step e given old new m runs fits right step in
       record {
@@ -78,21 +79,36 @@ module _ {V R : Type 0} (v : Values V R) (C : Type 0) (state : C → CoreState) 
         fits = one.1.1;
         runs = step_runs (state old) (state new) e step runs;
         others = others_stay e (state old) (state new) step;
+        keeps = one.1.2;
       }
+
+  -- what actors own stays, where the step is one of who gives no file
+  pub all_keep : (e : Event) (m n : Machine V R) (old new : CoreState) → Keeps Owns e m n old new → IsQuiet e.step → (b : ℕ) (k : Kept) → Owns b k m old → Owns b k n new
+  all_keep e m n old new keeps quiet b k owns = by (b == e.actor) refl
+    where
+      by : (same : Bool) → (b == e.actor) ≡ same → Owns b k n new
+      by true is = let so = eqb-true b e.actor is in subst (λ (c : ℕ). Owns c k n new) (sym so) (keeps.quiet k quiet (subst (λ (c : ℕ). Owns c k m old) so owns))
+      by false is = keeps.others b k (eqb-false b e.actor is) owns
 
   -- ---- a line that is taken
 
-  module _ (r : RunnerState C) (d : Desk V R) (at : IsAtDesk state Fits d r) where
+  module _ (r : RunnerState C) (d : Desk V R) (at : AtDesk F d r) where
     pub record Acted (line : LineValue) (reply : ReplyValue) (s : RunnerState C) : Type 0 where
       pub ss : List (Stepped V)
       pub next : Desk V R
       pub run : Run v ss d.machine next.machine
       pub acts : machine.Acts v line reply ss d next
-      pub stays : IsAtDesk state Fits next s
+      pub stays : AtDesk F next s
+
+    -- what actors own before the line
+    abbrev pub owned : ℕ → Kept → Type 0
+    owned b k = Owns b k d.machine (state r.core)
 
     kinds_so : (a : ℕ) → kind_at v d a ≡ kind_in r.sessions (state r.core).parts a
     kinds_so a =
-        same_kind (slice_index_or d.sessions a None) (session_of r.sessions a) (kind_of (part_in d.machine a)) (part_of (state r.core).parts a) (same_at d.sessions r.sessions at.same a)
+        same_kind (λ k. Owns a k d.machine (state r.core)) (slice_index_or d.sessions a None) (session_of r.sessions a) (kind_of (part_in d.machine a))
+        (part_of (state r.core).parts a)
+        (same_at owned d.sessions r.sessions at.same a)
         (fitting.kinds d.machine (state r.core) at.fits a) (at.give a)
 
     pub admits_so : (line : LineValue) → Admits line r.sessions (state r.core) → machine.Admits v line d
@@ -101,7 +117,8 @@ module _ {V R : Type 0} (v : Values V R) (C : Type 0) (state : C → CoreState) 
       λ a is. ap (λ (k : PartKind). machine.takes line k) (kinds_so a) ∙ sym (same_takes line (kind_in r.sessions (state r.core).parts a)) ∙ admits.taken a (same_actor line ∙ is),
     )
 
-    bars_by : (line : LineValue) (refusal : Refusal) (stop : Option Stop) → (state r.core).stop ≡ stop → BarsBy stop line r.sessions (state r.core) refusal → machine.Bars v line d refusal
+    bars_by : (line : LineValue) (refusal : Refusal) (stop : Option Stop) → (state r.core).stop ≡ stop → BarsBy stop line r.sessions (state r.core) refusal
+        → machine.Bars v line d refusal
     bars_by line refusal (Some stop) is bars =
         let stops = fitting.stops d.machine (state r.core) stop at.fits is in
         subst (λ (x : Refusal). machine.Bars v line d x) (sym bars) (stops.0, stops.1)
@@ -112,8 +129,9 @@ module _ {V R : Type 0} (v : Values V R) (C : Type 0) (state : C → CoreState) 
         (fitting.runs d.machine (state r.core) at.fits is, (a, sym (same_actor line) ∙ bars.1, sym (kinds_so a), sym (same_takes line kind) ∙ bars.2))
 
     -- what a line does is what the machine may do where it does so if it is taken
-    pub taken_or_not : (line : LineValue) (reply : ReplyValue) (s : RunnerState C) → line ≢ lines.Reopen → (Admits line r.sessions (state r.core) → Acts C state line reply r s → Acted line reply s)
-        → ActsOrNot C state line reply r s → LeadsTo v state Fits line reply d s
+    pub taken_or_not : (line : LineValue) (reply : ReplyValue) (s : RunnerState C) → line ≢ lines.Reopen
+        → (Admits line r.sessions (state r.core) → Acts C state line reply r s → Acted line reply s)
+        → ActsOrNot C state line reply r s → Leads F line reply d s
     taken_or_not line reply s other taken (inl admitted) =
         let acted = taken admitted.0 admitted.1 in
         record {
@@ -126,7 +144,7 @@ module _ {V R : Type 0} (v : Values V R) (C : Type 0) (state : C → CoreState) 
       steps = [];
       next = d;
       line_is = (refl, says_so v line reply [] d d other (inr (barred.0, bars_by line barred.0 (state r.core).stop refl barred.2, barred.1, refl, refl)));
-      at = subst (λ (t : RunnerState C). IsAtDesk state Fits d t) (sym barred.3) at;
+      at = subst (λ (t : RunnerState C). AtDesk F d t) (sym barred.3) at;
     }
 
     -- ---- a line that is one step, whatever was given
@@ -134,18 +152,20 @@ module _ {V R : Type 0} (v : Values V R) (C : Type 0) (state : C → CoreState) 
     module _ (s : RunnerState C) (sessions : s.sessions ≡ r.sessions) where
       -- the desk after a step that leaves sessions as they were
       pub desk_after : (n : Machine V R) → Fits n (state s.core) → IsRunning (state s.core) → WritersGive r.sessions (state s.core).parts
-          → IsAtDesk state Fits (record { machine = n; sessions = d.sessions }) s
-      desk_after n fits runs gives = record {
+          → ((b : ℕ) (k : Kept) → owned b k → Owns b k n (state s.core)) → AtDesk F (record { machine = n; sessions = d.sessions }) s
+      desk_after n fits runs gives owns = record {
         runs = runs;
         fits = fits;
-        same = subst (SameSessions d.sessions) (sym sessions) at.same;
+        same = subst (SameSessions (λ b k. Owns b k n (state s.core)) d.sessions) (sym sessions)
+            (same_on owned (λ b k. Owns b k n (state s.core)) d.sessions r.sessions owns at.same);
         many = ap length sessions ∙ at.many;
         give = subst (λ (xs : Sessions). WritersGive xs (state s.core).parts) (sym sessions) gives;
       }
 
       pub step_line : (line : LineValue) (reply : ReplyValue)
-          → ((ss : List (Stepped V)) (e : Desk V R) → ((a : ℕ) × (step : Asked V) × IsStep v line a step × Ends v a [] step reply ss × (e.sessions ≡ d.sessions)) → machine.Acts v line reply ss d e)
-          → (a : ℕ) (step : StepValue) (answer : Result Answer Refusal) (buf : List ℕ) → IsQuiet step → IsOfGiven step []
+          → ((ss : List (Stepped V)) (e : Desk V R) → ((a : ℕ) × (step : Asked V) × IsStep v line a step × Ends v a [] step reply ss × (e.sessions ≡ d.sessions))
+          → machine.Acts v line reply ss d e)
+          → (a : ℕ) (step : StepValue) (answer : Result Answer Refusal) (buf : List ℕ) → IsQuiet step → IsOfGiven Allowed (λ k. Owns a k d.machine (state r.core)) step []
           → CoreStep (state r.core) (record { actor = a; step = step; answer = answer; buf = buf }) (state s.core)
           → IsStep v line a (asked_as (λ root. v.of []) step) → reply ≡ machine.reply_of a (answered_by answer buf) → Acted line reply s
       step_line line reply acts a step answer buf quiet right made is reply_is =
@@ -158,5 +178,6 @@ module _ {V R : Type 0} (v : Values V R) (C : Type 0) (state : C → CoreState) 
             next = record { machine = one.next; sessions = d.sessions };
             run = one_step v a asked_for told d.machine one.next one.legal;
             acts = acts (step_of v a asked_for told ∷ []) (record { machine = one.next; sessions = d.sessions }) (a, asked_for, is, (told, refl, reply_is), refl);
-            stays = desk_after one.next one.fits one.runs (quiet_gives e (state r.core) (state s.core) r.sessions quiet made at.give);
+            stays = desk_after one.next one.fits one.runs (quiet_gives e (state r.core) (state s.core) r.sessions quiet made at.give)
+                (all_keep e d.machine one.next (state r.core) (state s.core) one.keeps quiet);
           }

@@ -1,5 +1,5 @@
 -- A turn, a push and a commit as lines of a machine that fits the core.
-use Rattle.std.proofs.Common.{◌≡◌, ◌≢◌, ◌⊎◌, inl, inr, ◌∙◌, ◌+◌, ◌-◌, ◌^◌, ◌<◌, ◌≤◌, min, ℕ, suc, Bool, true, false, List, [], ◌∷◌, ◌++◌, length, Option, Some, None, Result, Ok, Err, refl, sym, ap, subst, arith, length-append}
+use Rattle.std.proofs.Common.{◌≡◌, ◌≢◌, inl, inr, ◌∙◌, ◌+◌, ◌-◌, ◌^◌, ◌<◌, ◌≤◌, min, ℕ, Bool, true, false, List, [], ◌∷◌, ◌++◌, length, Option, Some, None, Result, Ok, Err, refl, sym, ap, subst, arith, length-append}
 use Rattle.disk_format.specs.Cells.{Root}
 use Rattle.disk_format.specs.declared.numbers.TheConstants.{MOST_FILE}
 use Rattle.actor_parts.specs.declared.actor.TheConstants.{ACTORS}
@@ -8,13 +8,12 @@ use Rattle.actor_parts.specs.declared.part.Part.TheVariants as core_parts
 use Rattle.actor_parts.specs.declared.step.Answer.{Answer}
 use Rattle.actor_parts.specs.declared.step.Answer.TheVariants as answers
 use Rattle.actor_parts.specs.Kinds as core_kinds
-use Rattle.actor_parts.specs.Parts.{part_of, with_part}
+use Rattle.actor_parts.specs.Parts.{part_of}
 use Rattle.actor_parts.specs.StepValue as steps
 use Rattle.refusals.specs.declared.refusal.PartKind.TheVariants as kinds
 use Rattle.refusals.specs.declared.refusal.Refusal.{Refusal}
 use Rattle.refusals.specs.declared.refusal.Refusal.TheVariants as refusals
 use Rattle.ingest_session.specs.declared.due.Due.TheVariants as dues
-use Rattle.ingest_session.specs.Calls.{IsPushAnswer, IsTaking}
 use Rattle.ingest_session.specs.Due.{due_in}
 use Rattle.ingest_session.specs.DueFor.{IsDueFor}
 use Rattle.ingest_session.specs.History.{History, HasHistory}
@@ -39,20 +38,19 @@ use Rattle.store_machine.specs.Done.{Done}
 use Rattle.store_machine.specs.Legal.{Answers}
 use Rattle.store_machine.specs.Lines as machine
 use Rattle.store_machine.specs.Lines.{AreTurns, Desk, NothingIsDue, Session, reply_of, step_of}
-use Rattle.store_machine.specs.Machine.{Machine, Stepped}
-use Rattle.store_machine.specs.Runs.{Run}
+use Rattle.store_machine.specs.Machine.{Machine}
 use Rattle.store_machine.specs.Values.{Values}
-use Rattle.core_machine.specs.Refines.{answered_by}
+use Rattle.core_machine.specs.Refines.{answered_by, asked_as}
 use Rattle.session_turns.specs.Turns.{Feeds, TakesTurn, TurnRun}
 use Rattle.session_turns.proofs.TurnRuns.{turns_stay}
 use Rattle.script_runner.specs.Acts.{Acts, Admits, DoesStep, IsReady, RefusesPut, RefusesStep, RunnerState, StepOf, turned}
-use Rattle.script_runner.specs.LinesAreRuns.{IsAtDesk, IsSessionOf}
+use Rattle.script_runner.specs.LinesAreRuns.{IsSessionOf, Kept}
 use Rattle.script_runner.specs.Sessions.{has_ended, kind_by, session_of, with_session}
 use Rattle.script_runner.proofs.DeskGiving.{desk_put, gives_still}
-use Rattle.script_runner.proofs.DeskSessions.{DeskSession, desk_session, put_quiet}
+use Rattle.script_runner.proofs.DeskSessions.{DeskSession, desk_session, put_quiet, session_on}
 use Rattle.script_runner.proofs.DeskSteps.{Acted, Makes, answers_so, makes, number_so, one_step, run_more}
-use Rattle.script_runner.proofs.DeskTurns.{TurnsMade, TurnsStop, answering, due_of, paused_of, taken_of, turn_made, turn_refused, turns_made, turns_stop}
-use Rattle.script_runner.proofs.Fitting.{Fitting}
+use Rattle.script_runner.proofs.DeskTurns.{TurnsMade, answering, due_of, paused_of, taken_of, turn_made, turn_refused, turns_made, turns_stop}
+use Rattle.script_runner.proofs.Fitting.{AtDesk, Fitted}
 use Rattle.script_runner.proofs.LinesPush.{why_long}
 use Rattle.script_runner.proofs.TurnIdle.{idle, idle_due, idle_has, settled_idle}
 
@@ -64,8 +62,8 @@ turn_reply a (answers.Sealed id) told buf is = ap (replies.Turn a) (let same : t
 turn_reply a answer told buf is = absurd cc
 
 -- nothing is due of a session, whether it found so or not
-nothing_of : {V R : Type 0} (v : Values V R) (t : Session) (x : SessionState) → IsSessionOf t x → due_in x ≡ dues.Nothing → NothingIsDue v t
-nothing_of v t x is nothing =
+nothing_of : {V R : Type 0} (v : Values V R) (P : Kept → Type 0) (t : Session) (x : SessionState) → IsSessionOf P t x → due_in x ≡ dues.Nothing → NothingIsDue v t
+nothing_of v P t x is nothing =
     let sound = waiting.session_of x is.history is.has in
     record {
       session = idle x;
@@ -79,8 +77,9 @@ nothing_of v t x is nothing =
     }
 
 -- the root of one that is ready is that of what was given
-root_so : (t : Session) (x : SessionState) (root : Root) → IsSessionOf t x → IsReady root x → root ≡ root_of t.given
-root_so t x root is ready = same root (root_of t.given) (sym ready.ready ∙ (all_is_kept x is.history is.has ready.ended ready.done).root ∙ ap (λ (l : List ℕ). Some (root_of l)) is.given_is)
+root_so : (P : Kept → Type 0) (t : Session) (x : SessionState) (root : Root) → IsSessionOf P t x → IsReady root x → root ≡ root_of t.given
+root_so P t x root is ready = same root (root_of t.given)
+    (sym ready.ready ∙ (all_is_kept x is.history is.has ready.ended ready.done).root ∙ ap (λ (l : List ℕ). Some (root_of l)) is.given_is)
   where
     same : (b c : Root) → Some b ≡ Some c → b ≡ c
     same b c is = cc
@@ -90,60 +89,85 @@ done_runs : (stop : Option Stop) (e : Event) (answer : Answer) (old new : CoreSt
 done_runs None e answer old new is does step = is
 done_runs (Some stop) e answer old new is does step = absurd (let both = sym does ∙ step.answer_is in cc)
 
-module _ {V R : Type 0} (v : Values V R) (C : Type 0) (state : C → CoreState) (Fits : Machine V R → CoreState → Type 0) (fitting : Fitting v C state Fits) (r : RunnerState C) (d : Desk V R) (at : IsAtDesk state Fits d r) (s : RunnerState C)
-    (a : ℕ) (below : a < ACTORS) where
+module _ (F : Fitted) (r : RunnerState F.C) (d : Desk F.V F.R) (at : AtDesk F d r) (s : RunnerState F.C)
+    (a : ℕ) (below : a < ACTORS) (allowed : (b : ℕ) (t : Session) → machine.session_of F.v d b ≡ Some t → F.Allowed t.given) where
+  open F use {V, R, v, C, state, Fits, Owns, Allowed, fitting}
+
+  abbrev owned : Machine V R → C → Kept → Type 0
+  owned m c k = Owns a k m (state c)
+
   -- the desk, where the actor has this session
-  giving : (n : Machine V R) (t : Session) (y : SessionState) → s.sessions ≡ with_session r.sessions a (Some y) → IsSessionOf t y → Fits n (state s.core) → IsRunning (state s.core)
+  giving : (n : Machine V R) (t : Session) (y : SessionState) → s.sessions ≡ with_session r.sessions a (Some y) → IsSessionOf (owned n s.core) t y → Fits n (state s.core)
+      → IsRunning (state s.core)
       → ((b : ℕ) → b ≢ a → part_of (state s.core).parts b ≡ part_of (state r.core).parts b)
-      → IsAtDesk state Fits (record { machine = n; sessions = machine.with_session v a (Some t) d }) s
-  giving n t y sessions is fits runs others = desk_put v C state Fits fitting r d at s a n (Some t) (Some y) sessions fits runs is others (gives_still v C state Fits fitting r d at s a y below)
+      → ((b : ℕ) (k : Kept) → b ≢ a → Owns b k d.machine (state r.core) → Owns b k n (state s.core))
+      → AtDesk F (record { machine = n; sessions = machine.with_session v a (Some t) d }) s
+  giving n t y sessions is fits runs others owns = desk_put F r d at s a n (Some t) (Some y) sessions fits runs is others (gives_still F r d at s a y below) owns
 
   -- ---- a turn
 
   abbrev Turns : ReplyValue → Type 0
-  Turns reply = Acted v C state Fits fitting r d at (lines.Turn a) reply s
+  Turns reply = Acted F r d at (lines.Turn a) reply s
 
   module _ (x y : SessionState) (there : session_of r.sessions a ≡ Some x) (sessions : s.sessions ≡ with_session r.sessions a (Some y)) where
-    was : DeskSession d.sessions a x
-    was = desk_session d.sessions r.sessions at.same a x there
+    was : DeskSession (owned d.machine r.core) d.sessions a x
+    was = desk_session (λ b k. Owns b k d.machine (state r.core)) d.sessions r.sessions at.same a x there
 
-    turn_done : (b : ℕ) (told : Turned) → b ≡ a → (answer : Option Answer) → turned answer ≡ Some told → TakesTurn C state a (Ok answer) x y r.core s.core → Turns (replies.Turn b told)
+    turn_done : (b : ℕ) (told : Turned) → b ≡ a → (answer : Option Answer) → turned answer ≡ Some told → TakesTurn C state a (Ok answer) x y r.core s.core
+        → Turns (replies.Turn b told)
     turn_done b told same None told_is none =
-        let of = paused_of was.s x y was.is none.0 in
+        let of = paused_of (owned d.machine s.core) was.s x y (subst (λ (c : C). IsSessionOf (owned d.machine c) was.s x) (sym none.3) was.is) none.0 in
         record {
           ss = [];
           next = record { machine = d.machine; sessions = machine.with_session v a (Some was.s) d };
           run = refl;
-          acts = (was.s, was.s, (was.there, refl), inr (inl (
-            refl,
-            refl,
-            subst (IsDueFor was.s.given was.s.ended was.s.answers) none.2 (due_of was.s y of none.1),
-            ap (λ (z : ℕ). replies.Turn z told) same ∙ ap (replies.Turn a) (let idle_is : told ≡ turns.Idle = cc in idle_is),
-          )));
-          stays = giving d.machine was.s y sessions of (subst (λ (c : C). Fits d.machine (state c)) (sym none.3) at.fits) (subst (λ (c : C). IsRunning (state c)) (sym none.3) at.runs)
-              (λ c differs. ap (λ (core : C). part_of (state core).parts c) none.3);
+          acts = (
+            was.s,
+            was.s,
+            (was.there, refl),
+            inr (inl (
+              refl,
+              refl,
+              subst (IsDueFor was.s.given was.s.ended was.s.answers) none.2 (due_of (owned d.machine s.core) was.s y of none.1),
+              ap (λ (z : ℕ). replies.Turn z told) same ∙ ap (replies.Turn a) (let idle_is : told ≡ turns.Idle = cc in idle_is),
+            )),
+          );
+          stays = giving d.machine was.s y sessions of (subst (λ (c : C). Fits d.machine (state c)) (sym none.3) at.fits)
+              (subst (λ (c : C). IsRunning (state c)) (sym none.3) at.runs)
+              (λ c differs. ap (λ (core : C). part_of (state core).parts c) none.3) (λ c k differs owns. subst (λ (core : C). Owns c k d.machine (state core)) (sym none.3) owns);
         }
     turn_done b told same (Some answer) told_is turn =
-        let one = turn_made v C state Fits fitting a answer was.s x y d.machine r.core s.core was.is at.runs at.fits turn in
+        let one = turn_made F a answer was.s x y d.machine r.core s.core was.is (allowed a was.s was.there) at.runs at.fits turn in
         let replied : Result Done Refusal = answered_by (Ok answer) one.buf in
         record {
-          ss = step_of v a one.step replied ∷ [];
+          ss = step_of v a (asked_as (λ root. v.of was.s.given) one.step) replied ∷ [];
           next = record { machine = one.made.next; sessions = machine.with_session v a (Some (answering answer was.s)) d };
-          run = one_step v a one.step replied d.machine one.made.next one.made.legal;
-          acts = (was.s, answering answer was.s, (was.there, refl),
-              inl (one.step, replied, refl, (refl, one.due, (answer, one.told_is, refl)), ap (λ (z : ℕ). replies.Turn z told) same ∙ turn_reply a answer told one.buf told_is));
-          stays = giving one.made.next (answering answer was.s) y sessions one.is one.made.fits one.made.runs one.made.others;
+          run = one_step v a (asked_as (λ root. v.of was.s.given) one.step) replied d.machine one.made.next one.made.legal;
+          acts = (
+            was.s,
+            answering answer was.s,
+            (was.there, refl),
+            inl (
+              asked_as (λ root. v.of was.s.given) one.step,
+              replied,
+              refl,
+              (refl, one.due, (answer, one.told_is, refl)),
+              ap (λ (z : ℕ). replies.Turn z told) same
+                  ∙ turn_reply a answer told one.buf told_is,
+            ),
+          );
+          stays = giving one.made.next (answering answer was.s) y sessions one.is one.made.fits one.made.runs one.made.others one.made.keeps.others;
         }
 
     turn_not_done : (refusal : Refusal) → TakesTurn C state a (Err refusal) x y r.core s.core → Turns (replies.Refused refusal)
     turn_not_done refusal refused =
-        let one = turn_refused v C state Fits fitting a [] refusal was.s x y d.machine r.core s.core was.is at.runs at.fits refused in
+        let one = turn_refused F a [] refusal was.s x y d.machine r.core s.core was.is (allowed a was.s was.there) at.runs at.fits refused in
         record {
           ss = one.more;
           next = record { machine = one.next; sessions = machine.with_session v a (Some was.s) d };
           run = one.run;
           acts = (was.s, was.s, (was.there, refl), inr (inr (refl, one.stops)));
-          stays = giving one.next was.s y sessions one.is one.fits one.runs one.others;
+          stays = giving one.next was.s y sessions one.is one.fits one.runs one.others one.stays;
         }
 
   pub turn_acts : (reply : ReplyValue) → Acts C state (lines.Turn a) reply r s → Turns reply
@@ -159,19 +183,19 @@ module _ {V R : Type 0} (v : Values V R) (C : Type 0) (state : C → CoreState) 
 
   module _ (digits : List ℕ) where
     abbrev Pushes : ReplyValue → Type 0
-    Pushes reply = Acted v C state Fits fitting r d at (lines.Push a digits) reply s
+    Pushes reply = Acted F r d at (lines.Push a digits) reply s
 
     abbrev bytes : List ℕ
     bytes = pushed_bytes digits
 
     module _ (x y : SessionState) (there : session_of r.sessions a ≡ Some x) (sessions : s.sessions ≡ with_session r.sessions a (Some y)) where
-      gave : DeskSession d.sessions a x
-      gave = desk_session d.sessions r.sessions at.same a x there
+      gave : DeskSession (owned d.machine r.core) d.sessions a x
+      gave = desk_session (λ b k. Owns b k d.machine (state r.core)) d.sessions r.sessions at.same a x there
 
       pushed : (b count : ℕ) → b ≡ a → Feeds C state a (Ok tt) bytes x y r.core s.core → count ≡ y.count → Pushes (replies.Pushed b count)
       pushed b count same feeds counts =
           let mid : SessionState = feeds.1 in
-          let went = turns_made v C state Fits fitting a feeds.0 gave.s x mid d.machine r.core s.core gave.is at.runs at.fits feeds.2 in
+          let went = turns_made F a feeds.0 gave.s x mid d.machine r.core s.core gave.is (allowed a gave.s gave.there) at.runs at.fits feeds.2 in
           let h : History = went.is.history in
           let has : HasHistory y (record h { given = h.given ++ bytes }) = feeds.4 h went.is.has in
           let given_is : h.given ++ bytes ≡ went.t.given ++ bytes = ap (λ (l : List ℕ). l ++ bytes) went.is.given_is in
@@ -180,13 +204,19 @@ module _ {V R : Type 0} (v : Values V R) (C : Type 0) (state : C → CoreState) 
             ss = went.made;
             next = record { machine = went.next; sessions = machine.with_session v a (Some (record went.t { given = went.t.given ++ bytes })) d };
             run = went.run;
-            acts = (gave.s, went.t, (gave.there, refl), went.room feeds.5, inl (
-              went.turns,
+            acts = (
+              gave.s,
+              went.t,
+              (gave.there, refl),
+              went.room feeds.5,
               inl (
-                ap (λ (z : ℕ). replies.Pushed z count) same ∙ ap (replies.Pushed a) (counts ∙ counted.0 ∙ ap length given_is),
-                subst (λ (l : List ℕ). length l ≤ MOST_FILE) given_is counted.1,
+                went.turns,
+                inl (
+                  ap (λ (z : ℕ). replies.Pushed z count) same ∙ ap (replies.Pushed a) (counts ∙ counted.0 ∙ ap length given_is),
+                  subst (λ (l : List ℕ). length l ≤ MOST_FILE) given_is counted.1,
+                ),
               ),
-            ));
+            );
             stays = giving went.next (record went.t { given = went.t.given ++ bytes }) y sessions
                 (record {
                   history = record h { given = h.given ++ bytes };
@@ -194,21 +224,22 @@ module _ {V R : Type 0} (v : Values V R) (C : Type 0) (state : C → CoreState) 
                   given_is = given_is;
                   answers_are = went.is.answers_are;
                   ended_is = ap (λ (z : SessionState). z.ended) feeds.3.others ∙ went.is.ended_is;
-                }) went.fits went.runs went.others;
+                  owns = went.is.owns;
+                }) went.fits went.runs went.others went.stays;
           }
 
       not_pushed : (refusal : Refusal) → x.ended ≡ false → Feeds C state a (Err refusal) bytes x y r.core s.core → Pushes (replies.Refused refusal)
       not_pushed refusal on (inl stopped) =
-          let stop = turns_stop v C state Fits fitting a refusal gave.s x y d.machine r.core s.core gave.is at.runs at.fits stopped.0 in
+          let stop = turns_stop F a refusal gave.s x y d.machine r.core s.core gave.is (allowed a gave.s gave.there) at.runs at.fits stopped.0 in
           record {
             ss = stop.ss;
             next = record { machine = stop.next; sessions = machine.with_session v a (Some stop.t) d };
             run = stop.run;
             acts = (gave.s, stop.t, (gave.there, refl), stop.room stopped.1, inr stop.stops);
-            stays = giving stop.next stop.t y sessions stop.is stop.fits stop.runs stop.others;
+            stays = giving stop.next stop.t y sessions stop.is stop.fits stop.runs stop.others stop.stays;
           }
       not_pushed refusal on (inr long) =
-          let went = turns_made v C state Fits fitting a long.0 gave.s x y d.machine r.core s.core gave.is at.runs at.fits long.1 in
+          let went = turns_made F a long.0 gave.s x y d.machine r.core s.core gave.is (allowed a gave.s gave.there) at.runs at.fits long.1 in
           let off : y.ended ≡ false = (turns_stay C state a long.0 x y r.core s.core long.1).ended ∙ on in
           let why = why_long y (length bytes) refusal false off off long.2 in
           let count : y.count ≡ length went.t.given = (bytes_are_counted y went.is.history went.is.has).0 ∙ ap length went.is.given_is in
@@ -218,7 +249,7 @@ module _ {V R : Type 0} (v : Values V R) (C : Type 0) (state : C → CoreState) 
             next = record { machine = went.next; sessions = machine.with_session v a (Some went.t) d };
             run = went.run;
             acts = (gave.s, went.t, (gave.there, refl), went.room long.3, inl (went.turns, inr (ap replies.Refused why.0, omega (arith, why.1, count, more))));
-            stays = giving went.next went.t y sessions went.is went.fits went.runs went.others;
+            stays = giving went.next went.t y sessions went.is went.fits went.runs went.others went.stays;
           }
 
     -- a file that is pushed goes on
@@ -228,7 +259,8 @@ module _ {V R : Type 0} (v : Values V R) (C : Type 0) (state : C → CoreState) 
         by : (e : Bool) → x.ended ≡ e → x.ended ≡ false
         by false is = is
         by true is =
-            let taken = subst (λ (o : Option SessionState). takes (lines.Push a digits) (kind_by (has_ended o) (core_kinds.kind_of (part_of (state r.core).parts a))) ≡ true) there (admits.taken a refl) in
+            let taken = subst (λ (o : Option SessionState). takes (lines.Push a digits)
+            (kind_by (has_ended o) (core_kinds.kind_of (part_of (state r.core).parts a))) ≡ true) there (admits.taken a refl) in
             absurd (let wrong = subst (λ (b : Bool). takes (lines.Push a digits) (kind_by (Some b) (core_kinds.kind_of (part_of (state r.core).parts a))) ≡ true) is taken in cc)
 
     pub push_acts : (reply : ReplyValue) → Admits (lines.Push a digits) r.sessions (state r.core) → Acts C state (lines.Push a digits) reply r s → Pushes reply
@@ -244,33 +276,42 @@ module _ {V R : Type 0} (v : Values V R) (C : Type 0) (state : C → CoreState) 
 
   module _ (name : List ℕ) where
     abbrev Commits : ReplyValue → Type 0
-    Commits reply = Acted v C state Fits fitting r d at (lines.Commit a name) reply s
+    Commits reply = Acted F r d at (lines.Commit a name) reply s
 
     module _ (x y : SessionState) (there : session_of r.sessions a ≡ Some x) where
-      wrote : DeskSession d.sessions a x
-      wrote = desk_session d.sessions r.sessions at.same a x there
+      wrote : DeskSession (owned d.machine r.core) d.sessions a x
+      wrote = desk_session (λ b k. Owns b k d.machine (state r.core)) d.sessions r.sessions at.same a x there
 
       -- after all turns
       module _ (told : List Answer) (mid : C) (run : TurnRun C state a told x y r.core mid) (root : Root) (ready : IsReady root y) where
-        went : TurnsMade v C state Fits fitting a told wrote.s x y d.machine r.core mid run
-        went = turns_made v C state Fits fitting a told wrote.s x y d.machine r.core mid wrote.is at.runs at.fits run
+        went : TurnsMade F a told wrote.s x y d.machine r.core mid run
+        went = turns_made F a told wrote.s x y d.machine r.core mid wrote.is (allowed a wrote.s wrote.there) at.runs at.fits run
 
         abbrev commits : Asked V
         commits = asked.Commit name (v.of went.t.given)
 
         nothing : NothingIsDue v went.t
-        nothing = nothing_of v went.t y went.is ready.done
+        nothing = nothing_of v (owned went.next mid) went.t y went.is ready.done
 
-        make : (answer : Result Answer Refusal) (buf : List ℕ) → StepOf a (steps.Commit name root) answer buf (state mid) (state s.core) → Makes v C state Fits fitting a commits (answered_by answer buf) went.next mid s.core
+        make : (answer : Result Answer Refusal) (buf : List ℕ) → StepOf a (steps.Commit name root) answer buf (state mid) (state s.core)
+            → Makes F (record { actor = a; step = steps.Commit name root; answer = answer; buf = buf }) went.t.given went.next mid s.core
         make answer buf step =
-            makes v C state Fits fitting (record { actor = a; step = steps.Commit name root; answer = answer; buf = buf }) went.t.given mid s.core went.next went.runs went.fits
-            (y, taken_of went.t y went.is, ready, root_so went.t y root went.is ready) step
+            makes F (record { actor = a; step = steps.Commit name root; answer = answer; buf = buf }) went.t.given mid s.core went.next went.runs went.fits (
+              y,
+              taken_of Allowed (owned went.next mid) went.t y went.is (subst Allowed (sym went.given_is) (allowed a wrote.s wrote.there)),
+              ready,
+              root_so
+                  (owned went.next mid) went.t y root went.is ready,
+            ) step
 
-        others_so : (n : C) → ((b : ℕ) → b ≢ a → part_of (state n).parts b ≡ part_of (state mid).parts b) → (b : ℕ) → b ≢ a → part_of (state n).parts b ≡ part_of (state r.core).parts b
+        others_so : (n : C) → ((b : ℕ) → b ≢ a → part_of (state n).parts b ≡ part_of (state mid).parts b) → (b : ℕ) → b ≢ a
+            → part_of (state n).parts b ≡ part_of (state r.core).parts b
         others_so n others b differs = others b differs ∙ went.others b differs
 
-        module _ (b sequence : ℕ) (same : b ≡ a) (sequence_is : sequence ≡ min ((state mid).tables.journal.last + 1) (2 ^ 64 - 1)) (sessions : s.sessions ≡ with_session r.sessions a None) where
-          by_answer : (answer : Answer) (buf : List ℕ) (n : Machine V R) → CommitRow name root a (Ok answer) (state mid) (state s.core) → Answers v a commits (answered_by (Ok answer) buf) went.next n
+        module _ (b sequence : ℕ) (same : b ≡ a) (sequence_is : sequence ≡ min ((state mid).tables.journal.last + 1) (2 ^ 64 - 1))
+            (sessions : s.sessions ≡ with_session r.sessions a None) where
+          by_answer : (answer : Answer) (buf : List ℕ) (n : Machine V R) → CommitRow name root a (Ok answer) (state mid) (state s.core)
+              → Answers v a commits (answered_by (Ok answer) buf) went.next n
               → (replies.Committed b sequence ≡ reply_of a (answered_by (Ok answer) buf)) × (core_kinds.kind_of (part_of (state s.core).parts a) ≢ kinds.Writing)
           by_answer (answers.Committed number) buf n row legal = (
             ap (λ (z : ℕ). replies.Committed z sequence) same
@@ -292,7 +333,8 @@ module _ {V R : Type 0} (v : Values V R) (C : Type 0) (state : C → CoreState) 
                 next = record { machine = one.next; sessions = machine.with_session v a None d };
                 run = run_more v went.made (step_of v a commits replied ∷ []) d.machine went.next one.next went.run (one_step v a commits replied went.next one.next one.legal);
                 acts = (wrote.s, went.t, (wrote.there, refl), inl (went.made, went.turns, nothing, (replied, refl, is.0)));
-                stays = desk_put v C state Fits fitting r d at s a one.next None None sessions one.fits one.runs tt (others_so s.core one.others) (λ none. is.1);
+                stays = desk_put F r d at s a one.next None None sessions one.fits one.runs tt (others_so s.core one.others) (λ none. is.1)
+                    (λ c k differs owns. one.keeps.others c k differs (went.stays c k differs owns));
               }
 
         -- it was refused, and the session is what it was at the end of the turns
@@ -303,8 +345,10 @@ module _ {V R : Type 0} (v : Values V R) (C : Type 0) (state : C → CoreState) 
             next = record { machine = went.next; sessions = machine.with_session v a (Some went.t) d };
             run = went.run;
             acts = (wrote.s, went.t, (wrote.there, refl), inr (went.made, went.turns, (refusal, refl, inl (memory, refl))));
-            stays = giving went.next went.t y sessions went.is (subst (λ (c : C). Fits went.next (state c)) (sym same) went.fits) (subst (λ (c : C). IsRunning (state c)) (sym same) went.runs)
-                (others_so s.core (λ c differs. ap (λ (core : C). part_of (state core).parts c) same));
+            stays = giving went.next went.t y sessions (subst (λ (c : C). IsSessionOf (owned went.next c) went.t y) (sym same) went.is)
+                (subst (λ (c : C). Fits went.next (state c)) (sym same) went.fits) (subst (λ (c : C). IsRunning (state c)) (sym same) went.runs)
+                (others_so s.core (λ c differs. ap (λ (core : C). part_of (state core).parts c) same))
+                (λ c k differs owns. subst (λ (core : C). Owns c k went.next (state core)) (sym same) (went.stays c k differs owns));
           }
 
           not_put : RefusesStep a (steps.Commit name root) refusal (state mid) (state s.core) → Commits (replies.Refused refusal)
@@ -313,20 +357,24 @@ module _ {V R : Type 0} (v : Values V R) (C : Type 0) (state : C → CoreState) 
               record {
                 ss = went.made ++ step_of v a commits (Err refusal) ∷ [];
                 next = record { machine = one.next; sessions = machine.with_session v a (Some went.t) d };
-                run = run_more v went.made (step_of v a commits (Err refusal) ∷ []) d.machine went.next one.next went.run (one_step v a commits (Err refusal) went.next one.next one.legal);
+                run = run_more v went.made (step_of v a commits (Err refusal) ∷ []) d.machine went.next one.next went.run
+                    (one_step v a commits (Err refusal) went.next one.next one.legal);
                 acts = (wrote.s, went.t, (wrote.there, refl), inl (went.made, went.turns, nothing, (Err refusal, refl, refl)));
-                stays = giving one.next went.t y sessions went.is one.fits one.runs (others_so s.core one.others);
+                stays = giving one.next went.t y sessions
+                    (session_on (owned went.next mid) (owned one.next s.core) went.t y (λ k owns. one.keeps.refused k refusal refl owns) went.is) one.fits one.runs
+                    (others_so s.core one.others)
+                    (λ c k differs owns. one.keeps.others c k differs (went.stays c k differs owns));
               }
 
       put_refused : (refusal : Refusal) → s.sessions ≡ with_session r.sessions a (Some y) → RefusesPut C state a name refusal x y r.core s.core → Commits (replies.Refused refusal)
       put_refused refusal sessions (inl stopped) =
-          let stop = turns_stop v C state Fits fitting a refusal wrote.s x y d.machine r.core s.core wrote.is at.runs at.fits stopped in
+          let stop = turns_stop F a refusal wrote.s x y d.machine r.core s.core wrote.is (allowed a wrote.s wrote.there) at.runs at.fits stopped in
           record {
             ss = stop.ss;
             next = record { machine = stop.next; sessions = machine.with_session v a (Some stop.t) d };
             run = stop.run;
             acts = (wrote.s, stop.t, (wrote.there, refl), inr stop.stops);
-            stays = giving stop.next stop.t y sessions stop.is stop.fits stop.runs stop.others;
+            stays = giving stop.next stop.t y sessions stop.is stop.fits stop.runs stop.others stop.stays;
           }
       put_refused refusal sessions (inr done) = elim done.3.2 [
         | inl memory ↦ no_memory done.0 done.1 done.2 done.3.0 done.3.1 refusal sessions memory.0 memory.1

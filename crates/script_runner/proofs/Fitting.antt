@@ -1,5 +1,5 @@
 -- What a relation of machines and cores is to give for lines over a core to be lines of the machine.
-use Rattle.std.proofs.Common.{◌≡◌, ℕ, List, Option, Some, None, Result, Ok, Err}
+use Rattle.std.proofs.Common.{◌≡◌, ◌≢◌, ℕ, List, Some, None, Ok, Err}
 use Rattle.std.specs.FinMap as finite
 use Rattle.actor_parts.specs.declared.step.Answer.{Answer}
 use Rattle.actor_parts.specs.Kinds as core_kinds
@@ -8,10 +8,14 @@ use Rattle.actor_parts.specs.StepValue as steps
 use Rattle.actor_parts.specs.StepValue.{IsStep, StepValue}
 use Rattle.container_meta.specs.declared.kind.Kind.{Kind}
 use Rattle.refusals.specs.declared.refusal.Refusal.{Refusal}
-use Rattle.ingest_session.specs.Due.{open_of}
-use Rattle.ingest_session.specs.History.{History, HasHistory}
+use Rattle.ingest_session.specs.declared.due.Due.{Due}
+use Rattle.ingest_session.specs.declared.due.Due.TheVariants as dues
+use Rattle.ingest_session.specs.Due.{due_in, open_of}
+use Rattle.ingest_session.specs.Facts.{kept}
+use Rattle.ingest_session.specs.History.{History, HasHistory, answered, no_history}
 use Rattle.ingest_session.specs.Moving.{IsOffered}
 use Rattle.ingest_session.specs.State.{SessionState}
+use Rattle.ingest_session.specs.Told.{told_by}
 use Rattle.store_model.specs.Trees.{root_of}
 use Rattle.store_core.specs.declared.stop.Stop.{Stop}
 use Rattle.store_core.specs.Core.{CoreStep}
@@ -22,38 +26,83 @@ use Rattle.store_machine.specs.Asked as asked
 use Rattle.store_machine.specs.Done.{Done}
 use Rattle.store_machine.specs.Done as done
 use Rattle.store_machine.specs.Legal.{Legal}
-use Rattle.store_machine.specs.Lines.{step_of}
+use Rattle.script_lines.specs.Grammar.{LineValue}
+use Rattle.script_lines.specs.ReplyValue.{ReplyValue}
+use Rattle.store_machine.specs.Lines.{Desk, step_of}
 use Rattle.store_machine.specs.Machine.{Machine, Running, Stopped, kind_of, part_in}
 use Rattle.store_machine.specs.Values.{Values}
 use Rattle.core_machine.specs.Refines.{answered_by, asked_as}
-use Rattle.script_runner.specs.Acts.{IsReady}
+use Rattle.script_runner.specs.Acts.{IsReady, RunnerState}
+use Rattle.script_runner.specs.LinesAreRuns.{IsAtDesk, Kept, LeadsTo}
+use Rattle.script_runner.proofs.DeskParts.{IsQuiet}
 
--- the session took these bytes
-pub record HasTaken (given : List ℕ) (x : SessionState) : Type 0 where
+-- the session took these bytes, which are allowed, and P holds of what is kept
+pub record HasTaken (Allowed : List ℕ → Type 0) (P : Kept → Type 0) (given : List ℕ) (x : SessionState) : Type 0 where
   pub history : History
   pub has : HasHistory x history
   pub given_is : history.given ≡ given
+  pub owns : P (kept history)
+  pub allowed : Allowed given
 
 -- What is so of a step that a line makes for one who gave these bytes: a session that took them offers what is claimed, and has filled what
 -- is sealed; a root is theirs, of a session that is ready.
-abbrev pub IsOfGiven : StepValue → List ℕ → Type 0
-IsOfGiven (steps.Claim seg) given = (x : SessionState) × HasTaken given x × IsOffered x seg
-IsOfGiven (steps.Seal filled) given =
-    (x : SessionState) × (kind : Kind) × HasTaken given x × IsStep (steps.Seal filled) × (filled ≡ open_of x kind) × (filled.kind ≡ kind)
-IsOfGiven (steps.Commit name root) given = (x : SessionState) × HasTaken given x × IsReady root x × (root ≡ root_of given)
-IsOfGiven step given = Unit {0}
+abbrev pub IsOfGiven : (Allowed : List ℕ → Type 0) (P : Kept → Type 0) → StepValue → List ℕ → Type 0
+IsOfGiven Allowed P (steps.Claim seg) given = (x : SessionState) × HasTaken Allowed P given x × IsOffered x seg
+IsOfGiven Allowed P (steps.Seal filled) given =
+    (x : SessionState) × (kind : Kind) × HasTaken Allowed P given x × IsStep (steps.Seal filled) × (filled ≡ open_of x kind) × (filled.kind ≡ kind)
+IsOfGiven Allowed P (steps.Commit name root) given = (x : SessionState) × HasTaken Allowed P given x × IsReady root x × (root ≡ root_of given)
+IsOfGiven Allowed P step given = Unit {0}
 
-pub record Fitting {V R : Type 0} (v : Values V R) (C : Type 0) (state : C → CoreState) (Fits : Machine V R → CoreState → Type 0) : Type 1 where
+-- what is due was asked for
+abbrev pub IsAskedFor : Due → SessionState → StepValue → Type 0
+IsAskedFor dues.Claim x (steps.Claim seg) = IsOffered x seg
+IsAskedFor (dues.Seal kind) x (steps.Seal filled) = (filled ≡ open_of x kind) × (filled.kind ≡ kind)
+IsAskedFor due x step = ⊥
+
+-- A step leaves to all actors what they own, but to one that is done in place of a turn; a file that begins owns nothing, and a turn that
+-- was done what its answer adds.
+pub record Keeps {V R : Type 0} (Owns : ℕ → Kept → Machine V R → CoreState → Type 0) (e : Event) (m n : Machine V R) (old new : CoreState) : Type 0 where
+  pub others : (b : ℕ) (k : Kept) → b ≢ e.actor → Owns b k m old → Owns b k n new
+  pub quiet : (k : Kept) → IsQuiet e.step → Owns e.actor k m old → Owns e.actor k n new
+  pub refused : (k : Kept) (refusal : Refusal) → e.answer ≡ Err refusal → Owns e.actor k m old → Owns e.actor k n new
+  pub begun : (answer : Answer) → e.step ≡ steps.Begin → e.answer ≡ Ok answer → Owns e.actor (kept no_history) n new
+  pub turned : (x : SessionState) (h : History) (answer : Answer) → HasHistory x h → IsAskedFor (due_in x) x e.step → e.answer ≡ Ok answer
+      → HasHistory (told_by answer x) (answered answer x h)
+      → Owns e.actor (kept h) m old → Owns e.actor (kept (answered answer x h)) n new
+
+pub record Fitting {V R : Type 0} (v : Values V R) (C : Type 0) (state : C → CoreState) (Fits : Machine V R → CoreState → Type 0)
+    (Owns : ℕ → Kept → Machine V R → CoreState → Type 0) (Allowed : List ℕ → Type 0) : Type 1 where
   -- a step of the core is one of the machine
-  pub step : (e : Event) (given : List ℕ) (old new : C) (m : Machine V R) → IsRunning (state old) → Fits m (state old) → IsOfGiven e.step given → CoreStep (state old) e (state new)
-      → (n : Machine V R) × (Legal v (step_of v e.actor (asked_as (λ root. v.of given) e.step) (answered_by e.answer e.buf)) m n × Fits n (state new))
+  pub step : (e : Event) (given : List ℕ) (old new : C) (m : Machine V R) → IsRunning (state old) → Fits m (state old)
+      → IsOfGiven Allowed (λ k. Owns e.actor k m (state old)) e.step given → CoreStep (state old) e (state new)
+      → (n : Machine V R) × (Legal v (step_of v e.actor (asked_as (λ root. v.of given) e.step) (answered_by e.answer e.buf)) m n
+      × Fits n (state new) × Keeps Owns e m n (state old) (state new))
   -- they run and are stopped together, and each actor is at the same kind of thing
   pub runs : (m : Machine V R) (c : CoreState) → Fits m c → c.stop ≡ None → m.state ≡ Running
-  pub stops : (m : Machine V R) (c : CoreState) (stop : Stop) → Fits m c → c.stop ≡ Some stop → ((other : _) × (stores : _) × (m.state ≡ Stopped other stores)) × (stop.at ≡ m.acknowledged)
+  pub stops : (m : Machine V R) (c : CoreState) (stop : Stop) → Fits m c → c.stop ≡ Some stop
+      → ((other : _) × (stores : _) × (m.state ≡ Stopped other stores)) × (stop.at ≡ m.acknowledged)
   pub kinds : (m : Machine V R) (c : CoreState) → Fits m c → (a : ℕ) → kind_of (part_in m a) ≡ core_kinds.kind_of (part_of c.parts a)
   -- an opening of the one is one of the other
   pub opened : (a : ℕ) (old new : C) (m : Machine V R) → Fits m (state old) → OpensCore C (λ c. (state c).disk) (state old).disk (state new) → IsRunning (state new)
       → (n : Machine V R) × (Legal v (step_of v a asked.Reopen (Ok (done.Reopened (finite.len (state new).tables.names)))) m n × Fits n (state new))
   pub unopened : (a : ℕ) (refusal : Refusal) (old new : C) (m : Machine V R) → Fits m (state old) → OpensNone C (λ c. (state c).disk) refusal (state old).disk (state new).disk
       → StaysOrStops C (λ c. (state c).disk) refusal (state old) (state new)
-      → (n : Machine V R) × (Legal v (step_of v a asked.Reopen (Err refusal)) m n × Fits n (state new))
+      → (n : Machine V R) × (Legal v (step_of v a asked.Reopen (Err refusal)) m n × Fits n (state new) × ((b : ℕ) (k : Kept) → Owns b k m (state old) → Owns b k n (state new)))
+
+-- A relation of machines and cores that gives it, of all that it speaks of.
+pub record Fitted : Type 1 where
+  pub V : Type 0
+  pub R : Type 0
+  pub v : Values V R
+  pub C : Type 0
+  pub state : C → CoreState
+  pub Fits : Machine V R → CoreState → Type 0
+  pub Owns : ℕ → Kept → Machine V R → CoreState → Type 0
+  pub Allowed : List ℕ → Type 0
+  pub fitting : Fitting v C state Fits Owns Allowed
+
+abbrev pub AtDesk : (F : Fitted) → Desk F.V F.R → RunnerState F.C → Type 0
+AtDesk F d r = IsAtDesk F.state F.Fits F.Owns d r
+
+abbrev pub Leads : (F : Fitted) → LineValue → ReplyValue → Desk F.V F.R → RunnerState F.C → Type 0
+Leads F line reply d s = LeadsTo F.v F.state F.Fits F.Owns line reply d s

@@ -1,46 +1,58 @@
 -- Lines that are run over a core, on any disk, as lines of the machine of roots (docs/MODEL.md, 'Scripts').
-use Rattle.std.specs.Prelude.{◌≡◌, ◌≢◌, ℕ, false, List, [], ◌∷◌, length, replicate, Option, Some, None}
+use Rattle.std.specs.Prelude.{◌≡◌, ◌≢◌, ℕ, suc, false, List, [], ◌∷◌, length, replicate, Option, Some, None}
 use Rattle.disk_format.specs.Cells.{Root}
 use Rattle.actor_parts.specs.declared.actor.TheConstants.{ACTORS}
 use Rattle.actor_parts.specs.declared.part.Part.{Part}
 use Rattle.actor_parts.specs.declared.part.Part.TheVariants.{Idle}
 use Rattle.actor_parts.specs.Kinds.{kind_of}
 use Rattle.actor_parts.specs.Parts.{part_of}
+use Rattle.container_meta.specs.declared.kind.Kind.{Kind}
+use Rattle.container_meta.specs.Segments.{Segment}
 use Rattle.merkle_file.specs.declared.top.Top.{Top}
 use Rattle.refusals.specs.declared.refusal.PartKind.TheVariants.{Writing}
+use Rattle.ingest_session.specs.Facts.{kept}
 use Rattle.ingest_session.specs.History.{History, HasHistory}
 use Rattle.ingest_session.specs.State.{SessionState}
 use Rattle.script_lines.specs.Grammar.{LineValue}
 use Rattle.script_lines.specs.ReplyValue.{ReplyValue}
 use Rattle.store_core.specs.State.{CoreState, IsRunning}
-use Rattle.store_machine.specs.Commands.{desk}
+use Rattle.plain_machine.specs.Runs.{Replied}
+use Rattle.store_machine.specs.Commands.{Lines, desk}
+use Rattle.store_machine.specs.Commands.{Replied as Answered}
 use Rattle.store_machine.specs.Lines.{Desk, Line, Session}
 use Rattle.store_machine.specs.Machine.{Machine, Stepped}
 use Rattle.store_machine.specs.Values.{Values, of_roots}
 use Rattle.core_machine.specs.Refines.{IsMachine}
 use Rattle.script_runner.specs.Acts.{RunnerState, RunsLine}
 use Rattle.script_runner.specs.Follows.{IsOfActor}
+use Rattle.script_runner.specs.Scripts.{AreOfActors, RunsLines}
 use Rattle.script_runner.specs.Sessions.{Sessions, session_of}
 
 -- ---- sessions
 
--- The session took these bytes, all of the file or not yet, and was told these answers.
-pub record IsSessionOf (s : Session) (x : SessionState) : Type 0 where
+-- what answers say to be kept of a file, by kinds
+abbrev pub Kept : Type 0
+Kept = Kind → List Segment
+
+-- The session took these bytes, all of the file or not yet, and was told these answers; P holds of what is kept.
+pub record IsSessionOf (P : Kept → Type 0) (s : Session) (x : SessionState) : Type 0 where
   pub history : History
   pub has : HasHistory x history
   pub given_is : history.given ≡ s.given
   pub answers_are : history.answers ≡ s.answers
   pub ended_is : x.ended ≡ s.ended
+  pub owns : P (kept history)
 
-abbrev pub SameSession : Option Session → Option SessionState → Type 0
-SameSession None None = Unit {0}
-SameSession (Some s) (Some x) = IsSessionOf s x
-SameSession s x = ⊥
+abbrev pub SameSession : (Kept → Type 0) → Option Session → Option SessionState → Type 0
+SameSession P None None = Unit {0}
+SameSession P (Some s) (Some x) = IsSessionOf P s x
+SameSession P s x = ⊥
 
-abbrev pub SameSessions : List (Option Session) → Sessions → Type 0
-SameSessions [] [] = Unit {0}
-SameSessions (s ∷ ss) (x ∷ xs) = SameSession s x × SameSessions ss xs
-SameSessions ss xs = ⊥
+-- those of all actors
+abbrev pub SameSessions : (ℕ → Kept → Type 0) → List (Option Session) → Sessions → Type 0
+SameSessions P [] [] = Unit {0}
+SameSessions P (s ∷ ss) (x ∷ xs) = SameSession (P 0) s x × SameSessions (λ actor. P (suc actor)) ss xs
+SameSessions P ss xs = ⊥
 
 -- an actor that stores a file gives it
 abbrev pub WritersGive : Sessions → List Part → Type 0
@@ -49,33 +61,60 @@ WritersGive sessions parts = (actor : ℕ) → session_of sessions actor ≡ Non
 -- ---- desks
 
 -- A runner is at a desk: its core fits the machine, its sessions are those of the desk, one for each actor, and who stores a file gives it.
-pub record IsAtDesk {V R C : Type 0} (state : C → CoreState) (Fits : Machine V R → CoreState → Type 0) (d : Desk V R) (r : RunnerState C)
-    : Type 0 where
+-- What the answers of an actor say to be kept, it owns.
+pub record IsAtDesk {V R C : Type 0} (state : C → CoreState) (Fits : Machine V R → CoreState → Type 0)
+    (Owns : ℕ → Kept → Machine V R → CoreState → Type 0) (d : Desk V R) (r : RunnerState C) : Type 0 where
   pub runs : IsRunning (state r.core)
   pub fits : Fits d.machine (state r.core)
-  pub same : SameSessions d.sessions r.sessions
+  pub same : SameSessions (λ actor kept. Owns actor kept d.machine (state r.core)) d.sessions r.sessions
   pub many : length r.sessions ≡ ACTORS
   pub give : WritersGive r.sessions (state r.core).parts
 
 -- A line of the machine led to a desk, and the runner is at it.
-pub record LeadsTo {V R C : Type 0} (v : Values V R) (state : C → CoreState) (Fits : Machine V R → CoreState → Type 0) (line : LineValue)
-    (reply : ReplyValue) (d : Desk V R) (s : RunnerState C) : Type 0 where
+pub record LeadsTo {V R C : Type 0} (v : Values V R) (state : C → CoreState) (Fits : Machine V R → CoreState → Type 0)
+    (Owns : ℕ → Kept → Machine V R → CoreState → Type 0) (line : LineValue) (reply : ReplyValue) (d : Desk V R) (s : RunnerState C)
+    : Type 0 where
   pub steps : List (Stepped V)
   pub next : Desk V R
   pub line_is : Line v line reply steps d next
-  pub at : IsAtDesk state Fits next s
+  pub at : IsAtDesk state Fits Owns next s
 
+-- over roots nothing is said of what is kept
 abbrev pub RootDesk : Type 0
 RootDesk = Desk Root (List Top)
+
+abbrev pub OwnsAny : ℕ → Kept → Machine Root (List Top) → CoreState → Type 0
+OwnsAny actor kept m c = Unit {0}
+
+abbrev pub IsAtRoots : {C : Type 0} → (C → CoreState) → RootDesk → RunnerState C → Type 0
+IsAtRoots state d r = IsAtDesk state (IsMachine false) OwnsAny d r
 
 -- ---- the law
 
 -- With no premise on the disk, what a runner does by a line is what the machine of roots may do by it, with this reply.
 abbrev pub LinesAreRuns : (C : Type 0) → (C → CoreState) → Type 0
 LinesAreRuns C state = (line : LineValue) (reply : ReplyValue) (r s : RunnerState C) (d : RootDesk) → IsOfActor line
-    → IsAtDesk state (IsMachine false) d r → RunsLine C state line reply r s → LeadsTo of_roots state (IsMachine false) line reply d s
+    → IsAtRoots state d r → RunsLine C state line reply r s → LeadsTo of_roots state (IsMachine false) OwnsAny line reply d s
 
 -- So a runner begins: no actor is at anything, and none gives a file.
 abbrev pub BeginsAtDesk : (C : Type 0) → (C → CoreState) → Type 0
 BeginsAtDesk C state = (m : Machine Root (List Top)) (r : RunnerState C) → IsRunning (state r.core) → IsMachine false m (state r.core)
-    → (state r.core).parts ≡ replicate ACTORS Idle → r.sessions ≡ replicate ACTORS None → IsAtDesk state (IsMachine false) (desk m) r
+    → (state r.core).parts ≡ replicate ACTORS Idle → r.sessions ≡ replicate ACTORS None → IsAtRoots state (desk m) r
+
+-- ---- lines, one after the other
+
+-- as the machine has them
+abbrev pub as_lines : List Replied → List Answered
+as_lines [] = []
+as_lines (one ∷ more) = record { line = one.line; reply = one.reply } ∷ as_lines more
+
+pub record AllLeadTo {C : Type 0} (state : C → CoreState) (rs : List Replied) (d : RootDesk) (s : RunnerState C) : Type 0 where
+  pub steps : List (Stepped Root)
+  pub next : RootDesk
+  pub lines_are : Lines of_roots (as_lines rs) steps d next
+  pub at : IsAtRoots state next s
+
+-- So it is of lines that are run one after the other.
+abbrev pub ScriptsAreRuns : (C : Type 0) → (C → CoreState) → Type 0
+ScriptsAreRuns C state = (rs : List Replied) (r s : RunnerState C) (d : RootDesk) → AreOfActors rs → IsAtRoots state d r
+    → RunsLines C state rs r s → AllLeadTo state rs d s

@@ -2,7 +2,7 @@
 ghost use Rattle.script_runner.specs.AnyDisk.{LinesGiveWhatIsNamed, LinesGoOn};
 ghost use Rattle.script_runner.specs.Follows.{LinesFollow};
 ghost use Rattle.script_runner.specs.Frame.{LinesKeepWritten, OpenedIsOn};
-ghost use Rattle.script_runner.specs.LinesAreRuns.{BeginsAtDesk, LinesAreRuns};
+ghost use Rattle.script_runner.specs.LinesAreRuns.{BeginsAtDesk, LinesAreRuns, ScriptsAreRuns};
 ghost use Rattle.script_runner.specs.Opened.{OpenedFollows};
 ghost use Rattle.script_runner.specs.Scripts.{ScriptsFollow};
 
@@ -52,10 +52,11 @@ pub fn lines_keep_what_is_written<D: Disk, C: HasState>()
     ensures opened { OpenedIsOn D D.view C C.state }
 {}
 
-/// On any disk, also one that tells nothing, or lies: a line that is run over a core is a line of the machine of roots, whose steps it makes
-/// and whose reply it gives, where the core is that machine and the sessions have taken and been told what the machine's have; and so they
-/// are again after it. The function does nothing.
+/// On any disk, also one that tells nothing, or lies: a line that is run over a core is a line of the machine of roots, which makes
+/// its steps and gives its reply, where the core is that machine and the sessions took and were told what the machine's have. After it
+/// that is so again; so are lines that are run one after the other, from a runner that begins. The function does nothing.
 pub fn lines_are_runs<C: HasState>()
     ensures lines { LinesAreRuns C C.state }
+    ensures scripts { ScriptsAreRuns C C.state }
     ensures begins { BeginsAtDesk C C.state }
 {}

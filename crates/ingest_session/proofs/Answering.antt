@@ -452,7 +452,7 @@ known t h (Ended s _ _ has after is) =
 known t _ (Moved s _ h has is step) = moved_knows s t h (known s h has) (session_of s h has) is step
 known t h (Asked s _ _ has _ is) =
     let before = known s h has in
-    knows_same s t h h.given before (subst (λ (u : SessionState). Follows u h.given h.placed) (sym is) (asked_follows s t.unseen h.given h.placed before.follows))
+    knows_same s t h h.given before (subst (λ (u : SessionState). Follows u h.given h.placed) (sym is) (asked_follows s 0 h.given h.placed before.follows))
     (ap (λ (u : SessionState). u.leaves) is) (ap (λ (u : SessionState). u.nodes) is) (ap (λ (u : SessionState). u.waits) is)
     (λ on. ap (λ (u : SessionState). (turn_node u)) is)
-known _ _ (Told s answer h has _ settled due _) = told_knows s answer h (known s h has) (session_of s h has) settled due
+known _ _ (Told s answer h has _ settled _ due _) = told_knows s answer h (known s h has) (session_of s h has) settled due

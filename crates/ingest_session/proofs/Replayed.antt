@@ -393,7 +393,7 @@ module _ (ended : Bool) (segments : List (List ℕ)) where
       let before = extends_same ended segments s t h (record h { placed = h.placed ++ moved step }) has (Moved s t h has after step) refl
       (sym (settling_keeps s t (settles_by after step)).ended) extends in
       moved_reach s t h step has before (reaches s h has before)
-  reaches _ _ (Told s answer h has after settled is some) extends =
-      let before = extends_same ended segments s (told_by answer s) h (answered answer s h) has (Told s answer h has after settled is some) refl
+  reaches _ _ (Told s answer h has after settled asked is some) extends =
+      let before = extends_same ended segments s (told_by answer s) h (answered answer s h) has (Told s answer h has after settled asked is some) refl
       (sym (told_ended answer s is)) extends in
       told_reach s h answer has before settled is (reaches s h has before)

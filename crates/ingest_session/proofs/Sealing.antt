@@ -194,7 +194,7 @@ run_kept t _ kind (Moved s _ h has _ step) =
     ap (λ (x : List Segment). h.sealed kind ++ x) (step_kept kind s t step) ∙ run_kept s h kind has
 run_kept t h kind (Asked s _ _ has _ is) =
     ap (λ (x : List Segment). h.sealed kind ++ x) (ap (kept kind) is) ∙ run_kept s h kind has
-run_kept _ _ kind (Told s answer h has _ _ is _) =
+run_kept _ _ kind (Told s answer h has _ _ _ is _) =
     append_assoc (h.sealed kind) (sealed_by kind answer s) (kept kind (told_by answer s))
     ∙ ap (λ (x : List Segment). h.sealed kind ++ x) (told_kept kind answer s is)
     ∙ sym (append_assoc (h.sealed kind) (kept kind s) (absent_by kind answer s))

@@ -33,7 +33,7 @@ settling_places s t (Then first second third settles is step) h has =
           (Moved second third (record h { placed = h.placed ++ before.0 }) before.1 is step),
     )
 
-pub asking_places : (s t u : SessionState) → Settles s t → IsSession u → u ≡ record t { unseen = u.unseen } → Places s u
+pub asking_places : (s t u : SessionState) → Settles s t → IsSession u → u ≡ record t { unseen = 0 } → Places s u
 asking_places s t u settles is asked h has =
     let before = settling_places s t settles h has in
     (before.0, Asked t u (record h { placed = h.placed ++ before.0 }) before.1 is asked)

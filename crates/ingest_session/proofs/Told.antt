@@ -18,11 +18,11 @@ seals_some s Claim is sound = tt
 seals_some s (Seal kind) is sound = seal_holds_some s kind sound is
 seals_some s Nothing is sound = tt
 
-pub told_has_history : (s t : SessionState) (answer : Answer) (h : History) → t ≡ told_by answer s → IsSession s → IsSession t → IsSettled s →
+pub told_has_history : (s t : SessionState) (answer : Answer) (h : History) → t ≡ told_by answer s → IsSession s → IsSession t → IsSettled s → s.unseen ≡ 0 →
     IsAnswerFor answer (due_in s) → HasHistory s h → HasHistory t (answered answer s h)
-told_has_history s t answer h told sound after settled right has =
+told_has_history s t answer h told sound after settled asked right has =
     subst (λ (u : SessionState). HasHistory u (answered answer s h)) (sym told)
-    (Told s answer h has (subst IsSession told after) settled right (seals_some s (due_in s) refl sound))
+    (Told s answer h has (subst IsSession told after) settled asked right (seals_some s (due_in s) refl sound))
 
 claim_waits_for_none : (s : SessionState) (waits : Bool) → s.waits ≡ waits →
     (if waits then Seal (item_kind (turn_node s)) else item_due s (due_node s)) ≡ Claim → s.waits ≡ false

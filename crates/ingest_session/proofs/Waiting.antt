@@ -27,7 +27,7 @@ session_of t _ (Pushed _ _ _ _ _ is _) = is
 session_of t h (Ended _ _ _ _ is _) = is
 session_of t _ (Moved _ _ _ _ is _) = is
 session_of t h (Asked _ _ _ _ is _) = is
-session_of _ _ (Told _ _ _ _ is _ _ _) = is
+session_of _ _ (Told _ _ _ _ is _ _ _ _) = is
 
 pub on_and_off : {A : Type 0} (b : Bool) → b ≡ true → b ≡ false → A
 on_and_off true on off = absurd (cc)
@@ -180,4 +180,4 @@ waits_for_another t h (Ended s _ _ has _ is) on =
 waits_for_another t _ (Moved s _ h has _ step) on = step_unheld s t step (waits_for_another s h has) on
 waits_for_another t h (Asked s _ _ has _ is) on =
     (subst (λ (u : SessionState). u.waits ≡ true → item_is_held u (turn_node u) ≡ false) (sym is) (waits_for_another s h has)) on
-waits_for_another _ _ (Told s answer h has _ settled is _) on = told_unheld s answer settled is (waits_for_another s h has) on
+waits_for_another _ _ (Told s answer h has _ settled _ is _) on = told_unheld s answer settled is (waits_for_another s h has) on

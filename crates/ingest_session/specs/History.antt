@@ -141,9 +141,9 @@ pub data HasHistory : SessionState → History → Type 0 where
   Ended : (s t : SessionState) (h : History) → HasHistory s h → IsSession t → IsEnding s t → HasHistory t h
   Moved : (s t : SessionState) (h : History) → HasHistory s h → IsSession t → (step : SettleStep s t)
       → HasHistory t (record h { placed = h.placed ++ moved step })
-  Asked : (s t : SessionState) (h : History) → HasHistory s h → IsSession t → t ≡ record s { unseen = t.unseen } → HasHistory t h
+  Asked : (s t : SessionState) (h : History) → HasHistory s h → IsSession t → t ≡ record s { unseen = 0 } → HasHistory t h
   Told : (s : SessionState) (answer : Answer) (h : History) → HasHistory s h → IsSession (told_by answer s) → IsSettled s
-      → IsAnswerFor answer (due_in s) → SealsSome (due_in s) s → HasHistory (told_by answer s) (answered answer s h)
+      → s.unseen ≡ 0 → IsAnswerFor answer (due_in s) → SealsSome (due_in s) s → HasHistory (told_by answer s) (answered answer s h)
 
 -- Pieces went to their place, and nothing else was done.
 abbrev pub Places : SessionState → SessionState → Type 0

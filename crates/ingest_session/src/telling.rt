@@ -109,6 +109,7 @@ impl Session {
 
     fn take_answer(&mut self, answer: &Answer)
         requires settled { IsSettled self.old }
+        requires asked { self.old.unseen ≡ 0 }
         requires answer { IsAnswerFor answer.now (due_in self.old) }
         ensures told { self.new ≡ told_by answer.now self.old }
     {
@@ -127,6 +128,7 @@ impl Session {
     /// Takes the answer to the step that was due: `Held` or `Absent` to a claim, `Sealed` to a seal. It takes no memory.
     pub fn told(&mut self, answer: &Answer)
         requires settled { IsSettled self.old }
+        requires asked { self.old.unseen ≡ 0 }
         requires answer { IsAnswerFor answer.now (due_in self.old) }
         ensures told { self.new ≡ told_by answer.now self.old }
         ensures history { (h : History) → HasHistory self.old h → HasHistory self.new (answered answer.now self.old h) }

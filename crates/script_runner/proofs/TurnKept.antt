@@ -144,7 +144,7 @@ module _ (kind : Kind) (x : Segment) where
   kept_pieces t h more (Ended s _ _ has _ ending) may is = kept_pieces s h more has (λ on. absurd (let both = sym ending.ongoing ∙ on in cc)) is
   kept_pieces t _ more (Moved s _ h has sound step) may is = kept_pieces s h more has (λ on. may ((settling_keeps s t (settles_by sound step)).ended ∙ on)) is
   kept_pieces t h more (Asked s _ _ has _ same) may is = kept_pieces s h more has (λ on. may (ap (λ (u : SessionState). u.ended) same ∙ on)) is
-  kept_pieces _ _ more (Told s answer h has _ settled fits some) may is =
+  kept_pieces _ _ more (Told s answer h has _ settled _ fits some) may is =
       let before : MayFollow more s = λ on. may ((told answer s).ended ∙ on) in
       by_answer s answer h more has before settled fits (λ was. kept_pieces s h more has before was) is
 

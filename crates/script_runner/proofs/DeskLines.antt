@@ -88,8 +88,8 @@ keeps_any e m n old new = record {
   others = λ b k differs owns. tt;
   quiet = λ k quiet owns. tt;
   refused = λ k refusal is owns. tt;
-  begun = λ answer step is. tt;
-  turned = λ x h answer has asks is told owns. tt;
+  begun = λ answer below step is. tt;
+  turned = λ x h answer below has settled asks is told owns. tt;
 }
 
 -- a commit asks for the root of what was given

@@ -1,5 +1,6 @@
 -- Turns of a session as steps of a machine that fits the core, each as it was due.
-use Rattle.std.proofs.Common.{◌≡◌, ◌≢◌, ◌⊎◌, inl, inr, ◌∙◌, ℕ, List, [], ◌∷◌, ◌++◌, Some, None, Result, Ok, Err, refl, sym, ap, subst}
+use Rattle.std.proofs.Common.{◌≡◌, ◌<◌, ◌≢◌, ◌⊎◌, inl, inr, ◌∙◌, ℕ, List, [], ◌∷◌, ◌++◌, Some, None, Result, Ok, Err, refl, sym, ap, subst}
+use Rattle.actor_parts.specs.declared.actor.TheConstants.{ACTORS}
 use Rattle.actor_parts.specs.declared.step.Answer.{Answer}
 use Rattle.actor_parts.specs.declared.step.Answer.TheVariants as answers
 use Rattle.actor_parts.specs.Parts.{part_of}
@@ -91,7 +92,7 @@ module _ {V R : Type 0} (v : Values V R) where
         room_last a ys (answering answer s) t x (subst (λ (b : Answer). AreTurns v a ys (answering b s) t) same turns.2.2) (room.1 answer is) crowded none,
   )
 
-module _ (F : Fitted) (a : ℕ) where
+module _ (F : Fitted) (a : ℕ) (below : a < ACTORS) where
   open F use {V, R, v, C, state, Fits, Owns, Allowed, fitting}
 
   abbrev owned : ℕ → Machine V R → C → Kept → Type 0
@@ -167,7 +168,7 @@ module _ (F : Fitted) (a : ℕ) where
           given_is = of.given_is;
           answers_are = ap (λ (l : List Answer). l ++ answer ∷ []) of.answers_are;
           ended_is = ap (λ (w : SessionState). w.ended) turn.told ∙ (told answer z).ended ∙ of.ended_is;
-          owns = asks.made.keeps.turned z of.history answer of.has asks.is_asked refl
+          owns = asks.made.keeps.turned z of.history answer below of.has turn.settled asks.is_asked refl
               (subst (λ (w : SessionState). HasHistory w (answered answer z of.history)) turn.told has) of.owns;
         };
       }

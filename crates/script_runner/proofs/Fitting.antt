@@ -1,6 +1,7 @@
 -- What a relation of machines and cores is to give for lines over a core to be lines of the machine.
-use Rattle.std.proofs.Common.{◌≡◌, ◌≢◌, ℕ, List, Some, None, Ok, Err}
+use Rattle.std.proofs.Common.{◌≡◌, ◌≢◌, ◌<◌, ℕ, List, Some, None, Ok, Err}
 use Rattle.std.specs.FinMap as finite
+use Rattle.actor_parts.specs.declared.actor.TheConstants.{ACTORS}
 use Rattle.actor_parts.specs.declared.step.Answer.{Answer}
 use Rattle.actor_parts.specs.Kinds as core_kinds
 use Rattle.actor_parts.specs.Parts.{part_of}
@@ -15,7 +16,7 @@ use Rattle.ingest_session.specs.Facts.{kept}
 use Rattle.ingest_session.specs.History.{History, HasHistory, answered, no_history}
 use Rattle.ingest_session.specs.Moving.{IsOffered}
 use Rattle.ingest_session.specs.State.{SessionState}
-use Rattle.ingest_session.specs.Told.{told_by}
+use Rattle.ingest_session.specs.Told.{IsSettled, told_by}
 use Rattle.store_model.specs.Trees.{root_of}
 use Rattle.store_core.specs.declared.stop.Stop.{Stop}
 use Rattle.store_core.specs.Core.{CoreStep}
@@ -59,16 +60,15 @@ IsAskedFor dues.Claim x (steps.Claim seg) = IsOffered x seg
 IsAskedFor (dues.Seal kind) x (steps.Seal filled) = (filled ≡ open_of x kind) × (filled.kind ≡ kind)
 IsAskedFor due x step = ⊥
 
--- A step leaves to all actors what they own, but to one that is done in place of a turn; a file that begins owns nothing, and a turn that
--- was done what its answer adds.
+-- A step leaves to the other actors what they own, and to its own too where it was refused, or is none of a file that is given. A file that
+-- begins owns nothing yet, and a turn adds what its answer says to be kept.
 pub record Keeps {V R : Type 0} (Owns : ℕ → Kept → Machine V R → CoreState → Type 0) (e : Event) (m n : Machine V R) (old new : CoreState) : Type 0 where
   pub others : (b : ℕ) (k : Kept) → b ≢ e.actor → Owns b k m old → Owns b k n new
   pub quiet : (k : Kept) → IsQuiet e.step → Owns e.actor k m old → Owns e.actor k n new
   pub refused : (k : Kept) (refusal : Refusal) → e.answer ≡ Err refusal → Owns e.actor k m old → Owns e.actor k n new
-  pub begun : (answer : Answer) → e.step ≡ steps.Begin → e.answer ≡ Ok answer → Owns e.actor (kept no_history) n new
-  pub turned : (x : SessionState) (h : History) (answer : Answer) → HasHistory x h → IsAskedFor (due_in x) x e.step → e.answer ≡ Ok answer
-      → HasHistory (told_by answer x) (answered answer x h)
-      → Owns e.actor (kept h) m old → Owns e.actor (kept (answered answer x h)) n new
+  pub begun : (answer : Answer) → e.actor < ACTORS → e.step ≡ steps.Begin → e.answer ≡ Ok answer → Owns e.actor (kept no_history) n new
+  pub turned : (x : SessionState) (h : History) (answer : Answer) → e.actor < ACTORS → HasHistory x h → IsSettled x → IsAskedFor (due_in x) x e.step → e.answer ≡ Ok answer
+      → HasHistory (told_by answer x) (answered answer x h) → Owns e.actor (kept h) m old → Owns e.actor (kept (answered answer x h)) n new
 
 pub record Fitting {V R : Type 0} (v : Values V R) (C : Type 0) (state : C → CoreState) (Fits : Machine V R → CoreState → Type 0)
     (Owns : ℕ → Kept → Machine V R → CoreState → Type 0) (Allowed : List ℕ → Type 0) : Type 1 where

@@ -1,5 +1,5 @@
 -- A machine of files that is stopped as containers were given back: which stores may stand then.
-use Rattle.std.proofs.Common.{◌≡◌, ◌⊎◌, inl, inr, ◌<◌, ℕ, zero, suc, List, [], ◌∷◌, take, Contains, Some, None, refl, sym, arith}
+use Rattle.std.proofs.Common.{◌≢◌, ◌≡◌, ◌⊎◌, inl, inr, ◌<◌, ℕ, zero, suc, List, [], ◌∷◌, take, Contains, Some, None, refl, sym, arith}
 use Rattle.std.specs.List.{AllByRecursion}
 use Rattle.std.proofs.lemmas.List.Elements.{Contains-append_left, Contains-append_right}
 use Rattle.disk_format.specs.declared.numbers.TheConstants.{RESERVE}
@@ -43,18 +43,18 @@ on_the_way (suc count) (slot ∷ rest) s = elim (on_the_way count rest (with_fre
   | inr later ↦ inr (Contains-append_right (with_freed slot s ∷ []) (stores_freed rest (with_freed slot s)) (with_all_freed (take count rest) (with_freed slot s)) later)
 ]
 
-each_on_way : (P : Store → Type 0) (freed : List ℕ) (s : Store) → ((count : ℕ) → P (with_all_freed (take count freed) s)) → AllByRecursion P (stores_freed freed s)
+each_on_way : (P : Store → Type 0) (freed : List ℕ) (s : Store) → ((count : ℕ) → take count freed ≢ [] → P (with_all_freed (take count freed) s)) → AllByRecursion P (stores_freed freed s)
 each_on_way P [] s each = tt
-each_on_way P (slot ∷ rest) s each = (each 1, each_on_way P rest (with_freed slot s) (λ count. each (suc count)))
+each_on_way P (slot ∷ rest) s each = (each 1 (λ none. cc), each_on_way P rest (with_freed slot s) (λ count some. each (suc count) (λ none. cc)))
 
 module _ (m : FileMachine) (found : Found (List ℕ)) (may : MayBeFound of_files m.state m.now found) (before : Store) (stands : Stands of_files m.state m.store before)
     (named : IsNamedBy of_files found before) (few : free_slots before.held < RESERVE) where
-  pub given_back : (freed : List ℕ) → FreesSome (NamesNeed of_files found) freed before → IsGivenBack of_files m (with_all_freed freed before)
-  given_back freed frees = record { found = found; may = may; before = before; stands = stands; named = named; few = few; freed = freed; frees = frees; left = refl }
+  pub given_back : (freed : List ℕ) → freed ≢ [] → FreesSome (NamesNeed of_files found) freed before → IsGivenBack of_files m (with_all_freed freed before)
+  given_back freed some frees = record { found = found; may = may; before = before; stands = stands; named = named; few = few; freed = freed; some = some; frees = frees; left = refl }
 
   pub each_given : (freed : List ℕ) → FreesSome (NamesNeed of_files found) freed before → AllByRecursion (IsGivenBack of_files m) (stores_freed freed before)
   each_given freed frees =
-      each_on_way (IsGivenBack of_files m) freed before (λ count. given_back (take count freed) (frees_first (NamesNeed of_files found) count freed before frees))
+      each_on_way (IsGivenBack of_files m) freed before (λ count some. given_back (take count freed) some (frees_first (NamesNeed of_files found) count freed before frees))
 
 -- ---- what is given back, as the names' files can be reached and as the machine needs them
 

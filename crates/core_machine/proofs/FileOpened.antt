@@ -1,5 +1,5 @@
 -- An opening, at first or again, of a disk that stands for files is one of the machine of files, which then stands for what was opened.
-use Rattle.std.proofs.Common.{◌≡◌, ◌⊎◌, inl, inr, ◌<◌, ◌≤◌, ℕ, zero, suc, true, false, IsTrue, List, [], ◌∷◌, replicate, slice_index_or, take, Some, None, Ok, Err, refl, sym, ◌∙◌, ap, subst, arith}
+use Rattle.std.proofs.Common.{◌≢◌, ◌≡◌, ◌⊎◌, inl, inr, ◌<◌, ◌≤◌, ℕ, zero, suc, true, false, IsTrue, List, [], ◌∷◌, replicate, slice_index_or, take, Some, None, Ok, Err, refl, sym, ◌∙◌, ap, subst, arith}
 use Rattle.std.specs.FinMap as finite
 use Rattle.std.specs.List.{AllByRecursion}
 use Rattle.actor_parts.specs.declared.actor.TheConstants.{ACTORS}
@@ -42,7 +42,7 @@ use Rattle.core_machine.proofs.FileFreed.{all_needed, each_given, found_still, g
 use Rattle.core_machine.proofs.FileNames.{now_of_store, named_by}
 use Rattle.core_machine.proofs.FileStands.{disk_stands}
 use Rattle.core_machine.proofs.FileStays.{stands_read, still_at_files}
-use Rattle.core_machine.proofs.Opened.{opened_refines, unopened_refines}
+use Rattle.core_machine.proofs.Opened.{opened_refines, unopened_refines, some_left}
 
 -- ---- what an image is
 
@@ -190,12 +190,19 @@ module _ (among : ByteSet) (m : FileMachine) (old : DiskView) (image : List ℕ)
     was_few : free_slots stand.store.held < RESERVE
     was_few = subst (λ (s : Store). free_slots s.held < RESERVE) short_is made.short.few
 
-    room_given : IsGivenBack of_files m made.after
-    room_given = subst (IsGivenBack of_files m) (sym after_is)
-        (given_back m stand.found stand.may stand.store stand.stands named_here was_few made.freed (frees_some (NamesNeed of_files stand.found) made.freed stand.store made.after room_frees))
-
     mid_size : RESERVE ≤ free_slots made.after.held
     mid_size = subst (λ (s : Store). RESERVE ≤ free_slots s.held) (store_once now now_of.store made.after now_of.stands.holds.right now_right) now_of.reserve
+
+    some_freed : made.freed ≢ []
+    some_freed none =
+        let same : made.after ≡ stand.store = (subst (λ (slots : List ℕ). FreesTo (NamesNeed of_files stand.found) slots stand.store made.after) none room_frees).0 in
+        let few : free_slots made.after.held < RESERVE = subst (λ (s : Store). free_slots s.held < RESERVE) (sym same) was_few in
+        omega (arith, few, mid_size)
+
+    room_given : IsGivenBack of_files m made.after
+    room_given = subst (IsGivenBack of_files m) (sym after_is)
+        (given_back m stand.found stand.may stand.store stand.stands named_here was_few made.freed some_freed
+        (frees_some (NamesNeed of_files stand.found) made.freed stand.store made.after room_frees))
 
   -- ---- one that was refused
 
@@ -288,7 +295,7 @@ module _ (among : ByteSet) (m : FileMachine) (old : DiskView) (image : List ℕ)
 
     module _ (actor : ℕ) (none : OpensNone D view refusal old new) where
       wrote_legal : (wrote : WritesUnread D view refusal old new) → Reopens actor (Err refusal) m (stopped (stores_left D view refusal old new wrote))
-      wrote_legal wrote = (may_refuse none, inr (stores_left D view refusal old new wrote, refl, λ known. wrote_given wrote))
+      wrote_legal wrote = (may_refuse none, inr (stores_left D view refusal old new wrote, refl, some_left D view refusal old new wrote, λ known. wrote_given wrote))
 
       abbrev Left : Type 0
       Left = (n : FileMachine) × (Reopens actor (Err refusal) m n × LeavesFor In n old new)

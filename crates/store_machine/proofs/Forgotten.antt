@@ -690,9 +690,9 @@ module _ (m : F) (r : G) (same : Forgets m r) where
   reopened (Ok (done.Reopened files)) n opens = opened_again files n opens
   reopened (Ok answer) n opens = absurd opens
   reopened (Err refusal) n (may, inl others) = stays (λ t. Reopens of_roots (Err refusal) r t) n others (refuse_same refusal may, inl refl)
-  reopened (Err refusal) n (may, inr (stores, others, known)) =
+  reopened (Err refusal) n (may, inr (stores, others, why, known)) =
       goes (λ t. Reopens of_roots (Err refusal) r t) n (record m { state = freeing of_files stores m.state }) (record r { state = freeing of_roots stores r.state }) others
-      (refuse_same refusal may, inr (stores, refl, λ e. absurd e))
+      (refuse_same refusal may, inr (stores, refl, why, λ e. absurd e))
       (record {
         now = same.now;
         parts = same.parts;

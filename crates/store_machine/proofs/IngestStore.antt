@@ -488,6 +488,6 @@ module _ (name : List ℕ) (start : F) (one : Replied) (more : List Replied) (mi
   stored_so (inr (refusal, is, fails, left)) =
       subst (λ (r : ReplyValue). OnceOpened (AddsIn name (given_by 0 given more) (one ∷ more) start.now e.machine) r start e.machine) (sym is) (stays more follow ran)
     where
-      stays : (xs : List Replied) → AllFollow (Ingest name) one xs → Lines of_files xs later mid e → IsNotOpened start e.machine
-      stays [] follow (none, same) = subst (λ (x : D). IsNotOpened start x.machine) (sym same) left
+      stays : (xs : List Replied) → AllFollow (Ingest name) one xs → Lines of_files xs later mid e → IsNotOpened refusal start e.machine
+      stays [] follow (none, same) = subst (λ (x : D). IsNotOpened refusal start x.machine) (sym same) left
       stays (x ∷ xs) (ends, follows, rest) ran = absurd (subst (λ (r : ReplyValue). Follows (Ingest name) r x.line) is follows)

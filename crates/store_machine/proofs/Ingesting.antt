@@ -495,7 +495,7 @@ pub opened_went : (m : F) (mid : D) (ss : List Step) (reply : ReplyValue) (told 
 opened_went m mid ss reply (Err refusal) runs is (may, inl others) sessions =
     refused_went m.now refusal reply [] (desk m) mid is refl
     (record { now = ap (λ (x : F). x.now) others; state = running_sure mid.machine.state (ap (λ (x : F). x.state) others ∙ runs) })
-opened_went m mid ss reply (Err refusal) runs is (may, inr (stores, others, known)) sessions =
+opened_went m mid ss reply (Err refusal) runs is (may, inr (stores, others, why, known)) sessions =
     refused_went m.now refusal reply [] (desk m) mid is refl
     (record { now = ap (λ (x : F). x.now) others; state = subst IsSure (sym (ap (λ (x : F). x.state) others ∙ ap (freeing of_files stores) runs)) tt })
 opened_went m mid ss reply (Ok (done.Reopened files)) runs is opens sessions =

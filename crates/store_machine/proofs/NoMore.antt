@@ -236,7 +236,7 @@ module _ (m n : F) (r t : G) (was : Forgets m r) (now : Forgets n t) where
           append_cancel_left (stopped_by r.state) [] stores
           (append-nil (stopped_by r.state) ∙ stopped_same m.state r.state was.state ∙ ap (λ (x : F). stopped_by x.state) (sym others)
           ∙ sym (stopped_same n.state t.state now.state) ∙ ap stopped_by is ∙ freed_roots stores r.state)
-  opening_adds (Err refusal) (may, inr (given, others, known)) = (may, λ stores is. subst (AllByRecursion (IsGivenBack of_files m)) (all stores is) (known tt))
+  opening_adds (Err refusal) (may, inr (given, others, why, known)) = (may, λ stores is. subst (AllByRecursion (IsGivenBack of_files m)) (all stores is) (known tt))
     where
       all : (stores : List Store) → t.state ≡ freeing of_roots stores r.state → given ≡ stores
       all stores is =

@@ -179,7 +179,7 @@ reopen_quiet (Ok (done.Reopened files)) m n runs o = record {
 }
 reopen_quiet (Ok answer) m n runs o = absurd o
 reopen_quiet (Err refusal) m n runs (may, inl is) = record { now = ap (λ (x : F). x.now) is; state = running_sure n.state (ap (λ (x : F). x.state) is ∙ runs) }
-reopen_quiet (Err refusal) m n runs (may, inr (stores, is, known)) =
+reopen_quiet (Err refusal) m n runs (may, inr (stores, is, why, known)) =
     record { now = ap (λ (x : F). x.now) is; state = subst IsSure (sym (ap (λ (x : F). x.state) is ∙ ap (freeing of_files stores) runs)) tt }
 
 reopen_goes : (answer : Done) (m n : F) → m.state ≡ Running → Reopens of_files (Ok answer) m n → Goes m n

@@ -115,9 +115,9 @@ module _ (m : F) (r : G) (same : Forgets m r) where
   reopened (Ok (done.Reopened files)) t opens adds = opened_again files t opens adds
   reopened (Ok answer) t opens adds = absurd opens
   reopened (Err refusal) t (may, inl others) adds = stays m r same (λ n. Reopens of_files (Err refusal) m n) t others (adds.0, inl refl)
-  reopened (Err refusal) t (may, inr (stores, others, known)) adds =
+  reopened (Err refusal) t (may, inr (stores, others, why, known)) adds =
       goes m r same (λ n. Reopens of_files (Err refusal) m n) t (record r { state = freeing of_roots stores r.state }) (record m { state = freeing of_files stores m.state }) others
-      (adds.0, inr (stores, refl, λ told. adds.1 stores (ap (λ (x : G). x.state) others)))
+      (adds.0, inr (stores, refl, why, λ told. adds.1 stores (ap (λ (x : G). x.state) others)))
       (record {
         now = same.now;
         parts = same.parts;

@@ -109,7 +109,7 @@ pub record Fresh (start : FileMachine) (d : Desks) : Type 0 where
 abbrev pub Opened : FileMachine → ReplyValue → Desks → Type 0
 Opened start reply d =
     ((files : ℕ) × (reply ≡ replies.Opened files) × At start.now d.machine.store Idle d × Fresh start d)
-    ⊎ ((refusal : Refusal) × (reply ≡ replies.Refused refusal) × IsFailure refusal × IsNotOpened start d.machine)
+    ⊎ ((refusal : Refusal) × (reply ≡ replies.Refused refusal) × IsFailure refusal × IsNotOpened refusal start d.machine)
 
 pub opened_by : (m : FileMachine) (mid : Desks) (reply : ReplyValue) (told : Result Done Refusal) → m.state ≡ Running → reply ≡ reply_of 0 told
     → Reopens of_files told m mid.machine → mid.sessions ≡ unless_refused reply (all_none (desk m).sessions) (desk m).sessions → Opened m reply mid
@@ -151,7 +151,7 @@ pub record NotOpened (start : FileMachine) (one : Replied) (more : ListOf Replie
   pub reply_is : one.reply ≡ replies.Refused refusal
   pub fails : IsFailure refusal
   pub last : more ≡ []
-  pub left : IsNotOpened start n
+  pub left : IsNotOpened refusal start n
 
 -- it was done, by a store in which room was made, and this is so after the last line
 pub record WasOpened (command : Command) (start : FileMachine) (After : Store → ReplyValue → ListOf ℕ → Desks → Type 0)
@@ -188,7 +188,7 @@ module _ (command : Command) (start : FileMachine) (After : Store → ReplyValue
       by mid later ran (inr (refusal, is, fails, left)) =
           let none = none_after refusal one more is follow in
           let same = subst (λ (xs : ListOf Replied). Lines of_files xs later mid e) none ran in
-          inl (record { refusal = refusal; reply_is = is; fails = fails; last = none; left = subst (λ (x : Desks). IsNotOpened start x.machine) (sym same.1) left })
+          inl (record { refusal = refusal; reply_is = is; fails = fails; last = none; left = subst (λ (x : Desks). IsNotOpened refusal start x.machine) (sym same.1) left })
       by mid later ran (inl (files, is, at, fresh)) =
           let after : After mid.machine.store one.reply (text_of command [] one.line one.reply) mid =
           subst (λ (l : LineValue). After mid.machine.store one.reply (text_of command [] l one.reply) mid) (sym first)
@@ -208,16 +208,16 @@ module _ (start : FileMachine) (one : Replied) (more : ListOf Replied) (n : File
   pub unopened_same : n.now ≡ start.now
   unopened_same = by un.left
     where
-      by : IsNotOpened start n → n.now ≡ start.now
+      by : IsNotOpened un.refusal start n → n.now ≡ start.now
       by (inl is) = ap (λ (x : FileMachine). x.now) is
-      by (inr (stores, is, known)) = ap (λ (x : FileMachine). x.now) is
+      by (inr (stores, is, why, known)) = ap (λ (x : FileMachine). x.now) is
 
   pub unopened_found : (x : Found (ListOf ℕ)) → MayBeFound of_files n.state n.now x → x ≡ start.now
   unopened_found x may = sure_found n.state n.now x (by un.left) may ∙ unopened_same
     where
-      by : IsNotOpened start n → IsSure n.state
+      by : IsNotOpened un.refusal start n → IsSure n.state
       by (inl is) = running_sure n.state (ap (λ (x : FileMachine). x.state) is ∙ runs)
-      by (inr (stores, is, known)) = subst IsSure (sym (ap (λ (x : FileMachine). x.state) is ∙ ap (freeing of_files stores) runs)) tt
+      by (inr (stores, is, why, known)) = subst IsSure (sym (ap (λ (x : FileMachine). x.state) is ∙ ap (freeing of_files stores) runs)) tt
 
   -- that reply was the last
   last_unopened : (last_from one more).reply ≡ replies.Refused un.refusal

@@ -36,13 +36,13 @@ ByMap command P = (rs : ListOf Replied) (ss : ListOf (Stepped (ListOf ℕ))) (m 
 abbrev pub MakesRoom : FileMachine → Store → Type 0
 MakesRoom m opened = (slots : ListOf ℕ) × FreesTo (NamesNeed of_files m.now) slots m.store opened
 
--- an opening was refused: the machine is what it was, or it is stopped in the middle of that
-abbrev pub IsNotOpened : FileMachine → FileMachine → Type 0
-IsNotOpened m n = (n ≡ m) ⊎ GivesBackSome of_files m n
+-- an opening was refused so: the machine is what it was, or it is stopped in the middle of that
+abbrev pub IsNotOpened : Refusal → FileMachine → FileMachine → Type 0
+IsNotOpened refusal m n = (n ≡ m) ⊎ GivesBackSome of_files refusal m n
 
 -- what is so by the reply to the opening: where it was done, P of the store that it left
 abbrev pub OnceOpened : (Store → Type 0) → ReplyValue → FileMachine → FileMachine → Type 0
-OnceOpened P (replies.Refused refusal) m n = IsNotOpened m n
+OnceOpened P (replies.Refused refusal) m n = IsNotOpened refusal m n
 OnceOpened P reply m n = (opened : Store) × MakesRoom m opened × P opened
 
 abbrev pub AfterOpening : (Store → Type 0) → ListOf Replied → FileMachine → FileMachine → Type 0

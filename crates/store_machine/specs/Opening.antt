@@ -1,5 +1,5 @@
 -- An opening of a store: at first, and whenever it is asked for.
-use Rattle.std.specs.Prelude.{◌≡◌, ◌⊎◌, ℕ, ◌<◌, ◌≤◌, false, List, [], ◌∷◌, ◌++◌, Contains, Some, None, Result, Ok, Err, option_map}
+use Rattle.std.specs.Prelude.{◌≡◌, ◌≢◌, ◌⊎◌, ℕ, ◌<◌, ◌≤◌, false, List, [], ◌∷◌, ◌++◌, Contains, Some, None, Result, Ok, Err, option_map}
 use Rattle.std.specs.List.{AllByRecursion}
 use Rattle.std.specs.FinMap as finite
 use Rattle.disk_format.specs.declared.numbers.TheConstants.{RESERVE}
@@ -75,7 +75,7 @@ module _ {V R : Type 0} (v : Values V R) where
   MayRefuseOpening (Missing key) = ¬ v.Known
   MayRefuseOpening refusal = ⊥
 
-  -- A store that stands had too few closed slots, and some of its containers were given back, the one of the least id first, none of which
+  -- A store that stands had too few closed slots, and some of its containers were given back, one at least, the one of the least id first, none of which
   -- the names need that may be found.
   pub record IsGivenBack (m : Machine V R) (t : Store) : Type 0 where
     pub found : Found V
@@ -85,15 +85,16 @@ module _ {V R : Type 0} (v : Values V R) where
     pub named : IsNamedBy found before
     pub few : free_slots before.held < RESERVE
     pub freed : List ℕ
+    pub some : freed ≢ []
     pub frees : FreesSome (NamesNeed v found) freed before
     pub left : t ≡ with_all_freed freed before
 
-  -- so the store is one of these, and then the opening was refused
-  abbrev pub GivesBackSome : Machine V R → Machine V R → Type 0
-  GivesBackSome m n = (stores : List Store) × (n ≡ record m { state = freeing stores m.state })
-      × (v.Known → AllByRecursion (IsGivenBack m) stores)
+  -- So the store is one of these, and then the opening was refused. There may be none only where a write failed.
+  abbrev pub GivesBackSome : Refusal → Machine V R → Machine V R → Type 0
+  GivesBackSome refusal m n = (stores : List Store) × (n ≡ record m { state = freeing stores m.state })
+      × (stores ≡ [] → refusal ≡ DiskWrite) × (v.Known → AllByRecursion (IsGivenBack m) stores)
 
   abbrev pub Reopens : Result Done Refusal → Machine V R → Machine V R → Type 0
   Reopens (Ok (done.Reopened files)) m n = Opens files m n
   Reopens (Ok answer) m n = ⊥
-  Reopens (Err refusal) m n = MayRefuseOpening refusal × ((n ≡ m) ⊎ GivesBackSome m n)
+  Reopens (Err refusal) m n = MayRefuseOpening refusal × ((n ≡ m) ⊎ GivesBackSome refusal m n)

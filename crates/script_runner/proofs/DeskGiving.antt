@@ -177,7 +177,7 @@ module _ (F : Fitted) (r : RunnerState F.C) (d : Desk F.V F.R) (at : AtDesk F d 
                 given_is = refl;
                 answers_are = refl;
                 ended_is = begins.3.ongoing;
-                owns = one.keeps.begun answer refl refl;
+                owns = one.keeps.begun answer below refl refl;
               }) one.others (gives_still x below)
               (λ c k differs owns. one.keeps.others c k differs owns);
         }

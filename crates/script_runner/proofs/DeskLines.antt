@@ -1,5 +1,5 @@
 -- Each line that is run is one of a machine that fits the core; and so of the machine of roots, on any disk.
-use Rattle.std.proofs.Common.{◌≡◌, ◌∙◌, ℕ, zero, suc, false, List, [], ◌∷◌, ◌++◌, length, slice_index_or, replicate, Option, Some, None, refl, sym, ap, subst}
+use Rattle.std.proofs.Common.{◌≡◌, ◌∙◌, ℕ, Bool, zero, suc, false, List, [], ◌∷◌, ◌++◌, length, slice_index_or, replicate, Option, Some, None, refl, sym, ap, subst}
 use Rattle.std.proofs.lemmas.List.{length-replicate}
 use Rattle.disk_format.specs.Cells.{Root}
 use Rattle.dd_disk.specs.View.{DiskView}
@@ -41,7 +41,7 @@ use Rattle.script_runner.proofs.Fitting.{AtDesk, Fitted, Fitting, IsOfGiven, Kee
 -- ---- a machine that fits
 
 module _ (F : Fitted) (r s : RunnerState F.C) (d : Desk F.V F.R) (at : AtDesk F d r)
-    (allowed : (a : ℕ) (t : Session) → machine.session_of F.v d a ≡ Some t → F.Allowed t.given) where
+    (allowed : (a : ℕ) (t : Session) → machine.session_of F.v d a ≡ Some t → F.Allowed t.given t.ended) where
   open F use {V, R, v, C, state, Fits, Owns, Allowed, fitting}
 
   pub line_runs : (line : LineValue) (reply : ReplyValue) → IsOfActor line → RunsLine C state line reply r s → Leads F line reply d s
@@ -80,15 +80,15 @@ module _ (F : Fitted) (r s : RunnerState F.C) (d : Desk F.V F.R) (at : AtDesk F 
 -- ---- the machine of roots
 
 -- any bytes may be given, and nothing is said of what is kept
-abbrev Any : List ℕ → Type 0
-Any given = Unit {0}
+abbrev Any : List ℕ → Bool → Type 0
+Any given ended = Unit {0}
 
 keeps_any : (e : Event) (m n : Machine Root (List Top)) (old new : CoreState) → Keeps OwnsAny e m n old new
 keeps_any e m n old new = record {
   others = λ b k differs owns. tt;
   quiet = λ k quiet owns. tt;
   refused = λ k refusal is owns. tt;
-  begun = λ answer step is. tt;
+  begun = λ answer below step is. tt;
   turned = λ x h answer has asks is told owns. tt;
 }
 

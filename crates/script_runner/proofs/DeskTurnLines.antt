@@ -90,7 +90,7 @@ done_runs None e answer old new is does step = is
 done_runs (Some stop) e answer old new is does step = absurd (let both = sym does ∙ step.answer_is in cc)
 
 module _ (F : Fitted) (r : RunnerState F.C) (d : Desk F.V F.R) (at : AtDesk F d r) (s : RunnerState F.C)
-    (a : ℕ) (below : a < ACTORS) (allowed : (b : ℕ) (t : Session) → machine.session_of F.v d b ≡ Some t → F.Allowed t.given) where
+    (a : ℕ) (below : a < ACTORS) (allowed : (b : ℕ) (t : Session) → machine.session_of F.v d b ≡ Some t → F.Allowed t.given t.ended) where
   open F use {V, R, v, C, state, Fits, Owns, Allowed, fitting}
 
   abbrev owned : Machine V R → C → Kept → Type 0
@@ -298,7 +298,7 @@ module _ (F : Fitted) (r : RunnerState F.C) (d : Desk F.V F.R) (at : AtDesk F d 
         make answer buf step =
             makes F (record { actor = a; step = steps.Commit name root; answer = answer; buf = buf }) went.t.given mid s.core went.next went.runs went.fits (
               y,
-              taken_of Allowed (owned went.next mid) went.t y went.is (subst Allowed (sym went.given_is) (allowed a wrote.s wrote.there)),
+              taken_of Allowed (owned went.next mid) went.t y went.is went.allowed,
               ready,
               root_so
                   (owned went.next mid) went.t y root went.is ready,

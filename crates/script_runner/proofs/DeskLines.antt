@@ -108,12 +108,12 @@ asked_so P (steps.GcStart percent) given right = refl
 asked_so P steps.GcStep given right = refl
 asked_so P steps.Stat given right = refl
 
-runs_by : (count : ℕ) (m : RunState Root) (stop : Option Stop) → SameStop count m stop → stop ≡ None → m ≡ Running
+pub runs_by : (count : ℕ) (m : RunState Root) (stop : Option Stop) → SameStop count m stop → stop ≡ None → m ≡ Running
 runs_by count Running stop same none = refl
 runs_by count (Stopped other stores) (Some stop) same none = absurd cc
 runs_by count (Stopped other stores) None same none = absurd same
 
-stops_by : (count : ℕ) (m : RunState Root) (o : Option Stop) (stop : Stop) → SameStop count m o → o ≡ Some stop
+pub stops_by : (count : ℕ) (m : RunState Root) (o : Option Stop) (stop : Stop) → SameStop count m o → o ≡ Some stop
     → ((other : _) × (stores : _) × (m ≡ Stopped other stores)) × (stop.at ≡ count)
 stops_by count Running (Some other) stop same is = absurd same
 stops_by count Running None stop same is = absurd cc
@@ -126,7 +126,7 @@ part_kind (Writing pins) (core_parts.Writing others) same = refl
 part_kind (Reading root rest) (core_parts.Reading reader) same = refl
 part_kind p q same = absurd same
 
-part_kinds : (ps : List (Part Root (List Top))) (qs : List core_part.Part) → SameParts ps qs → (a : ℕ) → kind_of (slice_index_or ps a Idle) ≡ core_kinds.kind_of (part_of qs a)
+pub part_kinds : (ps : List (Part Root (List Top))) (qs : List core_part.Part) → SameParts ps qs → (a : ℕ) → kind_of (slice_index_or ps a Idle) ≡ core_kinds.kind_of (part_of qs a)
 unfolding part_of
 part_kinds [] [] same a = refl
 part_kinds [] (q ∷ qs) same a = absurd same

@@ -27,6 +27,8 @@ pub mod DeskTurnLines
 pub mod DeskTurns
 pub mod Disturbing
 pub mod FaultsCounted
+pub mod FilePins
+pub mod FileTurns
 pub mod Filled
 pub mod Fitting
 pub mod Harmless

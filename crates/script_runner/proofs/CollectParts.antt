@@ -89,7 +89,7 @@ module _ (S : List ℕ → Type 0) (s : Store) (stored : Stored) (old new : Core
   told = then.stands.known.1
 
   -- a segment whose key is needed
-  needed_held : (seg : KindSegment) → IsNeeded s old.parts image (segment_key seg.kind seg.segment) → IsHeldIn seg old → IsHeldIn seg new
+  pub needed_held : (seg : KindSegment) → IsNeeded s old.parts image (segment_key seg.kind seg.segment) → IsHeldIn seg old → IsHeldIn seg new
   needed_held seg needed held =
       let key : List ℕ = segment_key seg.kind seg.segment in
       let has : HasKey at.index key = held.indexed at.index at.index_known in
@@ -105,7 +105,7 @@ module _ (S : List ℕ → Type 0) (s : Store) (stored : Stored) (old new : Core
 
     -- ---- a file that is given
 
-    pin_needed : (pins : PinMap) (key : List ℕ) (pin : Pin) → part_of old.parts actor ≡ core_parts.Writing pins → finite.get pins key ≡ Some pin → IsNeeded s old.parts image key
+    pub pin_needed : (pins : PinMap) (key : List ℕ) (pin : Pin) → part_of old.parts actor ≡ core_parts.Writing pins → finite.get pins key ≡ Some pin → IsNeeded s old.parts image key
     pin_needed pins key pin is found =
         let whole = pinned_whole at.index s stored.files image holds pins (held_as (core_parts.Writing pins) is) key pin found in
         record {

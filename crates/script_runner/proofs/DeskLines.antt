@@ -1,5 +1,5 @@
 -- Each line that is run is one of a machine that fits the core; and so of the machine of roots, on any disk.
-use Rattle.std.proofs.Common.{◌≡◌, ◌∙◌, ℕ, zero, suc, false, List, [], ◌∷◌, ◌++◌, length, slice_index_or, replicate, Option, Some, None, refl, sym, ap, subst}
+use Rattle.std.proofs.Common.{◌≡◌, ◌∙◌, ℕ, Bool, zero, suc, false, List, [], ◌∷◌, ◌++◌, length, slice_index_or, replicate, Option, Some, None, refl, sym, ap, subst}
 use Rattle.std.proofs.lemmas.List.{length-replicate}
 use Rattle.disk_format.specs.Cells.{Root}
 use Rattle.dd_disk.specs.View.{DiskView}
@@ -41,7 +41,7 @@ use Rattle.script_runner.proofs.Fitting.{AtDesk, Fitted, Fitting, IsOfGiven, Kee
 -- ---- a machine that fits
 
 module _ (F : Fitted) (r s : RunnerState F.C) (d : Desk F.V F.R) (at : AtDesk F d r)
-    (allowed : (a : ℕ) (t : Session) → machine.session_of F.v d a ≡ Some t → F.Allowed t.given) where
+    (allowed : (a : ℕ) (t : Session) → machine.session_of F.v d a ≡ Some t → F.Allowed t.given t.ended) where
   open F use {V, R, v, C, state, Fits, Owns, Allowed, fitting}
 
   pub line_runs : (line : LineValue) (reply : ReplyValue) → IsOfActor line → RunsLine C state line reply r s → Leads F line reply d s
@@ -80,8 +80,8 @@ module _ (F : Fitted) (r s : RunnerState F.C) (d : Desk F.V F.R) (at : AtDesk F 
 -- ---- the machine of roots
 
 -- any bytes may be given, and nothing is said of what is kept
-abbrev Any : List ℕ → Type 0
-Any given = Unit {0}
+abbrev Any : List ℕ → Bool → Type 0
+Any given ended = Unit {0}
 
 keeps_any : (e : Event) (m n : Machine Root (List Top)) (old new : CoreState) → Keeps OwnsAny e m n old new
 keeps_any e m n old new = record {
@@ -89,7 +89,7 @@ keeps_any e m n old new = record {
   quiet = λ k quiet owns. tt;
   refused = λ k refusal is owns. tt;
   begun = λ answer below step is. tt;
-  turned = λ x h answer below has settled asks is told owns. tt;
+  turned = λ x h answer has asks is told owns. tt;
 }
 
 -- a commit asks for the root of what was given
@@ -108,12 +108,12 @@ asked_so P (steps.GcStart percent) given right = refl
 asked_so P steps.GcStep given right = refl
 asked_so P steps.Stat given right = refl
 
-runs_by : (count : ℕ) (m : RunState Root) (stop : Option Stop) → SameStop count m stop → stop ≡ None → m ≡ Running
+pub runs_by : (count : ℕ) (m : RunState Root) (stop : Option Stop) → SameStop count m stop → stop ≡ None → m ≡ Running
 runs_by count Running stop same none = refl
 runs_by count (Stopped other stores) (Some stop) same none = absurd cc
 runs_by count (Stopped other stores) None same none = absurd same
 
-stops_by : (count : ℕ) (m : RunState Root) (o : Option Stop) (stop : Stop) → SameStop count m o → o ≡ Some stop
+pub stops_by : (count : ℕ) (m : RunState Root) (o : Option Stop) (stop : Stop) → SameStop count m o → o ≡ Some stop
     → ((other : _) × (stores : _) × (m ≡ Stopped other stores)) × (stop.at ≡ count)
 stops_by count Running (Some other) stop same is = absurd same
 stops_by count Running None stop same is = absurd cc
@@ -126,7 +126,7 @@ part_kind (Writing pins) (core_parts.Writing others) same = refl
 part_kind (Reading root rest) (core_parts.Reading reader) same = refl
 part_kind p q same = absurd same
 
-part_kinds : (ps : List (Part Root (List Top))) (qs : List core_part.Part) → SameParts ps qs → (a : ℕ) → kind_of (slice_index_or ps a Idle) ≡ core_kinds.kind_of (part_of qs a)
+pub part_kinds : (ps : List (Part Root (List Top))) (qs : List core_part.Part) → SameParts ps qs → (a : ℕ) → kind_of (slice_index_or ps a Idle) ≡ core_kinds.kind_of (part_of qs a)
 unfolding part_of
 part_kinds [] [] same a = refl
 part_kinds [] (q ∷ qs) same a = absurd same

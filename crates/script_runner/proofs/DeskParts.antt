@@ -1,6 +1,9 @@
 -- What a step leaves of who gives a file.
-use Rattle.std.proofs.Common.{◌≡◌, ◌≢◌, ◌∙◌, ℕ, List, Option, Some, None, Result, Ok, Err, refl, ap, subst}
+use Rattle.std.proofs.Common.{◌≡◌, ◌≢◌, ◌∙◌, ℕ, List, Option, Some, None, Result, Ok, Err, refl, sym, ap, subst}
+use Rattle.disk_format.specs.Cells.{Root}
+use Rattle.merkle_file.specs.declared.top.Top.{Top}
 use Rattle.actor_parts.specs.declared.part.Part as core_part
+use Rattle.actor_parts.specs.declared.part.Part.TheVariants as core_parts
 use Rattle.actor_parts.specs.declared.step.Answer.{Answer}
 use Rattle.actor_parts.specs.declared.step.Answer.TheVariants as answers
 use Rattle.actor_parts.specs.Kinds.{kind_of}
@@ -11,6 +14,7 @@ use Rattle.actor_parts.proofs.Apart.{apart}
 use Rattle.refusals.specs.declared.refusal.PartKind.TheVariants as kinds
 use Rattle.refusals.specs.declared.refusal.Refusal.{Refusal}
 use Rattle.refusals.specs.declared.refusal.Refusal.TheVariants as refusals
+use Rattle.read_steps.specs.Readers as readers
 use Rattle.read_steps.specs.Readers.{IsReadRefusal}
 use Rattle.store_core.specs.declared.stop.Stop.{Stop}
 use Rattle.store_core.specs.Core.{CoreStep, DeleteRow, EndRow, ListRow, OpenRow, ReadRow, Row, StatRow, StepsOr}
@@ -47,6 +51,10 @@ IsQuiet steps.GcStep = Unit {0}
 IsQuiet steps.Stat = Unit {0}
 IsQuiet step = ⊥
 
+-- an actor that stores a file is at what it was at
+abbrev pub KeepsWriting : ℕ → List core_part.Part → List core_part.Part → Type 0
+KeepsWriting a old new = kind_of (part_of old a) ≡ kinds.Writing → part_of new a ≡ part_of old a
+
 -- an actor that writes did so before
 abbrev pub WroteBefore : ℕ → List core_part.Part → List core_part.Part → Type 0
 WroteBefore a old new = kind_of (part_of new a) ≡ kinds.Writing → kind_of (part_of old a) ≡ kinds.Writing
@@ -54,77 +62,129 @@ WroteBefore a old new = kind_of (part_of new a) ≡ kinds.Writing → kind_of (p
 pub same_wrote : (a : ℕ) (old new : List core_part.Part) → new ≡ old → WroteBefore a old new
 same_wrote a old new same writes = subst (λ (parts : List core_part.Part). kind_of (part_of parts a) ≡ kinds.Writing) same writes
 
-put_wrote : (a : ℕ) (old new : List core_part.Part) (p : core_part.Part) → kind_of p ≢ kinds.Writing → new ≡ with_part old a p → WroteBefore a old new
-put_wrote a old new p quiet is writes = absurd (put_quiet old a p quiet (subst (λ (parts : List core_part.Part). kind_of (part_of parts a) ≡ kinds.Writing) is writes))
+-- it is as it was, if it stores a file, and stores none if it did not
+abbrev Rests : ℕ → List core_part.Part → List core_part.Part → Type 0
+Rests a old new = WroteBefore a old new × KeepsWriting a old new
+
+same_rests : (a : ℕ) (old new : List core_part.Part) → new ≡ old → Rests a old new
+same_rests a old new same = (same_wrote a old new same, λ writes. ap (λ (parts : List core_part.Part). part_of parts a) same)
+
+put_rests : (a : ℕ) (old new : List core_part.Part) (p : core_part.Part) → kind_of p ≢ kinds.Writing → kind_of (part_of old a) ≢ kinds.Writing → new ≡ with_part old a p → Rests a old new
+put_rests a old new p quiet none is = (
+  λ writes. absurd (put_quiet old a p quiet (subst (λ (parts : List core_part.Part). kind_of (part_of parts a) ≡ kinds.Writing) is writes)),
+  λ writes. absurd (none writes),
+)
+
+-- so it is of one that read
+reads_none : (p : core_part.Part) → readers.IsReading p → kind_of p ≢ kinds.Writing
+reads_none (core_parts.Reading reader) is = λ same. cc
+reads_none p is = absurd is
+
+reader_none : (p : core_part.Part) (root : Root) (ahead : List Top) → p ≡ readers.reading root ahead → kind_of p ≢ kinds.Writing
+reader_none p root ahead is = reads_none p (subst readers.IsReading (sym is) tt)
+
+idle_none : (p : core_part.Part) → p ≡ core_parts.Idle → kind_of p ≢ kinds.Writing
+idle_none p is writes = let wrong = sym (ap kind_of is) ∙ writes in absurd cc
 
 module _ (a : ℕ) (buf : List ℕ) (old new : CoreState) where
-  abbrev Wrote : Type 0
-  Wrote = WroteBefore a old.parts new.parts
+  abbrev Rested : Type 0
+  Rested = Rests a old.parts new.parts
 
-  open_wrote : (name : List ℕ) (answer : Result Answer Refusal) → OpenRow name a answer old new → Wrote
-  open_wrote name (Ok (answers.Opened count)) row = put_wrote a old.parts new.parts _ (λ is. cc) row.opens.parts_are
-  open_wrote name (Err refusal) row = same_wrote a old.parts new.parts row.1
-  open_wrote name answer row = absurd row
+  open_rests : (name : List ℕ) (answer : Result Answer Refusal) → OpenRow name a answer old new → Rested
+  open_rests name (Ok (answers.Opened count)) row = put_rests a old.parts new.parts _ (λ is. cc) (idle_none (part_of old.parts a) row.opens.idle) row.opens.parts_are
+  open_rests name (Err refusal) row = same_rests a old.parts new.parts row.1
+  open_rests name answer row = absurd row
 
-  stuck_wrote : (refusal : Refusal) → IsReadRefusal old.known old.breaks old.disk new.disk a old.parts new.parts refusal → Wrote
-  stuck_wrote (refusals.WrongPart kind) cause = same_wrote a old.parts new.parts cause.same
-  stuck_wrote refusal cause = put_wrote a old.parts new.parts _ (λ is. cc) cause.goes_on.parts_are
+  goes_rests : (before after : List Top) → readers.GoesOn a old.parts new.parts before after → Rested
+  goes_rests before after goes = put_rests a old.parts new.parts _ (λ is. cc) (reader_none (part_of old.parts a) goes.root before goes.part_is) goes.parts_are
 
-  read_wrote : (answer : Result Answer Refusal) → ReadRow a answer buf old new → Wrote
-  read_wrote (Ok (answers.Bytes count)) row = put_wrote a old.parts new.parts _ (λ is. cc) row.next.goes_on.parts_are
-  read_wrote (Ok answers.End) row = put_wrote a old.parts new.parts _ (λ is. cc) row.next.goes_on.parts_are
-  read_wrote (Err refusal) row = stuck_wrote refusal row.cause
-  read_wrote answer row = absurd row
+  stuck_rests : (refusal : Refusal) → IsReadRefusal old.known old.breaks old.disk new.disk a old.parts new.parts refusal → Rested
+  stuck_rests (refusals.WrongPart kind) cause = same_rests a old.parts new.parts cause.same
+  stuck_rests refusal cause = goes_rests cause.was cause.rest cause.goes_on
 
-  end_wrote : (answer : Result Answer Refusal) → EndRow a answer old new → Wrote
-  end_wrote (Ok answers.Dropped) row = put_wrote a old.parts new.parts _ (λ is. cc) row.parts_are
-  end_wrote (Err (refusals.WrongPart kind)) row = same_wrote a old.parts new.parts row.same
-  end_wrote answer row = absurd row
+  read_rests : (answer : Result Answer Refusal) → ReadRow a answer buf old new → Rested
+  read_rests (Ok (answers.Bytes count)) row = goes_rests row.next.was row.next.rest row.next.goes_on
+  read_rests (Ok answers.End) row = goes_rests row.next.was row.next.rest row.next.goes_on
+  read_rests (Err refusal) row = stuck_rests refusal row.cause
+  read_rests answer row = absurd row
 
-  stat_wrote : (answer : Result Answer Refusal) → StatRow answer old new → Wrote
-  stat_wrote (Ok answer) row = same_wrote a old.parts new.parts row.1
-  stat_wrote (Err refusal) row = absurd row
+  end_rests : (answer : Result Answer Refusal) → EndRow a answer old new → Rested
+  end_rests (Ok answers.Dropped) row = put_rests a old.parts new.parts _ (λ is. cc) (reads_none (part_of old.parts a) row.was_reading) row.parts_are
+  end_rests (Err (refusals.WrongPart kind)) row = same_rests a old.parts new.parts row.same
+  end_rests answer row = absurd row
 
-  delete_wrote : (name : List ℕ) (answer : Result Answer Refusal) → DeleteRow name answer old new → Wrote
-  delete_wrote name (Ok (answers.Deleted sequence)) row = same_wrote a old.parts new.parts row.2
-  delete_wrote name (Err refusal) row = same_wrote a old.parts new.parts row.1
-  delete_wrote name answer row = absurd row
+  stat_rests : (answer : Result Answer Refusal) → StatRow answer old new → Rested
+  stat_rests (Ok answer) row = same_rests a old.parts new.parts row.1
+  stat_rests (Err refusal) row = absurd row
 
-  list_wrote : (answer : Result Answer Refusal) → ListRow answer old new → Wrote
-  list_wrote (Ok (answers.Listed files)) row = same_wrote a old.parts new.parts row.1
-  list_wrote (Err refusals.Memory) row = same_wrote a old.parts new.parts row
-  list_wrote answer row = absurd row
+  delete_rests : (name : List ℕ) (answer : Result Answer Refusal) → DeleteRow name answer old new → Rested
+  delete_rests name (Ok (answers.Deleted sequence)) row = same_rests a old.parts new.parts row.2
+  delete_rests name (Err refusal) row = same_rests a old.parts new.parts row.1
+  delete_rests name answer row = absurd row
 
-  start_wrote : (percent : ℕ) (answer : Result Answer Refusal) → StartRow percent answer old new → Wrote
-  start_wrote percent (Ok (answers.Started snapshot)) row = same_wrote a old.parts new.parts row.1
-  start_wrote percent (Err (refusals.Collecting phase)) row = same_wrote a old.parts new.parts row.2
-  start_wrote percent (Err refusal) row = same_wrote a old.parts new.parts row.parts_are
-  start_wrote percent answer row = absurd row
+  list_rests : (answer : Result Answer Refusal) → ListRow answer old new → Rested
+  list_rests (Ok (answers.Listed files)) row = same_rests a old.parts new.parts row.1
+  list_rests (Err refusals.Memory) row = same_rests a old.parts new.parts row
+  list_rests answer row = absurd row
 
-  gc_wrote : (answer : Result Answer Refusal) → GcRow answer old new → Wrote
-  gc_wrote (Ok (answers.Did phase)) row = same_wrote a old.parts new.parts row.1
-  gc_wrote (Ok (answers.Done freed copied)) row = same_wrote a old.parts new.parts row.1
-  gc_wrote (Err refusals.NotCollecting) row = same_wrote a old.parts new.parts row.1
-  gc_wrote (Err refusal) row = same_wrote a old.parts new.parts row.1
-  gc_wrote answer row = absurd row
+  start_rests : (percent : ℕ) (answer : Result Answer Refusal) → StartRow percent answer old new → Rested
+  start_rests percent (Ok (answers.Started snapshot)) row = same_rests a old.parts new.parts row.1
+  start_rests percent (Err (refusals.Collecting phase)) row = same_rests a old.parts new.parts row.2
+  start_rests percent (Err refusal) row = same_rests a old.parts new.parts row.parts_are
+  start_rests percent answer row = absurd row
 
-  row_wrote : (step : StepValue) (answer : Result Answer Refusal) → IsQuiet step → Row step a answer buf old new → Wrote
-  row_wrote (steps.OpenRead name) answer quiet row = open_wrote name answer row
-  row_wrote steps.ReadNext answer quiet row = read_wrote answer row
-  row_wrote steps.EndRead answer quiet row = end_wrote answer row
-  row_wrote (steps.Delete name) answer quiet row = delete_wrote name answer row
-  row_wrote steps.ListNames answer quiet row = list_wrote answer row
-  row_wrote (steps.GcStart percent) answer quiet row = start_wrote percent answer row
-  row_wrote steps.GcStep answer quiet row = gc_wrote answer row
-  row_wrote steps.Stat answer quiet row = stat_wrote answer row
-  row_wrote step answer quiet row = absurd quiet
+  gc_rests : (answer : Result Answer Refusal) → GcRow answer old new → Rested
+  gc_rests (Ok (answers.Did phase)) row = same_rests a old.parts new.parts row.1
+  gc_rests (Ok (answers.Done freed copied)) row = same_rests a old.parts new.parts row.1
+  gc_rests (Err refusals.NotCollecting) row = same_rests a old.parts new.parts row.1
+  gc_rests (Err refusal) row = same_rests a old.parts new.parts row.1
+  gc_rests answer row = absurd row
+
+  row_rests : (step : StepValue) (answer : Result Answer Refusal) → IsQuiet step → Row step a answer buf old new → Rested
+  row_rests (steps.OpenRead name) answer quiet row = open_rests name answer row
+  row_rests steps.ReadNext answer quiet row = read_rests answer row
+  row_rests steps.EndRead answer quiet row = end_rests answer row
+  row_rests (steps.Delete name) answer quiet row = delete_rests name answer row
+  row_rests steps.ListNames answer quiet row = list_rests answer row
+  row_rests (steps.GcStart percent) answer quiet row = start_rests percent answer row
+  row_rests steps.GcStep answer quiet row = gc_rests answer row
+  row_rests steps.Stat answer quiet row = stat_rests answer row
+  row_rests step answer quiet row = absurd quiet
+
+  -- so it is after each step that was refused
+  refused_rests : (step : StepValue) (refusal : Refusal) → Row step a (Err refusal) buf old new → Rested
+  refused_rests steps.Begin refusal row = same_rests a old.parts new.parts row.1
+  refused_rests (steps.Claim seg) refusal row = same_rests a old.parts new.parts row.1
+  refused_rests (steps.Seal filled) refusal row = same_rests a old.parts new.parts row.1
+  refused_rests (steps.Commit name root) refusal row = same_rests a old.parts new.parts row.1
+  refused_rests steps.Abort refusal row = same_rests a old.parts new.parts row.1
+  refused_rests (steps.OpenRead name) refusal row = row_rests (steps.OpenRead name) (Err refusal) tt row
+  refused_rests steps.ReadNext refusal row = row_rests steps.ReadNext (Err refusal) tt row
+  refused_rests steps.EndRead refusal row = row_rests steps.EndRead (Err refusal) tt row
+  refused_rests (steps.Delete name) refusal row = row_rests (steps.Delete name) (Err refusal) tt row
+  refused_rests steps.ListNames refusal row = row_rests steps.ListNames (Err refusal) tt row
+  refused_rests (steps.GcStart percent) refusal row = row_rests (steps.GcStart percent) (Err refusal) tt row
+  refused_rests steps.GcStep refusal row = row_rests steps.GcStep (Err refusal) tt row
+  refused_rests steps.Stat refusal row = row_rests steps.Stat (Err refusal) tt row
 
 module _ (e : Event) (old new : CoreState) where
-  own_by : (stop : Option Stop) → IsQuiet e.step → StepsOr stop e old new → WroteBefore e.actor old.parts new.parts
-  own_by (Some stop) quiet step = same_wrote e.actor old.parts new.parts step.same.parts_are
-  own_by None quiet step = row_wrote e.actor e.buf old new e.step e.answer quiet step.made.row
+  own_by : (stop : Option Stop) → IsQuiet e.step → StepsOr stop e old new → Rests e.actor old.parts new.parts
+  own_by (Some stop) quiet step = same_rests e.actor old.parts new.parts step.same.parts_are
+  own_by None quiet step = row_rests e.actor e.buf old new e.step e.answer quiet step.made.row
 
   -- such a step leaves it so that who stores a file gives it
   pub quiet_gives : (xs : Sessions) → IsQuiet e.step → CoreStep old e new → WritersGive xs old.parts → WritersGive xs new.parts
   quiet_gives xs quiet step gives =
-      gives_on e.actor xs xs old.parts new.parts gives (λ b differs. refl) (others_stay e old new step) (λ none writes. gives e.actor none (own_by old.stop quiet step writes))
+      gives_on e.actor xs xs old.parts new.parts gives (λ b differs. refl) (others_stay e old new step) (λ none writes. gives e.actor none ((own_by old.stop quiet step).0 writes))
+
+  -- and one that stores a file at what it was at
+  pub quiet_keeps : IsQuiet e.step → CoreStep old e new → KeepsWriting e.actor old.parts new.parts
+  quiet_keeps quiet step = (own_by old.stop quiet step).1
+
+  refused_by : (stop : Option Stop) (refusal : Refusal) → e.answer ≡ Err refusal → StepsOr stop e old new → Rests e.actor old.parts new.parts
+  refused_by (Some stop) refusal is step = same_rests e.actor old.parts new.parts step.same.parts_are
+  refused_by None refusal is step =
+      refused_rests e.actor e.buf old new e.step refusal (subst (λ (answer : Result Answer Refusal). Row e.step e.actor answer e.buf old new) is step.made.row)
+
+  pub refused_keeps : (refusal : Refusal) → e.answer ≡ Err refusal → CoreStep old e new → KeepsWriting e.actor old.parts new.parts
+  refused_keeps refusal is step = (refused_by old.stop refusal is step).1

@@ -90,7 +90,7 @@ done_runs None e answer old new is does step = is
 done_runs (Some stop) e answer old new is does step = absurd (let both = sym does ∙ step.answer_is in cc)
 
 module _ (F : Fitted) (r : RunnerState F.C) (d : Desk F.V F.R) (at : AtDesk F d r) (s : RunnerState F.C)
-    (a : ℕ) (below : a < ACTORS) (allowed : (b : ℕ) (t : Session) → machine.session_of F.v d b ≡ Some t → F.Allowed t.given) where
+    (a : ℕ) (below : a < ACTORS) (allowed : (b : ℕ) (t : Session) → machine.session_of F.v d b ≡ Some t → F.Allowed t.given t.ended) where
   open F use {V, R, v, C, state, Fits, Owns, Allowed, fitting}
 
   abbrev owned : Machine V R → C → Kept → Type 0
@@ -137,7 +137,7 @@ module _ (F : Fitted) (r : RunnerState F.C) (d : Desk F.V F.R) (at : AtDesk F d 
               (λ c differs. ap (λ (core : C). part_of (state core).parts c) none.3) (λ c k differs owns. subst (λ (core : C). Owns c k d.machine (state core)) (sym none.3) owns);
         }
     turn_done b told same (Some answer) told_is turn =
-        let one = turn_made F a below answer was.s x y d.machine r.core s.core was.is (allowed a was.s was.there) at.runs at.fits turn in
+        let one = turn_made F a answer was.s x y d.machine r.core s.core was.is (allowed a was.s was.there) at.runs at.fits turn in
         let replied : Result Done Refusal = answered_by (Ok answer) one.buf in
         record {
           ss = step_of v a (asked_as (λ root. v.of was.s.given) one.step) replied ∷ [];
@@ -161,7 +161,7 @@ module _ (F : Fitted) (r : RunnerState F.C) (d : Desk F.V F.R) (at : AtDesk F d 
 
     turn_not_done : (refusal : Refusal) → TakesTurn C state a (Err refusal) x y r.core s.core → Turns (replies.Refused refusal)
     turn_not_done refusal refused =
-        let one = turn_refused F a below [] refusal was.s x y d.machine r.core s.core was.is (allowed a was.s was.there) at.runs at.fits refused in
+        let one = turn_refused F a [] refusal was.s x y d.machine r.core s.core was.is (allowed a was.s was.there) at.runs at.fits refused in
         record {
           ss = one.more;
           next = record { machine = one.next; sessions = machine.with_session v a (Some was.s) d };
@@ -195,7 +195,7 @@ module _ (F : Fitted) (r : RunnerState F.C) (d : Desk F.V F.R) (at : AtDesk F d 
       pushed : (b count : ℕ) → b ≡ a → Feeds C state a (Ok tt) bytes x y r.core s.core → count ≡ y.count → Pushes (replies.Pushed b count)
       pushed b count same feeds counts =
           let mid : SessionState = feeds.1 in
-          let went = turns_made F a below feeds.0 gave.s x mid d.machine r.core s.core gave.is (allowed a gave.s gave.there) at.runs at.fits feeds.2 in
+          let went = turns_made F a feeds.0 gave.s x mid d.machine r.core s.core gave.is (allowed a gave.s gave.there) at.runs at.fits feeds.2 in
           let h : History = went.is.history in
           let has : HasHistory y (record h { given = h.given ++ bytes }) = feeds.4 h went.is.has in
           let given_is : h.given ++ bytes ≡ went.t.given ++ bytes = ap (λ (l : List ℕ). l ++ bytes) went.is.given_is in
@@ -230,7 +230,7 @@ module _ (F : Fitted) (r : RunnerState F.C) (d : Desk F.V F.R) (at : AtDesk F d 
 
       not_pushed : (refusal : Refusal) → x.ended ≡ false → Feeds C state a (Err refusal) bytes x y r.core s.core → Pushes (replies.Refused refusal)
       not_pushed refusal on (inl stopped) =
-          let stop = turns_stop F a below refusal gave.s x y d.machine r.core s.core gave.is (allowed a gave.s gave.there) at.runs at.fits stopped.0 in
+          let stop = turns_stop F a refusal gave.s x y d.machine r.core s.core gave.is (allowed a gave.s gave.there) at.runs at.fits stopped.0 in
           record {
             ss = stop.ss;
             next = record { machine = stop.next; sessions = machine.with_session v a (Some stop.t) d };
@@ -239,7 +239,7 @@ module _ (F : Fitted) (r : RunnerState F.C) (d : Desk F.V F.R) (at : AtDesk F d 
             stays = giving stop.next stop.t y sessions stop.is stop.fits stop.runs stop.others stop.stays;
           }
       not_pushed refusal on (inr long) =
-          let went = turns_made F a below long.0 gave.s x y d.machine r.core s.core gave.is (allowed a gave.s gave.there) at.runs at.fits long.1 in
+          let went = turns_made F a long.0 gave.s x y d.machine r.core s.core gave.is (allowed a gave.s gave.there) at.runs at.fits long.1 in
           let off : y.ended ≡ false = (turns_stay C state a long.0 x y r.core s.core long.1).ended ∙ on in
           let why = why_long y (length bytes) refusal false off off long.2 in
           let count : y.count ≡ length went.t.given = (bytes_are_counted y went.is.history went.is.has).0 ∙ ap length went.is.given_is in
@@ -284,8 +284,8 @@ module _ (F : Fitted) (r : RunnerState F.C) (d : Desk F.V F.R) (at : AtDesk F d 
 
       -- after all turns
       module _ (told : List Answer) (mid : C) (run : TurnRun C state a told x y r.core mid) (root : Root) (ready : IsReady root y) where
-        went : TurnsMade F a below told wrote.s x y d.machine r.core mid run
-        went = turns_made F a below told wrote.s x y d.machine r.core mid wrote.is (allowed a wrote.s wrote.there) at.runs at.fits run
+        went : TurnsMade F a told wrote.s x y d.machine r.core mid run
+        went = turns_made F a told wrote.s x y d.machine r.core mid wrote.is (allowed a wrote.s wrote.there) at.runs at.fits run
 
         abbrev commits : Asked V
         commits = asked.Commit name (v.of went.t.given)
@@ -298,7 +298,7 @@ module _ (F : Fitted) (r : RunnerState F.C) (d : Desk F.V F.R) (at : AtDesk F d 
         make answer buf step =
             makes F (record { actor = a; step = steps.Commit name root; answer = answer; buf = buf }) went.t.given mid s.core went.next went.runs went.fits (
               y,
-              taken_of Allowed (owned went.next mid) went.t y went.is (subst Allowed (sym went.given_is) (allowed a wrote.s wrote.there)),
+              taken_of Allowed (owned went.next mid) went.t y went.is went.allowed,
               ready,
               root_so
                   (owned went.next mid) went.t y root went.is ready,
@@ -368,7 +368,7 @@ module _ (F : Fitted) (r : RunnerState F.C) (d : Desk F.V F.R) (at : AtDesk F d 
 
       put_refused : (refusal : Refusal) → s.sessions ≡ with_session r.sessions a (Some y) → RefusesPut C state a name refusal x y r.core s.core → Commits (replies.Refused refusal)
       put_refused refusal sessions (inl stopped) =
-          let stop = turns_stop F a below refusal wrote.s x y d.machine r.core s.core wrote.is (allowed a wrote.s wrote.there) at.runs at.fits stopped in
+          let stop = turns_stop F a refusal wrote.s x y d.machine r.core s.core wrote.is (allowed a wrote.s wrote.there) at.runs at.fits stopped in
           record {
             ss = stop.ss;
             next = record { machine = stop.next; sessions = machine.with_session v a (Some stop.t) d };

@@ -1,6 +1,5 @@
 -- Turns of a session as steps of a machine that fits the core, each as it was due.
-use Rattle.std.proofs.Common.{◌≡◌, ◌<◌, ◌≢◌, ◌⊎◌, inl, inr, ◌∙◌, ℕ, List, [], ◌∷◌, ◌++◌, Some, None, Result, Ok, Err, refl, sym, ap, subst}
-use Rattle.actor_parts.specs.declared.actor.TheConstants.{ACTORS}
+use Rattle.std.proofs.Common.{◌≡◌, ◌≢◌, ◌⊎◌, inl, inr, ◌∙◌, ℕ, Bool, List, [], ◌∷◌, ◌++◌, Some, None, Result, Ok, Err, refl, sym, ap, subst}
 use Rattle.actor_parts.specs.declared.step.Answer.{Answer}
 use Rattle.actor_parts.specs.declared.step.Answer.TheVariants as answers
 use Rattle.actor_parts.specs.Parts.{part_of}
@@ -47,8 +46,8 @@ paused_of P s x y is pause =
       owns = is.owns;
     }
 
-pub taken_of : (Allowed : List ℕ → Type 0) (P : Kept → Type 0) (s : Session) (x : SessionState) → IsSessionOf P s x → Allowed s.given → HasTaken Allowed P s.given x
-taken_of Allowed P s x is allowed = record { history = is.history; has = is.has; given_is = is.given_is; owns = is.owns; allowed = allowed }
+pub taken_of : (Allowed : List ℕ → Bool → Type 0) (P : Kept → Type 0) (s : Session) (x : SessionState) → IsSessionOf P s x → Allowed s.given s.ended → HasTaken Allowed P s.given x
+taken_of Allowed P s x is allowed = record { history = is.history; has = is.has; given_is = is.given_is; owns = is.owns; allowed = subst (Allowed s.given) (sym is.ended_is) allowed }
 
 -- one more answer
 abbrev pub answering : Answer → Session → Session
@@ -92,7 +91,7 @@ module _ {V R : Type 0} (v : Values V R) where
         room_last a ys (answering answer s) t x (subst (λ (b : Answer). AreTurns v a ys (answering b s) t) same turns.2.2) (room.1 answer is) crowded none,
   )
 
-module _ (F : Fitted) (a : ℕ) (below : a < ACTORS) where
+module _ (F : Fitted) (a : ℕ) where
   open F use {V, R, v, C, state, Fits, Owns, Allowed, fitting}
 
   abbrev owned : ℕ → Machine V R → C → Kept → Type 0
@@ -119,7 +118,7 @@ module _ (F : Fitted) (a : ℕ) (below : a < ACTORS) where
     pub is_asked : IsAskedFor due x step
 
   pub asks_for : (due : Due) (s : Session) (x : SessionState) (result : Result Answer Refusal) (m : Machine V R) (old new : C) → IsSessionOf (owned a m old) s x
-      → Allowed s.given → IsRunning (state old) → Fits m (state old)
+      → Allowed s.given s.ended → IsRunning (state old) → Fits m (state old)
       → Asks a due x result (state old) (state new) → AsksFor due s x result m old new
   asks_for dues.Claim s x result m old new is allowed runs fits asks = record {
     step = steps.Claim asks.0;
@@ -148,7 +147,7 @@ module _ (F : Fitted) (a : ℕ) (below : a < ACTORS) where
     pub told_is : answer_of (answered_by (Ok answer) buf) ≡ Some answer
     pub is : IsSessionOf (owned a made.next new) (answering answer s) y
 
-  pub turn_made : (answer : Answer) (s : Session) (x y : SessionState) (m : Machine V R) (old new : C) → IsSessionOf (owned a m old) s x → Allowed s.given
+  pub turn_made : (answer : Answer) (s : Session) (x y : SessionState) (m : Machine V R) (old new : C) → IsSessionOf (owned a m old) s x → Allowed s.given s.ended
       → IsRunning (state old) → Fits m (state old)
       → IsTurn a answer x y (state old) (state new) → TurnMade answer s y m old new
   turn_made answer s x y m old new is allowed runs fits turn =
@@ -168,7 +167,7 @@ module _ (F : Fitted) (a : ℕ) (below : a < ACTORS) where
           given_is = of.given_is;
           answers_are = ap (λ (l : List Answer). l ++ answer ∷ []) of.answers_are;
           ended_is = ap (λ (w : SessionState). w.ended) turn.told ∙ (told answer z).ended ∙ of.ended_is;
-          owns = asks.made.keeps.turned z of.history answer below of.has turn.settled asks.is_asked refl
+          owns = asks.made.keeps.turned z of.history answer of.has asks.is_asked refl
               (subst (λ (w : SessionState). HasHistory w (answered answer z of.history)) turn.told has) of.owns;
         };
       }
@@ -184,14 +183,14 @@ module _ (F : Fitted) (a : ℕ) (below : a < ACTORS) where
     pub turns : AreTurns v a made s t
     pub is : IsSessionOf (owned a next new) t y
     -- nothing was given
-    pub given_is : t.given ≡ s.given
+    pub allowed : Allowed t.given t.ended
     pub fits : Fits next (state new)
     pub runs : IsRunning (state new)
     pub others : (b : ℕ) → b ≢ a → part_of (state new).parts b ≡ part_of (state old).parts b
     pub stays : Stays m next old new
     pub room : AreForRoom C state a answers_are x y old new ran → machine.AreForRoom v s made
 
-  pub turns_made : (answers_are : List Answer) (s : Session) (x y : SessionState) (m : Machine V R) (old new : C) → IsSessionOf (owned a m old) s x → Allowed s.given
+  pub turns_made : (answers_are : List Answer) (s : Session) (x y : SessionState) (m : Machine V R) (old new : C) → IsSessionOf (owned a m old) s x → Allowed s.given s.ended
       → IsRunning (state old) → Fits m (state old)
       → (ran : TurnRun C state a answers_are x y old new) → TurnsMade answers_are s x y m old new ran
   turns_made [] s x y m old new is allowed runs fits ran = record {
@@ -201,7 +200,7 @@ module _ (F : Fitted) (a : ℕ) (below : a < ACTORS) where
     run = refl;
     turns = refl;
     is = paused_of (owned a m new) s x y (subst (λ (c : C). IsSessionOf (owned a m c) s x) (sym ran.1) is) ran.0;
-    given_is = refl;
+    allowed = allowed;
     fits = subst (λ (c : C). Fits m (state c)) (sym ran.1) fits;
     runs = subst (λ (c : C). IsRunning (state c)) (sym ran.1) runs;
     others = λ b differs. ap (λ (c : C). part_of (state c).parts b) ran.1;
@@ -219,7 +218,7 @@ module _ (F : Fitted) (a : ℕ) (below : a < ACTORS) where
         run = (one.made.next, (one.made.legal, rest.run));
         turns = (refl, one.due, (answer, one.told_is, rest.turns));
         is = rest.is;
-        given_is = rest.given_is;
+        allowed = rest.allowed;
         fits = rest.fits;
         runs = rest.runs;
         others = λ b differs. rest.others b differs ∙ one.made.others b differs;
@@ -252,7 +251,7 @@ module _ (F : Fitted) (a : ℕ) (below : a < ACTORS) where
   none_more (z ∷ zs) = ap (λ (l : List (Stepped V)). z ∷ l) (none_more zs)
 
   pub turn_refused : (made : List (Stepped V)) (refusal : Refusal) (t : Session) (x y : SessionState) (m : Machine V R) (old new : C) → IsSessionOf (owned a m old) t x
-      → Allowed t.given → IsRunning (state old) → Fits m (state old)
+      → Allowed t.given t.ended → IsRunning (state old) → Fits m (state old)
       → ((refusal ≡ refusals.Memory) × IsPaused x y × (new ≡ old)) ⊎ IsRefusedTurn a refusal x y (state old) (state new) → TurnRefused made refusal t y m old new
   turn_refused made refusal t x y m old new is allowed runs fits (inl none) = record {
     more = [];
@@ -297,14 +296,14 @@ module _ (F : Fitted) (a : ℕ) (below : a < ACTORS) where
     pub stays : Stays m next old new
     pub room : StopForRoom C state a refusal x y old new stopped → machine.AreForRoom v s ss
 
-  pub turns_stop : (refusal : Refusal) (s : Session) (x y : SessionState) (m : Machine V R) (old new : C) → IsSessionOf (owned a m old) s x → Allowed s.given
+  pub turns_stop : (refusal : Refusal) (s : Session) (x y : SessionState) (m : Machine V R) (old new : C) → IsSessionOf (owned a m old) s x → Allowed s.given s.ended
       → IsRunning (state old) → Fits m (state old)
       → (stopped : TurnsStopped C state a refusal x y old new) → TurnsStop refusal s x y m old new stopped
   turns_stop refusal s x y m old new is allowed runs fits stopped =
       let mid = stopped.1 in
       let core = stopped.2 in
       let went = turns_made stopped.0 s x mid m old core is allowed runs fits stopped.3 in
-      let last = turn_refused went.made refusal went.t mid y went.next core new went.is (subst Allowed (sym went.given_is) allowed) went.runs went.fits stopped.4 in
+      let last = turn_refused went.made refusal went.t mid y went.next core new went.is went.allowed went.runs went.fits stopped.4 in
       record {
         ss = went.made ++ last.more;
         t = went.t;

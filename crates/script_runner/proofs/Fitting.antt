@@ -1,5 +1,5 @@
 -- What a relation of machines and cores is to give for lines over a core to be lines of the machine.
-use Rattle.std.proofs.Common.{◌≡◌, ◌≢◌, ◌<◌, ℕ, List, Some, None, Ok, Err}
+use Rattle.std.proofs.Common.{◌≡◌, ◌≢◌, ◌<◌, ℕ, Bool, List, Some, None, Ok, Err}
 use Rattle.std.specs.FinMap as finite
 use Rattle.actor_parts.specs.declared.actor.TheConstants.{ACTORS}
 use Rattle.actor_parts.specs.declared.step.Answer.{Answer}
@@ -16,7 +16,7 @@ use Rattle.ingest_session.specs.Facts.{kept}
 use Rattle.ingest_session.specs.History.{History, HasHistory, answered, no_history}
 use Rattle.ingest_session.specs.Moving.{IsOffered}
 use Rattle.ingest_session.specs.State.{SessionState}
-use Rattle.ingest_session.specs.Told.{IsSettled, told_by}
+use Rattle.ingest_session.specs.Told.{told_by}
 use Rattle.store_model.specs.Trees.{root_of}
 use Rattle.store_core.specs.declared.stop.Stop.{Stop}
 use Rattle.store_core.specs.Core.{CoreStep}
@@ -37,17 +37,17 @@ use Rattle.script_runner.specs.Acts.{IsReady, RunnerState}
 use Rattle.script_runner.specs.LinesAreRuns.{IsAtDesk, Kept, LeadsTo}
 use Rattle.script_runner.proofs.DeskParts.{IsQuiet}
 
--- the session took these bytes, which are allowed, and P holds of what is kept
-pub record HasTaken (Allowed : List ℕ → Type 0) (P : Kept → Type 0) (given : List ℕ) (x : SessionState) : Type 0 where
+-- the session took these bytes, all of the file or not yet, which are allowed, and P holds of what is kept
+pub record HasTaken (Allowed : List ℕ → Bool → Type 0) (P : Kept → Type 0) (given : List ℕ) (x : SessionState) : Type 0 where
   pub history : History
   pub has : HasHistory x history
   pub given_is : history.given ≡ given
   pub owns : P (kept history)
-  pub allowed : Allowed given
+  pub allowed : Allowed given x.ended
 
 -- What is so of a step that a line makes for one who gave these bytes: a session that took them offers what is claimed, and has filled what
 -- is sealed; a root is theirs, of a session that is ready.
-abbrev pub IsOfGiven : (Allowed : List ℕ → Type 0) (P : Kept → Type 0) → StepValue → List ℕ → Type 0
+abbrev pub IsOfGiven : (Allowed : List ℕ → Bool → Type 0) (P : Kept → Type 0) → StepValue → List ℕ → Type 0
 IsOfGiven Allowed P (steps.Claim seg) given = (x : SessionState) × HasTaken Allowed P given x × IsOffered x seg
 IsOfGiven Allowed P (steps.Seal filled) given =
     (x : SessionState) × (kind : Kind) × HasTaken Allowed P given x × IsStep (steps.Seal filled) × (filled ≡ open_of x kind) × (filled.kind ≡ kind)
@@ -60,18 +60,19 @@ IsAskedFor dues.Claim x (steps.Claim seg) = IsOffered x seg
 IsAskedFor (dues.Seal kind) x (steps.Seal filled) = (filled ≡ open_of x kind) × (filled.kind ≡ kind)
 IsAskedFor due x step = ⊥
 
--- A step leaves to the other actors what they own, and to its own too where it was refused, or is none of a file that is given. A file that
--- begins owns nothing yet, and a turn adds what its answer says to be kept.
+-- A step leaves to all actors what they own, but to one that is done in place of a turn; a file that begins owns nothing, and a turn that
+-- was done what its answer adds.
 pub record Keeps {V R : Type 0} (Owns : ℕ → Kept → Machine V R → CoreState → Type 0) (e : Event) (m n : Machine V R) (old new : CoreState) : Type 0 where
   pub others : (b : ℕ) (k : Kept) → b ≢ e.actor → Owns b k m old → Owns b k n new
   pub quiet : (k : Kept) → IsQuiet e.step → Owns e.actor k m old → Owns e.actor k n new
   pub refused : (k : Kept) (refusal : Refusal) → e.answer ≡ Err refusal → Owns e.actor k m old → Owns e.actor k n new
   pub begun : (answer : Answer) → e.actor < ACTORS → e.step ≡ steps.Begin → e.answer ≡ Ok answer → Owns e.actor (kept no_history) n new
-  pub turned : (x : SessionState) (h : History) (answer : Answer) → e.actor < ACTORS → HasHistory x h → IsSettled x → IsAskedFor (due_in x) x e.step → e.answer ≡ Ok answer
-      → HasHistory (told_by answer x) (answered answer x h) → Owns e.actor (kept h) m old → Owns e.actor (kept (answered answer x h)) n new
+  pub turned : (x : SessionState) (h : History) (answer : Answer) → HasHistory x h → IsAskedFor (due_in x) x e.step → e.answer ≡ Ok answer
+      → HasHistory (told_by answer x) (answered answer x h)
+      → Owns e.actor (kept h) m old → Owns e.actor (kept (answered answer x h)) n new
 
 pub record Fitting {V R : Type 0} (v : Values V R) (C : Type 0) (state : C → CoreState) (Fits : Machine V R → CoreState → Type 0)
-    (Owns : ℕ → Kept → Machine V R → CoreState → Type 0) (Allowed : List ℕ → Type 0) : Type 1 where
+    (Owns : ℕ → Kept → Machine V R → CoreState → Type 0) (Allowed : List ℕ → Bool → Type 0) : Type 1 where
   -- a step of the core is one of the machine
   pub step : (e : Event) (given : List ℕ) (old new : C) (m : Machine V R) → IsRunning (state old) → Fits m (state old)
       → IsOfGiven Allowed (λ k. Owns e.actor k m (state old)) e.step given → CoreStep (state old) e (state new)
@@ -98,7 +99,7 @@ pub record Fitted : Type 1 where
   pub state : C → CoreState
   pub Fits : Machine V R → CoreState → Type 0
   pub Owns : ℕ → Kept → Machine V R → CoreState → Type 0
-  pub Allowed : List ℕ → Type 0
+  pub Allowed : List ℕ → Bool → Type 0
   pub fitting : Fitting v C state Fits Owns Allowed
 
 abbrev pub AtDesk : (F : Fitted) → Desk F.V F.R → RunnerState F.C → Type 0

@@ -27,6 +27,10 @@ pub mod DeskTurnLines
 pub mod DeskTurns
 pub mod Disturbing
 pub mod FaultsCounted
+pub mod FileFits
+pub mod FileHeld
+pub mod FilePins
+pub mod FileTurns
 pub mod Filled
 pub mod Fitting
 pub mod Harmless

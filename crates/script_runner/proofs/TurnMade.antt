@@ -61,7 +61,7 @@ use Rattle.script_runner.proofs.TurnRunning.{RunsAt, runs_on}
 
 -- ---- lists
 
-unmapped : {A B : Type 0} (P : B → Type 0) (f : A → B) (xs : List A) → AllByRecursion P (map f xs) → AllByRecursion (λ x. P (f x)) xs
+pub unmapped : {A B : Type 0} (P : B → Type 0) (f : A → B) (xs : List A) → AllByRecursion P (map f xs) → AllByRecursion (λ x. P (f x)) xs
 unmapped P f [] all = tt
 unmapped P f (x ∷ xs) all = (all.0, unmapped P f xs all.1)
 

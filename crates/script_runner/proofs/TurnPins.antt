@@ -20,7 +20,7 @@ use Rattle.script_runner.specs.Follows.{HasKeptKey, HasPinOf}
 pub same_pins : (a b : PinMap) → core_parts.Writing a ≡ core_parts.Writing b → a ≡ b
 same_pins a b is = cc
 
-same_key : (key : List ℕ) → eq_by_cmp (slice_cmp nat_cmp) key key ≡ true
+pub same_key : (key : List ℕ) → eq_by_cmp (slice_cmp nat_cmp) key key ≡ true
 same_key key = tied key key ∙ (bytes_eq-Decides key key).1 refl
 
 -- one that is among the pins of a history is among those of a later one

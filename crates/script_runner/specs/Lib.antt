@@ -2,6 +2,7 @@ pub mod Acts
 pub mod AnyDisk
 pub mod Follows
 pub mod Frame
+pub mod LinesAreFileRuns
 pub mod LinesAreRuns
 pub mod Named
 pub mod Opened

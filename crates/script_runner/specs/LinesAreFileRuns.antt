@@ -1,0 +1,72 @@
+-- Lines that are run over a core whose disk tells its content, as lines of the machine of files (docs/MODEL.md, 'Scripts').
+use Rattle.std.specs.Prelude.{◌≡◌, ◌<◌, ℕ, Bool, true, List, [], ◌++◌, replicate, slice_get, slice_index_or, Option, Some, None}
+use Rattle.std.specs.FinMap as finite
+use Rattle.actor_parts.specs.declared.actor.TheConstants.{ACTORS}
+use Rattle.actor_parts.specs.declared.part.Part.TheVariants.{Idle, Writing}
+use Rattle.actor_parts.specs.declared.pins.Pin.{Pin}
+use Rattle.actor_parts.specs.Parts.{part_of}
+use Rattle.actor_parts.specs.PinMap.{PinMap}
+use Rattle.container_meta.specs.declared.kind.Kind.{Kind}
+use Rattle.container_meta.specs.Segments.{Segment, segment_key}
+use Rattle.script_lines.specs.Grammar.{LineValue}
+use Rattle.script_lines.specs.ReplyValue.{ReplyValue}
+use Rattle.store_model.specs.Collisions.{ByteSet, HasNoCollisions, IsIn}
+use Rattle.store_model.specs.Standing.{IsSegmentOf}
+use Rattle.store_core.specs.Keeping.{IsHeldIn}
+use Rattle.store_core.specs.State.{CoreState, IsRunning}
+use Rattle.store_machine.specs.ByMap.{FileMachine}
+use Rattle.store_machine.specs.Commands.{desk}
+use Rattle.store_machine.specs.Lines.{Desk, Session}
+use Rattle.store_machine.specs.Values.{of_files}
+use Rattle.core_machine.specs.Files.{IsFileMachine}
+use Rattle.script_runner.specs.Acts.{RunnerState, RunsLine}
+use Rattle.script_runner.specs.Follows.{IsOfActor}
+use Rattle.script_runner.specs.LinesAreRuns.{IsAtDesk, Kept, LeadsTo}
+
+-- ---- what actors own
+
+-- a segment is among these
+abbrev pub IsKeptIn : Kept → Kind → Segment → Type 0
+IsKeptIn kept kind segment = (index : ℕ) × (slice_get (kept kind) index ≡ Some segment)
+
+-- An actor stores a file, and each segment that is kept of it each image holds, and the actor has pinned.
+pub record HoldsKept (actor : ℕ) (kept : Kept) (c : CoreState) : Type 0 where
+  pub pins : PinMap
+  pub writing : part_of c.parts actor ≡ Writing pins
+  pub held : (kind : Kind) (x : Segment) → IsKeptIn kept kind x → IsHeldIn (record { kind = kind; segment = x }) c
+  pub pinned : (kind : Kind) (x : Segment) → IsKeptIn kept kind x → (pin : Pin) × (finite.get pins (segment_key kind x) ≡ Some pin)
+
+-- so it is unless the core is stopped
+abbrev pub OwnsKept : ℕ → Kept → FileMachine → CoreState → Type 0
+OwnsKept actor kept m c = (actor < ACTORS) × (c.stop ≡ None → HoldsKept actor kept c)
+
+-- ---- what is cut
+
+-- bytes that are cut by now of a file that begins so: they are a segment of each that goes on from there, or of it if it has ended
+abbrev pub IsCutOf : List ℕ → Bool → List ℕ → Type 0
+IsCutOf given ended bytes = (more : List ℕ) → (ended ≡ true → more ≡ []) → IsSegmentOf (given ++ more) bytes
+
+-- those that actors of a desk give
+abbrev pub CutsAmong : (List ℕ → Type 0) → Desk (List ℕ) (List (List ℕ)) → Type 0
+CutsAmong S d = (actor : ℕ) (s : Session) (bytes : List ℕ) → slice_index_or d.sessions actor None ≡ Some s → IsCutOf s.given s.ended bytes
+    → S bytes
+
+-- ---- the law
+
+abbrev pub FileDesk : Type 0
+FileDesk = Desk (List ℕ) (List (List ℕ))
+
+abbrev pub IsAtFileDesk : {C : Type 0} → (List ℕ → Type 0) → (C → CoreState) → FileDesk → RunnerState C → Type 0
+IsAtFileDesk S state d r = IsAtDesk state (IsFileMachine S) OwnsKept d r
+
+-- Where what is cut has no collisions, what a runner does by a line is what the machine of files may do by it, with this reply.
+abbrev pub LinesAreFileRuns : (C : Type 0) → (C → CoreState) → Type 0
+LinesAreFileRuns C state = (among : ByteSet) (line : LineValue) (reply : ReplyValue) (r s : RunnerState C) (d : FileDesk)
+    → HasNoCollisions (IsIn among) → IsOfActor line → CutsAmong (IsIn among) d → IsAtFileDesk (IsIn among) state d r
+    → RunsLine C state line reply r s → LeadsTo of_files state (IsFileMachine (IsIn among)) OwnsKept line reply d s
+
+-- So a runner begins: no actor is at anything, and none gives a file.
+abbrev pub BeginsAtFileDesk : (C : Type 0) → (C → CoreState) → Type 0
+BeginsAtFileDesk C state = (among : ByteSet) (m : FileMachine) (r : RunnerState C) → IsRunning (state r.core)
+    → IsFileMachine (IsIn among) m (state r.core) → (state r.core).parts ≡ replicate ACTORS Idle → r.sessions ≡ replicate ACTORS None
+    → IsAtFileDesk (IsIn among) state (desk m) r

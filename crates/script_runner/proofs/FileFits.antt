@@ -45,6 +45,7 @@ use Rattle.store_core.specs.Opening.{StaysOrStops}
 use Rattle.store_core.specs.Runs.{FileEvent, FileStep, IsGivenRight, IsNoGcStep, IsRightCommit, IsRootOf}
 use Rattle.store_core.specs.State.{CoreState, Event, IsRunning}
 use Rattle.store_core.proofs.CoreRuns.{running_step}
+use Rattle.plain_machine.specs.Runs.{Replied}
 use Rattle.store_machine.specs.ByMap.{FileMachine}
 use Rattle.store_machine.specs.Forgetting.{SameParts, SameState}
 use Rattle.store_machine.specs.Lines.{Session}
@@ -58,9 +59,9 @@ use Rattle.core_machine.proofs.FileOpened.{files_opened, files_reopened_not}
 use Rattle.core_machine.proofs.FileStands.{disks_stand}
 use Rattle.core_machine.proofs.FilesRefined.{files_refine}
 use Rattle.script_runner.specs.Acts.{IsReady}
-use Rattle.script_runner.specs.LinesAreFileRuns.{BeginsAtFileDesk, CutsAmong, HoldsKept, IsAtFileDesk, IsCutOf, LinesAreFileRuns, OwnsKept}
+use Rattle.script_runner.specs.LinesAreFileRuns.{BeginsAtFileDesk, FileDesk, HoldsKept, IsCutBy, IsCutOf, LinesAreFileRuns, OwnsKept, ScriptsAreFileRuns}
 use Rattle.script_runner.specs.LinesAreRuns.{Kept, SameSessions}
-use Rattle.script_runner.proofs.DeskLines.{line_runs, part_kinds, runs_by, stops_by}
+use Rattle.script_runner.proofs.DeskLines.{AllowedBy, line_runs, part_kinds, runs_by, script_runs, stops_by}
 use Rattle.script_runner.proofs.DeskParts.{IsQuiet, KeepsWriting, others_stay, quiet_keeps, refused_keeps}
 use Rattle.script_runner.proofs.DeskReopens.{idle_give}
 use Rattle.script_runner.proofs.DeskSessions.{none_same}
@@ -325,15 +326,29 @@ module _ (C : Type 0) (state : C → CoreState) (among : ByteSet) (distinct : Ha
 
 -- ---- lines
 
-pub lines_are_file_runs : (C : Type 0) (state : C → CoreState) → LinesAreFileRuns C state
-lines_are_file_runs C state among line reply r s d distinct actor cut at runs =
-    line_runs (files_fitted C state among distinct) r s d at (λ a t there bytes is. cut a t bytes there is) line reply actor runs
+module _ (C : Type 0) (state : C → CoreState) where
+  pub lines_are_file_runs : LinesAreFileRuns C state
+  lines_are_file_runs among line reply r s d distinct actor cut at runs =
+      line_runs (files_fitted C state among distinct) r s d at (λ a t there bytes is. cut bytes (a, (t, (there, is)))) line reply actor runs
 
-pub begins_at_file_desk : (C : Type 0) (state : C → CoreState) → BeginsAtFileDesk C state
-begins_at_file_desk C state among m r runs fits parts sessions = record {
-  runs = runs;
-  fits = fits;
-  same = subst (SameSessions (λ b k. OwnsKept b k m (state r.core)) (replicate ACTORS None)) (sym sessions) (none_same (λ b k. OwnsKept b k m (state r.core)) ACTORS);
-  many = ap length sessions ∙ length-replicate {A = Option SessionState} ACTORS None;
-  give = idle_give r.sessions (state r.core).parts parts;
-}
+  -- what is cut on the way is as it is to be
+  cut_allowed : (among : ByteSet) (distinct : HasNoCollisions (IsIn among)) (rs : List Replied) (d : FileDesk) → ((bytes : List ℕ) → IsCutBy rs d bytes → IsIn among bytes)
+      → AllowedBy (files_fitted C state among distinct) rs d
+  cut_allowed among distinct [] d cut = tt
+  cut_allowed among distinct (one ∷ more) d cut = (
+    λ a t there bytes is. cut bytes (inl (a, (t, (there, is)))),
+    λ steps mid line. cut_allowed among distinct more mid (λ bytes is. cut bytes (inr (steps, (mid, (line, is))))),
+  )
+
+  pub scripts_are_file_runs : ScriptsAreFileRuns C state
+  scripts_are_file_runs among rs r s d distinct actors cut at run =
+      script_runs (files_fitted C state among distinct) rs r s d actors (cut_allowed among distinct rs d cut) at run
+
+  pub begins_at_file_desk : BeginsAtFileDesk C state
+  begins_at_file_desk among m r runs fits parts sessions = record {
+    runs = runs;
+    fits = fits;
+    same = subst (SameSessions (λ b k. OwnsKept b k m (state r.core)) (replicate ACTORS None)) (sym sessions) (none_same (λ b k. OwnsKept b k m (state r.core)) ACTORS);
+    many = ap length sessions ∙ length-replicate {A = Option SessionState} ACTORS None;
+    give = idle_give r.sessions (state r.core).parts parts;
+  }

@@ -62,10 +62,10 @@ pub fn lines_are_runs<C: HasState>()
     ensures begins { BeginsAtDesk C C.state }
 {}
 
-/// Where no two different data segments that are stored, or are cut by now from what actors give, have one digest: a line that is run over a
-/// core that is the machine of files is a line of that machine, which makes its steps and gives its reply, where what each actor has kept of
-/// its file is held and pinned. After it that is so again; so are lines that are run one after the other, from a runner that begins. The
-/// function does nothing.
+/// Where no two different data segments that are stored, or are cut by now from what actors give, have one digest: a line that is run over
+/// a core that is the machine of files is a line of that machine, which makes its steps and gives its reply, where what each actor has
+/// kept of its file is held and pinned. After it that is so again; so are lines that are run one after the other, from a runner that
+/// begins. The function does nothing.
 pub fn lines_are_file_runs<C: HasState>()
     ensures lines { LinesAreFileRuns C C.state }
     ensures scripts { ScriptsAreFileRuns C C.state }

@@ -54,11 +54,11 @@ use Rattle.core_machine.proofs.FileOpened.{files_opened, files_reopened_not}
 use Rattle.core_machine.proofs.FileStands.{disks_stand}
 use Rattle.core_machine.proofs.FilesRefined.{files_refine}
 use Rattle.script_runner.specs.Acts.{IsReady}
-use Rattle.script_runner.specs.LinesAreFileRuns.{BeginsAtFileDesk, FileDesk, HoldsKept, IsCutBy, IsCutOf, LinesAreFileRuns, OwnsKept, ScriptsAreFileRuns}
+use Rattle.script_runner.specs.LinesAreFileRuns.{BeginsAtFileDesk, FileDesk, HoldsKept, IsCutBy, IsCutOf, LinesAreFileRuns, OpenedIsAtDesk, OwnsKept, ScriptsAreFileRuns}
 use Rattle.script_runner.specs.LinesAreRuns.{Kept, SameSessions}
 use Rattle.script_runner.proofs.DeskLines.{AllowedBy, line_runs, part_kinds, runs_by, script_runs, stops_by}
 use Rattle.script_runner.proofs.DeskParts.{KeepsWriting, others_stay, quiet_keeps, refused_keeps}
-use Rattle.script_runner.proofs.DeskReopens.{idle_give}
+use Rattle.script_runner.proofs.DeskReopens.{idle_give, opened_parts, opened_runs}
 use Rattle.script_runner.proofs.DeskSessions.{none_same}
 use Rattle.script_runner.proofs.FileHeld.{held_by, holds_on, kept_then}
 use Rattle.script_runner.proofs.FileTurns.{turned_then}
@@ -349,3 +349,9 @@ module _ (C : Type 0) (state : C → CoreState) where
     many = ap length sessions ∙ length-replicate {A = Option SessionState} ACTORS None;
     give = idle_give r.sessions (state r.core).parts parts;
   }
+
+pub opened_is_at_desk : (D : Type 0) (view : D → DiskView) (C : Type 0) (state : C → CoreState) → OpenedIsAtDesk D view C state
+opened_is_at_desk D view C state among actor before m r distinct stands opens sessions =
+    let runs = opened_runs D view (view before) (state r.core) opens in
+    let one = files_opened D view C state among actor before r.core m distinct stands opens runs in
+    (one.0, (one.1.0, begins_at_file_desk C state among one.0 r runs one.1.1 (opened_parts D view (view before) (state r.core) opens) sessions))

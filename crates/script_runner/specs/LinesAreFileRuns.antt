@@ -1,26 +1,31 @@
 -- Lines that are run over a core whose disk tells its content, as lines of the machine of files (docs/MODEL.md, 'Scripts').
-use Rattle.std.specs.Prelude.{◌≡◌, ◌⊎◌, ◌<◌, ℕ, Bool, true, List, [], ◌∷◌, ◌++◌, replicate, slice_get, slice_index_or, Some, None}
+use Rattle.std.specs.Prelude.{◌≡◌, ◌⊎◌, ◌<◌, ℕ, Bool, true, List, [], ◌∷◌, ◌++◌, replicate, slice_get, slice_index_or, Some, None, Ok}
 use Rattle.std.specs.FinMap as finite
 use Rattle.actor_parts.specs.declared.actor.TheConstants.{ACTORS}
 use Rattle.actor_parts.specs.declared.part.Part.TheVariants.{Idle, Writing}
 use Rattle.actor_parts.specs.declared.pins.Pin.{Pin}
 use Rattle.actor_parts.specs.Parts.{part_of}
 use Rattle.actor_parts.specs.PinMap.{PinMap}
+use Rattle.base_model.specs.Known.{KnownWith}
 use Rattle.container_meta.specs.declared.kind.Kind.{Kind}
 use Rattle.container_meta.specs.Segments.{Segment, segment_key}
+use Rattle.dd_disk.specs.View.{DiskView}
 use Rattle.script_lines.specs.Grammar.{LineValue}
 use Rattle.script_lines.specs.ReplyValue.{ReplyValue}
 use Rattle.store_model.specs.Collisions.{ByteSet, HasNoCollisions, IsIn}
 use Rattle.store_model.specs.Standing.{IsSegmentOf}
 use Rattle.store_core.specs.Keeping.{IsHeldIn}
+use Rattle.store_core.specs.Opening.{OpensCore}
 use Rattle.store_core.specs.State.{CoreState, IsRunning}
 use Rattle.plain_machine.specs.Runs.{Replied}
 use Rattle.store_machine.specs.ByMap.{FileMachine}
 use Rattle.store_machine.specs.Commands.{desk}
+use Rattle.store_machine.specs.Done as done
 use Rattle.store_machine.specs.Lines.{Desk, Line, Session}
 use Rattle.store_machine.specs.Machine.{Stepped}
 use Rattle.store_machine.specs.Values.{of_files}
-use Rattle.core_machine.specs.Files.{IsFileMachine}
+use Rattle.core_machine.specs.FileOpenings.{Reopens}
+use Rattle.core_machine.specs.Files.{IsFileMachine, MayStand}
 use Rattle.script_runner.specs.Acts.{RunnerState, RunsLine}
 use Rattle.script_runner.specs.Follows.{IsOfActor}
 use Rattle.script_runner.specs.LinesAreRuns.{AllLeadTo, IsAtDesk, Kept, LeadsTo}
@@ -86,3 +91,12 @@ abbrev pub BeginsAtFileDesk : (C : Type 0) → (C → CoreState) → Type 0
 BeginsAtFileDesk C state = (among : ByteSet) (m : FileMachine) (r : RunnerState C) → IsRunning (state r.core)
     → IsFileMachine (IsIn among) m (state r.core) → (state r.core).parts ≡ replicate ACTORS Idle → r.sessions ≡ replicate ACTORS None
     → IsAtFileDesk (IsIn among) state (desk m) r
+
+-- What was opened, of a content that may stand for a machine's files, is a machine to which that may come by an opening; and a runner begins
+-- there.
+abbrev pub OpenedIsAtDesk : (D : Type 0) → (D → DiskView) → (C : Type 0) → (C → CoreState) → Type 0
+OpenedIsAtDesk D view C state = (among : ByteSet) (actor : ℕ) (before : D) (m : FileMachine) (r : RunnerState C)
+    → HasNoCollisions (IsIn among) → KnownWith (view before).content (MayStand (IsIn among) m) → OpensCore D view (view before) (state r.core)
+    → r.sessions ≡ replicate ACTORS None
+    → (n : FileMachine) × (Reopens actor (Ok (done.Reopened (finite.len (state r.core).tables.names))) m n
+    × IsAtFileDesk (IsIn among) state (desk n) r)

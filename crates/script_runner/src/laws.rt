@@ -2,7 +2,7 @@
 ghost use Rattle.script_runner.specs.AnyDisk.{LinesGiveWhatIsNamed, LinesGoOn};
 ghost use Rattle.script_runner.specs.Follows.{LinesFollow};
 ghost use Rattle.script_runner.specs.Frame.{LinesKeepWritten, OpenedIsOn};
-ghost use Rattle.script_runner.specs.LinesAreFileRuns.{BeginsAtFileDesk, LinesAreFileRuns, ScriptsAreFileRuns};
+ghost use Rattle.script_runner.specs.LinesAreFileRuns.{BeginsAtFileDesk, LinesAreFileRuns, OpenedIsAtDesk, ScriptsAreFileRuns};
 ghost use Rattle.script_runner.specs.LinesAreRuns.{BeginsAtDesk, LinesAreRuns, ScriptsAreRuns};
 ghost use Rattle.script_runner.specs.Opened.{OpenedFollows};
 ghost use Rattle.script_runner.specs.Scripts.{ScriptsFollow};
@@ -70,4 +70,10 @@ pub fn lines_are_file_runs<C: HasState>()
     ensures lines { LinesAreFileRuns C C.state }
     ensures scripts { ScriptsAreFileRuns C C.state }
     ensures begins { BeginsAtFileDesk C C.state }
+{}
+
+/// Of a disk whose content may stand for the files of a machine: what was opened is a machine of files to which that may come by an
+/// opening, and lines may begin there, where no actor gives a file. The function does nothing.
+pub fn an_opened_core_is_at_a_desk<D: Disk, C: HasState>()
+    ensures { OpenedIsAtDesk D D.view C C.state }
 {}

@@ -92,11 +92,11 @@ BeginsAtFileDesk C state = (among : ByteSet) (m : FileMachine) (r : RunnerState 
     → IsFileMachine (IsIn among) m (state r.core) → (state r.core).parts ≡ replicate ACTORS Idle → r.sessions ≡ replicate ACTORS None
     → IsAtFileDesk (IsIn among) state (desk m) r
 
--- What was opened, of a content that may stand for a machine's files, is a machine to which that may come by an opening; and a runner begins
--- there.
+-- What was opened, of a content that may stand for a machine's files, is a machine to which that may come by an opening; and a runner
+-- begins there.
 abbrev pub OpenedIsAtDesk : (D : Type 0) → (D → DiskView) → (C : Type 0) → (C → CoreState) → Type 0
 OpenedIsAtDesk D view C state = (among : ByteSet) (actor : ℕ) (before : D) (m : FileMachine) (r : RunnerState C)
-    → HasNoCollisions (IsIn among) → KnownWith (view before).content (MayStand (IsIn among) m) → OpensCore D view (view before) (state r.core)
-    → r.sessions ≡ replicate ACTORS None
+    → HasNoCollisions (IsIn among) → KnownWith (view before).content (MayStand (IsIn among) m)
+    → OpensCore D view (view before) (state r.core) → r.sessions ≡ replicate ACTORS None
     → (n : FileMachine) × (Reopens actor (Ok (done.Reopened (finite.len (state r.core).tables.names))) m n
     × IsAtFileDesk (IsIn among) state (desk n) r)

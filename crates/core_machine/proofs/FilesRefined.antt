@@ -75,7 +75,7 @@ follows (Ok (answers.Did phase)) c told = follows_phase phase c.disk.content tol
 follows answer c told = tt
 
 -- a step that is none of a collection, or one
-by_gc : (step : StepValue) → IsNoGcStep step ⊎ (step ≡ steps.GcStep)
+pub by_gc : (step : StepValue) → IsNoGcStep step ⊎ (step ≡ steps.GcStep)
 by_gc steps.GcStep = inr refl
 by_gc steps.Begin = inl tt
 by_gc (steps.Claim seg) = inl tt

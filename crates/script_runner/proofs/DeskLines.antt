@@ -17,19 +17,21 @@ use Rattle.script_lines.specs.Grammar as lines
 use Rattle.script_lines.specs.ReplyValue.{ReplyValue}
 use Rattle.store_core.specs.declared.stop.Stop.{Stop}
 use Rattle.store_core.specs.State.{CoreState, Event}
+use Rattle.plain_machine.specs.Runs.{Replied}
 use Rattle.store_machine.specs.Asked.{Asked}
 use Rattle.store_machine.specs.Asked as asked
 use Rattle.store_machine.specs.Legal.{Legal}
 use Rattle.store_machine.specs.Lines as machine
 use Rattle.store_machine.specs.Lines.{Desk, Session, step_of}
-use Rattle.store_machine.specs.Machine.{Idle, Machine, Part, Reading, RunState, Running, Stopped, Writing, kind_of}
+use Rattle.store_machine.specs.Machine.{Idle, Machine, Part, Reading, RunState, Running, Stepped, Stopped, Writing, kind_of}
 use Rattle.store_machine.specs.Values.{of_roots}
 use Rattle.core_machine.specs.Refines.{IsMachine, SamePart, SameParts, SameStop, answered_by, asked_as, asked_by}
 use Rattle.core_machine.proofs.Opened.{opened_refines, unopened_refines}
 use Rattle.core_machine.proofs.Refined.{core_refines}
 use Rattle.script_runner.specs.Acts.{RunnerState, RunsLine}
 use Rattle.script_runner.specs.Follows.{IsOfActor}
-use Rattle.script_runner.specs.LinesAreRuns.{BeginsAtDesk, IsAtRoots, Kept, LinesAreRuns, OwnsAny, SameSessions, ScriptsAreRuns}
+use Rattle.script_runner.specs.LinesAreRuns.{AllLeadTo, BeginsAtDesk, Kept, LinesAreRuns, OwnsAny, RootDesk, SameSessions, ScriptsAreRuns}
+use Rattle.script_runner.specs.Scripts.{AreOfActors, RunsLines}
 use Rattle.script_runner.proofs.DeskGiving.{abort_acts, begin_acts, finish_acts}
 use Rattle.script_runner.proofs.DeskReopens.{idle_give, reopen_line}
 use Rattle.script_runner.proofs.DeskSessions.{none_same}
@@ -40,8 +42,11 @@ use Rattle.script_runner.proofs.Fitting.{AtDesk, Fitted, Fitting, IsOfGiven, Kee
 
 -- ---- a machine that fits
 
-module _ (F : Fitted) (r s : RunnerState F.C) (d : Desk F.V F.R) (at : AtDesk F d r)
-    (allowed : (a : ℕ) (t : Session) → machine.session_of F.v d a ≡ Some t → F.Allowed t.given t.ended) where
+-- what is given at a desk is allowed
+abbrev pub AllowedAt : (F : Fitted) → Desk F.V F.R → Type 0
+AllowedAt F d = (a : ℕ) (t : Session) → machine.session_of F.v d a ≡ Some t → F.Allowed t.given t.ended
+
+module _ (F : Fitted) (r s : RunnerState F.C) (d : Desk F.V F.R) (at : AtDesk F d r) (allowed : AllowedAt F d) where
   open F use {V, R, v, C, state, Fits, Owns, Allowed, fitting}
 
   pub line_runs : (line : LineValue) (reply : ReplyValue) → IsOfActor line → RunsLine C state line reply r s → Leads F line reply d s
@@ -76,6 +81,31 @@ module _ (F : Fitted) (r s : RunnerState F.C) (d : Desk F.V F.R) (at : AtDesk F 
   line_runs lines.Stat reply actor runs =
       taken_or_not F r d at lines.Stat reply s (λ is. cc) (λ admits acts. stat_acts F r d at s reply acts) runs
   line_runs lines.Reopen reply actor runs = reopen_line F r d at s reply runs
+
+-- ---- lines, one after the other
+
+-- at each desk to which they may lead
+abbrev pub AllowedBy : (F : Fitted) → List Replied → Desk F.V F.R → Type 0
+AllowedBy F [] d = Unit {0}
+AllowedBy F (one ∷ more) d =
+    AllowedAt F d × ((steps : List (Stepped F.V)) (mid : Desk F.V F.R) → machine.Line F.v one.line one.reply steps d mid → AllowedBy F more mid)
+
+module _ (F : Fitted) where
+  open F use {V, R, v, C, state, Fits, Owns}
+
+  pub script_runs : (rs : List Replied) (r s : RunnerState C) (d : Desk V R) → AreOfActors rs → AllowedBy F rs d → AtDesk F d r → RunsLines C state rs r s
+      → AllLeadTo v state Fits Owns rs d s
+  script_runs [] r s d actors allowed at run = record { steps = []; next = d; lines_are = (refl, refl); at = subst (λ (t : RunnerState C). AtDesk F d t) (sym run) at }
+  script_runs (one ∷ more) r s d actors allowed at run =
+      let mid = run.1.0 in
+      let first = line_runs F r mid d at allowed.0 one.line one.reply actors.0 run.1.1.0 in
+      let rest = script_runs more mid s first.next actors.1 (allowed.1 first.steps first.next first.line_is) first.at run.1.1.1 in
+      record {
+        steps = first.steps ++ rest.steps;
+        next = rest.next;
+        lines_are = (first.steps, rest.steps, first.next, refl, first.line_is, rest.lines_are);
+        at = rest.at;
+      }
 
 -- ---- the machine of roots
 
@@ -183,15 +213,9 @@ module _ (C : Type 0) (state : C → CoreState) where
     give = idle_give r.sessions (state r.core).parts parts;
   }
 
+  any_allowed : (rs : List Replied) (d : RootDesk) → AllowedBy roots_fitted rs d
+  any_allowed [] d = tt
+  any_allowed (one ∷ more) d = (λ a t there. tt, λ steps mid line. any_allowed more mid)
+
   pub scripts_are_runs : ScriptsAreRuns C state
-  scripts_are_runs [] r s d actors at run = record { steps = []; next = d; lines_are = (refl, refl); at = subst (λ (t : RunnerState C). IsAtRoots state d t) (sym run) at }
-  scripts_are_runs (one ∷ more) r s d actors at run =
-      let mid = run.1.0 in
-      let first = lines_are_runs one.line one.reply r mid d actors.0 at run.1.1.0 in
-      let rest = scripts_are_runs more mid s first.next actors.1 first.at run.1.1.1 in
-      record {
-        steps = first.steps ++ rest.steps;
-        next = rest.next;
-        lines_are = (first.steps, rest.steps, first.next, refl, first.line_is, rest.lines_are);
-        at = rest.at;
-      }
+  scripts_are_runs rs r s d actors at run = script_runs roots_fitted rs r s d actors (any_allowed rs d) at run

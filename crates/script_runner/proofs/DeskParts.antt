@@ -69,7 +69,8 @@ Rests a old new = WroteBefore a old new × KeepsWriting a old new
 same_rests : (a : ℕ) (old new : List core_part.Part) → new ≡ old → Rests a old new
 same_rests a old new same = (same_wrote a old new same, λ writes. ap (λ (parts : List core_part.Part). part_of parts a) same)
 
-put_rests : (a : ℕ) (old new : List core_part.Part) (p : core_part.Part) → kind_of p ≢ kinds.Writing → kind_of (part_of old a) ≢ kinds.Writing → new ≡ with_part old a p → Rests a old new
+put_rests : (a : ℕ) (old new : List core_part.Part) (p : core_part.Part) → kind_of p ≢ kinds.Writing → kind_of (part_of old a) ≢ kinds.Writing
+    → new ≡ with_part old a p → Rests a old new
 put_rests a old new p quiet none is = (
   λ writes. absurd (put_quiet old a p quiet (subst (λ (parts : List core_part.Part). kind_of (part_of parts a) ≡ kinds.Writing) is writes)),
   λ writes. absurd (none writes),

@@ -37,11 +37,11 @@ use Rattle.script_runner.proofs.Fitting.{AtDesk, Fitted, Leads}
 read_runs : (before : DiskView) (c : CoreState) → IsReadFrom before c → IsRunning c
 read_runs before c read = new_runs _ before.size c read.reads.only.later.size_is read.opened
 
-opened_runs : (D : Type 0) (view : D → DiskView) (old : DiskView) (c : CoreState) → OpensCore D view old c → IsRunning c
+pub opened_runs : (D : Type 0) (view : D → DiskView) (old : DiskView) (c : CoreState) → OpensCore D view old c → IsRunning c
 opened_runs D view old c (inl read) = read_runs old c read
 opened_runs D view old c (inr (mid, (made, read))) = read_runs (view mid) c read
 
-opened_parts : (D : Type 0) (view : D → DiskView) (old : DiskView) (c : CoreState) → OpensCore D view old c → c.parts ≡ replicate ACTORS core_parts.Idle
+pub opened_parts : (D : Type 0) (view : D → DiskView) (old : DiskView) (c : CoreState) → OpensCore D view old c → c.parts ≡ replicate ACTORS core_parts.Idle
 opened_parts D view old c (inl read) = read.opened.parts_are
 opened_parts D view old c (inr (mid, (made, read))) = read.opened.parts_are
 

@@ -47,7 +47,13 @@ paused_of P s x y is pause =
     }
 
 pub taken_of : (Allowed : List ℕ → Bool → Type 0) (P : Kept → Type 0) (s : Session) (x : SessionState) → IsSessionOf P s x → Allowed s.given s.ended → HasTaken Allowed P s.given x
-taken_of Allowed P s x is allowed = record { history = is.history; has = is.has; given_is = is.given_is; owns = is.owns; allowed = subst (Allowed s.given) (sym is.ended_is) allowed }
+taken_of Allowed P s x is allowed = record {
+  history = is.history;
+  has = is.has;
+  given_is = is.given_is;
+  owns = is.owns;
+  allowed = subst (Allowed s.given) (sym is.ended_is) allowed;
+}
 
 -- one more answer
 abbrev pub answering : Answer → Session → Session

@@ -1,5 +1,5 @@
 -- The machine of files fits a core whose disk tells its content; and so lines over such a core are lines of it.
-use Rattle.std.proofs.Common.{◌≡◌, ◌≢◌, ◌∙◌, ◌<◌, ◌≤◌, inl, inr, ℕ, zero, suc, Bool, true, List, [], ◌∷◌, ◌++◌, length, slice_index_or, replicate, Option, Some, None, Result, Ok, Err, refl, sym, ap, subst, arith}
+use Rattle.std.proofs.Common.{◌≡◌, ◌∙◌, ◌<◌, ◌≤◌, inl, inr, ℕ, zero, suc, Bool, List, [], ◌∷◌, ◌++◌, length, slice_index_or, replicate, Option, Some, None, Result, Ok, Err, refl, sym, ap, subst, arith}
 use Rattle.std.proofs.lemmas.List.{length-replicate}
 use Rattle.std.specs.FinMap as finite
 use Rattle.std.specs.List.{AllByRecursion}
@@ -20,21 +20,18 @@ use Rattle.actor_parts.proofs.Apart.{apart}
 use Rattle.container_meta.specs.declared.kind.Kind.{Kind}
 use Rattle.container_meta.specs.declared.kind.Kind.TheVariants.{Leaf, Tree}
 use Rattle.container_meta.specs.Segments.{Contents, KindSegment, Segment}
-use Rattle.refusals.specs.declared.refusal.PartKind.TheVariants as kinds
 use Rattle.refusals.specs.declared.refusal.Refusal.{Refusal}
 use Rattle.refusals.specs.declared.refusal.Refusal.TheVariants as refusals
 use Rattle.ingest_session.specs.declared.due.Due.{Due}
 use Rattle.ingest_session.specs.declared.due.Due.TheVariants as dues
 use Rattle.ingest_session.specs.Due.{due_in, open_of}
 use Rattle.ingest_session.specs.Facts.{MayFollow, kept}
-use Rattle.ingest_session.specs.History.{History, HasHistory, answered, no_history}
+use Rattle.ingest_session.specs.History.{History, answered, no_history}
 use Rattle.ingest_session.specs.Moving.{IsOffered}
 use Rattle.ingest_session.specs.State.{SessionState, turn_node}
-use Rattle.ingest_session.specs.Told.{told_by}
 use Rattle.ingest_session.proofs.Ends.{all_is_kept, bytes_are_counted}
 use Rattle.ingest_session.proofs.Facts.{opens_are_pieces, turns_are_pieces}
-use Rattle.ingest_session.proofs.Members.{IsIn as IsMember, all_of, in_none, one_of}
-use Rattle.script_lines.specs.Grammar.{LineValue}
+use Rattle.ingest_session.proofs.Members.{all_of, in_none, one_of}
 use Rattle.store_model.specs.Collisions.{ByteSet, HasNoCollisions, IsAmong, IsIn}
 use Rattle.store_model.specs.Pieces.{HasPieceOf, IsPieceOf, piece_segment}
 use Rattle.store_model.specs.Trees.{root_of}
@@ -43,14 +40,13 @@ use Rattle.store_core.specs.Core.{BeginRow, CoreStep, Row, StepsOr}
 use Rattle.store_core.specs.Keeping.{IsHeldIn, kept_by}
 use Rattle.store_core.specs.Opening.{StaysOrStops}
 use Rattle.store_core.specs.Runs.{FileEvent, FileStep, IsGivenRight, IsNoGcStep, IsRightCommit, IsRootOf}
-use Rattle.store_core.specs.State.{CoreState, Event, IsRunning}
+use Rattle.store_core.specs.State.{CoreState, Event}
 use Rattle.store_core.proofs.CoreRuns.{running_step}
+use Rattle.plain_machine.specs.Runs.{Replied}
 use Rattle.store_machine.specs.ByMap.{FileMachine}
 use Rattle.store_machine.specs.Forgetting.{SameParts, SameState}
-use Rattle.store_machine.specs.Lines.{Session}
 use Rattle.store_machine.specs.Lines as machine
-use Rattle.store_machine.specs.Machine.{Found, Idle, Machine, Part, Reading, RunState, Running, Stopped, Writing, kind_of, part_in}
-use Rattle.store_machine.specs.Remembering.{RootMachine}
+use Rattle.store_machine.specs.Machine.{Found, Idle, Part, Reading, RunState, Running, Stopped, Writing, kind_of}
 use Rattle.store_machine.specs.Values.{of_files}
 use Rattle.store_model.specs.Image.{Store}
 use Rattle.core_machine.specs.Files.{FitsBy, IsAtFiles, IsFileMachine, IsOfFile}
@@ -58,11 +54,11 @@ use Rattle.core_machine.proofs.FileOpened.{files_opened, files_reopened_not}
 use Rattle.core_machine.proofs.FileStands.{disks_stand}
 use Rattle.core_machine.proofs.FilesRefined.{files_refine}
 use Rattle.script_runner.specs.Acts.{IsReady}
-use Rattle.script_runner.specs.LinesAreFileRuns.{BeginsAtFileDesk, CutsAmong, HoldsKept, IsAtFileDesk, IsCutOf, LinesAreFileRuns, OwnsKept}
+use Rattle.script_runner.specs.LinesAreFileRuns.{BeginsAtFileDesk, FileDesk, HoldsKept, IsCutBy, IsCutOf, LinesAreFileRuns, OpenedIsAtDesk, OwnsKept, ScriptsAreFileRuns}
 use Rattle.script_runner.specs.LinesAreRuns.{Kept, SameSessions}
-use Rattle.script_runner.proofs.DeskLines.{line_runs, part_kinds, runs_by, stops_by}
-use Rattle.script_runner.proofs.DeskParts.{IsQuiet, KeepsWriting, others_stay, quiet_keeps, refused_keeps}
-use Rattle.script_runner.proofs.DeskReopens.{idle_give}
+use Rattle.script_runner.proofs.DeskLines.{AllowedBy, line_runs, part_kinds, runs_by, script_runs, stops_by}
+use Rattle.script_runner.proofs.DeskParts.{KeepsWriting, others_stay, quiet_keeps, refused_keeps}
+use Rattle.script_runner.proofs.DeskReopens.{idle_give, opened_parts, opened_runs}
 use Rattle.script_runner.proofs.DeskSessions.{none_same}
 use Rattle.script_runner.proofs.FileHeld.{held_by, holds_on, kept_then}
 use Rattle.script_runner.proofs.FileTurns.{turned_then}
@@ -70,7 +66,6 @@ use Rattle.script_runner.proofs.Fitting.{Fitted, Fitting, HasTaken, IsAskedFor, 
 use Rattle.script_runner.proofs.LinesReopen.{still_held}
 use Rattle.script_runner.proofs.TurnAsks.{offered_piece}
 use Rattle.script_runner.proofs.TurnKept.{data_piece, of_kind}
-use Rattle.script_runner.proofs.TurnPins.{none_pinned}
 use Rattle.script_runner.proofs.TurnsDone.{right_root}
 
 -- ---- what is so of the machine of roots
@@ -157,8 +152,8 @@ module _ (C : Type 0) (state : C → CoreState) (among : ByteSet) (distinct : Ha
         (files_stop m.state fits.roots.state so.0.0 so.0.1 fits.forgets.state so.0.2, so.1 ∙ fits.forgets.acknowledged)
 
     -- the root of a file of which all is kept is right
-    root_right : (a : ℕ) (given : List ℕ) (x : SessionState) (root : Root) → HasTaken Allowed (λ k. OwnsKept a k m c) given x → IsReady root x → root ≡ root_of given → c.stop ≡ None
-        → IsRootOf root given c
+    root_right : (a : ℕ) (given : List ℕ) (x : SessionState) (root : Root) → HasTaken Allowed (λ k. OwnsKept a k m c) given x → IsReady root x
+        → root ≡ root_of given → c.stop ≡ None → IsRootOf root given c
     root_right a given x root taken ready root_is none =
         let own = taken.owns.1 none in
         let ends = all_is_kept x taken.history taken.has ready.ended ready.done in
@@ -222,7 +217,8 @@ module _ (C : Type 0) (state : C → CoreState) (among : ByteSet) (distinct : Ha
             holds_on C state among distinct f old new m (at_files m (state old) fits (ran stays)) made stays b k own.0 (keeps (ap core_kinds.kind_of was.writing)) was,
       )
 
-      begun_row : (answer : Answer) → BeginRow e.actor (Ok answer) (state old) (state new) → e.actor < ACTORS → length (state old).parts ≡ ACTORS → HoldsKept e.actor (kept no_history) (state new)
+      begun_row : (answer : Answer) → BeginRow e.actor (Ok answer) (state old) (state new) → e.actor < ACTORS → length (state old).parts ≡ ACTORS
+          → HoldsKept e.actor (kept no_history) (state new)
       begun_row answers.Begun row below many = record {
         pins = finite.empty;
         writing = ap (λ (parts : List core_part.Part). part_of parts e.actor) row.1
@@ -256,7 +252,8 @@ module _ (C : Type 0) (state : C → CoreState) (among : ByteSet) (distinct : Ha
             let at = at_files m (state old) fits (ran stays) in
             let row = (running_step (state old) (state new) e (ran stays) made.made).made.row in
             let other = no_gc x (due_in x) e.step asked in
-            turned_then (state old) (state new) e.actor own.0 at.is_at.many x h (own.1 (ran stays)) (held_by C state among distinct f old new m at made stays other) e.step answer e.buf asked
+            turned_then (state old) (state new) e.actor own.0 at.is_at.many x h (own.1 (ran stays))
+            (held_by C state among distinct f old new m at made stays other) e.step answer e.buf asked
             (subst (λ (told : Result Answer Refusal). Row e.step e.actor told e.buf (state old) (state new)) answer_is row)
             (subst (λ (told : Result Answer Refusal). AllByRecursion (λ seg. IsHeldIn seg (state new)) (kept_by e.step told)) answer_is
             (kept_then C state among distinct f old new m at made stays other)),
@@ -282,7 +279,8 @@ module _ (C : Type 0) (state : C → CoreState) (among : ByteSet) (distinct : Ha
     pinned = own.pinned;
   }
 
-  owns_still : (refusal : Refusal) (old new : CoreState) (m n : FileMachine) (b : ℕ) (k : Kept) → StaysOrStops C (λ c. (state c).disk) refusal old new → OwnsKept b k m old → OwnsKept b k n new
+  owns_still : (refusal : Refusal) (old new : CoreState) (m n : FileMachine) (b : ℕ) (k : Kept) → StaysOrStops C (λ c. (state c).disk) refusal old new
+      → OwnsKept b k m old → OwnsKept b k n new
   owns_still refusal old new m n b k (inl rest) own = (
     own.0,
     λ stays. rests_held old new rest.1.only rest.0.tables_are rest.0.index_is rest.0.collection_is rest.0.parts_are b k (own.1 (sym rest.0.stop_is ∙ stays)),
@@ -325,15 +323,35 @@ module _ (C : Type 0) (state : C → CoreState) (among : ByteSet) (distinct : Ha
 
 -- ---- lines
 
-pub lines_are_file_runs : (C : Type 0) (state : C → CoreState) → LinesAreFileRuns C state
-lines_are_file_runs C state among line reply r s d distinct actor cut at runs =
-    line_runs (files_fitted C state among distinct) r s d at (λ a t there bytes is. cut a t bytes there is) line reply actor runs
+module _ (C : Type 0) (state : C → CoreState) where
+  pub lines_are_file_runs : LinesAreFileRuns C state
+  lines_are_file_runs among line reply r s d distinct actor cut at runs =
+      line_runs (files_fitted C state among distinct) r s d at (λ a t there bytes is. cut bytes (a, (t, (there, is)))) line reply actor runs
 
-pub begins_at_file_desk : (C : Type 0) (state : C → CoreState) → BeginsAtFileDesk C state
-begins_at_file_desk C state among m r runs fits parts sessions = record {
-  runs = runs;
-  fits = fits;
-  same = subst (SameSessions (λ b k. OwnsKept b k m (state r.core)) (replicate ACTORS None)) (sym sessions) (none_same (λ b k. OwnsKept b k m (state r.core)) ACTORS);
-  many = ap length sessions ∙ length-replicate {A = Option SessionState} ACTORS None;
-  give = idle_give r.sessions (state r.core).parts parts;
-}
+  -- what is cut on the way is as it is to be
+  cut_allowed : (among : ByteSet) (distinct : HasNoCollisions (IsIn among)) (rs : List Replied) (d : FileDesk) → ((bytes : List ℕ) → IsCutBy rs d bytes → IsIn among bytes)
+      → AllowedBy (files_fitted C state among distinct) rs d
+  cut_allowed among distinct [] d cut = tt
+  cut_allowed among distinct (one ∷ more) d cut = (
+    λ a t there bytes is. cut bytes (inl (a, (t, (there, is)))),
+    λ steps mid line. cut_allowed among distinct more mid (λ bytes is. cut bytes (inr (steps, (mid, (line, is))))),
+  )
+
+  pub scripts_are_file_runs : ScriptsAreFileRuns C state
+  scripts_are_file_runs among rs r s d distinct actors cut at run =
+      script_runs (files_fitted C state among distinct) rs r s d actors (cut_allowed among distinct rs d cut) at run
+
+  pub begins_at_file_desk : BeginsAtFileDesk C state
+  begins_at_file_desk among m r runs fits parts sessions = record {
+    runs = runs;
+    fits = fits;
+    same = subst (SameSessions (λ b k. OwnsKept b k m (state r.core)) (replicate ACTORS None)) (sym sessions) (none_same (λ b k. OwnsKept b k m (state r.core)) ACTORS);
+    many = ap length sessions ∙ length-replicate {A = Option SessionState} ACTORS None;
+    give = idle_give r.sessions (state r.core).parts parts;
+  }
+
+pub opened_is_at_desk : (D : Type 0) (view : D → DiskView) (C : Type 0) (state : C → CoreState) → OpenedIsAtDesk D view C state
+opened_is_at_desk D view C state among actor before m r distinct stands opens sessions =
+    let runs = opened_runs D view (view before) (state r.core) opens in
+    let one = files_opened D view C state among actor before r.core m distinct stands opens runs in
+    (one.0, (one.1.0, begins_at_file_desk C state among one.0 r runs one.1.1 (opened_parts D view (view before) (state r.core) opens) sessions))

@@ -1,5 +1,5 @@
 -- What actors have kept of files is held still after a step of a core that is at files.
-use Rattle.std.proofs.Common.{◌≡◌, ◌≢◌, ◌⊎◌, inl, inr, ◌∙◌, ◌<◌, ℕ, List, [], ◌∷◌, Some, None, refl, ap, subst}
+use Rattle.std.proofs.Common.{◌≡◌, inl, inr, ◌∙◌, ◌<◌, ℕ, [], ◌∷◌, Some, None, refl, subst}
 use Rattle.std.proofs.lemmas.List.{append-nil}
 use Rattle.std.specs.FinMap as finite
 use Rattle.std.specs.List.{AllByRecursion}
@@ -20,27 +20,13 @@ use Rattle.store_core.proofs.Leading.{Leads}
 use Rattle.store_core.proofs.Releasing.{leads}
 use Rattle.store_machine.specs.ByMap.{FileMachine}
 use Rattle.core_machine.specs.Files.{IsAtFiles, stored_in}
+use Rattle.core_machine.proofs.FilesRefined.{by_gc}
 use Rattle.script_runner.specs.LinesAreFileRuns.{HoldsKept}
 use Rattle.script_runner.specs.LinesAreRuns.{Kept}
 use Rattle.script_runner.proofs.CollectParts.{gc_event, needed_held, pin_needed}
 
--- a step that is none of a collection, or one
-by_gc : (step : StepValue) → IsNoGcStep step ⊎ (step ≡ steps.GcStep)
-by_gc steps.GcStep = inr refl
-by_gc steps.Begin = inl tt
-by_gc (steps.Claim seg) = inl tt
-by_gc (steps.Seal filled) = inl tt
-by_gc (steps.Commit name root) = inl tt
-by_gc steps.Abort = inl tt
-by_gc (steps.OpenRead name) = inl tt
-by_gc steps.ReadNext = inl tt
-by_gc steps.EndRead = inl tt
-by_gc (steps.Delete name) = inl tt
-by_gc steps.ListNames = inl tt
-by_gc (steps.GcStart percent) = inl tt
-by_gc steps.Stat = inl tt
-
-module _ (C : Type 0) (state : C → CoreState) (among : ByteSet) (apart : HasNoCollisions (IsIn among)) (f : FileEvent) (old new : C) (m : FileMachine) (at : IsAtFiles (IsIn among) m (state old))
+module _ (C : Type 0) (state : C → CoreState) (among : ByteSet) (apart : HasNoCollisions (IsIn among)) (f : FileEvent) (old new : C) (m : FileMachine)
+    (at : IsAtFiles (IsIn among) m (state old))
     (step : FileStep (IsIn among) f (state old) (state new)) (stays : (state new).stop ≡ None) where
   abbrev e : Event
   e = f.event
@@ -82,7 +68,8 @@ module _ (C : Type 0) (state : C → CoreState) (among : ByteSet) (apart : HasNo
         → Still (record { kind = kind; segment = x })
     spared b k below own kind x pinned =
         needed_held (IsIn among) m.store (stored_in m.now) (state old) (state new) e.actor e.answer e.buf at.is_at led settled (record { kind = kind; segment = x })
-        (pin_needed (IsIn among) m.store (stored_in m.now) (state old) (state new) e.actor e.answer e.buf at.is_at led settled b below own.pins (segment_key kind x) pinned.0 own.writing pinned.1)
+        (pin_needed (IsIn among) m.store (stored_in m.now) (state old) (state new) e.actor e.answer e.buf at.is_at led settled b below own.pins
+        (segment_key kind x) pinned.0 own.writing pinned.1)
 
   -- ---- any step
 

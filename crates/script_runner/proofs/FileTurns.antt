@@ -19,8 +19,8 @@ use Rattle.ingest_steps.specs.Claiming.{key_of_seg}
 use Rattle.ingest_steps.specs.Pinning.{with_pins}
 use Rattle.ingest_session.specs.declared.due.Due.{Due}
 use Rattle.ingest_session.specs.declared.due.Due.TheVariants as dues
-use Rattle.ingest_session.specs.Due.{due_in, item_kind, open_of}
-use Rattle.ingest_session.specs.Facts.{IsKept, kept}
+use Rattle.ingest_session.specs.Due.{due_in, open_of}
+use Rattle.ingest_session.specs.Facts.{kept}
 use Rattle.ingest_session.specs.History.{History, answered, item_if}
 use Rattle.ingest_session.specs.Items.{item_of}
 use Rattle.ingest_session.specs.Moving.{IsOffered}

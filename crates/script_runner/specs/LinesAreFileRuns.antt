@@ -1,27 +1,35 @@
 -- Lines that are run over a core whose disk tells its content, as lines of the machine of files (docs/MODEL.md, 'Scripts').
-use Rattle.std.specs.Prelude.{◌≡◌, ◌<◌, ℕ, Bool, true, List, [], ◌++◌, replicate, slice_get, slice_index_or, Option, Some, None}
+use Rattle.std.specs.Prelude.{◌≡◌, ◌⊎◌, ◌<◌, ℕ, Bool, true, List, [], ◌∷◌, ◌++◌, replicate, slice_get, slice_index_or, Some, None, Ok}
 use Rattle.std.specs.FinMap as finite
 use Rattle.actor_parts.specs.declared.actor.TheConstants.{ACTORS}
 use Rattle.actor_parts.specs.declared.part.Part.TheVariants.{Idle, Writing}
 use Rattle.actor_parts.specs.declared.pins.Pin.{Pin}
 use Rattle.actor_parts.specs.Parts.{part_of}
 use Rattle.actor_parts.specs.PinMap.{PinMap}
+use Rattle.base_model.specs.Known.{KnownWith}
 use Rattle.container_meta.specs.declared.kind.Kind.{Kind}
 use Rattle.container_meta.specs.Segments.{Segment, segment_key}
+use Rattle.dd_disk.specs.View.{DiskView}
 use Rattle.script_lines.specs.Grammar.{LineValue}
 use Rattle.script_lines.specs.ReplyValue.{ReplyValue}
 use Rattle.store_model.specs.Collisions.{ByteSet, HasNoCollisions, IsIn}
 use Rattle.store_model.specs.Standing.{IsSegmentOf}
 use Rattle.store_core.specs.Keeping.{IsHeldIn}
+use Rattle.store_core.specs.Opening.{OpensCore}
 use Rattle.store_core.specs.State.{CoreState, IsRunning}
+use Rattle.plain_machine.specs.Runs.{Replied}
 use Rattle.store_machine.specs.ByMap.{FileMachine}
 use Rattle.store_machine.specs.Commands.{desk}
-use Rattle.store_machine.specs.Lines.{Desk, Session}
+use Rattle.store_machine.specs.Done as done
+use Rattle.store_machine.specs.Lines.{Desk, Line, Session}
+use Rattle.store_machine.specs.Machine.{Stepped}
 use Rattle.store_machine.specs.Values.{of_files}
-use Rattle.core_machine.specs.Files.{IsFileMachine}
+use Rattle.core_machine.specs.FileOpenings.{Reopens}
+use Rattle.core_machine.specs.Files.{IsFileMachine, MayStand}
 use Rattle.script_runner.specs.Acts.{RunnerState, RunsLine}
 use Rattle.script_runner.specs.Follows.{IsOfActor}
-use Rattle.script_runner.specs.LinesAreRuns.{IsAtDesk, Kept, LeadsTo}
+use Rattle.script_runner.specs.LinesAreRuns.{AllLeadTo, IsAtDesk, Kept, LeadsTo}
+use Rattle.script_runner.specs.Scripts.{AreOfActors, RunsLines}
 
 -- ---- what actors own
 
@@ -46,15 +54,20 @@ OwnsKept actor kept m c = (actor < ACTORS) × (c.stop ≡ None → HoldsKept act
 abbrev pub IsCutOf : List ℕ → Bool → List ℕ → Type 0
 IsCutOf given ended bytes = (more : List ℕ) → (ended ≡ true → more ≡ []) → IsSegmentOf (given ++ more) bytes
 
--- those that actors of a desk give
-abbrev pub CutsAmong : (List ℕ → Type 0) → Desk (List ℕ) (List (List ℕ)) → Type 0
-CutsAmong S d = (actor : ℕ) (s : Session) (bytes : List ℕ) → slice_index_or d.sessions actor None ≡ Some s → IsCutOf s.given s.ended bytes
-    → S bytes
-
--- ---- the law
-
 abbrev pub FileDesk : Type 0
 FileDesk = Desk (List ℕ) (List (List ℕ))
+
+-- so they are of a file that some actor of a desk gives
+abbrev pub IsCutAt : FileDesk → List ℕ → Type 0
+IsCutAt d bytes = (actor : ℕ) × ((s : Session) × ((slice_index_or d.sessions actor None ≡ Some s) × IsCutOf s.given s.ended bytes))
+
+-- and as one of these lines begins, at a desk to which those before it may lead
+abbrev pub IsCutBy : List Replied → FileDesk → List ℕ → Type 0
+IsCutBy [] d bytes = ⊥
+IsCutBy (one ∷ more) d bytes = IsCutAt d bytes
+    ⊎ ((steps : List (Stepped (List ℕ))) × ((mid : FileDesk) × (Line of_files one.line one.reply steps d mid × IsCutBy more mid bytes)))
+
+-- ---- the law
 
 abbrev pub IsAtFileDesk : {C : Type 0} → (List ℕ → Type 0) → (C → CoreState) → FileDesk → RunnerState C → Type 0
 IsAtFileDesk S state d r = IsAtDesk state (IsFileMachine S) OwnsKept d r
@@ -62,11 +75,28 @@ IsAtFileDesk S state d r = IsAtDesk state (IsFileMachine S) OwnsKept d r
 -- Where what is cut has no collisions, what a runner does by a line is what the machine of files may do by it, with this reply.
 abbrev pub LinesAreFileRuns : (C : Type 0) → (C → CoreState) → Type 0
 LinesAreFileRuns C state = (among : ByteSet) (line : LineValue) (reply : ReplyValue) (r s : RunnerState C) (d : FileDesk)
-    → HasNoCollisions (IsIn among) → IsOfActor line → CutsAmong (IsIn among) d → IsAtFileDesk (IsIn among) state d r
-    → RunsLine C state line reply r s → LeadsTo of_files state (IsFileMachine (IsIn among)) OwnsKept line reply d s
+    → HasNoCollisions (IsIn among) → IsOfActor line → ((bytes : List ℕ) → IsCutAt d bytes → IsIn among bytes)
+    → IsAtFileDesk (IsIn among) state d r → RunsLine C state line reply r s
+    → LeadsTo of_files state (IsFileMachine (IsIn among)) OwnsKept line reply d s
+
+-- So it is of lines that are run one after the other.
+abbrev pub ScriptsAreFileRuns : (C : Type 0) → (C → CoreState) → Type 0
+ScriptsAreFileRuns C state = (among : ByteSet) (rs : List Replied) (r s : RunnerState C) (d : FileDesk)
+    → HasNoCollisions (IsIn among) → AreOfActors rs → ((bytes : List ℕ) → IsCutBy rs d bytes → IsIn among bytes)
+    → IsAtFileDesk (IsIn among) state d r → RunsLines C state rs r s
+    → AllLeadTo of_files state (IsFileMachine (IsIn among)) OwnsKept rs d s
 
 -- So a runner begins: no actor is at anything, and none gives a file.
 abbrev pub BeginsAtFileDesk : (C : Type 0) → (C → CoreState) → Type 0
 BeginsAtFileDesk C state = (among : ByteSet) (m : FileMachine) (r : RunnerState C) → IsRunning (state r.core)
     → IsFileMachine (IsIn among) m (state r.core) → (state r.core).parts ≡ replicate ACTORS Idle → r.sessions ≡ replicate ACTORS None
     → IsAtFileDesk (IsIn among) state (desk m) r
+
+-- What was opened, of a content that may stand for a machine's files, is a machine to which that may come by an opening; and a runner
+-- begins there.
+abbrev pub OpenedIsAtDesk : (D : Type 0) → (D → DiskView) → (C : Type 0) → (C → CoreState) → Type 0
+OpenedIsAtDesk D view C state = (among : ByteSet) (actor : ℕ) (before : D) (m : FileMachine) (r : RunnerState C)
+    → HasNoCollisions (IsIn among) → KnownWith (view before).content (MayStand (IsIn among) m)
+    → OpensCore D view (view before) (state r.core) → r.sessions ≡ replicate ACTORS None
+    → (n : FileMachine) × (Reopens actor (Ok (done.Reopened (finite.len (state r.core).tables.names))) m n
+    × IsAtFileDesk (IsIn among) state (desk n) r)

@@ -108,13 +108,14 @@ abbrev pub as_lines : List Replied → List Answered
 as_lines [] = []
 as_lines (one ∷ more) = record { line = one.line; reply = one.reply } ∷ as_lines more
 
-pub record AllLeadTo {C : Type 0} (state : C → CoreState) (rs : List Replied) (d : RootDesk) (s : RunnerState C) : Type 0 where
-  pub steps : List (Stepped Root)
-  pub next : RootDesk
-  pub lines_are : Lines of_roots (as_lines rs) steps d next
-  pub at : IsAtRoots state next s
+pub record AllLeadTo {V R C : Type 0} (v : Values V R) (state : C → CoreState) (Fits : Machine V R → CoreState → Type 0)
+    (Owns : ℕ → Kept → Machine V R → CoreState → Type 0) (rs : List Replied) (d : Desk V R) (s : RunnerState C) : Type 0 where
+  pub steps : List (Stepped V)
+  pub next : Desk V R
+  pub lines_are : Lines v (as_lines rs) steps d next
+  pub at : IsAtDesk state Fits Owns next s
 
 -- So it is of lines that are run one after the other.
 abbrev pub ScriptsAreRuns : (C : Type 0) → (C → CoreState) → Type 0
 ScriptsAreRuns C state = (rs : List Replied) (r s : RunnerState C) (d : RootDesk) → AreOfActors rs → IsAtRoots state d r
-    → RunsLines C state rs r s → AllLeadTo state rs d s
+    → RunsLines C state rs r s → AllLeadTo of_roots state (IsMachine false) OwnsAny rs d s

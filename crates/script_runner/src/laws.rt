@@ -2,7 +2,7 @@
 ghost use Rattle.script_runner.specs.AnyDisk.{LinesGiveWhatIsNamed, LinesGoOn};
 ghost use Rattle.script_runner.specs.Follows.{LinesFollow};
 ghost use Rattle.script_runner.specs.Frame.{LinesKeepWritten, OpenedIsOn};
-ghost use Rattle.script_runner.specs.LinesAreFileRuns.{BeginsAtFileDesk, LinesAreFileRuns};
+ghost use Rattle.script_runner.specs.LinesAreFileRuns.{BeginsAtFileDesk, LinesAreFileRuns, OpenedIsAtDesk, ScriptsAreFileRuns};
 ghost use Rattle.script_runner.specs.LinesAreRuns.{BeginsAtDesk, LinesAreRuns, ScriptsAreRuns};
 ghost use Rattle.script_runner.specs.Opened.{OpenedFollows};
 ghost use Rattle.script_runner.specs.Scripts.{ScriptsFollow};
@@ -62,10 +62,18 @@ pub fn lines_are_runs<C: HasState>()
     ensures begins { BeginsAtDesk C C.state }
 {}
 
-/// Where no two different data segments that are stored, or are cut by now from what actors give, have one digest: a line that is run over a
-/// core that is the machine of files is a line of that machine, which makes its steps and gives its reply; and after it that is so again. A
-/// runner that begins is at such a machine where its core is. The function does nothing.
+/// Where no two different data segments that are stored, or are cut by now from what actors give, have one digest: a line that is run over
+/// a core that is the machine of files is a line of that machine, which makes its steps and gives its reply, where what each actor has
+/// kept of its file is held and pinned. After it that is so again; so are lines that are run one after the other, from a runner that
+/// begins. The function does nothing.
 pub fn lines_are_file_runs<C: HasState>()
     ensures lines { LinesAreFileRuns C C.state }
+    ensures scripts { ScriptsAreFileRuns C C.state }
     ensures begins { BeginsAtFileDesk C C.state }
+{}
+
+/// Of a disk whose content may stand for the files of a machine: what was opened is a machine of files to which that may come by an
+/// opening, and lines may begin there, where no actor gives a file. The function does nothing.
+pub fn an_opened_core_is_at_a_desk<D: Disk, C: HasState>()
+    ensures { OpenedIsAtDesk D D.view C C.state }
 {}

@@ -207,6 +207,11 @@ module _ (m n : FileMachine) (a : ℕ) (bytes buf : List ℕ) (t : Store) where
   none_stored (steps.Delete name) refusal stored = refl
   none_stored step refusal stored = refl
 
+  -- what is refused leaves the files
+  pub refused_now : (step : StepValue) (refusal : Refusal) → IsNoGcStep step → Refuses of_files a (ask bytes step) refusal m n
+      → stored_with step (Err refusal) bytes (stored_in m.now) ≡ stored_in n.now
+  refused_now step refusal other is = none_stored step refusal (stored_in m.now) ∙ sym (refused_stays m n a bytes step refusal other is).now
+
   answers_so : (step : StepValue) (answer : Result Answer Refusal) → IsNoGcStep step → IsOfFile step bytes → Answers of_files a (ask bytes step) (answered_by answer buf) m n
       → Goes step answer
   answers_so step (Ok answer) other of is = does step answer other of is

@@ -1,7 +1,9 @@
 -- A step of a core that is at the files of a machine: what is known of it before its parts are proved.
-use Rattle.std.proofs.Common.{◌≡◌, true, None}
+use Rattle.std.proofs.Common.{◌≡◌, ◌⊎◌, inl, inr, true, None, refl}
+use Rattle.actor_parts.specs.StepValue as steps
+use Rattle.actor_parts.specs.StepValue.{StepValue}
 use Rattle.store_model.specs.Collisions.{ByteSet, HasNoCollisions, IsIn}
-use Rattle.store_core.specs.Runs.{FileEvent, FileStep}
+use Rattle.store_core.specs.Runs.{FileEvent, FileStep, IsNoGcStep}
 use Rattle.store_core.specs.State.{CoreState, IsUp}
 use Rattle.store_machine.specs.ByMap.{FileMachine}
 use Rattle.store_machine.specs.Forgetting.{Forgets, forget_step}
@@ -33,3 +35,19 @@ pub record StepsTo (C : Type 0) (state : C → CoreState) (among : ByteSet) (f :
   pub steps : StepsAt C state among f old new m r t
   pub legal : Legal of_files (file_step f) m n
   pub forgets : Forgets n t
+
+-- a step that is none of a collection, or one
+pub by_gc : (step : StepValue) → IsNoGcStep step ⊎ (step ≡ steps.GcStep)
+by_gc steps.GcStep = inr refl
+by_gc steps.Begin = inl tt
+by_gc (steps.Claim seg) = inl tt
+by_gc (steps.Seal filled) = inl tt
+by_gc (steps.Commit name root) = inl tt
+by_gc steps.Abort = inl tt
+by_gc (steps.OpenRead name) = inl tt
+by_gc steps.ReadNext = inl tt
+by_gc steps.EndRead = inl tt
+by_gc (steps.Delete name) = inl tt
+by_gc steps.ListNames = inl tt
+by_gc (steps.GcStart percent) = inl tt
+by_gc steps.Stat = inl tt

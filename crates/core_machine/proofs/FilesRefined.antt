@@ -1,5 +1,5 @@
 -- Each step of a core that stands for files is one of the machine of files.
-use Rattle.std.proofs.Common.{◌≡◌, ◌⊎◌, inl, inr, ℕ, List, [], ◌∷◌, true, Option, Some, None, Result, Ok, Err, IfErr, refl, sym, ◌∙◌, ap, subst}
+use Rattle.std.proofs.Common.{◌≡◌, ◌⊎◌, inl, inr, ℕ, List, [], ◌∷◌, true, Option, Some, None, Result, Ok, Err, IfErr, refl, sym, ◌∙◌, ap, subst, ◌≤◌, arith, map}
 use Rattle.base_model.specs.Known.{KnownWith}
 use Rattle.disk_format.specs.Cells.{Root}
 use Rattle.actor_parts.specs.declared.step.Answer.{Answer}
@@ -14,13 +14,16 @@ use Rattle.store_model.specs.Collisions.{ByteSet, HasNoCollisions, IsIn}
 use Rattle.store_model.specs.Image.{Store}
 use Rattle.store_state.specs.Settled.{IsSettled}
 use Rattle.store_core.specs.declared.stop.Stop.{Stop}
-use Rattle.store_core.specs.Core.{AnswersStopped, Row, Steps, StepsOr}
+use Rattle.dd_disk.specs.View.{CrashLeaves}
+use Rattle.dd_disk.proofs.Later.{leaves_on, reads_here, reads_leave}
+use Rattle.store_core.specs.Core.{AnswersStopped, CoreStep, Row, Steps, StepsOr}
 use Rattle.store_core.specs.Runs.{FileEvent, FileStep, IsAt, IsGivenRight, IsNoGcStep}
 use Rattle.store_core.specs.Sound.{IsHarmless, MayClash}
 use Rattle.store_core.specs.State.{CoreState, Event, IsRunning, IsUp, UnlessStopped}
 use Rattle.store_core.proofs.CoreRuns.{running_step}
 use Rattle.store_core.proofs.Damage.{never_damaged}
 use Rattle.store_core.proofs.RunningOn.{step_runs}
+use Rattle.store_core.proofs.Stepping.{step_later}
 use Rattle.store_core.proofs.Sealing.{one_map}
 use Rattle.store_machine.specs.Asked.{Asked}
 use Rattle.store_machine.specs.ByMap.{FileMachine}
@@ -29,12 +32,15 @@ use Rattle.store_machine.specs.Forgetting.{Forgets, SameState, asked_of, forget_
 use Rattle.store_machine.specs.Legal.{ByState, Legal}
 use Rattle.store_machine.specs.Machine.{Found, RunState, Running, Stopped}
 use Rattle.store_machine.specs.Remembering.{Adds, AddsBy, RootMachine}
+use Rattle.store_machine.specs.Runs.{Run}
 use Rattle.store_machine.specs.Values.{of_files, of_roots}
 use Rattle.store_machine.proofs.Remembered.{steps_are_remembered}
-use Rattle.core_machine.specs.Files.{FileRunsRefine, FilesRefine, FitsBy, IsAtFiles, IsFileMachine, IsOfFile, file_step, stored_in}
+use Rattle.core_machine.specs.Files.{FileRunsRefine, FilesRefine, FitsBy, IsOfFound, IsOfPassed, IsAtFiles, IsFileMachine, IsOfFile, file_step, stored_in}
 use Rattle.core_machine.specs.Refines.{Follows, FollowsPhase, HasIndex, IsMachine, SameStop, TellsForgotten, answered_by, asked_as, asked_by}
 use Rattle.core_machine.specs.Sweeping.{NamesStep}
 use Rattle.core_machine.proofs.FileBroken.{broken}
+use Rattle.core_machine.proofs.FileCrashes.{found_first, found_later, read_leaves, stands_found, step_leaves, step_rises}
+use Rattle.core_machine.proofs.FileStands.{disk_stands}
 use Rattle.core_machine.proofs.FileGc.{gc_adds}
 use Rattle.core_machine.proofs.FileIngests.{claim_adds, commit_adds, seal_adds}
 use Rattle.core_machine.proofs.FileKept.{at_store, by_step, settled}
@@ -42,7 +48,7 @@ use Rattle.core_machine.proofs.FileLives.{lives_then}
 use Rattle.core_machine.proofs.FileReads.{reads_add}
 use Rattle.core_machine.proofs.FileReadsOn.{reads_on}
 use Rattle.core_machine.proofs.FileStays.{stands_read}
-use Rattle.core_machine.proofs.FileSteps.{StepsAt, StepsTo}
+use Rattle.core_machine.proofs.FileSteps.{StepsAt, StepsTo, by_gc}
 use Rattle.core_machine.proofs.FileSwept.{swept_at, swept_settled}
 use Rattle.core_machine.proofs.FileWrote.{wrote_on}
 use Rattle.core_machine.proofs.Refined.{core_refines}
@@ -73,22 +79,6 @@ follows_phase phase content told = tt
 follows : (answer : Result Answer Refusal) (c : CoreState) → KnownWith c.disk.content (λ _. Unit {0}) → Follows answer c
 follows (Ok (answers.Did phase)) c told = follows_phase phase c.disk.content told
 follows answer c told = tt
-
--- a step that is none of a collection, or one
-pub by_gc : (step : StepValue) → IsNoGcStep step ⊎ (step ≡ steps.GcStep)
-by_gc steps.GcStep = inr refl
-by_gc steps.Begin = inl tt
-by_gc (steps.Claim seg) = inl tt
-by_gc (steps.Seal filled) = inl tt
-by_gc (steps.Commit name root) = inl tt
-by_gc steps.Abort = inl tt
-by_gc (steps.OpenRead name) = inl tt
-by_gc steps.ReadNext = inl tt
-by_gc steps.EndRead = inl tt
-by_gc (steps.Delete name) = inl tt
-by_gc steps.ListNames = inl tt
-by_gc (steps.GcStart percent) = inl tt
-by_gc steps.Stat = inl tt
 
 -- nothing is added to a step that says as much of roots as of files
 abbrev AddsNothing : StepValue → Type 0
@@ -213,8 +203,13 @@ module _ {C : Type 0} {state : C → CoreState} {among : ByteSet} {f : FileEvent
 module _ (C : Type 0) (state : C → CoreState) (among : ByteSet) (f : FileEvent) (old new : C) (m : FileMachine) (apart : HasNoCollisions (IsIn among))
     (up : IsRunning (state old)) (is : IsFileMachine (IsIn among) m (state old))
     (of : IsOfFile f.event.step f.bytes) (step : FileStep (IsIn among) f (state old) (state new)) where
+  -- what a crash leaves of it, and its last number
+  abbrev Leaves : FileMachine → Type 0
+  Leaves n = CrashLeaves (λ image. IsOfFound (IsIn among) m image ⊎ IsOfFound (IsIn among) n image) (state old).disk (state new).disk
+      × (m.now.last ≤ n.now.last)
+
   abbrev End : Type 0
-  End = (n : FileMachine) × (Legal of_files (file_step f) m n × IsFileMachine (IsIn among) n (state new))
+  End = (n : FileMachine) × (Legal of_files (file_step f) m n × IsFileMachine (IsIn among) n (state new)) × Leaves n
 
   -- what the machine of roots makes
   abbrev RootEnd : Type 0
@@ -282,6 +277,7 @@ module _ (C : Type 0) (state : C → CoreState) (among : ByteSet) (f : FileEvent
           fits = fits (state new).stop refl left.0.state root.0.state refl left.1.1.state root.1.1.state;
         },
       ),
+      (step_leaves to, step_rises to),
     )
 
   module _ (other : Option (Found (List ℕ))) (stores : List Store) (state_is : m.state ≡ Stopped other stores) (stop : Stop) (stopped : (state old).stop ≡ Some stop) where
@@ -318,6 +314,11 @@ module _ (C : Type 0) (state : C → CoreState) (among : ByteSet) (f : FileEvent
               (subst (λ (s : RunState (List ℕ)). FitsBy s (IsIn among) m (state old)) state_is is.fits)));
         },
       ),
+      subst Leaves (sym same) (
+        read_leaves (IsIn among) m m (state old).disk (state new).disk
+            (subst (λ (s : RunState (List ℕ)). FitsBy s (IsIn among) m (state old)) state_is is.fits) said.same.disk.only,
+        omega arith,
+      ),
     )
 
   by : (a : RunState (List ℕ)) (b : RunState Root) (stop : Option Stop) → m.state ≡ a → SameState a b → SameStop is.roots.acknowledged b stop → (state old).stop ≡ stop → End
@@ -333,13 +334,41 @@ module _ (C : Type 0) (state : C → CoreState) (among : ByteSet) (f : FileEvent
   refined = by m.state is.roots.state (state old).stop refl is.forgets.state is.machine.state refl
 
 pub files_refine : (C : Type 0) (state : C → CoreState) → FilesRefine C state
-files_refine C state among f old new m apart up is of step = refined C state among f old new m apart up is of step
+files_refine C state among f old new m apart up is of step =
+    let end = refined C state among f old new m apart up is of step in (end.0, end.1)
 
 -- ---- steps, one after the other
 
+clock_on : (old new : CoreState) (e : Event) → CoreStep old e new → old.disk.clock ≤ new.disk.clock
+clock_on old new e made = (step_later old new e old.stop made).clock_is
+
 pub file_runs_refine : (C : Type 0) (state : C → CoreState) → FileRunsRefine C state
-file_runs_refine C state among [] old new m apart up is of run = (m, (refl, subst (λ (x : C). IsFileMachine (IsIn among) m (state x)) (sym run) is))
+file_runs_refine C state among [] old new m apart up is of run = (
+  m,
+  refl,
+  subst (λ (x : C). IsFileMachine (IsIn among) m (state x)) (sym run) is,
+  subst (λ (x : C). CrashLeaves (IsOfPassed (IsIn among) [] m m refl) (state old).disk (state x).disk) (sym run)
+      (reads_leave (IsOfPassed (IsIn among) [] m m refl) (state old).disk (state old).disk
+      (λ image there. found_first (IsIn among) [] m m refl image
+      (stands_found (IsIn among) m image ((disk_stands (IsIn among) m (state old) is).images image there))) (reads_here (state old).disk)),
+)
 file_runs_refine C state among (f ∷ fs) old new m apart up is of run =
-    let first = files_refine C state among f old run.0 m apart up is of.0 run.1.0 in
-    let rest = file_runs_refine C state among fs run.0 new first.0 apart (step_runs (state old) (state run.0) f.event run.1.0.made up) first.1.1 of.1 run.1.1 in
-    (rest.0, ((first.0, (first.1.0, rest.1.0)), rest.1.1))
+    let first = refined C state among f old run.0 m apart up is of.0 run.1.0 in
+    let rest = file_runs_refine C state among fs run.0 new first.0 apart
+    (step_runs (state old) (state run.0) f.event run.1.0.made up) first.1.1 of.1 run.1.1 in
+    let whole : Run of_files (map file_step (f ∷ fs)) m rest.0 = (first.0, (first.1.0, rest.1)) in
+    let later : (image : List ℕ) → IsOfPassed (IsIn among) (map file_step fs) first.0 rest.0 rest.1 image
+    → IsOfPassed (IsIn among) (map file_step (f ∷ fs)) m rest.0 whole image =
+    found_later (IsIn among) (file_step f) (map file_step fs) m first.0 rest.0 first.1.0 rest.1 first.2.1 in (
+      rest.0,
+      whole,
+      rest.2,
+      leaves_on (λ image. IsOfFound (IsIn among) m image ⊎ IsOfFound (IsIn among) first.0 image)
+          (IsOfPassed (IsIn among) (map file_step fs) first.0 rest.0 rest.1) (IsOfPassed (IsIn among) (map file_step (f ∷ fs)) m rest.0 whole)
+          (state old).disk (state run.0).disk (state new).disk
+          (clock_on (state old) (state run.0) f.event run.1.0.made) first.2.0 rest.3
+          (λ image one. elim one [
+            | inl before ↦ found_first (IsIn among) (map file_step (f ∷ fs)) m rest.0 whole image before
+            | inr after ↦ later image (found_first (IsIn among) (map file_step fs) first.0 rest.0 rest.1 image after)
+          ]) later,
+    )

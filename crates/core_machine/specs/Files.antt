@@ -2,7 +2,7 @@
 use Rattle.std.specs.Prelude.{◌≡◌, ◌≤◌, ℕ, true, List, length, map, Some}
 use Rattle.std.specs.List.{AllByRecursion}
 use Rattle.base_model.specs.Known.{KnownWith}
-use Rattle.dd_disk.specs.View.{DiskView}
+use Rattle.dd_disk.specs.View.{CrashLeaves, DiskView}
 use Rattle.disk_format.specs.declared.numbers.TheConstants.{MOST_FILE}
 use Rattle.actor_parts.specs.declared.part.Part.TheVariants as core
 use Rattle.actor_parts.specs.declared.part.Reader.{Reader}
@@ -12,7 +12,7 @@ use Rattle.actor_parts.specs.StepValue.{StepValue}
 use Rattle.gc_steps.specs.declared.collection.Collection.{Collection}
 use Rattle.read_steps.specs.Walking.{SegmentsAhead}
 use Rattle.segment_index.specs.Places.{KnownMap}
-use Rattle.store_model.specs.Collisions.{ByteSet, HasNoCollisions, IsIn, Stands as IsStoreOf}
+use Rattle.store_model.specs.Collisions.{ByteSet, HasNoCollisions, IsIn, OpensAs, Stands as IsStoreOf}
 use Rattle.store_model.specs.Files.{Stored}
 use Rattle.store_model.specs.Image.{Store, last_sequence}
 use Rattle.store_model.specs.Reserve.{HoldsCounted}
@@ -30,7 +30,7 @@ use Rattle.store_machine.specs.Machine.{Collection as MachineCollection, Found, 
 use Rattle.store_machine.specs.Needs.{NeededSince}
 use Rattle.store_machine.specs.Opening.{MayBeFound, Stands}
 use Rattle.store_machine.specs.Remembering.{RootMachine}
-use Rattle.store_machine.specs.Runs.{Run}
+use Rattle.store_machine.specs.Runs.{IsPassedFrom, Run}
 use Rattle.store_machine.specs.Values.{of_files}
 use Rattle.core_machine.specs.Lives.{LivesJust}
 use Rattle.core_machine.specs.Refines.{IsMachine, answered_by, asked_as}
@@ -89,6 +89,10 @@ pub record StandsFor (S : List ℕ → Type 0) (m : FileMachine) (disk : DiskVie
   pub content : KnownWith disk.content (MayStand S m)
   pub images : (image : List ℕ) → disk.images image → MayStand S m image
 
+-- The image can be opened as files that may be found.
+abbrev pub IsOfFound : (List ℕ → Type 0) → FileMachine → List ℕ → Type 0
+IsOfFound S m image = (found : Found (List ℕ)) × MayBeFound of_files m.state m.now found × OpensAs S (stored_in found) image
+
 -- ---- the core and the machine
 
 abbrev pub FitsBy : RunState (List ℕ) → (List ℕ → Type 0) → FileMachine → CoreState → Type 0
@@ -124,9 +128,16 @@ FilesRefine C state = (among : ByteSet) (f : FileEvent) (old new : C) (m : FileM
     → FileStep (IsIn among) f (state old) (state new)
     → (n : FileMachine) × (Legal of_files (file_step f) m n × IsFileMachine (IsIn among) n (state new))
 
--- and so by steps of any actors, one after the other
+-- The image can be opened as files that a run comes by, whose last number is that of its beginning or a later one.
+abbrev pub IsOfPassed : (S : List ℕ → Type 0) (ss : List (Stepped (List ℕ))) (m n : FileMachine) → Run of_files ss m n → List ℕ → Type 0
+IsOfPassed S ss m n run image =
+    (found : Found (List ℕ)) × IsPassedFrom of_files m.now.last ss m n run found × OpensAs S (stored_in found) image
+
+-- And so by steps of any actors, one after the other; and at any moment of them, also inside a write, a crash leaves an image that can be
+-- opened as files that the run comes by, or one that it might have left before.
 abbrev pub FileRunsRefine : (C : Type 0) → (C → CoreState) → Type 0
 FileRunsRefine C state = (among : ByteSet) (fs : List FileEvent) (old new : C) (m : FileMachine) → HasNoCollisions (IsIn among)
     → IsRunning (state old) → IsFileMachine (IsIn among) m (state old) → AllByRecursion (λ f. IsOfFile f.event.step f.bytes) fs
     → FileRun C state (IsIn among) fs old new
-    → (n : FileMachine) × (Run of_files (map file_step fs) m n × IsFileMachine (IsIn among) n (state new))
+    → (n : FileMachine) × (run : Run of_files (map file_step fs) m n) × IsFileMachine (IsIn among) n (state new)
+    × CrashLeaves (IsOfPassed (IsIn among) (map file_step fs) m n run) (state old).disk (state new).disk

@@ -30,8 +30,8 @@ pub fn an_opening_is_the_machines<D: Disk, C: HasState>()
 /// Over a disk that tells its content, and data without collisions: what a core does by a step, done or refused, the machine of files may
 /// do, where the root of a commit is that of its bytes and its tree is held; and they fit one another then as before. So steps of any
 /// actors are a run of it. After each step the disk stands for the machine's files, also where the core is stopped: what reads give, and
-/// each image that a crash may leave then, is a store that may stand of files that may be found, and can be opened. What a crash leaves
-/// within a step is not said here. The function does nothing.
+/// each image that a crash may leave then, is a store that may stand of files that may be found, and can be opened. At any moment of such
+/// steps, also inside a write, a crash leaves files that their run comes by, or what it might have left before. The function does nothing.
 pub fn a_core_is_the_machine_of_files<C: HasState>()
     ensures steps { FilesRefine C C.state }
     ensures runs { FileRunsRefine C C.state }

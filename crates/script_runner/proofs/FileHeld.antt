@@ -20,7 +20,7 @@ use Rattle.store_core.proofs.Leading.{Leads}
 use Rattle.store_core.proofs.Releasing.{leads}
 use Rattle.store_machine.specs.ByMap.{FileMachine}
 use Rattle.core_machine.specs.Files.{IsAtFiles, stored_in}
-use Rattle.core_machine.proofs.FilesRefined.{by_gc}
+use Rattle.core_machine.proofs.FileSteps.{by_gc}
 use Rattle.script_runner.specs.LinesAreFileRuns.{HoldsKept}
 use Rattle.script_runner.specs.LinesAreRuns.{Kept}
 use Rattle.script_runner.proofs.CollectParts.{gc_event, needed_held, pin_needed}

@@ -1,7 +1,7 @@
 -- What a crash leaves at any moment of a step, and of steps, of a core that stands for files: files that the run of the machine comes by.
-use Rattle.std.proofs.Common.{◌≡◌, ◌⊎◌, inl, inr, ◌≤◌, ℕ, suc, List, [], ◌∷◌, map, Option, Some, None, Result, Ok, Err, refl, sym, ◌∙◌, ap, subst, arith}
+use Rattle.std.proofs.Common.{◌≡◌, ◌⊎◌, inl, inr, ◌≤◌, ℕ, List, [], ◌∷◌, Some, None, Result, Ok, Err, refl, sym, ◌∙◌, ap, subst, arith}
 use Rattle.dd_disk.specs.View.{CrashLeaves, DiskView, OnlyReads}
-use Rattle.dd_disk.proofs.Later.{leaves_on, leaves_weaker, reads_leave}
+use Rattle.dd_disk.proofs.Later.{leaves_weaker, reads_leave}
 use Rattle.actor_parts.specs.declared.step.Answer.{Answer}
 use Rattle.actor_parts.specs.declared.step.Answer.TheVariants as answers
 use Rattle.actor_parts.specs.StepValue as steps
@@ -10,7 +10,7 @@ use Rattle.refusals.specs.declared.refusal.Refusal.{Refusal}
 use Rattle.refusals.specs.declared.refusal.Refusal.TheVariants as refusals
 use Rattle.store_model.specs.Collisions.{ByteSet, IsIn, OpensAs}
 use Rattle.store_model.specs.Files.{Stored}
-use Rattle.store_core.specs.Runs.{FileEvent, IsNoGcStep, IsOnTheWay, changes_by, stored_by, stored_tried, stored_with}
+use Rattle.store_core.specs.Runs.{FileEvent, IsNoGcStep, IsOnTheWay, stored_by, stored_tried, stored_with}
 use Rattle.store_core.specs.Core.{Steps, StopsAfter}
 use Rattle.store_core.specs.State.{CoreState}
 use Rattle.store_core.proofs.CoreRuns.{running_step}
@@ -23,7 +23,7 @@ use Rattle.store_machine.specs.Opening.{MayBeFound}
 use Rattle.store_machine.specs.Remembering.{RootMachine}
 use Rattle.store_machine.specs.Runs.{IsPassedFrom, Run}
 use Rattle.store_machine.specs.Values.{of_files}
-use Rattle.core_machine.specs.Files.{IsOfFile, IsOfFound, IsOfPassed, MayStand, StandsFor, file_step, stored_in}
+use Rattle.core_machine.specs.Files.{IsOfFound, IsOfPassed, MayStand, StandsFor, stored_in}
 use Rattle.core_machine.specs.Refines.{answered_by, asked_as}
 use Rattle.core_machine.proofs.FileKept.{answers_by, comes, refused_now}
 use Rattle.core_machine.proofs.FileSteps.{StepsTo, by_gc}

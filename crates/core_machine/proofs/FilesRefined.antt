@@ -17,7 +17,7 @@ use Rattle.store_core.specs.declared.stop.Stop.{Stop}
 use Rattle.dd_disk.specs.View.{CrashLeaves}
 use Rattle.dd_disk.proofs.Later.{leaves_on, reads_here, reads_leave}
 use Rattle.store_core.specs.Core.{AnswersStopped, CoreStep, Row, Steps, StepsOr}
-use Rattle.store_core.specs.Runs.{FileEvent, FileStep, IsAt, IsGivenRight, IsNoGcStep}
+use Rattle.store_core.specs.Runs.{FileEvent, FileStep, IsAt, IsGivenRight}
 use Rattle.store_core.specs.Sound.{IsHarmless, MayClash}
 use Rattle.store_core.specs.State.{CoreState, Event, IsRunning, IsUp, UnlessStopped}
 use Rattle.store_core.proofs.CoreRuns.{running_step}

@@ -6,6 +6,7 @@ ghost use Rattle.core_machine.specs.Files.{FileRunsRefine, FilesRefine};
 ghost use Rattle.core_machine.specs.Openings.{OpenedRefines, UnopenedRefines};
 ghost use Rattle.core_machine.specs.Refines.{CoreRefines};
 ghost use Rattle.core_machine.specs.Runs.{RunsRefine};
+ghost use Rattle.core_machine.specs.Unopened.{FilesBegin, FormattedBegins};
 
 use dd_disk::Disk;
 use store_core::HasState;
@@ -46,4 +47,11 @@ pub fn an_opening_finds_its_files<D: Disk, C: HasState>()
     ensures reopened { FilesOpened C (λ c. (C.state c).disk) C C.state }
     ensures unopened { FilesUnopened D D.view }
     ensures unopened_again { FilesReopenedNot C C.state }
+{}
+
+/// An image that can be opened as files may be that of a machine that has these files and is not open yet; one that was formatted, of a
+/// machine without names. The function does nothing.
+pub fn an_image_of_files_is_a_machine()
+    ensures begins { FilesBegin }
+    ensures formatted { FormattedBegins }
 {}

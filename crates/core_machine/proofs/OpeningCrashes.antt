@@ -37,12 +37,14 @@ module _ (among : ByteSet) (m : FileMachine) (old : DiskView) (image : List ℕ)
       leaves_weaker (λ left. old.images left ⊎ IsPartlyFreed store freed image left) Left old new
       (λ left here. elim here [ inl there ↦ inl there | inr part ↦ inr (stand.found, stand.may, stays left part) ]) leaves
 
+  room_leaves : (mid : DiskView) → RoomMade old mid → LeavesFound S m old mid
+  room_leaves mid made =
+      given_back made.short.store made.freed mid (λ left part. (made.content image told).2.2.on_the_way among (stored_in stand.found) left of_found part) (made.crash image told)
+
   -- room was made, and then it was only read
   room_read : (mid new : DiskView) → RoomMade old mid → OnlyReads mid new → LeavesFound S m old new
   room_read mid new made reads =
-      let leaves : LeavesFound S m old mid =
-      given_back made.short.store made.freed mid (λ left part. (made.content image told).2.2.on_the_way among (stored_in stand.found) left of_found part) (made.crash image told) in
-      leaves_on Left Left Left old mid new made.later.clock_is leaves (reads_leave Left mid new leaves.now reads) (λ left here. here) (λ left here. here)
+      leaves_on Left Left Left old mid new made.later.clock_is (room_leaves mid made) (reads_leave Left mid new (room_leaves mid made).now reads) (λ left here. here) (λ left here. here)
 
   module _ (D : Type 0) (view : D → DiskView) where
     pub opened_leaves : (c : CoreState) → OpensCore D view old c → LeavesFound S m old c.disk
@@ -55,7 +57,7 @@ module _ (among : ByteSet) (m : FileMachine) (old : DiskView) (image : List ℕ)
     unopened_leaves refusal new (inr (inr un)) =
         given_back un.short.store un.freed new (un.files image told among (stored_in stand.found) of_found).1 (un.crash image told)
 
--- where each image of before is of the machine
+-- where each image of before is of the machine, so is each that is left
 pub all_found : (S : List ℕ → Type 0) (m : FileMachine) (old new : DiskView) → StandsFor S m old → LeavesFound S m old new → CrashLeaves (IsOfFound S m) old new
 all_found S m old new stands leaves =
     leaves_weaker (λ left. old.images left ⊎ IsOfFound S m left) (IsOfFound S m) old new

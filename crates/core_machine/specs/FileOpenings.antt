@@ -29,8 +29,8 @@ DisksStand C state = (among : ByteSet) (c : C) (m : FileMachine) → IsFileMachi
 abbrev pub LeavesFound : (List ℕ → Type 0) → FileMachine → DiskView → DiskView → Type 0
 LeavesFound S m old new = CrashLeaves (λ image. old.images image ⊎ IsOfFound S m image) old new
 
--- What has been opened, over anything that has a disk whose content may stand, is a machine to which that may come by an opening; and so a
--- crash leaves what may be found meanwhile.
+-- What has been opened, over anything that has a disk whose content may stand, is a machine to which that may come by an opening; of a
+-- crash meanwhile `LeavesFound` holds.
 abbrev pub FilesOpened : (D : Type 0) → (D → DiskView) → (C : Type 0) → (C → CoreState) → Type 0
 FilesOpened D view C state = (among : ByteSet) (actor : ℕ) (before : D) (new : C) (m : FileMachine) → HasNoCollisions (IsIn among)
     → KnownWith (view before).content (MayStand (IsIn among) m) → OpensCore D view (view before) (state new) → IsRunning (state new)
@@ -42,15 +42,16 @@ pub record LeavesFor (S : List ℕ → Type 0) (m : FileMachine) (old new : Disk
   pub content : KnownWith new.content (MayStand S m)
   pub images : (image : List ℕ) → new.images image → old.images image ⊎ MayStand S m image
 
--- What could not be opened is the machine that it was, or containers were given back, as the machine may; and its content may stand still.
+-- What could not be opened is the machine that it was, or containers were given back, as the machine may; its content may stand still; and
+-- of a crash meanwhile `LeavesFound` holds.
 abbrev pub FilesUnopened : (D : Type 0) → (D → DiskView) → Type 0
 FilesUnopened D view = (among : ByteSet) (actor : ℕ) (refusal : Refusal) (before new : D) (m : FileMachine) → HasNoCollisions (IsIn among)
     → KnownWith (view before).content (MayStand (IsIn among) m) → OpensNone D view refusal (view before) (view new)
     → (n : FileMachine) × (Reopens actor (Err refusal) m n × LeavesFor (IsIn among) n (view before) (view new)
     × LeavesFound (IsIn among) m (view before) (view new))
 
--- So it is of a core that could not be opened again, which is that machine then; and a crash leaves meanwhile what may be found of the
--- machine that it was, as each image of before is of that.
+-- So it is of a core that could not be opened again, which is that machine then; and as each image of before can be opened as files that
+-- might be found before it, a crash meanwhile leaves only such.
 abbrev pub FilesReopenedNot : (C : Type 0) → (C → CoreState) → Type 0
 FilesReopenedNot C state = (among : ByteSet) (actor : ℕ) (refusal : Refusal) (old new : C) (m : FileMachine) → HasNoCollisions (IsIn among)
     → IsFileMachine (IsIn among) m (state old)

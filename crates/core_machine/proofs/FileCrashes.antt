@@ -26,6 +26,7 @@ use Rattle.store_machine.specs.Values.{of_files}
 use Rattle.core_machine.specs.Files.{IsOfFound, IsOfPassed, MayStand, StandsFor, stored_in}
 use Rattle.core_machine.specs.Refines.{answered_by, asked_as}
 use Rattle.core_machine.proofs.FileKept.{answers_by, comes, refused_now}
+use Rattle.core_machine.proofs.FileStands.{stands_opens}
 use Rattle.core_machine.proofs.FileSteps.{StepsTo, by_gc}
 
 found_itself : (state : RunState (List ℕ)) (now : Found (List ℕ)) → MayBeFound of_files state now now
@@ -140,7 +141,7 @@ module _ {C : Type 0} {state : C → CoreState} {among : ByteSet} {f : FileEvent
 -- ---- a core that was only read
 
 pub stands_found : (S : List ℕ → Type 0) (m : FileMachine) (image : List ℕ) → MayStand S m image → IsOfFound S m image
-stands_found S m image stand = (stand.found, stand.may, record { store = stand.store; stands = stand.is; opens = stand.opens; last_is = stand.last_is })
+stands_found S m image stand = (stand.found, stand.may, stands_opens S m image stand)
 
 pub read_leaves : (S : List ℕ → Type 0) (m n : FileMachine) (old new : DiskView) → StandsFor S m old → OnlyReads old new
     → CrashLeaves (λ image. IsOfFound S m image ⊎ IsOfFound S n image) old new

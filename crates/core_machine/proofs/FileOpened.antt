@@ -40,9 +40,10 @@ use Rattle.core_machine.specs.Openings.{LeavesMachine, store_read, stores_freed,
 use Rattle.core_machine.specs.Refines.{IsMachine}
 use Rattle.core_machine.proofs.FileFreed.{all_needed, each_given, found_still, given_back, on_the_way, some_needed, stands_still, stands_too}
 use Rattle.core_machine.proofs.FileNames.{now_of_store, named_by}
-use Rattle.core_machine.proofs.FileStands.{disk_stands}
+use Rattle.core_machine.proofs.FileStands.{disk_stands, stands_opens}
 use Rattle.core_machine.proofs.FileStays.{stands_read, still_at_files}
 use Rattle.core_machine.proofs.Opened.{opened_refines, unopened_refines, some_left}
+use Rattle.core_machine.proofs.OpeningCrashes.{all_found, opened_leaves, unopened_leaves}
 
 -- ---- what an image is
 
@@ -139,7 +140,7 @@ module _ (among : ByteSet) (m : FileMachine) (old : DiskView) (image : List ℕ)
   In = IsIn among
 
   abbrev of_found : OpensAs In (stored_in stand.found) image
-  of_found = record { store = stand.store; stands = stand.is; opens = stand.opens; last_is = stand.last_is }
+  of_found = stands_opens In m image stand
 
   named_here : IsNamedBy of_files stand.found stand.store
   named_here = named_by stand.store image stand.found stand.is.holds stand.last_is
@@ -354,13 +355,16 @@ module _ (D : Type 0) (view : D → DiskView) (C : Type 0) (state : C → CoreSt
 module _ (D : Type 0) (view : D → DiskView) where
   pub files_unopened : FilesUnopened D view
   files_unopened among actor refusal before new m distinct stands none =
-      let (image, told, stand) = stands in left_by among m (view before) image told stand D view refusal (view new) actor none none
+      let (image, told, stand) = stands in
+      let (n, (reopens, leaves)) = left_by among m (view before) image told stand D view refusal (view new) actor none none in
+      (n, (reopens, leaves, unopened_leaves among m (view before) image told stand D view refusal (view new) none))
 
   pub files_opened : (C : Type 0) (state : C → CoreState) → FilesOpened D view C state
   files_opened C state among actor before new m distinct stands opens runs =
       let (image, told, stand) = stands in
       let (t, (machine, store_is, may)) = opened_refines D view C state actor before new opens runs in
-      by_way D view C state among actor before new m image told stand t (machine true) (may t) opens store_is
+      let (n, (reopens, is)) = by_way D view C state among actor before new m image told stand t (machine true) (may t) opens store_is in
+      (n, (reopens, is, opened_leaves among m (view before) image told stand D view (state new) opens))
 
 -- ---- one that could not be opened again
 
@@ -426,4 +430,11 @@ files_reopened_not C state among actor refusal old new m distinct at none leaves
     let (image, told, stand) = stands.content in
     let disk = disk_in C state among actor refusal old new m at in
     let (t, (legal_roots, machine, left)) = unopened_refines C disk C state true actor refusal old new at.roots at.machine none leaves in
-    kept_or_stopped C state among actor refusal old new m at none image told stand t machine leaves left
+    let (n, (reopens, is)) = kept_or_stopped C state among actor refusal old new m at none image told stand t machine leaves left in (
+      n,
+      (
+        reopens,
+        is,
+        all_found (IsIn among) m (state old).disk (state new).disk stands (unopened_leaves among m (state old).disk image told stand C disk refusal (state new).disk none),
+      ),
+    )

@@ -41,7 +41,8 @@ pub fn a_core_is_the_machine_of_files<C: HasState>()
 
 /// Of a disk whose content may stand for the files of a machine: what has been opened, at first or again, is a machine of files to which
 /// that may come by an opening; where it is refused containers may have been given back, as the machine may, and the content may stand for
-/// its files still. The function does nothing.
+/// its files still. At any moment of an opening, also as containers are given back, a crash leaves an image that can be opened as files that
+/// might be found before it, or one that it might have left before. The function does nothing.
 pub fn an_opening_finds_its_files<D: Disk, C: HasState>()
     ensures opened { FilesOpened D D.view C C.state }
     ensures reopened { FilesOpened C (λ c. (C.state c).disk) C C.state }

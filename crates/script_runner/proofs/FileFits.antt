@@ -302,7 +302,9 @@ module _ (C : Type 0) (state : C → CoreState) (among : ByteSet) (distinct : Ha
     runs = λ m c fits none. runs_so m c fits none;
     stops = λ m c stop fits is. stops_so m c fits stop is;
     kinds = λ m c fits a. file_parts m.parts fits.roots.parts fits.forgets.parts a ∙ part_kinds fits.roots.parts c.parts fits.machine.parts a;
-    opened = λ a old new m fits opens runs. files_opened C view C state among a old new m distinct (disks_stand C state among old m fits).content opens runs;
+    opened = λ a old new m fits opens runs.
+        let one = files_opened C view C state among a old new m distinct (disks_stand C state among old m fits).content opens runs in
+        (one.0, (one.1.0, one.1.1));
     unopened = λ a refusal old new m fits none leaves.
         let one = files_reopened_not C state among a refusal old new m distinct fits none leaves in
         (one.0, (one.1.0, one.1.1, λ b k own. owns_still refusal (state old) (state new) m one.0 b k leaves own));

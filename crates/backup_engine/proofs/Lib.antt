@@ -1,4 +1,5 @@
 pub mod Added
+pub mod ByFiles
 pub mod Called
 pub mod ClapLines
 pub mod ClapWords

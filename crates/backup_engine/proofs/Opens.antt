@@ -20,7 +20,9 @@ use Rattle.backup_engine.specs.Lines.{RunsEachMap}
 use Rattle.backup_engine.specs.Running.{IsFresh}
 use Rattle.backup_engine.specs.Script.{KeepsScript}
 use Rattle.backup_engine.specs.Singles.{SpeaksAs}
+use Rattle.backup_engine.specs.ByFiles.{RunsEachByFiles}
 use Rattle.backup_engine.specs.TopCall.{DoesCommand, Keeps, RunsScript}
+use Rattle.backup_engine.proofs.ByFiles.{without_memory}
 use Rattle.backup_engine.proofs.Called.{Called}
 use Rattle.backup_engine.proofs.Commanded.{does_here, does_made, does_unmade, does_unread, full_not}
 use Rattle.backup_engine.proofs.Fresh.{fresh}
@@ -55,21 +57,24 @@ module _ (D : Type 0) (view : D → DiskView) (refusal : Refusal) (v w : DiskVie
   does_none command given took unread (inr (inr is)) = does_unmade D view command given v w source sink refusal is took
 
   pub runs_none : ((before : DiskView) → IsNotRead refusal before w → KeepsScript [] (Some (Refused refusal)) before w source source sink sink)
-      → OpensNone D view refusal v w → RunsScript D view [] (Some (Refused refusal)) v w source source sink sink
-  runs_none unread (inl is) = record {
+      → RunsEachByFiles (Some (Refused refusal)) [] v w → OpensNone D view refusal v w → RunsScript D view [] (Some (Refused refusal)) v w source source sink sink
+  runs_none unread by_files (inl is) = record {
     lines = lines_unread D view refusal v w is.0 is.1;
+    by_files = by_files;
     fails_alone = fails_unread D view refusal v w is.0 is.1;
     way = inl (inl (unread v is.0, λ free same. absurd (full_not refusal free same is.1)));
   }
-  runs_none unread (inr (inl is)) =
+  runs_none unread by_files (inr (inl is)) =
       let kept = unread (view is.0) is.1.1 in
       record {
         lines = lines_made D view (Some (Refused refusal)) [] v is.0 is.1.0 w kept.machine;
+        by_files = by_files;
         fails_alone = fails_made D view (Some (Refused refusal)) [] v is.0 is.1.0 kept.fails_alone;
         way = inl (inr (is.0, (is.1.0, is.1.1.reads.only.later, kept)));
       }
-  runs_none unread (inr (inr is)) = record {
+  runs_none unread by_files (inr (inr is)) = record {
     lines = lines_unmade D view refusal v w is;
+    by_files = by_files;
     fails_alone = fails_unmade D view refusal v w is;
     way = inr (record { refusal = refusal; ending_is = refl; unmade = is; none = refl; source_is = refl; sink_is = refl });
   }
@@ -91,6 +96,7 @@ pub runs_without_memory : (D : Type 0) (view : D → DiskView) (v : DiskView) (s
     → RunsScript D view [] (Some (Refused Memory)) v v source source sink sink
 runs_without_memory D view v source sink keeps = record {
   lines = lines_unread D view Memory v v (unbegun v) tt;
+  by_files = without_memory v;
   fails_alone = fails_unread D view Memory v v (unbegun v) tt;
   way = inl (inl (keeps, λ free same. absurd (full_not Memory free same tt)));
 }
@@ -144,27 +150,25 @@ module _ (D : Type 0) (view : D → DiskView) (C : Type 0) (state : C → CoreSt
           let went = goes is.0 (called is.0 is.1.1) in
           (went.0, does_made D view command given (view first.now) w source source_now sink sink_now went.0 ending is.0.now (made_there D view first is.0 is.1.0) went.1.0 went.1.1 went.1.2 (made_later is.0 is.1.1))
 
-    module _ (ending : Option Ending) (source source_now : SourceView) (sink sink_now : SinkView) where
-      pub runs_opened : OpensCore (MutBor D) lent (lent first) (state old)
-          → ((before : MutBor D) → Called C state (lent before) end old new → (rs : List Replied) × KeepsScript rs ending (view before.now) w source source_now sink sink_now)
-          → (rs : List Replied) × RunsScript D view rs ending (view first.now) w source source_now sink sink_now
-      runs_opened (inl read) goes =
-          let went = goes first (called first read) in
-          let runs = read_runs (lent first) (state old) read in (
-            went.0,
-            record {
-              lines = lines_here D view ending went.0 (view first.now) w runs went.1.machine;
-              fails_alone = fails_here D view ending went.0 (view first.now) w runs went.1.fails_alone;
-              way = inl (inl (went.1, λ free is. read_holds first read));
-            },
-          )
-      runs_opened (inr is) goes =
-          let went = goes is.0 (called is.0 is.1.1) in
-          let made = made_there D view first is.0 is.1.0 in (
-            went.0,
-            record {
-              lines = lines_made D view ending went.0 (view first.now) is.0.now made w went.1.machine;
-              fails_alone = fails_made D view ending went.0 (view first.now) is.0.now made went.1.fails_alone;
-              way = inl (inr (is.0.now, (made, made_later is.0 is.1.1, went.1)));
-            },
-          )
+    module _ (rs : List Replied) (ending : Option Ending) (source source_now : SourceView) (sink sink_now : SinkView) where
+      pub runs_opened : OpensCore (MutBor D) lent (lent first) (state old) → RunsEachByFiles ending rs (view first.now) w
+          → ((before : MutBor D) → Called C state (lent before) end old new → KeepsScript rs ending (view before.now) w source source_now sink sink_now)
+          → RunsScript D view rs ending (view first.now) w source source_now sink sink_now
+      runs_opened (inl read) by_files goes =
+          let kept = goes first (called first read) in
+          let runs = read_runs (lent first) (state old) read in
+          record {
+            lines = lines_here D view ending rs (view first.now) w runs kept.machine;
+            by_files = by_files;
+            fails_alone = fails_here D view ending rs (view first.now) w runs kept.fails_alone;
+            way = inl (inl (kept, λ free is. read_holds first read));
+          }
+      runs_opened (inr is) by_files goes =
+          let kept = goes is.0 (called is.0 is.1.1) in
+          let made = made_there D view first is.0 is.1.0 in
+          record {
+            lines = lines_made D view ending rs (view first.now) is.0.now made w kept.machine;
+            by_files = by_files;
+            fails_alone = fails_made D view ending rs (view first.now) is.0.now made kept.fails_alone;
+            way = inl (inr (is.0.now, (made, made_later is.0 is.1.1, kept)));
+          }

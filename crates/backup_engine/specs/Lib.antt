@@ -1,5 +1,6 @@
 pub mod Adding
 pub mod AnyDisk
+pub mod ByFiles
 pub mod Collected
 pub mod Collecting
 pub mod Frame

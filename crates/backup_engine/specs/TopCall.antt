@@ -17,6 +17,7 @@ use Rattle.reply_text.specs.Text.{fault_line}
 use Rattle.recovery.specs.Formatting.{IsLeftByFormat, IsBlankOrFormatted}
 use Rattle.recovery.specs.Room.{RoomMade, RoomUnmade}
 use Rattle.backup_engine.specs.AnyDisk.{Holds, OnAnyDisk, FindsBeforeWriting, Took}
+use Rattle.backup_engine.specs.ByFiles.{RunsEachByFiles}
 use Rattle.backup_engine.specs.Frame.{KeepsOthers}
 use Rattle.backup_engine.specs.Line.{CommandLine, Format, Ingest, Restore, Delete, Collect, TableLine, Single, Run}
 use Rattle.backup_engine.specs.Line as table
@@ -138,6 +139,7 @@ pub record DoesCommand (D : Type 0) (view : D → DiskView) (command : CommandLi
 pub record RunsScript (D : Type 0) (view : D → DiskView) (rs : List Replied) (ending : Option Ending) (disk disk_now : DiskView)
     (source source_now : SourceView) (sink sink_now : SinkView) : Type 0 where
   pub lines : RunsEachWhole D view ending rs disk disk_now
+  pub by_files : RunsEachByFiles ending rs disk disk_now
   pub fails_alone : FailsAloneWhole ending rs disk
   pub way : OnceThereWasRoom D view (λ v. KeepsScript rs ending v disk_now source source_now sink sink_now) ending disk disk_now
       ⊎ MakesNoRoom rs ending disk disk_now source source_now sink sink_now

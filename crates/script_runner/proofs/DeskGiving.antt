@@ -36,8 +36,9 @@ use Rattle.script_runner.specs.Acts.{Acts, Admits, RefusesStep, RunnerState}
 use Rattle.script_runner.specs.LinesAreRuns.{Kept, SameSession, SameSessions, WritersGive}
 use Rattle.script_runner.specs.Sessions.{Sessions, has_ended, kind_by, kind_in, session_of, with_session}
 use Rattle.script_runner.proofs.DeskParts.{same_wrote}
+use Rattle.script_runner.proofs.DeskRuns.{ran_none}
 use Rattle.script_runner.proofs.DeskSessions.{DeskSession, desk_session, gives_on, is_put, put_quiet, same_on, same_put}
-use Rattle.script_runner.proofs.DeskSteps.{Acted, makes, one_step}
+use Rattle.script_runner.proofs.DeskSteps.{Acted, makes}
 use Rattle.script_runner.proofs.Fitting.{AtDesk, Fitted, Keeps}
 
 begin_answer : (a : ℕ) (answer : Answer) (buf : List ℕ) (old new : CoreState) → BeginRow a (Ok answer) old new → replies.Begun a ≡ reply_of a (answered_by (Ok answer) buf)
@@ -149,7 +150,7 @@ module _ (F : Fitted) (r : RunnerState F.C) (d : Desk F.V F.R) (at : AtDesk F d 
         record {
           ss = step_of v a asked.Begin (Err refusal) ∷ [];
           next = record { machine = one.next; sessions = machine.with_session v a (machine.session_of v d a) d };
-          run = one_step v a asked.Begin (Err refusal) d.machine one.next one.legal;
+          ran = one.ran;
           acts = (refl, inl (Err refusal, refl, refl));
           stays = desk_same one.next sessions one.fits one.runs one.others (λ none writes. at.give a none (same_wrote a (state r.core).parts (state s.core).parts row.1 writes))
               (refused_owns steps.Begin refusal refuses.0 one.next one.keeps);
@@ -168,7 +169,7 @@ module _ (F : Fitted) (r : RunnerState F.C) (d : Desk F.V F.R) (at : AtDesk F d 
         record {
           ss = step_of v a asked.Begin told ∷ [];
           next = record { machine = one.next; sessions = machine.with_session v a (Some new_session) d };
-          run = one_step v a asked.Begin told d.machine one.next one.legal;
+          ran = one.ran;
           acts = (refl, inl (told, refl, ap replies.Begun acts.0 ∙ begin_answer a answer does.0 (state r.core) (state s.core) row));
           stays = desk_put one.next (Some new_session) (Some x) begins.5 one.fits one.runs
               (record {
@@ -187,7 +188,7 @@ module _ (F : Fitted) (r : RunnerState F.C) (d : Desk F.V F.R) (at : AtDesk F d 
           | inl memory ↦ record {
             ss = [];
             next = record { machine = d.machine; sessions = machine.with_session v a (machine.session_of v d a) d };
-            run = refl;
+            ran = ran_none F d.machine r.core s.core at.fits memory.1;
             acts = (refl, inr (ap replies.Refused memory.0, refl));
             stays = no_step memory.1 begins.1;
           }
@@ -218,7 +219,7 @@ module _ (F : Fitted) (r : RunnerState F.C) (d : Desk F.V F.R) (at : AtDesk F d 
         record {
           ss = [];
           next = record { machine = d.machine; sessions = machine.with_session v a (Some (record was.s { ended = true })) d };
-          run = refl;
+          ran = ran_none F d.machine r.core s.core at.fits same;
           acts = (
             was.s,
             (was.there, refl),
@@ -246,7 +247,7 @@ module _ (F : Fitted) (r : RunnerState F.C) (d : Desk F.V F.R) (at : AtDesk F d 
         record {
           ss = [];
           next = record { machine = d.machine; sessions = machine.with_session v a (machine.session_of v d a) d };
-          run = refl;
+          ran = ran_none F d.machine r.core s.core at.fits ends.2;
           acts = (was.s, (was.there, ap (λ (o : Option Session). machine.with_session v a o d) was.there), refl, inr (ap replies.Refused ends.0));
           stays = no_step ends.2 ends.1;
         }
@@ -280,7 +281,7 @@ module _ (F : Fitted) (r : RunnerState F.C) (d : Desk F.V F.R) (at : AtDesk F d 
         record {
           ss = step_of v a asked.Abort told ∷ [];
           next = record { machine = one.next; sessions = machine.with_session v a None d };
-          run = one_step v a asked.Abort told d.machine one.next one.legal;
+          ran = one.ran;
           acts = (was.s, (was.there, refl), (told, refl, ap replies.Aborted acts.0 ∙ abort_answer a answer does.0 (state r.core) (state s.core) row));
           stays = desk_put one.next None None aborts.1 one.fits one.runs tt one.others (λ none. abort_quiet a answer (state r.core) (state s.core) row)
               (λ c k differs owns. one.keeps.others c k differs owns);
@@ -293,7 +294,7 @@ module _ (F : Fitted) (r : RunnerState F.C) (d : Desk F.V F.R) (at : AtDesk F d 
         record {
           ss = step_of v a asked.Abort (Err refusal) ∷ [];
           next = record { machine = one.next; sessions = machine.with_session v a (machine.session_of v d a) d };
-          run = one_step v a asked.Abort (Err refusal) d.machine one.next one.legal;
+          ran = one.ran;
           acts = (was.s, (was.there, ap (λ (o : Option Session). machine.with_session v a o d) was.there), (Err refusal, refl, refl));
           stays = desk_same one.next aborts.1 one.fits one.runs one.others (λ none writes. at.give a none (same_wrote a (state r.core).parts (state s.core).parts row.1 writes))
               (refused_owns steps.Abort refusal aborts.0.0 one.next one.keeps);

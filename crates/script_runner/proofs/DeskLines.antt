@@ -1,5 +1,5 @@
 -- Each line that is run is one of a machine that fits the core; and so of the machine of roots, on any disk.
-use Rattle.std.proofs.Common.{◌≡◌, ◌∙◌, ℕ, Bool, zero, suc, false, List, [], ◌∷◌, ◌++◌, length, slice_index_or, replicate, Option, Some, None, refl, sym, ap, subst}
+use Rattle.std.proofs.Common.{◌≡◌, inl, inr, ◌∙◌, ℕ, Bool, zero, suc, false, List, [], ◌∷◌, ◌++◌, length, slice_index_or, replicate, Option, Some, None, refl, sym, ap, subst}
 use Rattle.std.proofs.lemmas.List.{length-replicate}
 use Rattle.disk_format.specs.Cells.{Root}
 use Rattle.dd_disk.specs.View.{DiskView}
@@ -30,15 +30,17 @@ use Rattle.core_machine.proofs.Opened.{opened_refines, unopened_refines}
 use Rattle.core_machine.proofs.Refined.{core_refines}
 use Rattle.script_runner.specs.Acts.{RunnerState, RunsLine}
 use Rattle.script_runner.specs.Follows.{IsOfActor}
-use Rattle.script_runner.specs.LinesAreRuns.{AllLeadTo, BeginsAtDesk, Kept, LinesAreRuns, OwnsAny, RootDesk, SameSessions, ScriptsAreRuns}
+use Rattle.script_runner.specs.LinesAreRuns.{AllLeadTo, BeginsAtDesk, Kept, LeavesAny, LinesAreRuns, OwnsAny, RootDesk, SameSessions, ScriptsAreRuns, as_lines}
 use Rattle.script_runner.specs.Scripts.{AreOfActors, RunsLines}
 use Rattle.script_runner.proofs.DeskGiving.{abort_acts, begin_acts, finish_acts}
 use Rattle.script_runner.proofs.DeskReopens.{idle_give, reopen_line}
+use Rattle.script_runner.proofs.DeskRuns.{lines_leave, ran_none}
 use Rattle.script_runner.proofs.DeskSessions.{none_same}
 use Rattle.script_runner.proofs.DeskSteps.{taken_or_not}
 use Rattle.script_runner.proofs.DeskTaking.{delete_acts, drop_acts, gc_acts, gc_step_acts, list_acts, next_acts, read_acts, stat_acts, sweep_acts}
 use Rattle.script_runner.proofs.DeskTurnLines.{commit_acts, push_acts, turn_acts}
-use Rattle.script_runner.proofs.Fitting.{AtDesk, Fitted, Fitting, IsOfGiven, Keeps, Leads}
+use Rattle.script_runner.proofs.FaultsCounted.{line_went}
+use Rattle.script_runner.proofs.Fitting.{AtDesk, Fitted, Fitting, IsOfGiven, Keeps, Leads, LeavesEither}
 
 -- ---- a machine that fits
 
@@ -49,7 +51,7 @@ AllowedAt F d = (a : ℕ) (t : Session) → machine.session_of F.v d a ≡ Some 
 module _ (F : Fitted) (r s : RunnerState F.C) (d : Desk F.V F.R) (at : AtDesk F d r) (allowed : AllowedAt F d) where
   open F use {V, R, v, C, state, Fits, Owns, Allowed, fitting}
 
-  pub line_runs : (line : LineValue) (reply : ReplyValue) → IsOfActor line → RunsLine C state line reply r s → Leads F line reply d s
+  pub line_runs : (line : LineValue) (reply : ReplyValue) → IsOfActor line → RunsLine C state line reply r s → Leads F line reply d r s
   line_runs (lines.Begin a) reply actor runs =
       taken_or_not F r d at (lines.Begin a) reply s (λ is. cc) (λ admits acts. begin_acts F r d at s a (actor a refl) admits reply acts) runs
   line_runs (lines.Push a digits) reply actor runs =
@@ -91,11 +93,17 @@ AllowedBy F (one ∷ more) d =
     AllowedAt F d × ((steps : List (Stepped F.V)) (mid : Desk F.V F.R) → machine.Line F.v one.line one.reply steps d mid → AllowedBy F more mid)
 
 module _ (F : Fitted) where
-  open F use {V, R, v, C, state, Fits, Owns}
+  open F use {V, R, v, C, state, Fits, Owns, Left, fitting}
 
   pub script_runs : (rs : List Replied) (r s : RunnerState C) (d : Desk V R) → AreOfActors rs → AllowedBy F rs d → AtDesk F d r → RunsLines C state rs r s
-      → AllLeadTo v state Fits Owns rs d s
-  script_runs [] r s d actors allowed at run = record { steps = []; next = d; lines_are = (refl, refl); at = subst (λ (t : RunnerState C). AtDesk F d t) (sym run) at }
+      → AllLeadTo v state Fits Owns Left rs d r s
+  script_runs [] r s d actors allowed at run = record {
+    steps = [];
+    next = d;
+    lines_are = (refl, refl);
+    at = subst (λ (t : RunnerState C). AtDesk F d t) (sym run) at;
+    leaves = (ran_none F d.machine r.core s.core at.fits (ap (λ (t : RunnerState C). t.core) run)).leaves;
+  }
   script_runs (one ∷ more) r s d actors allowed at run =
       let mid = run.1.0 in
       let first = line_runs F r mid d at allowed.0 one.line one.reply actors.0 run.1.1.0 in
@@ -105,6 +113,8 @@ module _ (F : Fitted) where
         next = rest.next;
         lines_are = (first.steps, rest.steps, first.next, refl, first.line_is, rest.lines_are);
         at = rest.at;
+        leaves = lines_leave v Left (record { line = one.line; reply = one.reply }) (as_lines more) first.steps rest.steps d first.next rest.next first.line_is rest.lines_are
+            (state r.core).disk (state mid.core).disk (state s.core).disk (line_went C state one.line one.reply r mid run.1.1.0).later.clock_is first.leaves rest.leaves;
       }
 
 -- ---- the machine of roots
@@ -121,6 +131,9 @@ keeps_any e m n old new = record {
   begun = λ answer below step is. tt;
   turned = λ x h answer has asks is told owns. tt;
 }
+
+any_left : (m n : Machine Root (List Top)) (old new : DiskView) → LeavesEither LeavesAny m n old new
+any_left m n old new = record { now = λ image there. inl tt; since = λ t image before there. inr (inl tt) }
 
 -- a commit asks for the root of what was given
 asked_so : (P : Kept → Type 0) (step : StepValue) (given : List ℕ) → IsOfGiven Any P step given → asked_by step ≡ asked_as (λ root. of_roots.of given) step
@@ -168,7 +181,7 @@ module _ (C : Type 0) (state : C → CoreState) where
   abbrev view : C → DiskView
   view c = (state c).disk
 
-  roots_fit : Fitting of_roots C state (IsMachine false) OwnsAny Any
+  roots_fit : Fitting of_roots C state (IsMachine false) OwnsAny Any LeavesAny
   roots_fit = record {
     step = λ e given old new m runs fits right step.
         let one = core_refines C state false e old new m runs fits (λ is. absurd cc) step in (
@@ -178,14 +191,17 @@ module _ (C : Type 0) (state : C → CoreState) where
                 (asked_so (λ k. Unit {0}) e.step given right) one.1.0,
             one.1.1,
             keeps_any e m one.0 (state old) (state new),
+            any_left m one.0 (state old).disk (state new).disk,
           ),
         );
+    here = λ m c fits image there. tt;
     runs = λ m c fits none. runs_by m.acknowledged m.state c.stop fits.state none;
     stops = λ m c stop fits is. stops_by m.acknowledged m.state c.stop stop fits.state is;
     kinds = λ m c fits a. part_kinds m.parts c.parts fits.parts a;
-    opened = λ a old new m fits opens runs. let one = opened_refines C view C state a old new opens runs in (one.0, (one.1.2 m, one.1.0 false));
+    opened = λ a old new m fits opens runs. let one = opened_refines C view C state a old new opens runs in
+        (one.0, (one.1.2 m, one.1.0 false, any_left m one.0 (state old).disk (state new).disk));
     unopened = λ a refusal old new m fits none leaves. let one = unopened_refines C view C state false a refusal old new m fits none leaves in
-        (one.0, (one.1.0, one.1.1, λ b k owns. tt));
+        (one.0, (one.1.0, one.1.1, λ b k owns. tt, any_left m one.0 (state old).disk (state new).disk));
   }
 
   abbrev roots_fitted : Fitted
@@ -198,6 +214,7 @@ module _ (C : Type 0) (state : C → CoreState) where
     Fits = IsMachine false;
     Owns = OwnsAny;
     Allowed = Any;
+    Left = LeavesAny;
     fitting = roots_fit;
   }
 

@@ -1,5 +1,5 @@
 -- `reopen` as a line of a machine that fits the core.
-use Rattle.std.proofs.Common.{◌≡◌, inl, inr, ◌∙◌, ℕ, zero, suc, List, [], ◌∷◌, length, slice_index_or, replicate, Option, None, Result, Ok, Err, refl, sym, ap, subst}
+use Rattle.std.proofs.Common.{◌≡◌, ◌⊎◌, ◌≤◌, inl, inr, ◌∙◌, ℕ, zero, suc, List, [], ◌∷◌, length, slice_index_or, replicate, Option, None, Result, Ok, Err, refl, sym, ap, subst, arith}
 use Rattle.std.proofs.lemmas.List.{length-replicate}
 use Rattle.std.specs.FinMap as finite
 use Rattle.actor_parts.specs.declared.actor.TheConstants.{ACTORS}
@@ -9,6 +9,7 @@ use Rattle.actor_parts.specs.Kinds as core_kinds
 use Rattle.actor_parts.specs.Parts.{part_of}
 use Rattle.actor_parts.specs.StepValue as steps
 use Rattle.dd_disk.specs.View.{DiskView}
+use Rattle.dd_disk.proofs.Later.{leaves_on}
 use Rattle.refusals.specs.declared.refusal.Refusal.{Refusal}
 use Rattle.ingest_session.specs.State.{SessionState}
 use Rattle.script_lines.specs.Grammar as lines
@@ -29,9 +30,11 @@ use Rattle.script_runner.specs.Acts.{ActsReopen, RefusesReopen, Reopens, RunnerS
 use Rattle.script_runner.specs.LinesAreRuns.{Kept, SameSessions, WritersGive}
 use Rattle.script_runner.specs.Sessions.{Sessions}
 use Rattle.script_runner.proofs.DeskParts.{quiet_gives}
+use Rattle.script_runner.proofs.DeskRuns.{Ran, ran_step, ran_still}
 use Rattle.script_runner.proofs.DeskSessions.{same_none, same_on}
-use Rattle.script_runner.proofs.DeskSteps.{answers_so, makes, one_step}
-use Rattle.script_runner.proofs.Fitting.{AtDesk, Fitted, Leads}
+use Rattle.script_runner.proofs.DeskSteps.{answers_so, makes}
+use Rattle.script_runner.proofs.FaultsCounted.{opened_went, unopened_went}
+use Rattle.script_runner.proofs.Fitting.{AtDesk, Fitted, Leads, LeavesEither}
 
 -- a core that was opened runs
 read_runs : (before : DiskView) (c : CoreState) → IsReadFrom before c → IsRunning c
@@ -67,13 +70,13 @@ kept_parts C view refusal old new (inl kept) = kept.0.parts_are
 kept_parts C view refusal old new (inr stops) = stops.parts_are
 
 module _ (F : Fitted) (r : RunnerState F.C) (d : Desk F.V F.R) (at : AtDesk F d r) (s : RunnerState F.C) where
-  open F use {V, R, v, C, state, Fits, Owns, Allowed, fitting}
+  open F use {V, R, v, C, state, Fits, Owns, Allowed, Left, fitting}
 
   abbrev view : C → DiskView
   view c = (state c).disk
 
   abbrev Reopened : ReplyValue → Type 0
-  Reopened reply = Leads F lines.Reopen reply d s
+  Reopened reply = Leads F lines.Reopen reply d r s
 
   -- ---- it is opened
 
@@ -84,7 +87,8 @@ module _ (F : Fitted) (r : RunnerState F.C) (d : Desk F.V F.R) (at : AtDesk F d 
     mid_runs : IsRunning (state acts.mid)
     mid_runs = opened_runs C view (state r.core).disk (state acts.mid) acts.opened
 
-    opens : (n : Machine V R) × (Legal v (step_of v 0 asked.Reopen (Ok (done.Reopened (finite.len (state acts.mid).tables.names)))) d.machine n × Fits n (state acts.mid))
+    opens : (n : Machine V R) × (Legal v (step_of v 0 asked.Reopen (Ok (done.Reopened (finite.len (state acts.mid).tables.names)))) d.machine n × Fits n (state acts.mid)
+        × LeavesEither Left d.machine n (state r.core).disk (state acts.mid).disk)
     opens = fitting.opened 0 r.core acts.mid d.machine at.fits acts.opened mid_runs
 
     abbrev n : Machine V R
@@ -111,12 +115,19 @@ module _ (F : Fitted) (r : RunnerState F.C) (d : Desk F.V F.R) (at : AtDesk F d 
         let legal = answers_so v n one.next 0 asked.Stat (answered_by (Ok (counted acts.holdings)) acts.counts.0)
         (fitting.runs n (state acts.mid) opens.1.1 (opened_stop C view (state r.core).disk (state acts.mid) acts.opened)) one.legal in
         let found = opens.1.0 in
+        let clock : (state r.core).disk.clock ≤ (state acts.mid).disk.clock = (opened_went C state (state r.core).disk (state acts.mid) acts.opened).later.clock_is in
         let count : finite.len (state acts.mid).tables.names ≡ files =
         found.files_are ∙ ap (λ (m : Machine V R). finite.len m.now.names) (sym found.others) ∙ sym (names_are one.next legal) ∙ sym acts.files_are in
+        let ran : Ran F (step_of v 0 asked.Reopen told ∷ []) d.machine n r.core s.core =
+        ran_step F (step_of v 0 asked.Reopen told) d.machine n r.core s.core opens.1.0
+        (leaves_on (λ image. Left d.machine image ⊎ Left n image) (λ image. Left n image ⊎ Left one.ran.run.0 image) (λ image. Left d.machine image ⊎ Left n image)
+        (state r.core).disk (state acts.mid).disk (state s.core).disk clock opens.1.2 one.ran.leaves (λ image left. left)
+        (λ image left. elim left [ inl before ↦ inr before | inr after ↦ inr (subst (λ (m : Machine V R). Left m image) (sym one.ran.run.1.1 ∙ legal.1) after) ]))
+        (omega (arith, clock, one.ran.later)) in
         record {
           steps = step_of v 0 asked.Reopen told ∷ [];
           next = record { machine = n; sessions = all_none d.sessions };
-          line_is = (one_step v 0 asked.Reopen told d.machine n opens.1.0, ((0, (told, refl, ap replies.Opened (sym count))), refl));
+          line_is = (ran.run, ((0, (told, refl, ap replies.Opened (sym count))), refl));
           at = record {
             runs = one.runs;
             fits = subst (λ (m : Machine V R). Fits m (state s.core)) legal.1 one.fits;
@@ -126,6 +137,7 @@ module _ (F : Fitted) (r : RunnerState F.C) (d : Desk F.V F.R) (at : AtDesk F d 
             give = quiet_gives counting (state acts.mid) (state s.core) s.sessions tt acts.counts.1
                 (idle_give s.sessions (state acts.mid).parts (opened_parts C view (state r.core).disk (state acts.mid) acts.opened));
           };
+          leaves = ran.leaves;
         }
 
   -- ---- it isn't
@@ -134,13 +146,13 @@ module _ (F : Fitted) (r : RunnerState F.C) (d : Desk F.V F.R) (at : AtDesk F d 
     abbrev told : Result Done Refusal
     told = Err refusal
 
-    unopened_at : (n : Machine V R) → Legal v (step_of v 0 asked.Reopen told) d.machine n → Fits n (state s.core) → IsRunning (state s.core)
+    unopened_at : (n : Machine V R) → Ran F (step_of v 0 asked.Reopen told ∷ []) d.machine n r.core s.core → Fits n (state s.core) → IsRunning (state s.core)
         → (state s.core).parts ≡ (state r.core).parts → ((b : ℕ) (k : Kept) → Owns b k d.machine (state r.core) → Owns b k n (state s.core))
         → Reopened (replies.Refused refusal)
-    unopened_at n legal fits runs parts owns = record {
+    unopened_at n ran fits runs parts owns = record {
       steps = step_of v 0 asked.Reopen told ∷ [];
       next = record { machine = n; sessions = d.sessions };
-      line_is = (one_step v 0 asked.Reopen told d.machine n legal, ((0, (told, refl, refl)), refl));
+      line_is = (ran.run, ((0, (told, refl, refl)), refl));
       at = record {
         runs = runs;
         fits = fits;
@@ -149,20 +161,26 @@ module _ (F : Fitted) (r : RunnerState F.C) (d : Desk F.V F.R) (at : AtDesk F d 
         many = ap length sessions ∙ at.many;
         give = subst (λ (xs : Sessions). WritersGive xs (state s.core).parts) (sym sessions) (subst (WritersGive r.sessions) (sym parts) at.give);
       };
+      leaves = ran.leaves;
     }
 
     unopened_line : RefusesReopen C state refusal r.core s.core → Reopened (replies.Refused refusal)
     unopened_line refuses = elim refuses.why [
-      | inl memory ↦ unopened_at d.machine (subst (λ (e : Refusal). opening.MayRefuseOpening v e) (sym memory.0) tt, inl refl)
+      | inl memory ↦ unopened_at d.machine
+          (ran_still F (step_of v 0 asked.Reopen told) d.machine r.core s.core (subst (λ (e : Refusal). opening.MayRefuseOpening v e) (sym memory.0) tt, inl refl) at.fits memory.1)
           (subst (λ (c : C). Fits d.machine (state c)) (sym memory.1) at.fits)
           (subst (λ (c : C). IsRunning (state c)) (sym memory.1) at.runs) (ap (λ (c : C). (state c).parts) memory.1)
           (λ b k owns. subst (λ (c : C). Owns b k d.machine (state c)) (sym memory.1) owns)
       | inr none ↦ by (fitting.unopened 0 refusal r.core s.core d.machine at.fits none.0 none.1) none.1
+          (unopened_went C state refusal (state r.core).disk (state s.core).disk none.0).later.clock_is
     ]
       where
         by : (n : Machine V R) × (Legal v (step_of v 0 asked.Reopen told) d.machine n × Fits n (state s.core) × ((b : ℕ) (k : Kept) → Owns b k d.machine (state r.core)
-            → Owns b k n (state s.core))) → StaysOrStops C view refusal (state r.core) (state s.core) → Reopened (replies.Refused refusal)
-        by went leaves = unopened_at went.0 went.1.0 went.1.1 (stays_runs C view refusal (state r.core) (state s.core) leaves at.runs)
+            → Owns b k n (state s.core)) × LeavesEither Left d.machine n (state r.core).disk (state s.core).disk) → StaysOrStops C view refusal (state r.core) (state s.core)
+            → (state r.core).disk.clock ≤ (state s.core).disk.clock → Reopened (replies.Refused refusal)
+        by went leaves later = unopened_at went.0
+            (ran_step F (step_of v 0 asked.Reopen told) d.machine went.0 r.core s.core went.1.0 went.1.3 later) went.1.1
+            (stays_runs C view refusal (state r.core) (state s.core) leaves at.runs)
             (kept_parts C view refusal (state r.core) (state s.core) leaves) went.1.2
 
   pub reopen_line : (reply : ReplyValue) → ActsReopen C state reply r s → Reopened reply

@@ -1,5 +1,5 @@
 -- A step of the core as one of a machine that fits it; and lines that are one step, or are barred.
-use Rattle.std.proofs.Common.{◌≡◌, ◌≢◌, ◌⊎◌, ◌==◌, inl, inr, ◌∙◌, ◌+◌, ◌-◌, ◌^◌, ◌<◌, min, ℕ, suc, Bool, true, false, List, [], ◌∷◌, ◌++◌, length, slice_index_or, Option, Some, None, Result, refl, sym, ap, subst, arith}
+use Rattle.std.proofs.Common.{◌≡◌, ◌≢◌, ◌⊎◌, ◌==◌, inl, inr, ◌∙◌, ◌+◌, ◌-◌, ◌^◌, ◌<◌, min, ℕ, suc, Bool, true, false, List, [], ◌∷◌, length, slice_index_or, Option, Some, None, Result, refl, sym, ap, subst, arith}
 use Rattle.std.proofs.lemmas.Bool.{eqb-true, eqb-false}
 use Rattle.actor_parts.specs.declared.step.Answer.{Answer}
 use Rattle.actor_parts.specs.Parts.{part_of}
@@ -14,19 +14,20 @@ use Rattle.store_core.specs.declared.stop.Stop.{Stop}
 use Rattle.store_core.specs.Core.{CoreStep}
 use Rattle.store_core.specs.State.{CoreState, Event, IsRunning}
 use Rattle.store_core.proofs.RunningOn.{step_runs}
+use Rattle.store_core.proofs.Stepping.{step_later}
 use Rattle.store_machine.specs.Asked.{Asked}
 use Rattle.store_machine.specs.Done.{Done}
 use Rattle.store_machine.specs.Legal.{Answers, ByState, Legal}
 use Rattle.store_machine.specs.Lines as machine
 use Rattle.store_machine.specs.Lines.{Desk, Ends, IsStep, Says, kind_at, step_of}
 use Rattle.store_machine.specs.Machine.{Machine, RunState, Running, Stepped, kind_of, part_in}
-use Rattle.store_machine.specs.Runs.{Run}
 use Rattle.store_machine.specs.Values.{Values}
 use Rattle.core_machine.specs.Refines.{answered_by, asked_as}
 use Rattle.script_runner.specs.Acts.{Acts, ActsOrNot, Admits, BarsBy, RunnerState}
 use Rattle.script_runner.specs.LinesAreRuns.{Kept, SameSessions, WritersGive}
 use Rattle.script_runner.specs.Sessions.{Sessions, kind_in, session_of}
 use Rattle.script_runner.proofs.DeskParts.{IsQuiet, others_stay, quiet_gives}
+use Rattle.script_runner.proofs.DeskRuns.{Ran, ran_none, ran_step}
 use Rattle.script_runner.proofs.DeskSessions.{same_actor, same_at, same_kind, same_on, same_takes}
 use Rattle.script_runner.proofs.Fitting.{AtDesk, Fitted, IsOfGiven, Keeps, Leads}
 
@@ -35,13 +36,6 @@ pub number_so : (journal last number : ℕ) → number ≡ suc journal → numbe
 number_so journal last number one other some = omega (arith, one, other, some)
 
 module _ {V R : Type 0} (v : Values V R) where
-  pub one_step : (a : ℕ) (step : Asked V) (told : Result Done Refusal) (m n : Machine V R) → Legal v (step_of v a step told) m n → Run v (step_of v a step told ∷ []) m n
-  one_step a step told m n legal = (n, (legal, refl))
-
-  pub run_more : (xs ys : List (Stepped V)) (m k n : Machine V R) → Run v xs m k → Run v ys k n → Run v (xs ++ ys) m n
-  run_more [] ys m k n first next = subst (λ (x : Machine V R). Run v ys x n) first next
-  run_more (x ∷ xs) ys m k n first next = (first.0, (first.1.0, run_more xs ys first.0 k n first.1.1 next))
-
   -- a machine that runs answers by what it is
   pub answers_so : (m n : Machine V R) (a : ℕ) (step : Asked V) (told : Result Done Refusal) → m.state ≡ Running → ByState v m.state a step told m n → Answers v a step told m n
   answers_so m n a step told is legal = subst (λ (state : RunState V). ByState v state a step told m n) is legal
@@ -67,6 +61,7 @@ module _ (F : Fitted) where
     pub runs : IsRunning (state new)
     pub others : (b : ℕ) → b ≢ e.actor → part_of (state new).parts b ≡ part_of (state old).parts b
     pub keeps : Keeps Owns e m next (state old) (state new)
+    pub ran : Ran F (step_of v e.actor (asked_as (λ root. v.of given) e.step) (answered_by e.answer e.buf) ∷ []) m next old new
 
   pub makes : (e : Event) (given : List ℕ) (old new : C) (m : Machine V R) → IsRunning (state old) → Fits m (state old)
       → IsOfGiven Allowed (λ k. Owns e.actor k m (state old)) e.step given → CoreStep (state old) e (state new)
@@ -80,6 +75,8 @@ module _ (F : Fitted) where
         runs = step_runs (state old) (state new) e step runs;
         others = others_stay e (state old) (state new) step;
         keeps = one.1.2;
+        ran = ran_step F (step_of v e.actor (asked_as (λ root. v.of given) e.step) (answered_by e.answer e.buf)) m one.0 old new one.1.0 one.1.3
+            (step_later (state old) (state new) e (state old).stop step).clock_is;
       }
 
   -- what actors own stays, where the step is one of who gives no file
@@ -96,7 +93,7 @@ module _ (F : Fitted) where
     pub record Acted (line : LineValue) (reply : ReplyValue) (s : RunnerState C) : Type 0 where
       pub ss : List (Stepped V)
       pub next : Desk V R
-      pub run : Run v ss d.machine next.machine
+      pub ran : Ran F ss d.machine next.machine r.core s.core
       pub acts : machine.Acts v line reply ss d next
       pub stays : AtDesk F next s
 
@@ -131,20 +128,22 @@ module _ (F : Fitted) where
     -- what a line does is what the machine may do where it does so if it is taken
     pub taken_or_not : (line : LineValue) (reply : ReplyValue) (s : RunnerState C) → line ≢ lines.Reopen
         → (Admits line r.sessions (state r.core) → Acts C state line reply r s → Acted line reply s)
-        → ActsOrNot C state line reply r s → Leads F line reply d s
+        → ActsOrNot C state line reply r s → Leads F line reply d r s
     taken_or_not line reply s other taken (inl admitted) =
         let acted = taken admitted.0 admitted.1 in
         record {
           steps = acted.ss;
           next = acted.next;
-          line_is = (acted.run, says_so v line reply acted.ss d acted.next other (inl (admits_so line admitted.0, acted.acts)));
+          line_is = (acted.ran.run, says_so v line reply acted.ss d acted.next other (inl (admits_so line admitted.0, acted.acts)));
           at = acted.stays;
+          leaves = acted.ran.leaves;
         }
     taken_or_not line reply s other taken (inr barred) = record {
       steps = [];
       next = d;
       line_is = (refl, says_so v line reply [] d d other (inr (barred.0, bars_by line barred.0 (state r.core).stop refl barred.2, barred.1, refl, refl)));
       at = subst (λ (t : RunnerState C). AtDesk F d t) (sym barred.3) at;
+      leaves = (ran_none F d.machine r.core s.core at.fits (ap (λ (t : RunnerState C). t.core) barred.3)).leaves;
     }
 
     -- ---- a line that is one step, whatever was given
@@ -176,7 +175,7 @@ module _ (F : Fitted) where
           record {
             ss = step_of v a asked_for told ∷ [];
             next = record { machine = one.next; sessions = d.sessions };
-            run = one_step v a asked_for told d.machine one.next one.legal;
+            ran = one.ran;
             acts = acts (step_of v a asked_for told ∷ []) (record { machine = one.next; sessions = d.sessions }) (a, asked_for, is, (told, refl, reply_is), refl);
             stays = desk_after one.next one.fits one.runs (quiet_gives e (state r.core) (state s.core) r.sessions quiet made at.give)
                 (all_keep e d.machine one.next (state r.core) (state s.core) one.keeps quiet);

@@ -17,12 +17,12 @@ use Rattle.store_machine.specs.Done.{Done}
 use Rattle.store_machine.specs.Legal.{Answers, ByState, Legal}
 use Rattle.store_machine.specs.Lines.{AreDid, Desk, IsLast, reply_of, step_of}
 use Rattle.store_machine.specs.Machine.{Machine, RunState, Stepped}
-use Rattle.store_machine.specs.Runs.{Run}
 use Rattle.core_machine.specs.Refines.{answered_by}
 use Rattle.script_runner.specs.Acts.{Acts, Admits, CollectionRun, DoesStep, RunnerState, Sweeps}
 use Rattle.script_runner.specs.LinesAreRuns.{Kept, WritersGive}
 use Rattle.script_runner.proofs.DeskParts.{quiet_gives}
-use Rattle.script_runner.proofs.DeskSteps.{Acted, all_keep, answers_so, desk_after, makes, number_so, one_step, run_more, step_line}
+use Rattle.script_runner.proofs.DeskRuns.{Ran, ran_none, ran_on, ran_still}
+use Rattle.script_runner.proofs.DeskSteps.{Acted, all_keep, answers_so, desk_after, makes, number_so, step_line}
 use Rattle.script_runner.proofs.Fitting.{AtDesk, Fitted}
 
 drop_answer : (a : ℕ) (answer : Answer) (buf : List ℕ) (old new : CoreState) → EndRow a (Ok answer) old new → replies.Dropped a ≡ reply_of a (answered_by (Ok answer) buf)
@@ -127,7 +127,7 @@ module _ (F : Fitted) (r : RunnerState F.C) (d : Desk F.V F.R) (at : AtDesk F d 
         no_memory is same = record {
           ss = step_of v 0 (asked.Delete name) (Err refusals.Memory) ∷ [];
           next = record { machine = d.machine; sessions = d.sessions };
-          run = one_step v 0 (asked.Delete name) (Err refusals.Memory) d.machine d.machine legal;
+          ran = ran_still F (step_of v 0 (asked.Delete name) (Err refusals.Memory)) d.machine r.core s.core legal at.fits same;
           acts = (0, asked.Delete name, refl, (Err refusals.Memory, refl, ap replies.Refused is), refl);
           stays = desk_after F r d at s acts.1 d.machine (subst (λ (c : C). Fits d.machine (state c)) (sym same) at.fits)
               (subst (λ (c : C). IsRunning (state c)) (sym same) at.runs)
@@ -158,7 +158,7 @@ module _ (F : Fitted) (r : RunnerState F.C) (d : Desk F.V F.R) (at : AtDesk F d 
   pub record GoesOn (m : Machine V R) (old mid : C) : Type 0 where
     pub made : List (Stepped V)
     pub next : Machine V R
-    pub run : Run v made m next
+    pub ran : Ran F made m next old mid
     pub did : AreDid v made
     pub fits : Fits next (state mid)
     pub runs : IsRunning (state mid)
@@ -170,7 +170,7 @@ module _ (F : Fitted) (r : RunnerState F.C) (d : Desk F.V F.R) (at : AtDesk F d 
   goes_on [] old mid m fits runs give run = record {
     made = [];
     next = m;
-    run = refl;
+    ran = ran_none F m old mid fits run;
     did = tt;
     fits = subst (λ (c : C). Fits m (state c)) (sym run) fits;
     runs = subst (λ (c : C). IsRunning (state c)) (sym run) runs;
@@ -184,7 +184,7 @@ module _ (F : Fitted) (r : RunnerState F.C) (d : Desk F.V F.R) (at : AtDesk F d 
       record {
         made = step_of v 0 asked.GcStep (answered_by (Ok (answers.Did phase)) run.1.0.0) ∷ rest.made;
         next = rest.next;
-        run = (one.next, (one.legal, rest.run));
+        ran = ran_on F (step_of v 0 asked.GcStep (answered_by (Ok (answers.Did phase)) run.1.0.0) ∷ []) rest.made m one.next rest.next old run.0 mid one.ran rest.ran;
         did = (refl, (phase, refl), rest.did);
         fits = rest.fits;
         runs = rest.runs;
@@ -204,7 +204,7 @@ module _ (F : Fitted) (r : RunnerState F.C) (d : Desk F.V F.R) (at : AtDesk F d 
       record {
         ss = went.made ++ step_of v 0 asked.GcStep told ∷ [];
         next = record { machine = one.next; sessions = d.sessions };
-        run = run_more v went.made (step_of v 0 asked.GcStep told ∷ []) d.machine went.next one.next went.run (one_step v 0 asked.GcStep told went.next one.next one.legal);
+        ran = ran_on F went.made (step_of v 0 asked.GcStep told ∷ []) d.machine went.next one.next r.core sweeps.1.0 s.core went.ran one.ran;
         acts = (went.made, 0, went.did, (told, refl, replied end.0), last, refl);
         stays = desk_after F r d at s sessions one.next one.fits one.runs (quiet_gives e (state sweeps.1.0) (state s.core) r.sessions tt end.1 went.give)
             (λ b k owns. all_keep F e went.next one.next (state sweeps.1.0) (state s.core) one.keeps tt b k (went.owns b k owns));

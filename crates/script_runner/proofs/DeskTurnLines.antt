@@ -47,8 +47,9 @@ use Rattle.script_runner.specs.Acts.{Acts, Admits, DoesStep, IsReady, RefusesPut
 use Rattle.script_runner.specs.LinesAreRuns.{IsSessionOf, Kept}
 use Rattle.script_runner.specs.Sessions.{has_ended, kind_by, session_of, with_session}
 use Rattle.script_runner.proofs.DeskGiving.{desk_put, gives_still}
+use Rattle.script_runner.proofs.DeskRuns.{Ran, ran_none, ran_on}
 use Rattle.script_runner.proofs.DeskSessions.{DeskSession, desk_session, put_quiet, session_on}
-use Rattle.script_runner.proofs.DeskSteps.{Acted, Makes, answers_so, makes, number_so, one_step, run_more}
+use Rattle.script_runner.proofs.DeskSteps.{Acted, Makes, answers_so, makes, number_so}
 use Rattle.script_runner.proofs.DeskTurns.{TurnsMade, answering, due_of, paused_of, taken_of, turn_made, turn_refused, turns_made, turns_stop}
 use Rattle.script_runner.proofs.Fitting.{AtDesk, Fitted}
 use Rattle.script_runner.proofs.LinesPush.{why_long}
@@ -120,7 +121,7 @@ module _ (F : Fitted) (r : RunnerState F.C) (d : Desk F.V F.R) (at : AtDesk F d 
         record {
           ss = [];
           next = record { machine = d.machine; sessions = machine.with_session v a (Some was.s) d };
-          run = refl;
+          ran = ran_none F d.machine r.core s.core at.fits none.3;
           acts = (
             was.s,
             was.s,
@@ -142,7 +143,7 @@ module _ (F : Fitted) (r : RunnerState F.C) (d : Desk F.V F.R) (at : AtDesk F d 
         record {
           ss = step_of v a (asked_as (λ root. v.of was.s.given) one.step) replied ∷ [];
           next = record { machine = one.made.next; sessions = machine.with_session v a (Some (answering answer was.s)) d };
-          run = one_step v a (asked_as (λ root. v.of was.s.given) one.step) replied d.machine one.made.next one.made.legal;
+          ran = one.made.ran;
           acts = (
             was.s,
             answering answer was.s,
@@ -165,7 +166,7 @@ module _ (F : Fitted) (r : RunnerState F.C) (d : Desk F.V F.R) (at : AtDesk F d 
         record {
           ss = one.more;
           next = record { machine = one.next; sessions = machine.with_session v a (Some was.s) d };
-          run = one.run;
+          ran = one.ran;
           acts = (was.s, was.s, (was.there, refl), inr (inr (refl, one.stops)));
           stays = giving one.next was.s y sessions one.is one.fits one.runs one.others one.stays;
         }
@@ -203,7 +204,7 @@ module _ (F : Fitted) (r : RunnerState F.C) (d : Desk F.V F.R) (at : AtDesk F d 
           record {
             ss = went.made;
             next = record { machine = went.next; sessions = machine.with_session v a (Some (record went.t { given = went.t.given ++ bytes })) d };
-            run = went.run;
+            ran = went.made_ran;
             acts = (
               gave.s,
               went.t,
@@ -234,7 +235,7 @@ module _ (F : Fitted) (r : RunnerState F.C) (d : Desk F.V F.R) (at : AtDesk F d 
           record {
             ss = stop.ss;
             next = record { machine = stop.next; sessions = machine.with_session v a (Some stop.t) d };
-            run = stop.run;
+            ran = stop.ran;
             acts = (gave.s, stop.t, (gave.there, refl), stop.room stopped.1, inr stop.stops);
             stays = giving stop.next stop.t y sessions stop.is stop.fits stop.runs stop.others stop.stays;
           }
@@ -247,7 +248,7 @@ module _ (F : Fitted) (r : RunnerState F.C) (d : Desk F.V F.R) (at : AtDesk F d 
           record {
             ss = went.made;
             next = record { machine = went.next; sessions = machine.with_session v a (Some went.t) d };
-            run = went.run;
+            ran = went.made_ran;
             acts = (gave.s, went.t, (gave.there, refl), went.room long.3, inl (went.turns, inr (ap replies.Refused why.0, omega (arith, why.1, count, more))));
             stays = giving went.next went.t y sessions went.is went.fits went.runs went.others went.stays;
           }
@@ -331,7 +332,7 @@ module _ (F : Fitted) (r : RunnerState F.C) (d : Desk F.V F.R) (at : AtDesk F d 
               record {
                 ss = went.made ++ step_of v a commits replied ∷ [];
                 next = record { machine = one.next; sessions = machine.with_session v a None d };
-                run = run_more v went.made (step_of v a commits replied ∷ []) d.machine went.next one.next went.run (one_step v a commits replied went.next one.next one.legal);
+                ran = ran_on F went.made (step_of v a commits replied ∷ []) d.machine went.next one.next r.core mid s.core went.made_ran one.ran;
                 acts = (wrote.s, went.t, (wrote.there, refl), inl (went.made, went.turns, nothing, (replied, refl, is.0)));
                 stays = desk_put F r d at s a one.next None None sessions one.fits one.runs tt (others_so s.core one.others) (λ none. is.1)
                     (λ c k differs owns. one.keeps.others c k differs (went.stays c k differs owns));
@@ -343,7 +344,7 @@ module _ (F : Fitted) (r : RunnerState F.C) (d : Desk F.V F.R) (at : AtDesk F d 
           no_memory memory same = record {
             ss = went.made;
             next = record { machine = went.next; sessions = machine.with_session v a (Some went.t) d };
-            run = went.run;
+            ran = subst (λ (c : C). Ran F went.made d.machine went.next r.core c) (sym same) went.made_ran;
             acts = (wrote.s, went.t, (wrote.there, refl), inr (went.made, went.turns, (refusal, refl, inl (memory, refl))));
             stays = giving went.next went.t y sessions (subst (λ (c : C). IsSessionOf (owned went.next c) went.t y) (sym same) went.is)
                 (subst (λ (c : C). Fits went.next (state c)) (sym same) went.fits) (subst (λ (c : C). IsRunning (state c)) (sym same) went.runs)
@@ -357,8 +358,7 @@ module _ (F : Fitted) (r : RunnerState F.C) (d : Desk F.V F.R) (at : AtDesk F d 
               record {
                 ss = went.made ++ step_of v a commits (Err refusal) ∷ [];
                 next = record { machine = one.next; sessions = machine.with_session v a (Some went.t) d };
-                run = run_more v went.made (step_of v a commits (Err refusal) ∷ []) d.machine went.next one.next went.run
-                    (one_step v a commits (Err refusal) went.next one.next one.legal);
+                ran = ran_on F went.made (step_of v a commits (Err refusal) ∷ []) d.machine went.next one.next r.core mid s.core went.made_ran one.ran;
                 acts = (wrote.s, went.t, (wrote.there, refl), inl (went.made, went.turns, nothing, (Err refusal, refl, refl)));
                 stays = giving one.next went.t y sessions
                     (session_on (owned went.next mid) (owned one.next s.core) went.t y (λ k owns. one.keeps.refused k refusal refl owns) went.is) one.fits one.runs
@@ -372,7 +372,7 @@ module _ (F : Fitted) (r : RunnerState F.C) (d : Desk F.V F.R) (at : AtDesk F d 
           record {
             ss = stop.ss;
             next = record { machine = stop.next; sessions = machine.with_session v a (Some stop.t) d };
-            run = stop.run;
+            ran = stop.ran;
             acts = (wrote.s, stop.t, (wrote.there, refl), inr stop.stops);
             stays = giving stop.next stop.t y sessions stop.is stop.fits stop.runs stop.others stop.stays;
           }

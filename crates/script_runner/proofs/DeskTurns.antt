@@ -21,14 +21,14 @@ use Rattle.store_machine.specs.Asked.{Asked}
 use Rattle.store_machine.specs.Lines as machine
 use Rattle.store_machine.specs.Lines.{AreTurns, IsDueStep, Session, StopsAfter, answer_of, reply_of, step_of}
 use Rattle.store_machine.specs.Machine.{Machine, Stepped}
-use Rattle.store_machine.specs.Runs.{Run}
 use Rattle.store_machine.specs.Values.{Values}
 use Rattle.core_machine.specs.Refines.{answered_by, asked_as}
 use Rattle.session_turns.specs.Turns.{AreForRoom, Asks, IsCrowded, IsPaused, IsRefusedTurn, IsTurn, StopForRoom, TurnRun, TurnsStopped}
 use Rattle.session_turns.proofs.Told.{told}
 use Rattle.script_runner.specs.LinesAreRuns.{IsSessionOf, Kept}
+use Rattle.script_runner.proofs.DeskRuns.{Ran, ran_none, ran_on}
 use Rattle.script_runner.proofs.DeskSessions.{session_on}
-use Rattle.script_runner.proofs.DeskSteps.{Makes, makes, one_step, run_more}
+use Rattle.script_runner.proofs.DeskSteps.{Makes, makes}
 use Rattle.script_runner.proofs.Fitting.{Fitted, HasTaken, IsAskedFor}
 
 -- ---- sessions
@@ -185,7 +185,7 @@ module _ (F : Fitted) (a : ℕ) where
     pub made : List (Stepped V)
     pub t : Session
     pub next : Machine V R
-    pub run : Run v made m next
+    pub made_ran : Ran F made m next old new
     pub turns : AreTurns v a made s t
     pub is : IsSessionOf (owned a next new) t y
     -- nothing was given
@@ -203,7 +203,7 @@ module _ (F : Fitted) (a : ℕ) where
     made = [];
     t = s;
     next = m;
-    run = refl;
+    made_ran = ran_none F m old new fits ran.1;
     turns = refl;
     is = paused_of (owned a m new) s x y (subst (λ (c : C). IsSessionOf (owned a m c) s x) (sym ran.1) is) ran.0;
     allowed = allowed;
@@ -221,7 +221,7 @@ module _ (F : Fitted) (a : ℕ) where
         made = first ∷ rest.made;
         t = rest.t;
         next = rest.next;
-        run = (one.made.next, (one.made.legal, rest.run));
+        made_ran = ran_on F (first ∷ []) rest.made m one.made.next rest.next old ran.1 new one.made.ran rest.made_ran;
         turns = (refl, one.due, (answer, one.told_is, rest.turns));
         is = rest.is;
         allowed = rest.allowed;
@@ -242,7 +242,7 @@ module _ (F : Fitted) (a : ℕ) where
   pub record TurnRefused (made : List (Stepped V)) (refusal : Refusal) (t : Session) (y : SessionState) (m : Machine V R) (old new : C) : Type 0 where
     pub more : List (Stepped V)
     pub next : Machine V R
-    pub run : Run v more m next
+    pub ran : Ran F more m next old new
     pub stops : StopsAfter v a made t (replies.Refused refusal) (made ++ more)
     pub is : IsSessionOf (owned a next new) t y
     pub fits : Fits next (state new)
@@ -262,7 +262,7 @@ module _ (F : Fitted) (a : ℕ) where
   turn_refused made refusal t x y m old new is allowed runs fits (inl none) = record {
     more = [];
     next = m;
-    run = refl;
+    ran = ran_none F m old new fits none.2;
     stops = (refusal, refl, inl (none.0, none_more made));
     is = paused_of (owned a m new) t x y (subst (λ (c : C). IsSessionOf (owned a m c) t x) (sym none.2) is) none.1;
     fits = subst (λ (c : C). Fits m (state c)) (sym none.2) fits;
@@ -278,7 +278,7 @@ module _ (F : Fitted) (a : ℕ) where
       record {
         more = last ∷ [];
         next = asks.made.next;
-        run = one_step v a (asked_of t.given asks.step) (Err refusal) m asks.made.next asks.made.legal;
+        ran = asks.made.ran;
         stops = (refusal, refl, inr (asked_of t.given asks.step, (due_in y, due_of (owned a m old) t y of refused.1, asks.asks), (Err refusal, refl, refl)));
         is = session_on (owned a m old) (owned a asks.made.next new) t y (λ k owns. asks.made.keeps.refused k refusal refl owns) of;
         fits = asks.made.fits;
@@ -293,7 +293,7 @@ module _ (F : Fitted) (a : ℕ) where
     pub ss : List (Stepped V)
     pub t : Session
     pub next : Machine V R
-    pub run : Run v ss m next
+    pub ran : Ran F ss m next old new
     pub stops : machine.TurnsStop v a s (replies.Refused refusal) ss t
     pub is : IsSessionOf (owned a next new) t y
     pub fits : Fits next (state new)
@@ -314,7 +314,7 @@ module _ (F : Fitted) (a : ℕ) where
         ss = went.made ++ last.more;
         t = went.t;
         next = last.next;
-        run = run_more v went.made last.more m went.next last.next went.run last.run;
+        ran = ran_on F went.made last.more m went.next last.next old core new went.made_ran last.ran;
         stops = (went.made, went.turns, last.stops);
         is = last.is;
         fits = last.fits;

@@ -207,11 +207,11 @@ module _ (C : Type 0) (state : C → CoreState) where
   room_went : (old mid : DiskView) → RoomMade old mid → Went Done old mid
   room_went old mid room = record { later = room.later; faults = room.faults_are }
 
-  opened_went : (old : DiskView) (c : CoreState) → OpensCore C disk_of old c → Went Done old c.disk
+  pub opened_went : (old : DiskView) (c : CoreState) → OpensCore C disk_of old c → Went Done old c.disk
   opened_went old c (inl read) = record { later = read.reads.only.later; faults = read.reads.faults_are }
   opened_went old c (inr (x, (room, read))) = went_on Done old (disk_of x) c.disk (room_went old (disk_of x) room) (record { later = read.reads.only.later; faults = read.reads.faults_are })
 
-  unopened_went : (refusal : Refusal) (old new : DiskView) → OpensNone C disk_of refusal old new → Went (ending_of (blames refusal)) old new
+  pub unopened_went : (refusal : Refusal) (old new : DiskView) → OpensNone C disk_of refusal old new → Went (ending_of (blames refusal)) old new
   unopened_went refusal old new (inl (unread, not)) = record { later = unread.reads.only.later; faults = unread.reads.faults_are }
   unopened_went refusal old new (inr (inl (x, (room, unread)))) =
       went_on (ending_of (blames refusal)) old (disk_of x) new (room_went old (disk_of x) room) (record { later = unread.reads.only.later; faults = unread.reads.faults_are })

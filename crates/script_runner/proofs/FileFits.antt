@@ -1,9 +1,10 @@
 -- The machine of files fits a core whose disk tells its content; and so lines over such a core are lines of it.
-use Rattle.std.proofs.Common.{◌≡◌, ◌∙◌, ◌<◌, ◌≤◌, inl, inr, ℕ, zero, suc, Bool, List, [], ◌∷◌, ◌++◌, length, slice_index_or, replicate, Option, Some, None, Result, Ok, Err, refl, sym, ap, subst, arith}
+use Rattle.std.proofs.Common.{◌≡◌, ◌⊎◌, ◌∙◌, ◌<◌, ◌≤◌, inl, inr, ℕ, zero, suc, Bool, List, [], ◌∷◌, ◌++◌, length, slice_index_or, replicate, Option, Some, None, Result, Ok, Err, refl, sym, ap, subst, arith}
 use Rattle.std.proofs.lemmas.List.{length-replicate}
 use Rattle.std.specs.FinMap as finite
 use Rattle.std.specs.List.{AllByRecursion}
 use Rattle.dd_disk.specs.View.{DiskView, OnlyReads}
+use Rattle.dd_disk.proofs.Later.{leaves_weaker}
 use Rattle.disk_format.specs.Cells.{Root}
 use Rattle.disk_format.specs.declared.numbers.TheConstants.{MOST_FILE}
 use Rattle.merkle_file.specs.declared.top.Top.{Top}
@@ -45,14 +46,14 @@ use Rattle.store_core.proofs.CoreRuns.{running_step}
 use Rattle.plain_machine.specs.Runs.{Replied}
 use Rattle.store_machine.specs.ByMap.{FileMachine}
 use Rattle.store_machine.specs.Forgetting.{SameParts, SameState}
-use Rattle.store_machine.specs.Lines as machine
 use Rattle.store_machine.specs.Machine.{Found, Idle, Part, Reading, RunState, Running, Stopped, Writing, kind_of}
 use Rattle.store_machine.specs.Values.{of_files}
 use Rattle.store_model.specs.Image.{Store}
-use Rattle.core_machine.specs.Files.{FitsBy, IsAtFiles, IsFileMachine, IsOfFile}
+use Rattle.core_machine.specs.Files.{FitsBy, IsAtFiles, IsFileMachine, IsOfFile, IsOfFound}
+use Rattle.core_machine.proofs.FileCrashes.{stands_found}
 use Rattle.core_machine.proofs.FileOpened.{files_opened, files_reopened_not}
-use Rattle.core_machine.proofs.FileStands.{disks_stand}
-use Rattle.core_machine.proofs.FilesRefined.{files_refine}
+use Rattle.core_machine.proofs.FileStands.{disk_stands}
+use Rattle.core_machine.proofs.FilesRefined.{refined}
 use Rattle.script_runner.specs.Acts.{IsReady}
 use Rattle.script_runner.specs.LinesAreFileRuns.{BeginsAtFileDesk, FileDesk, HoldsKept, IsCutBy, IsCutOf, LinesAreFileRuns, OpenedIsAtDesk, OwnsKept, ScriptsAreFileRuns}
 use Rattle.script_runner.specs.LinesAreRuns.{Kept, SameSessions}
@@ -292,22 +293,41 @@ module _ (C : Type 0) (state : C → CoreState) (among : ByteSet) (distinct : Ha
   abbrev view : C → DiskView
   view c = (state c).disk
 
-  files_fit : Fitting of_files C state (IsFileMachine S) OwnsKept Allowed
+  -- what a crash leaves of a disk can be opened as files that may be found
+  here_found : (m : FileMachine) (c : CoreState) → IsFileMachine S m c → (image : List ℕ) → c.disk.images image → IsOfFound S m image
+  here_found m c fits image there = stands_found S m image ((disk_stands S m c fits).images image there)
+
+  files_fit : Fitting of_files C state (IsFileMachine S) OwnsKept Allowed (IsOfFound S)
   files_fit = record {
     step = λ e given old new m runs fits right step.
         let so = given_by e given old new m fits e.step right step in
         let made : FileStep S (record { event = e; bytes = given }) (state old) (state new) = record { asked = so.0; given = so.1; made = step } in
-        let one = files_refine C state among (record { event = e; bytes = given }) old new m distinct runs fits so.2 made in
-        (one.0, (one.1.0, one.1.1, keeps e given old new m fits one.0 made));
+        let one = refined C state among (record { event = e; bytes = given }) old new m distinct runs fits so.2 made in
+        (one.0, (one.1.0, one.1.1, keeps e given old new m fits one.0 made, one.2.0));
+    here = here_found;
     runs = λ m c fits none. runs_so m c fits none;
     stops = λ m c stop fits is. stops_so m c fits stop is;
     kinds = λ m c fits a. file_parts m.parts fits.roots.parts fits.forgets.parts a ∙ part_kinds fits.roots.parts c.parts fits.machine.parts a;
     opened = λ a old new m fits opens runs.
-        let one = files_opened C view C state among a old new m distinct (disks_stand C state among old m fits).content opens runs in
-        (one.0, (one.1.0, one.1.1));
+        let one = files_opened C view C state among a old new m distinct (disk_stands S m (state old) fits).content opens runs in (
+          one.0,
+          (
+            one.1.0,
+            one.1.1,
+            leaves_weaker (λ image. (state old).disk.images image ⊎ IsOfFound S m image) (λ image. IsOfFound S m image ⊎ IsOfFound S one.0 image)
+                (state old).disk (state new).disk (λ image left. elim left [ inl there ↦ inl (here_found m (state old) fits image there) | inr found ↦ inl found ]) one.1.2,
+          ),
+        );
     unopened = λ a refusal old new m fits none leaves.
-        let one = files_reopened_not C state among a refusal old new m distinct fits none leaves in
-        (one.0, (one.1.0, one.1.1, λ b k own. owns_still refusal (state old) (state new) m one.0 b k leaves own));
+        let one = files_reopened_not C state among a refusal old new m distinct fits none leaves in (
+          one.0,
+          (
+            one.1.0,
+            one.1.1,
+            λ b k own. owns_still refusal (state old) (state new) m one.0 b k leaves own,
+            leaves_weaker (IsOfFound S m) (λ image. IsOfFound S m image ⊎ IsOfFound S one.0 image) (state old).disk (state new).disk (λ image found. inl found) one.1.2,
+          ),
+        );
   }
 
   abbrev files_fitted : Fitted
@@ -320,6 +340,7 @@ module _ (C : Type 0) (state : C → CoreState) (among : ByteSet) (distinct : Ha
     Fits = IsFileMachine S;
     Owns = OwnsKept;
     Allowed = Allowed;
+    Left = IsOfFound S;
     fitting = files_fit;
   }
 

@@ -1,6 +1,7 @@
 -- What a relation of machines and cores is to give for lines over a core to be lines of the machine.
-use Rattle.std.proofs.Common.{◌≡◌, ◌≢◌, ◌<◌, ℕ, Bool, List, Some, None, Ok, Err}
+use Rattle.std.proofs.Common.{◌≡◌, ◌≢◌, ◌⊎◌, ◌<◌, ℕ, Bool, List, Some, None, Ok, Err}
 use Rattle.std.specs.FinMap as finite
+use Rattle.dd_disk.specs.View.{CrashLeaves, DiskView}
 use Rattle.actor_parts.specs.declared.actor.TheConstants.{ACTORS}
 use Rattle.actor_parts.specs.declared.step.Answer.{Answer}
 use Rattle.actor_parts.specs.Kinds as core_kinds
@@ -71,13 +72,19 @@ pub record Keeps {V R : Type 0} (Owns : ℕ → Kept → Machine V R → CoreSta
       → HasHistory (told_by answer x) (answered answer x h)
       → Owns e.actor (kept h) m old → Owns e.actor (kept (answered answer x h)) n new
 
+-- within what led from one machine to another a crash leaves an image that either may leave
+abbrev pub LeavesEither : {V R : Type 0} → (Machine V R → List ℕ → Type 0) → Machine V R → Machine V R → DiskView → DiskView → Type 0
+LeavesEither Left m n old new = CrashLeaves (λ image. Left m image ⊎ Left n image) old new
+
 pub record Fitting {V R : Type 0} (v : Values V R) (C : Type 0) (state : C → CoreState) (Fits : Machine V R → CoreState → Type 0)
-    (Owns : ℕ → Kept → Machine V R → CoreState → Type 0) (Allowed : List ℕ → Bool → Type 0) : Type 1 where
+    (Owns : ℕ → Kept → Machine V R → CoreState → Type 0) (Allowed : List ℕ → Bool → Type 0) (Left : Machine V R → List ℕ → Type 0) : Type 1 where
   -- a step of the core is one of the machine
   pub step : (e : Event) (given : List ℕ) (old new : C) (m : Machine V R) → IsRunning (state old) → Fits m (state old)
       → IsOfGiven Allowed (λ k. Owns e.actor k m (state old)) e.step given → CoreStep (state old) e (state new)
       → (n : Machine V R) × (Legal v (step_of v e.actor (asked_as (λ root. v.of given) e.step) (answered_by e.answer e.buf)) m n
-      × Fits n (state new) × Keeps Owns e m n (state old) (state new))
+      × Fits n (state new) × Keeps Owns e m n (state old) (state new) × LeavesEither Left m n (state old).disk (state new).disk)
+  -- what a crash leaves of a disk the machine may leave
+  pub here : (m : Machine V R) (c : CoreState) → Fits m c → (image : List ℕ) → c.disk.images image → Left m image
   -- they run and are stopped together, and each actor is at the same kind of thing
   pub runs : (m : Machine V R) (c : CoreState) → Fits m c → c.stop ≡ None → m.state ≡ Running
   pub stops : (m : Machine V R) (c : CoreState) (stop : Stop) → Fits m c → c.stop ≡ Some stop
@@ -85,10 +92,12 @@ pub record Fitting {V R : Type 0} (v : Values V R) (C : Type 0) (state : C → C
   pub kinds : (m : Machine V R) (c : CoreState) → Fits m c → (a : ℕ) → kind_of (part_in m a) ≡ core_kinds.kind_of (part_of c.parts a)
   -- an opening of the one is one of the other
   pub opened : (a : ℕ) (old new : C) (m : Machine V R) → Fits m (state old) → OpensCore C (λ c. (state c).disk) (state old).disk (state new) → IsRunning (state new)
-      → (n : Machine V R) × (Legal v (step_of v a asked.Reopen (Ok (done.Reopened (finite.len (state new).tables.names)))) m n × Fits n (state new))
+      → (n : Machine V R) × (Legal v (step_of v a asked.Reopen (Ok (done.Reopened (finite.len (state new).tables.names)))) m n × Fits n (state new)
+      × LeavesEither Left m n (state old).disk (state new).disk)
   pub unopened : (a : ℕ) (refusal : Refusal) (old new : C) (m : Machine V R) → Fits m (state old) → OpensNone C (λ c. (state c).disk) refusal (state old).disk (state new).disk
       → StaysOrStops C (λ c. (state c).disk) refusal (state old) (state new)
-      → (n : Machine V R) × (Legal v (step_of v a asked.Reopen (Err refusal)) m n × Fits n (state new) × ((b : ℕ) (k : Kept) → Owns b k m (state old) → Owns b k n (state new)))
+      → (n : Machine V R) × (Legal v (step_of v a asked.Reopen (Err refusal)) m n × Fits n (state new) × ((b : ℕ) (k : Kept) → Owns b k m (state old) → Owns b k n (state new))
+      × LeavesEither Left m n (state old).disk (state new).disk)
 
 -- A relation of machines and cores that gives it, of all that it speaks of.
 pub record Fitted : Type 1 where
@@ -100,10 +109,11 @@ pub record Fitted : Type 1 where
   pub Fits : Machine V R → CoreState → Type 0
   pub Owns : ℕ → Kept → Machine V R → CoreState → Type 0
   pub Allowed : List ℕ → Bool → Type 0
-  pub fitting : Fitting v C state Fits Owns Allowed
+  pub Left : Machine V R → List ℕ → Type 0
+  pub fitting : Fitting v C state Fits Owns Allowed Left
 
 abbrev pub AtDesk : (F : Fitted) → Desk F.V F.R → RunnerState F.C → Type 0
 AtDesk F d r = IsAtDesk F.state F.Fits F.Owns d r
 
-abbrev pub Leads : (F : Fitted) → LineValue → ReplyValue → Desk F.V F.R → RunnerState F.C → Type 0
-Leads F line reply d s = LeadsTo F.v F.state F.Fits F.Owns line reply d s
+abbrev pub Leads : (F : Fitted) → LineValue → ReplyValue → Desk F.V F.R → RunnerState F.C → RunnerState F.C → Type 0
+Leads F line reply d r s = LeadsTo F.v F.state F.Fits F.Owns F.Left line reply d r s

@@ -20,6 +20,7 @@ pub mod DeskGiving
 pub mod DeskLines
 pub mod DeskParts
 pub mod DeskReopens
+pub mod DeskRuns
 pub mod DeskSessions
 pub mod DeskSteps
 pub mod DeskTaking

@@ -25,7 +25,7 @@ use Rattle.store_machine.specs.Lines.{Desk, Line, Session}
 use Rattle.store_machine.specs.Machine.{Stepped}
 use Rattle.store_machine.specs.Values.{of_files}
 use Rattle.core_machine.specs.FileOpenings.{Reopens}
-use Rattle.core_machine.specs.Files.{IsFileMachine, MayStand}
+use Rattle.core_machine.specs.Files.{IsFileMachine, IsOfFound, MayStand}
 use Rattle.script_runner.specs.Acts.{RunnerState, RunsLine}
 use Rattle.script_runner.specs.Follows.{IsOfActor}
 use Rattle.script_runner.specs.LinesAreRuns.{AllLeadTo, IsAtDesk, Kept, LeadsTo}
@@ -77,14 +77,14 @@ abbrev pub LinesAreFileRuns : (C : Type 0) → (C → CoreState) → Type 0
 LinesAreFileRuns C state = (among : ByteSet) (line : LineValue) (reply : ReplyValue) (r s : RunnerState C) (d : FileDesk)
     → HasNoCollisions (IsIn among) → IsOfActor line → ((bytes : List ℕ) → IsCutAt d bytes → IsIn among bytes)
     → IsAtFileDesk (IsIn among) state d r → RunsLine C state line reply r s
-    → LeadsTo of_files state (IsFileMachine (IsIn among)) OwnsKept line reply d s
+    → LeadsTo of_files state (IsFileMachine (IsIn among)) OwnsKept (IsOfFound (IsIn among)) line reply d r s
 
 -- So it is of lines that are run one after the other.
 abbrev pub ScriptsAreFileRuns : (C : Type 0) → (C → CoreState) → Type 0
 ScriptsAreFileRuns C state = (among : ByteSet) (rs : List Replied) (r s : RunnerState C) (d : FileDesk)
     → HasNoCollisions (IsIn among) → AreOfActors rs → ((bytes : List ℕ) → IsCutBy rs d bytes → IsIn among bytes)
     → IsAtFileDesk (IsIn among) state d r → RunsLines C state rs r s
-    → AllLeadTo of_files state (IsFileMachine (IsIn among)) OwnsKept rs d s
+    → AllLeadTo of_files state (IsFileMachine (IsIn among)) OwnsKept (IsOfFound (IsIn among)) rs d r s
 
 -- So a runner begins: no actor is at anything, and none gives a file.
 abbrev pub BeginsAtFileDesk : (C : Type 0) → (C → CoreState) → Type 0

@@ -1,5 +1,6 @@
 -- Lines that are run over a core, on any disk, as lines of the machine of roots (docs/MODEL.md, 'Scripts').
-use Rattle.std.specs.Prelude.{◌≡◌, ◌≢◌, ℕ, suc, false, List, [], ◌∷◌, length, replicate, Option, Some, None}
+use Rattle.std.specs.Prelude.{◌≡◌, ◌≢◌, ◌⊎◌, ℕ, suc, false, List, [], ◌∷◌, length, replicate, Option, Some, None}
+use Rattle.dd_disk.specs.View.{CrashLeaves}
 use Rattle.disk_format.specs.Cells.{Root}
 use Rattle.actor_parts.specs.declared.actor.TheConstants.{ACTORS}
 use Rattle.actor_parts.specs.declared.part.Part.{Part}
@@ -17,10 +18,11 @@ use Rattle.script_lines.specs.Grammar.{LineValue}
 use Rattle.script_lines.specs.ReplyValue.{ReplyValue}
 use Rattle.store_core.specs.State.{CoreState, IsRunning}
 use Rattle.plain_machine.specs.Runs.{Replied}
-use Rattle.store_machine.specs.Commands.{Lines, desk}
+use Rattle.store_machine.specs.Commands.{Lines, desk, run_of}
 use Rattle.store_machine.specs.Commands.{Replied as Answered}
 use Rattle.store_machine.specs.Lines.{Desk, Line, Session}
 use Rattle.store_machine.specs.Machine.{Machine, Stepped}
+use Rattle.store_machine.specs.Runs.{Run}
 use Rattle.store_machine.specs.Values.{Values, of_roots}
 use Rattle.core_machine.specs.Refines.{IsMachine}
 use Rattle.script_runner.specs.Acts.{RunnerState, RunsLine}
@@ -70,21 +72,33 @@ pub record IsAtDesk {V R C : Type 0} (state : C → CoreState) (Fits : Machine V
   pub many : length r.sessions ≡ ACTORS
   pub give : WritersGive r.sessions (state r.core).parts
 
--- A line of the machine led to a desk, and the runner is at it.
+-- P holds of a machine of a run
+abbrev pub Passes : {V R : Type 0} (v : Values V R) (P : Machine V R → Type 0) (ss : List (Stepped V)) (m n : Machine V R) → Run v ss m n
+    → Type 0
+Passes v P [] m n run = P m
+Passes v P (s ∷ ss) m n run = P m ⊎ Passes v P ss run.0 n run.1.1
+
+-- A line of the machine led to a desk, and the runner is at it; and at any moment of the line, also inside a write, a crash leaves an image
+-- that some machine of its run may leave, or one that the disk might have left before.
 pub record LeadsTo {V R C : Type 0} (v : Values V R) (state : C → CoreState) (Fits : Machine V R → CoreState → Type 0)
-    (Owns : ℕ → Kept → Machine V R → CoreState → Type 0) (line : LineValue) (reply : ReplyValue) (d : Desk V R) (s : RunnerState C)
-    : Type 0 where
+    (Owns : ℕ → Kept → Machine V R → CoreState → Type 0) (Left : Machine V R → List ℕ → Type 0)
+    (line : LineValue) (reply : ReplyValue) (d : Desk V R) (r s : RunnerState C) : Type 0 where
   pub steps : List (Stepped V)
   pub next : Desk V R
   pub line_is : Line v line reply steps d next
   pub at : IsAtDesk state Fits Owns next s
+  pub leaves : CrashLeaves (λ image. Passes v (λ m. Left m image) steps d.machine next.machine line_is.0)
+      (state r.core).disk (state s.core).disk
 
--- over roots nothing is said of what is kept
+-- over roots nothing is said of what is kept, nor of what a crash leaves
 abbrev pub RootDesk : Type 0
 RootDesk = Desk Root (List Top)
 
 abbrev pub OwnsAny : ℕ → Kept → Machine Root (List Top) → CoreState → Type 0
 OwnsAny actor kept m c = Unit {0}
+
+abbrev pub LeavesAny : Machine Root (List Top) → List ℕ → Type 0
+LeavesAny m image = Unit {0}
 
 abbrev pub IsAtRoots : {C : Type 0} → (C → CoreState) → RootDesk → RunnerState C → Type 0
 IsAtRoots state d r = IsAtDesk state (IsMachine false) OwnsAny d r
@@ -94,7 +108,8 @@ IsAtRoots state d r = IsAtDesk state (IsMachine false) OwnsAny d r
 -- With no premise on the disk, what a runner does by a line is what the machine of roots may do by it, with this reply.
 abbrev pub LinesAreRuns : (C : Type 0) → (C → CoreState) → Type 0
 LinesAreRuns C state = (line : LineValue) (reply : ReplyValue) (r s : RunnerState C) (d : RootDesk) → IsOfActor line
-    → IsAtRoots state d r → RunsLine C state line reply r s → LeadsTo of_roots state (IsMachine false) OwnsAny line reply d s
+    → IsAtRoots state d r → RunsLine C state line reply r s
+    → LeadsTo of_roots state (IsMachine false) OwnsAny LeavesAny line reply d r s
 
 -- So a runner begins: no actor is at anything, and none gives a file.
 abbrev pub BeginsAtDesk : (C : Type 0) → (C → CoreState) → Type 0
@@ -109,13 +124,17 @@ as_lines [] = []
 as_lines (one ∷ more) = record { line = one.line; reply = one.reply } ∷ as_lines more
 
 pub record AllLeadTo {V R C : Type 0} (v : Values V R) (state : C → CoreState) (Fits : Machine V R → CoreState → Type 0)
-    (Owns : ℕ → Kept → Machine V R → CoreState → Type 0) (rs : List Replied) (d : Desk V R) (s : RunnerState C) : Type 0 where
+    (Owns : ℕ → Kept → Machine V R → CoreState → Type 0) (Left : Machine V R → List ℕ → Type 0) (rs : List Replied) (d : Desk V R)
+    (r s : RunnerState C) : Type 0 where
   pub steps : List (Stepped V)
   pub next : Desk V R
   pub lines_are : Lines v (as_lines rs) steps d next
   pub at : IsAtDesk state Fits Owns next s
+  pub leaves : CrashLeaves
+      (λ image. Passes v (λ m. Left m image) steps d.machine next.machine (run_of v (as_lines rs) steps d next lines_are))
+      (state r.core).disk (state s.core).disk
 
 -- So it is of lines that are run one after the other.
 abbrev pub ScriptsAreRuns : (C : Type 0) → (C → CoreState) → Type 0
 ScriptsAreRuns C state = (rs : List Replied) (r s : RunnerState C) (d : RootDesk) → AreOfActors rs → IsAtRoots state d r
-    → RunsLines C state rs r s → AllLeadTo of_roots state (IsMachine false) OwnsAny rs d s
+    → RunsLines C state rs r s → AllLeadTo of_roots state (IsMachine false) OwnsAny LeavesAny rs d r s

@@ -64,8 +64,9 @@ pub fn lines_are_runs<C: HasState>()
 
 /// Where no two different data segments that are stored, or are cut by now from what actors give, have one digest: a line that is run over
 /// a core that is the machine of files is a line of that machine, which makes its steps and gives its reply, where what each actor has
-/// kept of its file is held and pinned. After it that is so again; so are lines that are run one after the other, from a runner that
-/// begins. The function does nothing.
+/// kept of its file is held and pinned. After it that is so again; and at any moment of it, also inside a write, a crash leaves an image
+/// that can be opened as files that may be found at some machine to which its steps come, or one that it might have left before. So are
+/// lines that are run one after the other, from a runner that begins. The function does nothing.
 pub fn lines_are_file_runs<C: HasState>()
     ensures lines { LinesAreFileRuns C C.state }
     ensures scripts { ScriptsAreFileRuns C C.state }

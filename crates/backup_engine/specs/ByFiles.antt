@@ -45,6 +45,6 @@ pub record RefusedByFiles (S : List ℕ → Type 0) (ending : Option Ending) (rs
 abbrev pub RunsEachByFiles : Option Ending → List Replied → DiskView → DiskView → Type 0
 RunsEachByFiles ending rs disk disk_now = (among : ByteSet) (m : FileMachine) → HasNoCollisions (IsIn among)
     → ((files : ℕ) (opened : FileMachine) (bytes : List ℕ) → Reopens 0 (Ok (done.Reopened files)) m opened → IsCutBy rs (desk opened) bytes
-        → IsIn among bytes)
+    → IsIn among bytes)
     → KnownWith disk.content (MayStand (IsIn among) m)
     → RunsByFiles (IsIn among) rs m disk_now ⊎ RefusedByFiles (IsIn among) ending rs m disk disk_now

@@ -14,8 +14,9 @@ use dd_io::{Sink, Source};
 use reply_text::Ending;
 use script_lines::{NextLine, ScriptReader, reads_tell_scripts};
 use script_runner::{
-    Halt, Runner, Sessions, an_opened_core_follows, an_opened_core_is_at_a_desk, lines_are_file_runs,
-    lines_give_what_is_named, lines_go_on, lines_keep_what_is_written, scripts_follow_the_machine,
+    Halt, Runner, Sessions, an_opened_core_follows, an_opened_core_is_at_a_desk,
+    lines_are_file_runs, lines_give_what_is_named, lines_go_on, lines_keep_what_is_written,
+    scripts_follow_the_machine,
 };
 use std::alloc::Global;
 use store_core::{Core, HasState};

@@ -79,19 +79,18 @@ returns g c =
     let later = opened_later _ view _ _ first _ w core core_now opens is.running closed.disk closed.moment between is.opened in
     let named = first_same c.close-disk.result.ghost_name _ _ _ later.loans_are in
     record {
-      runs = by_same (λ d. (rs : List Replied) × RunsScript _ view rs (ending_in result) (view c.args.disk.now) (view d) source source_now sink sink_now) _ c.close-disk.result.now (search (rules, named))
-          (
-            run.rs,
-            runs_opened _ view _ _ first _ w core core_now opens is.running closed.disk closed.moment between run.rs (ending_in result) source source_now sink sink_now is.opened
-                (runs_by_files _ view _ _ first _ w core core_now c.an_opened_core_is_at_a_desk.ensures c.lines_are_file_runs.ensures.scripts c.a_core_is_the_machine_of_files.ensures.stands is.opened closed.disk
-                (ending_in result) run.rs r s c.new-runner.ensures.core c.into_core.ensures.core (c.new-runner.ensures.sessions ∙ c.in_ok-sessions.ensures) run.actors run.runs)
-                (λ before whole.
-                let called = called_by _ _ _ _ core core_now r.core s.core whole c.new-runner.ensures.core c.into_core.ensures.core in
-                let kept =
-                run_kept _ _ _ _ before _ r s called opens c.scripts_follow_the_machine.ensures c.lines_go_on.ensures c.lines_give_what_is_named.ensures c.lines_keep_what_is_written.ensures.opened
-                c.lines_keep_what_is_written.ensures.lines (c.new-runner.ensures.sessions ∙ c.in_ok-sessions.ensures) result source source_now sink sink_now run in
-                script_back _ _ (view before.now) w run.rs (ending_in result) source source_now sink sink_now kept.1),
-          );
+      runs = by_same (λ d. (rs : List Replied) × RunsScript _ view rs (ending_in result) (view c.args.disk.now) (view d) source source_now sink sink_now) _ c.close-disk.result.now (search (rules, named)) (
+        run.rs,
+        runs_opened _ view _ _ first _ w core core_now opens is.running closed.disk closed.moment between run.rs (ending_in result) source source_now sink sink_now is.opened
+            (runs_by_files _ view _ _ first _ w core core_now c.an_opened_core_is_at_a_desk.ensures c.lines_are_file_runs.ensures.scripts c.a_core_is_the_machine_of_files.ensures.stands is.opened closed.disk
+            (ending_in result) run.rs r s c.new-runner.ensures.core c.into_core.ensures.core (c.new-runner.ensures.sessions ∙ c.in_ok-sessions.ensures) run.actors run.runs)
+            (λ before whole.
+            let called = called_by _ _ _ _ core core_now r.core s.core whole c.new-runner.ensures.core c.into_core.ensures.core in
+            let kept =
+            run_kept _ _ _ _ before _ r s called opens c.scripts_follow_the_machine.ensures c.lines_go_on.ensures c.lines_give_what_is_named.ensures c.lines_keep_what_is_written.ensures.opened
+            c.lines_keep_what_is_written.ensures.lines (c.new-runner.ensures.sessions ∙ c.in_ok-sessions.ensures) result source source_now sink sink_now run in
+            script_back _ _ (view before.now) w run.rs (ending_in result) source source_now sink sink_now kept.1),
+      );
       later = by_same (λ d. IsLater (view c.args.disk.now) (view d)) _ c.close-disk.result.now (search (rules, named))
           (later_back _ _ (view c.args.disk.now) w (sym (rest_same _ _ _ _ later.loans_are)) later);
     }

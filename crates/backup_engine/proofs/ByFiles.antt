@@ -1,5 +1,5 @@
 -- A script over a core that was opened is lines of the machine of files, over all of the call.
-use Rattle.std.proofs.Common.{◌≡◌, inl, inr, ℕ, List, [], Option, Some, replicate, None, refl, sym, ◌∙◌, subst}
+use Rattle.std.proofs.Common.{◌≡◌, inl, inr, ℕ, List, [], Option, Some, replicate, None, refl, sym, subst}
 use Rattle.std.specs.Borrow.{MutBor}
 use Rattle.actor_parts.specs.declared.actor.TheConstants.{ACTORS}
 use Rattle.dd_disk.specs.Ending.{Done, Reads}

@@ -1,5 +1,5 @@
--- The lines of a script as lines of the machine of files (docs/MODEL.md, 'From the machine to `backup`'). How the script ended, and what was
--- printed, KeepsScript says (Script.antt).
+-- The lines of a script as lines of the machine of files (docs/MODEL.md, 'From the machine to `backup`'). How the script ended, and what
+-- was printed, KeepsScript says (Script.antt).
 use Rattle.std.specs.Prelude.{◌≡◌, ◌⊎◌, ℕ, List, [], Option, Some, Ok, Err}
 use Rattle.base_model.specs.Known.{KnownWith}
 use Rattle.dd_disk.specs.View.{DiskView}
@@ -29,9 +29,9 @@ pub record RunsByFiles (S : List ℕ → Type 0) (rs : List Replied) (m : FileMa
   pub lines_are : Lines of_files (as_lines rs) steps (desk opened) next
   pub stands : StandsFor S next.machine disk_now
 
--- Or it is not, as the machine may refuse it, and no line is run. What reads give may stand for its files still, and so may each image that a
--- crash leaves now and could not before; and at any moment of the call a crash leaves an image that can be opened as files that may be found,
--- or one that it might have left before.
+-- Or it is not, as the machine may refuse it, and no line is run. What reads give may stand for its files still, and so may each image
+-- that a crash leaves now and could not before; and at any moment of the call a crash leaves an image that can be opened as files that may
+-- be found, or one that it might have left before.
 pub record RefusedByFiles (S : List ℕ → Type 0) (ending : Option Ending) (rs : List Replied) (m : FileMachine) (disk disk_now : DiskView)
     : Type 0 where
   pub none : rs ≡ []

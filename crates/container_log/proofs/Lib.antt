@@ -1,5 +1,6 @@
 mod Differ
 pub mod Freeing
 pub mod Headers
+pub mod Inspected
 pub mod Sealing
 pub mod Slots

@@ -26,16 +26,20 @@ pub gate_put : (l into : List ℕ) (gate : ℕ) → 1 ≤ length l → put_mid 1
 gate_put [] into gate some = absurd (omega (arith, some))
 gate_put (x ∷ l) into gate some = ap (λ (r : List ℕ). gate ∷ into ++ r) (drop_all (length (set (x ∷ l) 0 gate) - 1) l (omega arith)) ∙ ap (λ (r : List ℕ). gate ∷ r) (append-nil into)
 
--- the gate and the bytes that were read after it are the bytes from the gate on
-pub read_together : (at place count gate : ℕ) (image l into : List ℕ) → at + 49664 ≤ length image → 1 ≤ length l → place ≡ at + 1 → count ≡ 49663 → range place count image ≡ into → byte_at at image ≡ gate
-    → range at 49664 image ≡ put_mid 1 (length (set l 0 gate) - 1) (set l 0 gate) into
-read_together at place count gate image l into fits some there long read is =
-    let after : range (at + 1) 49663 image ≡ into = ap (λ p. range p 49663 image) (sym there) ∙ ap (λ n. range place n image) (sym long) ∙ read in
-    sym (range-join at 1 49663 (at + 1) image refl)
-    ∙ ap (λ (b : List ℕ). b ++ range (at + 1) 49663 image) (range-one at image (omega arith))
-    ∙ ap (λ (b : ℕ). b ∷ range (at + 1) 49663 image) is
+-- the gate and so many bytes that were read after it are the bytes from the gate on
+pub joined : (n at place count gate : ℕ) (image l into : List ℕ) → at + (1 + n) ≤ length image → 1 ≤ length l → place ≡ at + 1 → count ≡ n → range place count image ≡ into → byte_at at image ≡ gate
+    → range at (1 + n) image ≡ put_mid 1 (length (set l 0 gate) - 1) (set l 0 gate) into
+joined n at place count gate image l into fits some there long read is =
+    let after : range (at + 1) n image ≡ into = ap (λ p. range p n image) (sym there) ∙ ap (λ m. range place m image) (sym long) ∙ read in
+    sym (range-join at 1 n (at + 1) image refl)
+    ∙ ap (λ (b : List ℕ). b ++ range (at + 1) n image) (range-one at image (omega (arith, fits)))
+    ∙ ap (λ (b : ℕ). b ∷ range (at + 1) n image) is
     ∙ ap (λ (b : List ℕ). gate ∷ b) after
     ∙ sym (gate_put l into gate some)
+
+pub read_together : (at place count gate : ℕ) (image l into : List ℕ) → at + 49664 ≤ length image → 1 ≤ length l → place ≡ at + 1 → count ≡ 49663 → range place count image ≡ into → byte_at at image ≡ gate
+    → range at 49664 image ≡ put_mid 1 (length (set l 0 gate) - 1) (set l 0 gate) into
+read_together at place count gate image l into fits some there long read is = joined 49663 at place count gate image l into fits some there long read is
 
 -- a header's first byte is the gate
 gate_of : (image : List ℕ) (slot : ℕ) (h : HeaderValue) → HoldsSlot image slot (Some h) → byte_at (slot_at slot) image ≡ CONTAINER_GATE

@@ -4,11 +4,13 @@
 #![tactic(auto)]
 
 mod fault;
+mod inspecting;
 mod reading;
 mod slot;
 mod writing;
 
 pub use fault::LogFault;
+pub use inspecting::inspect_slots;
 pub use reading::{Spot, read_meta, read_meta_into, read_segment};
 pub use slot::read_slot;
 pub use writing::{free, seal};

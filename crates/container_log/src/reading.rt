@@ -82,7 +82,7 @@ pub fn read_segment<D: Disk>(disk: &mut D, place: &Spot, buf: &mut [u8]) -> Resu
 }
 
 // How a header breaks the format, by its first fault; none where memory ran out.
-fn why_of(bytes: &[u8], fault: MetaFault) -> Option<Why>
+pub(crate) fn why_of(bytes: &[u8], fault: MetaFault) -> Option<Why>
     requires { length bytes.now ≡ HEADER_BYTES }
     ensures { result ≡ named_by bytes.now fault }
 {

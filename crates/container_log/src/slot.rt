@@ -18,8 +18,8 @@ use dd_disk::{Disk, DiskFault, read_at};
 use disk_format::{CONTAINER_GATE, slot_at};
 use std::alloc::Global;
 
-// Reads the gate of a slot.
-fn read_gate<D: Disk>(disk: &mut D, slot: u32) -> Result<u8, LogFault>
+/// Reads the gate of a slot.
+pub(crate) fn read_gate<D: Disk>(disk: &mut D, slot: u32) -> Result<u8, LogFault>
     requires { slot_at slot + SLOT_BYTES ≤ (D.view disk.old).size }
     ensures shown { IfOk result (λ gate. Shows (D.view disk.old) (D.view disk.new) (λ image. byte_at (slot_at slot) image ≡ gate)) }
     ensures reads { Reads (ending blames result) (D.view disk.old) (D.view disk.new) }

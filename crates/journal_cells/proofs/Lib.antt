@@ -7,6 +7,7 @@ pub mod Damage
 pub mod Filling
 pub mod Formats
 pub mod Found
+pub mod Inspected
 pub mod Listed
 pub mod Names
 pub mod Outcomes

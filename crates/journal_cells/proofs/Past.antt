@@ -23,14 +23,14 @@ use Rattle.journal_cells.proofs.Replays.{holds_again, if_false, if_true, other_g
 
 -- ---- the first open cell
 
-first_none : (half left cell : ℕ) (image : List ℕ) → AreClosed half cell (cell + left) image → first_open half left cell image ≡ None
+pub first_none : (half left cell : ℕ) (image : List ℕ) → AreClosed half cell (cell + left) image → first_open half left cell image ≡ None
 unfolding first_open
 first_none half zero cell image closed = refl
 first_none half (suc left) cell image closed =
     if_false (byte_at (cell_at half cell) image == RECORD_GATE) (Some cell) (first_open half left (suc cell) image) (other_gate (byte_at (cell_at half cell) image) (closed cell (omega arith) (omega arith)))
     ∙ first_none half left (suc cell) image (λ c from within. closed c (omega (arith, from)) (omega (arith, within)))
 
-first_some : (half left cell found : ℕ) (image : List ℕ) → found < cell + left → IsFirstOpen half cell found image → first_open half left cell image ≡ Some found
+pub first_some : (half left cell found : ℕ) (image : List ℕ) → found < cell + left → IsFirstOpen half cell found image → first_open half left cell image ≡ Some found
 unfolding first_open
 first_some half zero cell found image within first = absurd (omega (arith, within, first.from_there))
 first_some half (suc left) cell found image within first =

@@ -3,6 +3,7 @@ pub mod Checkpoints
 pub mod Checks
 pub mod Faults
 pub mod Heads
+pub mod Inspecting
 pub mod Journal
 pub mod Records
 pub mod Scanning

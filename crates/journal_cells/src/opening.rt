@@ -37,8 +37,8 @@ pub fn slots_of<D: Disk>(disk: &mut D) -> Result<u32, CellFault>
     format_in(&cell)
 }
 
-// The bytes of both selectors.
-fn read_both<D: Disk>(disk: &mut D) -> Result<([u8; CELL], [u8; CELL]), CellFault>
+/// The bytes of both selectors.
+pub(crate) fn read_both<D: Disk>(disk: &mut D) -> Result<([u8; CELL], [u8; CELL]), CellFault>
     requires { LEAST_SIZE ≤ (D.view disk.old).size }
     ensures shown { IfOk result (λ cells. Shows (D.view disk.old) (D.view disk.new) (AreSelectorCells cells.0 cells.1)) }
     ensures reads { Reads (ending blames result) (D.view disk.old) (D.view disk.new) }

@@ -26,17 +26,17 @@ use std::alloc::Global;
 /// How many cells past the records are looked at in one read.
 const AT_ONCE: u32 = 32;
 
-/// What the records that were read leave.
+//// What the records that were read leave.
 #[derive(Drop)]
-struct Replayed {
-    count: u32,
+pub(crate) struct Replayed {
+    pub count: u32,
     /// The sequence number of the last of them, 0 where there is none.
-    previous: u64,
-    names: Names,
+    pub previous: u64,
+    pub names: Names,
 }
 
 impl Replayed {
-    fn new(alloc: Global) -> Replayed
+    pub(crate) fn new(alloc: Global) -> Replayed
         ensures { replay result ≡ nothing_yet }
     {
         Replayed {
@@ -160,8 +160,8 @@ fn open_cell(half: u8, cell: u32) -> CellFault
     }
 }
 
-// No cell of a half is open from one on; else the first that is, is damaged.
-fn check_closed<D: Disk>(disk: &mut D, half: u8, from: u32) -> Result<(), CellFault>
+/// No cell of a half is open from one on; else the first that is, is damaged.
+pub(crate) fn check_closed<D: Disk>(disk: &mut D, half: u8, from: u32) -> Result<(), CellFault>
     requires half { half ≤ 1 }
     requires within { from ≤ HALF_CELLS }
     requires size { LEAST_SIZE ≤ (D.view disk.old).size }

@@ -26,7 +26,7 @@ use Rattle.store_model.proofs.Spellings.{same_format}
 use Rattle.store_state.specs.declared.open_store.OpenStore.{OpenStore}
 use Rattle.store_state.specs.Refused.{blames, fails}
 use Rattle.recovery.specs.Slots.{AreSlots, IsDamagedSlot, IsSlotsRefusal}
-use Rattle.recovery.specs.Opening.{IsSized, IsFound, Opens, IsBeginRefusal, IsOpenRefusal, BreaksFormat, BreaksJournal, BreaksSlots, cell_refusal}
+use Rattle.recovery.specs.Opening.{IsSized, IsFound, Opens, IsBeginRefusal, IsOpenRefusal, IsFormatRefusal, BreaksFormat, BreaksJournal, BreaksSlots, cell_refusal}
 
 -- ---- a refusal that says nothing of the image
 
@@ -104,6 +104,21 @@ module _ (old mid new : DiskView) (before : OnlyReads old mid) where
       by_fault (cell.Damaged at why) is = inl (breaks (cell.Damaged at why) is.0 is.1)
       by_fault (cell.NotAStore gate magic) is = breaks (cell.NotAStore gate magic) is.0 is.1
       by_fault (cell.Version n) is = inl (breaks (cell.Version n) is.0 is.1)
+      by_fault cell.Numbers is = absurd is
+
+  pub format_alone : LEAST_SIZE ≤ old.size → (f : CellFault) → IsReadFault IsFormatBreak (λ f. Shows mid new (λ image. format_in (range 0 CELL_BYTES image) ≡ Err f)) f → IsFormatRefusal (Shows old new) old.size (cell_refusal f)
+  format_alone least = by_fault
+    where
+      breaks : (f : CellFault) → IsFormatBreak f → Shows mid new (λ image. format_in (range 0 CELL_BYTES image) ≡ Err f) → BreaksFormat (Shows old new) old.size f
+      breaks f kind seen = record { least = least; kind = kind; shows = since old mid new before seen }
+
+      by_fault : (f : CellFault) → IsReadFault IsFormatBreak (λ f. Shows mid new (λ image. format_in (range 0 CELL_BYTES image) ≡ Err f)) f → IsFormatRefusal (Shows old new) old.size (cell_refusal f)
+      by_fault cell.Memory is = absurd is
+      by_fault cell.DiskRead is = tt
+      by_fault cell.DiskWrite is = tt
+      by_fault (cell.Damaged at why) is = breaks (cell.Damaged at why) is.0 is.1
+      by_fault (cell.NotAStore gate magic) is = breaks (cell.NotAStore gate magic) is.0 is.1
+      by_fault (cell.Version n) is = breaks (cell.Version n) is.0 is.1
       by_fault cell.Numbers is = absurd is
 
   -- what is known after later calls that read

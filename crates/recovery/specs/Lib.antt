@@ -1,4 +1,5 @@
 pub mod Formatting
+pub mod Inspecting
 pub mod Making
 pub mod Marking
 pub mod Opening

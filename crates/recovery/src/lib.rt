@@ -6,6 +6,7 @@
 
 mod formatting;
 mod freeing;
+mod inspecting;
 mod marking;
 mod opening;
 mod passed;
@@ -14,5 +15,6 @@ mod slots;
 mod unopened;
 
 pub use formatting::format;
+pub use inspecting::{Uninspected, inspect};
 pub use opening::open;
 pub use unopened::Unopened;

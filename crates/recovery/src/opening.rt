@@ -7,7 +7,7 @@ ghost use Rattle.dd_disk.specs.Shows.{Shows};
 ghost use Rattle.journal_cells.specs.Journal.{IsScanned};
 ghost use Rattle.store_model.specs.Image.{Store, Encodes, HasFormat};
 ghost use Rattle.store_state.specs.Refused.{blames, fails};
-ghost use Rattle.recovery.specs.Opening.{IsSized, IsFound, IsOpened, Opens, IsBeginRefusal, IsOpenRefusal, cell_refusal};
+ghost use Rattle.recovery.specs.Opening.{IsSized, IsFound, IsOpened, Opens, IsBeginRefusal, IsOpenRefusal, IsFormatRefusal, cell_refusal};
 ghost use Rattle.recovery.specs.Room.{IsNotFull, LeavesOf, Opening, as_refused};
 
 use crate::room::make_room;
@@ -76,6 +76,7 @@ fn count_slots<D: Disk>(disk: &mut D) -> Result<u32, Refusal>
     ensures durable { OnOk result (IsDurable (D.view disk.new)) }
     ensures reads { Reads (ending blames result) (D.view disk.old) (D.view disk.new) }
     ensures refused { IfErr result (IsOpenRefusal (Shows (D.view disk.old) (D.view disk.new)) (D.view disk.old).size) }
+    ensures format_refused { IfErr result (IsFormatRefusal (Shows (D.view disk.old) (D.view disk.new)) (D.view disk.old).size) }
     ensures not_full { IfErr result IsNotFull }
 {
     begin(disk)?;
@@ -85,14 +86,15 @@ fn count_slots<D: Disk>(disk: &mut D) -> Result<u32, Refusal>
     }
 }
 
-// The number of slots of a disk that has their size.
-fn read_format<D: Disk>(disk: &mut D) -> Result<u32, Refusal>
+/// The number of slots of a disk that has their size.
+pub(crate) fn read_format<D: Disk>(disk: &mut D) -> Result<u32, Refusal>
     ensures sized { IfOk result (IsSized (Shows (D.view disk.old) (D.view disk.new)) (D.view disk.old).size) }
     ensures only { IfErr result (λ refusal. Shows (D.view disk.old) (D.view disk.new) (λ image. (store : Store)
         → Encodes image store → IsTrue (fails refusal))) }
     ensures durable { OnOk result (IsDurable (D.view disk.new)) }
     ensures reads { Reads (ending blames result) (D.view disk.old) (D.view disk.new) }
     ensures refused { IfErr result (IsOpenRefusal (Shows (D.view disk.old) (D.view disk.new)) (D.view disk.old).size) }
+    ensures format_refused { IfErr result (IsFormatRefusal (Shows (D.view disk.old) (D.view disk.new)) (D.view disk.old).size) }
     ensures not_full { IfErr result IsNotFull }
 {
     let slots = count_slots(disk)?;

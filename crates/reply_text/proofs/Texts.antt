@@ -7,8 +7,9 @@ use Rattle.refusals.specs.declared.refusal.Refusal.TheVariants.{Clash, WrongPart
 use Rattle.refusals.specs.declared.refusal.Refusal.{Refusal}
 use Rattle.refusals.specs.declared.refusal.Difference.TheVariants.{Byte}
 use Rattle.refusals.specs.declared.refusal.PartKind.{PartKind}
+use Rattle.inspection.specs.declared.damage.Damage.TheVariants.{Copy}
 use Rattle.reply_text.specs.declared.ending.Ending.TheVariants.{Refused}
-use Rattle.reply_text.specs.Text.{fault_line, refused_line, ending_text, refusal_text, difference_text, part_text}
+use Rattle.reply_text.specs.Text.{damage_line, checked_line, fault_line, refused_line, ending_text, refusal_text, difference_text, part_text}
 
 -- pieces of which one has a line of its own, put together either way
 byte_pieces : (front key space word place offered held end : List ℕ)
@@ -91,3 +92,17 @@ note_length refusal = omega arith
 pub note_tail : (refusal : Refusal) → codes "refused " ++ drop 6 (fault_line (Refused refusal)) ≡ refused_line refusal
 unfolding fault_line ending_text refused_line
 note_tail refusal = refl
+
+-- the line of a copy, of its pieces
+pub copy_text : (slot offset length : ℕ) (want got slot_text offset_text length_text want_digits got_digits : List ℕ) → slot_text ≡ decimal slot → offset_text ≡ decimal offset → length_text ≡ decimal length → want_digits ≡ encode_lower want → got_digits ≡ encode_lower got
+    → codes "copy " ++ (slot_text ++ (codes " " ++ (offset_text ++ (codes " " ++ (length_text ++ (codes " " ++ (want_digits ++ (codes " " ++ (got_digits ++ (codes "\n" ++ []))))))))))
+    ≡ damage_line (Copy slot offset length want got)
+unfolding damage_line
+copy_text slot offset length want got slot_text offset_text length_text want_digits got_digits is_slot is_offset is_length is_want is_got = rw (is_slot, is_offset, is_length, is_want, is_got) (simp append_assoc)
+
+-- the last line of `check`, of its pieces
+pub checked_text : (cells copies bad : ℕ) (cells_text copies_text bad_text : List ℕ) → cells_text ≡ decimal cells → copies_text ≡ decimal copies → bad_text ≡ decimal bad
+    → codes "checked cells " ++ (cells_text ++ (codes " copies " ++ (copies_text ++ (codes " bad " ++ (bad_text ++ (codes "\n" ++ []))))))
+    ≡ checked_line cells copies bad
+unfolding checked_line
+checked_text cells copies bad cells_text copies_text bad_text is_cells is_copies is_bad = rw (is_cells, is_copies, is_bad) (simp append_assoc)

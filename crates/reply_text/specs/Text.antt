@@ -14,6 +14,8 @@ use Rattle.disk_format.specs.declared.why.Why.{Why}
 use Rattle.disk_format.specs.declared.why.Why.TheVariants.{Digest, Field}
 use Rattle.refusals.specs.declared.refusal.Refusal.{Refusal}
 use Rattle.refusals.specs.declared.refusal.Refusal.TheVariants.{Memory, NoFile, BadName, TooMany, TooLong, Full, Clash, WrongPart, Collecting, NotCollecting, DiskRead, DiskWrite, Stopped, Corrupt, Missing, Numbers, NotAStore, Version, Damaged, Unpinned, AlreadyStore, WrongSize}
+use Rattle.inspection.specs.declared.damage.Damage.{Damage}
+use Rattle.inspection.specs.declared.damage.Damage.TheVariants as found
 use Rattle.reply_text.specs.declared.ending.Ending.{Ending}
 use Rattle.reply_text.specs.declared.ending.Ending.TheVariants.{Words, Source, Sink, Line, Script, Refused}
 
@@ -118,3 +120,15 @@ fault_line ending = codes "fault " ++ ending_text ending ++ codes "\n"
 -- the reply to a line of a script that was refused; in the notes the first word is `fault`
 unfoldable pub refused_line : Refusal → List ℕ
 refused_line refusal = codes "refused " ++ refusal_text refusal ++ codes "\n"
+
+-- `cell AT digest WANT GOT`, `cell AT field OFFSET GOT` or `copy SLOT OFFSET LENGTH WANT GOT`
+unfoldable pub damage_line : Damage → List ℕ
+damage_line (found.Cell at why) = codes "cell " ++ decimal at ++ codes " " ++ why_text why ++ codes "\n"
+damage_line (found.Copy slot offset length want got) =
+    codes "copy " ++ decimal slot ++ codes " " ++ decimal offset ++ codes " " ++ decimal length ++ codes " " ++ encode_lower want
+    ++ codes " " ++ encode_lower got ++ codes "\n"
+
+-- `checked cells C copies S bad B`
+unfoldable pub checked_line : ℕ → ℕ → ℕ → List ℕ
+checked_line cells copies bad =
+    codes "checked cells " ++ decimal cells ++ codes " copies " ++ decimal copies ++ codes " bad " ++ decimal bad ++ codes "\n"

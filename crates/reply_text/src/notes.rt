@@ -17,8 +17,8 @@ use itoa::Buffer;
 use refusals::{Difference, PartKind, Phase, Refusal};
 use std::alloc::{AllocError, Global};
 
-// Writes some pieces, one after another.
-fn write_pieces<Q: Sink>(notes: &mut Q, pieces: &[&[u8]]) -> Result<(), SinkFault>
+/// Writes some pieces, one after another.
+pub(crate) fn write_pieces<Q: Sink>(notes: &mut Q, pieces: &[&[u8]]) -> Result<(), SinkFault>
     ensures { Sends (flat_map (λ piece. piece.now) pieces.now) result (Q.view notes.old) (Q.view notes.new) }
 {
     for piece in pieces {

@@ -5,8 +5,8 @@ use Rattle.dd_disk.specs.Shows.{Shows}
 use Rattle.dd_disk.proofs.Shows.{always, weaker, since}
 use Rattle.dd_disk.proofs.Ended.{reads_on}
 use Rattle.store_state.specs.Refused.{blames}
-use Rattle.recovery.specs.Opening.{IsOpenRefusal}
-use Rattle.recovery.proofs.Steps.{begin_fails, is_large, cell_fails, cell_reads, format_refusal}
+use Rattle.recovery.specs.Opening.{IsOpenRefusal, IsFormatRefusal}
+use Rattle.recovery.proofs.Steps.{begin_fails, is_large, cell_fails, cell_reads, format_refusal, format_alone}
 use Rattle.recovery.proofs.Opens.{cell_not_full}
 use Rattle.recovery.proofs.opening.count_slots.Goals as goal
 
@@ -35,3 +35,9 @@ returns-in-Err-clause-refused g c =
 
 pub returns-in-Err-clause-not_full : goal.returns-in-Err-clause-not_full
 returns-in-Err-clause-not_full g c = cell_not_full c.in-Err.fault c.refused_by.result c.refused_by.ensures
+
+pub returns-in-Err-clause-format_refused : goal.returns-in-Err-clause-format_refused
+returns-in-Err-clause-format_refused g c =
+    let view = g.D.Disk.view in
+    subst (IsFormatRefusal (Shows (view c.args.disk.now) (view c.slots_of.new.disk)) (view c.args.disk.now).size) (sym c.refused_by.ensures)
+    (format_alone _ _ _ c.in_ok-begin.ensures.reads.only c.in_ok-begin.ensures.least c.in-Err.fault c.in-Err.ensures.cause)

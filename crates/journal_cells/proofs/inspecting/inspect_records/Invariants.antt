@@ -1,0 +1,17 @@
+use Rattle.std.proofs.Common.{◌≡◌, ◌-◌, Bool}
+use Rattle.dd_disk.specs.Ending.{Done, Reads}
+use Rattle.disk_format.specs.Layout.{half_cells}
+use Rattle.inspection.specs.Handing.{Finds}
+use Rattle.journal_cells.specs.Inspecting.{records_found}
+use Rattle.journal_cells.specs.Records.{nothing_yet}
+use Rattle.journal_cells.specs.Scanning.{replay}
+use Rattle.journal_cells.proofs.inspecting.inspect_records.Given as goal
+
+-- the cells before this one were inspected, and the rest is still to be found
+abbrev pub invariant-loop : goal.invariant-loop
+invariant-loop g l = record {
+  count : l.before.count ≡ l.counter;
+  reads : Reads Done (g.D.Disk.view l.fn.disk) (g.D.Disk.view l.disk);
+  found : (counts : Bool) → Finds g.T.TakesDamage.line (records_found l.half counts half_cells nothing_yet) (records_found l.half counts (half_cells - l.before.count) (replay l.before))
+      (g.D.Disk.view l.fn.disk) (g.D.Disk.view l.disk) (g.T.TakesDamage.view l.fn.takes) (g.T.TakesDamage.view l.takes) l.fn.tally l.tally;
+}

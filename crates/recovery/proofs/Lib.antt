@@ -1,6 +1,7 @@
 mod Blank
 mod Formatted
 mod Giving
+pub mod Inspected
 mod Marks
 mod Named
 mod Opens

@@ -1,24 +1,22 @@
 -- What an inspection of slots finds, step by step.
-use Rattle.std.proofs.Common.{◌≡◌, ◌≢◌, ℕ, suc, ◌+◌, ◌-◌, ◌<◌, ◌≤◌, Bool, true, false, List, [], ◌∷◌, ◌++◌, length, take, drop, get_or, All, Option, Result, Ok, Err, OnOk, nat_le, ◌==◌, if◌then◌else◌, refl, sym, ap, subst, ◌∙◌, arith, eq-eqb, append_assoc, append-nil}
+use Rattle.std.proofs.Common.{◌≡◌, ◌≢◌, ℕ, suc, ◌+◌, ◌<◌, ◌≤◌, Bool, true, false, List, [], ◌∷◌, ◌++◌, length, take, drop, get_or, Option, Result, Ok, Err, OnOk, nat_le, ◌==◌, if◌then◌else◌, refl, sym, ap, subst, ◌∙◌, arith, eq-eqb}
 use Rattle.std.specs.Option.{option_to_list}
 use Rattle.std.proofs.lemmas.Bool.{eqb-true, leb-true}
 use Rattle.std.proofs.lemmas.List.Elements.{All-nil, All-cons}
 use Rattle.std.proofs.lemmas.List.{take_more}
 use Rattle.std.proofs.lemmas.List.Sums.{sum_by-append, sum_by-cons}
 use Rattle.std.proofs.Math.Seq.{split_at}
-use Rattle.base_model.specs.Bytes.{range, byte_at}
+use Rattle.base_model.specs.Bytes.{byte_at}
 use Rattle.base_model.proofs.Checks.{both}
-use Rattle.base_model.proofs.Ranges.{range-join, range-one}
 use Rattle.container_meta.specs.declared.entry.Entry.{Entry}
-use Rattle.container_meta.specs.declared.fault.MetaFault.{MetaFault}
 use Rattle.container_meta.specs.declared.kind.Kind.{Kind}
 use Rattle.container_meta.specs.Spelling.{HeaderValue, IsHeader, Follow, bytes_of}
 use Rattle.dd_disk.specs.Shows.{Shows}
 use Rattle.dd_disk.specs.View.{DiskView, OnlyReads}
 use Rattle.dd_disk.proofs.Later.{reads_here}
-use Rattle.dd_disk.proofs.Shows.{always, weaker}
+use Rattle.dd_disk.proofs.Shows.{weaker}
 use Rattle.dd_io.specs.Flow.{SinkView}
-use Rattle.disk_format.specs.declared.numbers.TheConstants.{CONTAINER_GATE, DATA_BYTES, SLOT_BYTES}
+use Rattle.disk_format.specs.declared.numbers.TheConstants.{CONTAINER_GATE, DATA_BYTES}
 use Rattle.disk_format.specs.Layout.{slot_at}
 use Rattle.inspection.specs.Found.{Found, nothing, and_then, cell_with}
 use Rattle.inspection.specs.Handing.{Finds, Reports, Stops, StopsAmong}

@@ -9,7 +9,7 @@ use Rattle.dd_disk.specs.View.{DiskView}
 use Rattle.dd_io.specs.Flow.{SinkView, AppendedPart}
 use Rattle.inspection.specs.declared.damage.Damage.{Damage}
 use Rattle.inspection.specs.declared.halt.Halt.{Halt}
-use Rattle.inspection.specs.declared.halt.Halt.TheVariants.{Memory, DiskRead, Untaken}
+use Rattle.inspection.specs.declared.halt.Halt.TheVariants.{DiskRead, Untaken}
 use Rattle.inspection.specs.declared.tally.Tally.{Tally}
 use Rattle.inspection.specs.Found.{Found, and_then}
 

@@ -1,12 +1,12 @@
 -- What an inspection of cells finds, step by step.
-use Rattle.std.proofs.Common.{◌≡◌, ◌≢◌, ◌⊎◌, inl, inr, ℕ, suc, ◌+◌, ◌-◌, ◌<◌, ◌≤◌, Bool, true, false, List, length, Option, None, Some, Result, Ok, Err, OnOk, IfErr, is_some, nat_lt, ◌||◌, ◌==◌, if◌then◌else◌, refl, sym, ap, subst, ◌∙◌, arith, eq-eqb}
+use Rattle.std.proofs.Common.{◌≡◌, ◌≢◌, ◌⊎◌, inl, inr, ℕ, suc, ◌+◌, ◌-◌, ◌<◌, ◌≤◌, Bool, true, false, List, Option, None, Some, Result, Ok, Err, OnOk, IfErr, is_some, nat_lt, ◌||◌, ◌==◌, if◌then◌else◌, refl, sym, ap, subst, ◌∙◌, arith, eq-eqb}
 use Rattle.std.specs.FinMap as finite
-use Rattle.std.specs.Result.{is_ok, is_err}
+use Rattle.std.specs.Result.{is_ok}
 use Rattle.std.proofs.lemmas.Bool.{le-ltb}
 use Rattle.base_model.specs.Bytes.{range, byte_at}
 use Rattle.base_model.specs.Checks.{passes}
 use Rattle.dd_disk.specs.Shows.{Shows}
-use Rattle.dd_disk.specs.View.{DiskView, IsLater, OnlyReads}
+use Rattle.dd_disk.specs.View.{DiskView}
 use Rattle.dd_disk.specs.Ending.{Reads, Refused, ending, ending_of}
 use Rattle.dd_io.specs.Flow.{SinkView}
 use Rattle.dd_disk.proofs.Shows.{always, weaker}
@@ -31,7 +31,7 @@ use Rattle.journal_cells.specs.Faults.{IsReadFault, IsRecordBreak, blames as cel
 use Rattle.journal_cells.specs.Inspecting.{damage_in, damage_of, is_open, right_one, none_open, selector_found, selectors_found, is_right_alone, names_taking, after_cell, first_past, past_found, records_found, half_found, halves_found, journal_found}
 use Rattle.journal_cells.specs.Heads.{AreSelectorCells, selector_in}
 use Rattle.journal_cells.specs.Records.{Replay, nothing_yet, first_open, has_place, open_cell, own_checks, record_in, record_in_cell}
-use Rattle.journal_cells.specs.Scanning.{IsFirstOpen, IsOpenFault}
+use Rattle.journal_cells.specs.Scanning.{IsOpenFault}
 use Rattle.journal_cells.proofs.Names.{place_again}
 use Rattle.journal_cells.proofs.Past.{first_none, first_some}
 use Rattle.journal_cells.proofs.Replays.{if_false, if_true, other_gate}
@@ -209,7 +209,6 @@ module _ (half : ℕ) (counts : Bool) (from : ℕ) (old new : DiskView) where
   reads_past (NotAStore g m) other found reads = absurd found.0
   reads_past (Version n) other found reads = absurd found.0
   reads_past Numbers other found reads = absurd found
-
 
 -- ---- both selectors
 

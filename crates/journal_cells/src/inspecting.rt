@@ -148,12 +148,7 @@ fn says_half(half: u8, first: &[u8], second: &[u8]) -> bool
 // ---- the records of a half
 
 // The damage of the record in an open cell after others.
-fn damage_at(
-    alloc: Global,
-    at: u64,
-    before: &Replayed,
-    cell: &[u8],
-) -> Result<Option<Damage>, Halt>
+fn damage_at(alloc: Global, at: u64, before: &Replayed, cell: &[u8]) -> Result<Option<Damage>, Halt>
     requires { length cell.now ≡ CELL_BYTES }
     ensures damage { IfOk result (λ damage.
         damage ≡ damage_in at (record_read at (replay before.now).previous (replay before.now).names cell.now)) }

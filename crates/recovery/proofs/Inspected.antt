@@ -1,5 +1,5 @@
 -- An inspection of a disk, part by part.
-use Rattle.std.proofs.Common.{◌≡◌, ℕ, List, [], Result, Ok, Err, OnOk, None, refl, sym, ap, subst, ◌∙◌, inl, inr}
+use Rattle.std.proofs.Common.{◌≡◌, ℕ, List, [], Result, Ok, Err, OnOk, None, refl, sym, subst, ◌∙◌, inl, inr}
 use Rattle.container_log.specs.Inspecting.{slots_found}
 use Rattle.dd_disk.specs.Ending.{Done, Reads, ending_of}
 use Rattle.dd_disk.specs.Shows.{Shows}
@@ -17,10 +17,10 @@ use Rattle.inspection.specs.declared.tally.Tally.{Tally}
 use Rattle.inspection.proofs.Steps.{finds_first, finds_on, finds_shown, reports_nothing, stops_first, stops_on, stops_shown, then_nothing}
 use Rattle.journal_cells.specs.Inspecting.{journal_found}
 use Rattle.refusals.specs.declared.refusal.Refusal.{Refusal}
-use Rattle.recovery.specs.Inspecting.{image_found, nothing_counted, IsInspected, IsCutShort, IsRefused, IsUninspected, ended_by, blamed}
+use Rattle.recovery.specs.Inspecting.{image_found, nothing_counted, IsInspected, IsUninspected, ended_by, blamed}
 use Rattle.recovery.specs.Opening.{IsSized, IsFormatRefusal}
 use Rattle.recovery.specs.declared.inspecting.Uninspected.{Uninspected}
-use Rattle.recovery.specs.declared.inspecting.Uninspected.TheVariants.{Refused, Untaken}
+use Rattle.recovery.specs.declared.inspecting.Uninspected.TheVariants.{Refused}
 
 pub ok_map : {T E : Type 0} (result : Result T E) {P Q : Type 0} → (P → Q) → OnOk result P → OnOk result Q
 ok_map (Ok x) each holds = each holds

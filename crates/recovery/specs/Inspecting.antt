@@ -1,5 +1,5 @@
 -- What an inspection of a disk finds, and what it answers (docs/FORMAT.md, 'Check').
-use Rattle.std.specs.Prelude.{◌≡◌, ◌⊎◌, ℕ, List, [], None, Result, Ok, Err}
+use Rattle.std.specs.Prelude.{◌≡◌, ◌⊎◌, ℕ, List, [], None}
 use Rattle.container_log.specs.Inspecting.{slots_found}
 use Rattle.dd_disk.specs.Ending.{Blame, NoCall}
 use Rattle.dd_disk.specs.Shows.{Shows}

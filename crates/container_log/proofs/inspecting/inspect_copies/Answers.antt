@@ -1,4 +1,4 @@
-use Rattle.std.proofs.Common.{sym, subst, Option, List, ℕ}
+use Rattle.std.proofs.Common.{subst, Option}
 use Rattle.std.proofs.lemmas.List.{take_all}
 use Rattle.base_model.proofs.Outcome.{passed_on}
 use Rattle.inspection.specs.Found.{copy_with}
@@ -15,10 +15,11 @@ pub returns-in_err-add_copy-clause-halt : goal.returns-in_err-add_copy-clause-ha
 returns-in_err-add_copy-clause-halt g c =
     let line = g.T.TakesDamage.line in
     let take = g.T.TakesDamage.view in
-    passed_on c.from_residual.result _ c.in_err-add_copy.field-0.0 c.from_residual.ensures.1
-    (c.in_err-add_copy.ensures.halt.0,
-    stops_copy c.args.slot c.args.bytes.now c.args.entries.now c.loop-entry.entry-index _ c.loop-entry-test.true line _ _ _ _ _ c.loop-entry.invariant c.in_err-add_copy.field-0.0
-    (subst (λ (d : Option Damage). Stops line (copy_with d) (take c.loop-entry.takes) (take c.add_copy.new.takes) c.in_err-add_copy.field-0.0) c.copy_damage.ensures c.in_err-add_copy.ensures.halt.1))
+    passed_on c.from_residual.result _ c.in_err-add_copy.field-0.0 c.from_residual.ensures.1 (
+      c.in_err-add_copy.ensures.halt.0,
+      stops_copy c.args.slot c.args.bytes.now c.args.entries.now c.loop-entry.entry-index _ c.loop-entry-test.true line _ _ _ _ _ c.loop-entry.invariant c.in_err-add_copy.field-0.0
+          (subst (λ (d : Option Damage). Stops line (copy_with d) (take c.loop-entry.takes) (take c.add_copy.new.takes) c.in_err-add_copy.field-0.0) c.copy_damage.ensures c.in_err-add_copy.ensures.halt.1),
+    )
 
 pub loop-entry-preserved : goal.loop-entry-preserved
 loop-entry-preserved g c =

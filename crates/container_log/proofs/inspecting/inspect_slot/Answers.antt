@@ -1,4 +1,4 @@
-use Rattle.std.proofs.Common.{Bool, ℕ, suc, subst}
+use Rattle.std.proofs.Common.{Bool, suc, subst}
 use Rattle.base_model.proofs.Outcome.{passed_on, map_err}
 use Rattle.dd_disk.specs.Shows.{Shows}
 use Rattle.inspection.specs.Found.{nothing}

@@ -24,14 +24,14 @@ pub returns-clause-found : goal.returns-clause-found
 returns-clause-found g c =
     let line = g.T.TakesDamage.line in
     let first = finds_as line (records_found c.args.half c.args.counts half_cells nothing_yet) (half_found c.args.half c.args.selector.now c.args.counts)
-        (past_found c.args.half c.args.counts c.in_ok-count.count) (past_found c.args.half c.args.counts c.in_ok-count.count) _ _ _ _ _ _
-        (always _ _ _ (λ image sized. half_opened c.args.half c.args.selector.now c.args.counts image (sym c.is_open.ensures ∙ c.if-not-is_open.false))) (always _ _ _ (λ image sized. refl)) (c.in_ok-count.ensures.found c.args.counts) in
+    (past_found c.args.half c.args.counts c.in_ok-count.count) (past_found c.args.half c.args.counts c.in_ok-count.count) _ _ _ _ _ _
+    (always _ _ _ (λ image sized. half_opened c.args.half c.args.selector.now c.args.counts image (sym c.is_open.ensures ∙ c.if-not-is_open.false))) (always _ _ _ (λ image sized. refl)) (c.in_ok-count.ensures.found c.args.counts) in
     ok_map c.inspect_past.result (finds_on line _ _ _ _ _ _ _ _ _ _ first c.in_ok-count.ensures.reads.only c.inspect_past.ensures.reads.only.later (λ image. nothing) _) c.inspect_past.ensures.found
 
 pub returns-clause-stopped : goal.returns-clause-stopped
 returns-clause-stopped g c =
     let line = g.T.TakesDamage.line in
     let first = finds_as line (records_found c.args.half c.args.counts half_cells nothing_yet) (half_found c.args.half c.args.selector.now c.args.counts)
-        (past_found c.args.half c.args.counts c.in_ok-count.count) (past_found c.args.half c.args.counts c.in_ok-count.count) _ _ _ _ _ _
-        (always _ _ _ (λ image sized. half_opened c.args.half c.args.selector.now c.args.counts image (sym c.is_open.ensures ∙ c.if-not-is_open.false))) (always _ _ _ (λ image sized. refl)) (c.in_ok-count.ensures.found c.args.counts) in
+    (past_found c.args.half c.args.counts c.in_ok-count.count) (past_found c.args.half c.args.counts c.in_ok-count.count) _ _ _ _ _ _
+    (always _ _ _ (λ image sized. half_opened c.args.half c.args.selector.now c.args.counts image (sym c.is_open.ensures ∙ c.if-not-is_open.false))) (always _ _ _ (λ image sized. refl)) (c.in_ok-count.ensures.found c.args.counts) in
     map_err c.inspect_past.result _ _ (λ halt is. stops_on line _ _ _ _ _ _ _ _ _ _ first c.in_ok-count.ensures.reads.only c.inspect_past.ensures.reads.only.later halt is) c.inspect_past.ensures.stopped

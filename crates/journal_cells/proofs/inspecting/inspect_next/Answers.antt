@@ -1,5 +1,5 @@
-use Rattle.std.proofs.Common.{◌∙◌, Bool, ap, sym, refl}
-use Rattle.base_model.proofs.Outcome.{passed_on, map_err}
+use Rattle.std.proofs.Common.{◌∙◌, ap}
+use Rattle.base_model.proofs.Outcome.{passed_on}
 use Rattle.inspection.specs.Found.{nothing, cell_with}
 use Rattle.inspection.proofs.Steps.{finds_shown, reports_nothing, stops_shown, stops_unread}
 use Rattle.journal_cells.specs.Inspecting.{records_found, past_found}

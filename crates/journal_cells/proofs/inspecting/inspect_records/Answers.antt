@@ -1,4 +1,4 @@
-use Rattle.std.proofs.Common.{◌≡◌, ◌∙◌, ◌-◌, suc, Bool, if◌then◌else◌, ap, sym, subst, refl, arith}
+use Rattle.std.proofs.Common.{◌≡◌, ◌-◌, suc, Bool, if◌then◌else◌, ap, sym, subst, refl, arith}
 use Rattle.base_model.proofs.Outcome.{passed_on}
 use Rattle.dd_disk.specs.Ending.{Done}
 use Rattle.dd_disk.proofs.Ended.{reads_none, reads_on}
@@ -37,8 +37,8 @@ returns-then-not-branch-clause-found g c = λ counts.
     let view = g.D.Disk.view in
     let take = g.T.TakesDamage.view in
     let next = subst (λ (b : Bool). Finds line (records_found c.args.half counts (half_cells - c.loop.before.count) (replay c.loop.before))
-        (if b then records_found c.args.half counts (half_cells - c.inspect_next.new.before.count) (replay c.inspect_next.new.before) else past_found c.args.half counts c.inspect_next.new.before.count)
-        (view c.loop.disk) (view c.inspect_next.new.disk) (take c.loop.takes) (take c.inspect_next.new.takes) c.loop.tally c.inspect_next.new.tally) c.if-not-branch.true (c.in_ok-inspect_next.ensures.found counts) in
+    (if b then records_found c.args.half counts (half_cells - c.inspect_next.new.before.count) (replay c.inspect_next.new.before) else past_found c.args.half counts c.inspect_next.new.before.count)
+    (view c.loop.disk) (view c.inspect_next.new.disk) (take c.loop.takes) (take c.inspect_next.new.takes) c.loop.tally c.inspect_next.new.tally) c.if-not-branch.true (c.in_ok-inspect_next.ensures.found counts) in
     finds_on line _ _ _ _ _ _ _ _ _ _ (c.loop.invariant.found counts) c.loop.invariant.reads.only c.in_ok-inspect_next.ensures.reads.only.later (past_found c.args.half counts c.inspect_next.new.before.count) c.inspect_next.new.tally next
 
 pub loop-preserved : goal.loop-preserved
@@ -52,8 +52,8 @@ loop-preserved g c =
       reads = reads_on Done _ _ _ c.loop.invariant.reads c.in_ok-inspect_next.ensures.reads;
       found = λ counts.
           let next = subst (λ (b : Bool). Finds line (records_found c.args.half counts (half_cells - c.loop.before.count) (replay c.loop.before))
-              (if b then records_found c.args.half counts (half_cells - c.inspect_next.new.before.count) (replay c.inspect_next.new.before) else past_found c.args.half counts c.inspect_next.new.before.count)
-              (view c.loop.disk) (view c.inspect_next.new.disk) (take c.loop.takes) (take c.inspect_next.new.takes) c.loop.tally c.inspect_next.new.tally) c.if-not-branch.false (c.in_ok-inspect_next.ensures.found counts) in
+          (if b then records_found c.args.half counts (half_cells - c.inspect_next.new.before.count) (replay c.inspect_next.new.before) else past_found c.args.half counts c.inspect_next.new.before.count)
+          (view c.loop.disk) (view c.inspect_next.new.disk) (take c.loop.takes) (take c.inspect_next.new.takes) c.loop.tally c.inspect_next.new.tally) c.if-not-branch.false (c.in_ok-inspect_next.ensures.found counts) in
           finds_on line _ _ _ _ _ _ _ _ _ _ (c.loop.invariant.found counts) c.loop.invariant.reads.only c.in_ok-inspect_next.ensures.reads.only.later
           (records_found c.args.half counts (half_cells - c.inspect_next.new.before.count) (replay c.inspect_next.new.before)) c.inspect_next.new.tally next;
     }

@@ -1,4 +1,4 @@
-use Rattle.recovery.proofs.Inspected.{refused_so, inspected, cut_short, reads_cut_short}
+use Rattle.recovery.proofs.Inspected.{refused_so, inspected, cut_short}
 use Rattle.recovery.proofs.inspecting.inspect.Goals as goal
 
 pub returns-in-Err-clause-stopped : goal.returns-in-Err-clause-stopped

@@ -1,4 +1,4 @@
-use Rattle.std.proofs.Common.{◌∙◌, List, ℕ, ap, subst, sym, refl, arith}
+use Rattle.std.proofs.Common.{◌∙◌, ap, subst, sym, refl, arith}
 use Rattle.disk_format.specs.Cells.{RecordValue, IsName}
 use Rattle.namespace.specs.Names.{record_value}
 use Rattle.journal_cells.specs.Inspecting.{names_taking}

@@ -1,15 +1,15 @@
 -- An inspection of a disk, part by part.
-use Rattle.std.proofs.Common.{◌≡◌, ℕ, List, [], Result, Ok, Err, OnOk, None, refl, sym, subst, ◌∙◌, inl, inr}
+use Rattle.std.proofs.Common.{◌≡◌, ℕ, ◌+◌, ◌-◌, ◌^◌, ◌<◌, length, Some, List, [], Result, Ok, Err, OnOk, None, refl, sym, subst, ◌∙◌, inl, inr}
 use Rattle.container_log.specs.Inspecting.{slots_found}
 use Rattle.dd_disk.specs.Ending.{Done, Reads, ending_of}
 use Rattle.dd_disk.specs.Shows.{Shows}
 use Rattle.dd_disk.specs.View.{DiskView, IsLater, OnlyReads}
 use Rattle.dd_disk.proofs.Ended.{reads_on}
 use Rattle.dd_disk.proofs.Later.{reads_here}
-use Rattle.dd_disk.proofs.Shows.{always, since, until, weaker}
+use Rattle.dd_disk.proofs.Shows.{always, shown_content, since, until, weaker}
 use Rattle.dd_io.specs.Flow.{SinkView}
 use Rattle.inspection.specs.Found.{Found, nothing, and_then, cell_with}
-use Rattle.inspection.specs.Handing.{Finds, Reports, Stops, StopsAmong, blames as halts}
+use Rattle.inspection.specs.Handing.{Counts, Finds, Reports, Stops, StopsAmong, blames as halts}
 use Rattle.inspection.specs.declared.damage.Damage.{Damage}
 use Rattle.inspection.specs.declared.halt.Halt.{Halt}
 use Rattle.inspection.specs.declared.halt.Halt.TheVariants as halt_of
@@ -17,10 +17,11 @@ use Rattle.inspection.specs.declared.tally.Tally.{Tally}
 use Rattle.inspection.proofs.Steps.{finds_first, finds_on, finds_shown, reports_nothing, stops_first, stops_on, stops_shown, then_nothing}
 use Rattle.journal_cells.specs.Inspecting.{journal_found}
 use Rattle.refusals.specs.declared.refusal.Refusal.{Refusal}
-use Rattle.recovery.specs.Inspecting.{image_found, nothing_counted, IsInspected, IsUninspected, ended_by, blamed}
+use Rattle.recovery.specs.Inspecting.{image_found, nothing_counted, AreCounted, IsInspected, IsUninspected, ended_by, blamed}
 use Rattle.recovery.specs.Opening.{IsSized, IsFormatRefusal}
 use Rattle.recovery.specs.declared.inspecting.Uninspected.{Uninspected}
 use Rattle.recovery.specs.declared.inspecting.Uninspected.TheVariants.{Refused}
+use Rattle.recovery.proofs.Small.{exact_counts, image_small}
 
 pub ok_map : {T E : Type 0} (result : Result T E) {P Q : Type 0} → (P → Q) → OnOk result P → OnOk result Q
 ok_map (Ok x) each holds = each holds
@@ -71,14 +72,16 @@ module _ (line : Damage → List ℕ) (slots : ℕ) (old mid new : DiskView) (si
   sized_still : IsSized (Shows old new) old.size slots
   sized_still = record { count = sized.count; size_is = sized.size_is; format = until old mid new sized.format before.later.clock_is later }
 
+  exactly : (found : Found) (tally : Tally) → Shows old new (λ image. image_found slots image ≡ found) → Counts found nothing_counted tally → (image : List ℕ) → old.content ≡ Some image → AreCounted found tally
+  exactly found tally shown counts image told =
+      let is = shown_content old new _ image shown told in
+      exact_counts found tally (subst (λ (f : Found). f.cells + f.copies + length f.damages < 2 ^ 64 - 1) is (image_small slots image sized.count.1)) counts
+
   pub inspected : (tally tally_now : Tally) → tally ≡ nothing_counted → Finds line (image_found slots) (λ image. nothing) mid new sink sink_now tally tally_now → IsInspected line old new sink sink_now tally_now
-  inspected tally tally_now none finds = record {
-    slots = slots;
-    sized = sized_still;
-    found = finds.found;
-    shown = weaker old new (λ image sized is. is ∙ then_nothing finds.found) (since old mid new before finds.shown);
-    reports = subst (λ (t : Tally). Reports line finds.found sink sink_now t tally_now) none finds.reports;
-  }
+  inspected tally tally_now none finds =
+      let shown : Shows old new (λ image. image_found slots image ≡ finds.found) = weaker old new (λ image sized is. is ∙ then_nothing finds.found) (since old mid new before finds.shown) in
+      let reports = subst (λ (t : Tally). Reports line finds.found sink sink_now t tally_now) none finds.reports in
+      record { slots = slots; sized = sized_still; found = finds.found; shown = shown; reports = reports; exact = exactly finds.found tally_now shown reports.counts }
 
   pub cut_short : (halt : Halt) (ending : Uninspected) → ending ≡ ended_by halt → StopsAmong line (image_found slots) mid new sink sink_now halt → IsUninspected line old new sink sink_now ending
   cut_short halt ending is stops = inr (record {

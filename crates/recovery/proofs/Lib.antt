@@ -8,6 +8,7 @@ mod Opens
 mod Pushed
 mod Reading
 mod Rooms
+pub mod Small
 mod Spare
 mod Steps
 mod Storing

@@ -1,5 +1,6 @@
 -- What an inspection of a disk finds, and what it answers (docs/FORMAT.md, 'Check').
-use Rattle.std.specs.Prelude.{◌≡◌, ◌⊎◌, ℕ, List, [], None}
+use Rattle.std.specs.Prelude.{◌≡◌, ◌⊎◌, ℕ, List, [], length, None}
+use Rattle.base_model.specs.Known.{Known}
 use Rattle.container_log.specs.Inspecting.{slots_found}
 use Rattle.dd_disk.specs.Ending.{Blame, NoCall}
 use Rattle.dd_disk.specs.Shows.{Shows}
@@ -27,13 +28,21 @@ image_found slots image = and_then (cell_with None) (and_then (journal_found ima
 abbrev pub nothing_counted : Tally
 nothing_counted = record { cells = 0; copies = 0; bad = 0 }
 
--- Reads showed what is to be found on the disk; this was counted, and each damage written.
+-- the counts are exactly those of what was found
+pub record AreCounted (found : Found) (tally : Tally) : Type 0 where
+  pub cells : tally.cells ≡ found.cells
+  pub copies : tally.copies ≡ found.copies
+  pub bad : tally.bad ≡ length found.damages
+
+-- Reads showed what is to be found on the disk; this was counted, and each damage written. Where the disk tells its content, the counts
+-- are exact; where it doesn't, one might stand at its type's end.
 pub record IsInspected (line : Damage → List ℕ) (old new : DiskView) (sink sink_now : SinkView) (tally : Tally) : Type 0 where
   pub slots : ℕ
   pub sized : IsSized (Shows old new) old.size slots
   pub found : Found
   pub shown : Shows old new (λ image. image_found slots image ≡ found)
   pub reports : Reports line found sink sink_now nothing_counted tally
+  pub exact : Known old.content (λ image. AreCounted found tally)
 
 -- how a halt is answered
 abbrev pub ended_by : Halt → Uninspected

@@ -106,24 +106,27 @@ fn write_part<D: Disk>(disk: &mut D, at: u64, bytes: &[u8]) -> Result<bool, Faul
     Ok(disk.write(at, bytes).is_ok())
 }
 
-/// A command with its source, and the calls of its streams that fail.
+/// A command with its source, the most bytes that a read of it gives, and the calls of its streams that fail.
 #[derive(Drop)]
 struct Run {
     words: Vec<String>,
     is_alone: bool,
     source: Vec<u8>,
+    most: u64,
     source_fails: Vec<u64>,
     sink_fails: Vec<u64>,
     notes_fails: Vec<u64>,
 }
 
 /// The run that the words of a line stand for: those of the command, `< BYTES` of the source, and `!source=CALL`,
-/// `!sink=CALL` and `!notes=CALL` for calls that fail, and `!alone` for the top call of commands that start no threads.
+/// `!sink=CALL` and `!notes=CALL` for calls that fail, `!piece=COUNT` for a source no read of which gives more bytes, and
+/// `!alone` for the top call of commands that start no threads.
 fn run_of(alloc: Global, words: &[&str]) -> Result<Run, Fault> {
     let mut run = Run {
         words: Vec::new(alloc),
         is_alone: false,
         source: Vec::new(alloc),
+        most: u64::MAX,
         source_fails: Vec::new(alloc),
         sink_fails: Vec::new(alloc),
         notes_fails: Vec::new(alloc),
@@ -135,7 +138,7 @@ fn run_of(alloc: Global, words: &[&str]) -> Result<Run, Fault> {
         } else if *word == "!alone" {
             run.is_alone = true;
         } else if let Some(script) = word.strip_prefix('!') {
-            add_failing(&mut run, script)?;
+            add_option(&mut run, script)?;
         } else if is_source {
             add_piece(alloc, word, &mut run.source)?;
         } else {
@@ -152,10 +155,12 @@ fn script_run(alloc: Global, words: &str, lines: &str) -> Result<Run, Fault> {
     Ok(run)
 }
 
-fn add_failing(run: &mut Run, script: &str) -> Result<(), Fault> {
-    let (stream, call) = script.split_once('=').ok_or(Fault::Line)?;
+/// Takes a call that fails, or how many bytes a read gives at most.
+fn add_option(run: &mut Run, script: &str) -> Result<(), Fault> {
+    let (what, call) = script.split_once('=').ok_or(Fault::Line)?;
     let call = number(call)?;
-    match stream {
+    match what {
+        "piece" => run.most = call,
         "source" => run.source_fails.push(call)?,
         "sink" => run.sink_fails.push(call)?,
         "notes" => run.notes_fails.push(call)?,
@@ -168,7 +173,7 @@ fn add_failing(run: &mut Run, script: &str) -> Result<(), Fault> {
 /// and the lines of a list as those are.
 fn add_run<D: Disk + Send>(rt: &HostRuntime, disk: &mut D, run: Run, text: &mut Text) {
     let alloc = rt.alloc();
-    let mut source = MemSource::new(run.source, run.source_fails);
+    let mut source = MemSource::in_pieces(run.source, run.source_fails, (run.most as usize).max(1));
     let mut sink = MemSink::new(alloc, run.sink_fails);
     let mut notes = MemSink::new(alloc, run.notes_fails);
     let status = if run.is_alone {

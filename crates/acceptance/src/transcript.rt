@@ -90,10 +90,7 @@ impl Suite {
     // `NAME TEXT`, or `NAME TEXT*COUNT` for a text so many times. All transcripts share their names, so none may stand already.
     fn add_name(&mut self, alloc: Global, words: &str) -> Result<(), Fault> {
         let (name, value) = words.split_once(' ').unwrap_or((words, ""));
-        let (piece, count) = match value.split_once('*') {
-            Some((piece, count)) => (piece, number(count)?),
-            None => (value, 1),
-        };
+        let (piece, count) = times_of(value);
         let mark = format!(in alloc; "{{{name}}}")?;
         if stands(&self.names, mark.as_str()) {
             return Err(Fault::Name);
@@ -161,6 +158,16 @@ impl Suite {
             None => codec_answer(rt.alloc(), row),
         }
     }
+}
+
+// `TEXT*COUNT`, or a text that has no number after its last star.
+fn times_of(value: &str) -> (&str, u64) {
+    if let Some((piece, count)) = value.rsplit_once('*') {
+        if let Ok(count) = number(count) {
+            return (piece, count);
+        }
+    }
+    (value, 1)
 }
 
 // One of the names has this mark.

@@ -1,5 +1,5 @@
 // A source and a sink in memory, whose calls fail by their numbers.
-ghost use Rattle.std.specs.Prelude.{◌≡◌, ◌<◌, ◌≤◌, [], Some, length, IfOk, OnErr};
+ghost use Rattle.std.specs.Prelude.{◌≡◌, ◌<◌, ◌≤◌, [], Some, length, min, IfOk, OnErr};
 ghost use Rattle.base_model.specs.Fault.{HasCause};
 ghost use Rattle.base_model.specs.Known.{Known};
 ghost use Rattle.dd_io.specs.Flow.{Takes, Sends};
@@ -14,13 +14,16 @@ use std::alloc::Global;
 pub struct MemSource {
     bytes: Vec<u8>,
     place: usize,
+    // No read gives more bytes than these.
+    most: usize,
     faults: u64,
     script: Script,
     ghost within: { place ≤ length bytes.items },
+    ghost some: { 1 ≤ most },
 }
 
 impl MemSource {
-    ghost use Rattle.dd_io.specs.Scripted.{source_script};
+    ghost use Rattle.dd_io.specs.Scripted.{source_script, most_read};
 
     /// Its calls of these numbers fail. The first call has the number 1.
     pub fn new(bytes: Vec<u8>, fails: Vec<u64>) -> MemSource
@@ -28,9 +31,21 @@ impl MemSource {
         ensures faults { (⟦<MemSource as Source>⟧.view result).faults ≡ 0 }
         ensures script { IsFresh (source_script result) fails.items }
     {
+        MemSource::in_pieces(bytes, fails, usize::MAX)
+    }
+
+    /// The same, where no read gives more bytes than these.
+    pub fn in_pieces(bytes: Vec<u8>, fails: Vec<u64>, most: usize) -> MemSource
+        requires { 1 ≤ most }
+        ensures left { (⟦<MemSource as Source>⟧.view result).left ≡ Some bytes.items }
+        ensures faults { (⟦<MemSource as Source>⟧.view result).faults ≡ 0 }
+        ensures script { IsFresh (source_script result) fails.items }
+        ensures most { most_read result ≡ most }
+    {
         MemSource {
             bytes,
             place: 0,
+            most,
             faults: 0,
             script: Script::new(fails),
         }
@@ -38,13 +53,16 @@ impl MemSource {
 }
 
 impl Source for MemSource {
-    ghost use Rattle.dd_io.specs.Scripted.{source_script};
+    ghost use Rattle.dd_io.specs.Scripted.{source_script, most_read};
     ghost use Rattle.std.specs.Prelude.{drop};
 
     ghost view = { λ s. record { left = Some (drop s.place s.bytes.items); faults = s.faults } };
 
     fn read(&mut self, into: &mut [u8]) -> Result<usize, SourceFault>
         ensures count { IfOk result (λ n. n ≤ length into.old) }
+        ensures piece { IfOk result (λ n. Known (⟦<MemSource as Source>⟧.view self.old).left
+            (λ bytes. n ≡ min (min (length bytes) (length into.old)) (most_read self.old))) }
+        ensures pieces { most_read self.new ≡ most_read self.old }
         ensures bytes { IfOk result (λ n. Known (⟦<MemSource as Source>⟧.view self.old).left
             (λ bytes. Takes n bytes into.new (⟦<MemSource as Source>⟧.view self.new).left)) }
         ensures end { IfOk result (λ n. n ≡ 0 → 0 < length into.old
@@ -61,7 +79,7 @@ impl Source for MemSource {
             return Err(SourceFault);
         }
         let left = &self.bytes[self.place..];
-        let count = left.len().min(into.len());
+        let count = left.len().min(into.len()).min(self.most);
         into[..count].copy_from_slice(&left[..count]);
         self.place += count;
         Ok(count)

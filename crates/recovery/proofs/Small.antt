@@ -61,8 +61,14 @@ selectors_small first second =
     let one = selector_small 0 None first in
     let other = selector_small 1 (right_one (selector_in 0 None first)) second in
     let last = one_damage (none_open first second) in
-    omega (arith, one, other, last, together (selector_found 0 None first) (and_then (selector_found 1 (right_one (selector_in 0 None first)) second) (only_damage (none_open first second))),
-    together (selector_found 1 (right_one (selector_in 0 None first)) second) (only_damage (none_open first second)))
+    omega (
+      arith,
+      one,
+      other,
+      last,
+      together (selector_found 0 None first) (and_then (selector_found 1 (right_one (selector_in 0 None first)) second) (only_damage (none_open first second))),
+      together (selector_found 1 (right_one (selector_in 0 None first)) second) (only_damage (none_open first second)),
+    )
 
 first_small : (half : ℕ) (found : Option ℕ) → weight (first_past half found) ≤ 2
 first_small half None = omega arith

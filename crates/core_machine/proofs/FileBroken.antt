@@ -47,7 +47,7 @@ use Rattle.store_core.proofs.Crashes.{change_leaves, delete_leaves, flush_leaves
 use Rattle.store_core.proofs.Damage.{never_damaged}
 use Rattle.store_core.proofs.Stepping.{step_later}
 use Rattle.store_machine.specs.ByMap.{FileMachine}
-use Rattle.store_machine.specs.Forgetting.{SameState}
+use Rattle.store_machine.specs.Forgetting.{Forgets, SameState}
 use Rattle.store_machine.specs.Legal.{ByState, LegalBy, Refuses, broken_by, with_name, without_name}
 use Rattle.store_machine.specs.Machine.{Found, RunState, Running, Stopped, stopped}
 use Rattle.store_machine.specs.Remembering.{RootMachine}
@@ -286,6 +286,17 @@ module _ (bytes : List ℕ) (m n : FileMachine) (runs : m.state ≡ Running) (ac
   it_writes steps.ReadNext (right, (file, rest, after, is, stays, others)) = no_read rest after stays
   it_writes step refuses = refuses.1
 
+-- the stores of a collection's change are those that the core names
+pub stores_are : (m n : FileMachine) (r t : RootMachine) → Forgets m r → Forgets n t → (last : ℕ) → r.last_id ≡ last → (k : Collection) (stores others : List Store)
+    → n.state ≡ Stopped None stores → t.state ≡ Stopped None others
+    → others ≡ map (λ change. changed change r.store) (changes_of (phase_at k.stage k.sweep.next) r.last_id k.sweep)
+    → stores ≡ map (λ change. changed change m.store) (changes_of (phase_at k.stage k.sweep.next) last k.sweep)
+stores_are m n r t was is last last_is k stores others n_is t_is so =
+    let same : others ≡ stores = subst (SameState (Stopped None stores)) t_is (subst (λ (s : RunState (List ℕ)). SameState s t.state) n_is is.state) in
+    sym same ∙ so
+    ∙ ap (λ (store : Store). map (λ change. changed change store) (changes_of (phase_at k.stage k.sweep.next) r.last_id k.sweep)) was.store
+    ∙ ap (λ (id : ℕ). map (λ change. changed change m.store) (changes_of (phase_at k.stage k.sweep.next) id k.sweep)) last_is
+
 module _ {C : Type 0} {state : C → CoreState} {among : ByteSet} {f : FileEvent} {old new : C} {m n : FileMachine} {r t : RootMachine}
     (to : StepsTo C state among f old new m n r t) (stop : Stop) (stops : (state new).stop ≡ Some stop) where
   abbrev before : StepsAt C state among f old new m r t
@@ -310,17 +321,6 @@ module _ {C : Type 0} {state : C → CoreState} {among : ByteSet} {f : FileEvent
   stands_as other stores is each =
       stands_by among m (state old) (state new) here n later (λ image left. subst (λ (x : FileMachine). MayStand (IsIn among) x image) (sym is) (each image left))
 
-  -- the stores of a collection's change are those that the core names
-  stores_are : (k : Collection) (stores others : List Store) → n.state ≡ Stopped None stores → t.state ≡ Stopped None others
-      → others ≡ map (λ change. changed change r.store) (changes_of (phase_at k.stage k.sweep.next) r.last_id k.sweep)
-      → stores ≡ stores_by among m (state old) (state new) here f.bytes before.apart k.stage k.sweep.next k
-  stores_are k stores others n_is t_is is =
-      let same : others ≡ stores =
-      subst (SameState (Stopped None stores)) t_is (subst (λ (s : RunState (List ℕ)). SameState s t.state) n_is to.forgets.state) in
-      sym same ∙ is
-      ∙ ap (λ (store : Store). map (λ change. changed change store) (changes_of (phase_at k.stage k.sweep.next) r.last_id k.sweep)) before.forgets.store
-      ∙ ap (λ (id : ℕ). map (λ change. changed change m.store) (changes_of (phase_at k.stage k.sweep.next) id k.sweep)) before.machine.last_id
-
   by_step : (step : StepValue) → Writes step → Effect step (Err refusals.DiskWrite) (state old) (state new) → IsStep step
       → IsGivenRight (IsIn among) step (Err refusals.DiskWrite) f.bytes (state old) → Refuses of_files f.event.actor (asked_as (λ root. f.bytes) step) refusals.DiskWrite m n
       → NamesStep step (Err refusals.DiskWrite) (state old) (state new) r t → StandsFor (IsIn among) n (state new).disk
@@ -335,7 +335,7 @@ module _ {C : Type 0} {state : C → CoreState} {among : ByteSet} {f : FileEvent
       stands_as (Some (without_name of_files name m.now)) (broken_by of_files name Gone m.store) is
       (delete_stands among m (state old) (state new) here f.bytes before.apart name effect)
   by_step steps.GcStep writes effect right given (may, (stores, breaks, is)) (k, runs, t_is) =
-      let same = stores_are k stores _ (ap (λ (x : FileMachine). x.state) is) t_is refl in
+      let same = stores_are m n r t before.forgets to.forgets (state old).tables.held.last_id before.machine.last_id k stores _ (ap (λ (x : FileMachine). x.state) is) t_is refl in
       stands_as None (stores_by among m (state old) (state new) here f.bytes before.apart k.stage k.sweep.next k) (is ∙ ap (λ (ss : List Store). stopped None ss m) same)
       (collect_stands among m (state old) (state new) here f.bytes before.apart k (state old).collection runs here.is_at.under_way
       (here.is_at.safe here.is_at.stands.known.0 here.is_at.stands.known.1) effect.touches)

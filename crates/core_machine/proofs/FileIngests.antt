@@ -29,6 +29,7 @@ use Rattle.store_model.specs.Steps.{FitsCopy, FitsHeld}
 use Rattle.store_model.specs.Trees.{bytes_at}
 use Rattle.store_model.proofs.Copies.{copy_digest}
 use Rattle.store_model.proofs.Lookups.{finds}
+use Rattle.store_model.proofs.Once.{store_once}
 use Rattle.store_model.proofs.Roots.{length_of_copy}
 use Rattle.store_state.specs.Comparing.{FirstDifference, FitSoFar, FitsBytes, IsUnlike}
 use Rattle.store_state.proofs.Compared.{held_all}
@@ -42,6 +43,7 @@ use Rattle.store_machine.specs.Asked as asked
 use Rattle.store_machine.specs.Legal.{DifferBy, Fits, IsClash, IsLacked}
 use Rattle.store_machine.specs.Needs.{HasCopy}
 use Rattle.store_machine.specs.Remembering.{AddsToAnswer, IsWhole, RootMachine}
+use Rattle.core_machine.specs.Bytes.{ClashesWith}
 use Rattle.core_machine.specs.Files.{stored_in}
 use Rattle.core_machine.specs.Refines.{TellsForgotten, answered_by}
 
@@ -51,7 +53,7 @@ first_differ : (place mine other : ℕ) (offered held : List ℕ) → length off
 unfolding range
 first_differ place mine other offered held long first = (long, first.within, first.same, sym first.offered_is, sym first.held_is, first.differ)
 
-segment_there : (xs : List Segment) (i : ℕ) → i < length xs → slice_get xs i ≡ Some (segment_at xs i)
+pub segment_there : (xs : List Segment) (i : ℕ) → i < length xs → slice_get xs i ≡ Some (segment_at xs i)
 segment_there [] i within = absurd (omega (arith, within))
 segment_there (x ∷ xs) zero within = refl
 segment_there (x ∷ xs) (suc i) within = segment_there xs i (omega (arith, within))
@@ -61,27 +63,15 @@ all_first P zero xs all = tt
 all_first P (suc count) [] all = tt
 all_first P (suc count) (x ∷ xs) all = (all.0, all_first P count xs all.1)
 
--- ---- what the index has and lacks of a store
+-- ---- what the index has of a store
 
-module _ (S : List ℕ → Type 0) (store : Store) (stored : Stored) (old new : CoreState) (at : IsAt S store stored old) (forgotten : List (List ℕ))
-    (tells : TellsForgotten forgotten store.held at.index)
-    (image : List ℕ) (content_is : old.disk.content ≡ Some image) where
+module _ (S : List ℕ → Type 0) (store : Store) (stored : Stored) (old new : CoreState) (at : IsAt S store stored old) (image : List ℕ)
+    (content_is : old.disk.content ≡ Some image) where
   stands : Stands S store stored.files image
   stands = at.stands.each image (old.disk.as_read image content_is)
 
   partial : IsPartialIndexOf store.held at.index
   partial = at.represents.index_is_newest at.index at.index_known
-
-  lacked : (key : List ℕ) → finite.get at.index key ≡ None → IsLacked store forgotten key
-  lacked key none = by (newest 0 store.held key) refl
-    where
-      by : (o : Option Copy) → newest 0 store.held key ≡ o → IsLacked store forgotten key
-      by None is = inl is
-      by (Some copy) is = inr (tells.lacked key copy is none)
-
-  -- what it has is not forgotten
-  remembered : (key : List ℕ) (place : Place) → finite.get at.index key ≡ Some place → Contains forgotten key → ⊥
-  remembered key place is there = let both : None ≡ Some place = sym (tells.gone key there) ∙ is in cc
 
   copy_of : (key : List ℕ) (place : Place) → finite.get at.index key ≡ Some place → (copy : Copy) × (newest 0 store.held key ≡ Some copy) × (copy.place ≡ place)
   copy_of key place is = finds store at.index key place partial is
@@ -97,27 +87,6 @@ module _ (S : List ℕ → Type 0) (store : Store) (stored : Stored) (old new : 
     length_is = sym (length_of_copy store image (segment_key kinds.Tree x) copy stands.holds.right is) ∙ ap length fits;
   }
 
-  -- one that is compared with the index's copy fits what the machine has
-  fits_one : (kind : Kind) (x : Segment) → IsOfKind kind x → FitsHeld (HasKey at.index) kind store image x → Fits store forgotten kind x
-  fits_one kind x right fits = by (finite.get at.index (segment_key kind x)) refl
-    where
-      by : (o : Option Place) → finite.get at.index (segment_key kind x) ≡ o → Fits store forgotten kind x
-      by None is = inl (lacked (segment_key kind x) is)
-      by (Some place) is =
-          let copy = copy_of (segment_key kind x) place is in
-          inr (has_copy kind x copy.0 right copy.1 (fits copy.0 (place, is) copy.1))
-
-  all_fit : (kind : Kind) (xs : List Segment) → AllByRecursion (IsOfKind kind) xs → AllByRecursion (FitsHeld (HasKey at.index) kind store image) xs
-      → AllByRecursion (Fits store forgotten kind) xs
-  all_fit kind [] right fits = tt
-  all_fit kind (x ∷ xs) right fits = (fits_one kind x right.0 fits.0, all_fit kind xs right.1 fits.1)
-
-  compared_fit : (kind : Kind) (xs : List Segment) (hads : List (Option Place)) → AllByRecursion (IsOfKind kind) xs
-      → FitSoFar old.disk.size old.known (Shows old.disk new.disk) kind xs hads → AllByRecursion (Fits store forgotten kind) xs
-  compared_fit kind xs hads right so_far =
-      all_fit kind xs right
-      (shown_content old.disk new.disk _ image (held_all old.disk.size old.known old.disk new.disk kind xs hads so_far) content_is store at.index at.index_known partial)
-
   -- ---- a clash
 
   module _ (kind : Kind) (x : Segment) (tree : kind ≡ kinds.Tree) (key : List ℕ) where
@@ -125,7 +94,7 @@ module _ (S : List ℕ → Type 0) (store : Store) (stored : Stored) (old new : 
     Unlike difference = IsUnlike old.disk.size old.known (Shows old.disk new.disk) kind (sha256 x.bytes) x.bytes (refusals.Clash key difference)
 
     abbrev Clashes : Difference → Type 0
-    Clashes difference = IsClash store forgotten (record { kind = kind; segment = x }) key difference
+    Clashes difference = ClashesWith (record { kind = kind; segment = x }) image key difference
 
     module _ (difference : Difference) (unlike : Unlike difference) where
       place_is : finite.get at.index (segment_key kind x) ≡ Some unlike.place
@@ -144,26 +113,80 @@ module _ (S : List ℕ → Type 0) (store : Store) (stored : Stored) (old new : 
       clash_so key_is differ = record {
         kind = tree;
         key_is = key_is;
+        store = store;
+        right = stands.holds.right;
         copy = the_copy.0;
         copy_is = ap (newest 0 store.held) key_is ∙ the_copy.1;
-        there = λ there. remembered (segment_key kind x) unlike.place place_is (subst (Contains forgotten) key_is there);
-        held = held;
-        long = long_is;
         digest = copy_digest store.held (kind_byte kind) (sha256 x.bytes) image the_copy.0 stands.holds.copies the_copy.1;
         differ = differ;
       }
 
-    clashes : (difference : Difference) → Unlike difference → Clashes difference
-    clashes (Length mine other) unlike =
+    pub clashes_with : (difference : Difference) → Unlike difference → Clashes difference
+    clashes_with (Length mine other) unlike =
         clash_so (Length mine other) unlike unlike.refused.0
         (unlike.refused.1, unlike.refused.2 ∙ sym (long_is (Length mine other) unlike ∙ ap (λ (p : Place). p.length) (the_copy (Length mine other) unlike).2), unlike.refused.3)
-    clashes (Byte place mine other) unlike =
+    clashes_with (Byte place mine other) unlike =
         let first = (shown_content old.disk new.disk _ image unlike.refused.2.1 content_is).1 in
         let copy = the_copy (Byte place mine other) unlike in
         clash_so (Byte place mine other) unlike unlike.refused.2.0
         (first_differ place mine other x.bytes (held (Byte place mine other) unlike)
         (sym (long_is (Byte place mine other) unlike ∙ ap (λ (p : Place). p.length) copy.2 ∙ unlike.refused.1))
         (subst (λ (p : Place). FirstDifference x.bytes (bytes_at p image) place mine other) (sym copy.2) first))
+
+  -- ---- and lacks
+
+  module _ (forgotten : List (List ℕ)) (tells : TellsForgotten forgotten store.held at.index) where
+    lacked : (key : List ℕ) → finite.get at.index key ≡ None → IsLacked store forgotten key
+    lacked key none = by (newest 0 store.held key) refl
+      where
+        by : (o : Option Copy) → newest 0 store.held key ≡ o → IsLacked store forgotten key
+        by None is = inl is
+        by (Some copy) is = inr (tells.lacked key copy is none)
+
+    -- what it has is not forgotten
+    remembered : (key : List ℕ) (place : Place) → finite.get at.index key ≡ Some place → Contains forgotten key → ⊥
+    remembered key place is there = let both : None ≡ Some place = sym (tells.gone key there) ∙ is in cc
+
+    -- one that is compared with the index's copy fits what the machine has
+    fits_one : (kind : Kind) (x : Segment) → IsOfKind kind x → FitsHeld (HasKey at.index) kind store image x → Fits store forgotten kind x
+    fits_one kind x right fits = by (finite.get at.index (segment_key kind x)) refl
+      where
+        by : (o : Option Place) → finite.get at.index (segment_key kind x) ≡ o → Fits store forgotten kind x
+        by None is = inl (lacked (segment_key kind x) is)
+        by (Some place) is =
+            let copy = copy_of (segment_key kind x) place is in
+            inr (has_copy kind x copy.0 right copy.1 (fits copy.0 (place, is) copy.1))
+
+    all_fit : (kind : Kind) (xs : List Segment) → AllByRecursion (IsOfKind kind) xs → AllByRecursion (FitsHeld (HasKey at.index) kind store image) xs
+        → AllByRecursion (Fits store forgotten kind) xs
+    all_fit kind [] right fits = tt
+    all_fit kind (x ∷ xs) right fits = (fits_one kind x right.0 fits.0, all_fit kind xs right.1 fits.1)
+
+    compared_fit : (kind : Kind) (xs : List Segment) (hads : List (Option Place)) → AllByRecursion (IsOfKind kind) xs
+        → FitSoFar old.disk.size old.known (Shows old.disk new.disk) kind xs hads → AllByRecursion (Fits store forgotten kind) xs
+    compared_fit kind xs hads right so_far =
+        all_fit kind xs right
+        (shown_content old.disk new.disk _ image (held_all old.disk.size old.known old.disk new.disk kind xs hads so_far) content_is store at.index at.index_known partial)
+
+    -- the index has the copy that clashes
+    clashes : (kind : Kind) (x : Segment) → kind ≡ kinds.Tree → (key : List ℕ) (difference : Difference)
+        → IsUnlike old.disk.size old.known (Shows old.disk new.disk) kind (sha256 x.bytes) x.bytes (refusals.Clash key difference)
+        → IsClash store forgotten (record { kind = kind; segment = x }) key difference
+    clashes kind x tree key difference unlike =
+        let twin : ClashesWith (record { kind = kind; segment = x }) image key difference = clashes_with kind x tree key difference unlike in
+        let same : twin.store ≡ store = store_once image twin.store store twin.right stands.holds.right in
+        let copy_is : newest 0 store.held key ≡ Some twin.copy = subst (λ (s : Store). newest 0 s.held key ≡ Some twin.copy) same twin.copy_is in
+        record {
+          kind = twin.kind;
+          key_is = twin.key_is;
+          copy = twin.copy;
+          copy_is = copy_is;
+          there = λ there. remembered (segment_key kind x) unlike.place (unlike.there at.index at.index_known) (subst (Contains forgotten) twin.key_is there);
+          held = bytes_at twin.copy.place image;
+          long = length_of_copy store image key twin.copy stands.holds.right copy_is;
+          digest = twin.digest;
+          differ = twin.differ;
+        }
 
 -- ---- the steps
 
@@ -181,28 +204,28 @@ module _ (S : List ℕ → Type 0) (m : FileMachine) (t : RootMachine) (old new 
   claim_adds seg (Ok answers.Held) right row harmless =
       let held = row.claimed.looked_up in
       let is : finite.get at.index (segment_key seg.kind seg.segment) ≡ Some held.place = held.found at.index at.index_known in
-      let copy = copy_of S m.store (stored_in m.now) old new at m.forgotten tells image content_is (segment_key seg.kind seg.segment) held.place is in (
-        has_copy S m.store (stored_in m.now) old new at m.forgotten tells image content_is seg.kind seg.segment copy.0 right copy.1
+      let copy = copy_of S m.store (stored_in m.now) old new at image content_is (segment_key seg.kind seg.segment) held.place is in (
+        has_copy S m.store (stored_in m.now) old new at image content_is seg.kind seg.segment copy.0 right copy.1
             (subst (λ (p : Place). FitsCopy seg.kind seg.segment p image) (sym copy.2)
             (fits_so seg.kind held.place held.length_is (shown_content old.disk new.disk _ image held.same content_is))),
-        remembered S m.store (stored_in m.now) old new at m.forgotten tells image content_is (segment_key seg.kind seg.segment) held.place is,
+        remembered S m.store (stored_in m.now) old new at image content_is m.forgotten tells (segment_key seg.kind seg.segment) held.place is,
       )
     where
       fits_so : (kind : Kind) (place : Place) → place.length ≡ length seg.segment.bytes → FitsBytes kind seg.segment.bytes place image → FitsCopy kind seg.segment place image
       fits_so kinds.Leaf place long fits = long
       fits_so kinds.Tree place long fits = fits
   claim_adds seg (Ok answers.Absent) right row harmless =
-      lacked S m.store (stored_in m.now) old new at m.forgotten tells image content_is (segment_key seg.kind seg.segment) (row.claimed.looked_up at.index at.index_known)
+      lacked S m.store (stored_in m.now) old new at image content_is m.forgotten tells (segment_key seg.kind seg.segment) (row.claimed.looked_up at.index at.index_known)
   claim_adds seg (Ok answer) right row harmless = absurd row
   claim_adds seg (Err (refusals.Clash key difference)) right row harmless =
-      clashes S m.store (stored_in m.now) old new at m.forgotten tells image content_is seg.kind seg.segment harmless.0 key difference row.0.1
+      clashes S m.store (stored_in m.now) old new at image content_is m.forgotten tells seg.kind seg.segment harmless.0 key difference row.0.1
   claim_adds seg (Err (refusals.Corrupt slot offset count want got)) right row harmless = harmless
   claim_adds seg (Err refusal) right row harmless = tt
 
   pub seal_adds : (filled : Contents) (answer : Result Answer Refusal) → AllByRecursion (IsOfKind filled.kind) filled.segments → SealRow filled a answer old new
       → IfErr answer (λ refusal. IsHarmless (HoldsTwin filled) refusal) → AddsToAnswer a (asked.Seal filled) (answered_by answer buf) m t
   seal_adds filled (Ok (answers.Sealed id)) right row harmless =
-      compared_fit S m.store (stored_in m.now) old new at m.forgotten tells image content_is filled.kind filled.segments row.compared.hads right row.compared.fit
+      compared_fit S m.store (stored_in m.now) old new at image content_is m.forgotten tells filled.kind filled.segments row.compared.hads right row.compared.fit
   seal_adds filled (Ok answer) right row harmless = absurd row
   seal_adds filled (Err (refusals.Clash key difference)) right row harmless =
       let first = row.0.2 in
@@ -210,13 +233,13 @@ module _ (S : List ℕ → Type 0) (m : FileMachine) (t : RootMachine) (old new 
         first.number,
         x,
         segment_there filled.segments first.number first.within,
-        compared_fit S m.store (stored_in m.now) old new at m.forgotten tells image content_is filled.kind (take first.number filled.segments) first.hads
+        compared_fit S m.store (stored_in m.now) old new at image content_is m.forgotten tells filled.kind (take first.number filled.segments) first.hads
             (all_first (IsOfKind filled.kind) first.number filled.segments right) first.before,
-        clashes S m.store (stored_in m.now) old new at m.forgotten tells image content_is filled.kind x harmless.is_twin.0 key difference first.unlike,
+        clashes S m.store (stored_in m.now) old new at image content_is m.forgotten tells filled.kind x harmless.is_twin.0 key difference first.unlike,
       )
   seal_adds filled (Err (refusals.Corrupt slot offset count want got)) right row harmless = harmless
   seal_adds filled (Err refusals.DiskWrite) right row harmless =
-      compared_fit S m.store (stored_in m.now) old new at m.forgotten tells image content_is filled.kind filled.segments row.0.2.hads right row.0.2.fit
+      compared_fit S m.store (stored_in m.now) old new at image content_is m.forgotten tells filled.kind filled.segments row.0.2.hads right row.0.2.fit
   seal_adds filled (Err refusal) right row harmless = tt
 
   -- a file whose tree the index has may be put under a name
@@ -225,8 +248,8 @@ module _ (S : List ℕ → Type 0) (m : FileMachine) (t : RootMachine) (old new 
     few,
     λ key there.
         let place = is.indexed at.index at.index_known key there in
-        let copy = copy_of S m.store (stored_in m.now) old new at m.forgotten tells image content_is key place.0 place.1 in
-        ((copy.0, copy.1), remembered S m.store (stored_in m.now) old new at m.forgotten tells image content_is key place.0 place.1),
+        let copy = copy_of S m.store (stored_in m.now) old new at image content_is key place.0 place.1 in
+        ((copy.0, copy.1), remembered S m.store (stored_in m.now) old new at image content_is m.forgotten tells key place.0 place.1),
   )
 
   pub commit_adds : (name file : List ℕ) (root : Root) (answer : Result Answer Refusal) → length file ≤ MOST_FILE → IsRightCommit answer root file old

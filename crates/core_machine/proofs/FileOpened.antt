@@ -34,10 +34,13 @@ use Rattle.store_machine.specs.Remembering.{RootMachine}
 use Rattle.store_machine.specs.Values.{of_files, of_roots}
 use Rattle.store_machine.proofs.Forgotten.{still_same}
 use Rattle.store_machine.proofs.SameNames.{len_same}
-use Rattle.core_machine.specs.FileOpenings.{LeavesFor, FilesOpened, FilesReopenedNot, FilesUnopened, Reopens}
+use Rattle.base_model.specs.Known.{KnownWith}
+use Rattle.core_machine.specs.Bytes.{BeganRoom, ChangesBytes, LeavesUnopened, MadeRoom}
+use Rattle.core_machine.specs.FileOpenings.{LeavesFor, FilesOpened, FilesReopenedNot, FilesUnopened, Reopens, opening}
 use Rattle.core_machine.specs.Files.{FitsBy, IsAtFiles, IsFileMachine, MayStand, StandsFor, stored_in}
 use Rattle.core_machine.specs.Openings.{LeavesMachine, store_read, stores_freed, stores_left}
 use Rattle.core_machine.specs.Refines.{IsMachine}
+use Rattle.core_machine.proofs.Bytes.{known_of}
 use Rattle.core_machine.proofs.FileFreed.{all_needed, each_given, found_still, given_back, on_the_way, some_needed, stands_still, stands_too}
 use Rattle.core_machine.proofs.FileNames.{now_of_store, named_by}
 use Rattle.core_machine.proofs.FileStands.{disk_stands, stands_opens}
@@ -200,6 +203,9 @@ module _ (among : ByteSet) (m : FileMachine) (old : DiskView) (image : List ℕ)
         let few : free_slots made.after.held < RESERVE = subst (λ (s : Store). free_slots s.held < RESERVE) (sym same) was_few in
         omega (arith, few, mid_size)
 
+    room_bytes : MadeRoom stand.found made.after image now
+    room_bytes = (stand.store, (stand.is.holds.right, (made.freed, (room_frees, (made.content image told).2.1, now_right))))
+
     room_given : IsGivenBack of_files m made.after
     room_given = subst (IsGivenBack of_files m) (sym after_is)
         (given_back m stand.found stand.may stand.store stand.stands named_here was_few made.freed some_freed
@@ -241,12 +247,20 @@ module _ (among : ByteSet) (m : FileMachine) (old : DiskView) (image : List ℕ)
       short_here : un.short.store ≡ stand.store
       short_here = read_once old new image un.short.store stand.store un.short.right told stand.is.holds.right
 
+      unmade_frees : FreesSome (NamesNeed of_files stand.found) un.freed stand.store
+      unmade_frees =
+          some_needed stand.found un.freed stand.store
+          (subst (FreesSome (IsReachable stand.found.names) un.freed) short_here (un.spares image told among (stored_in stand.found) of_found))
+
       unmade_given : AllByRecursion (IsGivenBack of_files m) (stores_freed un.freed un.short.store)
       unmade_given =
           subst (λ (s : Store). AllByRecursion (IsGivenBack of_files m) (stores_freed un.freed s)) (sym short_here)
           (each_given m stand.found stand.may stand.store stand.stands named_here (subst (λ (s : Store). free_slots s.held < RESERVE) short_here un.short.few) un.freed
-          (some_needed stand.found un.freed stand.store
-          (subst (FreesSome (IsReachable stand.found.names) un.freed) short_here (un.spares image told among (stored_in stand.found) of_found))))
+          unmade_frees)
+
+      unmade_bytes : (left : List ℕ) → IsPartlyFreed un.short.store un.freed image left → BeganRoom stand.found image left
+      unmade_bytes left part =
+          (stand.store, (stand.is.holds.right, (un.freed, (unmade_frees, subst (λ (s : Store). IsPartlyFreed s un.freed image left) short_here part))))
 
       unmade_one : (left : List ℕ) → IsPartlyFreed un.short.store un.freed image left → MayStand In (stopped (stores_freed un.freed un.short.store)) left
       unmade_one left part =
@@ -276,7 +290,7 @@ module _ (among : ByteSet) (m : FileMachine) (old : DiskView) (image : List ℕ)
   by_given_up (refusals.Full free) store (inr enough) (is, few) = absurd (omega (arith, enough, is, few))
   by_given_up refusal store full opens = by_fails refusal opens
 
-  module _ (D : Type 0) (view : D → DiskView) (refusal : Refusal) (new : DiskView) where
+  module _ (D : Type 0) (view : D → DiskView) (refusal : Refusal) (new : DiskView) (actor : ℕ) where
     may_refuse : OpensNone D view refusal old new → MayRefuseOpening of_files refusal
     may_refuse (inl (not, full)) =
         by_given_up refusal stand.store (inl full) (shown_content old new (IsGivenUp refusal) image not.given_up told stand.store stand.is.holds.right)
@@ -294,20 +308,45 @@ module _ (among : ByteSet) (m : FileMachine) (old : DiskView) (image : List ℕ)
     wrote_stands (inl (mid, (made, not))) = made_stands refusal new (view mid) made not.reads.only
     wrote_stands (inr (failed, un)) = unmade_stands refusal new un
 
-    module _ (actor : ℕ) (none : OpensNone D view refusal old new) where
+    -- and what it leaves of the bytes
+    abbrev Unopened : FileMachine → Type 0
+    Unopened n = ChangesBytes (opening actor (Err refusal)) m n old.content new.content
+
+    unopened_bytes : (n : FileMachine) → KnownWith new.content (LeavesUnopened refusal m n image) → Unopened n
+    unopened_bytes n left = known_of old.content image (λ given. KnownWith new.content (LeavesUnopened refusal m n given)) told left
+
+    wrote_bytes : (n : FileMachine) → WritesUnread D view refusal old new → Unopened n
+    wrote_bytes n (inl (mid, (made, not))) =
+        unopened_bytes n
+        (now (view mid) made, not.reads.only.content_is ∙ now_told (view mid) made, inr (stand.found, (stand.may, inl (made.after, room_bytes (view mid) made))))
+    wrote_bytes n (inr (failed, un)) =
+        let (left, is, part) = un.content image told in unopened_bytes n (left, is, inr (stand.found, (stand.may, inr (failed, unmade_bytes refusal new un left part))))
+
+    kept_bytes : OnlyReads old new → Unopened m
+    kept_bytes reads = unopened_bytes m (image, reads.content_is ∙ told, inl (refl, refl))
+
+    module _ (none : OpensNone D view refusal old new) where
       wrote_legal : (wrote : WritesUnread D view refusal old new) → Reopens actor (Err refusal) m (stopped (stores_left D view refusal old new wrote))
       wrote_legal wrote = (may_refuse none, inr (stores_left D view refusal old new wrote, refl, some_left D view refusal old new wrote, λ known. wrote_given wrote))
 
       abbrev Left : Type 0
-      Left = (n : FileMachine) × (Reopens actor (Err refusal) m n × LeavesFor In n old new)
+      Left = (n : FileMachine) × (Reopens actor (Err refusal) m n × LeavesFor In n old new × Unopened n)
 
       wrote_left : WritesUnread D view refusal old new → Left
       wrote_left wrote =
           let stands = wrote_stands wrote in
-          (stopped (stores_left D view refusal old new wrote), (wrote_legal wrote, record { content = stands.content; images = λ left there. inr (stands.images left there) }))
+          let n : FileMachine = stopped (stores_left D view refusal old new wrote) in
+          (n, (wrote_legal wrote, record { content = stands.content; images = λ left there. inr (stands.images left there) }, wrote_bytes n wrote))
 
       kept_left : OnlyReads old new → Left
-      kept_left reads = (m, ((may_refuse none, inl refl), record { content = (image, reads.content_is ∙ told, stand); images = λ left there. inl (reads.images_are left there) }))
+      kept_left reads = (
+        m,
+        (
+          (may_refuse none, inl refl),
+          record { content = (image, reads.content_is ∙ told, stand); images = λ left there. inl (reads.images_are left there) },
+          kept_bytes reads,
+        ),
+      )
 
       left_by : OpensNone D view refusal old new → Left
       left_by (inl (not, full)) = kept_left not.reads.only
@@ -318,20 +357,26 @@ module _ (among : ByteSet) (m : FileMachine) (old : DiskView) (image : List ℕ)
 
 module _ (D : Type 0) (view : D → DiskView) (C : Type 0) (state : C → CoreState) (among : ByteSet) (actor : ℕ) (before : D) (new : C) (m : FileMachine)
     (image : List ℕ) (told : (view before).content ≡ Some image) (stand : MayStand (IsIn among) m image) where
+  abbrev Changes : FileMachine → Type 0
+  Changes n = ChangesBytes (opening actor (Ok (done.Reopened (finite.len (state new).tables.names)))) m n (view before).content (state new).disk.content
+
   abbrev Made : Type 0
-  Made = (n : FileMachine) × (Reopens actor (Ok (done.Reopened (finite.len (state new).tables.names))) m n × IsFileMachine (IsIn among) n (state new))
+  Made = (n : FileMachine)
+      × (Reopens actor (Ok (done.Reopened (finite.len (state new).tables.names))) m n × IsFileMachine (IsIn among) n (state new) × Changes n)
 
   -- the store was read of a disk whose content was of the files
   made_by : (old : DiskView) (read : IsReadFrom old (state new)) (content : List ℕ) (content_is : old.content ≡ Some content)
       (is : IsOf (IsIn among) (stored_in stand.found) content)
       → (t : RootMachine) (machine : IsMachine true t (state new)) (may : Opens of_roots (finite.len (state new).tables.names) t t) (store_is : t.store ≡ read.opened.store)
-      → (freed : List ℕ) → FreesTo (NamesNeed of_files stand.found) freed stand.store t.store → Made
-  made_by old read content content_is is t machine may store_is freed frees =
+      → (freed : List ℕ) → FreesTo (NamesNeed of_files stand.found) freed stand.store t.store → MadeRoom stand.found t.store image content → Made
+  made_by old read content content_is is t machine may store_is freed frees room =
       let same = same_found among old (state new) read content content_is stand.found is t machine store_is in (
         at_rest stand.found t.store,
         (
           legal among m (view before) image told stand actor (state new) t may same freed frees,
           is_files among old (state new) read content content_is stand.found is t machine store_is may,
+          known_of (view before).content image (λ given. KnownWith (state new).disk.content (MadeRoom stand.found t.store given)) told
+              (content, read.reads.only.content_is ∙ content_is, room),
         ),
       )
 
@@ -342,7 +387,21 @@ module _ (D : Type 0) (view : D → DiskView) (C : Type 0) (state : C → CoreSt
       store_is ∙ read_once (view before) (state new).disk image read.opened.store stand.store read.opened.right told stand.is.holds.right in
       let reserve : RESERVE ≤ free_slots stand.store.held = subst (λ (s : Store). RESERVE ≤ free_slots s.held) same may.reserve in
       let is : IsOf (IsIn among) (stored_in stand.found) image = record { store = stand.store; stands = stand.is; reserve = reserve; last_is = stand.last_is } in
-      made_by (view before) read image told is t machine may store_is [] (same, inl reserve)
+      let none : MadeRoom stand.found t.store image image = (
+        stand.store,
+        (
+          stand.is.holds.right,
+          (
+            [],
+            (
+              (same, inl reserve),
+              record { size = refl; same = λ place count other. refl },
+              subst (Encodes image) (sym same) stand.is.holds.right,
+            ),
+          ),
+        ),
+      ) in
+      made_by (view before) read image told is t machine may store_is [] (same, inl reserve) none
   by_way t machine may (inr (mid, (made, read))) store_is =
       let after : t.store ≡ made.after =
       store_is ∙ read_once (view mid) (state new).disk (now among m (view before) image told stand (view mid) made) read.opened.store made.after read.opened.right
@@ -351,20 +410,22 @@ module _ (D : Type 0) (view : D → DiskView) (C : Type 0) (state : C → CoreSt
       made_by (view mid) read (now among m (view before) image told stand (view mid) made) (now_told among m (view before) image told stand (view mid) made)
       (now_of among m (view before) image told stand (view mid) made) t machine may store_is made.freed
       (subst (FreesTo (NamesNeed of_files stand.found) made.freed stand.store) (sym after) (room_frees among m (view before) image told stand (view mid) made))
+      (subst (λ (s : Store). MadeRoom stand.found s image (now among m (view before) image told stand (view mid) made)) (sym after)
+      (room_bytes among m (view before) image told stand (view mid) made))
 
 module _ (D : Type 0) (view : D → DiskView) where
   pub files_unopened : FilesUnopened D view
   files_unopened among actor refusal before new m distinct stands none =
       let (image, told, stand) = stands in
-      let (n, (reopens, leaves)) = left_by among m (view before) image told stand D view refusal (view new) actor none none in
-      (n, (reopens, leaves, unopened_leaves among m (view before) image told stand D view refusal (view new) none))
+      let (n, (reopens, leaves, changes)) = left_by among m (view before) image told stand D view refusal (view new) actor none none in
+      (n, (reopens, leaves, unopened_leaves among m (view before) image told stand D view refusal (view new) none, changes))
 
   pub files_opened : (C : Type 0) (state : C → CoreState) → FilesOpened D view C state
   files_opened C state among actor before new m distinct stands opens runs =
       let (image, told, stand) = stands in
       let (t, (machine, store_is, may)) = opened_refines D view C state actor before new opens runs in
-      let (n, (reopens, is)) = by_way D view C state among actor before new m image told stand t (machine true) (may t) opens store_is in
-      (n, (reopens, is, opened_leaves among m (view before) image told stand D view (state new) opens))
+      let (n, (reopens, is, changes)) = by_way D view C state among actor before new m image told stand t (machine true) (may t) opens store_is in
+      (n, (reopens, is, opened_leaves among m (view before) image told stand D view (state new) opens, changes))
 
 -- ---- one that could not be opened again
 
@@ -386,17 +447,20 @@ module _ (C : Type 0) (state : C → CoreState) (among : ByteSet) (actor : ℕ) 
     fits_kept kept reads (Stopped other stores) fits = stands_read (IsIn among) m (state old).disk (state new).disk reads fits
 
     kept_or_stopped : (t : RootMachine) → IsMachine true t (state new) → (way : StaysOrStops C disk_in refusal (state old) (state new))
-        → LeavesMachine C disk_in refusal (state old) (state new) way at.roots t → (n : FileMachine) × (Reopens actor (Err refusal) m n × IsFileMachine (IsIn among) n (state new))
+        → LeavesMachine C disk_in refusal (state old) (state new) way at.roots t
+        → (n : FileMachine) × (Reopens actor (Err refusal) m n × IsFileMachine (IsIn among) n (state new)
+        × ChangesBytes (opening actor (Err refusal)) m n (state old).disk.content (state new).disk.content)
     kept_or_stopped t machine (inl (kept, reads)) is = (
       m,
       (
-        (may_refuse among m (state old).disk image told stand C disk_in refusal (state new).disk none, inl refl),
+        (may_refuse among m (state old).disk image told stand C disk_in refusal (state new).disk actor none, inl refl),
         record {
           roots = at.roots;
           forgets = at.forgets;
           machine = subst (λ (x : RootMachine). IsMachine true x (state new)) is machine;
           fits = fits_kept kept reads.only m.state at.fits;
         },
+        kept_bytes among m (state old).disk image told stand C disk_in refusal (state new).disk actor reads.only,
       ),
     )
     kept_or_stopped t machine (inr stops) is =
@@ -419,8 +483,10 @@ module _ (C : Type 0) (state : C → CoreState) (among : ByteSet) (actor : ℕ) 
               });
               machine = machine;
               fits = fits_stopped (IsIn among) stores (record m { state = freeing of_files stores m.state }) (state new) m.state
-                  (wrote_stands among m (state old).disk image told stand C disk_in refusal (state new).disk stops.wrote);
+                  (wrote_stands among m (state old).disk image told stand C disk_in refusal (state new).disk actor stops.wrote);
             },
+            wrote_bytes among m (state old).disk image told stand C disk_in refusal (state new).disk actor (stopped among m (state old).disk image told stand stores)
+                stops.wrote,
           ),
         )
 
@@ -430,11 +496,12 @@ files_reopened_not C state among actor refusal old new m distinct at none leaves
     let (image, told, stand) = stands.content in
     let disk = disk_in C state among actor refusal old new m at in
     let (t, (legal_roots, machine, left)) = unopened_refines C disk C state true actor refusal old new at.roots at.machine none leaves in
-    let (n, (reopens, is)) = kept_or_stopped C state among actor refusal old new m at none image told stand t machine leaves left in (
+    let (n, (reopens, is, changes)) = kept_or_stopped C state among actor refusal old new m at none image told stand t machine leaves left in (
       n,
       (
         reopens,
         is,
         all_found (IsIn among) m (state old).disk (state new).disk stands (unopened_leaves among m (state old).disk image told stand C disk refusal (state new).disk none),
+        changes,
       ),
     )

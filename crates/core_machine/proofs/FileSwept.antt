@@ -44,7 +44,7 @@ use Rattle.store_machine.specs.Asked as asked
 use Rattle.store_machine.specs.ByMap.{FileMachine}
 use Rattle.store_machine.specs.Collecting.{GoesOn, Makes, keys_written}
 use Rattle.store_machine.proofs.Swept.{written_more}
-use Rattle.store_machine.specs.Forgetting.{forget_collection}
+use Rattle.store_machine.specs.Forgetting.{Forgets, forget_collection}
 use Rattle.store_machine.specs.Legal.{Answers, ByState, LegalBy, Refuses}
 use Rattle.store_machine.specs.Machine.{Collection, Found, RunState}
 use Rattle.store_machine.specs.Remembering.{RootMachine}
@@ -90,6 +90,32 @@ marks_rest known old new level slot refusals.Memory b a (inl same) = same_sweep_
 marks_rest known old new level slot refusals.Memory b a (inr only) =
     (ap (λ (z : CoreCollection). z.snapshot) only.collection_is, ap (λ (z : CoreCollection). z.sweep) only.collection_is)
 marks_rest known old new level slot refusal b a same = same_sweep_kept b a same
+
+-- ---- what a step made of the store
+
+module _ (m n : FileMachine) (r t : RootMachine) (was : Forgets m r) (is : Forgets n t) (c d : CoreState) (phase : Phase) (goes : CoreGoesOn phase c d)
+    (moves : MovesAs phase c d r t) (by : GoesOn of_files phase m n) where
+  abbrev core_run : CoreCollection
+  core_run = goes.before
+
+  -- what the machine changed is what the core did
+  changes_are : by.went.changes ≡ changes_of phase m.last_id core_run.sweep
+  changes_are =
+      let runs : r.collection ≡ Some (forget_collection by.c) = was.collection ∙ ap (option_map forget_collection) by.ran in
+      let one : moves.c ≡ forget_collection by.c = let both : Some moves.c ≡ Some (forget_collection by.c) = sym moves.ran ∙ runs in cc in
+      let then : t.collection ≡ Some (forget_collection (record by.c { stage = by.went.stage; recorded = by.went.recorded; changes = by.c.changes ++ by.went.changes })) =
+      is.collection ∙ ap (λ (z : FileMachine). option_map forget_collection z.collection) by.others in
+      let two : moves.d.changes ≡ by.c.changes ++ by.went.changes = let both = sym moves.runs ∙ then in cc in
+      rest_same by.c.changes by.went.changes (changes_of phase m.last_id core_run.sweep)
+      (sym two ∙ moves.changes_are
+      ∙ ap (λ (z : Collection Root). z.changes ++ changes_of phase r.last_id moves.before.sweep) one
+      ∙ ap (λ (i : ℕ). by.c.changes ++ changes_of phase i moves.before.sweep) was.last_id
+      ∙ ap (λ (z : CoreCollection). by.c.changes ++ changes_of phase m.last_id z.sweep) (same_some moves.before core_run c.collection moves.core_ran goes.ran))
+
+  pub makes_so : Makes (changes_of (phase_at core_run.stage core_run.sweep.next) m.last_id core_run.sweep) m.store n.store
+  makes_so =
+      subst (λ (p : Phase). Makes (changes_of p m.last_id core_run.sweep) m.store n.store) (sym (phase_of core_run phase goes.phase_is))
+      (subst (λ (changes : List StoreChange). Makes changes m.store n.store) changes_are by.makes)
 
 module _ (C : Type 0) (state : C → CoreState) (among : ByteSet) (f : FileEvent) (old new : C) (m n : FileMachine) (r t : RootMachine) (to : StepsTo C state among f old new m n r t)
     (is : f.event.step ≡ steps.GcStep) (stays : (state new).stop ≡ None) where
@@ -143,20 +169,6 @@ module _ (C : Type 0) (state : C → CoreState) (among : ByteSet) (f : FileEvent
     abbrev k : CoreCollection
     k = goes.before
 
-    -- what the machine changed is what the core did
-    changes_are : by.went.changes ≡ changes_of phase m.last_id k.sweep
-    changes_are =
-        let ran : r.collection ≡ Some (forget_collection by.c) = to.steps.forgets.collection ∙ ap (option_map forget_collection) by.ran in
-        let one : moves.c ≡ forget_collection by.c = let both : Some moves.c ≡ Some (forget_collection by.c) = sym moves.ran ∙ ran in cc in
-        let then : t.collection ≡ Some (forget_collection (record by.c { stage = by.went.stage; recorded = by.went.recorded; changes = by.c.changes ++ by.went.changes })) =
-        to.forgets.collection ∙ ap (λ (z : FileMachine). option_map forget_collection z.collection) by.others in
-        let two : moves.d.changes ≡ by.c.changes ++ by.went.changes = let both = sym moves.runs ∙ then in cc in
-        rest_same by.c.changes by.went.changes (changes_of phase m.last_id k.sweep)
-        (sym two ∙ moves.changes_are
-        ∙ ap (λ (z : Collection Root). z.changes ++ changes_of phase r.last_id moves.before.sweep) one
-        ∙ ap (λ (i : ℕ). by.c.changes ++ changes_of phase i moves.before.sweep) to.steps.forgets.last_id
-        ∙ ap (λ (z : CoreCollection). by.c.changes ++ changes_of phase m.last_id z.sweep) (same_some moves.before k c.collection moves.core_ran goes.ran))
-
     -- the id under which copies were written
     same_id : (i j : ℕ) → n.store ≡ with_sealed i k.sweep.buffer.kind k.sweep.buffer.segments m.store
         → store_then ≡ with_sealed j k.sweep.buffer.kind k.sweep.buffer.segments m.store
@@ -186,8 +198,7 @@ module _ (C : Type 0) (state : C → CoreState) (among : ByteSet) (f : FileEvent
     did_same = (
       by_stage k.stage k.sweep.next
           (led_to among m.store (stored_in m.now) c d is_at store_then then_at phase goes told.touches told.later)
-          (subst (λ (p : Phase). Makes (changes_of p m.last_id k.sweep) m.store n.store) (sym (phase_of k phase goes.phase_is))
-          (subst (λ (changes : List StoreChange). Makes changes m.store n.store) changes_are by.makes)),
+          (makes_so m n r t to.steps.forgets to.forgets c d phase goes moves by),
       ap (λ (z : FileMachine). z.now) by.others,
     )
 
@@ -259,7 +270,7 @@ module _ (C : Type 0) (state : C → CoreState) (among : ByteSet) (f : FileEvent
       keys_are y ran =
           let one : y ≡ gone_on = let both : Some y ≡ Some gone_on = sym ran ∙ runs_on in cc in
           ap (λ (z : Collection (List ℕ)). keys_written z.changes) one ∙ written_more by.c.changes by.went.changes
-          ∙ ap (λ (xs : List StoreChange). keys_written by.c.changes ++ keys_written xs) (changes_are phase goes moves by told)
+          ∙ ap (λ (xs : List StoreChange). keys_written by.c.changes ++ keys_written xs) (changes_are m n r t to.steps.forgets to.forgets c d phase goes moves by)
           ∙ ap (λ (p : Phase). keys_written by.c.changes ++ keys_written (changes_of p m.last_id b.sweep)) (sym (phase_of b phase goes.phase_is))
 
       well : GoesWell index m.store.held b goes.after

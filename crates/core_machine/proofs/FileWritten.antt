@@ -1,12 +1,8 @@
 -- What a collection wrote it does not write again: a container of an id from its snapshot on has each of these keys, and it fills none of them once more.
-use Rattle.std.proofs.Common.{◌≡◌, inl, inr, ℕ, ◌≤◌, true, List, [], ◌∷◌, ◌++◌, append-nil, Option, Some, None, Result, Ok, refl, sym, ◌∙◌, ap, subst, arith}
-use Rattle.std.specs.Prelude.{Contains, get_or, slice_get}
+use Rattle.std.proofs.Common.{◌≡◌, inl, inr, ℕ, ◌≤◌, true, List, [], ◌∷◌, ◌++◌, append-nil, Option, Some, None, refl, sym, ◌∙◌, ap, subst, arith}
+use Rattle.std.specs.Prelude.{Contains, get_or}
 use Rattle.std.proofs.lemmas.Grind.{get_or_default_zero}
 use Rattle.std.proofs.lemmas.List.Elements.{Contains-append_cases, Contains-get_or}
-use Rattle.actor_parts.specs.declared.step.Answer.{Answer}
-use Rattle.actor_parts.specs.declared.step.Answer.TheVariants as answers
-use Rattle.actor_parts.specs.StepValue as asked
-use Rattle.actor_parts.specs.StepValue.{StepValue}
 use Rattle.container_meta.specs.Places.{PlaceMap}
 use Rattle.container_meta.specs.Segments.{Contents, has_key, keys_of}
 use Rattle.container_meta.specs.Spelling.{HeaderValue, header_of}
@@ -21,19 +17,17 @@ use Rattle.gc_sweep.specs.declared.sweep.Next.{Next}
 use Rattle.gc_sweep.specs.declared.sweep.Next.TheVariants.{Copy, Flush, Release, End}
 use Rattle.gc_sweep.specs.InTurn.{slot_in_turn}
 use Rattle.gc_sweep.proofs.Holds.{no_key}
-use Rattle.refusals.specs.declared.refusal.Refusal.{Refusal}
 use Rattle.store_model.specs.Image.{Store}
 use Rattle.store_model.specs.Slots.{IsPartialIndexOf, first_free}
 use Rattle.store_model.specs.Steps.{FlushContainer, FreeContainer, StoreChange}
-use Rattle.store_core.specs.Runs.{ChangesTo, changes_by}
 use Rattle.store_core.proofs.CopiesOnce.{HoldsNewer, listed_found, listed_of, newer_on, not_old}
-use Rattle.store_core.proofs.FinishedStores.{still_there}
 use Rattle.store_core.proofs.Frames.{first_with}
 use Rattle.store_machine.specs.Collecting.{keys_written}
 use Rattle.core_machine.specs.Sweeping.{changes_of}
 use Rattle.store_machine.specs.Machine.{Collection as MachineCollection, keeping}
 use Rattle.store_machine.proofs.Swept.{none_in}
 use Rattle.core_machine.specs.Written.{IsWritten, WroteOnce}
+use Rattle.core_machine.proofs.LivesOn.{StandOn}
 use Rattle.store_core.specs.State.{CoreState}
 use Rattle.store_machine.specs.ByMap.{FileMachine}
 use Rattle.gc_sweep.specs.declared.sweep.Sweep.{Sweep}
@@ -47,18 +41,6 @@ written_as held snapshot buffer key newer unfilled =
     record { slot = newer.slot; header = newer.header; there = newer.there; new = newer.new; entry = newer.entry; found = newer.found; unfilled = unfilled }
 
 -- ---- steps of others
-
--- each container stands
-abbrev pub StandOn : Store → Store → Type 0
-StandOn store after = (slot : ℕ) (h : HeaderValue) → slice_get store.held slot ≡ Some (Some h) → slice_get after.held slot ≡ Some (Some h)
-
-pub stands_by : (store after : Store) (step : StepValue) (answer : Result Answer Refusal) → ChangesTo (changes_by step answer) store after → StandOn store after
-stands_by store after (asked.Seal filled) (Ok (answers.Sealed id)) chain slot h there =
-    subst (λ (s : Store). slice_get s.held slot ≡ Some (Some h)) (sym chain.1)
-    (still_there store.held (header_of id filled.kind filled.segments) (omega (arith, chain.0.slot)) slot h there)
-stands_by store after (asked.Commit name root) (Ok answer) chain slot h there = subst (λ (s : Store). slice_get s.held slot ≡ Some (Some h)) (sym chain.1) there
-stands_by store after (asked.Delete name) (Ok answer) chain slot h there = subst (λ (s : Store). slice_get s.held slot ≡ Some (Some h)) (sym chain.1) there
-stands_by store after step answer chain slot h there = subst (λ (s : Store). slice_get s.held slot ≡ Some (Some h)) (sym chain) there
 
 -- what was written is so still
 pub stands_written : (store after : Store) → StandOn store after → (snapshot : ℕ) (buffer : Contents) (key : List ℕ) → IsWritten store.held snapshot buffer key

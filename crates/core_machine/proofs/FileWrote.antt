@@ -26,7 +26,8 @@ use Rattle.core_machine.specs.Written.{WroteOnce}
 use Rattle.core_machine.proofs.FileKept.{comes, next}
 use Rattle.core_machine.proofs.FileSteps.{StepsTo}
 use Rattle.core_machine.proofs.FileSwept.{swept_wrote}
-use Rattle.core_machine.proofs.FileWritten.{StandOn, SweepKept, same_sweep_kept, stands_by, wrote_still}
+use Rattle.core_machine.proofs.FileWritten.{SweepKept, same_sweep_kept, wrote_still}
+use Rattle.core_machine.proofs.LivesOn.{StandOn, stands_by}
 
 -- ---- the core's collection
 

@@ -35,11 +35,14 @@ use Rattle.store_machine.specs.Remembering.{Adds, AddsBy, RootMachine}
 use Rattle.store_machine.specs.Runs.{Run}
 use Rattle.store_machine.specs.Values.{of_files, of_roots}
 use Rattle.store_machine.proofs.Remembered.{steps_are_remembered}
+use Rattle.core_machine.specs.Bytes.{BytesOf, ChangesBytes}
 use Rattle.core_machine.specs.Files.{FileRunsRefine, FilesRefine, FitsBy, IsOfFound, IsOfPassed, IsAtFiles, IsFileMachine, IsOfFile, file_step, stored_in}
 use Rattle.core_machine.specs.Refines.{Follows, FollowsPhase, HasIndex, IsMachine, SameStop, TellsForgotten, answered_by, asked_as, asked_by}
 use Rattle.core_machine.specs.Sweeping.{NamesStep}
 use Rattle.core_machine.proofs.FileBroken.{broken}
 use Rattle.core_machine.proofs.FileCrashes.{found_first, found_later, read_leaves, stands_found, step_leaves, step_rises}
+use Rattle.core_machine.proofs.Bytes.{known_of}
+use Rattle.core_machine.proofs.BytesStepped.{bytes_stepped, stopped_bytes}
 use Rattle.core_machine.proofs.FileStands.{disk_stands}
 use Rattle.core_machine.proofs.FileGc.{gc_adds}
 use Rattle.core_machine.proofs.FileIngests.{claim_adds, commit_adds, seal_adds}
@@ -208,8 +211,12 @@ module _ (C : Type 0) (state : C → CoreState) (among : ByteSet) (f : FileEvent
   Leaves n = CrashLeaves (λ image. IsOfFound (IsIn among) m image ⊎ IsOfFound (IsIn among) n image) (state old).disk (state new).disk
       × (m.now.last ≤ n.now.last)
 
+  -- and what it does to the bytes of the disk
+  abbrev Changes : FileMachine → Type 0
+  Changes n = ChangesBytes (file_step f) m n (state old).disk.content (state new).disk.content
+
   abbrev End : Type 0
-  End = (n : FileMachine) × (Legal of_files (file_step f) m n × IsFileMachine (IsIn among) n (state new)) × Leaves n
+  End = (n : FileMachine) × (Legal of_files (file_step f) m n × IsFileMachine (IsIn among) n (state new) × Changes n) × Leaves n
 
   -- what the machine of roots makes
   abbrev RootEnd : Type 0
@@ -276,6 +283,7 @@ module _ (C : Type 0) (state : C → CoreState) (among : ByteSet) (f : FileEvent
           machine = root.1.1;
           fits = fits (state new).stop refl left.0.state root.0.state refl left.1.1.state root.1.1.state;
         },
+        bytes_stepped to,
       ),
       (step_leaves to, step_rises to),
     )
@@ -299,6 +307,18 @@ module _ (C : Type 0) (state : C → CoreState) (among : ByteSet) (f : FileEvent
         (answered_by f.event.answer f.event.buf) m stopped_left.0) state_is
         (by_step m stopped_left.0 f.event.actor f.bytes f.event.buf m.store f.event.step (answered_by f.event.answer f.event.buf) stopped_left.1.0)).1
 
+    unchanged : Changes stopped_left.0
+    unchanged =
+        let (image, told, stand) = (disk_stands (IsIn among) m (state old) is).content in
+        known_of (state old).disk.content image
+        (λ given. KnownWith (state new).disk.content (BytesOf (file_step f).asked (file_step f).answer m stopped_left.0 given)) told (
+          image,
+          said.same.disk.only.content_is ∙ told,
+          subst (λ (a : Result Answer Refusal). BytesOf (asked_as (λ root. f.bytes) f.event.step) (answered_by a f.event.buf) m stopped_left.0 image image)
+              (sym said.answer_is)
+              (stopped_bytes m stopped_left.0 image f.bytes stop.at f.event.step),
+        )
+
     still : End
     still = (
       stopped_left.0,
@@ -313,6 +333,7 @@ module _ (C : Type 0) (state : C → CoreState) (among : ByteSet) (f : FileEvent
               (stands_read (IsIn among) m (state old).disk (state new).disk said.same.disk.only
               (subst (λ (s : RunState (List ℕ)). FitsBy s (IsIn among) m (state old)) state_is is.fits)));
         },
+        unchanged,
       ),
       subst Leaves (sym same) (
         read_leaves (IsIn among) m m (state old).disk (state new).disk

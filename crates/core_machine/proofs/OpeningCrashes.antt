@@ -1,6 +1,6 @@
 -- What a crash leaves at any moment of an opening, where containers may be given back: files that may be found, or what it might have left
 -- before.
-use Rattle.std.proofs.Common.{◌≡◌, ◌⊎◌, inl, inr, ◌≤◌, ℕ, List, Some}
+use Rattle.std.proofs.Common.{◌≡◌, ◌⊎◌, inl, inr, ℕ, List, Some}
 use Rattle.dd_disk.specs.View.{CrashLeaves, DiskView, OnlyReads}
 use Rattle.dd_disk.proofs.Later.{leaves_on, leaves_weaker, reads_leave}
 use Rattle.recovery.specs.Room.{RoomMade}

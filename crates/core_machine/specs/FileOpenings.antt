@@ -12,12 +12,18 @@ use Rattle.store_machine.specs.ByMap.{FileMachine}
 use Rattle.store_machine.specs.Done.{Done}
 use Rattle.store_machine.specs.Done as done
 use Rattle.store_machine.specs.Legal.{Legal}
+use Rattle.store_machine.specs.Machine.{Stepped}
 use Rattle.store_machine.specs.Values.{of_files}
+use Rattle.core_machine.specs.Bytes.{ChangesBytes}
 use Rattle.core_machine.specs.Files.{IsFileMachine, IsOfFound, MayStand, StandsFor}
+
+-- an opening that was answered so
+abbrev pub opening : ℕ → Result Done Refusal → Stepped (List ℕ)
+opening actor answer = record { actor = actor; asked = asked.Reopen; answer = answer }
 
 -- the machine may open its store so
 abbrev pub Reopens : ℕ → Result Done Refusal → FileMachine → FileMachine → Type 0
-Reopens actor answer m n = Legal of_files (record { actor = actor; asked = asked.Reopen; answer = answer }) m n
+Reopens actor answer m n = Legal of_files (opening actor answer) m n
 
 -- The disk of a core stands for the files of its machine, also where it is stopped.
 abbrev pub DisksStand : (C : Type 0) → (C → CoreState) → Type 0
@@ -35,7 +41,9 @@ abbrev pub FilesOpened : (D : Type 0) → (D → DiskView) → (C : Type 0) → 
 FilesOpened D view C state = (among : ByteSet) (actor : ℕ) (before : D) (new : C) (m : FileMachine) → HasNoCollisions (IsIn among)
     → KnownWith (view before).content (MayStand (IsIn among) m) → OpensCore D view (view before) (state new) → IsRunning (state new)
     → (n : FileMachine) × (Reopens actor (Ok (done.Reopened (finite.len (state new).tables.names))) m n
-    × IsFileMachine (IsIn among) n (state new) × LeavesFound (IsIn among) m (view before) (state new).disk)
+    × IsFileMachine (IsIn among) n (state new) × LeavesFound (IsIn among) m (view before) (state new).disk
+    × ChangesBytes (opening actor (Ok (done.Reopened (finite.len (state new).tables.names)))) m n
+    (view before).content (state new).disk.content)
 
 -- The content may stand, and so may each image that a crash could not have left before.
 pub record LeavesFor (S : List ℕ → Type 0) (m : FileMachine) (old new : DiskView) : Type 0 where
@@ -48,7 +56,8 @@ abbrev pub FilesUnopened : (D : Type 0) → (D → DiskView) → Type 0
 FilesUnopened D view = (among : ByteSet) (actor : ℕ) (refusal : Refusal) (before new : D) (m : FileMachine) → HasNoCollisions (IsIn among)
     → KnownWith (view before).content (MayStand (IsIn among) m) → OpensNone D view refusal (view before) (view new)
     → (n : FileMachine) × (Reopens actor (Err refusal) m n × LeavesFor (IsIn among) n (view before) (view new)
-    × LeavesFound (IsIn among) m (view before) (view new))
+    × LeavesFound (IsIn among) m (view before) (view new)
+    × ChangesBytes (opening actor (Err refusal)) m n (view before).content (view new).content)
 
 -- So it is of a core that could not be opened again, which is that machine then; and as each image of before can be opened as files that
 -- might be found before it, a crash meanwhile leaves only such.
@@ -58,4 +67,5 @@ FilesReopenedNot C state = (among : ByteSet) (actor : ℕ) (refusal : Refusal) (
     → OpensNone C (λ c. (state c).disk) refusal (state old).disk (state new).disk
     → StaysOrStops C (λ c. (state c).disk) refusal (state old) (state new)
     → (n : FileMachine) × (Reopens actor (Err refusal) m n × IsFileMachine (IsIn among) n (state new)
-    × CrashLeaves (IsOfFound (IsIn among) m) (state old).disk (state new).disk)
+    × CrashLeaves (IsOfFound (IsIn among) m) (state old).disk (state new).disk
+    × ChangesBytes (opening actor (Err refusal)) m n (state old).disk.content (state new).disk.content)

@@ -32,6 +32,7 @@ use Rattle.store_machine.specs.Opening.{MayBeFound, Stands}
 use Rattle.store_machine.specs.Remembering.{RootMachine}
 use Rattle.store_machine.specs.Runs.{IsPassedFrom, Run}
 use Rattle.store_machine.specs.Values.{of_files}
+use Rattle.core_machine.specs.Bytes.{ChangesBytes}
 use Rattle.core_machine.specs.Lives.{LivesJust}
 use Rattle.core_machine.specs.Refines.{IsMachine, answered_by, asked_as}
 use Rattle.core_machine.specs.Written.{WroteOnce}
@@ -121,12 +122,14 @@ file_step f = record {
   answer = answered_by f.event.answer f.event.buf;
 }
 
--- Over data without collisions, where the roots of commits are right: what the core does by a step is what the machine of files may do.
+-- Over data without collisions, where the roots of commits are right: what the core does by a step is what the machine of files may do; and
+-- what it does to the bytes of the disk `ChangesBytes` says.
 abbrev pub FilesRefine : (C : Type 0) → (C → CoreState) → Type 0
 FilesRefine C state = (among : ByteSet) (f : FileEvent) (old new : C) (m : FileMachine) → HasNoCollisions (IsIn among)
     → IsRunning (state old) → IsFileMachine (IsIn among) m (state old) → IsOfFile f.event.step f.bytes
     → FileStep (IsIn among) f (state old) (state new)
-    → (n : FileMachine) × (Legal of_files (file_step f) m n × IsFileMachine (IsIn among) n (state new))
+    → (n : FileMachine) × (Legal of_files (file_step f) m n × IsFileMachine (IsIn among) n (state new)
+    × ChangesBytes (file_step f) m n (state old).disk.content (state new).disk.content)
 
 -- The image can be opened as files that a run comes by, whose last number is that of its beginning or a later one.
 abbrev pub IsOfPassed : (S : List ℕ → Type 0) (ss : List (Stepped (List ℕ))) (m n : FileMachine) → Run of_files ss m n → List ℕ → Type 0

@@ -1,4 +1,4 @@
-//! A core as the plain machine: its steps and its openings, of roots on any disk, and of files where the disk tells its content.
+//! A core as the machine: its steps and its openings, of roots on any disk, and of files where the disk tells its content.
 #![tactic(auto)]
 
 ghost use Rattle.core_machine.specs.FileOpenings.{DisksStand, FilesOpened, FilesReopenedNot, FilesUnopened};
@@ -31,8 +31,9 @@ pub fn an_opening_is_the_machines<D: Disk, C: HasState>()
 /// Over a disk that tells its content, and data without collisions: what a core does by a step, done or refused, the machine of files may
 /// do, where the root of a commit is that of its bytes and its tree is held; and they fit one another then as before. So steps of any
 /// actors are a run of it. After each step the disk stands for the machine's files, also where the core is stopped: what reads give, and
-/// each image that a crash may leave then, is a store that may stand of files that may be found, and can be opened. At any moment of such
-/// steps, also inside a write, a crash leaves files that their run comes by, or what it might have left before. The function does nothing.
+/// each image that a crash may leave then, is a store that may stand of files that may be found, and can be opened. Which bytes of the disk
+/// a step may have changed is told, and what held ones it compared with. At any moment of such steps, also inside a write, a crash leaves
+/// files that their run comes by, or what it might have left before. The function does nothing.
 pub fn a_core_is_the_machine_of_files<C: HasState>()
     ensures steps { FilesRefine C C.state }
     ensures runs { FileRunsRefine C C.state }
@@ -41,8 +42,9 @@ pub fn a_core_is_the_machine_of_files<C: HasState>()
 
 /// Of a disk whose content may stand for the files of a machine: what has been opened, at first or again, is a machine of files to which
 /// that may come by an opening; where it is refused containers may have been given back, as the machine may, and the content may stand for
-/// its files still. At any moment of an opening, also as containers are given back, a crash leaves an image that can be opened as files that
-/// might be found before it, or one that it might have left before. The function does nothing.
+/// its files still; of the bytes nothing but the gates of these is another. At any moment of an opening, also as containers are given back,
+/// a crash leaves an image that can be opened as files that might be found before it, or one that it might have left before. The function
+/// does nothing.
 pub fn an_opening_finds_its_files<D: Disk, C: HasState>()
     ensures opened { FilesOpened D D.view C C.state }
     ensures reopened { FilesOpened C (λ c. (C.state c).disk) C C.state }

@@ -1,0 +1,152 @@
+-- Lists of bytes of which some were written: what of a store is as it was.
+use Rattle.std.proofs.Common.{◌≡◌, ◌≢◌, inl, inr, ◌<◌, ◌≤◌, ◌+◌, ◌-◌, ℕ, Bool, List, length, Option, Some, None, refl, sym, ◌∙◌, subst, arith}
+use Rattle.std.proofs.lemmas.Bool.{cases_lt, lt-ltb}
+use Rattle.base_model.specs.Bytes.{range}
+use Rattle.base_model.specs.Frames.{SameOutside}
+use Rattle.base_model.specs.Known.{Known, KnownWith}
+use Rattle.dd_disk.specs.Writes.{Both}
+use Rattle.disk_format.specs.Layout.{cell_at, half_cells, slot_at}
+use Rattle.disk_format.specs.declared.numbers.TheConstants.{CELL_BYTES, FIRST_HALF, SLOT_BYTES}
+use Rattle.ingest_steps.specs.Recording.{SameButRecord as SameButRecordOf, SameButRecordBy}
+use Rattle.ingest_steps.specs.Sealing.{SameButSlotOf}
+use Rattle.ingest_steps.proofs.RecordFrames.{record_alone}
+use Rattle.segment_index.specs.Changes.{SameBefore}
+use Rattle.store_model.specs.Image.{Store}
+use Rattle.store_state.specs.declared.tables.Tables.{Tables}
+use Rattle.store_model.specs.Steps.{HasCellsFor}
+use Rattle.store_model.proofs.Journaled.{SameButJournal}
+use Rattle.core_machine.specs.Bytes.{SameBut, SameButGate, SameJournal}
+
+pub before_same : (place : ℕ) (bytes : List ℕ) → SameBefore place bytes bytes
+before_same place bytes = record { size = refl; before = λ p n within. refl }
+
+-- ---- what is known of contents
+
+-- two contents of which one is told
+pub both_known : (R : List ℕ → List ℕ → Type 0) (was now : Option (List ℕ)) (old : List ℕ) → was ≡ Some old → Both R was now → KnownWith now (R old)
+both_known R was now old is both = told now (subst (λ (o : Option (List ℕ)). Both R o now) is both)
+  where
+    told : (now : Option (List ℕ)) → Both R (Some old) now → KnownWith now (R old)
+    told None both = absurd both
+    told (Some new) both = (new, refl, both)
+
+-- what is known of the content that is told is so of any that is
+pub known_of : (was : Option (List ℕ)) (old : List ℕ) (P : List ℕ → Type 0) → was ≡ Some old → P old → Known was P
+known_of was old P is so other there = subst P (let same : old ≡ other = let both : Some old ≡ Some other = sym is ∙ there in cc in same) so
+
+pub known_weaker : (now : Option (List ℕ)) (P Q : List ℕ → Type 0) → ((new : List ℕ) → P new → Q new) → KnownWith now P → KnownWith now Q
+known_weaker now P Q more (new, is, so) = (new, is, more new so)
+
+-- ---- nothing before the end of the slots is another
+
+module _ (slots : ℕ) (old new : List ℕ) (same : SameBefore (slot_at slots) old new) where
+  pub but_none : (Any : Type 0) (P : ℕ → ℕ → Type 0) (Q : ℕ → Type 0) → SameBut Any P Q slots old new
+  but_none Any P Q = record {
+    size_is = same.size;
+    format = same.before 0 CELL_BYTES (omega arith);
+    journal = λ all. record {
+      head = same.before 0 FIRST_HALF (omega arith);
+      cells = λ half cell low within other. same.before (cell_at half cell) CELL_BYTES (omega (arith, low, within));
+    };
+    slots_are = λ slot within other. same.before (slot_at slot) SLOT_BYTES (omega (arith, within));
+  }
+
+  pub but_gate_none : (slot : ℕ) → slot < slots → SameButGate slot slots old new
+  but_gate_none slot within = record {
+    rest = but_none (Unit {0}) (λ half cell. ⊥) (λ other. other ≡ slot);
+    slot_is = same.before (slot_at slot + 1) (SLOT_BYTES - 1) (omega (arith, within));
+  }
+
+-- ---- and then the gate of a slot may be
+
+module _ (slots slot : ℕ) (within : slot < slots) (old mid new : List ℕ) (first : SameBefore (slot_at slots) old mid) (gate : SameOutside (slot_at slot) 1 mid new) where
+  front : (p n : ℕ) → p + n ≤ slot_at slot → range p n new ≡ range p n old
+  front p n before = gate.before p n before ∙ first.before p n (omega (arith, before, within))
+
+  back : (p n : ℕ) → slot_at slot + 1 ≤ p → p + n ≤ slot_at slots → range p n new ≡ range p n old
+  back p n after before = gate.after p n after ∙ first.before p n before
+
+  other_slot : (other : ℕ) → other < slots → other ≢ slot → range (slot_at other) SLOT_BYTES new ≡ range (slot_at other) SLOT_BYTES old
+  other_slot other below differs = elim (cases_lt other slot) [
+    | inl less ↦ front (slot_at other) SLOT_BYTES (omega (arith, less))
+    | inr more ↦ back (slot_at other) SLOT_BYTES (omega (arith, more, differs)) (omega (arith, below))
+  ]
+
+  pub but_gate : SameButGate slot slots old new
+  but_gate = record {
+    rest = record {
+      size_is = gate.size ∙ first.size;
+      format = front 0 CELL_BYTES (omega arith);
+      journal = λ all. record {
+        head = front 0 FIRST_HALF (omega arith);
+        cells = λ half cell low less other. front (cell_at half cell) CELL_BYTES (omega (arith, low, less));
+      };
+      slots_are = λ other below differs. other_slot other below differs;
+    };
+    slot_is = back (slot_at slot + 1) (SLOT_BYTES - 1) (omega arith) (omega (arith, within));
+  }
+
+-- ---- a slot may be
+
+module _ (slots slot : ℕ) (old new : List ℕ) (same : SameButSlotOf slots slot old new) (within : slot < slots) where
+  another_slot : (other : ℕ) → other < slots → other ≢ slot → range (slot_at other) SLOT_BYTES new ≡ range (slot_at other) SLOT_BYTES old
+  another_slot other below differs = elim (cases_lt other slot) [
+    | inl less ↦ same.before (slot_at other) SLOT_BYTES (omega (arith, less))
+    | inr more ↦ same.after (slot_at other) SLOT_BYTES (omega (arith, more, differs)) (omega (arith, below))
+  ]
+
+  pub but_slot : SameBut (Unit {0}) (λ half cell. ⊥) (λ other. other ≡ slot) slots old new
+  but_slot = record {
+    size_is = same.size;
+    format = same.before 0 CELL_BYTES (omega arith);
+    journal = λ all. record {
+      head = same.before 0 FIRST_HALF (omega arith);
+      cells = λ half cell low less other. same.before (cell_at half cell) CELL_BYTES (omega (arith, low, less));
+    };
+    slots_are = λ other below differs. another_slot other below differs;
+  }
+
+-- ---- the bytes of a record may be
+
+module _ (store : Store) (t : Tables) (half_is : t.journal.half ≡ store.selector.half) (count_is : t.journal.count ≡ length store.records) (low : t.journal.half ≤ 1)
+    (old mid new : List ℕ) (first : SameBefore (slot_at store.slots) old mid) (same : SameButRecordOf t.journal mid new) where
+  alone : SameButJournal mid new
+  alone = record_alone t.journal mid new low same
+
+  -- where its half has a cell more that one alone is another
+  module _ (has : HasCellsFor store 1) where
+    room : t.journal.count < half_cells
+    room = omega (arith, has, count_is)
+
+    next : SameOutside (cell_at t.journal.half t.journal.count) CELL_BYTES mid new
+    next = subst (λ (b : Bool). SameButRecordBy b t.journal mid new) (lt-ltb t.journal.count half_cells room) same
+
+    cell_same : (half cell : ℕ) → half ≤ 1 → cell < half_cells → cell_at half cell ≢ cell_at t.journal.half t.journal.count
+        → range (cell_at half cell) CELL_BYTES new ≡ range (cell_at half cell) CELL_BYTES mid
+    cell_same half cell few within differs = elim (cases_lt (cell_at half cell) (cell_at t.journal.half t.journal.count)) [
+      | inl less ↦ next.before (cell_at half cell) CELL_BYTES (omega (arith, less))
+      | inr more ↦ next.after (cell_at half cell) CELL_BYTES (omega (arith, more, differs))
+    ]
+
+    -- each place has one half and one cell
+    the_half : (half cell : ℕ) → half ≤ 1 → cell < half_cells → cell_at half cell ≡ cell_at t.journal.half t.journal.count → half ≡ t.journal.half
+    the_half half cell few within is = omega (arith, few, within, is, low, room)
+
+    the_cell : (half cell : ℕ) → half ≤ 1 → cell < half_cells → cell_at half cell ≡ cell_at t.journal.half t.journal.count → cell ≡ t.journal.count
+    the_cell half cell few within is = omega (arith, few, within, is, low, room)
+
+    one_cell : SameJournal (λ half cell. (half ≡ store.selector.half) × (cell ≡ length store.records)) old new
+    one_cell = record {
+      head = next.before 0 FIRST_HALF (omega arith) ∙ first.before 0 FIRST_HALF (omega arith);
+      cells = λ half cell few within other.
+          cell_same half cell few within (λ is. other (the_half half cell few within is ∙ half_is, the_cell half cell few within is ∙ count_is))
+          ∙ first.before (cell_at half cell) CELL_BYTES (omega (arith, few, within));
+    }
+
+  pub but_record : SameBut (HasCellsFor store 1) (λ half cell. (half ≡ store.selector.half) × (cell ≡ length store.records)) (λ slot. ⊥) store.slots old new
+  but_record = record {
+    size_is = alone.size ∙ first.size;
+    format = alone.format ∙ first.before 0 CELL_BYTES (omega arith);
+    journal = λ has. one_cell has;
+    slots_are = λ slot within other. alone.slots (slot_at slot) SLOT_BYTES (omega arith) ∙ first.before (slot_at slot) SLOT_BYTES (omega (arith, within));
+  }

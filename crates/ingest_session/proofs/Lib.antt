@@ -30,3 +30,5 @@ pub mod Agreeing
 pub mod Replayed
 pub mod DueOnes
 pub mod KeptOnes
+pub mod KeptPieces
+pub mod KeptOn

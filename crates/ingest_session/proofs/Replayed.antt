@@ -240,7 +240,7 @@ sealed_ended s kind true =
     let e : SessionState = record (emptied kind s) { waits = false } in absent_ended e (fits e) ∙ with_ended kind _ s
 sealed_ended s kind false = with_ended kind _ s
 
-told_ended : (answer : Answer) (s : SessionState) → IsAnswerFor answer (due_in s) → (told_by answer s).ended ≡ s.ended
+pub told_ended : (answer : Answer) (s : SessionState) → IsAnswerFor answer (due_in s) → (told_by answer s).ended ≡ s.ended
 told_ended Held s is = placed_ended (turn_node s) s
 told_ended Absent s is = absent_ended s (fits s)
 told_ended (Sealed id) s is = subst (λ (due : Due). (told.sealed_by due s).ended ≡ s.ended) (sym is.1) (sealed_ended s is.0 s.waits)
@@ -306,7 +306,7 @@ module _ (ended : Bool) (segments : List (List ℕ)) where
       }
 
   -- an answer, told to a session that is settled
-  told_reach : (s : SessionState) (h : History) (answer : Answer) → HasHistory s h → Extends ended segments s h → IsSettled s → IsAnswerFor answer (due_in s)
+  pub told_reach : (s : SessionState) (h : History) (answer : Answer) → HasHistory s h → Extends ended segments s h → IsSettled s → IsAnswerFor answer (due_in s)
       → Reaches s h → Reaches (told_by answer s) (answered answer s h)
   told_reach s h answer has extends settled right before =
       let at_end : turn s ≡ [] → ((over ended segments s h has extends).ended ≡ s.ended) × ((over ended segments s h has extends).queue ≡ s.queue) = λ none.

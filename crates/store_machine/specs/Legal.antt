@@ -1,4 +1,4 @@
--- What a step may answer, and what it leaves: one relation, for any values (docs/MODEL.md, 'The plain machine').
+-- What a step may answer, and what it leaves: one relation, for any values (docs/MODEL.md, 'The machine').
 use Rattle.std.specs.Prelude.{◌≡◌, ◌≢◌, ◌⊎◌, ℕ, suc, ◌-◌, ◌^◌, ◌<◌, ◌≤◌, true, false, List, [], ◌∷◌, length, map, is_some, slice_get, take, Contains, Option, Some, None, Result, Ok, Err}
 use Rattle.std.specs.FinMap as finite
 use Rattle.std.specs.List.{AllByRecursion}

@@ -1,4 +1,4 @@
--- The plain machine: what a store is to those who make steps of it. V is what a name has, R what is to come of it (Values.antt).
+-- The machine: what a store is to those who make steps of it. V is what a name has, R what is to come of it (Values.antt).
 use Rattle.std.specs.Prelude.{ℕ, ◌+◌, ◌-◌, ◌^◌, Bool, List, ◌++◌, min, replicate, slice_index_or, slice_set, Option, Some, None, Result}
 use Rattle.std.specs.FinMap as finite
 use Rattle.std.specs.Ordering.{nat_cmp}

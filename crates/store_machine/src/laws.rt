@@ -5,7 +5,8 @@ ghost use Rattle.store_machine.specs.Collected.{CollectsWhatItSelected};
 ghost use Rattle.store_machine.specs.Forgetting.{RunsAreForgotten, StepsAreForgotten};
 ghost use Rattle.store_machine.specs.Ingests.{IngestsByMap, IngestsThrough};
 ghost use Rattle.store_machine.specs.Remembering.{AddsNoMore, StepsAreRemembered};
-ghost use Rattle.store_machine.specs.Values.{of_files};
+ghost use Rattle.store_machine.specs.Twins.{UnpinnedHasTwins};
+ghost use Rattle.store_machine.specs.Values.{of_files, of_roots};
 
 /// A step of the machine of files is one of the machine of roots, once all but the roots of its files is forgotten; and so is a run of
 /// steps. So what holds of the machine of roots, on any disk, holds of that of files. The function does nothing.
@@ -70,4 +71,13 @@ pub fn a_list_tells_the_names()
 pub fn a_collect_keeps_the_names()
     ensures ended { CollectsByMap }
     ensures through { CollectsThrough }
+{}
+
+/// From where no actor gives a file on, a line is refused since a segment lacks a pin only where two different segments, or two different
+/// nodes, of what an actor gives as it begins have one SHA-256: each child of a node that is claimed or sealed, and the root that a name is
+/// to have, was answered Held, or sealed, before, and was pinned then. So it is of the machine of files and of that of roots, on any disk.
+/// The function does nothing.
+pub fn unpinned_has_twins()
+    ensures files { UnpinnedHasTwins of_files }
+    ensures roots { UnpinnedHasTwins of_roots }
 {}

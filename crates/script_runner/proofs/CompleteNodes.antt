@@ -1,0 +1,124 @@
+-- Where no two different nodes on the way have one digest, nothing that is given has twins, and no copy that is held clashes with it.
+use Rattle.std.proofs.Common.{◌≡◌, ◌∙◌, ℕ, Bool, List, [], ◌∷◌, ◌++◌, Option, Some, None, slice_get, append-nil, refl, sym, ap, subst, arith, length}
+use Rattle.std.specs.List.{AllByRecursion}
+use Rattle.sha2.specs.Sha256.{sha256}
+use Rattle.base_model.specs.Bytes.{byte_at, key_of}
+use Rattle.container_meta.specs.declared.kind.Kind.{Kind}
+use Rattle.container_meta.specs.declared.kind.Kind.TheVariants.{Leaf, Tree}
+use Rattle.container_meta.specs.Segments.{Contents, KindSegment, Segment, segment_key}
+use Rattle.merkle_file.specs.Node as node
+use Rattle.merkle_file.specs.Node.{spelling}
+use Rattle.refusals.specs.declared.refusal.Difference.{Difference}
+use Rattle.refusals.specs.declared.refusal.Difference.TheVariants.{Length, Byte}
+use Rattle.store_model.specs.Collisions.{HasNoCollisions}
+use Rattle.store_model.specs.Pieces.{Piece, Data, Node, HasPieceOf, IsPieceOf, piece_bytes, piece_key}
+use Rattle.store_model.specs.Slots.{newest}
+use Rattle.store_model.specs.Trees.{bytes_at}
+use Rattle.ingest_session.specs.declared.due.Due.TheVariants as dues
+use Rattle.ingest_session.specs.Due.{open_of}
+use Rattle.ingest_session.specs.History.{History, HasHistory, turn_of}
+use Rattle.ingest_session.specs.Moving.{IsItem, IsOffered}
+use Rattle.ingest_session.specs.State.{SessionState, turn_node}
+use Rattle.ingest_session.proofs.Facts.{opens_are_pieces, turns_are_pieces}
+use Rattle.ingest_session.proofs.Members.{one_of}
+use Rattle.ingest_session.proofs.Waiting as waiting
+use Rattle.store_machine.specs.Asked.{Asked}
+use Rattle.store_machine.specs.Asked as asked
+use Rattle.store_machine.specs.Ingests.{HasSegment}
+use Rattle.store_machine.specs.Legal.{DifferBy}
+use Rattle.store_machine.specs.Lines.{IsDueStep, Session}
+use Rattle.store_machine.specs.Twins.{HasTwins, IsOfGiven}
+use Rattle.store_machine.specs.Values.{of_files}
+use Rattle.core_machine.specs.Bytes.{ClashesWith}
+use Rattle.script_runner.specs.Complete.{IsHeldNode}
+
+-- ---- a node that a step has
+
+-- the bytes are a node of the tree of what was given
+abbrev pub IsNodeOfFile : List ℕ → List ℕ → Type 0
+IsNodeOfFile file bytes = (n : node.Contents) × IsPieceOf file (Node n) × (bytes ≡ spelling n)
+
+item_node : (o : Option node.Contents) (queue : List (List ℕ)) (seg : KindSegment) (file : List ℕ) → AllByRecursion (IsPieceOf file) (turn_of o queue)
+    → IsItem o queue seg → seg.kind ≡ Tree → IsNodeOfFile file seg.segment.bytes
+item_node (Some n) queue seg file pieces is tree = (n, pieces.0, ap (λ (x : KindSegment). x.segment.bytes) is)
+item_node None [] seg file pieces is tree = absurd is
+item_node None (x ∷ xs) seg file pieces is tree = absurd (let kinds = ap (λ (y : KindSegment). y.kind) is in cc)
+
+piece_node : (file : List ℕ) (seg : KindSegment) → HasPieceOf file seg → seg.kind ≡ Tree → IsNodeOfFile file seg.segment.bytes
+piece_node file seg (Data bytes, piece, is) tree = absurd (let kinds = ap (λ (y : KindSegment). y.kind) is in cc)
+piece_node file seg (Node n, piece, is) tree = (n, piece, ap (λ (x : KindSegment). x.segment.bytes) is)
+
+module _ (s : SessionState) (h : History) (has : HasHistory s h) (given : List ℕ) (given_is : h.given ≡ given) where
+  whole : h.given ++ [] ≡ given
+  whole = append-nil h.given ∙ given_is
+
+  offered_node : (seg : KindSegment) → IsOffered s seg → seg.kind ≡ Tree → IsNodeOfFile given seg.segment.bytes
+  offered_node seg offered tree =
+      subst (λ (file : List ℕ). IsNodeOfFile file seg.segment.bytes) whole
+      (item_node (turn_node s) s.queue seg (h.given ++ []) (turns_are_pieces s h [] has (λ ended. refl)) offered.is tree)
+
+  sealed_node : (kind : Kind) (index : ℕ) (x : Segment) → slice_get (open_of s kind).segments index ≡ Some x → kind ≡ Tree → IsNodeOfFile given x.bytes
+  sealed_node kind index x there tree =
+      subst (λ (file : List ℕ). IsNodeOfFile file x.bytes) whole
+      (piece_node (h.given ++ []) (record { kind = kind; segment = x })
+      (one_of (λ y. HasPieceOf (h.given ++ []) (record { kind = kind; segment = y })) (open_of s kind).segments x
+      (opens_are_pieces s h [] has (λ ended. refl) kind) (index, there)) tree)
+
+-- each node that a step has, which is due, is one of what was given
+pub due_node : (s : Session) (step : Asked (List ℕ)) (seg : KindSegment) → IsDueStep of_files s step → HasSegment step seg → seg.kind ≡ Tree
+    → IsNodeOfFile s.given seg.segment.bytes
+due_node s (asked.Claim offered) seg (dues.Claim, is, asks) one tree =
+    subst (λ (x : KindSegment). IsNodeOfFile s.given x.segment.bytes) (sym one)
+    (offered_node is.session is.history is.has s.given is.given_is offered asks (ap (λ (x : KindSegment). x.kind) (sym one) ∙ tree))
+due_node s (asked.Seal filled) seg (dues.Seal kind, is, asks) (kind_is, (index, there)) tree =
+    sealed_node is.session is.history is.has s.given is.given_is kind index seg.segment
+    (ap (λ (c : Contents). slice_get c.segments index) (sym asks) ∙ there)
+    (sealed_kind kind (ap (λ (c : Contents). c.kind) (sym asks) ∙ sym kind_is ∙ tree))
+  where
+    sealed_kind : (k : Kind) → (open_of is.session k).kind ≡ Tree → k ≡ Tree
+    sealed_kind Tree same = refl
+    sealed_kind Leaf same = absurd (let wrong : Leaf ≡ Tree = sym (waiting.session_of is.session is.history is.has).data_kind ∙ same in cc)
+due_node s (asked.Claim offered) seg (dues.Seal kind, is, asks) one tree = absurd asks
+due_node s (asked.Claim offered) seg (dues.Nothing, is, asks) one tree = absurd asks
+due_node s (asked.Seal filled) seg (dues.Claim, is, asks) one tree = absurd asks
+due_node s (asked.Seal filled) seg (dues.Nothing, is, asks) one tree = absurd asks
+due_node s step seg due one tree = absurd one
+
+-- ---- nodes of one digest
+
+same_digest : (a b : ℕ) (xs ys : List ℕ) → a ∷ xs ≡ b ∷ ys → xs ≡ ys
+same_digest a b xs ys is = cc
+
+first_same : (a b : ℕ) (xs ys : List ℕ) → a ∷ xs ≡ b ∷ ys → a ≡ b
+first_same a b xs ys is = cc
+
+same_are_same : (at : Difference) (offered held : List ℕ) → offered ≡ held → DifferBy at offered held → ⊥
+same_are_same (Length mine other) offered held same is = is.2 (is.0 ∙ ap length same ∙ sym is.1)
+same_are_same (Byte place mine other) offered held same is = is.5 (sym is.3 ∙ ap (byte_at place) same ∙ is.4)
+
+-- a segment is among D, and a node among S
+abbrev pub PieceAmong : (D S : List ℕ → Type 0) → Piece → Type 0
+PieceAmong D S (Data bytes) = D bytes
+PieceAmong D S (Node n) = S (spelling n)
+
+module _ (D S : List ℕ → Type 0) (no_data : HasNoCollisions D) (no_nodes : HasNoCollisions S) where
+  same_bytes : (p q : Piece) (key : List ℕ) → PieceAmong D S p → PieceAmong D S q → key ≡ piece_key p → key ≡ piece_key q → piece_bytes p ≡ piece_bytes q
+  same_bytes (Data a) (Data b) key one two one_key two_key = no_data a b one two (same_digest 0 0 (sha256 a) (sha256 b) (sym one_key ∙ two_key))
+  same_bytes (Node n) (Node m) key one two one_key two_key =
+      no_nodes (spelling n) (spelling m) one two (same_digest 1 1 (sha256 (spelling n)) (sha256 (spelling m)) (sym one_key ∙ two_key))
+  same_bytes (Data a) (Node m) key one two one_key two_key = absurd (omega (arith, first_same 0 1 (sha256 a) (sha256 (spelling m)) (sym one_key ∙ two_key)))
+  same_bytes (Node n) (Data b) key one two one_key two_key = absurd (omega (arith, first_same 1 0 (sha256 (spelling n)) (sha256 b) (sym one_key ∙ two_key)))
+
+  pub no_twins : (given : List ℕ) (ended : Bool) (key : List ℕ) → ((p : Piece) → IsOfGiven given ended p → PieceAmong D S p) → HasTwins given ended key → ⊥
+  no_twins given ended key among twins =
+      twins.differ (same_bytes twins.one twins.other key (among twins.one twins.one_of) (among twins.other twins.other_of) twins.one_key twins.other_key)
+
+  pub no_clash : (content : List ℕ) (seg : KindSegment) (key : List ℕ) (at : Difference) → (seg.kind ≡ Tree → S seg.segment.bytes)
+      → ((bytes : List ℕ) → IsHeldNode bytes content → S bytes) → ClashesWith seg content key at → ⊥
+  no_clash content seg key at own held clash =
+      let digest : List ℕ = sha256 seg.segment.bytes in
+      let key_is : key ≡ key_of 1 digest = clash.key_is ∙ ap (λ (kind : Kind). segment_key kind seg.segment) clash.kind in
+      let found : List ℕ = bytes_at clash.copy.place content in
+      let is_held : S found =
+      held found (clash.store, (clash.right, (digest, (clash.copy, (ap (newest 0 clash.store.held) (sym key_is) ∙ clash.copy_is, refl))))) in
+      same_are_same at seg.segment.bytes found (sym (no_nodes found seg.segment.bytes is_held (own clash.kind) clash.digest)) clash.differ

@@ -1,0 +1,10 @@
+use Rattle.std.proofs.Common.{refl}
+use Rattle.store_machine.specs.Values.{of_files, of_roots}
+use Rattle.store_machine.proofs.TwinLines.{file_reads, root_reads, unpinned_has_twins}
+use Rattle.store_machine.proofs.laws.unpinned_has_twins.Goals as goal
+
+pub returns : goal.returns
+returns c = record {
+  files = unpinned_has_twins of_files (λ file. refl) file_reads;
+  roots = unpinned_has_twins of_roots (λ file. refl) root_reads;
+}

@@ -1,28 +1,32 @@
--- A script over a core that was opened is lines of the machine of files, over all of the call.
-use Rattle.std.proofs.Common.{◌≡◌, inl, inr, ℕ, List, [], Option, Some, replicate, None, refl, sym, subst}
-use Rattle.std.specs.Borrow.{MutBor}
-use Rattle.actor_parts.specs.declared.actor.TheConstants.{ACTORS}
+-- A call is lines of the machine of files, its opening first: whether it was opened or not, from its beginning to its end.
+use Rattle.std.proofs.Common.{◌≡◌, ◌⊎◌, inl, inr, ◌≤◌, ℕ, List, [], Option, Some, None, replicate, refl, sym, subst, arith}
 use Rattle.dd_disk.specs.Ending.{Done, Reads}
-use Rattle.dd_disk.specs.View.{DiskView}
-use Rattle.plain_machine.specs.Runs.{Replied}
+use Rattle.dd_disk.specs.View.{CrashLeaves, DiskView, IsLater}
 use Rattle.refusals.specs.declared.refusal.Refusal.{Refusal}
 use Rattle.refusals.specs.declared.refusal.Refusal.TheVariants.{Memory}
 use Rattle.reply_text.specs.declared.ending.Ending.{Ending}
 use Rattle.reply_text.specs.declared.ending.Ending.TheVariants.{Refused}
 use Rattle.store_core.specs.Opening.{OpensCore, OpensNone}
 use Rattle.store_core.specs.State.{CoreState}
-use Rattle.store_machine.specs.Commands.{desk}
-use Rattle.core_machine.specs.FileOpenings.{DisksStand, FilesUnopened}
+use Rattle.store_machine.specs.Commands.{Replied, desk, run_of}
+use Rattle.store_machine.specs.Values.{of_files}
+use Rattle.store_model.specs.Collisions.{IsIn}
+use Rattle.core_machine.specs.FileOpenings.{FilesUnopened}
 use Rattle.core_machine.proofs.FileStays.{stands_read}
+use Rattle.actor_parts.specs.declared.actor.TheConstants.{ACTORS}
 use Rattle.script_runner.specs.Acts.{RunnerState}
-use Rattle.script_runner.specs.LinesAreFileRuns.{OpenedIsAtDesk, ScriptsAreFileRuns}
 use Rattle.script_runner.specs.Scripts.{AreOfActors, RunsLines}
+use Rattle.script_runner.specs.LinesAreFileRuns.{ChangesContent}
+use Rattle.script_runner.specs.LinesAreRuns.{Traced}
 use Rattle.backup_engine.specs.ByFiles.{RunsEachByFiles}
-use Rattle.backup_engine.proofs.Lending.{lent_end, lent_view}
+use Rattle.backup_engine.specs.CallsByFiles.{CallsRunByFiles}
+use Rattle.backup_engine.proofs.Called.{Called}
+
+-- ---- the store was not opened
 
 -- there was no memory, before the disk was called
-pub without_memory : (v : DiskView) → RunsEachByFiles (Some (Refused Memory)) [] v v
-without_memory v = λ among m distinct cut known. inr (record {
+pub memory_by_files : (v : DiskView) → RunsEachByFiles (Some (Refused Memory)) [] v v
+memory_by_files v = λ among m distinct cut known. inr (record {
   none = refl;
   refusal = Memory;
   ending_is = refl;
@@ -30,12 +34,13 @@ without_memory v = λ among m distinct cut known. inr (record {
   opens = (tt, inl refl);
   leaves = record { content = known; images = λ image left. inl left };
   crash = record { now = λ image left. inl left; since = λ t image below left. inl left };
+  bytes = λ old told. (old, told, inl (refl, refl));
 })
 
--- the store was not opened
-pub not_opened : (D : Type 0) (view : D → DiskView) (refusal : Refusal) (before after : D) → FilesUnopened D view → OpensNone D view refusal (view before) (view after)
+-- it was refused
+pub refused_by_files : (D : Type 0) (view : D → DiskView) (refusal : Refusal) (before after : D) → FilesUnopened D view → OpensNone D view refusal (view before) (view after)
     → RunsEachByFiles (Some (Refused refusal)) [] (view before) (view after)
-not_opened D view refusal before after unopened none = λ among m distinct cut known.
+refused_by_files D view refusal before after unopened none = λ among m distinct cut known.
     let one = unopened among 0 refusal before after m distinct known none in
     inr (record {
       none = refl;
@@ -45,31 +50,96 @@ not_opened D view refusal before after unopened none = λ among m distinct cut k
       opens = one.1.0;
       leaves = one.1.1;
       crash = one.1.2;
+      bytes = one.1.3;
     })
 
--- it was, over a disk that was lent
-module _ (D : Type 0) (view : D → DiskView) (C : Type 0) (state : C → CoreState) (first : MutBor D) (n : ℕ) (w : DiskView) (old new : C) where
-  abbrev lent : MutBor D → DiskView
-  lent = lent_view D view
+-- ---- it was
 
-  abbrev end : DiskView
-  end = lent_end D view first n w
+-- An opening, lines and a closing, one after the other: what a crash leaves at a moment of them.
+module _ (P Q : List ℕ → Type 0) (v opened last now : DiskView) (first : v.clock ≤ opened.clock) (between : IsLater opened last)
+    (opens : CrashLeaves (λ image. v.images image ⊎ P image) v opened) (runs : CrashLeaves Q opened last) (closed : Reads Done last now) where
+  before : (t : ℕ) (c : List ℕ) → t ≤ v.clock → opened.images_since t c → v.images_since t c ⊎ (P c ⊎ Q c)
+  before t c below left = elim (opens.since t c below left) [
+    | inl was ↦ inl was
+    | inr (inl here) ↦ inl (v.counts_now t c below here)
+    | inr (inr found) ↦ inr (inl found)
+  ]
 
-  pub runs_by_files : OpenedIsAtDesk (MutBor D) lent C state → ScriptsAreFileRuns C state → DisksStand C state → OpensCore (MutBor D) lent (lent first) (state old) → Reads Done (state new).disk end
-      → (ending : Option Ending) (rs : List Replied) (r s : RunnerState C) → r.core ≡ old → new ≡ s.core → r.sessions ≡ replicate ACTORS None → AreOfActors rs → RunsLines C state rs r s
-      → RunsEachByFiles ending rs (view first.now) w
-  runs_by_files opens scripts stand opened closed ending rs r s begins ends fresh actors runs = λ among m distinct cut known.
-      let here = subst (λ (c : C). OpensCore (MutBor D) lent (lent first) (state c)) (sym begins) opened in
-      let one = opens among 0 first m r distinct known here fresh in
-      let all = scripts among rs r s (desk one.0) distinct actors (λ bytes. cut _ one.0 bytes one.1.0) one.1.1 runs in
-      let stands = stand among s.core all.next.machine all.at.fits in
-      let shut = stands_read _ all.next.machine (state s.core).disk end (subst (λ (c : C). Reads Done (state c).disk end) ends closed).only stands in
-      inl (record {
-        files = _;
-        opened = one.0;
-        opens = one.1.0;
-        steps = all.steps;
-        next = all.next;
-        lines_are = all.lines_are;
-        stands = record { content = shut.content; images = shut.images };
-      })
+  meanwhile : (t : ℕ) (c : List ℕ) → t ≤ v.clock → last.images_since t c → v.images_since t c ⊎ (P c ⊎ Q c)
+  meanwhile t c below left = elim (runs.since t c (omega (arith, below, first)) left) [ inl was ↦ before t c below was | inr passed ↦ inr (inr passed) ]
+
+  pub call_leaves : CrashLeaves (λ c. P c ⊎ Q c) v now
+  call_leaves = record {
+    now = λ c left. inr (runs.now c (closed.only.images_are c left));
+    since = λ t c below left. elim (closed.only.since_are t c (omega (arith, below, first, between.clock_is)) left) [
+      | inl was ↦ meanwhile t c below was
+      | inr here ↦ inr (inr (runs.now c here))
+    ];
+  }
+
+opened_clock : (D : Type 0) (view : D → DiskView) (v : DiskView) (c : CoreState) → OpensCore D view v c → v.clock ≤ c.disk.clock
+opened_clock D view v c (inl read) = read.reads.only.later.clock_is
+opened_clock D view v c (inr (mid, (made, read))) = omega (arith, made.later.clock_is, read.reads.only.later.clock_is)
+
+pub calls_by_files : (D : Type 0) (view : D → DiskView) (C : Type 0) (state : C → CoreState) → CallsRunByFiles D view C state
+    → (start : D) (now : DiskView) (ending : Option Ending) (rs : List Replied) (r s : RunnerState C) → OpensCore D view (view start) (state r.core) → Reads Done (state s.core).disk now → r.sessions ≡ replicate ACTORS None
+    → AreOfActors rs → RunsLines C state rs r s → RunsEachByFiles ending rs (view start) now
+calls_by_files D view C state laws start now ending rs r s opened closed fresh actors runs = λ among m distinct cut known.
+    let one = laws.opens among 0 start m r distinct known opened fresh in
+    let all = laws.scripts among rs r s (desk one.0) distinct actors (λ bytes. cut _ one.0 bytes one.1.0) one.1.1 runs in
+    let stands = laws.stands among s.core all.next.machine all.at.fits in
+    let between = (laws.goes rs r s runs).later in
+    let shut = stands_read _ all.next.machine (state s.core).disk now closed.only stands in
+    inl (record {
+      files = _;
+      opened = one.0;
+      opens = one.1.0;
+      steps = all.steps;
+      next = all.next;
+      lines_are = all.lines_are;
+      stands = record { content = shut.content; images = shut.images };
+      crash = call_leaves _ _ (view start) (state r.core).disk (state s.core).disk now (opened_clock D view (view start) (state r.core) opened) between one.1.2 all.did.leaves closed;
+      bytes = ((state r.core).disk.content, (one.1.3, subst (λ (told : Option (List ℕ)). Traced of_files (ChangesContent (IsIn among)) all.steps one.0 all.next.machine (run_of of_files rs all.steps (desk one.0) all.next all.lines_are) (state r.core).disk.content told) (sym closed.only.content_is) all.did.changes));
+    })
+
+-- so it is from the disk on that was read
+pub called_runs : (D : Type 0) (view : D → DiskView) (C : Type 0) (state : C → CoreState) (start : D) (w : DiskView) (old new : C) → Called C state (view start) w old new → CallsRunByFiles D view C state
+    → (ending : Option Ending) (rs : List Replied) (r s : RunnerState C) → r.core ≡ old → r.sessions ≡ replicate ACTORS None → new ≡ s.core → AreOfActors rs → RunsLines C state rs r s → RunsEachByFiles ending rs (view start) w
+called_runs D view C state start w old new called laws ending rs r s begins fresh ends actors runs =
+    calls_by_files D view C state laws start w ending rs r s
+    (subst (λ (c : C). OpensCore D view (view start) (state c)) (sym begins) (inl (record { opened = called.opened; durable = called.durable; reads = called.first })))
+    (subst (λ (c : C). Reads Done (state c).disk w) ends called.last) fresh actors runs
+
+-- ---- a disk that was lent
+
+module _ (loans loans_now : List ℕ) (v w : DiskView) where
+  abbrev lent : DiskView
+  lent = record v { loans = loans }
+
+  abbrev lent_now : DiskView
+  lent_now = record w { loans = loans_now }
+
+  pub by_files_back : (ending : Option Ending) (rs : List Replied) → RunsEachByFiles ending rs lent lent_now → RunsEachByFiles ending rs v w
+  by_files_back ending rs each among m distinct cut known = elim (each among m distinct cut known) [
+    | inl runs ↦ inl (record {
+      files = runs.files;
+      opened = runs.opened;
+      opens = runs.opens;
+      steps = runs.steps;
+      next = runs.next;
+      lines_are = runs.lines_are;
+      stands = record { content = runs.stands.content; images = runs.stands.images };
+      crash = record { now = runs.crash.now; since = runs.crash.since };
+      bytes = runs.bytes;
+    })
+    | inr none ↦ inr (record {
+      none = none.none;
+      refusal = none.refusal;
+      ending_is = none.ending_is;
+      next = none.next;
+      opens = none.opens;
+      leaves = record { content = none.leaves.content; images = none.leaves.images };
+      crash = record { now = none.crash.now; since = none.crash.since };
+      bytes = none.bytes;
+    })
+  ]

@@ -1,5 +1,5 @@
 -- A collection that was swept, by what its line did.
-use Rattle.std.proofs.Common.{◌≡◌, ℕ, [], Result, Ok, Err, refl, subst}
+use Rattle.std.proofs.Common.{◌≡◌, ℕ, Result, Ok, Err, refl, subst}
 use Rattle.std.specs.Prelude.{IfOk}
 use Rattle.actor_parts.specs.declared.step.Answer.TheVariants as answers
 use Rattle.refusals.specs.declared.refusal.Refusal.{Refusal}
@@ -15,7 +15,7 @@ use Rattle.backup_engine.specs.Saying.{no_sessions}
 
 module _ (C : Type 0) (state : C → CoreState) (old new : C) where
   abbrev SweptBy : ReplyValue → Type 0
-  SweptBy reply = Acts C state lines.Sweep reply (runner_of old no_sessions []) (runner_of new no_sessions [])
+  SweptBy reply = Acts C state lines.Sweep reply (runner_of old no_sessions) (runner_of new no_sessions)
 
   -- what its reply tells
   pub record HasSwept (reply : ReplyValue) : Type 0 where

@@ -26,7 +26,7 @@ use Rattle.refusals.specs.declared.refusal.Refusal.TheVariants as refusals
 use Rattle.reply_text.specs.declared.ending.Ending as reply
 use Rattle.reply_text.specs.declared.ending.Ending.TheVariants.{Sink, Refused}
 use Rattle.script_runner.specs.Acts.{CollectionRun, Collects, Starts, Sweeps}
-use Rattle.script_runner.proofs.LinesReopen.{idle_part}
+use Rattle.script_runner.proofs.Lists.{idle_part}
 use Rattle.store_model.specs.Image.{Encodes, Store, names_of}
 use Rattle.store_model.specs.Slots.{last_id}
 use Rattle.store_model.proofs.Free.{as_many as as_many_ids}

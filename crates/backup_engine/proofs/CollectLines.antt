@@ -2,8 +2,8 @@
 use Rattle.std.proofs.Common.{◌≡◌, inl, inr, ℕ, List, [], ◌∷◌, Option, None, Some, Result, Ok, Err, refl, sym, ◌∙◌, subst}
 use Rattle.actor_parts.specs.declared.step.Answer.TheVariants as answers
 use Rattle.dd_io.specs.Flow.{SinkView}
-use Rattle.plain_machine.specs.Refused.{actor_of}
-use Rattle.plain_machine.specs.Runs.{Replied}
+use Rattle.store_machine.specs.Lines.{actor_of}
+use Rattle.store_machine.specs.Commands.{Replied}
 use Rattle.refusals.specs.declared.refusal.Refusal.{Refusal}
 use Rattle.reply_text.specs.declared.ending.Ending.{Ending}
 use Rattle.reply_text.specs.declared.ending.Ending.TheVariants.{Sink, Refused}
@@ -49,18 +49,18 @@ module _ (C : Type 0) (state : C → CoreState) (percent : ℕ) where
   module _ (old new : C) (runs : (state old).stop ≡ None) where
     unbegun_line : (refusal : Refusal) → Starts C state percent (Err refusal) old new → RunsLines C state (refused (lines.Gc percent) refusal ∷ []) (idle old) (idle new)
     unbegun_line refusal start =
-        line_then C state (refused (lines.Gc percent) refusal) [] (idle old) (idle new) (idle new) refl (inl (admits old (lines.Gc percent) runs refl, (start, refl, refl))) refl
+        line_then C state (refused (lines.Gc percent) refusal) [] (idle old) (idle new) (idle new) refl (inl (admits old (lines.Gc percent) runs refl, (start, refl))) refl
 
     module _ (snapshot : ℕ) (mid : C) (start : Starts C state percent (Ok snapshot) old mid) (on : (state mid).stop ≡ None) where
       stopped_lines : (refusal : Refusal) → Sweeps C state (Err refusal) mid new → RunsLines C state (collecting percent snapshot ∷ refused lines.Sweep refusal ∷ []) (idle old) (idle new)
       stopped_lines refusal sweeps =
-          line_then C state (collecting percent snapshot) (refused lines.Sweep refusal ∷ []) (idle old) (idle mid) (idle new) refl (inl (admits old (lines.Gc percent) runs refl, (start, refl, refl)))
-          (line_then C state (refused lines.Sweep refusal) [] (idle mid) (idle new) (idle new) refl (inl (admits mid lines.Sweep on refl, (sweeps, refl, refl))) refl)
+          line_then C state (collecting percent snapshot) (refused lines.Sweep refusal ∷ []) (idle old) (idle mid) (idle new) refl (inl (admits old (lines.Gc percent) runs refl, (start, refl)))
+          (line_then C state (refused lines.Sweep refusal) [] (idle mid) (idle new) (idle new) refl (inl (admits mid lines.Sweep on refl, (sweeps, refl))) refl)
 
       swept_lines : (freed copied : ℕ) → Sweeps C state (Ok (answers.Done freed copied)) mid new → RunsLines C state (collecting percent snapshot ∷ said lines.Sweep (replies.Collected freed copied) ∷ []) (idle old) (idle new)
       swept_lines freed copied sweeps =
-          line_then C state (collecting percent snapshot) (said lines.Sweep (replies.Collected freed copied) ∷ []) (idle old) (idle mid) (idle new) refl (inl (admits old (lines.Gc percent) runs refl, (start, refl, refl)))
-          (line_then C state (said lines.Sweep (replies.Collected freed copied)) [] (idle mid) (idle new) (idle new) refl (inl (admits mid lines.Sweep on refl, (sweeps, refl, refl))) refl)
+          line_then C state (collecting percent snapshot) (said lines.Sweep (replies.Collected freed copied) ∷ []) (idle old) (idle mid) (idle new) refl (inl (admits old (lines.Gc percent) runs refl, (start, refl)))
+          (line_then C state (said lines.Sweep (replies.Collected freed copied)) [] (idle mid) (idle new) (idle new) refl (inl (admits mid lines.Sweep on refl, (sweeps, refl))) refl)
 
       module _ (freed copied : ℕ) where
         abbrev lines_swept : List Replied

@@ -28,13 +28,11 @@ use Rattle.gc_sweep.specs.Beginning.{Begins}
 use Rattle.gc_sweep.specs.InTurn.{slot_in_turn}
 use Rattle.gc_sweep.specs.UnderWay.{HasNext, IsSweeping, sources_before}
 use Rattle.gc_sweep.proofs.InSlots.{IsSourceIn, stands_in}
-use Rattle.plain_machine.specs.Collections.{freed_by}
 use Rattle.refusals.specs.declared.refusal.Phase.{Phase}
 use Rattle.refusals.specs.declared.refusal.Refusal.{Refusal}
 use Rattle.script_runner.specs.Acts.{CollectionRun, Collects}
-use Rattle.script_runner.specs.Follows.{HasCounted}
 use Rattle.script_runner.proofs.CollectCauses.{no_end}
-use Rattle.script_runner.proofs.CollectCounts.{copies_by, counted_on, snapshot_on}
+use Rattle.backup_engine.proofs.CollectCounts.{HasCounted, copies_by, counted_on, freed_by, snapshot_on}
 use Rattle.store_model.specs.Freeing.{with_freed}
 use Rattle.store_model.specs.Image.{IsValidFor, Store}
 use Rattle.store_model.specs.Slots.{HasFree, first_free, last_id}

@@ -1,5 +1,5 @@
 -- What `collect` keeps, by what it had a core do, and its lines.
-use Rattle.std.proofs.Common.{inl, inr, ℕ, [], Some, Result, Ok, Err, sym, subst}
+use Rattle.std.proofs.Common.{None, ◌≡◌, inl, inr, ℕ, [], Some, Result, Ok, Err, sym, subst}
 use Rattle.actor_parts.specs.declared.step.Answer.TheVariants as answers
 use Rattle.dd_disk.specs.View.{DiskView, IsLater}
 use Rattle.dd_disk.proofs.Later.{later_on}
@@ -18,13 +18,14 @@ use Rattle.backup_engine.specs.Saying.{RunsSingle}
 use Rattle.backup_engine.specs.Singles.{IsCollect}
 use Rattle.backup_engine.specs.TopCall.{Keeps, ending_in}
 use Rattle.backup_engine.proofs.Called.{Called}
-use Rattle.backup_engine.proofs.CollectKept.{done_any, ends_found, ends_frame, so_begun, stopped_any, unbegun_any, unbegun_found, unbegun_frame, untold_any}
+use Rattle.backup_engine.proofs.CollectKept.{done_any, ends_found, ends_frame, stopped_any, unbegun_any, unbegun_found, unbegun_frame, untold_any}
 use Rattle.backup_engine.proofs.CollectLines.{stopped_run, swept_run, unbegun_run}
 use Rattle.backup_engine.proofs.CollectMap.{done_map, stopped_map, unbegun_map, untold_map}
 use Rattle.backup_engine.proofs.CollectSteps.{collection_later}
 use Rattle.backup_engine.proofs.ListKept.{is_done}
 use Rattle.backup_engine.proofs.Replied.{replied_sent, wrote_sent}
 use Rattle.backup_engine.proofs.Returned.{one_later}
+use Rattle.backup_engine.proofs.ReadSteps.{steps_of}
 
 module _ (C : Type 0) (state : C → CoreState) (v w : DiskView) (old new : C) (called : Called C state v w old new) (percent : ℕ) where
   abbrev KeepsSo : Result Unit Ending → SourceView → SinkView → SinkView → Type 0
@@ -91,18 +92,26 @@ module _ (C : Type 0) (state : C → CoreState) (v w : DiskView) (old new : C) (
     finished result source sink sink_now (inr (freed, copied, (sweeps, writes))) =
         ended freed copied sweeps result source sink sink_now writes
 
-    finished_lines : (result : Result Unit Ending) (sink sink_now : SinkView) → FinishRun C state result mid new sink sink_now → RunsSingle C state (IsCollect percent (ending_in result) sink sink_now) old new
-    finished_lines result sink sink_now (inl (refusal, (sweeps, is))) =
-        stopped_run C state percent old new called.opened.stop_is snapshot mid start (so_begun C state v w old new called percent snapshot mid start).stop_is refusal sweeps result sink sink_now is
-    finished_lines result sink sink_now (inr (freed, copied, (sweeps, writes))) =
-        swept_run C state percent old new called.opened.stop_is snapshot mid start (so_begun C state v w old new called percent snapshot mid start).stop_is freed copied sweeps result sink sink_now writes
-
   pub collect_keeps : (result : Result Unit Ending) (source : SourceView) (sink sink_now : SinkView) → CollectRun C state percent result old new sink sink_now → KeepsSo result source sink sink_now
   collect_keeps result source sink sink_now (inl (refusal, (start, is))) = stopped_so refusal result source sink sink_now (unbegun refusal start source sink) is
   collect_keeps result source sink sink_now (inr (snapshot, (mid, (start, finish)))) = finished snapshot mid start result source sink sink_now finish
 
+-- ---- its lines
+
+module _ (C : Type 0) (state : C → CoreState) (percent : ℕ) (old new : C) (runs : (state old).stop ≡ None) where
+  -- a core that began to collect is not stopped
+  runs_then : (snapshot : ℕ) (mid : C) → Starts C state percent (Ok snapshot) old mid → (state mid).stop ≡ None
+  runs_then snapshot mid start = (steps_of _ (state old) (state mid) runs start.1).stops
+
+  finished_lines : (snapshot : ℕ) (mid : C) → Starts C state percent (Ok snapshot) old mid → (result : Result Unit Ending) (sink sink_now : SinkView) → FinishRun C state result mid new sink sink_now
+      → RunsSingle C state (IsCollect percent (ending_in result) sink sink_now) old new
+  finished_lines snapshot mid start result sink sink_now (inl (refusal, (sweeps, is))) =
+      stopped_run C state percent old new runs snapshot mid start (runs_then snapshot mid start) refusal sweeps result sink sink_now is
+  finished_lines snapshot mid start result sink sink_now (inr (freed, copied, (sweeps, writes))) =
+      swept_run C state percent old new runs snapshot mid start (runs_then snapshot mid start) freed copied sweeps result sink sink_now writes
+
   pub collect_lines : (result : Result Unit Ending) (sink sink_now : SinkView) → CollectRun C state percent result old new sink sink_now → RunsSingle C state (IsCollect percent (ending_in result) sink sink_now) old new
-  collect_lines result sink sink_now (inl (refusal, (start, is))) = unbegun_run C state percent old new called.opened.stop_is refusal start result sink sink_now is
+  collect_lines result sink sink_now (inl (refusal, (start, is))) = unbegun_run C state percent old new runs refusal start result sink sink_now is
   collect_lines result sink sink_now (inr (snapshot, (mid, (start, finish)))) = finished_lines snapshot mid start result sink sink_now finish
 
 -- ---- the disk, later

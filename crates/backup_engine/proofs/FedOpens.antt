@@ -19,7 +19,7 @@ use Rattle.ingest_session.specs.State.{SessionState, HasItem, IsAhead, turn_node
 use Rattle.store_model.specs.Trees.{leaf_key, node_key}
 use Rattle.ingest_session.specs.Told.{told_by}
 use Rattle.ingest_session.proofs.Sealing as sealing
-use Rattle.script_runner.proofs.TurnKept.{one_item}
+use Rattle.ingest_session.proofs.KeptPieces.{one_item}
 use Rattle.ingest_session.proofs.Members.{all_of, in_right}
 use Rattle.backup_engine.specs.Feeding.{opens_of}
 use Rattle.backup_engine.specs.Running.{IsOneOf}

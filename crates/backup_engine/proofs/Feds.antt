@@ -22,7 +22,7 @@ use Rattle.ingest_session.proofs.Members.{in_left, in_right}
 use Rattle.backup_engine.specs.Feeding.{IsFed, MayBe, opens_of}
 use Rattle.backup_engine.specs.Putting.{AreNew, Way}
 use Rattle.backup_engine.specs.Running.{IsOneOf}
-use Rattle.script_runner.proofs.TurnKept.{item_is, kept_absent, kept_held, kept_sealed, one_item}
+use Rattle.ingest_session.proofs.KeptPieces.{item_is, kept_absent, kept_held, kept_sealed, one_item}
 use Rattle.backup_engine.proofs.FedOpens.{one_of_map, opens_held, opens_stay}
 use Rattle.backup_engine.proofs.Ways.{way_as}
 

@@ -14,7 +14,7 @@ use Rattle.disk_format.specs.Cells.{Root}
 use Rattle.merkle_file.specs.declared.top.Top.{Top}
 use Rattle.dd_io.specs.Flow.{SinkView}
 use Rattle.base_model.specs.Known.{Appended}
-use Rattle.plain_machine.specs.Runs.{Replied}
+use Rattle.store_machine.specs.Commands.{Replied}
 use Rattle.refusals.specs.declared.refusal.PartKind.TheVariants as kinds
 use Rattle.refusals.specs.declared.refusal.Refusal.{Refusal}
 use Rattle.reply_text.specs.declared.ending.Ending.{Ending}
@@ -77,14 +77,14 @@ module _ (C : Type 0) (state : C → CoreState) where
 
   bytes_line : (old new : C) (count : ℕ) (buf : List ℕ) → Takes (state old) → CoreStep (state old) (by_first asked.ReadNext (Ok (answers.Bytes count)) buf) (state new)
       → RunsLine C state (lines.Next 0) (replies.Bytes 0 (take count buf)) (idle old) (idle new)
-  bytes_line old new count buf takes step = inl (admits_next old takes, (refl, (count, (buf, (refl, (step, refl, refl))))))
+  bytes_line old new count buf takes step = inl (admits_next old takes, (refl, (count, (buf, (refl, (step, refl))))))
 
   end_line : (old new : C) (buf : List ℕ) → Takes (state old) → CoreStep (state old) (by_first asked.ReadNext (Ok answers.End) buf) (state new) → RunsLine C state (lines.Next 0) (replies.End 0) (idle old) (idle new)
-  end_line old new buf takes step = inl (admits_next old takes, (refl, (buf, (step, refl, refl))))
+  end_line old new buf takes step = inl (admits_next old takes, (refl, (buf, (step, refl))))
 
   refused_line : (old new : C) (buf : List ℕ) (refusal : Refusal) → Takes (state old) → CoreStep (state old) (by_first asked.ReadNext (Err refusal) buf) (state new)
       → RunsLine C state (lines.Next 0) (replies.Refused refusal) (idle old) (idle new)
-  refused_line old new buf refusal takes step = inl (admits_next old takes, (buf, (step, refl, refl)))
+  refused_line old new buf refusal takes step = inl (admits_next old takes, (buf, (step, refl)))
 
   -- it goes on
   still_takes : (e : Event) (count : ℕ) (old new : C) → IsRead e → e.answer ≡ Ok (answers.Bytes count) → Takes (state old) → CoreStep (state old) e (state new) → Takes (state new)
@@ -229,7 +229,7 @@ module _ (C : Type 0) (state : C → CoreState) where
               inr (inl (refl, ap (λ (k : SinkView). k.written) is.sink_is)),
               (
                 idle new,
-                (refl, line_then C state line [] (idle old) (idle new) (idle new) refl (inl (admits_read, ((is.buf, is.asked), refl, refl))) refl),
+                (refl, line_then C state line [] (idle old) (idle new) (idle new) refl (inl (admits_read, ((is.buf, is.asked), refl))) refl),
               ),
             ),
           )
@@ -243,7 +243,7 @@ module _ (C : Type 0) (state : C → CoreState) where
               wrote_as result g.count says.segments says.last (given_to 0 g.reads) sink sink_now says.ends g.wrote g.wrote_last,
               (
                 idle new,
-                (refl, line_then C state (one g.count) more (idle old) (idle g.mid) (idle new) refl (inl (admits_read, (refl, ((g.buf, g.opened), refl, refl)))) says.runs),
+                (refl, line_then C state (one g.count) more (idle old) (idle g.mid) (idle new) refl (inl (admits_read, (refl, ((g.buf, g.opened), refl)))) says.runs),
               ),
             ),
           )

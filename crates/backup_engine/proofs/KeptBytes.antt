@@ -24,7 +24,7 @@ use Rattle.store_model.proofs.Journaled.{SameButJournal, has_journal, has_kept}
 use Rattle.ingest_steps.specs.Recording.{SameButRecord, SameButRecordBy}
 use Rattle.ingest_steps.proofs.Recorded.{cell_of_count}
 use Rattle.ingest_steps.proofs.RecordFrames.{record_alone}
-use Rattle.plain_machine.specs.Content.{SameJournal}
+use Rattle.core_machine.specs.Bytes.{SameJournal}
 use Rattle.backup_engine.specs.Frame.{KeepsOpen}
 use Rattle.backup_engine.specs.Promise.{MayChange}
 use Rattle.backup_engine.proofs.PutChanges.{IsSeal}

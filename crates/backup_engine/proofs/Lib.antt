@@ -9,6 +9,7 @@ pub mod CollectCauses
 pub mod CollectFaults
 pub mod CollectFrame
 pub mod CollectKept
+pub mod CollectCounts
 pub mod CollectLines
 pub mod CollectMap
 pub mod CollectMaps
@@ -26,6 +27,7 @@ pub mod Feds
 pub mod Filling
 pub mod FirstActor
 pub mod Formatting
+pub mod FailsAlone
 pub mod Fresh
 pub mod GiveRuns
 pub mod GivenBack
@@ -38,8 +40,8 @@ pub mod Kept
 pub mod KeptBytes
 pub mod KeptPieces
 pub mod Lending
-pub mod LinesRun
 pub mod ListKept
+pub mod ListScripts
 pub mod Lists
 pub mod ListsFormat
 pub mod Moved
@@ -97,5 +99,4 @@ pub mod WayRefusals
 pub mod WaySeals
 pub mod Ways
 pub mod WholeCall
-pub mod WholeLines
 pub mod WholeMade

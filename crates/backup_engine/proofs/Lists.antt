@@ -3,9 +3,6 @@ use Rattle.std.proofs.Common.{◌≡◌, ◌⊎◌, inl, inr, ℕ, zero, suc, �
 use Rattle.std.specs.List.{AllByRecursion}
 use Rattle.base_model.specs.Known.{KnownWith}
 use Rattle.dd_disk.specs.View.{DiskView, IsDurable}
-use Rattle.plain_machine.specs.Machine.{opened}
-use Rattle.plain_machine.specs.Runs.{IsPassedFrom, Replied}
-use Rattle.plain_machine.specs.Through.{IsOfSome}
 use Rattle.refusals.specs.declared.refusal.Refusal.{Refusal}
 use Rattle.refusals.specs.declared.refusal.Refusal.TheVariants.{Memory, NoFile, BadName, TooMany, TooLong, Full, Clash, WrongPart, Collecting, NotCollecting, DiskRead, DiskWrite, Stopped, Corrupt, Missing, Numbers, NotAStore, Version, Damaged, Unpinned, AlreadyStore, WrongSize}
 use Rattle.reply_text.specs.declared.ending.Ending.{Ending}
@@ -13,18 +10,22 @@ use Rattle.reply_text.specs.declared.ending.Ending.TheVariants.{Words, Source, S
 use Rattle.reply_text.specs.Table.{status_of_refusal}
 use Rattle.store_model.specs.Collisions.{HasNoCollisions, ByteSet, IsIn, AreAmong, IsOf, OpensAs}
 use Rattle.store_model.specs.Files.{Stored, no_files}
-use Rattle.store_model.specs.Image.{empty_store}
+use Rattle.store_model.specs.Image.{Store, empty_store}
+use Rattle.store_machine.specs.Machine.{Found}
+use Rattle.core_machine.specs.Files.{IsOfFound, MayStand, stored_in}
+use Rattle.core_machine.specs.Unopened.{unopened}
+use Rattle.core_machine.proofs.Unopened.{files_begin}
 use Rattle.store_model.specs.Standing.{IsFormatted}
 use Rattle.backup_engine.specs.AnyDisk.{Formats}
 use Rattle.backup_engine.specs.Line.{CommandLine, Format, Ingest, Restore, Delete, Collect, TableLine, Single, Run}
 use Rattle.backup_engine.specs.Line as table
-use Rattle.backup_engine.specs.Lines.{RunsByMachine}
+use Rattle.backup_engine.specs.ByFiles.{RefusedByFiles, RunsByFiles}
 use Rattle.backup_engine.specs.PlainMap.{map_after}
 use Rattle.backup_engine.specs.Promise.{IsLeftAs, MayBeMeanwhile, SinceStart, NothingWritten, Stands}
 use Rattle.backup_engine.specs.TopCall.{Does, DoesNothing, status_by}
-use Rattle.backup_engine.specs.Whole.{KeepsWhole, RunsFrom, RunsNoLine}
-use Rattle.backup_engine.specs.Lists.{AnswersBy, Call, KeepsCall, CallRun, IsGivenAmong, IsPromised, BeginsOfMap, LeadsBy, MayLead, MayPass, LeadsTo, Passed, Possible, RunsByTheMap, ScriptLeads, StandsEmpty, FormatBegins, LeavesPossible, AnswersByTheMap, SurvivesACrash}
-use Rattle.backup_engine.proofs.LinesRun.{passed_last}
+use Rattle.backup_engine.specs.Whole.{KeepsWhole}
+use Rattle.backup_engine.specs.Lists.{AnswersBy, Call, KeepsCall, CallRun, IsGivenAmong, IsPromised, BeginsOfMap, LeadsBy, MayLead, MayPass, LeadsTo, Passed, Possible, RunsByTheMap, StandsEmpty, FormatBegins, LeavesPossible, AnswersByTheMap, SurvivesACrash}
+use Rattle.backup_engine.proofs.ListScripts.{no_lines, passes_of, refused_leads, script_leads}
 use Rattle.backup_engine.proofs.ListsFormat.{formats_nothing}
 use Rattle.backup_engine.proofs.Reading.{same_reads, since_began, since_start}
 
@@ -68,7 +69,8 @@ module _ (S : List ℕ → Type 0) (command : CommandLine) (given : List ℕ) wh
 abbrev pub Answers : (D : Type 0) → (D → DiskView) → Option TableLine → (List ℕ → Type 0) → Call → Stored → DiskView → DiskView → Type 0
 Answers D view None S c m v w = DoesNothing c.ending v w c.source c.source_now c.sink c.sink_now
 Answers D view (Some (Single command)) S c m v w = AnswersBy S command c m v w
-Answers D view (Some Run) S c m v w = RunsFrom D view S c.rs m v w ⊎ RunsNoLine (OpensAs S m) c.ending c.rs v w
+Answers D view (Some Run) S c m v w =
+    (store : Store) × (RunsByFiles S c.rs (unopened m store) v w ⊎ RefusedByFiles S c.ending c.rs (unopened m store) v w)
 
 -- what a command leaves of it, now and meanwhile
 record Leaves (S : List ℕ → Type 0) (command : CommandLine) (c : Call) (m : Stored) (v w : DiskView) : Type 0 where
@@ -98,10 +100,6 @@ module _ (S : List ℕ → Type 0) (P : Stored → Type 0) (c : Call) where
   same_leads : (command : CommandLine) (image : List ℕ) → ((e : Ending) × (c.ending ≡ Some e) × ¬ (e ≡ Sink)) → OfSome S P image → OfSome S (After P (Some (Single command)) c) image
   same_leads command image not_done (next, (has, of)) = (next, ((next, (has, leads_nowhere command c.given c.ending next not_done)), of))
 
-  -- no lines lead to the map as it was
-  no_lines : (rs : List Replied) (m : Stored) → rs ≡ [] → ScriptLeads rs m m
-  no_lines rs m none = subst (λ (l : List Replied). ScriptLeads l m m) (sym none) (record { image = []; faults = 0; last = opened m [] 0; run = refl; found = refl })
-
   module _ (m : Stored) (v w : DiskView) (has : P m) (stands : Stands (OfSome S P) v) where
     line_leads : (command : CommandLine) (image : List ℕ) → IsLeftAs S command c.given m c.ending image → OfSome S (After P (Some (Single command)) c) image
     line_leads command image left = let one = leads_left S command c.given c.ending m image left in (one.0, ((m, (has, one.1.0)), one.1.1))
@@ -111,50 +109,55 @@ module _ (S : List ℕ → Type 0) (P : Stored → Type 0) (c : Call) where
     line_leaves command (inr none) =
         ((stands.0.0, none.content ∙ stands.0.1, same_leads command stands.0.0 none.not_done stands.0.2), λ d is. same_leads command d none.not_done (stands.1 d (none.images d is)))
 
-    -- lines that are a run of the machine, from a content of the files
-    module _ (start : List ℕ) (machine : RunsByMachine S c.rs m start v w) where
-      script_now : (d : List ℕ) → w.images d → OfSome S (After P (Some Run) c) d
-      script_now d is =
-          let found = machine.through.now d is in
-          (found.0, ((m, (has, record { image = start; faults = v.faults; last = machine.last; run = machine.run; found = found.1.0 })), found.1.1))
+    -- lines of a machine that was opened
+    module _ (store : Store) (runs : RunsByFiles S c.rs (unopened m store) v w) where
+      ran_leads : (d : List ℕ) → MayStand S runs.next.machine d → OfSome S (After P (Some Run) c) d
+      ran_leads d may = let led = script_leads S c.rs m store v w runs d may in (led.0, ((m, (has, led.1.0)), led.1.1))
 
-      script_passes : (d : List ℕ) → IsOfSome (OpensAs S) (IsPassedFrom m.last c.rs (opened m start v.faults) machine.last machine.run) d → OfSome S (MayPass (Some Run) c m) d
-      script_passes d passed = (passed.0, (record { image = start; faults = v.faults; last = machine.last; run = machine.run; passed = passed.1.0 }, passed.1.1))
+      ran_stands : Stands (OfSome S (After P (Some Run) c)) w
+      ran_stands = ((runs.stands.content.0, runs.stands.content.1, ran_leads runs.stands.content.0 runs.stands.content.2), λ d is. ran_leads d (runs.stands.images d is))
 
-      script_crash : (d : List ℕ) → SinceStart v w d → OfSome S P d ⊎ OfSome S (MayPass (Some Run) c m) d
-      script_crash d (inl is) =
-          let found = machine.through.now d is in
-          inr (script_passes d (found.0, (passed_last c.rs (opened m start v.faults) machine.last machine.run m.last found.0 (omega (arith, machine.through.many)) found.1.0, found.1.1)))
-      script_crash d (inr since) = elim (machine.through.since v.clock d (omega arith) since.0 since.1) [
+      ran_crash : (d : List ℕ) → SinceStart v w d → OfSome S P d ⊎ OfSome S (MayPass (Some Run) c m) d
+      ran_crash d (inl is) = inr (passes_of S c.rs m store v w runs d (runs.crash.now d is))
+      ran_crash d (inr since) = elim (runs.crash.since v.clock d (omega arith) since.1) [
         | inl was ↦ inl (stands.1 d (v.only_now d since.0 was))
-        | inr passed ↦ inr (script_passes d passed)
+        | inr passed ↦ inr (passes_of S c.rs m store v w runs d passed)
       ]
 
-    -- no line: the files are as they were
-    module _ (none : RunsNoLine (OpensAs S m) c.ending c.rs v w) where
-      none_same : (d : List ℕ) → OpensAs S m d → OfSome S (After P (Some Run) c) d
-      none_same d opens = (m, ((m, (has, no_lines c.rs m none.none)), opens))
+    -- or of one that was not
+    module _ (store : Store) (none : RefusedByFiles S c.ending c.rs (unopened m store) v w) where
+      none_leads : (d : List ℕ) → MayStand S none.next d → OfSome S (After P (Some Run) c) d
+      none_leads d may = let led = refused_leads S c.ending c.rs m store v w none d may in (led.0, ((m, (has, led.1.0)), led.1.1))
 
       none_before : (d : List ℕ) → OfSome S P d → OfSome S (After P (Some Run) c) d
-      none_before d (next, (was, opens)) = (next, ((next, (was, no_lines c.rs next none.none)), opens))
+      none_before d (next, (was, opens)) = (next, ((next, (was, no_lines S c.rs next d opens none.none)), opens))
 
-      none_now : (d : List ℕ) → w.images d → OfSome S (After P (Some Run) c) d
-      none_now d is = elim (none.leaves.now d is) [ inl was ↦ none_before d (stands.1 d was) | inr opens ↦ none_same d opens ]
+      none_stands : Stands (OfSome S (After P (Some Run) c)) w
+      none_stands = (
+        (none.leaves.content.0, none.leaves.content.1, none_leads none.leaves.content.0 none.leaves.content.2),
+        λ d is. elim (none.leaves.images d is) [ inl was ↦ none_before d (stands.1 d was) | inr may ↦ none_leads d may ],
+      )
+
+      -- what might be found before is the map
+      none_same : (d : List ℕ) → v.images d ⊎ IsOfFound S (unopened m store) d → OfSome S P d
+      none_same d (inl was) = stands.1 d was
+      none_same d (inr found) = (m, (has, subst (λ (x : Found (List ℕ)). OpensAs S (stored_in x) d) found.1 found.2))
 
       none_crash : (d : List ℕ) → SinceStart v w d → OfSome S P d
-      none_crash d since = elim (since_began (OpensAs S m) v w none.leaves d since) [ inl was ↦ stands.1 d was | inr opens ↦ (m, (has, opens)) ]
+      none_crash d (inl is) = none_same d (none.crash.now d is)
+      none_crash d (inr since) = elim (none.crash.since v.clock d (omega arith) since.1) [
+        | inl was ↦ stands.1 d (v.only_now d since.0 was)
+        | inr same ↦ none_same d same
+      ]
 
-    script_leaves : (D : Type 0) (view : D → DiskView) → RunsFrom D view S c.rs m v w ⊎ RunsNoLine (OpensAs S m) c.ending c.rs v w → Stands (OfSome S (After P (Some Run) c)) w
-    script_leaves D view (inl from) =
-        let last = from.runs.last.content in
-        let told = from.runs.through.content in
-        ((last, told, script_now from.start from.runs last (w.as_read last told)), script_now from.start from.runs)
-    script_leaves D view (inr none) = ((none.content.0, none.content.1, none_same none none.content.0 none.content.2), none_now none)
+    script_leaves : (store : Store) × (RunsByFiles S c.rs (unopened m store) v w ⊎ RefusedByFiles S c.ending c.rs (unopened m store) v w) → Stands (OfSome S (After P (Some Run) c)) w
+    script_leaves (store, inl runs) = ran_stands store runs
+    script_leaves (store, inr none) = none_stands store none
 
-    script_meanwhile : (D : Type 0) (view : D → DiskView) → RunsFrom D view S c.rs m v w ⊎ RunsNoLine (OpensAs S m) c.ending c.rs v w
+    script_meanwhile : (store : Store) × (RunsByFiles S c.rs (unopened m store) v w ⊎ RefusedByFiles S c.ending c.rs (unopened m store) v w)
         → (d : List ℕ) → SinceStart v w d → OfSome S P d ⊎ OfSome S (MayPass (Some Run) c m) d
-    script_meanwhile D view (inl from) d since = script_crash from.start from.runs d since
-    script_meanwhile D view (inr none) d since = inl (none_crash none d since)
+    script_meanwhile (store, inl runs) d since = ran_crash store runs d since
+    script_meanwhile (store, inr none) d since = inl (none_crash store none d since)
 
     -- what it leaves
     leaves : (D : Type 0) (view : D → DiskView) (line : Option TableLine) → Answers D view line S c m v w → Stands (OfSome S (After P line c)) w
@@ -162,7 +165,7 @@ module _ (S : List ℕ → Type 0) (P : Stored → Type 0) (c : Call) where
         let reads = same_reads v w nothing.disk_is in
         ((stands.0.0, reads.content_is ∙ stands.0.1, words_lead stands.0.0 stands.0.2), λ d is. words_lead d (stands.1 d (reads.images_are d is)))
     leaves D view (Some (Single command)) answers = let left = command_leaves S c m v w command answers in line_leaves command left.left
-    leaves D view (Some Run) runs = script_leaves D view runs
+    leaves D view (Some Run) runs = script_leaves runs
 
     line_crash : (command : CommandLine) (image : List ℕ) → v.images image ⊎ MayBeMeanwhile S command c.given m c.ending image
         → OfSome S P image ⊎ OfSome S (MayPass (Some (Single command)) c m) image
@@ -173,7 +176,7 @@ module _ (S : List ℕ → Type 0) (P : Stored → Type 0) (c : Call) where
     crash_leaves : (D : Type 0) (view : D → DiskView) (line : Option TableLine) → Answers D view line S c m v w → (image : List ℕ) → SinceStart v w image → OfSome S P image ⊎ OfSome S (MayPass line c m) image
     crash_leaves D view None nothing image since = inl (stands.1 image (since_start v w (same_reads v w nothing.disk_is) image since))
     crash_leaves D view (Some (Single command)) answers image since = let left = command_leaves S c m v w command answers in line_crash command image (left.crash image since)
-    crash_leaves D view (Some Run) runs image since = script_meanwhile D view runs image since
+    crash_leaves D view (Some Run) runs image since = script_meanwhile runs image since
 
 -- ---- calls, one after the other
 
@@ -207,7 +210,8 @@ module _ (D : Type 0) (view : D → DiskView) (among : ByteSet) (apart : HasNoCo
   answers_line (Some (Single (Delete name))) c m v w image given told opens does = does.whole image told among m apart given.given opens
   answers_line (Some (Single table.List)) c m v w image given told opens does = does.whole image told among m apart given.given opens
   answers_line (Some (Single (Collect percent))) c m v w image given told opens does = does.whole image told among m apart given.given opens
-  answers_line (Some Run) c m v w image given told opens does = does.lines image told among m apart (λ start. given.cut m start v.faults) opens
+  answers_line (Some Run) c m v w image given told opens does =
+      (opens.store, does.by_files among (unopened m opens.store) apart (given.cut m opens.store) (image, told, files_begin among m image opens))
 
   -- the map that a call finds in the content
   found : (P : Stored → Type 0) (c : Call) (v w : DiskView) → IsGivenAmong (IsIn among) c → Stands (OfSome (IsIn among) P) v → KeepsCall D view c v w

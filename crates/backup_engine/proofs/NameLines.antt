@@ -4,8 +4,8 @@ use Rattle.dd_io.specs.Flow.{SinkView}
 use Rattle.actor_parts.specs.declared.step.Answer.{Answer}
 use Rattle.actor_parts.specs.StepValue as asked
 use Rattle.namespace.specs.Listing.{NamedRoot}
-use Rattle.plain_machine.specs.Refused.{actor_of}
-use Rattle.plain_machine.specs.Runs.{Replied}
+use Rattle.store_machine.specs.Lines.{actor_of}
+use Rattle.store_machine.specs.Commands.{Replied}
 use Rattle.refusals.specs.declared.refusal.Refusal.{Refusal}
 use Rattle.refusals.specs.declared.refusal.Refusal.TheVariants.{Memory}
 use Rattle.reply_text.specs.declared.ending.Ending.{Ending}
@@ -14,9 +14,9 @@ use Rattle.reply_text.specs.Text.{deleted_line, listing_text}
 use Rattle.script_lines.specs.Grammar.{LineValue}
 use Rattle.script_lines.specs.Grammar as lines
 use Rattle.script_lines.specs.ReplyValue as replies
-use Rattle.script_runner.specs.Acts.{Admits, DoesStep, Lists, RefusesStep, RunnerState, moment_of}
-use Rattle.script_runner.specs.Follows.{IsOfActor}
-use Rattle.script_runner.specs.Runner.{Sent, runner_of}
+use Rattle.script_runner.specs.Acts.{Admits, DoesStep, Lists, RefusesStep}
+use Rattle.script_runner.specs.Acts.{IsOfActor}
+use Rattle.script_runner.specs.Runner.{Sent}
 use Rattle.script_runner.specs.Scripts.{AreOfActors, RunsLines}
 use Rattle.store_core.specs.State.{CoreState}
 use Rattle.backup_engine.specs.Naming.{DeleteRun, ListRun, WritesNames}
@@ -59,19 +59,15 @@ module _ (C : Type 0) (state : C → CoreState) (old new : C) (runs : (state old
   abbrev pub next_sequence : ℕ
   next_sequence = min ((state old).tables.journal.last + 1) (2 ^ 64 - 1)
 
-  -- the moment was noted
-  abbrev pub noted : RunnerState C
-  noted = runner_of new no_sessions (moment_of (state new) ∷ [])
-
   module _ (name : List ℕ) where
-    pub deleted_line_run : (answer : Answer) → DoesStep 0 (asked.Delete name) answer (state old) (state new) → RunsLines C state (said (lines.Delete name) (replies.Deleted next_sequence) ∷ []) (idle old) noted
+    pub deleted_line_run : (answer : Answer) → DoesStep 0 (asked.Delete name) answer (state old) (state new) → RunsLines C state (said (lines.Delete name) (replies.Deleted next_sequence) ∷ []) (idle old) (idle new)
     deleted_line_run answer step =
-        line_then C state (said (lines.Delete name) (replies.Deleted next_sequence)) [] (idle old) noted noted refl
-        (inl (admits_all (lines.Delete name) refl, (record { answer = answer; deleted = step; sequence_is = refl; moments_are = refl }, refl))) refl
+        line_then C state (said (lines.Delete name) (replies.Deleted next_sequence)) [] (idle old) (idle new) (idle new) refl
+        (inl (admits_all (lines.Delete name) refl, (record { answer = answer; deleted = step; sequence_is = refl }, refl))) refl
 
     pub undeleted_line_run : (refusal : Refusal) → RefusesStep 0 (asked.Delete name) refusal (state old) (state new) → RunsLines C state (refused (lines.Delete name) refusal ∷ []) (idle old) (idle new)
     undeleted_line_run refusal step =
-        line_then C state (refused (lines.Delete name) refusal) [] (idle old) (idle new) (idle new) refl (inl (admits_all (lines.Delete name) refl, (inr step, refl, refl))) refl
+        line_then C state (refused (lines.Delete name) refusal) [] (idle old) (idle new) (idle new) refl (inl (admits_all (lines.Delete name) refl, (inr step, refl))) refl
 
     replied : (result : Result Unit Ending) (sink sink_now : SinkView) → Sent (deleted_line name) result sink sink_now → IsDelete name (ending_in result) sink sink_now (said (lines.Delete name) (replies.Deleted next_sequence) ∷ [])
     replied (Ok u) sink sink_now sent = ((next_sequence, refl), sent.0)
@@ -80,7 +76,7 @@ module _ (C : Type 0) (state : C → CoreState) (old new : C) (runs : (state old
 
     pub delete_lines : (result : Result Unit Ending) (sink sink_now : SinkView) → DeleteRun C state name (deleted_line name) result old new sink sink_now → RunsSingle C state (IsDelete name (ending_in result) sink sink_now) old new
     delete_lines result sink sink_now (Ok u, (asks, sent)) =
-        (said (lines.Delete name) (replies.Deleted next_sequence) ∷ [], (replied result sink sink_now sent, (noted, (refl, deleted_line_run asks.0 asks.1))))
+        (said (lines.Delete name) (replies.Deleted next_sequence) ∷ [], (replied result sink sink_now sent, (idle new, (refl, deleted_line_run asks.0 asks.1))))
     delete_lines result sink sink_now (Err refusal, (asks, (is, same))) =
         subst (λ (r : Result Unit Ending). RunsSingle C state (IsDelete name (ending_in r) sink sink_now) old new) (sym is)
         (refused (lines.Delete name) refusal ∷ [], ((inr refl, subst (λ (s : SinkView). s.written ≡ sink.written) (sym same) refl), (idle new, (refl, undeleted_line_run refusal asks))))
@@ -89,11 +85,11 @@ module _ (C : Type 0) (state : C → CoreState) (old new : C) (runs : (state old
 
   pub listed_line_run : (files : List NamedRoot) → Lists C state (Ok files) old new → RunsLines C state (said lines.ListNames (replies.Listed files) ∷ []) (idle old) (idle new)
   listed_line_run files listed =
-      line_then C state (said lines.ListNames (replies.Listed files)) [] (idle old) (idle new) (idle new) refl (inl (admits_all lines.ListNames refl, (listed, refl, refl))) refl
+      line_then C state (said lines.ListNames (replies.Listed files)) [] (idle old) (idle new) (idle new) refl (inl (admits_all lines.ListNames refl, (listed, refl))) refl
 
   pub unlisted_line_run : (refusal : Refusal) → Lists C state (Err refusal) old new → RunsLines C state (refused lines.ListNames refusal ∷ []) (idle old) (idle new)
   unlisted_line_run refusal listed =
-      line_then C state (refused lines.ListNames refusal) [] (idle old) (idle new) (idle new) refl (inl (admits_all lines.ListNames refl, (listed, refl, refl))) refl
+      line_then C state (refused lines.ListNames refusal) [] (idle old) (idle new) (idle new) refl (inl (admits_all lines.ListNames refl, (listed, refl))) refl
 
   wrote_names : (files : List NamedRoot) (result : Result Unit Ending) (sink sink_now : SinkView) → Sent (listing_text files) result sink sink_now → IsListing (ending_in result) sink sink_now (said lines.ListNames (replies.Listed files) ∷ [])
   wrote_names files (Ok u) sink sink_now sent = (files, (refl, sent.0))

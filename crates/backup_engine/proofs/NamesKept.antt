@@ -5,7 +5,7 @@ use Rattle.dd_io.specs.Flow.{SourceView, SinkView}
 use Rattle.actor_parts.specs.declared.step.Answer.{Answer}
 use Rattle.actor_parts.specs.StepValue as asked
 use Rattle.namespace.specs.Listing.{NamedRoot}
-use Rattle.plain_machine.specs.Runs.{Replied}
+use Rattle.store_machine.specs.Commands.{Replied}
 use Rattle.refusals.specs.declared.refusal.Refusal.{Refusal}
 use Rattle.reply_text.specs.declared.ending.Ending.{Ending}
 use Rattle.reply_text.specs.declared.ending.Ending.TheVariants.{Refused}
@@ -13,13 +13,12 @@ use Rattle.reply_text.specs.Text.{deleted_line}
 use Rattle.script_lines.specs.Grammar as lines
 use Rattle.script_lines.specs.ReplyValue as replies
 use Rattle.script_runner.specs.Acts.{DoesStep, Lists, RefusesStep}
-use Rattle.script_runner.specs.Opened.{OpenedFollows}
 use Rattle.script_runner.specs.Runner.{Sent}
-use Rattle.script_runner.specs.Scripts.{ScriptsFollow}
+use Rattle.backup_engine.specs.CallsByFiles.{CallsRunByFiles}
 use Rattle.store_core.specs.State.{CoreState}
 use Rattle.backup_engine.specs.Line.{Delete}
 use Rattle.backup_engine.specs.Line as table
-use Rattle.backup_engine.specs.Lines.{RunsEachMap}
+use Rattle.backup_engine.specs.ByFiles.{RunsEachByFiles}
 use Rattle.backup_engine.specs.Naming.{AsksDelete, DeleteRun, ListRun}
 use Rattle.backup_engine.specs.Saying.{idle}
 use Rattle.backup_engine.specs.Singles.{refused, said}
@@ -27,14 +26,14 @@ use Rattle.backup_engine.specs.TopCall.{Keeps, ending_in}
 use Rattle.backup_engine.proofs.Called.{Called}
 use Rattle.backup_engine.proofs.DeleteKept.{done_any, done_frame, undone_any, undone_frame}
 use Rattle.backup_engine.proofs.DeleteMap.{deleted_map, undeleted_map}
-use Rattle.backup_engine.proofs.LinesRun.{lines_run}
+use Rattle.backup_engine.proofs.ByFiles.{called_runs}
 use Rattle.backup_engine.proofs.ListKept.{is_done, not_listed, told_names}
-use Rattle.backup_engine.proofs.NameLines.{deleted_line_run, listed_line_run, next_sequence, noted, one_actor, undeleted_line_run}
+use Rattle.backup_engine.proofs.NameLines.{deleted_line_run, listed_line_run, next_sequence, one_actor, undeleted_line_run}
 use Rattle.backup_engine.proofs.Replied.{replied_sent, wrote_sent}
 use Rattle.backup_engine.proofs.Returned.{one_later}
 
 module _ (D : Type 0) (view : D → DiskView) (C : Type 0) (state : C → CoreState) (before : D) (w : DiskView) (old new : C) (called : Called C state (view before) w old new)
-    (opens : OpenedFollows D view C state) (follows : ScriptsFollow C state) where
+    (runs : CallsRunByFiles D view C state) where
   abbrev v : DiskView
   v = view before
 
@@ -49,9 +48,9 @@ module _ (D : Type 0) (view : D → DiskView) (C : Type 0) (state : C → CoreSt
       abbrev done_lines : List Replied
       done_lines = said (lines.Delete name) (replies.Deleted number) ∷ []
 
-      each_map : (ending : Option Ending) → RunsEachMap ending done_lines v w
+      each_map : (ending : Option Ending) → RunsEachByFiles ending done_lines v w
       each_map ending =
-          lines_run D view C state before w old new called opens follows ending done_lines (idle old) (noted C state old new called.opened.stop_is) refl refl refl
+          called_runs D view C state before w old new called runs ending done_lines (idle old) (idle new) refl refl refl
           (one_actor (lines.Delete name) refl (replies.Deleted number) done_lines refl) (deleted_line_run C state old new called.opened.stop_is name answer step)
 
       deleted : (result : Result Unit Ending) (sink_now : SinkView) → Sent (deleted_line name) result sink sink_now → Keeps (Delete name) [] (ending_in result) v w source source sink sink_now
@@ -73,7 +72,7 @@ module _ (D : Type 0) (view : D → DiskView) (C : Type 0) (state : C → CoreSt
     undeleted refusal step =
         let rs : List Replied = refused (lines.Delete name) refusal ∷ [] in
         let each =
-        lines_run D view C state before w old new called opens follows (Some (Refused refusal)) rs (idle old) (idle new) refl refl refl
+        called_runs D view C state before w old new called runs (Some (Refused refusal)) rs (idle old) (idle new) refl refl refl
         (one_actor (lines.Delete name) refl (replies.Refused refusal) rs refl) (undeleted_line_run C state old new called.opened.stop_is name refusal step) in
         record {
           map = undeleted_map name refusal v w sink each;
@@ -96,7 +95,7 @@ module _ (D : Type 0) (view : D → DiskView) (C : Type 0) (state : C → CoreSt
   list_keeps result source sink sink_now (Ok files, (listed, wrote)) =
       let rs : List Replied = said lines.ListNames (replies.Listed files) ∷ [] in
       told_names C state v w old new called files listed result source sink sink_now wrote
-      (lines_run D view C state before w old new called opens follows (ending_in result) rs (idle old) (idle new) refl refl refl
+      (called_runs D view C state before w old new called runs (ending_in result) rs (idle old) (idle new) refl refl refl
       (one_actor lines.ListNames refl (replies.Listed files) rs refl) (listed_line_run C state old new called.opened.stop_is files listed))
   list_keeps result source sink sink_now (Err refusal, (listed, (is, same))) =
       subst (λ (r : Result Unit Ending). Keeps table.List [] (ending_in r) v w source source sink sink_now) (sym is)

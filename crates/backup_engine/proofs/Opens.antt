@@ -1,28 +1,31 @@
 -- A command that opens a core and closes it then: what the top call says of it, by what it does from the disk on that was read.
-use Rattle.std.proofs.Common.{◌≡◌, inl, inr, List, [], ℕ, Option, Some, refl}
+use Rattle.std.proofs.Common.{◌≡◌, inl, inr, List, [], ℕ, Option, Some, None, replicate, refl, sym, subst}
 use Rattle.std.specs.Borrow.{MutBor}
 use Rattle.dd_disk.specs.Ending.{Done, Reads}
 use Rattle.dd_disk.proofs.Ended.{reads_refused}
 use Rattle.dd_disk.specs.View.{DiskView, IsLater}
 use Rattle.dd_disk.proofs.Later.{later_on}
 use Rattle.dd_io.specs.Flow.{SinkView, SourceView}
-use Rattle.plain_machine.specs.Runs.{Replied}
+use Rattle.store_machine.specs.Commands.{Replied}
 use Rattle.refusals.specs.declared.refusal.Refusal.{Refusal}
 use Rattle.refusals.specs.declared.refusal.Refusal.TheVariants.{Memory}
 use Rattle.reply_text.specs.declared.ending.Ending.{Ending}
 use Rattle.reply_text.specs.declared.ending.Ending.TheVariants.{Refused}
-use Rattle.script_runner.specs.Opened.{OpenedFollows}
+use Rattle.script_runner.specs.Acts.{RunnerState}
+use Rattle.script_runner.specs.Scripts.{AreOfActors, RunsLines}
+use Rattle.actor_parts.specs.declared.actor.TheConstants.{ACTORS}
 use Rattle.store_core.specs.Opening.{IsNotRead, IsReadFrom, OpensCore, OpensNone}
 use Rattle.store_core.specs.State.{CoreState, IsRunning}
 use Rattle.backup_engine.specs.AnyDisk.{Holds, Took}
 use Rattle.backup_engine.specs.Line.{CommandLine}
-use Rattle.backup_engine.specs.Lines.{RunsEachMap}
+use Rattle.backup_engine.specs.CallsByFiles.{CallsRunByFiles}
+use Rattle.backup_engine.specs.Saying.{RunsSingle, idle}
 use Rattle.backup_engine.specs.Running.{IsFresh}
 use Rattle.backup_engine.specs.Script.{KeepsScript}
 use Rattle.backup_engine.specs.Singles.{SpeaksAs}
-use Rattle.backup_engine.specs.ByFiles.{RunsEachByFiles}
+use Rattle.backup_engine.specs.ByFiles.{FailsAlone, RunsEachByFiles}
 use Rattle.backup_engine.specs.TopCall.{DoesCommand, Keeps, RunsScript}
-use Rattle.backup_engine.proofs.ByFiles.{without_memory}
+use Rattle.backup_engine.proofs.ByFiles.{by_files_back, calls_by_files, memory_by_files}
 use Rattle.backup_engine.proofs.Called.{Called}
 use Rattle.backup_engine.proofs.Commanded.{does_here, does_made, does_unmade, does_unread, full_not}
 use Rattle.backup_engine.proofs.Fresh.{fresh}
@@ -30,7 +33,7 @@ use Rattle.backup_engine.proofs.Kept.{later_back}
 use Rattle.backup_engine.proofs.Lending.{below, lent_end, lent_view, made_there}
 use Rattle.backup_engine.proofs.NotDone.{holds}
 use Rattle.backup_engine.proofs.Unlent.{holds as holds_back}
-use Rattle.backup_engine.proofs.WholeLines.{fails_here, fails_made, fails_unmade, fails_unread, lines_here, lines_made, lines_unmade, lines_unread}
+use Rattle.backup_engine.proofs.FailsAlone.{fails_memory}
 use Rattle.backup_engine.proofs.WholeMade.{read_runs}
 
 -- a core that was opened is fresh
@@ -44,38 +47,33 @@ opened_fresh D view v c (inr is) running = fresh (view is.0) c is.1.1.opened is.
 pub record Unread (command : CommandLine) (given : List ℕ) (refusal : Refusal) (v w : DiskView) (source : SourceView) (sink : SinkView) : Type 0 where
   pub keeps : Keeps command given (Some (Refused refusal)) v w source source sink sink
   pub speaks : SpeaksAs command given (Some (Refused refusal)) [] v w source source sink sink
-  pub machine : RunsEachMap (Some (Refused refusal)) [] v w
 
 module _ (D : Type 0) (view : D → DiskView) (refusal : Refusal) (v w : DiskView) (source : SourceView) (sink : SinkView) where
   pub does_none : (command : CommandLine) (given : List ℕ) → Took command given (Some (Refused refusal)) source source
       → ((before : DiskView) → IsNotRead refusal before w → Unread command given refusal before w source sink)
-      → OpensNone D view refusal v w → DoesCommand D view command given [] (Some (Refused refusal)) v w source source sink sink
-  does_none command given took unread (inl is) =
-      let un = unread v is.0 in does_unread D view command given v w source sink refusal is.0 is.1 un.keeps un.speaks
-  does_none command given took unread (inr (inl is)) =
-      let un = unread (view is.0) is.1.1 in does_made D view command given v w source source sink sink [] (Some (Refused refusal)) is.0 is.1.0 un.keeps un.speaks un.machine is.1.1.reads.only.later
-  does_none command given took unread (inr (inr is)) = does_unmade D view command given v w source sink refusal is took
+      → RunsEachByFiles (Some (Refused refusal)) [] v w → OpensNone D view refusal v w → DoesCommand D view command given [] (Some (Refused refusal)) v w source source sink sink
+  does_none command given took unread by_files (inl is) =
+      let un = unread v is.0 in does_unread D view command given v w source sink refusal is.0 is.1 un.keeps un.speaks by_files
+  does_none command given took unread by_files (inr (inl is)) =
+      let un = unread (view is.0) is.1.1 in does_made D view command given v w source source sink sink [] (Some (Refused refusal)) is.0 is.1.0 un.keeps un.speaks by_files is.1.1.reads.only.later
+  does_none command given took unread by_files (inr (inr is)) = does_unmade D view command given v w source sink refusal is took by_files
 
   pub runs_none : ((before : DiskView) → IsNotRead refusal before w → KeepsScript [] (Some (Refused refusal)) before w source source sink sink)
-      → RunsEachByFiles (Some (Refused refusal)) [] v w → OpensNone D view refusal v w → RunsScript D view [] (Some (Refused refusal)) v w source source sink sink
-  runs_none unread by_files (inl is) = record {
-    lines = lines_unread D view refusal v w is.0 is.1;
+      → RunsEachByFiles (Some (Refused refusal)) [] v w → FailsAlone (Some (Refused refusal)) [] v → OpensNone D view refusal v w
+      → RunsScript D view [] (Some (Refused refusal)) v w source source sink sink
+  runs_none unread by_files alone (inl is) = record {
     by_files = by_files;
-    fails_alone = fails_unread D view refusal v w is.0 is.1;
+    fails_alone = alone;
     way = inl (inl (unread v is.0, λ free same. absurd (full_not refusal free same is.1)));
   }
-  runs_none unread by_files (inr (inl is)) =
-      let kept = unread (view is.0) is.1.1 in
-      record {
-        lines = lines_made D view (Some (Refused refusal)) [] v is.0 is.1.0 w kept.machine;
-        by_files = by_files;
-        fails_alone = fails_made D view (Some (Refused refusal)) [] v is.0 is.1.0 kept.fails_alone;
-        way = inl (inr (is.0, (is.1.0, is.1.1.reads.only.later, kept)));
-      }
-  runs_none unread by_files (inr (inr is)) = record {
-    lines = lines_unmade D view refusal v w is;
+  runs_none unread by_files alone (inr (inl is)) = record {
     by_files = by_files;
-    fails_alone = fails_unmade D view refusal v w is;
+    fails_alone = alone;
+    way = inl (inr (is.0, (is.1.0, is.1.1.reads.only.later, unread (view is.0) is.1.1)));
+  }
+  runs_none unread by_files alone (inr (inr is)) = record {
+    by_files = by_files;
+    fails_alone = alone;
     way = inr (record { refusal = refusal; ending_is = refl; unmade = is; none = refl; source_is = refl; sink_is = refl });
   }
 
@@ -90,14 +88,13 @@ unbegun v = record {
 pub does_without_memory : (D : Type 0) (view : D → DiskView) (v : DiskView) (source : SourceView) (sink : SinkView) (command : CommandLine) (given : List ℕ)
     → Keeps command given (Some (Refused Memory)) v v source source sink sink → SpeaksAs command given (Some (Refused Memory)) [] v v source source sink sink
     → DoesCommand D view command given [] (Some (Refused Memory)) v v source source sink sink
-does_without_memory D view v source sink command given keeps speaks = does_unread D view command given v v source sink Memory (unbegun v) tt keeps speaks
+does_without_memory D view v source sink command given keeps speaks = does_unread D view command given v v source sink Memory (unbegun v) tt keeps speaks (memory_by_files v)
 
 pub runs_without_memory : (D : Type 0) (view : D → DiskView) (v : DiskView) (source : SourceView) (sink : SinkView) → KeepsScript [] (Some (Refused Memory)) v v source source sink sink
     → RunsScript D view [] (Some (Refused Memory)) v v source source sink sink
 runs_without_memory D view v source sink keeps = record {
-  lines = lines_unread D view Memory v v (unbegun v) tt;
-  by_files = without_memory v;
-  fails_alone = fails_unread D view Memory v v (unbegun v) tt;
+  by_files = memory_by_files v;
+  fails_alone = fails_memory v;
   way = inl (inl (keeps, λ free same. absurd (full_not Memory free same tt)));
 }
 
@@ -111,7 +108,7 @@ module _ (D : Type 0) (view : D → DiskView) (C : Type 0) (state : C → CoreSt
   end = lent_end D view first n w
 
   -- (by `opens` a caller tells C and its state)
-  module _ (opens : OpenedFollows (MutBor D) lent C state) (running : IsRunning (state old)) (last : Reads Done (state new).disk end) (clock : end.clock ≡ (state new).disk.clock)
+  module _ (opens : CallsRunByFiles (MutBor D) lent C state) (running : IsRunning (state old)) (last : Reads Done (state new).disk end) (clock : end.clock ≡ (state new).disk.clock)
       (between : IsLater (state old).disk (state new).disk) where
     abbrev called : (before : MutBor D) → IsReadFrom (lent before) (state old) → Called C state (lent before) end old new
     called before read = record { opened = read.opened; running = running; durable = read.durable; first = read.reads; last = last; clock = clock }
@@ -135,40 +132,43 @@ module _ (D : Type 0) (view : D → DiskView) (C : Type 0) (state : C → CoreSt
     read_holds : (before : MutBor D) → IsReadFrom (lent before) (state old) → Holds (view before.now) w
     read_holds before read = holds_back _ _ (view before.now) w (holds C state (lent before) end old new (called before read) to_end)
 
-    module _ (command : CommandLine) (given : List ℕ) (ending : Option Ending) (source source_now : SourceView) (sink sink_now : SinkView) where
+    -- its lines, over all of the call
+    pub runs_back : OpensCore (MutBor D) lent (lent first) (state old) → (ending : Option Ending) (rs : List Replied) (r s : RunnerState C) → r.core ≡ old → r.sessions ≡ replicate ACTORS None → new ≡ s.core
+        → AreOfActors rs → RunsLines C state rs r s → RunsEachByFiles ending rs (view first.now) w
+    runs_back opened ending rs r s begins fresh ends actors runs =
+        by_files_back _ _ (view first.now) w ending rs
+        (calls_by_files (MutBor D) lent C state opens first end ending rs r s (subst (λ (c : C). OpensCore (MutBor D) lent (lent first) (state c)) (sym begins) opened) (subst (λ (c : C). Reads Done (state c).disk end) ends last) fresh actors runs)
+
+    pub single_back : OpensCore (MutBor D) lent (lent first) (state old) → (AreSo : List Replied → Type 0) (ending : Option Ending) (run : RunsSingle C state AreSo old new) → ((rs : List Replied) → AreSo rs → AreOfActors rs)
+        → RunsEachByFiles ending run.0 (view first.now) w
+    single_back opened AreSo ending run actors = runs_back opened ending run.0 (idle old) run.1.1.0 refl refl (sym run.1.1.1.0) (actors run.0 run.1.0) run.1.1.1.1
+
+    module _ (command : CommandLine) (given : List ℕ) (ending : Option Ending) (source source_now : SourceView) (sink sink_now : SinkView) (rs : List Replied)
+        (by_files : RunsEachByFiles ending rs (view first.now) w) where
       -- What it does from the disk on that was read.
       abbrev pub Goes : MutBor D → Type 0
-      Goes before = (rs : List Replied) × (Keeps command given ending (view before.now) w source source_now sink sink_now
-          × SpeaksAs command given ending rs (view before.now) w source source_now sink sink_now × RunsEachMap ending rs (view before.now) w)
+      Goes before = Keeps command given ending (view before.now) w source source_now sink sink_now × SpeaksAs command given ending rs (view before.now) w source source_now sink sink_now
 
       pub does_opened : OpensCore (MutBor D) lent (lent first) (state old) → ((before : MutBor D) → Called C state (lent before) end old new → Goes before)
-          → (rs : List Replied) × DoesCommand D view command given rs ending (view first.now) w source source_now sink sink_now
+          → DoesCommand D view command given rs ending (view first.now) w source source_now sink sink_now
       does_opened (inl read) goes =
           let went = goes first (called first read) in
-          (went.0, does_here D view command given (view first.now) w source source_now sink sink_now went.0 ending (read_runs (lent first) (state old) read) went.1.0 went.1.1 went.1.2 (read_holds first read))
+          does_here D view command given (view first.now) w source source_now sink sink_now rs ending (read_runs (lent first) (state old) read) went.0 went.1 by_files (read_holds first read)
       does_opened (inr is) goes =
           let went = goes is.0 (called is.0 is.1.1) in
-          (went.0, does_made D view command given (view first.now) w source source_now sink sink_now went.0 ending is.0.now (made_there D view first is.0 is.1.0) went.1.0 went.1.1 went.1.2 (made_later is.0 is.1.1))
+          does_made D view command given (view first.now) w source source_now sink sink_now rs ending is.0.now (made_there D view first is.0 is.1.0) went.0 went.1 by_files (made_later is.0 is.1.1)
 
     module _ (rs : List Replied) (ending : Option Ending) (source source_now : SourceView) (sink sink_now : SinkView) where
-      pub runs_opened : OpensCore (MutBor D) lent (lent first) (state old) → RunsEachByFiles ending rs (view first.now) w
+      pub runs_opened : OpensCore (MutBor D) lent (lent first) (state old) → RunsEachByFiles ending rs (view first.now) w → FailsAlone ending rs (view first.now)
           → ((before : MutBor D) → Called C state (lent before) end old new → KeepsScript rs ending (view before.now) w source source_now sink sink_now)
           → RunsScript D view rs ending (view first.now) w source source_now sink sink_now
-      runs_opened (inl read) by_files goes =
-          let kept = goes first (called first read) in
-          let runs = read_runs (lent first) (state old) read in
-          record {
-            lines = lines_here D view ending rs (view first.now) w runs kept.machine;
-            by_files = by_files;
-            fails_alone = fails_here D view ending rs (view first.now) w runs kept.fails_alone;
-            way = inl (inl (kept, λ free is. read_holds first read));
-          }
-      runs_opened (inr is) by_files goes =
-          let kept = goes is.0 (called is.0 is.1.1) in
-          let made = made_there D view first is.0 is.1.0 in
-          record {
-            lines = lines_made D view ending rs (view first.now) is.0.now made w kept.machine;
-            by_files = by_files;
-            fails_alone = fails_made D view ending rs (view first.now) is.0.now made kept.fails_alone;
-            way = inl (inr (is.0.now, (made, made_later is.0 is.1.1, kept)));
-          }
+      runs_opened (inl read) by_files alone goes = record {
+        by_files = by_files;
+        fails_alone = alone;
+        way = inl (inl (goes first (called first read), λ free is. read_holds first read));
+      }
+      runs_opened (inr is) by_files alone goes = record {
+        by_files = by_files;
+        fails_alone = alone;
+        way = inl (inr (is.0.now, (made_there D view first is.0 is.1.0, made_later is.0 is.1.1, goes is.0 (called is.0 is.1.1))));
+      }

@@ -1,13 +1,13 @@
 -- Lines of single commands, run over a core one after the other.
 use Rattle.std.proofs.Common.{◌≡◌, ◌∙◌, ◌+◌, ℕ, true, false, List, [], ◌∷◌, ◌++◌, length, Some, None, refl, sym, ap, subst, arith, append_assoc, append-nil, length-append}
-use Rattle.plain_machine.specs.Refused.{actor_of, takes}
-use Rattle.plain_machine.specs.Runs.{Replied, ends}
+use Rattle.store_machine.specs.Lines.{actor_of, takes}
+use Rattle.store_machine.specs.Commands.{Replied, ends}
 use Rattle.refusals.specs.declared.refusal.PartKind.{PartKind}
 use Rattle.script_lines.specs.Grammar.{LineValue, pushed_bytes}
 use Rattle.script_lines.specs.Grammar as lines
 use Rattle.script_lines.specs.ReplyValue as replies
 use Rattle.script_runner.specs.Acts.{Admits, RunnerState, RunsLine}
-use Rattle.script_runner.specs.Follows.{IsOfActor}
+use Rattle.script_runner.specs.Acts.{IsOfActor}
 use Rattle.script_runner.specs.Scripts.{AreOfActors, RunsLines}
 use Rattle.script_runner.specs.Sessions.{Sessions, kind_in}
 use Rattle.store_core.specs.State.{CoreState}

@@ -9,7 +9,7 @@ use Rattle.hex.specs.Hex.{IsBytes, encode_lower, is_hex_digit}
 use Rattle.hex.proofs.HexLemmas.{decode_of-encode_lower, decode_of-ok}
 use Rattle.actor_parts.specs.declared.step.Answer.{Answer}
 use Rattle.dd_io.specs.Flow.{SourceView}
-use Rattle.plain_machine.specs.Runs.{Replied}
+use Rattle.store_machine.specs.Commands.{Replied}
 use Rattle.refusals.specs.declared.refusal.Refusal.{Refusal}
 use Rattle.script_lines.specs.Grammar.{pushed_bytes}
 use Rattle.script_lines.specs.Grammar as lines

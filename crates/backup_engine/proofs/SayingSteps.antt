@@ -1,5 +1,5 @@
 -- Lines by which the first actor gives a file, each by what was done of it.
-use Rattle.std.proofs.Common.{◌≡◌, inl, ◌∙◌, ◌<◌, ℕ, ◌+◌, ◌-◌, ◌^◌, min, false, true, Option, Some, None, List, [], ◌∷◌, length, Ok, Err, refl, sym, ap, subst, arith}
+use Rattle.std.proofs.Common.{◌≡◌, inl, ◌∙◌, ◌<◌, ℕ, ◌+◌, ◌-◌, ◌^◌, min, false, true, Option, Some, None, List, length, Ok, Err, refl, sym, ap, subst, arith}
 use Rattle.std.proofs.lemmas.List.{set-set, length-replicate}
 use Rattle.actor_parts.specs.declared.actor.TheConstants.{ACTORS}
 use Rattle.actor_parts.specs.declared.part.Part.{Part}
@@ -20,7 +20,7 @@ use Rattle.ingest_session.specs.State.{SessionState}
 use Rattle.store_core.specs.Core.{CoreStep}
 use Rattle.store_core.specs.State.{CoreState}
 use Rattle.session_turns.specs.Turns.{Feeds, TurnRun}
-use Rattle.script_runner.specs.Acts.{Admits, DoesStep, IsReady, Replaces, RefusesPut, RunnerState, RunsLine, moment_of}
+use Rattle.script_runner.specs.Acts.{Admits, DoesStep, IsReady, Replaces, RefusesPut, RunnerState, RunsLine}
 use Rattle.script_runner.specs.Runner.{runner_of}
 use Rattle.script_runner.specs.Sessions.{has_ended, kind_by, kind_in, session_of, with_session}
 use Rattle.script_runner.proofs.Lists.{set_here}
@@ -66,7 +66,7 @@ module _ (C : Type 0) (state : C → CoreState) where
   begin_line old new s answer buf fresh step begun has =
       inl (
         admits (lines.Begin 0) no_sessions (state old) kinds.Idle fresh.runs refl (kind_without (state old).parts parts.Idle (idle_of (state old) fresh)) refl,
-        (refl, ((answer, s, (buf, step), begun, has, refl), refl)),
+        (refl, (answer, s, (buf, step), begun, has, refl)),
       )
 
   -- the next sequence number, and the runner once the name is put
@@ -74,7 +74,7 @@ module _ (C : Type 0) (state : C → CoreState) where
   sequence_after c = min (c.tables.journal.last + 1) (2 ^ 64 - 1)
 
   abbrev pub committed : C → C → SessionState → RunnerState C
-  committed old new s = runner_of new (with_session (giving old s).sessions 0 None) (moment_of (state new) ∷ [])
+  committed old new s = runner_of new (with_session (giving old s).sessions 0 None)
 
   -- the end was refused: nothing changed
   pub finish_refused : (old : C) (s t : SessionState) (refusal : Refusal) → (state old).stop ≡ None → s.ended ≡ false → IsFinishAnswer s (Err refusal) → t ≡ s
@@ -82,7 +82,7 @@ module _ (C : Type 0) (state : C → CoreState) where
   finish_refused old s t refusal runs off answer same =
       inl (
         admits (lines.Finish 0) (giving old s).sessions (state old) kinds.Writing runs refl (kind_writing old s (state old).parts off) refl,
-        ((only_memory s refusal (ap Some off) answer, ap (λ (u : SessionState). (giving old u).sessions) same, refl), refl),
+        (only_memory s refusal (ap Some off) answer, ap (λ (u : SessionState). (giving old u).sessions) same, refl),
       )
 
   module _ (old new : C) (s t : SessionState) (runs : (state old).stop ≡ None) where
@@ -95,21 +95,21 @@ module _ (C : Type 0) (state : C → CoreState) where
       push_line count feeds count_is =
           inl (
             admits (lines.Push 0 digits) (giving old s).sessions (state old) kinds.Writing runs refl (kind_writing old s (state old).parts off) refl,
-            (refl, ((s, t, replaces old new s t, feeds_so (Ok tt) feeds, count_is), refl)),
+            (refl, (s, t, replaces old new s t, feeds_so (Ok tt) feeds, count_is)),
           )
 
       pub push_refused : (refusal : Refusal) → Feeds C state actor (Err refusal) piece s t old new → RunsLine C state (lines.Push 0 digits) (replies.Refused refusal) (giving old s) (giving new t)
       push_refused refusal feeds =
           inl (
             admits (lines.Push 0 digits) (giving old s).sessions (state old) kinds.Writing runs refl (kind_writing old s (state old).parts off) refl,
-            ((s, t, replaces old new s t, feeds_so (Err refusal) feeds), refl),
+            (s, t, replaces old new s t, feeds_so (Err refusal) feeds),
           )
 
     pub finish_line : (count : ℕ) → IsEnding s t → ((h : History) → HasHistory s h → HasHistory t h) → count ≡ t.count → RunsLine C state (lines.Finish 0) (replies.Finished 0 count) (giving old s) (giving old t)
     finish_line count ending history count_is =
         inl (
           admits (lines.Finish 0) (giving old s).sessions (state old) kinds.Writing runs refl (kind_writing old s (state old).parts ending.ongoing) refl,
-          (refl, ((s, t, replaces old old s t, ending, history, count_is, refl), refl)),
+          (refl, (s, t, replaces old old s t, ending, history, count_is, refl)),
         )
 
     module _ (on : s.ended ≡ true) (name : List ℕ) where
@@ -117,7 +117,7 @@ module _ (C : Type 0) (state : C → CoreState) where
       commit_taken = admits (lines.Commit 0 name) (giving old s).sessions (state old) kinds.Finished runs refl (kind_finished old s (state old).parts on) refl
 
       pub commit_refused : (refusal : Refusal) → RefusesPut C state 0 name refusal s t old new → RunsLine C state (lines.Commit 0 name) (replies.Refused refusal) (giving old s) (giving new t)
-      commit_refused refusal refuses = inl (commit_taken, ((s, t, replaces old new s t, refuses), refl))
+      commit_refused refusal refuses = inl (commit_taken, (s, t, replaces old new s t, refuses))
 
       pub commit_line : (ready : SessionState) (mid : C) (answers_are : List Answer) (root : Root) (answer : Answer) → TurnRun C state 0 answers_are s ready old mid → IsReady root ready
           → DoesStep 0 (asked.Commit name root) answer (state mid) (state new)
@@ -140,7 +140,6 @@ module _ (C : Type 0) (state : C → CoreState) where
                   answer = answer;
                   put = put;
                   sequence_is = refl;
-                  moments_are = refl;
                 },
                 refl,
               ),

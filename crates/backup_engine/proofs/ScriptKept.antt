@@ -1,5 +1,5 @@
 -- What `run` keeps, from the lines that were run.
-use Rattle.std.proofs.Common.{◌≡◌, ◌⊎◌, inl, inr, ℕ, List, [], ◌∷◌, ◌++◌, IsTrue, Option, Some, None, Result, replicate, refl, sym, ◌∙◌, subst, arith}
+use Rattle.std.proofs.Common.{◌≡◌, ◌⊎◌, inl, inr, ℕ, List, [], ◌∷◌, ◌++◌, Option, Some, None, Result, replicate, refl, sym, ◌∙◌, subst, arith}
 use Rattle.dd_disk.specs.Ending.{CountsFault, ending_of}
 use Rattle.dd_disk.specs.Shows.{Shows}
 use Rattle.dd_disk.specs.View.{CrashLeaves, DiskView, IsLater, OnlyReads}
@@ -8,13 +8,9 @@ use Rattle.dd_disk.proofs.Shows.{until}
 use Rattle.base_model.specs.Known.{KnownWith}
 use Rattle.dd_io.specs.Flow.{SourceView, SinkView}
 use Rattle.actor_parts.specs.declared.actor.TheConstants.{ACTORS}
-use Rattle.plain_machine.specs.Machine as plain
-use Rattle.plain_machine.specs.Machine.{Machine, RunState, Running, Stopped}
-use Rattle.plain_machine.specs.Refused as machine
-use Rattle.plain_machine.specs.Runs.{MachineRun, Replied, Step, StepBy}
 use Rattle.recovery.specs.Opening.{IsOpenRefusal}
 use Rattle.refusals.specs.declared.refusal.Refusal.{Refusal}
-use Rattle.refusals.specs.declared.refusal.Refusal.TheVariants.{Memory, DiskRead, DiskWrite}
+use Rattle.refusals.specs.declared.refusal.Refusal.TheVariants.{Memory, DiskWrite}
 use Rattle.reply_text.specs.declared.ending.Ending.{Ending}
 use Rattle.reply_text.specs.declared.ending.Ending.TheVariants.{Refused}
 use Rattle.script_lines.specs.Grammar as lines
@@ -25,31 +21,29 @@ use Rattle.script_lines.specs.ReplyValue.{ReplyValue}
 use Rattle.script_runner.specs.Acts.{RefusesReopen, RunnerState, RunsLine}
 use Rattle.script_runner.specs.AnyDisk.{LinesGiveWhatIsNamed, LinesGoOn}
 use Rattle.script_runner.specs.Frame.{IsOnContent, LinesKeepWritten, NeverSweeps, OpenedIsOn}
+use Rattle.store_machine.specs.Commands.{Replied}
 use Rattle.script_runner.specs.Named.{Account, AllTell, CountFaults, GiveWhatIsNamed, Tells, WasOpened, WasShown, opened}
-use Rattle.script_runner.specs.Opened.{OpenedFollows}
-use Rattle.script_runner.specs.Scripts.{RunsLines, ScriptsFollow}
+use Rattle.backup_engine.specs.CallsByFiles.{CallsRunByFiles}
+use Rattle.script_runner.specs.Scripts.{RunsLines}
 use Rattle.script_runner.specs.Frame.{KeepsOver}
 use Rattle.store_core.specs.Opening.{OpensNone}
 use Rattle.store_core.specs.State.{CoreState}
-use Rattle.store_model.specs.Collisions.{IsIn, IsOf}
-use Rattle.store_model.specs.Files.{Stored}
 use Rattle.store_model.specs.Image.{Store, Encodes}
-use Rattle.store_state.specs.Refused.{blames, fails}
+use Rattle.store_state.specs.Refused.{blames}
 use Rattle.ingest_session.proofs.Members.{all_then}
 use Rattle.backup_engine.specs.AnyDisk.{ReadsSince}
 use Rattle.backup_engine.specs.Frame.{KeepsAll, LinesKeepOthers}
-use Rattle.backup_engine.specs.Lines.{RunsByMachine, RunsEachMap, RunsNone}
 use Rattle.backup_engine.specs.Promise.{LeavesMeanwhile}
 use Rattle.backup_engine.specs.Script as script
 use Rattle.backup_engine.specs.Reopening.{HasNoRoom}
-use Rattle.backup_engine.specs.Script.{CountsLines, FailsAlone, HasLast, IsNotReopened, IsRunRefusal, IsScriptEnd, KeepsScript, WroteReplies}
+use Rattle.backup_engine.specs.Script.{CountsLines, HasLast, IsNotReopened, IsRunRefusal, IsScriptEnd, KeepsScript, WroteReplies}
 use Rattle.backup_engine.specs.ScriptRuns.{EndsReopening, ScriptRun}
 use Rattle.backup_engine.specs.TopCall.{ending_in}
 use Rattle.backup_engine.proofs.WholeCall.{leaves_more, leaves_of}
 use Rattle.backup_engine.proofs.Called.{Called}
 use Rattle.backup_engine.proofs.GiveRuns.{written_none}
-use Rattle.backup_engine.proofs.LinesRun.{lines_run}
-use Rattle.backup_engine.proofs.NotDone.{IsUnopened, map_fails}
+use Rattle.backup_engine.proofs.FailsAlone.{EndsAlone}
+use Rattle.backup_engine.proofs.NotDone.{IsUnopened}
 use Rattle.backup_engine.proofs.Reading.{reads_leave}
 use Rattle.backup_engine.proofs.UnlikeCopies.{shown_since}
 use Rattle.backup_engine.proofs.Reopened.{room_cause, room_so}
@@ -76,19 +70,7 @@ module _ (Shown More : Store → Type 0) (each : (store : Store) → Shown store
 
 -- ---- no line was run
 
-module _ (v w : DiskView) (refusal : Refusal) (only : OnlyReads v w) (counted : CountsFault (ending_of (blames refusal)) v.faults w.faults) (cause : IsOpenRefusal (Shows v w) v.size refusal)
-    (alone : (S : List ℕ → Type 0) (m : Stored) (image : List ℕ) → v.content ≡ Some image → IsOf S m image → IsTrue (fails refusal)) where
-  pub none_run : RunsEachMap (Some (Refused refusal)) [] v w
-  none_run = λ image told among m distinct cut is. inr (record {
-    none = refl;
-    refusal = refusal;
-    ending_is = refl;
-    failed = alone (IsIn among) m image told is;
-    content = only.content_is;
-    images = only.images_are;
-    since = only.since_are;
-  })
-
+module _ (v w : DiskView) (refusal : Refusal) (only : OnlyReads v w) (counted : CountsFault (ending_of (blames refusal)) v.faults w.faults) (cause : IsOpenRefusal (Shows v w) v.size refusal) where
   module _ (source : SourceView) (sink : SinkView) (laws : ReadsTellScripts) where
     caused_by : (r : Refusal) → IsOpenRefusal (Shows v w) v.size r → IsScriptEnd (IsRunRefusal [] v w source source) (Some (Refused r)) [] source source sink sink
     caused_by Memory is = tt
@@ -100,8 +82,6 @@ module _ (v w : DiskView) (refusal : Refusal) (only : OnlyReads v w) (counted : 
 
     pub none_kept : KeepsScript [] (Some (Refused refusal)) v w source source sink sink
     none_kept = record {
-      machine = none_run;
-      fails_alone = λ image told among m distinct cut is r same. let one : refusal ≡ r = cc in subst (λ (x : Refusal). IsTrue (fails x)) one (alone (IsIn among) m image told is);
       begins = laws.so_far source.left source.left [] fresh_reader (laws.fresh source.left);
       stops = tt;
       caused = caused_by refusal cause;
@@ -118,11 +98,11 @@ module _ (v w : DiskView) (refusal : Refusal) (only : OnlyReads v w) (counted : 
 
 -- there was no memory before the store was opened
 pub no_memory_kept : (v : DiskView) (source : SourceView) (sink : SinkView) → ReadsTellScripts → KeepsScript [] (Some (Refused Memory)) v v source source sink sink
-no_memory_kept v source sink laws = none_kept v v Memory (reads_here v) refl tt (λ S m image told is. refl) source sink laws
+no_memory_kept v source sink laws = none_kept v v Memory (reads_here v) refl tt source sink laws
 
 -- it was not opened
 pub unopened_kept : (v w : DiskView) (refusal : Refusal) → IsUnopened v w refusal → (source : SourceView) (sink : SinkView) → ReadsTellScripts → KeepsScript [] (Some (Refused refusal)) v w source source sink sink
-unopened_kept v w refusal is source sink laws = none_kept v w refusal is.reads.only is.reads.faults_are is.cause (map_fails v w refusal is) source sink laws
+unopened_kept v w refusal is source sink laws = none_kept v w refusal is.reads.only is.reads.faults_are is.cause source sink laws
 
 -- ---- lines were run
 
@@ -132,7 +112,7 @@ no_last (one ∷ before) last is = cc
 
 counts_lines : (ending : Option Ending) (rs : List Replied) (source source_now : SourceView) (sink sink_now : SinkView) (before now : ℕ) → IsScriptEnd (EndsReopening rs) ending rs source source_now sink sink_now
     → CountFaults rs before now → CountsLines ending rs before now
-counts_lines (Some (Refused Memory)) [] source source_now sink sink_now before now end counts = counts.stays refl
+counts_lines (Some (Refused Memory)) [] source source_now sink sink_now before now end counts = counts
 counts_lines (Some (Refused refusal)) [] source source_now sink sink_now before now end counts = absurd (no_last end.0 _ end.1.are)
 counts_lines (Some (Refused refusal)) (one ∷ more) source source_now sink sink_now before now end counts = counts
 counts_lines ending rs source source_now sink sink_now before now end counts = counts
@@ -143,28 +123,7 @@ ends_so A B each (Some (Refused Memory)) rs source source_now sink sink_now end 
 ends_so A B each (Some (Refused refusal)) rs source source_now sink sink_now end = each refusal end
 ends_so A B each ending rs source source_now sink sink_now end = end
 
--- ---- refusals of a machine's run
-
-reopen_fails : (refusal : Refusal) (m n : Machine) → machine.RefusesReopen refusal m n → IsTrue (fails refusal)
-reopen_fails Memory m n is = refl
-reopen_fails DiskRead m n is = refl
-reopen_fails DiskWrite m n is = refl
-reopen_fails refusal m n is = absurd is
-
-step_fails : (refusal : Refusal) (state : RunState) (m n : Machine) → StepBy state lines.Reopen (replies.Refused refusal) m n → IsTrue (fails refusal)
-step_fails refusal Running m n is = reopen_fails refusal m n is
-step_fails refusal (Stopped other) m n is = reopen_fails refusal m n is
-
-last_step : (before : List Replied) (last : Replied) (m n : Machine) → MachineRun (before ++ last ∷ []) m n → (mid : Machine) × Step last.line last.reply mid n
-last_step [] last m n run = (m, subst (λ (x : Machine). Step last.line last.reply m x) (sym run.1.1.1) run.1.1.0)
-last_step (one ∷ before) last m n run = last_step before last run.1.0 n run.1.1.1
-
--- a refusal that ends a run is want of memory, or that of a `reopen`
-refused_alone : (rs : List Replied) (m n : Machine) → MachineRun rs m n → (refusal : Refusal) → (refusal ≡ Memory) ⊎ EndsReopening rs refusal → IsTrue (fails refusal)
-refused_alone rs m n run refusal (inl memory) = subst (λ (x : Refusal). IsTrue (fails x)) (sym memory) refl
-refused_alone rs m n run refusal (inr ends) =
-    let last = last_step ends.0 (record { line = lines.Reopen; reply = replies.Refused refusal }) m n (subst (λ (l : List Replied). MachineRun l m n) ends.1.are run) in
-    step_fails refusal last.0.state last.0 n last.1.0
+-- ---- refusals
 
 ended_by : (rs : List Replied) (refusal : Refusal) (source source_now : SourceView) (sink sink_now : SinkView) → IsScriptEnd (EndsReopening rs) (Some (Refused refusal)) rs source source_now sink sink_now
     → (refusal ≡ Memory) ⊎ EndsReopening rs refusal
@@ -175,6 +134,13 @@ by_refusal : (rs : List Replied) (refusal : Refusal) (ending : Option Ending) �
     → IsScriptEnd (EndsReopening rs) ending rs source source_now sink sink_now → (refusal ≡ Memory) ⊎ EndsReopening rs refusal
 by_refusal rs refusal ending is source source_now sink sink_now end =
     ended_by rs refusal source source_now sink sink_now (subst (λ (e : Option Ending). IsScriptEnd (EndsReopening rs) e rs source source_now sink sink_now) is end)
+
+-- so a refusal ends it only where there was no memory, or as a `reopen` was refused
+pub ends_alone : (rs : List Replied) (ending : Option Ending) (source source_now : SourceView) (sink sink_now : SinkView) → IsScriptEnd (EndsReopening rs) ending rs source source_now sink sink_now → EndsAlone ending rs
+ends_alone rs ending source source_now sink sink_now end refusal is = elim (by_refusal rs refusal ending is source source_now sink sink_now end) [
+  | inl memory ↦ inl memory
+  | inr last ↦ inr (last.0, last.1.are)
+]
 
 runs_split : (C : Type 0) (state : C → CoreState) (before : List Replied) (last : Replied) (r s : RunnerState C) → RunsLines C state (before ++ last ∷ []) r s
     → (mid : RunnerState C) × (RunsLines C state before r mid × RunsLine C state last.line last.reply mid s)
@@ -189,7 +155,7 @@ runs_split C state (one ∷ before) last r s runs =
     no_more others is = absurd (no_last others last (sym is))
 
 module _ (D : Type 0) (view : D → DiskView) (C : Type 0) (state : C → CoreState) (before : D) (w : DiskView) (r s : RunnerState C) (called : Called C state (view before) w r.core s.core)
-    (opens : OpenedFollows D view C state) (follows : ScriptsFollow C state) (go_on : LinesGoOn C state) (give : LinesGiveWhatIsNamed D view C state) (is_on : OpenedIsOn D view C state) (keep : LinesKeepWritten C state) (fresh : r.sessions ≡ replicate ACTORS None)
+    (go_on : LinesGoOn C state) (give : LinesGiveWhatIsNamed D view C state) (is_on : OpenedIsOn D view C state) (keep : LinesKeepWritten C state) (fresh : r.sessions ≡ replicate ACTORS None)
     (result : Result Unit Ending) (source source_now : SourceView) (sink sink_now : SinkView) (run : ScriptRun C state result r s source source_now sink sink_now) where
   abbrev v : DiskView
   v = view before
@@ -299,22 +265,11 @@ module _ (D : Type 0) (view : D → DiskView) (C : Type 0) (state : C → CoreSt
         cause = cause_in_call split.0 (go_on ends.0 r split.0 split.1.0).later refusal split.1.1.0;
       })
 
-  abbrev runs_each : RunsEachMap (ending_in result) run.rs v w
-  runs_each = lines_run D view C state before w r.core s.core called opens follows (ending_in result) run.rs r s refl fresh refl run.actors run.runs
-
-  run_fails : FailsAlone (ending_in result) run.rs v
-  run_fails = λ image told among m distinct cut is refusal ended. elim (runs_each image told among m distinct cut is) [
-    | inl machine ↦ refused_alone run.rs (plain.opened m image v.faults) machine.last machine.run refusal (by_refusal run.rs refusal (ending_in result) ended source source_now sink sink_now run.caused)
-    | inr none ↦ let same : none.refusal ≡ refusal = let both = sym none.ending_is ∙ ended in cc in subst (λ (x : Refusal). IsTrue (fails x)) same none.failed
-  ]
-
   -- what is kept, and that the disk is the same one, later
   pub run_kept : IsLater v w × KeepsScript run.rs (ending_in result) v w source source_now sink sink_now
   run_kept = (
     run_later,
     record {
-      machine = runs_each;
-      fails_alone = run_fails;
       begins = run.begins;
       stops = run.stops;
       caused = ends_so (EndsReopening run.rs) (IsRunRefusal run.rs v w source source_now) reopening (ending_in result) run.rs source source_now sink sink_now run.caused;
@@ -336,39 +291,6 @@ module _ (loans loans_now : List ℕ) (v w : DiskView) where
   abbrev lent_now : DiskView
   lent_now = record w { loans = loans_now }
 
-  runs_none : (ending : Option Ending) (rs : List Replied) → RunsNone ending rs lent lent_now → RunsNone ending rs v w
-  runs_none ending rs is = record {
-    none = is.none;
-    refusal = is.refusal;
-    ending_is = is.ending_is;
-    failed = is.failed;
-    content = is.content;
-    images = is.images;
-    since = is.since;
-  }
-
-  runs_machine : (S : List ℕ → Type 0) (rs : List Replied) (m : Stored) (image : List ℕ) → RunsByMachine S rs m image lent lent_now → RunsByMachine S rs m image v w
-  runs_machine S rs m image is = record {
-    last = is.last;
-    run = is.run;
-    moments = is.moments;
-    through = record {
-      many = is.through.many;
-      rise = is.through.rise;
-      since = is.through.since;
-      crash = is.through.crash;
-      now = is.through.now;
-      content = is.through.content;
-      faults = is.through.faults;
-    };
-  }
-
-  pub machine_unlent : (ending : Option Ending) (rs : List Replied) → RunsEachMap ending rs lent lent_now → RunsEachMap ending rs v w
-  machine_unlent ending rs each = λ image told among m distinct cut is. elim (each image told among m distinct cut is) [
-    | inl machine ↦ inl (runs_machine (IsIn among) rs m image machine)
-    | inr none ↦ inr (runs_none ending rs none)
-  ]
-
   cause_unlent : (refusal : Refusal) → IsOpenRefusal (ReadsSince lent lent_now) v.size refusal ⊎ HasNoRoom (ReadsSince lent lent_now) v.size refusal → IsOpenRefusal (ReadsSince v w) v.size refusal ⊎ HasNoRoom (ReadsSince v w) v.size refusal
   cause_unlent refusal (inl is) = inl (open_refusal (ReadsSince lent lent_now) (ReadsSince v w) (reads loans loans_now v w) v.size refusal is)
   cause_unlent refusal (inr is) = inr (room_so (ReadsSince lent lent_now) (ReadsSince v w) v.size (reads loans loans_now v w) refusal is)
@@ -385,8 +307,6 @@ module _ (loans loans_now : List ℕ) (v w : DiskView) where
   pub script_back : (rs : List Replied) (ending : Option Ending) (source source_now : SourceView) (sink sink_now : SinkView) → KeepsScript rs ending lent lent_now source source_now sink sink_now
       → KeepsScript rs ending v w source source_now sink sink_now
   script_back rs ending source source_now sink sink_now is = record {
-    machine = machine_unlent ending rs is.machine;
-    fails_alone = is.fails_alone;
     begins = is.begins;
     stops = is.stops;
     caused = ends_so (IsRunRefusal rs lent lent_now source source_now) (IsRunRefusal rs v w source source_now) (λ refusal. not_opened refusal rs source source_now) ending rs source source_now sink sink_now is.caused;
@@ -404,7 +324,7 @@ called_by C state v w old new first last called begins ends =
     subst (λ (c : C). Called C state v w c last) (sym begins) (subst (λ (c : C). Called C state v w old c) ends called)
 
 -- (by `opens` a caller tells C and its state)
-pub later_by : (D : Type 0) (view : D → DiskView) (C : Type 0) (state : C → CoreState) → OpenedFollows D view C state → (old new first last : C) → first ≡ old → new ≡ last
+pub later_by : (D : Type 0) (view : D → DiskView) (C : Type 0) (state : C → CoreState) → CallsRunByFiles D view C state → (old new first last : C) → first ≡ old → new ≡ last
     → IsLater (state first).disk (state last).disk → IsLater (state old).disk (state new).disk
 later_by D view C state opens old new first last begins ends later =
     subst (λ (c : C). IsLater (state c).disk (state new).disk) begins (subst (λ (c : C). IsLater (state first).disk (state c).disk) (sym ends) later)

@@ -4,7 +4,7 @@ use Rattle.std.proofs.lemmas.List.{append-nil, length-append}
 use Rattle.std.proofs.lemmas.Slice.Zip.{AllZip-long}
 use Rattle.std.specs.List.{AllByRecursion, flat_map}
 use Rattle.actor_parts.specs.declared.actor.TheConstants.{ACTORS}
-use Rattle.plain_machine.specs.Runs.{Replied, ends}
+use Rattle.store_machine.specs.Commands.{Replied, ends}
 use Rattle.script_lines.specs.Grammar.{LineValue, IsLine, Begin, Push, Finish, Turn, Commit, Abort, Read, Next, Drop, Delete, ListNames, Stat, Reopen, Gc, GcStep, Sweep}
 use Rattle.refusals.specs.declared.refusal.Refusal.{Refusal}
 use Rattle.reply_text.specs.declared.ending.Ending.{Ending}
@@ -14,7 +14,7 @@ use Rattle.script_lines.specs.declared.script.TheConstants.{MOST_SCRIPT}
 use Rattle.script_lines.specs.Reader.{HasRead, ReaderState}
 use Rattle.script_lines.specs.Script.{IsRightLine, ended, number_after}
 use Rattle.script_runner.specs.Acts.{RunnerState, RunsLine}
-use Rattle.script_runner.specs.Follows.{IsOfActor}
+use Rattle.script_runner.specs.Acts.{IsOfActor}
 use Rattle.script_runner.specs.Scripts.{AreOfActors, RunsLines}
 use Rattle.store_core.specs.State.{CoreState}
 use Rattle.backup_engine.specs.Lines.{lines_of, printed}

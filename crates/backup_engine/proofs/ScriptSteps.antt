@@ -5,7 +5,7 @@ use Rattle.std.proofs.lemmas.List.{append-nil, length-append}
 use Rattle.base_model.specs.Fault.{Rose}
 use Rattle.base_model.specs.Known.{Appended}
 use Rattle.dd_io.specs.Flow.{SourceView, SinkView, AppendedPart}
-use Rattle.plain_machine.specs.Runs.{Replied, ends}
+use Rattle.store_machine.specs.Commands.{Replied, ends}
 use Rattle.refusals.specs.declared.refusal.Refusal.{Refusal}
 use Rattle.refusals.specs.declared.refusal.Refusal.TheVariants.{Memory}
 use Rattle.reply_text.specs.declared.ending.Ending.{Ending}

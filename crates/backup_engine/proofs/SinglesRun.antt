@@ -1,10 +1,8 @@
--- The lines of a single command are a run of the plain machine.
+-- The lines of a single command: of which actor they are, and which they are.
 use Rattle.std.proofs.Common.{inl, inr, ◌+◌, ℕ, List, [], ◌∷◌, length, Option, Some, None, refl, sym, subst}
 use Rattle.dd_disk.specs.View.{DiskView}
-use Rattle.dd_disk.specs.Shows.{Shows}
-use Rattle.dd_disk.proofs.Later.{reads_here}
 use Rattle.dd_io.specs.Flow.{SinkView, SourceView}
-use Rattle.plain_machine.specs.Runs.{Replied}
+use Rattle.store_machine.specs.Commands.{Replied}
 use Rattle.refusals.specs.declared.refusal.Refusal.{Refusal}
 use Rattle.refusals.specs.declared.refusal.Refusal.TheVariants.{Memory}
 use Rattle.reply_text.specs.declared.ending.Ending.{Ending}
@@ -12,17 +10,10 @@ use Rattle.reply_text.specs.declared.ending.Ending.TheVariants.{Source, Sink, Re
 use Rattle.script_lines.specs.Grammar.{pushed_bytes}
 use Rattle.script_lines.specs.Grammar as lines
 use Rattle.script_lines.specs.ReplyValue as replies
-use Rattle.script_runner.specs.Opened.{OpenedFollows}
-use Rattle.script_runner.specs.Scripts.{AreOfActors, ScriptsFollow}
-use Rattle.store_core.specs.State.{CoreState}
-use Rattle.backup_engine.specs.Saying.{RunsSingle, idle}
+use Rattle.script_runner.specs.Scripts.{AreOfActors}
 use Rattle.backup_engine.specs.Singles.{Digits, IsIngest, IsRestore, ReadsFile, Speaks, StopsAt, StoresFile, finish_lines, next_lines, push_lines, pushed, refused, said}
-use Rattle.backup_engine.proofs.Called.{Called}
-use Rattle.backup_engine.proofs.LinesRun.{lines_run}
-use Rattle.backup_engine.proofs.NotDone.{IsUnopened, map_fails}
+use Rattle.backup_engine.proofs.NotDone.{IsUnopened}
 use Rattle.backup_engine.proofs.Saying.{all_of_actors, of_first}
-use Rattle.backup_engine.proofs.ScriptKept.{machine_unlent, none_run}
-use Rattle.backup_engine.proofs.Unlent.{open_refusal, shows}
 
 -- ---- each line is of the first actor
 
@@ -71,52 +62,12 @@ restore_actors name (Some (Refused refusal)) sink sink_now rs (inr (inl (is, wro
 restore_actors name (Some (Refused refusal)) sink sink_now rs (inr (inr (segments, (reads, wrote)))) = read_actors name segments (refused (lines.Next 0) refusal) rs (of_first (lines.Next 0) refl, tt) reads
 restore_actors name (Some ending) sink sink_now rs is = absurd is
 
--- ---- a command over a core that was opened
-
-module _ (D : Type 0) (view : D → DiskView) (C : Type 0) (state : C → CoreState) (before : D) (w : DiskView) (old new : C) (called : Called C state (view before) w old new)
-    (opens : OpenedFollows D view C state) (follows : ScriptsFollow C state) where
-  pub run_speaks : (AreSo : List Replied → Type 0) (ending : Option Ending) (sink sink_now : SinkView) → ((rs : List Replied) → AreSo rs → AreOfActors rs) → RunsSingle C state AreSo old new
-      → (rs : List Replied) × Speaks AreSo ending rs (view before) w sink sink_now
-  run_speaks AreSo ending sink sink_now actors run = (
-    run.0,
-    record {
-      lines_are = inl run.1.0;
-      machine = lines_run D view C state before w old new called opens follows ending run.0 (idle old) run.1.1.0 refl refl run.1.1.1.0 (actors run.0 run.1.0) run.1.1.1.1;
-    },
-  )
-
--- ---- no line was run
+-- ---- what is said
 
 -- the store was not opened
 pub unopened_speaks : (AreSo : List Replied → Type 0) (v w : DiskView) (refusal : Refusal) → IsUnopened v w refusal → (sink : SinkView) → Speaks AreSo (Some (Refused refusal)) [] v w sink sink
-unopened_speaks AreSo v w refusal is sink = record {
-  lines_are = inr (record { refusal = refusal; ending_is = refl; none = refl; cause = is.cause; wrote = refl });
-  machine = none_run v w refusal is.reads.only is.reads.faults_are is.cause (map_fails v w refusal is);
-}
+unopened_speaks AreSo v w refusal is sink = inr (record { refusal = refusal; ending_is = refl; none = refl; cause = is.cause; wrote = refl })
 
 -- there was no memory before the store was opened
 pub unbegun_speaks : (AreSo : List Replied → Type 0) (v : DiskView) (sink : SinkView) → AreSo [] → Speaks AreSo (Some (Refused Memory)) [] v v sink sink
-unbegun_speaks AreSo v sink none = record {
-  lines_are = inl none;
-  machine = none_run v v Memory (reads_here v) refl tt (λ S m image told is. refl);
-}
-
--- ---- a disk that was lent
-
-module _ (loans loans_now : List ℕ) (v w : DiskView) where
-  abbrev lent : DiskView
-  lent = record v { loans = loans }
-
-  abbrev lent_now : DiskView
-  lent_now = record w { loans = loans_now }
-
-  pub speaks_back : (AreSo : List Replied → Type 0) (ending : Option Ending) (rs : List Replied) (sink sink_now : SinkView) → Speaks AreSo ending rs lent lent_now sink sink_now → Speaks AreSo ending rs v w sink sink_now
-  speaks_back AreSo ending rs sink sink_now speaks = record {
-    lines_are = elim speaks.lines_are [
-      | inl right ↦ inl right
-      | inr is ↦
-          let cause = open_refusal (Shows lent lent_now) (Shows v w) (shows loans loans_now v w) v.size is.refusal is.cause in
-          inr (record { refusal = is.refusal; ending_is = is.ending_is; none = is.none; cause = cause; wrote = is.wrote })
-    ];
-    machine = machine_unlent loans loans_now v w ending rs speaks.machine;
-  }
+unbegun_speaks AreSo v sink none = inl none

@@ -15,7 +15,7 @@ use Rattle.store_core.specs.Core.{CoreStep}
 use Rattle.store_core.specs.State.{CoreState, IsRunning}
 use Rattle.ingest_session.specs.History.{History, HasHistory, IsBegun, no_history}
 use Rattle.ingest_session.specs.State.{SessionState}
-use Rattle.plain_machine.specs.Runs.{Replied}
+use Rattle.store_machine.specs.Commands.{Replied}
 use Rattle.script_lines.specs.Grammar as lines
 use Rattle.script_lines.specs.ReplyValue as replies
 use Rattle.script_runner.specs.Acts.{DoesStep, IsReady, RefusesPut, RunnerState, RunsLine}

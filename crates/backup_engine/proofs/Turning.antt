@@ -34,7 +34,7 @@ use Rattle.ingest_session.proofs.Members.{all_of}
 use Rattle.backup_engine.specs.Feeding.{IsFed, MayBe, Stops, opens_of}
 use Rattle.backup_engine.specs.Putting.{AreNew}
 use Rattle.backup_engine.specs.Running.{IsOneOf}
-use Rattle.script_runner.proofs.TurnKept.{item_is, one_item}
+use Rattle.ingest_session.proofs.KeptPieces.{item_is, one_item}
 use Rattle.backup_engine.proofs.FedOpens.{left_differs, opens_absent}
 use Rattle.backup_engine.proofs.Feds.{fed_absent, fed_held, fed_sealed}
 use Rattle.backup_engine.proofs.KeptPieces as pieces

@@ -41,7 +41,7 @@ use Rattle.backup_engine.specs.PlainMap.{HasNoRoomForName, HasPieces, HasTwins, 
 use Rattle.backup_engine.specs.Putting.{Way, length_in}
 use Rattle.backup_engine.specs.Running.{HoldsPieces, IsOneOf, IsPutRefusal, IsPutStep, PutRun}
 use Rattle.backup_engine.proofs.FirstActor.{by_first, kept_represents, no_other, steps_of}
-use Rattle.script_runner.proofs.TurnRootPieces.{HasRootPiece, root_piece}
+use Rattle.store_machine.proofs.RootPieces.{HasRootPiece, root_piece}
 use Rattle.backup_engine.proofs.KeptPieces.{key_of_piece, kept_pieces, long_as_piece, twins}
 use Rattle.backup_engine.proofs.WayClaims.{same_pins}
 use Rattle.backup_engine.proofs.Ways.{file_event, put_step, with_last}

@@ -18,8 +18,8 @@ use Rattle.store_model.specs.Steps.{HasCellsFor, with_change}
 use Rattle.store_core.specs.Frame.{HadContainer}
 use Rattle.ingest_steps.specs.Naming.{StandsStill}
 use Rattle.reply_text.specs.declared.ending.Ending.{Ending}
-use Rattle.plain_machine.specs.Content.{SameJournal}
-use Rattle.plain_machine.specs.Runs.{Replied}
+use Rattle.store_machine.specs.Commands.{Replied}
+use Rattle.core_machine.specs.Bytes.{SameJournal}
 use Rattle.script_runner.specs.Frame.{KeepsOver, NeverSweeps}
 use Rattle.backup_engine.specs.Line.{CommandLine, Format, Ingest, Restore, Delete, Collect}
 use Rattle.backup_engine.specs.Line as table

@@ -1,6 +1,7 @@
 pub mod Adding
 pub mod AnyDisk
 pub mod ByFiles
+pub mod CallsByFiles
 pub mod Collected
 pub mod Collecting
 pub mod Frame

@@ -1,17 +1,28 @@
 -- What holds of calls of `backup`, one after the other over one disk (docs/MODEL.md, 'Lists of commands').
-use Rattle.std.specs.Prelude.{◌≡◌, ◌⊎◌, ℕ, List, [], ◌∷◌, ◌++◌, Option, None, Some}
+use Rattle.std.specs.Prelude.{◌≡◌, ◌⊎◌, ℕ, List, [], ◌∷◌, ◌++◌, Option, None, Some, Ok}
 use Rattle.std.specs.List.{AllByRecursion}
 use Rattle.base_model.specs.Known.{Known, KnownWith}
 use Rattle.dd_disk.specs.View.{DiskView, IsDurable}
 use Rattle.dd_io.specs.Flow.{SourceView, SinkView}
-use Rattle.plain_machine.specs.Machine.{Machine, MayBeFound, opened}
-use Rattle.plain_machine.specs.Runs.{IsPassedFrom, MachineRun, Replied}
 use Rattle.refusals.specs.declared.refusal.Refusal.TheVariants.{DiskWrite}
 use Rattle.reply_text.specs.declared.ending.Ending.{Ending}
 use Rattle.reply_text.specs.declared.ending.Ending.TheVariants.{Sink, Refused}
-use Rattle.script_runner.specs.Scripts.{IsCutBy}
+use Rattle.script_lines.specs.Grammar as lines
+use Rattle.script_lines.specs.ReplyValue.{ReplyValue}
+use Rattle.script_runner.specs.LinesAreFileRuns.{FileDesk, IsCutBy}
+use Rattle.script_runner.specs.LinesAreRuns.{Passes}
 use Rattle.store_model.specs.Collisions.{HasNoCollisions, ByteSet, IsIn, IsOf, OpensAs}
 use Rattle.store_model.specs.Files.{Stored, no_files}
+use Rattle.store_model.specs.Image.{Store}
+use Rattle.store_machine.specs.ByMap.{FileMachine}
+use Rattle.store_machine.specs.Commands.{Lines, Replied, desk, run_of}
+use Rattle.store_machine.specs.Done as done
+use Rattle.store_machine.specs.Machine.{Found, Stepped}
+use Rattle.store_machine.specs.Opening.{MayBeFound}
+use Rattle.store_machine.specs.Values.{of_files}
+use Rattle.core_machine.specs.FileOpenings.{Reopens}
+use Rattle.core_machine.specs.Files.{stored_in}
+use Rattle.core_machine.specs.Unopened.{unopened}
 use Rattle.store_model.specs.Standing.{IsSegmentOf}
 use Rattle.backup_engine.specs.AnyDisk.{Formats}
 use Rattle.backup_engine.specs.Line.{CommandLine, Format, TableLine, Single, Run}
@@ -19,7 +30,9 @@ use Rattle.backup_engine.specs.PlainMap.{map_after, CanBeDone}
 use Rattle.backup_engine.specs.Promise.{KeepsMap, NothingWritten, SinceStart, Stands}
 use Rattle.backup_engine.specs.Seen.{Seen}
 use Rattle.backup_engine.specs.TopCall.{Promise, Does, AreNoted, status_by}
-use Rattle.backup_engine.specs.Whole.{KeepsWhole, RunsFrom, RunsNoLine}
+use Rattle.backup_engine.specs.ByFiles.{RefusedByFiles, RunsByFiles}
+use Rattle.backup_engine.specs.Singles.{said}
+use Rattle.backup_engine.specs.Whole.{KeepsWhole}
 
 -- One call: the line that its words are, if they are one; its status; source, sink and notes before and after. And, as the
 -- promise has it, how it ended, what its source gave, and which lines of a script were run.
@@ -75,21 +88,29 @@ LeadsBy command given (Some Sink) m next = next ≡ map_after command given m
 LeadsBy command given (Some (Refused DiskWrite)) m next = (next ≡ m) ⊎ (CanBeDone command given m × (next ≡ map_after command given m))
 LeadsBy command given (Some ending) m next = next ≡ m
 
--- Lines of a script lead to the files that may be found at the last machine of their run.
+-- The lines of a script, its opening first, as lines of the machine that has these files and is not open yet.
+pub record IsScriptOf (rs : List Replied) (m : Stored) : Type 0 where
+  pub store : Store
+  -- what the opening replied
+  pub first : ReplyValue
+  pub steps : List (Stepped (List ℕ))
+  pub last : FileDesk
+  pub lines_are : Lines of_files (said lines.Reopen first ∷ rs) steps (desk (unopened m store)) last
+
+-- They lead to the files that may be found at the last machine of their run.
 pub record ScriptLeads (rs : List Replied) (m next : Stored) : Type 0 where
-  pub image : List ℕ
-  pub faults : ℕ
-  pub last : Machine
-  pub run : MachineRun rs (opened m image faults) last
-  pub found : MayBeFound last.state last.stored next
+  pub script : IsScriptOf rs m
+  pub found : Found (List ℕ)
+  pub may : MayBeFound of_files script.last.machine.state script.last.machine.now found
+  pub next_is : next ≡ stored_in found
 
 -- On the way they come by those that may be found at each machine of it.
-pub record ScriptPasses (rs : List Replied) (m found : Stored) : Type 0 where
-  pub image : List ℕ
-  pub faults : ℕ
-  pub last : Machine
-  pub run : MachineRun rs (opened m image faults) last
-  pub passed : IsPassedFrom m.last rs (opened m image faults) last run found
+pub record ScriptPasses (rs : List Replied) (m next : Stored) : Type 0 where
+  pub script : IsScriptOf rs m
+  pub found : Found (List ℕ)
+  pub passed : Passes of_files (λ n. MayBeFound of_files n.state n.now found) script.steps (unopened m script.store) script.last.machine
+      (run_of of_files (said lines.Reopen script.first ∷ rs) script.steps (desk (unopened m script.store)) script.last script.lines_are)
+  pub next_is : next ≡ stored_in found
 
 -- words that are no line lead to the map as it was
 abbrev pub MayLead : Option TableLine → Call → Stored → Stored → Type 0
@@ -130,7 +151,8 @@ FormatBegins D view = (among : ByteSet) (slots : ℕ) (c : Call) (old new : D) �
 -- What a call is given, and what is cut of it on the way, is among S.
 pub record IsGivenAmong (S : List ℕ → Type 0) (c : Call) : Type 0 where
   pub given : (bytes : List ℕ) → IsSegmentOf c.given bytes → S bytes
-  pub cut : (m : Stored) (image : List ℕ) (faults : ℕ) (bytes : List ℕ) → IsCutBy c.rs (opened m image faults) bytes → S bytes
+  pub cut : (m : Stored) (store : Store) (files : ℕ) (opened : FileMachine) (bytes : List ℕ)
+      → Reopens 0 (Ok (done.Reopened files)) (unopened m store) opened → IsCutBy c.rs (desk opened) bytes → S bytes
 
 -- No two different data segments of S have one digest, and those that the calls are given are among S. The disk tells its
 -- content, and that and each image are of the map m.
@@ -171,8 +193,8 @@ RunsByTheMap D view = (among : ByteSet) (m : Stored) (calls : List Call) (last :
     → BeginsOfMap (IsIn among) (calls ++ last ∷ []) m (view old) → CallRun D view calls old mid
     → KeepsCall D view last (view mid) (view new) → last.line ≡ Some Run
     → (found : Stored) × (LeadsTo calls m found × KnownWith (view mid).content (OpensAs (IsIn among) found)
-    × (RunsFrom D view (IsIn among) last.rs found (view mid) (view new)
-    ⊎ RunsNoLine (OpensAs (IsIn among) found) last.ending last.rs (view mid) (view new)))
+    × ((store : Store) × (RunsByFiles (IsIn among) last.rs (unopened found store) (view mid) (view new)
+    ⊎ RefusedByFiles (IsIn among) last.ending last.rs (unopened found store) (view mid) (view new))))
 
 -- A crash since the last began leaves what those before it may lead to, or what the last may have come to: so each that was done before
 -- is there.

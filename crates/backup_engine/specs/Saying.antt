@@ -1,12 +1,12 @@
 -- The lines that single commands are, run over a core, on the way (docs/MODEL.md, 'Commands').
-use Rattle.std.specs.Prelude.{◌≡◌, ℕ, true, List, [], replicate, Some, None, Result, Ok, Err}
+use Rattle.std.specs.Prelude.{◌≡◌, ℕ, true, List, replicate, Some, None, Result, Ok, Err}
 use Rattle.actor_parts.specs.declared.actor.TheConstants.{ACTORS}
 use Rattle.actor_parts.specs.declared.step.Answer.{Answer}
 use Rattle.actor_parts.specs.StepValue as asked
 use Rattle.dd_io.specs.Flow.{SourceView}
 use Rattle.disk_format.specs.Cells.{Root}
 use Rattle.ingest_session.specs.State.{SessionState}
-use Rattle.plain_machine.specs.Runs.{Replied}
+use Rattle.store_machine.specs.Commands.{Replied}
 use Rattle.refusals.specs.declared.refusal.Refusal.{Refusal}
 use Rattle.reply_text.specs.declared.ending.Ending.{Ending}
 use Rattle.reply_text.specs.declared.ending.Ending.TheVariants.{Source, Refused}
@@ -23,11 +23,11 @@ no_sessions = replicate ACTORS None
 
 -- no actor gives a file
 abbrev pub idle : {C : Type 0} → C → RunnerState C
-idle core = runner_of core no_sessions []
+idle core = runner_of core no_sessions
 
 -- the first actor gives a file, and no other one does
 abbrev pub giving : {C : Type 0} → C → SessionState → RunnerState C
-giving core s = runner_of core (with_session no_sessions 0 (Some s)) []
+giving core s = runner_of core (with_session no_sessions 0 (Some s))
 
 -- Lines of which P holds were run, from where no actor gave a file.
 abbrev pub RunsSingle : (C : Type 0) → (C → CoreState) → (List Replied → Type 0) → C → C → Type 0

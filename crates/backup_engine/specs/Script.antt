@@ -1,13 +1,12 @@
 -- What `run` promises: the lines of a script, their replies, and how it ends (docs/MODEL.md, 'From the machine to `backup`').
-use Rattle.std.specs.Prelude.{◌≡◌, ◌⊎◌, ℕ, ◌≤◌, IsTrue, List, [], ◌∷◌, ◌++◌, length, take, Option, Some, None}
+use Rattle.std.specs.Prelude.{◌≡◌, ◌⊎◌, ℕ, ◌≤◌, List, [], ◌∷◌, ◌++◌, length, take, Option, Some, None}
 use Rattle.base_model.specs.Fault.{Rose}
 use Rattle.base_model.specs.Known.{Known, Appended}
 use Rattle.dd_disk.specs.Ending.{CountsFault, ending_of}
 use Rattle.dd_disk.specs.Shows.{Shows}
 use Rattle.dd_disk.specs.View.{DiskView}
 use Rattle.dd_io.specs.Flow.{SourceView, SinkView}
-use Rattle.plain_machine.specs.Machine.{opened}
-use Rattle.plain_machine.specs.Runs.{Replied}
+use Rattle.store_machine.specs.Commands.{Replied}
 use Rattle.recovery.specs.Opening.{IsOpenRefusal}
 use Rattle.refusals.specs.declared.refusal.Refusal.{Refusal}
 use Rattle.refusals.specs.declared.refusal.Refusal.TheVariants.{Memory}
@@ -21,13 +20,10 @@ use Rattle.script_lines.specs.Script.{Begins, Breaks, HasNoLineEnd, IsScript, Ov
 use Rattle.script_lines.specs.declared.script.TheConstants.{MOST_LINE}
 use Rattle.script_runner.specs.Named.{CountFaults, GiveWhatIsNamed, WasOpened, WasShown}
 use Rattle.script_runner.specs.Runner.{IsAcknowledged}
-use Rattle.script_runner.specs.Scripts.{IsCutBy}
-use Rattle.store_model.specs.Collisions.{HasNoCollisions, ByteSet, IsIn, IsOf}
-use Rattle.store_model.specs.Files.{Stored}
-use Rattle.store_state.specs.Refused.{blames, fails}
+use Rattle.store_state.specs.Refused.{blames}
 use Rattle.backup_engine.specs.AnyDisk.{ReadsSince}
 use Rattle.backup_engine.specs.Frame.{LinesKeepOthers}
-use Rattle.backup_engine.specs.Lines.{RunsEachMap, lines_of, printed}
+use Rattle.backup_engine.specs.Lines.{lines_of, printed}
 use Rattle.backup_engine.specs.Reopening.{HasNoRoom}
 
 -- ---- what was written
@@ -114,13 +110,6 @@ StopsAtReopen ending (one ∷ more) =
     ((refusal : Refusal) → ◌≡◌ {A = Replied} one (record { line = lines.Reopen; reply = replies.Refused refusal })
     → (more ≡ []) × EndsRefused ending refusal) × StopsAtReopen ending more
 
--- Over a disk that stands for files a refusal ends it only where there was no memory, or a call of the disk failed.
-abbrev pub FailsAlone : Option Ending → List Replied → DiskView → Type 0
-FailsAlone ending rs disk =
-    Known disk.content (λ image. (among : ByteSet) (m : Stored) → HasNoCollisions (IsIn among)
-    → ((bytes : List ℕ) → IsCutBy rs (opened m image disk.faults) bytes → IsIn among bytes) → IsOf (IsIn among) m image
-    → (refusal : Refusal) → ending ≡ Some (Refused refusal) → IsTrue (fails refusal))
-
 -- ---- what lines give by name
 
 -- the store was not opened
@@ -139,10 +128,7 @@ CountsLines ending rs before now = CountFaults rs before now
 -- These lines were run, and replied to, one after the other.
 pub record KeepsScript (rs : List Replied) (ending : Option Ending) (disk disk_now : DiskView) (source source_now : SourceView)
     (sink sink_now : SinkView) : Type 0 where
-  -- Over a disk that stands for files, they are a run of the plain machine.
-  pub machine : RunsEachMap ending rs disk disk_now
-  pub fails_alone : FailsAlone ending rs disk
-  -- Over any disk, they are the first of the script, each ending has its cause, and what was written are the replies.
+  -- They are the first of the script, each ending has its cause, and what was written are the replies.
   pub begins : Given source.left (λ bytes. (rest : List ℕ) × Begins bytes (lines_of rs) rest)
   pub stops : StopsAtReopen ending rs
   pub caused : IsScriptEnd (IsRunRefusal rs disk disk_now source source_now) ending rs source source_now sink sink_now

@@ -4,7 +4,7 @@ use Rattle.std.specs.List.{AllByRecursion}
 use Rattle.base_model.specs.Fault.{Rose}
 use Rattle.base_model.specs.Known.{Appended}
 use Rattle.dd_io.specs.Flow.{SourceView, SinkView}
-use Rattle.plain_machine.specs.Runs.{Replied, ends}
+use Rattle.store_machine.specs.Commands.{Replied, ends}
 use Rattle.refusals.specs.declared.refusal.Refusal.{Refusal}
 use Rattle.reply_text.specs.declared.ending.Ending.{Ending}
 use Rattle.reply_text.specs.declared.ending.Ending.TheVariants.{Source, Sink, Line, Script}

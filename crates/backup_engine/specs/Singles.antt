@@ -6,7 +6,7 @@ use Rattle.base_model.specs.Known.{Appended, Known}
 use Rattle.dd_disk.specs.Shows.{Shows}
 use Rattle.dd_disk.specs.View.{DiskView}
 use Rattle.dd_io.specs.Flow.{SinkView, SourceView}
-use Rattle.plain_machine.specs.Runs.{Replied}
+use Rattle.store_machine.specs.Commands.{Replied}
 use Rattle.namespace.specs.Listing.{NamedRoot}
 use Rattle.recovery.specs.Opening.{IsOpenRefusal}
 use Rattle.refusals.specs.declared.refusal.Refusal.{Refusal}
@@ -22,7 +22,6 @@ use Rattle.session_turns.specs.declared.turns.TheConstants.{MOST_PIECE}
 use Rattle.backup_engine.specs.Collected.{collected_line}
 use Rattle.backup_engine.specs.Line.{CommandLine, Format, Ingest, Restore, Delete, Collect}
 use Rattle.backup_engine.specs.Line as table
-use Rattle.backup_engine.specs.Lines.{RunsEachMap}
 use Rattle.backup_engine.specs.Promise.{WroteReply}
 
 -- a line, and what it replied
@@ -189,11 +188,9 @@ pub record OpensNone (ending : Option Ending) (rs : List Replied) (disk disk_now
   pub cause : IsOpenRefusal (Shows disk disk_now) disk.size refusal
   pub wrote : sink_now.written ≡ sink.written
 
--- A single command as lines of a script, of which AreSo holds; over a disk that stands for files, they are a run of the plain machine.
-pub record Speaks (AreSo : List Replied → Type 0) (ending : Option Ending) (rs : List Replied) (disk disk_now : DiskView)
-    (sink sink_now : SinkView) : Type 0 where
-  pub lines_are : AreSo rs ⊎ OpensNone ending rs disk disk_now sink sink_now
-  pub machine : RunsEachMap ending rs disk disk_now
+-- A single command as lines of a script, of which AreSo holds; or none was run.
+abbrev pub Speaks : (List Replied → Type 0) → Option Ending → List Replied → DiskView → DiskView → SinkView → SinkView → Type 0
+Speaks AreSo ending rs disk disk_now sink sink_now = AreSo rs ⊎ OpensNone ending rs disk disk_now sink sink_now
 
 -- A `format` has no lines, and nothing is said of it here.
 abbrev pub SpeaksAs : CommandLine → List ℕ → Option Ending → List Replied → DiskView → DiskView → SourceView → SourceView → SinkView

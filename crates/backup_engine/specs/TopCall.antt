@@ -7,7 +7,7 @@ use Rattle.base_model.specs.Fault.{Rose}
 use Rattle.base_model.specs.Known.{Known, KnownWith, Appended}
 use Rattle.dd_disk.specs.View.{DiskView, IsLater}
 use Rattle.dd_io.specs.Flow.{SourceView, SinkView, AppendedPart}
-use Rattle.plain_machine.specs.Runs.{Replied}
+use Rattle.store_machine.specs.Commands.{Replied}
 use Rattle.refusals.specs.declared.refusal.Refusal.{Refusal}
 use Rattle.refusals.specs.declared.refusal.Refusal.TheVariants.{DiskWrite, Full, Memory}
 use Rattle.reply_text.specs.declared.ending.Ending.{Ending}
@@ -17,7 +17,7 @@ use Rattle.reply_text.specs.Text.{fault_line}
 use Rattle.recovery.specs.Formatting.{IsLeftByFormat, IsBlankOrFormatted}
 use Rattle.recovery.specs.Room.{RoomMade, RoomUnmade}
 use Rattle.backup_engine.specs.AnyDisk.{Holds, OnAnyDisk, FindsBeforeWriting, Took}
-use Rattle.backup_engine.specs.ByFiles.{RunsEachByFiles}
+use Rattle.backup_engine.specs.ByFiles.{FailsAlone, RunsEachByFiles}
 use Rattle.backup_engine.specs.Frame.{KeepsOthers}
 use Rattle.backup_engine.specs.Line.{CommandLine, Format, Ingest, Restore, Delete, Collect, TableLine, Single, Run}
 use Rattle.backup_engine.specs.Line as table
@@ -25,7 +25,7 @@ use Rattle.backup_engine.specs.Promise.{KeepsEachMap, SinceStart}
 use Rattle.backup_engine.specs.Script.{KeepsScript}
 use Rattle.backup_engine.specs.Seen.{Seen}
 use Rattle.backup_engine.specs.Singles.{SpeaksAs}
-use Rattle.backup_engine.specs.Whole.{FailsAloneWhole, KeepsEachWhole, RunsEachWhole}
+use Rattle.backup_engine.specs.Whole.{KeepsEachWhole}
 
 -- 0 where the command was done, and else by the table of statuses
 abbrev pub status_by : Option Ending → ℕ
@@ -129,7 +129,7 @@ pub record MakesNoRoom (rs : List Replied) (ending : Option Ending) (disk disk_n
 pub record DoesCommand (D : Type 0) (view : D → DiskView) (command : CommandLine) (given : List ℕ) (rs : List Replied)
     (ending : Option Ending) (disk disk_now : DiskView) (source source_now : SourceView) (sink sink_now : SinkView) : Type 0 where
   pub whole : KeepsEachWhole command given ending disk disk_now sink sink_now
-  pub lines : RunsEachWhole D view ending rs disk disk_now
+  pub by_files : RunsEachByFiles ending rs disk disk_now
   pub took : Took command given ending source source_now
   pub way : OnceThereWasRoom D view (λ v. Keeps command given ending v disk_now source source_now sink sink_now
       × SpeaksAs command given ending rs v disk_now source source_now sink sink_now) ending disk disk_now
@@ -138,9 +138,8 @@ pub record DoesCommand (D : Type 0) (view : D → DiskView) (command : CommandLi
 -- The lines of the script that the source has.
 pub record RunsScript (D : Type 0) (view : D → DiskView) (rs : List Replied) (ending : Option Ending) (disk disk_now : DiskView)
     (source source_now : SourceView) (sink sink_now : SinkView) : Type 0 where
-  pub lines : RunsEachWhole D view ending rs disk disk_now
   pub by_files : RunsEachByFiles ending rs disk disk_now
-  pub fails_alone : FailsAloneWhole ending rs disk
+  pub fails_alone : FailsAlone ending rs disk
   pub way : OnceThereWasRoom D view (λ v. KeepsScript rs ending v disk_now source source_now sink sink_now) ending disk disk_now
       ⊎ MakesNoRoom rs ending disk disk_now source source_now sink sink_now
 

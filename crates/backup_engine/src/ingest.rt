@@ -2,15 +2,16 @@
 ghost use Rattle.std.specs.Prelude.{◌≡◌, List, ℕ};
 ghost use Rattle.dd_disk.specs.View.{IsLater};
 ghost use Rattle.backup_engine.specs.Line.{Ingest};
-ghost use Rattle.plain_machine.specs.Runs.{Replied};
+ghost use Rattle.store_machine.specs.Commands.{Replied};
 ghost use Rattle.backup_engine.specs.TopCall.{DoesCommand, ending_in};
 
+use crate::by_files::calls_run_by_files;
 use crate::lent::handed_back;
 use crate::storing::store_source;
+use core_machine::an_opening_finds_its_files;
 use dd_disk::Disk;
 use dd_io::{Sink, Source};
 use reply_text::Ending;
-use script_runner::{an_opened_core_follows, scripts_follow_the_machine};
 use std::alloc::Global;
 use store_core::Core;
 use summary_vector::NoSummary;
@@ -27,8 +28,8 @@ pub(crate) fn ingest<D: Disk, S: Source, K: Sink>(
         (D.view disk.old) (D.view disk.new) (S.view source.old) (S.view source.new) (K.view sink.old) (K.view sink.new)) }
     ensures later { IsLater (D.view disk.old) (D.view disk.new) }
 {
-    scripts_follow_the_machine::<Core<&mut D, NoSummary>>();
-    an_opened_core_follows::<&mut D, Core<&mut D, NoSummary>>();
+    calls_run_by_files::<&mut D, Core<&mut D, NoSummary>>();
+    an_opening_finds_its_files::<D, Core<&mut D, NoSummary>>();
     let mut core = match Core::open(alloc, disk, NoSummary) {
         Ok(core) => core,
         Err(refused) => {

@@ -1,6 +1,7 @@
 //! The commands of ddfs over any disk, source and sink.
 #![tactic(auto)]
 
+mod by_files;
 mod collecting;
 mod deleting;
 mod format;

@@ -2,21 +2,22 @@
 ghost use Rattle.std.specs.Prelude.{◌≡◌, List, []};
 ghost use Rattle.dd_io.specs.Flow.{SourceView};
 ghost use Rattle.dd_disk.specs.View.{IsLater};
-ghost use Rattle.plain_machine.specs.Runs.{Replied};
+ghost use Rattle.store_machine.specs.Commands.{Replied};
 ghost use Rattle.store_core.specs.State.{IsRunning};
 ghost use Rattle.backup_engine.specs.Line as table;
 ghost use Rattle.backup_engine.specs.Naming.{ListRun};
 ghost use Rattle.backup_engine.specs.Running.{IsFresh};
 ghost use Rattle.backup_engine.specs.TopCall.{DoesCommand, ending_in};
 
+use crate::by_files::calls_run_by_files;
 use crate::lent::handed_back;
 use crate::putting::first;
 use crate::reply::send;
 use actor_parts::{Answer, SegBuf, Step};
+use core_machine::an_opening_finds_its_files;
 use dd_disk::Disk;
 use dd_io::Sink;
 use reply_text::{Ending, listing_text};
-use script_runner::{an_opened_core_follows, scripts_follow_the_machine};
 use std::alloc::Global;
 use store_core::{Core, HasState};
 use summary_vector::NoSummary;
@@ -49,8 +50,8 @@ pub(crate) fn list<D: Disk, K: Sink>(
         (D.view disk.old) (D.view disk.new) source source (K.view sink.old) (K.view sink.new) }
     ensures later { IsLater (D.view disk.old) (D.view disk.new) }
 {
-    scripts_follow_the_machine::<Core<&mut D, NoSummary>>();
-    an_opened_core_follows::<&mut D, Core<&mut D, NoSummary>>();
+    calls_run_by_files::<&mut D, Core<&mut D, NoSummary>>();
+    an_opening_finds_its_files::<D, Core<&mut D, NoSummary>>();
     let mut buf = SegBuf::new(alloc)?;
     let mut core = match Core::open(alloc, disk, NoSummary) {
         Ok(core) => core,

@@ -3,17 +3,18 @@ ghost use Rattle.std.specs.Prelude.{◌≡◌, List, []};
 ghost use Rattle.dd_io.specs.Flow.{SourceView};
 ghost use Rattle.dd_disk.specs.View.{IsLater};
 ghost use Rattle.backup_engine.specs.Line.{Restore};
-ghost use Rattle.plain_machine.specs.Runs.{Replied};
+ghost use Rattle.store_machine.specs.Commands.{Replied};
 ghost use Rattle.backup_engine.specs.TopCall.{DoesCommand, ending_in};
 
+use crate::by_files::calls_run_by_files;
 use crate::giving::give_out;
 use crate::lent::handed_back;
 use actor_parts::SegBuf;
+use core_machine::an_opening_finds_its_files;
 use dd_disk::Disk;
 use dd_io::Sink;
 use refusals::Refusal;
 use reply_text::Ending;
-use script_runner::{an_opened_core_follows, scripts_follow_the_machine};
 use std::alloc::Global;
 use store_core::Core;
 use summary_vector::NoSummary;
@@ -29,8 +30,8 @@ pub(crate) fn restore<D: Disk, K: Sink>(
         (D.view disk.old) (D.view disk.new) source source (K.view sink.old) (K.view sink.new) }
     ensures later { IsLater (D.view disk.old) (D.view disk.new) }
 {
-    scripts_follow_the_machine::<Core<&mut D, NoSummary>>();
-    an_opened_core_follows::<&mut D, Core<&mut D, NoSummary>>();
+    calls_run_by_files::<&mut D, Core<&mut D, NoSummary>>();
+    an_opening_finds_its_files::<D, Core<&mut D, NoSummary>>();
     let Ok(mut buf) = SegBuf::new(alloc) else {
         return Err(Ending::Refused(Refusal::Memory));
     };

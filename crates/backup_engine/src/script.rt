@@ -1,22 +1,21 @@
 //! Running a script.
 ghost use Rattle.std.specs.Prelude.{◌≡◌, ◌≤◌, List};
 ghost use Rattle.dd_disk.specs.View.{IsLater};
-ghost use Rattle.plain_machine.specs.Runs.{Replied};
+ghost use Rattle.store_machine.specs.Commands.{Replied};
 ghost use Rattle.script_lines.specs.declared.script.TheConstants.{MOST_SCRIPT};
 ghost use Rattle.backup_engine.specs.ScriptRuns.{RunsNext, ScriptRun};
 ghost use Rattle.backup_engine.specs.TopCall.{RunsScript, ending_in};
 
+use crate::by_files::calls_run_by_files;
 use crate::lent::handed_back;
 use actor_parts::SegBuf;
-use core_machine::{a_core_is_the_machine_of_files, an_opening_finds_its_files};
+use core_machine::an_opening_finds_its_files;
 use dd_disk::Disk;
 use dd_io::{Sink, Source};
 use reply_text::Ending;
 use script_lines::{NextLine, ScriptReader, reads_tell_scripts};
 use script_runner::{
-    Halt, Runner, Sessions, an_opened_core_follows, an_opened_core_is_at_a_desk,
-    lines_are_file_runs, lines_give_what_is_named, lines_go_on, lines_keep_what_is_written,
-    scripts_follow_the_machine,
+    Halt, Runner, Sessions, lines_give_what_is_named, lines_go_on, lines_keep_what_is_written,
 };
 use std::alloc::Global;
 use store_core::{Core, HasState};
@@ -76,15 +75,11 @@ pub(crate) fn run<D: Disk, S: Source, K: Sink>(
     ensures later { IsLater (D.view disk.old) (D.view disk.new) }
 {
     reads_tell_scripts();
-    scripts_follow_the_machine::<Core<&mut D, NoSummary>>();
-    an_opened_core_follows::<&mut D, Core<&mut D, NoSummary>>();
+    calls_run_by_files::<&mut D, Core<&mut D, NoSummary>>();
+    an_opening_finds_its_files::<D, Core<&mut D, NoSummary>>();
     lines_go_on::<Core<&mut D, NoSummary>>();
     lines_give_what_is_named::<&mut D, Core<&mut D, NoSummary>>();
     lines_keep_what_is_written::<&mut D, Core<&mut D, NoSummary>>();
-    an_opened_core_is_at_a_desk::<&mut D, Core<&mut D, NoSummary>>();
-    lines_are_file_runs::<Core<&mut D, NoSummary>>();
-    a_core_is_the_machine_of_files::<Core<&mut D, NoSummary>>();
-    an_opening_finds_its_files::<D, Core<&mut D, NoSummary>>();
     let sessions = Sessions::new(alloc)?;
     let buf = SegBuf::new(alloc)?;
     let core = match Core::open(alloc, disk, NoSummary) {

@@ -1,7 +1,7 @@
 //! The top call.
 ghost use Rattle.std.specs.Prelude.{◌≡◌, Some, map, string_bytes, IfOk, List, ℕ};
 ghost use Rattle.dd_disk.specs.View.{IsLater};
-ghost use Rattle.plain_machine.specs.Runs.{Replied};
+ghost use Rattle.store_machine.specs.Commands.{Replied};
 ghost use Rattle.reply_text.specs.Table.{status_of as table_status};
 ghost use Rattle.backup_engine.specs.Line.{Single, line_of};
 ghost use Rattle.backup_engine.specs.LineValue.{command_value, line_value, IsRightCommand, IsRightLine, size_made};

@@ -25,7 +25,7 @@ use Rattle.script_lines.specs.ReplyValue as replies
 use Rattle.store_core.specs.Core.{AbortRow, BeginRow}
 use Rattle.store_core.specs.State.{CoreState, Event, IsRunning}
 use Rattle.store_core.proofs.CoreRuns.{running_step}
-use Rattle.plain_machine.specs.Refused.{takes}
+use Rattle.store_machine.specs.Lines.{takes}
 use Rattle.store_machine.specs.Asked as asked
 use Rattle.store_machine.specs.Done.{Done}
 use Rattle.store_machine.specs.Lines as machine
@@ -69,7 +69,8 @@ giver line a sessions parts needs taken = by (session_of sessions a) refl taken
     by (Some x) is takes_some = (x, is)
 
 module _ (F : Fitted) (r : RunnerState F.C) (d : Desk F.V F.R) (at : AtDesk F d r) (s : RunnerState F.C) (a : ℕ) where
-  open F use {V, R, v, C, state, Fits, Owns, Allowed, fitting}
+  open F use {V, R, v, C, state, Allowed, beside, fitting}
+  open F.beside use {Fits, Owns}
 
   -- ---- a desk after a line of one actor, whose session is another
 
@@ -158,7 +159,7 @@ module _ (F : Fitted) (r : RunnerState F.C) (d : Desk F.V F.R) (at : AtDesk F d 
 
     pub begin_acts : (reply : ReplyValue) → Acts C state (lines.Begin a) reply r s → Begins reply
     begin_acts (replies.Begun b) acts =
-        let begins = acts.1.0 in
+        let begins = acts.1 in
         let answer = begins.0 in
         let x = begins.1 in
         let does = begins.2 in
@@ -183,7 +184,7 @@ module _ (F : Fitted) (r : RunnerState F.C) (d : Desk F.V F.R) (at : AtDesk F d 
               (λ c k differs owns. one.keeps.others c k differs owns);
         }
     begin_acts (replies.Refused refusal) acts =
-        let begins = acts.0 in
+        let begins = acts in
         elim begins.0 [
           | inl memory ↦ record {
             ss = [];
@@ -208,7 +209,7 @@ module _ (F : Fitted) (r : RunnerState F.C) (d : Desk F.V F.R) (at : AtDesk F d 
 
     pub finish_acts : (reply : ReplyValue) → Acts C state (lines.Finish a) reply r s → Finishes reply
     finish_acts (replies.Finished b count) acts =
-        let ends = acts.1.0 in
+        let ends = acts.1 in
         let x : SessionState = ends.0 in
         let y : SessionState = ends.1 in
         let was : DeskSession (λ k. Owns a k d.machine (state r.core)) d.sessions a x = desk_session
@@ -240,7 +241,7 @@ module _ (F : Fitted) (r : RunnerState F.C) (d : Desk F.V F.R) (at : AtDesk F d 
               (λ c k differs owns. core_owns same c k owns);
         }
     finish_acts (replies.Refused refusal) acts =
-        let ends = acts.0 in
+        let ends = acts in
         let gives = giver (lines.Finish a) a r.sessions (state r.core).parts finish_needs (admits.taken a refl) in
         let was : DeskSession (λ k. Owns a k d.machine (state r.core)) d.sessions a gives.0 = desk_session
         (λ b k. Owns b k d.machine (state r.core)) d.sessions r.sessions at.same a gives.0 gives.1 in
@@ -271,7 +272,7 @@ module _ (F : Fitted) (r : RunnerState F.C) (d : Desk F.V F.R) (at : AtDesk F d 
 
     pub abort_acts : (reply : ReplyValue) → Acts C state (lines.Abort a) reply r s → Aborts reply
     abort_acts (replies.Aborted b) acts =
-        let aborts = acts.1.0 in
+        let aborts = acts.1 in
         let answer = aborts.0.0 in
         let does = aborts.0.1 in
         let e : Event = record { actor = a; step = steps.Abort; answer = Ok answer; buf = does.0 } in
@@ -287,7 +288,7 @@ module _ (F : Fitted) (r : RunnerState F.C) (d : Desk F.V F.R) (at : AtDesk F d 
               (λ c k differs owns. one.keeps.others c k differs owns);
         }
     abort_acts (replies.Refused refusal) acts =
-        let aborts = acts.0 in
+        let aborts = acts in
         let e : Event = record { actor = a; step = steps.Abort; answer = Err refusal; buf = aborts.0.0 } in
         let one = makes F e [] r.core s.core d.machine at.runs at.fits tt aborts.0.1 in
         let row = (running_step (state r.core) (state s.core) e admits.runs aborts.0.1).made.row in

@@ -17,7 +17,7 @@ use Rattle.script_lines.specs.Grammar as lines
 use Rattle.script_lines.specs.ReplyValue.{ReplyValue}
 use Rattle.store_core.specs.declared.stop.Stop.{Stop}
 use Rattle.store_core.specs.State.{CoreState, Event}
-use Rattle.plain_machine.specs.Runs.{Replied}
+use Rattle.store_machine.specs.Commands.{Replied}
 use Rattle.store_machine.specs.Asked.{Asked}
 use Rattle.store_machine.specs.Asked as asked
 use Rattle.store_machine.specs.Legal.{Legal}
@@ -25,16 +25,15 @@ use Rattle.store_machine.specs.Lines as machine
 use Rattle.store_machine.specs.Lines.{Desk, Session, step_of}
 use Rattle.store_machine.specs.Machine.{Idle, Machine, Part, Reading, RunState, Running, Stepped, Stopped, Writing, kind_of}
 use Rattle.store_machine.specs.Values.{of_roots}
-use Rattle.core_machine.specs.Refines.{IsMachine, SamePart, SameParts, SameStop, answered_by, asked_as, asked_by}
+use Rattle.core_machine.specs.Refines.{SamePart, SameParts, SameStop, answered_by, asked_as, asked_by}
 use Rattle.core_machine.proofs.Opened.{opened_refines, unopened_refines}
 use Rattle.core_machine.proofs.Refined.{core_refines}
-use Rattle.script_runner.specs.Acts.{RunnerState, RunsLine}
-use Rattle.script_runner.specs.Follows.{IsOfActor}
-use Rattle.script_runner.specs.LinesAreRuns.{AllLeadTo, BeginsAtDesk, Kept, LeavesAny, LinesAreRuns, OwnsAny, RootDesk, SameSessions, ScriptsAreRuns, as_lines}
+use Rattle.script_runner.specs.Acts.{IsOfActor, RunnerState, RunsLine}
+use Rattle.script_runner.specs.LinesAreRuns.{AllLeadTo, BeginsAtDesk, Kept, LinesAreRuns, RootDesk, SameSessions, ScriptsAreRuns, beside_roots}
 use Rattle.script_runner.specs.Scripts.{AreOfActors, RunsLines}
 use Rattle.script_runner.proofs.DeskGiving.{abort_acts, begin_acts, finish_acts}
 use Rattle.script_runner.proofs.DeskReopens.{idle_give, reopen_line}
-use Rattle.script_runner.proofs.DeskRuns.{lines_leave, ran_none}
+use Rattle.script_runner.proofs.DeskRuns.{lines_done, ran_none}
 use Rattle.script_runner.proofs.DeskSessions.{none_same}
 use Rattle.script_runner.proofs.DeskSteps.{taken_or_not}
 use Rattle.script_runner.proofs.DeskTaking.{delete_acts, drop_acts, gc_acts, gc_step_acts, list_acts, next_acts, read_acts, stat_acts, sweep_acts}
@@ -49,7 +48,8 @@ abbrev pub AllowedAt : (F : Fitted) → Desk F.V F.R → Type 0
 AllowedAt F d = (a : ℕ) (t : Session) → machine.session_of F.v d a ≡ Some t → F.Allowed t.given t.ended
 
 module _ (F : Fitted) (r s : RunnerState F.C) (d : Desk F.V F.R) (at : AtDesk F d r) (allowed : AllowedAt F d) where
-  open F use {V, R, v, C, state, Fits, Owns, Allowed, fitting}
+  open F use {V, R, v, C, state, Allowed, beside, fitting}
+  open F.beside use {Fits, Owns}
 
   pub line_runs : (line : LineValue) (reply : ReplyValue) → IsOfActor line → RunsLine C state line reply r s → Leads F line reply d r s
   line_runs (lines.Begin a) reply actor runs =
@@ -93,17 +93,20 @@ AllowedBy F (one ∷ more) d =
     AllowedAt F d × ((steps : List (Stepped F.V)) (mid : Desk F.V F.R) → machine.Line F.v one.line one.reply steps d mid → AllowedBy F more mid)
 
 module _ (F : Fitted) where
-  open F use {V, R, v, C, state, Fits, Owns, Left, fitting}
+  open F use {V, R, v, C, state, beside, fitting}
+  open F.beside use {Fits}
 
   pub script_runs : (rs : List Replied) (r s : RunnerState C) (d : Desk V R) → AreOfActors rs → AllowedBy F rs d → AtDesk F d r → RunsLines C state rs r s
-      → AllLeadTo v state Fits Owns Left rs d r s
-  script_runs [] r s d actors allowed at run = record {
-    steps = [];
-    next = d;
-    lines_are = (refl, refl);
-    at = subst (λ (t : RunnerState C). AtDesk F d t) (sym run) at;
-    leaves = (ran_none F d.machine r.core s.core at.fits (ap (λ (t : RunnerState C). t.core) run)).leaves;
-  }
+      → AllLeadTo v state beside rs d r s
+  script_runs [] r s d actors allowed at run =
+      let none = ran_none F d.machine r.core s.core at.fits (ap (λ (t : RunnerState C). t.core) run) in
+      record {
+        steps = [];
+        next = d;
+        lines_are = (refl, refl);
+        at = subst (λ (t : RunnerState C). AtDesk F d t) (sym run) at;
+        did = record { leaves = none.did.leaves; changes = none.did.changes };
+      }
   script_runs (one ∷ more) r s d actors allowed at run =
       let mid = run.1.0 in
       let first = line_runs F r mid d at allowed.0 one.line one.reply actors.0 run.1.1.0 in
@@ -113,8 +116,8 @@ module _ (F : Fitted) where
         next = rest.next;
         lines_are = (first.steps, rest.steps, first.next, refl, first.line_is, rest.lines_are);
         at = rest.at;
-        leaves = lines_leave v Left (record { line = one.line; reply = one.reply }) (as_lines more) first.steps rest.steps d first.next rest.next first.line_is rest.lines_are
-            (state r.core).disk (state mid.core).disk (state s.core).disk (line_went C state one.line one.reply r mid run.1.1.0).later.clock_is first.leaves rest.leaves;
+        did = lines_done v beside one more first.steps rest.steps d first.next rest.next first.line_is rest.lines_are
+            (state r.core).disk (state mid.core).disk (state s.core).disk (line_went C state one.line one.reply r mid run.1.1.0).later.clock_is first.did rest.did;
       }
 
 -- ---- the machine of roots
@@ -123,7 +126,7 @@ module _ (F : Fitted) where
 abbrev Any : List ℕ → Bool → Type 0
 Any given ended = Unit {0}
 
-keeps_any : (e : Event) (m n : Machine Root (List Top)) (old new : CoreState) → Keeps OwnsAny e m n old new
+keeps_any : (e : Event) (m n : Machine Root (List Top)) (old new : CoreState) → Keeps beside_roots.Owns e m n old new
 keeps_any e m n old new = record {
   others = λ b k differs owns. tt;
   quiet = λ k quiet owns. tt;
@@ -132,7 +135,7 @@ keeps_any e m n old new = record {
   turned = λ x h answer has asks is told owns. tt;
 }
 
-any_left : (m n : Machine Root (List Top)) (old new : DiskView) → LeavesEither LeavesAny m n old new
+any_left : (m n : Machine Root (List Top)) (old new : DiskView) → LeavesEither beside_roots.Left m n old new
 any_left m n old new = record { now = λ image there. inl tt; since = λ t image before there. inr (inl tt) }
 
 -- a commit asks for the root of what was given
@@ -181,7 +184,7 @@ module _ (C : Type 0) (state : C → CoreState) where
   abbrev view : C → DiskView
   view c = (state c).disk
 
-  roots_fit : Fitting of_roots C state (IsMachine false) OwnsAny Any LeavesAny
+  roots_fit : Fitting of_roots C state beside_roots Any
   roots_fit = record {
     step = λ e given old new m runs fits right step.
         let one = core_refines C state false e old new m runs fits (λ is. absurd cc) step in (
@@ -192,6 +195,7 @@ module _ (C : Type 0) (state : C → CoreState) where
             one.1.1,
             keeps_any e m one.0 (state old) (state new),
             any_left m one.0 (state old).disk (state new).disk,
+            tt,
           ),
         );
     here = λ m c fits image there. tt;
@@ -199,9 +203,10 @@ module _ (C : Type 0) (state : C → CoreState) where
     stops = λ m c stop fits is. stops_by m.acknowledged m.state c.stop stop fits.state is;
     kinds = λ m c fits a. part_kinds m.parts c.parts fits.parts a;
     opened = λ a old new m fits opens runs. let one = opened_refines C view C state a old new opens runs in
-        (one.0, (one.1.2 m, one.1.0 false, any_left m one.0 (state old).disk (state new).disk));
+        (one.0, (one.1.2 m, one.1.0 false, any_left m one.0 (state old).disk (state new).disk, tt));
     unopened = λ a refusal old new m fits none leaves. let one = unopened_refines C view C state false a refusal old new m fits none leaves in
-        (one.0, (one.1.0, one.1.1, λ b k owns. tt, any_left m one.0 (state old).disk (state new).disk));
+        (one.0, (one.1.0, one.1.1, λ b k owns. tt, any_left m one.0 (state old).disk (state new).disk, tt));
+    unmade = λ a step m c fits is. tt;
   }
 
   abbrev roots_fitted : Fitted
@@ -211,15 +216,13 @@ module _ (C : Type 0) (state : C → CoreState) where
     v = of_roots;
     C = C;
     state = state;
-    Fits = IsMachine false;
-    Owns = OwnsAny;
+    beside = beside_roots;
     Allowed = Any;
-    Left = LeavesAny;
     fitting = roots_fit;
   }
 
   pub lines_are_runs : LinesAreRuns C state
-  lines_are_runs line reply r s d actor at runs = line_runs roots_fitted r s d at (λ a t there. tt) line reply actor runs
+  lines_are_runs one r s d actor at runs = line_runs roots_fitted r s d at (λ a t there. tt) one.line one.reply actor runs
 
   pub begins_at_desk : BeginsAtDesk C state
   begins_at_desk m r runs fits parts sessions = record {

@@ -30,6 +30,7 @@ use Rattle.script_runner.specs.Acts.{ActsReopen, RefusesReopen, Reopens, RunnerS
 use Rattle.script_runner.specs.LinesAreRuns.{Kept, SameSessions, WritersGive}
 use Rattle.script_runner.specs.Sessions.{Sessions}
 use Rattle.script_runner.proofs.DeskParts.{quiet_gives}
+use Rattle.store_core.proofs.CoreRuns.{running_step}
 use Rattle.script_runner.proofs.DeskRuns.{Ran, ran_step, ran_still}
 use Rattle.script_runner.proofs.DeskSessions.{same_none, same_on}
 use Rattle.script_runner.proofs.DeskSteps.{answers_so, makes}
@@ -70,7 +71,8 @@ kept_parts C view refusal old new (inl kept) = kept.0.parts_are
 kept_parts C view refusal old new (inr stops) = stops.parts_are
 
 module _ (F : Fitted) (r : RunnerState F.C) (d : Desk F.V F.R) (at : AtDesk F d r) (s : RunnerState F.C) where
-  open F use {V, R, v, C, state, Fits, Owns, Allowed, Left, fitting}
+  open F use {V, R, v, C, state, Allowed, beside, fitting}
+  open F.beside use {Fits, Owns, Left, Changes}
 
   abbrev view : C → DiskView
   view c = (state c).disk
@@ -80,7 +82,7 @@ module _ (F : Fitted) (r : RunnerState F.C) (d : Desk F.V F.R) (at : AtDesk F d 
 
   -- ---- it is opened
 
-  module _ (files : ℕ) (acts : Reopens C state files s.sessions r.moments s.moments r.core s.core) where
+  module _ (files : ℕ) (acts : Reopens C state files s.sessions r.core s.core) where
     mid : C
     mid = acts.mid
 
@@ -88,7 +90,8 @@ module _ (F : Fitted) (r : RunnerState F.C) (d : Desk F.V F.R) (at : AtDesk F d 
     mid_runs = opened_runs C view (state r.core).disk (state acts.mid) acts.opened
 
     opens : (n : Machine V R) × (Legal v (step_of v 0 asked.Reopen (Ok (done.Reopened (finite.len (state acts.mid).tables.names)))) d.machine n × Fits n (state acts.mid)
-        × LeavesEither Left d.machine n (state r.core).disk (state acts.mid).disk)
+        × LeavesEither Left d.machine n (state r.core).disk (state acts.mid).disk
+        × Changes (step_of v 0 asked.Reopen (Ok (done.Reopened (finite.len (state acts.mid).tables.names)))) d.machine n (state r.core).disk.content (state acts.mid).disk.content)
     opens = fitting.opened 0 r.core acts.mid d.machine at.fits acts.opened mid_runs
 
     abbrev n : Machine V R
@@ -97,6 +100,12 @@ module _ (F : Fitted) (r : RunnerState F.C) (d : Desk F.V F.R) (at : AtDesk F d 
     -- then it is counted, which changes nothing
     abbrev counting : Event
     counting = record { actor = 0; step = steps.Stat; answer = Ok (counted acts.holdings); buf = acts.counts.0 }
+
+    abbrev told_opened : Result Done Refusal
+    told_opened = Ok (done.Reopened (finite.len (state acts.mid).tables.names))
+
+    counting_reads : (state s.core).disk.content ≡ (state acts.mid).disk.content
+    counting_reads = (running_step (state acts.mid) (state s.core) counting (opened_stop C view (state r.core).disk (state acts.mid) acts.opened) acts.counts.1).made.effect.disk.only.content_is
 
     -- the number that is told is that of the names
     module _ (next : Machine V R)
@@ -111,7 +120,7 @@ module _ (F : Fitted) (r : RunnerState F.C) (d : Desk F.V F.R) (at : AtDesk F d 
     opened_line : Reopened (replies.Opened files)
     opened_line =
         let one = makes F counting [] acts.mid s.core n mid_runs opens.1.1 tt acts.counts.1 in
-        let told : Result Done Refusal = Ok (done.Reopened (finite.len (state acts.mid).tables.names)) in
+        let told : Result Done Refusal = told_opened in
         let legal = answers_so v n one.next 0 asked.Stat (answered_by (Ok (counted acts.holdings)) acts.counts.0)
         (fitting.runs n (state acts.mid) opens.1.1 (opened_stop C view (state r.core).disk (state acts.mid) acts.opened)) one.legal in
         let found = opens.1.0 in
@@ -121,8 +130,9 @@ module _ (F : Fitted) (r : RunnerState F.C) (d : Desk F.V F.R) (at : AtDesk F d 
         let ran : Ran F (step_of v 0 asked.Reopen told ∷ []) d.machine n r.core s.core =
         ran_step F (step_of v 0 asked.Reopen told) d.machine n r.core s.core opens.1.0
         (leaves_on (λ image. Left d.machine image ⊎ Left n image) (λ image. Left n image ⊎ Left one.ran.run.0 image) (λ image. Left d.machine image ⊎ Left n image)
-        (state r.core).disk (state acts.mid).disk (state s.core).disk clock opens.1.2 one.ran.leaves (λ image left. left)
+        (state r.core).disk (state acts.mid).disk (state s.core).disk clock opens.1.2 one.ran.did.leaves (λ image left. left)
         (λ image left. elim left [ inl before ↦ inr before | inr after ↦ inr (subst (λ (m : Machine V R). Left m image) (sym one.ran.run.1.1 ∙ legal.1) after) ]))
+        (subst (λ (told : Option (List ℕ)). Changes (step_of v 0 asked.Reopen told_opened) d.machine n (state r.core).disk.content told) (sym counting_reads) opens.1.3)
         (omega (arith, clock, one.ran.later)) in
         record {
           steps = step_of v 0 asked.Reopen told ∷ [];
@@ -137,7 +147,7 @@ module _ (F : Fitted) (r : RunnerState F.C) (d : Desk F.V F.R) (at : AtDesk F d 
             give = quiet_gives counting (state acts.mid) (state s.core) s.sessions tt acts.counts.1
                 (idle_give s.sessions (state acts.mid).parts (opened_parts C view (state r.core).disk (state acts.mid) acts.opened));
           };
-          leaves = ran.leaves;
+          did = ran.did;
         }
 
   -- ---- it isn't
@@ -161,13 +171,14 @@ module _ (F : Fitted) (r : RunnerState F.C) (d : Desk F.V F.R) (at : AtDesk F d 
         many = ap length sessions ∙ at.many;
         give = subst (λ (xs : Sessions). WritersGive xs (state s.core).parts) (sym sessions) (subst (WritersGive r.sessions) (sym parts) at.give);
       };
-      leaves = ran.leaves;
+      did = ran.did;
     }
 
     unopened_line : RefusesReopen C state refusal r.core s.core → Reopened (replies.Refused refusal)
     unopened_line refuses = elim refuses.why [
       | inl memory ↦ unopened_at d.machine
-          (ran_still F (step_of v 0 asked.Reopen told) d.machine r.core s.core (subst (λ (e : Refusal). opening.MayRefuseOpening v e) (sym memory.0) tt, inl refl) at.fits memory.1)
+          (ran_still F (step_of v 0 asked.Reopen told) d.machine r.core s.core (subst (λ (e : Refusal). opening.MayRefuseOpening v e) (sym memory.0) tt, inl refl) at.fits
+          (subst (λ (e : Refusal). Changes (step_of v 0 asked.Reopen (Err e)) d.machine d.machine (state r.core).disk.content (state r.core).disk.content) (sym memory.0) (fitting.unmade 0 asked.Reopen d.machine (state r.core) at.fits tt)) memory.1)
           (subst (λ (c : C). Fits d.machine (state c)) (sym memory.1) at.fits)
           (subst (λ (c : C). IsRunning (state c)) (sym memory.1) at.runs) (ap (λ (c : C). (state c).parts) memory.1)
           (λ b k owns. subst (λ (c : C). Owns b k d.machine (state c)) (sym memory.1) owns)
@@ -176,10 +187,11 @@ module _ (F : Fitted) (r : RunnerState F.C) (d : Desk F.V F.R) (at : AtDesk F d 
     ]
       where
         by : (n : Machine V R) × (Legal v (step_of v 0 asked.Reopen told) d.machine n × Fits n (state s.core) × ((b : ℕ) (k : Kept) → Owns b k d.machine (state r.core)
-            → Owns b k n (state s.core)) × LeavesEither Left d.machine n (state r.core).disk (state s.core).disk) → StaysOrStops C view refusal (state r.core) (state s.core)
+            → Owns b k n (state s.core)) × LeavesEither Left d.machine n (state r.core).disk (state s.core).disk
+            × Changes (step_of v 0 asked.Reopen told) d.machine n (state r.core).disk.content (state s.core).disk.content) → StaysOrStops C view refusal (state r.core) (state s.core)
             → (state r.core).disk.clock ≤ (state s.core).disk.clock → Reopened (replies.Refused refusal)
         by went leaves later = unopened_at went.0
-            (ran_step F (step_of v 0 asked.Reopen told) d.machine went.0 r.core s.core went.1.0 went.1.3 later) went.1.1
+            (ran_step F (step_of v 0 asked.Reopen told) d.machine went.0 r.core s.core went.1.0 went.1.3 went.1.4 later) went.1.1
             (stays_runs C view refusal (state r.core) (state s.core) leaves at.runs)
             (kept_parts C view refusal (state r.core) (state s.core) leaves) went.1.2
 

@@ -10,11 +10,8 @@ use Rattle.refusals.specs.declared.refusal.PartKind.{PartKind}
 use Rattle.refusals.specs.declared.refusal.PartKind.TheVariants as kinds
 use Rattle.ingest_session.specs.Facts.{kept}
 use Rattle.ingest_session.specs.State.{SessionState}
-use Rattle.script_lines.specs.Grammar.{LineValue}
-use Rattle.script_lines.specs.Grammar as lines
-use Rattle.plain_machine.specs.Refused as plain
 use Rattle.store_machine.specs.Lines as machine
-use Rattle.store_machine.specs.Lines.{Session, all_none, takes, actor_of}
+use Rattle.store_machine.specs.Lines.{Session, all_none}
 use Rattle.script_runner.specs.LinesAreRuns.{IsSessionOf, Kept, SameSession, SameSessions, WritersGive}
 use Rattle.script_runner.specs.Sessions.{Sessions, has_ended, kind_by, session_of, with_session}
 
@@ -109,24 +106,6 @@ same_kind P None None k (core_parts.Reading reader) same is gives = is
 same_kind P (Some s) (Some x) k p same is gives = by_end p s.ended x.ended same.ended_is
 same_kind P None (Some x) k p same is gives = absurd same
 same_kind P (Some s) None k p same is gives = absurd same
-
-pub same_takes : (line : LineValue) (kind : PartKind) → plain.takes line kind ≡ takes line kind
-same_takes (lines.Begin a) kinds.Idle = refl
-same_takes (lines.Push a digits) kinds.Writing = refl
-same_takes (lines.Finish a) kinds.Writing = refl
-same_takes (lines.Turn a) kinds.Writing = refl
-same_takes (lines.Turn a) kinds.Finished = refl
-same_takes (lines.Commit a name) kinds.Finished = refl
-same_takes (lines.Abort a) kinds.Writing = refl
-same_takes (lines.Abort a) kinds.Finished = refl
-same_takes (lines.Read a name) kinds.Idle = refl
-same_takes (lines.Next a) kinds.Reading = refl
-same_takes (lines.Drop a) kinds.Reading = refl
-same_takes line kind = refl
-
-pub same_actor : (line : LineValue) → plain.actor_of line ≡ actor_of line
-same_actor (lines.Begin a) = refl
-same_actor line = refl
 
 -- ---- who gives a file
 

@@ -28,7 +28,7 @@ use Rattle.script_runner.specs.LinesAreRuns.{Kept, SameSessions, WritersGive}
 use Rattle.script_runner.specs.Sessions.{Sessions, kind_in, session_of}
 use Rattle.script_runner.proofs.DeskParts.{IsQuiet, others_stay, quiet_gives}
 use Rattle.script_runner.proofs.DeskRuns.{Ran, ran_none, ran_step}
-use Rattle.script_runner.proofs.DeskSessions.{same_actor, same_at, same_kind, same_on, same_takes}
+use Rattle.script_runner.proofs.DeskSessions.{same_at, same_kind, same_on}
 use Rattle.script_runner.proofs.Fitting.{AtDesk, Fitted, IsOfGiven, Keeps, Leads}
 
 -- a number that is acknowledged
@@ -50,7 +50,8 @@ module _ {V R : Type 0} (v : Values V R) where
   says_so line reply ss d e other says = says
 
 module _ (F : Fitted) where
-  open F use {V, R, v, C, state, Fits, Owns, Allowed, fitting}
+  open F use {V, R, v, C, state, Allowed, beside, fitting}
+  open F.beside use {Fits, Owns}
 
   -- ---- a step
 
@@ -75,7 +76,7 @@ module _ (F : Fitted) where
         runs = step_runs (state old) (state new) e step runs;
         others = others_stay e (state old) (state new) step;
         keeps = one.1.2;
-        ran = ran_step F (step_of v e.actor (asked_as (λ root. v.of given) e.step) (answered_by e.answer e.buf)) m one.0 old new one.1.0 one.1.3
+        ran = ran_step F (step_of v e.actor (asked_as (λ root. v.of given) e.step) (answered_by e.answer e.buf)) m one.0 old new one.1.0 one.1.3 one.1.4
             (step_later (state old) (state new) e (state old).stop step).clock_is;
       }
 
@@ -111,7 +112,7 @@ module _ (F : Fitted) where
     pub admits_so : (line : LineValue) → Admits line r.sessions (state r.core) → machine.Admits v line d
     admits_so line admits = (
       fitting.runs d.machine (state r.core) at.fits admits.runs,
-      λ a is. ap (λ (k : PartKind). machine.takes line k) (kinds_so a) ∙ sym (same_takes line (kind_in r.sessions (state r.core).parts a)) ∙ admits.taken a (same_actor line ∙ is),
+      λ a is. ap (λ (k : PartKind). machine.takes line k) (kinds_so a) ∙ admits.taken a is,
     )
 
     bars_by : (line : LineValue) (refusal : Refusal) (stop : Option Stop) → (state r.core).stop ≡ stop → BarsBy stop line r.sessions (state r.core) refusal
@@ -123,7 +124,7 @@ module _ (F : Fitted) where
         let a = bars.0 in
         let kind = kind_in r.sessions (state r.core).parts a in
         subst (λ (x : Refusal). machine.Bars v line d x) (sym bars.3)
-        (fitting.runs d.machine (state r.core) at.fits is, (a, sym (same_actor line) ∙ bars.1, sym (kinds_so a), sym (same_takes line kind) ∙ bars.2))
+        (fitting.runs d.machine (state r.core) at.fits is, (a, bars.1, sym (kinds_so a), bars.2))
 
     -- what a line does is what the machine may do where it does so if it is taken
     pub taken_or_not : (line : LineValue) (reply : ReplyValue) (s : RunnerState C) → line ≢ lines.Reopen
@@ -136,15 +137,16 @@ module _ (F : Fitted) where
           next = acted.next;
           line_is = (acted.ran.run, says_so v line reply acted.ss d acted.next other (inl (admits_so line admitted.0, acted.acts)));
           at = acted.stays;
-          leaves = acted.ran.leaves;
+          did = acted.ran.did;
         }
-    taken_or_not line reply s other taken (inr barred) = record {
-      steps = [];
-      next = d;
-      line_is = (refl, says_so v line reply [] d d other (inr (barred.0, bars_by line barred.0 (state r.core).stop refl barred.2, barred.1, refl, refl)));
-      at = subst (λ (t : RunnerState C). AtDesk F d t) (sym barred.3) at;
-      leaves = (ran_none F d.machine r.core s.core at.fits (ap (λ (t : RunnerState C). t.core) barred.3)).leaves;
-    }
+    taken_or_not line reply s other taken (inr barred) =
+        let none = ran_none F d.machine r.core s.core at.fits (ap (λ (t : RunnerState C). t.core) barred.3) in record {
+          steps = [];
+          next = d;
+          line_is = (refl, says_so v line reply [] d d other (inr (barred.0, bars_by line barred.0 (state r.core).stop refl barred.2, barred.1, refl, refl)));
+          at = subst (λ (t : RunnerState C). AtDesk F d t) (sym barred.3) at;
+          did = record { leaves = none.did.leaves; changes = none.did.changes };
+        }
 
     -- ---- a line that is one step, whatever was given
 

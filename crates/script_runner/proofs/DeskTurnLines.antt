@@ -31,7 +31,7 @@ use Rattle.store_core.specs.declared.stop.Stop.{Stop}
 use Rattle.store_core.specs.Core.{CommitRow, StepsOr}
 use Rattle.store_core.specs.State.{CoreState, Event, IsRunning}
 use Rattle.store_core.proofs.CoreRuns.{running_step}
-use Rattle.plain_machine.specs.Refused.{takes}
+use Rattle.store_machine.specs.Lines.{takes}
 use Rattle.store_machine.specs.Asked.{Asked}
 use Rattle.store_machine.specs.Asked as asked
 use Rattle.store_machine.specs.Done.{Done}
@@ -52,7 +52,7 @@ use Rattle.script_runner.proofs.DeskSessions.{DeskSession, desk_session, put_qui
 use Rattle.script_runner.proofs.DeskSteps.{Acted, Makes, answers_so, makes, number_so}
 use Rattle.script_runner.proofs.DeskTurns.{TurnsMade, answering, due_of, paused_of, taken_of, turn_made, turn_refused, turns_made, turns_stop}
 use Rattle.script_runner.proofs.Fitting.{AtDesk, Fitted}
-use Rattle.script_runner.proofs.LinesPush.{why_long}
+use Rattle.script_runner.proofs.PushRefused.{why_long}
 use Rattle.script_runner.proofs.TurnIdle.{idle, idle_due, idle_has, settled_idle}
 
 -- what is replied to a turn
@@ -92,7 +92,8 @@ done_runs (Some stop) e answer old new is does step = absurd (let both = sym doe
 
 module _ (F : Fitted) (r : RunnerState F.C) (d : Desk F.V F.R) (at : AtDesk F d r) (s : RunnerState F.C)
     (a : ℕ) (below : a < ACTORS) (allowed : (b : ℕ) (t : Session) → machine.session_of F.v d b ≡ Some t → F.Allowed t.given t.ended) where
-  open F use {V, R, v, C, state, Fits, Owns, Allowed, fitting}
+  open F use {V, R, v, C, state, Allowed, beside, fitting}
+  open F.beside use {Fits, Owns}
 
   abbrev owned : Machine V R → C → Kept → Type 0
   owned m c k = Owns a k m (state c)
@@ -173,10 +174,10 @@ module _ (F : Fitted) (r : RunnerState F.C) (d : Desk F.V F.R) (at : AtDesk F d 
 
   pub turn_acts : (reply : ReplyValue) → Acts C state (lines.Turn a) reply r s → Turns reply
   turn_acts (replies.Turn b told) acts =
-      let made = acts.1.0 in
+      let made = acts.1 in
       turn_done made.0 made.1 made.2.0 made.2.1 b told acts.0 made.3.0 made.3.1 made.3.2
   turn_acts (replies.Refused refusal) acts =
-      let refuses = acts.0 in
+      let refuses = acts in
       turn_not_done refuses.0 refuses.1 refuses.2.0 refuses.2.1 refusal refuses.3
   turn_acts reply acts = absurd acts
 
@@ -266,10 +267,10 @@ module _ (F : Fitted) (r : RunnerState F.C) (d : Desk F.V F.R) (at : AtDesk F d 
 
     pub push_acts : (reply : ReplyValue) → Admits (lines.Push a digits) r.sessions (state r.core) → Acts C state (lines.Push a digits) reply r s → Pushes reply
     push_acts (replies.Pushed b count) admits acts =
-        let does = acts.1.0 in
+        let does = acts.1 in
         pushed does.0 does.1 does.2.0 does.2.1 b count acts.0 does.3 does.4
     push_acts (replies.Refused refusal) admits acts =
-        let refuses = acts.0 in
+        let refuses = acts in
         not_pushed refuses.0 refuses.1 refuses.2.0 refuses.2.1 refusal (goes_on refuses.0 refuses.2.0 admits) refuses.3
     push_acts reply admits acts = absurd acts
 
@@ -387,6 +388,6 @@ module _ (F : Fitted) (r : RunnerState F.C) (d : Desk F.V F.R) (at : AtDesk F d 
         let puts = does.2 in
         put does.0 puts.ready does.1 puts.answers_are puts.mid puts.turns puts.root puts.is_ready b sequence acts.0 puts.sequence_is does.3 puts.answer puts.put
     commit_acts (replies.Refused refusal) acts =
-        let refuses = acts.0 in
+        let refuses = acts in
         put_refused refuses.0 refuses.1 refuses.2.0 refusal refuses.2.1 refuses.3
     commit_acts reply acts = absurd acts

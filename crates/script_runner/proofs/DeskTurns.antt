@@ -98,7 +98,8 @@ module _ {V R : Type 0} (v : Values V R) where
   )
 
 module _ (F : Fitted) (a : ℕ) where
-  open F use {V, R, v, C, state, Fits, Owns, Allowed, fitting}
+  open F use {V, R, v, C, state, Allowed, beside, fitting}
+  open F.beside use {Fits, Owns}
 
   abbrev owned : ℕ → Machine V R → C → Kept → Type 0
   owned b m c k = Owns b k m (state c)

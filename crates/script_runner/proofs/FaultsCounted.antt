@@ -1,8 +1,7 @@
 -- What lines leave of the disk: it is the same one, later, and its count of faults tells what was refused.
 use Rattle.actor_parts.specs.declared.step.Answer.TheVariants as answers
-use Rattle.std.proofs.Common.{◌≡◌, ◌⊎◌, inl, inr, ◌∙◌, ◌+◌, ◌≤◌, ℕ, Bool, true, false, if◌then◌else◌, List, [], ◌∷◌, Option, Some, None, Result, Ok, Err, refl, sym, ap, subst, arith}
-use Rattle.std.specs.Prelude.{◌||◌, nat_lt}
-use Rattle.std.specs.List.{list_any}
+use Rattle.std.proofs.Common.{◌≡◌, ◌⊎◌, inl, inr, ◌+◌, ◌≤◌, ℕ, Bool, true, false, if◌then◌else◌, List, [], ◌∷◌, Option, Some, None, Result, Ok, Err, refl, sym, ap, subst, arith}
+use Rattle.std.specs.Prelude.{nat_lt}
 use Rattle.base_model.specs.Fault.{Rose}
 use Rattle.disk_format.specs.declared.numbers.TheConstants.{MOST_FILE}
 use Rattle.dd_disk.specs.Ending.{Ending, Done, Refused, CountsFault, ending, ending_of}
@@ -32,7 +31,6 @@ use Rattle.store_core.specs.Opening.{OpensCore, OpensNone}
 use Rattle.store_core.specs.State.{CoreState, Event}
 use Rattle.store_core.proofs.Stepping.{step_later}
 use Rattle.session_turns.specs.Turns.{Asks, Feeds, IsPaused, IsRefusedTurn, TakesTurn, TurnRun, TurnsStopped}
-use Rattle.plain_machine.specs.Runs.{Replied}
 use Rattle.script_runner.specs.Acts.{Acts, ActsReopen, ActsOrNot, BarsBy, RefusesPut, RefusesStep, RunnerState, RunsLine, CollectionRun, Sweeps}
 use Rattle.script_runner.specs.AnyDisk.{LinesGoOn}
 use Rattle.script_runner.specs.Named.{tells_fault}
@@ -161,24 +159,24 @@ module _ (C : Type 0) (state : C → CoreState) where
       went_on (ending blames answer) (state old).disk (state sweeps.1.0).disk (state new).disk (collected_went sweeps.0 old sweeps.1.0 sweeps.1.1.0) (step_went (state sweeps.1.0) (state new) _ sweeps.1.1.1.1)
 
   acts_went : (line : LineValue) (reply : ReplyValue) (r s : RunnerState C) → Acts C state line reply r s → GoesBy (ending_in reply) r.core s.core
-  acts_went (lines.Begin a) (replies.Begun b) r s acts = step_went (state r.core) (state s.core) _ acts.1.0.2.1
-  acts_went (lines.Begin a) (replies.Refused refusal) r s acts = refuses_went a asked.Begin refusal r.core s.core acts.0.0
+  acts_went (lines.Begin a) (replies.Begun b) r s acts = step_went (state r.core) (state s.core) _ acts.1.2.1
+  acts_went (lines.Begin a) (replies.Refused refusal) r s acts = refuses_went a asked.Begin refusal r.core s.core acts.0
   acts_went (lines.Push a digits) (replies.Pushed b count) r s acts =
-      let does = acts.1.0 in
+      let does = acts.1 in
       turns_went a does.3.0 does.0 does.3.1 r.core s.core does.3.2
-  acts_went (lines.Push a digits) (replies.Refused refusal) r s acts = fed_went a refusal (pushed_bytes digits) acts.0.0 acts.0.1 r.core s.core acts.0.3
-  acts_went (lines.Finish a) (replies.Finished b count) r s acts = done_here r.core s.core acts.1.0.6
-  acts_went (lines.Finish a) (replies.Refused refusal) r s acts = no_memory refusal r.core s.core acts.0.0 acts.0.2
+  acts_went (lines.Push a digits) (replies.Refused refusal) r s acts = fed_went a refusal (pushed_bytes digits) acts.0 acts.1 r.core s.core acts.3
+  acts_went (lines.Finish a) (replies.Finished b count) r s acts = done_here r.core s.core acts.1.6
+  acts_went (lines.Finish a) (replies.Refused refusal) r s acts = no_memory refusal r.core s.core acts.0 acts.2
   acts_went (lines.Turn a) (replies.Turn b told) r s acts =
-      let turns = acts.1.0 in
+      let turns = acts.1 in
       one_went a turns.3.0 turns.0 turns.1 r.core s.core turns.3.2
-  acts_went (lines.Turn a) (replies.Refused refusal) r s acts = refused_went a refusal acts.0.0 acts.0.1 r.core s.core acts.0.3
+  acts_went (lines.Turn a) (replies.Refused refusal) r s acts = refused_went a refusal acts.0 acts.1 r.core s.core acts.3
   acts_went (lines.Commit a name) (replies.Committed b sequence) r s acts =
       let puts = acts.1.2 in
       went_on Done (state r.core).disk (state puts.mid).disk (state s.core).disk (turns_went a puts.answers_are acts.1.0 puts.ready r.core puts.mid puts.turns) (step_went (state puts.mid) (state s.core) _ puts.put.1)
-  acts_went (lines.Commit a name) (replies.Refused refusal) r s acts = put_went a name refusal acts.0.0 acts.0.1 r.core s.core acts.0.3
-  acts_went (lines.Abort a) (replies.Aborted b) r s acts = step_went (state r.core) (state s.core) _ acts.1.0.0.1.1
-  acts_went (lines.Abort a) (replies.Refused refusal) r s acts = step_went (state r.core) (state s.core) _ acts.0.0.1
+  acts_went (lines.Commit a name) (replies.Refused refusal) r s acts = put_went a name refusal acts.0 acts.1 r.core s.core acts.3
+  acts_went (lines.Abort a) (replies.Aborted b) r s acts = step_went (state r.core) (state s.core) _ acts.1.0.1.1
+  acts_went (lines.Abort a) (replies.Refused refusal) r s acts = step_went (state r.core) (state s.core) _ acts.0.1
   acts_went (lines.Read a name) (replies.Reading b count) r s acts = step_went (state r.core) (state s.core) _ acts.1.0.1
   acts_went (lines.Read a name) (replies.Refused refusal) r s acts = step_went (state r.core) (state s.core) _ acts.0.1
   acts_went (lines.Next a) (replies.Bytes b bytes) r s acts = step_went (state r.core) (state s.core) _ acts.1.1.1.1.0
@@ -254,15 +252,10 @@ module _ (C : Type 0) (state : C → CoreState) where
   counts_by (replies.Refused refusal) old new went = no_fault (state new).disk.faults (state old).disk.faults went.faults
   counts_by reply old new went = no_fault (state new).disk.faults (state old).disk.faults went.faults
 
-  counts_on : (a b : Bool) (before mid now : ℕ) → Counts a before mid → Counts b mid now → Counts (a || b) before now
-  counts_on false false before mid now first second = no_fault now before (second.stays refl ∙ first.stays refl)
-  counts_on false true before mid now first second = a_fault now before (subst (λ (n : ℕ). Rose n now) (first.stays refl) (second.rose refl)) (omega (arith, first.later, second.later))
-  counts_on true b before mid now first second = a_fault now before (omega (arith, first.rose refl, second.later)) (omega (arith, first.later, second.later))
-
   pub lines_go_on : LinesGoOn C state
   lines_go_on [] r s runs = record {
     later = (done_here r.core s.core (ap (λ (x : RunnerState C). x.core) runs)).later;
-    counted = no_fault (state s.core).disk.faults (state r.core).disk.faults (ap (λ (x : RunnerState C). (state x.core).disk.faults) runs);
+    counted = ap (λ (x : RunnerState C). (state x.core).disk.faults) runs;
   }
   lines_go_on (one ∷ more) r s runs =
       let mid : RunnerState C = runs.1.0 in
@@ -270,6 +263,5 @@ module _ (C : Type 0) (state : C → CoreState) where
       let rest = lines_go_on more mid s runs.1.1.1 in
       record {
         later = later_on (state r.core).disk (state mid.core).disk (state s.core).disk went.later rest.later;
-        counted = counts_on (tells_fault one.reply) (list_any (λ (x : Replied). tells_fault x.reply) more) (state r.core).disk.faults (state mid.core).disk.faults (state s.core).disk.faults
-            (counts_by one.reply r.core mid.core went) rest.counted;
+        counted = ((state mid.core).disk.faults, (counts_by one.reply r.core mid.core went, rest.counted));
       }

@@ -8,6 +8,8 @@ use Rattle.dd_disk.proofs.Later.{leaves_weaker}
 use Rattle.disk_format.specs.Cells.{Root}
 use Rattle.disk_format.specs.declared.numbers.TheConstants.{MOST_FILE}
 use Rattle.merkle_file.specs.declared.top.Top.{Top}
+use Rattle.merkle_file.specs.Node as node
+use Rattle.base_model.specs.Known.{KnownWith}
 use Rattle.actor_parts.specs.declared.actor.TheConstants.{ACTORS}
 use Rattle.actor_parts.specs.declared.part.Part as core_part
 use Rattle.actor_parts.specs.declared.part.Part.TheVariants as core_parts
@@ -27,14 +29,14 @@ use Rattle.ingest_session.specs.declared.due.Due.{Due}
 use Rattle.ingest_session.specs.declared.due.Due.TheVariants as dues
 use Rattle.ingest_session.specs.Due.{due_in, open_of}
 use Rattle.ingest_session.specs.Facts.{MayFollow, kept}
-use Rattle.ingest_session.specs.History.{History, answered, no_history}
-use Rattle.ingest_session.specs.Moving.{IsOffered}
+use Rattle.ingest_session.specs.History.{History, answered, no_history, turn_of}
+use Rattle.ingest_session.specs.Moving.{IsItem, IsOffered}
 use Rattle.ingest_session.specs.State.{SessionState, turn_node}
 use Rattle.ingest_session.proofs.Ends.{all_is_kept, bytes_are_counted}
 use Rattle.ingest_session.proofs.Facts.{opens_are_pieces, turns_are_pieces}
 use Rattle.ingest_session.proofs.Members.{all_of, in_none, one_of}
 use Rattle.store_model.specs.Collisions.{ByteSet, HasNoCollisions, IsAmong, IsIn}
-use Rattle.store_model.specs.Pieces.{HasPieceOf, IsPieceOf, piece_segment}
+use Rattle.store_model.specs.Pieces.{Data, HasPieceOf, IsPieceOf, Node, piece_segment}
 use Rattle.store_model.specs.Trees.{root_of}
 use Rattle.store_core.specs.declared.stop.Stop.{Stop}
 use Rattle.store_core.specs.Core.{BeginRow, CoreStep, Row, StepsOr}
@@ -43,19 +45,23 @@ use Rattle.store_core.specs.Opening.{StaysOrStops}
 use Rattle.store_core.specs.Runs.{FileEvent, FileStep, IsGivenRight, IsNoGcStep, IsRightCommit, IsRootOf}
 use Rattle.store_core.specs.State.{CoreState, Event}
 use Rattle.store_core.proofs.CoreRuns.{running_step}
-use Rattle.plain_machine.specs.Runs.{Replied}
+use Rattle.store_machine.specs.Commands.{Replied}
+use Rattle.store_machine.specs.Asked.{Asked}
+use Rattle.store_machine.specs.Asked as asked_of
+use Rattle.store_machine.specs.Lines.{step_of}
 use Rattle.store_machine.specs.ByMap.{FileMachine}
 use Rattle.store_machine.specs.Forgetting.{SameParts, SameState}
 use Rattle.store_machine.specs.Machine.{Found, Idle, Part, Reading, RunState, Running, Stopped, Writing, kind_of}
 use Rattle.store_machine.specs.Values.{of_files}
 use Rattle.store_model.specs.Image.{Store}
-use Rattle.core_machine.specs.Files.{FitsBy, IsAtFiles, IsFileMachine, IsOfFile, IsOfFound}
+use Rattle.core_machine.specs.Bytes.{ChangesBytes}
+use Rattle.core_machine.specs.Files.{FitsBy, IsAtFiles, IsFileMachine, IsOfFile, IsOfFound, MayStand}
 use Rattle.core_machine.proofs.FileCrashes.{stands_found}
 use Rattle.core_machine.proofs.FileOpened.{files_opened, files_reopened_not}
 use Rattle.core_machine.proofs.FileStands.{disk_stands}
 use Rattle.core_machine.proofs.FilesRefined.{refined}
 use Rattle.script_runner.specs.Acts.{IsReady}
-use Rattle.script_runner.specs.LinesAreFileRuns.{BeginsAtFileDesk, FileDesk, HoldsKept, IsCutBy, IsCutOf, LinesAreFileRuns, OpenedIsAtDesk, OwnsKept, ScriptsAreFileRuns}
+use Rattle.script_runner.specs.LinesAreFileRuns.{BeginsAtFileDesk, FileDesk, HoldsKept, IsCutBy, IsCutOf, LinesAreFileRuns, OpenedIsAtDesk, OwnsKept, ScriptsAreFileRuns, beside_files}
 use Rattle.script_runner.specs.LinesAreRuns.{Kept, SameSessions}
 use Rattle.script_runner.proofs.DeskLines.{AllowedBy, line_runs, part_kinds, runs_by, script_runs, stops_by}
 use Rattle.script_runner.proofs.DeskParts.{KeepsWriting, others_stay, quiet_keeps, refused_keeps}
@@ -63,11 +69,16 @@ use Rattle.script_runner.proofs.DeskReopens.{idle_give, opened_parts, opened_run
 use Rattle.script_runner.proofs.DeskSessions.{none_same}
 use Rattle.script_runner.proofs.FileHeld.{held_by, holds_on, kept_then}
 use Rattle.script_runner.proofs.FileTurns.{turned_then}
-use Rattle.script_runner.proofs.Fitting.{Fitted, Fitting, HasTaken, IsAskedFor, IsOfGiven, Keeps}
-use Rattle.script_runner.proofs.LinesReopen.{still_held}
-use Rattle.script_runner.proofs.TurnAsks.{offered_piece}
-use Rattle.script_runner.proofs.TurnKept.{data_piece, of_kind}
-use Rattle.script_runner.proofs.TurnsDone.{right_root}
+use Rattle.script_runner.proofs.Fitting.{Fitted, Fitting, HasTaken, IsAskedFor, IsOfGiven, IsUnmade, Keeps}
+use Rattle.script_runner.proofs.StillHeld.{still_held}
+use Rattle.ingest_session.proofs.KeptPieces.{data_piece, of_kind}
+use Rattle.script_runner.proofs.RightRoot.{right_root}
+
+-- what is offered is a piece of the file
+offered_piece : (file : List ℕ) (n : Option node.Contents) (queue : List (List ℕ)) (seg : KindSegment) → IsItem n queue seg → AllByRecursion (IsPieceOf file) (turn_of n queue) → HasPieceOf file seg
+offered_piece file (Some n) queue seg is all = (Node n, all.0, is)
+offered_piece file None [] seg is all = absurd is
+offered_piece file None (x ∷ xs) seg is all = (Data x, all.0, is)
 
 -- ---- what is so of the machine of roots
 
@@ -276,7 +287,7 @@ module _ (C : Type 0) (state : C → CoreState) (among : ByteSet) (distinct : Ha
   rests_held old new reads tables known collection parts b k own = record {
     pins = own.pins;
     writing = ap (λ (ps : List core_part.Part). part_of ps b) parts ∙ own.writing;
-    held = λ kind x there. still_held old new reads tables known collection (record { kind = kind; segment = x }) (own.held kind x there);
+    held = λ kind x there. still_held old new reads tables known (record { kind = kind; segment = x }) (own.held kind x there);
     pinned = own.pinned;
   }
 
@@ -297,13 +308,23 @@ module _ (C : Type 0) (state : C → CoreState) (among : ByteSet) (distinct : Ha
   here_found : (m : FileMachine) (c : CoreState) → IsFileMachine S m c → (image : List ℕ) → c.disk.images image → IsOfFound S m image
   here_found m c fits image there = stands_found S m image ((disk_stands S m c fits).images image there)
 
-  files_fit : Fitting of_files C state (IsFileMachine S) OwnsKept Allowed (IsOfFound S)
+  -- the content stands for the machine's files
+  content_stands : (m : FileMachine) (c : CoreState) → IsFileMachine S m c → KnownWith c.disk.content (MayStand S m)
+  content_stands m c fits = (disk_stands S m c fits).content
+
+  -- want of memory before a step is made changes nothing
+  unmade_still : (a : ℕ) (step : Asked (List ℕ)) (m : FileMachine) (told : Option (List ℕ)) → IsUnmade step → ChangesBytes (step_of of_files a step (Err refusals.Memory)) m m told told
+  unmade_still a (asked_of.Delete name) m told is = λ old known. (old, known, refl)
+  unmade_still a asked_of.Reopen m told is = λ old known. (old, known, inl (refl, refl))
+  unmade_still a step m told is = absurd is
+
+  files_fit : Fitting of_files C state (beside_files S) Allowed
   files_fit = record {
     step = λ e given old new m runs fits right step.
         let so = given_by e given old new m fits e.step right step in
         let made : FileStep S (record { event = e; bytes = given }) (state old) (state new) = record { asked = so.0; given = so.1; made = step } in
         let one = refined C state among (record { event = e; bytes = given }) old new m distinct runs fits so.2 made in
-        (one.0, (one.1.0, one.1.1, keeps e given old new m fits one.0 made, one.2.0));
+        (one.0, (one.1.0, one.1.1, keeps e given old new m fits one.0 made, one.2.0, (one.1.2, content_stands one.0 (state new) one.1.1)));
     here = here_found;
     runs = λ m c fits none. runs_so m c fits none;
     stops = λ m c stop fits is. stops_so m c fits stop is;
@@ -316,6 +337,7 @@ module _ (C : Type 0) (state : C → CoreState) (among : ByteSet) (distinct : Ha
             one.1.1,
             leaves_weaker (λ image. (state old).disk.images image ⊎ IsOfFound S m image) (λ image. IsOfFound S m image ⊎ IsOfFound S one.0 image)
                 (state old).disk (state new).disk (λ image left. elim left [ inl there ↦ inl (here_found m (state old) fits image there) | inr found ↦ inl found ]) one.1.2,
+            (one.1.3, content_stands one.0 (state new) one.1.1),
           ),
         );
     unopened = λ a refusal old new m fits none leaves.
@@ -326,8 +348,10 @@ module _ (C : Type 0) (state : C → CoreState) (among : ByteSet) (distinct : Ha
             one.1.1,
             λ b k own. owns_still refusal (state old) (state new) m one.0 b k leaves own,
             leaves_weaker (IsOfFound S m) (λ image. IsOfFound S m image ⊎ IsOfFound S one.0 image) (state old).disk (state new).disk (λ image found. inl found) one.1.2,
+            (one.1.3, content_stands one.0 (state new) one.1.1),
           ),
         );
+    unmade = λ a step m c fits is. (unmade_still a step m c.disk.content is, content_stands m c fits);
   }
 
   abbrev files_fitted : Fitted
@@ -337,10 +361,8 @@ module _ (C : Type 0) (state : C → CoreState) (among : ByteSet) (distinct : Ha
     v = of_files;
     C = C;
     state = state;
-    Fits = IsFileMachine S;
-    Owns = OwnsKept;
+    beside = beside_files S;
     Allowed = Allowed;
-    Left = IsOfFound S;
     fitting = files_fit;
   }
 
@@ -348,8 +370,8 @@ module _ (C : Type 0) (state : C → CoreState) (among : ByteSet) (distinct : Ha
 
 module _ (C : Type 0) (state : C → CoreState) where
   pub lines_are_file_runs : LinesAreFileRuns C state
-  lines_are_file_runs among line reply r s d distinct actor cut at runs =
-      line_runs (files_fitted C state among distinct) r s d at (λ a t there bytes is. cut bytes (a, (t, (there, is)))) line reply actor runs
+  lines_are_file_runs among one r s d distinct actor cut at runs =
+      line_runs (files_fitted C state among distinct) r s d at (λ a t there bytes is. cut bytes (a, (t, (there, is)))) one.line one.reply actor runs
 
   -- what is cut on the way is as it is to be
   cut_allowed : (among : ByteSet) (distinct : HasNoCollisions (IsIn among)) (rs : List Replied) (d : FileDesk) → ((bytes : List ℕ) → IsCutBy rs d bytes → IsIn among bytes)
@@ -377,4 +399,4 @@ pub opened_is_at_desk : (D : Type 0) (view : D → DiskView) (C : Type 0) (state
 opened_is_at_desk D view C state among actor before m r distinct stands opens sessions =
     let runs = opened_runs D view (view before) (state r.core) opens in
     let one = files_opened D view C state among actor before r.core m distinct stands opens runs in
-    (one.0, (one.1.0, begins_at_file_desk C state among one.0 r runs one.1.1 (opened_parts D view (view before) (state r.core) opens) sessions))
+    (one.0, (one.1.0, begins_at_file_desk C state among one.0 r runs one.1.1 (opened_parts D view (view before) (state r.core) opens) sessions, one.1.2, (one.1.3, (disk_stands (IsIn among) one.0 (state r.core) one.1.1).content)))

@@ -23,7 +23,9 @@ use Rattle.core_machine.specs.Files.{IsAtFiles, stored_in}
 use Rattle.core_machine.proofs.FileSteps.{by_gc}
 use Rattle.script_runner.specs.LinesAreFileRuns.{HoldsKept}
 use Rattle.script_runner.specs.LinesAreRuns.{Kept}
-use Rattle.script_runner.proofs.CollectParts.{gc_event, needed_held, pin_needed}
+use Rattle.script_runner.proofs.CollectHolds.{gc_event}
+use Rattle.script_runner.proofs.CollectHolds.{needed_held}
+use Rattle.script_runner.proofs.CollectHolds.{pin_needed}
 
 module _ (C : Type 0) (state : C → CoreState) (among : ByteSet) (apart : HasNoCollisions (IsIn among)) (f : FileEvent) (old new : C) (m : FileMachine)
     (at : IsAtFiles (IsIn among) m (state old))

@@ -10,7 +10,13 @@ use Rattle.actor_parts.specs.PinMap.{PinMap}
 use Rattle.actor_parts.specs.Segments.{pin_by}
 use Rattle.ingest_steps.specs.Pinning.{with_pins}
 use Rattle.ingest_session.proofs.Members.{IsIn, in_none}
-use Rattle.script_runner.proofs.TurnPins.{same_key}
+use Rattle.std.proofs.Common.{◌≡◌, ◌∙◌, ℕ, zero, suc, Bool, true, false, cond, List, [], ◌∷◌, Some, refl, sym, ap}
+use Rattle.std.proofs.lemmas.Slice.Eq.{bytes_eq-Decides}
+use Rattle.store_model.proofs.Indexing.{tied}
+use Rattle.ingest_session.proofs.Members.{IsIn, in_none}
+
+same_key : (key : List ℕ) → eq_by_cmp (slice_cmp nat_cmp) key key ≡ true
+same_key key = tied key key ∙ (bytes_eq-Decides key key).1 refl
 
 abbrev pub HasPin : PinMap → List ℕ → Type 0
 HasPin pins key = (pin : Pin) × (finite.get pins key ≡ Some pin)

@@ -32,9 +32,22 @@ use Rattle.store_core.specs.State.{CoreState}
 use Rattle.script_runner.specs.LinesAreFileRuns.{HoldsKept}
 use Rattle.script_runner.proofs.FilePins.{HasPin, pin_now, pin_on, pins_now, pins_on}
 use Rattle.script_runner.proofs.Fitting.{IsAskedFor}
-use Rattle.script_runner.proofs.TurnKept.{item_is, kept_absent, kept_held, kept_sealed, of_kind, one_item}
-use Rattle.script_runner.proofs.TurnMade.{unmapped}
-use Rattle.script_runner.proofs.TurnPins.{same_pins}
+use Rattle.ingest_session.proofs.KeptPieces.{item_is, kept_absent, kept_held, kept_sealed, of_kind, one_item}
+use Rattle.std.proofs.Common.{◌≡◌, inl, inr, ◌∙◌, ◌<◌, ℕ, List, [], ◌∷◌, map, Ok, refl, sym, ap, subst, arith}
+use Rattle.actor_parts.specs.Segments.{pin_of}
+use Rattle.store_core.specs.Keeping.{IsHeldIn}
+use Rattle.ingest_session.specs.declared.due.Due.TheVariants.{Claim, Seal, Nothing}
+use Rattle.ingest_session.specs.Due.{due_in, open_of}
+use Rattle.ingest_session.specs.History.{History, answered}
+use Rattle.ingest_session.proofs.Members.{IsIn, one_of}
+use Rattle.ingest_session.proofs.KeptPieces.{item_is, kept_absent, kept_held, kept_sealed, of_kind, one_item}
+
+unmapped : {A B : Type 0} (P : B → Type 0) (f : A → B) (xs : List A) → AllByRecursion P (map f xs) → AllByRecursion (λ x. P (f x)) xs
+unmapped P f [] all = tt
+unmapped P f (x ∷ xs) all = (all.0, unmapped P f xs all.1)
+
+same_pins : (a b : PinMap) → core_parts.Writing a ≡ core_parts.Writing b → a ≡ b
+same_pins a b is = cc
 
 module _ (old new : CoreState) (a : ℕ) (below : a < ACTORS) (many : length old.parts ≡ ACTORS) (x : SessionState) (h : History) (own : HoldsKept a (kept h) old)
     (held : (seg : KindSegment) → IsHeldIn seg old → IsHeldIn seg new) where

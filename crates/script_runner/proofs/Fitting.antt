@@ -10,6 +10,7 @@ use Rattle.actor_parts.specs.StepValue as steps
 use Rattle.actor_parts.specs.StepValue.{IsStep, StepValue}
 use Rattle.container_meta.specs.declared.kind.Kind.{Kind}
 use Rattle.refusals.specs.declared.refusal.Refusal.{Refusal}
+use Rattle.refusals.specs.declared.refusal.Refusal.TheVariants.{Memory}
 use Rattle.ingest_session.specs.declared.due.Due.{Due}
 use Rattle.ingest_session.specs.declared.due.Due.TheVariants as dues
 use Rattle.ingest_session.specs.Due.{due_in, open_of}
@@ -35,7 +36,7 @@ use Rattle.store_machine.specs.Machine.{Machine, Running, Stopped, kind_of, part
 use Rattle.store_machine.specs.Values.{Values}
 use Rattle.core_machine.specs.Refines.{answered_by, asked_as}
 use Rattle.script_runner.specs.Acts.{IsReady, RunnerState}
-use Rattle.script_runner.specs.LinesAreRuns.{IsAtDesk, Kept, LeadsTo}
+use Rattle.script_runner.specs.LinesAreRuns.{Beside, IsAtDesk, Kept, LeadsTo}
 use Rattle.script_runner.proofs.DeskParts.{IsQuiet}
 
 -- the session took these bytes, all of the file or not yet, which are allowed, and P holds of what is kept
@@ -76,28 +77,38 @@ pub record Keeps {V R : Type 0} (Owns : ℕ → Kept → Machine V R → CoreSta
 abbrev pub LeavesEither : {V R : Type 0} → (Machine V R → List ℕ → Type 0) → Machine V R → Machine V R → DiskView → DiskView → Type 0
 LeavesEither Left m n old new = CrashLeaves (λ image. Left m image ⊎ Left n image) old new
 
-pub record Fitting {V R : Type 0} (v : Values V R) (C : Type 0) (state : C → CoreState) (Fits : Machine V R → CoreState → Type 0)
-    (Owns : ℕ → Kept → Machine V R → CoreState → Type 0) (Allowed : List ℕ → Bool → Type 0) (Left : Machine V R → List ℕ → Type 0) : Type 1 where
+-- a step that may be answered before anything is done of it
+abbrev pub IsUnmade : {V : Type 0} → Asked V → Type 0
+IsUnmade (asked.Delete name) = Unit {0}
+IsUnmade asked.Reopen = Unit {0}
+IsUnmade step = ⊥
+
+pub record Fitting {V R : Type 0} (v : Values V R) (C : Type 0) (state : C → CoreState) (b : Beside V R) (Allowed : List ℕ → Bool → Type 0) : Type 1 where
   -- a step of the core is one of the machine
-  pub step : (e : Event) (given : List ℕ) (old new : C) (m : Machine V R) → IsRunning (state old) → Fits m (state old)
-      → IsOfGiven Allowed (λ k. Owns e.actor k m (state old)) e.step given → CoreStep (state old) e (state new)
+  pub step : (e : Event) (given : List ℕ) (old new : C) (m : Machine V R) → IsRunning (state old) → b.Fits m (state old)
+      → IsOfGiven Allowed (λ k. b.Owns e.actor k m (state old)) e.step given → CoreStep (state old) e (state new)
       → (n : Machine V R) × (Legal v (step_of v e.actor (asked_as (λ root. v.of given) e.step) (answered_by e.answer e.buf)) m n
-      × Fits n (state new) × Keeps Owns e m n (state old) (state new) × LeavesEither Left m n (state old).disk (state new).disk)
+      × b.Fits n (state new) × Keeps b.Owns e m n (state old) (state new) × LeavesEither b.Left m n (state old).disk (state new).disk
+      × b.Changes (step_of v e.actor (asked_as (λ root. v.of given) e.step) (answered_by e.answer e.buf)) m n (state old).disk.content (state new).disk.content)
   -- what a crash leaves of a disk the machine may leave
-  pub here : (m : Machine V R) (c : CoreState) → Fits m c → (image : List ℕ) → c.disk.images image → Left m image
+  pub here : (m : Machine V R) (c : CoreState) → b.Fits m c → (image : List ℕ) → c.disk.images image → b.Left m image
   -- they run and are stopped together, and each actor is at the same kind of thing
-  pub runs : (m : Machine V R) (c : CoreState) → Fits m c → c.stop ≡ None → m.state ≡ Running
-  pub stops : (m : Machine V R) (c : CoreState) (stop : Stop) → Fits m c → c.stop ≡ Some stop
+  pub runs : (m : Machine V R) (c : CoreState) → b.Fits m c → c.stop ≡ None → m.state ≡ Running
+  pub stops : (m : Machine V R) (c : CoreState) (stop : Stop) → b.Fits m c → c.stop ≡ Some stop
       → ((other : _) × (stores : _) × (m.state ≡ Stopped other stores)) × (stop.at ≡ m.acknowledged)
-  pub kinds : (m : Machine V R) (c : CoreState) → Fits m c → (a : ℕ) → kind_of (part_in m a) ≡ core_kinds.kind_of (part_of c.parts a)
+  pub kinds : (m : Machine V R) (c : CoreState) → b.Fits m c → (a : ℕ) → kind_of (part_in m a) ≡ core_kinds.kind_of (part_of c.parts a)
   -- an opening of the one is one of the other
-  pub opened : (a : ℕ) (old new : C) (m : Machine V R) → Fits m (state old) → OpensCore C (λ c. (state c).disk) (state old).disk (state new) → IsRunning (state new)
-      → (n : Machine V R) × (Legal v (step_of v a asked.Reopen (Ok (done.Reopened (finite.len (state new).tables.names)))) m n × Fits n (state new)
-      × LeavesEither Left m n (state old).disk (state new).disk)
-  pub unopened : (a : ℕ) (refusal : Refusal) (old new : C) (m : Machine V R) → Fits m (state old) → OpensNone C (λ c. (state c).disk) refusal (state old).disk (state new).disk
+  pub opened : (a : ℕ) (old new : C) (m : Machine V R) → b.Fits m (state old) → OpensCore C (λ c. (state c).disk) (state old).disk (state new) → IsRunning (state new)
+      → (n : Machine V R) × (Legal v (step_of v a asked.Reopen (Ok (done.Reopened (finite.len (state new).tables.names)))) m n × b.Fits n (state new)
+      × LeavesEither b.Left m n (state old).disk (state new).disk
+      × b.Changes (step_of v a asked.Reopen (Ok (done.Reopened (finite.len (state new).tables.names)))) m n (state old).disk.content (state new).disk.content)
+  pub unopened : (a : ℕ) (refusal : Refusal) (old new : C) (m : Machine V R) → b.Fits m (state old) → OpensNone C (λ c. (state c).disk) refusal (state old).disk (state new).disk
       → StaysOrStops C (λ c. (state c).disk) refusal (state old) (state new)
-      → (n : Machine V R) × (Legal v (step_of v a asked.Reopen (Err refusal)) m n × Fits n (state new) × ((b : ℕ) (k : Kept) → Owns b k m (state old) → Owns b k n (state new))
-      × LeavesEither Left m n (state old).disk (state new).disk)
+      → (n : Machine V R) × (Legal v (step_of v a asked.Reopen (Err refusal)) m n × b.Fits n (state new) × ((c : ℕ) (k : Kept) → b.Owns c k m (state old) → b.Owns c k n (state new))
+      × LeavesEither b.Left m n (state old).disk (state new).disk
+      × b.Changes (step_of v a asked.Reopen (Err refusal)) m n (state old).disk.content (state new).disk.content)
+  -- want of memory before a step is made changes nothing
+  pub unmade : (a : ℕ) (step : Asked V) (m : Machine V R) (c : CoreState) → b.Fits m c → IsUnmade step → b.Changes (step_of v a step (Err Memory)) m m c.disk.content c.disk.content
 
 -- A relation of machines and cores that gives it, of all that it speaks of.
 pub record Fitted : Type 1 where
@@ -106,14 +117,12 @@ pub record Fitted : Type 1 where
   pub v : Values V R
   pub C : Type 0
   pub state : C → CoreState
-  pub Fits : Machine V R → CoreState → Type 0
-  pub Owns : ℕ → Kept → Machine V R → CoreState → Type 0
+  pub beside : Beside V R
   pub Allowed : List ℕ → Bool → Type 0
-  pub Left : Machine V R → List ℕ → Type 0
-  pub fitting : Fitting v C state Fits Owns Allowed Left
+  pub fitting : Fitting v C state beside Allowed
 
 abbrev pub AtDesk : (F : Fitted) → Desk F.V F.R → RunnerState F.C → Type 0
-AtDesk F d r = IsAtDesk F.state F.Fits F.Owns d r
+AtDesk F d r = IsAtDesk F.state F.beside d r
 
 abbrev pub Leads : (F : Fitted) → LineValue → ReplyValue → Desk F.V F.R → RunnerState F.C → RunnerState F.C → Type 0
-Leads F line reply d r s = LeadsTo F.v F.state F.Fits F.Owns F.Left line reply d r s
+Leads F line reply d r s = LeadsTo F.v F.state F.beside (record { line = line; reply = reply }) d r s

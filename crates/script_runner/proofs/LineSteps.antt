@@ -99,21 +99,21 @@ module _ (C : Type 0) (state : C → CoreState) where
       both 0 1 1 old tried.1 new (omega arith) (turns actor tried.0 s t old tried.1 tried.2) (refuses_or 1 actor (asked.Commit name tried.3.0) refusal tried.1 new tt (omega arith) tried.3.2)
 
   acts : (line : lines.LineValue) (reply : ReplyValue) (r s : RunnerState C) → IsNoSweep line → Acts C state line reply r s → Makes (commands_of_line line) r.core s.core
-  acts (lines.Begin a) (replies.Begun b) r s unswept is = let begins = is.1.0 in does 0 a asked.Begin begins.0 r.core s.core tt (omega arith) begins.2
-  acts (lines.Begin a) (replies.Refused refusal) r s unswept is = refuses_or 0 a asked.Begin refusal r.core s.core tt (omega arith) is.0.0
-  acts (lines.Push a digits) (replies.Pushed b count) r s unswept is = let pushes = is.1.0 in feeds a (Ok tt) (pushed_bytes digits) pushes.0 pushes.1 r.core s.core pushes.3
-  acts (lines.Push a digits) (replies.Refused refusal) r s unswept is = let pushes = is.0 in feeds a (Err refusal) (pushed_bytes digits) pushes.0 pushes.1 r.core s.core pushes.3
-  acts (lines.Finish a) (replies.Finished b count) r s unswept is = let ends = is.1.0 in none 0 r.core s.core ends.6
-  acts (lines.Finish a) (replies.Refused refusal) r s unswept is = let ends = is.0 in none 0 r.core s.core ends.2
-  acts (lines.Turn a) (replies.Turn b told) r s unswept is = let made = is.1.0 in takes a (Ok made.3.0) made.0 made.1 r.core s.core made.3.2
-  acts (lines.Turn a) (replies.Refused refusal) r s unswept is = let made = is.0 in takes a (Err refusal) made.0 made.1 r.core s.core made.3
+  acts (lines.Begin a) (replies.Begun b) r s unswept is = let begins = is.1 in does 0 a asked.Begin begins.0 r.core s.core tt (omega arith) begins.2
+  acts (lines.Begin a) (replies.Refused refusal) r s unswept is = refuses_or 0 a asked.Begin refusal r.core s.core tt (omega arith) is.0
+  acts (lines.Push a digits) (replies.Pushed b count) r s unswept is = let pushes = is.1 in feeds a (Ok tt) (pushed_bytes digits) pushes.0 pushes.1 r.core s.core pushes.3
+  acts (lines.Push a digits) (replies.Refused refusal) r s unswept is = let pushes = is in feeds a (Err refusal) (pushed_bytes digits) pushes.0 pushes.1 r.core s.core pushes.3
+  acts (lines.Finish a) (replies.Finished b count) r s unswept is = let ends = is.1 in none 0 r.core s.core ends.6
+  acts (lines.Finish a) (replies.Refused refusal) r s unswept is = let ends = is in none 0 r.core s.core ends.2
+  acts (lines.Turn a) (replies.Turn b told) r s unswept is = let made = is.1 in takes a (Ok made.3.0) made.0 made.1 r.core s.core made.3.2
+  acts (lines.Turn a) (replies.Refused refusal) r s unswept is = let made = is in takes a (Err refusal) made.0 made.1 r.core s.core made.3
   acts (lines.Commit a name) (replies.Committed b sequence) r s unswept is =
       let commits = is.1 in
       let puts = commits.2 in
       both 0 1 1 r.core puts.mid s.core (omega arith) (turns a puts.answers_are commits.0 puts.ready r.core puts.mid puts.turns) (does 1 a (asked.Commit name puts.root) puts.answer puts.mid s.core tt (omega arith) puts.put)
-  acts (lines.Commit a name) (replies.Refused refusal) r s unswept is = let refused = is.0 in put_refused a name refusal refused.0 refused.1 r.core s.core refused.3
-  acts (lines.Abort a) (replies.Aborted b) r s unswept is = let aborts = is.1.0 in does 0 a asked.Abort aborts.0.0 r.core s.core tt (omega arith) aborts.0.1
-  acts (lines.Abort a) (replies.Refused refusal) r s unswept is = let aborts = is.0 in refuses 0 a asked.Abort refusal r.core s.core tt (omega arith) aborts.0
+  acts (lines.Commit a name) (replies.Refused refusal) r s unswept is = let refused = is in put_refused a name refusal refused.0 refused.1 r.core s.core refused.3
+  acts (lines.Abort a) (replies.Aborted b) r s unswept is = let aborts = is.1 in does 0 a asked.Abort aborts.0.0 r.core s.core tt (omega arith) aborts.0.1
+  acts (lines.Abort a) (replies.Refused refusal) r s unswept is = let aborts = is in refuses 0 a asked.Abort refusal r.core s.core tt (omega arith) aborts.0
   acts (lines.Read a name) (replies.Reading b count) r s unswept is = let opens = is.1 in does 0 a (asked.OpenRead name) (answers.Opened count) r.core s.core tt (omega arith) opens.0
   acts (lines.Read a name) (replies.Refused refusal) r s unswept is = refuses 0 a (asked.OpenRead name) refusal r.core s.core tt (omega arith) is.0
   acts (lines.Next a) (replies.Bytes b bytes) r s unswept is =

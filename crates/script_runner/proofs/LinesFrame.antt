@@ -27,7 +27,7 @@ use Rattle.store_core.proofs.CoreRuns.{run_later}
 use Rattle.store_core.proofs.Frames.{written_stays}
 use Rattle.store_core.proofs.Reserves.{reserve_stays}
 use Rattle.store_core.proofs.Opened.{durable_settled}
-use Rattle.plain_machine.specs.Runs.{Replied, ends}
+use Rattle.store_machine.specs.Commands.{Replied, ends}
 use Rattle.script_runner.specs.Acts.{ActsReopen, RefusesReopen, RunnerState, RunsLine, counted}
 use Rattle.script_runner.specs.Frame.{IsOnContent, LinesKeepWritten, IsNoSweep, NeedNoCheckpoint, NeverReopens, NeverSweeps, OpenedIsOn, commands_among, commands_of_line}
 use Rattle.script_runner.specs.Scripts.{RunsLines}

@@ -1,7 +1,11 @@
 -- Lists with an item for each actor: one is set, and then looked up.
-use Rattle.std.proofs.Common.{◌≡◌, ◌≢◌, ◌<◌, ◌≤◌, inl, inr, ◌∙◌, ℕ, List, length, slice_index_or, slice_set, refl, sym}
+use Rattle.std.proofs.Common.{◌≡◌, ◌≢◌, ◌<◌, ◌≤◌, inl, inr, ◌∙◌, ℕ, List, length, slice_index_or, slice_set, replicate, refl, sym}
 use Rattle.std.proofs.lemmas.Bool.{cases_lt}
 use Rattle.std.proofs.lemmas.List.{get_or-set_same, get_or-set_other, get_or_past, length-set, set-get_or}
+use Rattle.std.proofs.lemmas.List.{get_or-replicate}
+use Rattle.actor_parts.specs.declared.actor.TheConstants.{ACTORS}
+use Rattle.actor_parts.specs.declared.part.Part.TheVariants as core_parts
+use Rattle.actor_parts.specs.Parts.{part_of}
 
 -- at most the item of one place is another
 pub record OneSet {T : Type 0} (place : ℕ) (none : T) (old new : List T) : Type 0 where
@@ -32,3 +36,9 @@ some_within place none x xs is some = elim (cases_lt place (length xs)) [
   | inl below ↦ below
   | inr past ↦ absurd (some (sym (none_past place none xs past) ∙ is))
 ]
+
+-- ---- idle actors
+
+pub idle_part : (actor : ℕ) → actor < ACTORS → part_of (replicate ACTORS core_parts.Idle) actor ≡ core_parts.Idle
+unfolding part_of
+idle_part actor below = get_or-replicate ACTORS actor core_parts.Idle core_parts.Idle below

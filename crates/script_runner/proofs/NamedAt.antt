@@ -22,11 +22,11 @@ use Rattle.script_lines.specs.ReplyValue.{ReplyValue}
 use Rattle.store_model.specs.Image.{Store}
 use Rattle.read_steps.specs.Readers.{reading}
 use Rattle.store_core.specs.State.{CoreState, IsRunning}
-use Rattle.plain_machine.specs.Refused.{actor_of, takes}
+use Rattle.store_machine.specs.Lines.{actor_of, takes}
 use Rattle.script_runner.specs.Acts.{Admits, RunnerState}
 use Rattle.script_runner.specs.Named.{Account, AreNamed, Doing, Idle, Writing, Finished, Reading, IsAtRightPart, IsGiving, Refuses, RefusesOn, TellsRunning, doing_of, kind_of, opened, with_doing}
 use Rattle.script_runner.specs.Sessions.{Sessions, has_ended, kind_by, session_of, with_session}
-use Rattle.script_runner.proofs.LinesReopen.{idle_part}
+use Rattle.script_runner.proofs.Lists.{idle_part}
 use Rattle.script_runner.proofs.Lists.{OneSet, none_set, one_set, set_here}
 use Rattle.script_runner.proofs.NamedSteps.{Gives, IsTold, IsWriting, Keeps, Quiet, Stands, quiet_here}
 

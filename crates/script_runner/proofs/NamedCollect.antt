@@ -33,11 +33,35 @@ use Rattle.store_core.proofs.CoreRuns.{running_step}
 use Rattle.store_core.proofs.RunningOn.{step_runs}
 use Rattle.script_runner.specs.Acts.{Acts, Admits, CollectionRun, Collects, RunnerState, Starts, Sweeps}
 use Rattle.script_runner.specs.Named.{Account, IsOfCollection, IsOfStart, stops}
-use Rattle.script_runner.proofs.CollectStart.{parts_still as start_parts}
-use Rattle.script_runner.proofs.CollectStep.{counts_still, parts_still}
 use Rattle.script_runner.proofs.CopyRefused.{IsCopyCause, copying_cause}
 use Rattle.script_runner.proofs.NamedAt.{At, Told, no_actor, refuses, still, still_runs, told}
 use Rattle.script_runner.proofs.NamedSteps.{IsTold, Quiet, SameNames, Stands, done_stands, quiet_here, quiet_on, quiet_step, refused_stands}
+use Rattle.std.proofs.Common.{◌≡◌, inl, inr, ℕ, List, [], ◌∷◌, false, Option, Some, None, Result, Ok, Err, refl, sym, ◌∙◌, ap, subst, arith}
+use Rattle.gc_steps.specs.Stepping.{TablesAfter}
+use Rattle.store_core.specs.Collecting.{GcRow, at_moment}
+use Rattle.store_core.specs.Core.{CoreStep, Steps, counted}
+use Rattle.store_core.specs.State.{CoreState}
+
+-- ---- what a collection leaves
+
+start_still : (percent : ℕ) (old new : CoreState) (answer : Result Answer Refusal) → StartRow percent answer old new → new.parts ≡ old.parts
+start_still percent old new (Ok (answers.Started snapshot)) row = row.1
+start_still percent old new (Err (refusals.Collecting phase)) row = row.2
+start_still percent old new (Err refusal) row = row.parts_are
+start_still percent old new answer row = absurd row
+
+module _ (old new : CoreState) where
+  parts_still : (answer : Result Answer Refusal) → GcRow answer old new → new.parts ≡ old.parts
+  parts_still (Ok (answers.Did phase)) row = row.1
+  parts_still (Ok (answers.Done freed copied)) row = row.1
+  parts_still (Err refusals.NotCollecting) row = row.1
+  parts_still (Err refusal) row = row.1
+  parts_still answer row = absurd row
+
+  counts_still : (answer : Result Answer Refusal) (n : ℕ) → GcRow answer old new → counted answer n ≡ n
+  counts_still (Ok (answers.Committed sequence)) n row = absurd row
+  counts_still (Ok (answers.Deleted sequence)) n row = absurd row
+  counts_still answer n row = refl
 
 -- ---- what a step may be refused by
 
@@ -198,7 +222,7 @@ module _ (C : Type 0) (state : C → CoreState) (t : Account) (r s : RunnerState
       let is = of_start percent refusal (told t r.sessions old at admits.runs) steps.made.row in
       still C state (lines.Gc percent) (replies.Refused refusal) t r s at 0 (omega arith) (quiet_step old new e starts.1 tt at.running) (stops refusal)
       (refused_stands old new (asked.GcStart percent) 0 refusal starts.0 tt steps (told t r.sessions old at admits.runs))
-      (refuses (lines.Gc percent) refusal t (no_actor (lines.Gc percent) t refl) is, refl) sessions (first_part (start_parts percent old new (Err refusal) steps.made.row))
+      (refuses (lines.Gc percent) refusal t (no_actor (lines.Gc percent) t refl) is, refl) sessions (first_part (start_still percent old new (Err refusal) steps.made.row))
 
   pub gc_told : (percent : ℕ) (reply : ReplyValue) → Admits (lines.Gc percent) r.sessions (state r.core) → Acts C state (lines.Gc percent) reply r s → Told C state (lines.Gc percent) reply t s
   gc_told percent (replies.Collecting snapshot) admits acts =

@@ -35,19 +35,19 @@ use Rattle.store_core.proofs.GivingFiles.{length_on, other_part}
 use Rattle.store_core.proofs.Making.{up_of}
 use Rattle.store_core.proofs.RunningOn.{step_runs}
 use Rattle.store_core.proofs.Stepping.{ChangesOne, row_one}
-use Rattle.plain_machine.specs.Machine.{one_more}
-use Rattle.plain_machine.specs.Refused.{takes}
+use Rattle.store_machine.specs.Machine.{one_more}
+use Rattle.store_machine.specs.Lines.{takes}
 use Rattle.script_runner.specs.Acts.{Acts, Admits, DoesStep, IsReady, RefusesPut, RunnerState}
 use Rattle.script_runner.specs.Named.{Account, Doing, Idle, Writing, Finished, IsGiving, IsNumber, IsOfTurn, MayName, RefusesOn, doing_of, kind_of, stops, with_doing, with_name}
 use Rattle.script_runner.specs.Sessions.{session_of, with_session}
 use Rattle.session_turns.specs.Turns.{Feeds, TakesTurn, TurnRun}
 use Rattle.session_turns.proofs.TurnRuns.{no_turns}
-use Rattle.script_runner.proofs.LinesPush.{why_long}
+use Rattle.script_runner.proofs.PushRefused.{why_long}
 use Rattle.script_runner.proofs.Lists.{one_set}
 use Rattle.script_runner.proofs.NamedAt.{At, AtPart, Counts, Told, at_by, at_on, changes, doing_now, given_in, given_on, giving, keeps, no_memory, one_session, own_at, part_now, refuses, right_part, session_now, still_runs, taken, told}
 use Rattle.script_runner.proofs.NamedChange.{generation_now, last_now, names_now, number_so, records_now}
 use Rattle.script_runner.proofs.NamedSteps.{Gives, IsWriting, Quiet, Stands, Turned, done_stands, keeps_paused, quiet_here, quiet_on, quiet_step, refused_stands, refused_turned, stopped_turned, turns_turned}
-use Rattle.script_runner.proofs.TurnRefusals.{no_other}
+use Rattle.script_runner.proofs.NamedSteps.{no_other}
 
 -- ---- what a line that is taken finds
 
@@ -147,7 +147,7 @@ module _ (C : Type 0) (state : C → CoreState) (t : Account) (r s : RunnerState
 
   pub begin_told : (reply : ReplyValue) → Admits (lines.Begin a) r.sessions (state r.core) → Acts C state (lines.Begin a) reply r s → Told C state (lines.Begin a) reply t s
   begin_told (replies.Begun b) admits acts =
-      let begins = acts.1.0 in
+      let begins = acts.1 in
       let quiet = quiet_step old new (event asked.Begin (Ok begins.0) begins.2.0) begins.2.1 tt at.running in
       changes C state (lines.Begin a) (replies.Begun b) t r s at a below quiet (Writing []) (done admits.runs asked.Begin tt begins.0 begins.2.0 begins.2.1)
       (acts.0, idle_taken a (doing_of t a) (taken t r.sessions old at (lines.Begin a) a below refl admits), refl)
@@ -157,8 +157,8 @@ module _ (C : Type 0) (state : C → CoreState) (t : Account) (r s : RunnerState
       )
   begin_told (replies.Refused refusal) admits acts =
       let right = taken t r.sessions old at (lines.Begin a) a below refl admits in
-      elim acts.0.0 [
-        | inl memory ↦ no_memory C state (lines.Begin a) refusal t r s at admits.runs (right_part (lines.Begin a) a t refl right) tt memory.0 memory.1 acts.0.1
+      elim acts.0 [
+        | inl memory ↦ no_memory C state (lines.Begin a) refusal t r s at admits.runs (right_part (lines.Begin a) a t refl right) tt memory.0 memory.1 acts.1
         | inr refused ↦
             let idle = own Idle (idle_taken a (doing_of t a) right) in
             let row = (stepped admits.runs asked.Begin (Err refusal) refused.0 refused.1).made.row in
@@ -192,7 +192,7 @@ module _ (C : Type 0) (state : C → CoreState) (t : Account) (r s : RunnerState
 
     pub push_told : (reply : ReplyValue) → Admits (lines.Push a digits) r.sessions (state r.core) → Acts C state (lines.Push a digits) reply r s → Told C state (lines.Push a digits) reply t s
     push_told (replies.Pushed b count) admits acts =
-        let does = acts.1.0 in
+        let does = acts.1 in
         let was : SessionState = does.0 in
         let now : SessionState = does.1 in
         let feeds = does.3 in
@@ -219,7 +219,7 @@ module _ (C : Type 0) (state : C → CoreState) (t : Account) (r s : RunnerState
           ),
         )
     push_told (replies.Refused refusal) admits acts =
-        let refused = acts.0 in
+        let refused = acts in
         let writes = push_taken a digits (doing_of t a) (taken t r.sessions old at (lines.Push a digits) a below refl admits) in
         not_pushed refusal refused.0 refused.1 writes.0 writes.1 admits refused.2.0 refused.2.1 refused.3
     push_told reply admits acts = absurd acts
@@ -228,7 +228,7 @@ module _ (C : Type 0) (state : C → CoreState) (t : Account) (r s : RunnerState
 
   pub finish_told : (reply : ReplyValue) → Admits (lines.Finish a) r.sessions (state r.core) → Acts C state (lines.Finish a) reply r s → Told C state (lines.Finish a) reply t s
   finish_told (replies.Finished b count) admits acts =
-      let ends = acts.1.0 in
+      let ends = acts.1 in
       let was : SessionState = ends.0 in
       let now : SessionState = ends.1 in
       let writes = finish_taken a (doing_of t a) (taken t r.sessions old at (lines.Finish a) a below refl admits) in
@@ -250,7 +250,7 @@ module _ (C : Type 0) (state : C → CoreState) (t : Account) (r s : RunnerState
       )
   finish_told (replies.Refused refusal) admits acts =
       let right = right_part (lines.Finish a) a t refl (taken t r.sessions old at (lines.Finish a) a below refl admits) in
-      no_memory C state (lines.Finish a) refusal t r s at admits.runs right tt acts.0.0 acts.0.2 acts.0.1
+      no_memory C state (lines.Finish a) refusal t r s at admits.runs right tt acts.0 acts.2 acts.1
   finish_told reply admits acts = absurd acts
 
   -- ---- turn
@@ -262,13 +262,13 @@ module _ (C : Type 0) (state : C → CoreState) (t : Account) (r s : RunnerState
 
   pub turn_told : (reply : ReplyValue) → Admits (lines.Turn a) r.sessions (state r.core) → Acts C state (lines.Turn a) reply r s → Told C state (lines.Turn a) reply t s
   turn_told (replies.Turn b told) admits acts =
-      let turns = acts.1.0 in
+      let turns = acts.1 in
       let is = turn_taken a (doing_of t a) (taken t r.sessions old at (lines.Turn a) a below refl admits) in
       let turned = one_turned turns.3.0 turns.0 turns.1 turns.3.2 (gives admits.runs (doing_of t a) refl is) in
       keeps C state (lines.Turn a) (replies.Turn b told) t r s at a below turned.quiet t.stopped (runs_on admits.runs (turned.gives.runs, turned.gives.told)) turns.0 turns.1
       (acts.0, is, refl) turns.2.0 turns.2.1 turned.keeps turned.gives.writing
   turn_told (replies.Refused refusal) admits acts =
-      let turns = acts.0 in
+      let turns = acts in
       let right = taken t r.sessions old at (lines.Turn a) a below refl admits in
       let turned = refused_turned C state a refusal turns.0 turns.1 r.core s.core turns.3 (gives admits.runs (doing_of t a) refl (turn_taken a (doing_of t a) right)) in
       keeps C state (lines.Turn a) (replies.Refused refusal) t r s at a below turned.quiet (stops refusal) turned.stands turns.0 turns.1
@@ -288,9 +288,9 @@ module _ (C : Type 0) (state : C → CoreState) (t : Account) (r s : RunnerState
 
   -- none is refused
   pub abort_told : (reply : ReplyValue) → Admits (lines.Abort a) r.sessions (state r.core) → Acts C state (lines.Abort a) reply r s → Told C state (lines.Abort a) reply t s
-  abort_told (replies.Aborted b) admits acts = aborted b acts.1.0.0.0 admits acts.0 acts.1.0.0.1 acts.1.0.1
+  abort_told (replies.Aborted b) admits acts = aborted b acts.1.0.0 admits acts.0 acts.1.0.1 acts.1.1
   abort_told (replies.Refused refusal) admits acts =
-      let refused = acts.0.0 in
+      let refused = acts.0 in
       let row = (stepped admits.runs asked.Abort (Err refusal) refused.0 refused.1).made.row in
       let giving_now = gives admits.runs (doing_of t a) refl (abort_taken a (doing_of t a) (taken t r.sessions old at (lines.Abort a) a below refl admits)) in
       absurd (no_other kinds.Writing (part_of old.parts a) refusal giving_now.writing row.0)
@@ -437,7 +437,7 @@ module _ (C : Type 0) (state : C → CoreState) (t : Account) (r s : RunnerState
         let puts = commits.2 in
         committed b sequence puts.mid commits.0 puts.ready puts.answers_are puts.root puts.answer admits acts.0 commits.1 puts.turns puts.is_ready puts.put puts.sequence_is commits.3
     commit_told (replies.Refused refusal) admits acts =
-        let refused = acts.0 in
+        let refused = acts in
         let has = commit_taken a name (doing_of t a) (taken t r.sessions old at (lines.Commit a name) a below refl admits) in
         put_refused refusal refused.0 refused.1 admits (gives admits.runs (Finished has.0) has.1 tt) refused.2.0 refused.2.1 refused.3
     commit_told reply admits acts = absurd acts

@@ -25,10 +25,9 @@ use Rattle.store_core.specs.State.{CoreState, Event, IsRunning, IsUp, UnlessStop
 use Rattle.store_core.proofs.CoreRuns.{running_step}
 use Rattle.store_core.proofs.Making.{up_of}
 use Rattle.store_core.proofs.Opened.{kept_runs, new_runs}
-use Rattle.plain_machine.specs.Runs.{Replied}
-use Rattle.script_runner.specs.Acts.{Acts, ActsOrNot, ActsReopen, Admits, BarsBy, RefusesReopen, Reopens, RunnerState, RunsLine, counted}
+use Rattle.store_machine.specs.Commands.{Replied}
+use Rattle.script_runner.specs.Acts.{Acts, ActsOrNot, ActsReopen, Admits, BarsBy, IsOfActor, RefusesReopen, Reopens, RunnerState, RunsLine, counted}
 use Rattle.script_runner.specs.AnyDisk.{LinesGiveWhatIsNamed}
-use Rattle.script_runner.specs.Follows.{IsOfActor}
 use Rattle.script_runner.specs.Named.{Account, AllTell, IsOfReopen, Refuses, Tells, TellsBy, WasShown, doing_of, kind_of, opened, stops}
 use Rattle.script_runner.specs.Scripts.{AreOfActors, RunsLines}
 use Rattle.script_runner.specs.Sessions.{Sessions, kind_in, session_of}
@@ -111,7 +110,7 @@ module _ (C : Type 0) (state : C → CoreState) (v : DiskView) (t : Account) (r 
   disk_of c = (state c).disk
 
   -- from a disk that was so
-  reopened_from : (files : ℕ) (acts : Reopens C state files s.sessions r.moments s.moments r.core s.core) (old : DiskView) → IsLater v old → IsReadFrom old (state acts.mid)
+  reopened_from : (files : ℕ) (acts : Reopens C state files s.sessions r.core s.core) (old : DiskView) → IsLater v old → IsReadFrom old (state acts.mid)
       → LineTold C state (WasShown v (state s.core).disk) lines.Reopen (replies.Opened files) t s
   reopened_from files acts old since read =
       let mid = state acts.mid in
@@ -144,7 +143,7 @@ module _ (C : Type 0) (state : C → CoreState) (v : DiskView) (t : Account) (r 
             }) acts.sessions_are (steps.made.row.1 ∙ is.parts_are);
       }
 
-  reopened : (files : ℕ) (acts : Reopens C state files s.sessions r.moments s.moments r.core s.core) → OpensCore C disk_of (state r.core).disk (state acts.mid)
+  reopened : (files : ℕ) (acts : Reopens C state files s.sessions r.core s.core) → OpensCore C disk_of (state r.core).disk (state acts.mid)
       → LineTold C state (WasShown v (state s.core).disk) lines.Reopen (replies.Opened files) t s
   reopened files acts (inl read) = reopened_from files acts (state r.core).disk later read
   reopened files acts (inr (x, (room, read))) = reopened_from files acts (disk_of x) (later_on v (state r.core).disk (disk_of x) later room.later) read

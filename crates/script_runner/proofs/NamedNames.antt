@@ -22,7 +22,7 @@ use Rattle.store_core.specs.State.{CoreState, Event}
 use Rattle.store_core.proofs.CoreRuns.{running_step}
 use Rattle.store_core.proofs.Making.{up_of}
 use Rattle.store_core.proofs.RunningOn.{step_runs}
-use Rattle.plain_machine.specs.Machine.{one_more}
+use Rattle.store_machine.specs.Machine.{one_more}
 use Rattle.script_runner.specs.Acts.{Acts, Admits, DoesStep, Lists, RefusesDelete, RunnerState}
 use Rattle.script_runner.specs.Named.{Account, MayDelete, RefusesOn, stops, without_name}
 use Rattle.script_runner.proofs.NamedAt.{At, Told, at_still, no_actor, no_memory, refuses, still, still_runs, told}

@@ -33,7 +33,21 @@ use Rattle.store_core.proofs.Stepping.{row_one}
 use Rattle.session_turns.specs.Turns.{Asks, IsPaused, IsRefusedTurn, TurnRun, TurnsStopped}
 use Rattle.session_turns.proofs.TurnRuns.{turns_stay}
 use Rattle.script_runner.specs.Named.{IsOfTurn, stops}
-use Rattle.script_runner.proofs.TurnRefusals.{no_other}
+use Rattle.std.proofs.Common.{◌≡◌, ◌≢◌, ◌⊎◌, inl, inr, ◌∙◌, ◌<◌, ℕ, List, Some, None, refl, sym, ap, subst}
+use Rattle.container_meta.specs.Segments.{KindSegment}
+use Rattle.actor_parts.specs.declared.part.Part as core_part
+use Rattle.actor_parts.specs.Kinds.{kind_of}
+use Rattle.actor_parts.specs.Parts.{part_of}
+use Rattle.refusals.specs.declared.refusal.PartKind.{PartKind}
+use Rattle.ingest_steps.specs.Writers.{IsWrongPart}
+use Rattle.store_core.specs.State.{CoreState}
+use Rattle.ingest_session.specs.declared.due.Due.TheVariants.{Claim, Seal}
+use Rattle.ingest_session.specs.History.{History}
+
+-- a part is not of another kind than that it has
+pub no_other : (taken : PartKind) (part : core_part.Part) (refusal : Refusal) → kind_of part ≡ taken → IsWrongPart taken part refusal → ⊥
+no_other taken part (refusals.WrongPart kind) is wrong = wrong.1 (wrong.0 ∙ is)
+no_other taken part refusal is wrong = absurd wrong
 
 -- ---- the core
 

@@ -29,7 +29,7 @@ use Rattle.store_core.specs.State.{CoreState, Event, IsUp}
 use Rattle.store_core.proofs.CoreRuns.{running_step}
 use Rattle.store_core.proofs.OwnParts.{same_reader}
 use Rattle.store_core.proofs.Making.{up_of}
-use Rattle.plain_machine.specs.Refused.{takes}
+use Rattle.store_machine.specs.Lines.{takes}
 use Rattle.script_runner.specs.Acts.{Acts, Admits, DoesStep, RunnerState, counted}
 use Rattle.script_runner.specs.Named.{Account, AreNamed, Doing, Idle, IsOfNext, Reading, RefusesOn, doing_of, kind_of, stops}
 use Rattle.script_runner.specs.Sessions.{Sessions, session_of}

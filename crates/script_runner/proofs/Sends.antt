@@ -7,7 +7,7 @@ use Rattle.refusals.specs.declared.refusal.Refusal.TheVariants.{Memory}
 use Rattle.script_lines.specs.Grammar.{LineValue}
 use Rattle.script_lines.specs.ReplyText.{reply_line}
 use Rattle.script_lines.specs.ReplyValue.{ReplyValue}
-use Rattle.plain_machine.specs.Runs.{ends}
+use Rattle.store_machine.specs.Commands.{ends}
 use Rattle.script_runner.specs.Runner.{IsAcknowledged, SendsReply, Sent, Tells}
 
 -- of a line that doesn't end the script

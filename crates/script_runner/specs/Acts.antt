@@ -1,5 +1,5 @@
 -- What each line does to the core and to the sessions of a runner: which steps were made, and what was answered.
-use Rattle.std.specs.Prelude.{◌≡◌, ◌⊎◌, ℕ, ◌+◌, ◌-◌, ◌^◌, true, false, min, if◌then◌else◌, ◌==◌, List, [], ◌∷◌, ◌++◌, replicate, take, Option, Some, None, Result, Ok, Err}
+use Rattle.std.specs.Prelude.{◌≡◌, ◌⊎◌, ◌<◌, ℕ, ◌+◌, ◌-◌, ◌^◌, true, false, min, List, [], ◌∷◌, replicate, take, Option, Some, None, Result, Ok, Err}
 use Rattle.disk_format.specs.Cells.{Root}
 use Rattle.actor_parts.specs.declared.actor.TheConstants.{ACTORS}
 use Rattle.actor_parts.specs.declared.step.Answer.{Answer}
@@ -27,11 +27,15 @@ use Rattle.store_core.specs.declared.stop.Stop.{Stop}
 use Rattle.store_core.specs.Core.{CoreStep}
 use Rattle.store_core.specs.Opening.{OpensCore, OpensNone, StaysOrStops}
 use Rattle.store_core.specs.State.{CoreState}
-use Rattle.plain_machine.specs.Refused.{actor_of, takes}
+use Rattle.store_machine.specs.Lines.{actor_of, takes}
 use Rattle.script_runner.specs.Sessions.{Sessions, kind_in, session_of, with_session}
 use Rattle.session_turns.specs.Turns.{Feeds, TakesTurn, TurnRun, TurnsStopped}
 
 -- ---- which lines are taken
+
+-- the actor of a line is one that there is
+abbrev pub IsOfActor : LineValue → Type 0
+IsOfActor line = (actor : ℕ) → actor_of line ≡ Some actor → actor < ACTORS
 
 -- the store runs, and the actor of the line, if it has one, is at what the line takes
 pub record Admits (line : LineValue) (sessions : Sessions) (old : CoreState) : Type 0 where
@@ -108,10 +112,6 @@ Turns C state actor (Ok told) sessions sessions_now old new =
 Turns C state actor (Err refusal) sessions sessions_now old new =
     (s : SessionState) × (t : SessionState) × Replaces actor s t sessions sessions_now × TakesTurn C state actor (Err refusal) s t old new
 
--- the moment of a core's disk, as it is told
-abbrev pub moment_of : CoreState → ℕ
-moment_of c = min c.disk.clock (2 ^ 64 - 1)
-
 -- nothing is due, and this is the root
 pub record IsReady (root : Root) (s : SessionState) : Type 0 where
   pub done : due_in s ≡ Nothing
@@ -122,14 +122,13 @@ pub record IsReady (root : Root) (s : SessionState) : Type 0 where
 abbrev pub Settles : (C : Type 0) → (C → CoreState) → ℕ → Root → SessionState → SessionState → C → C → Type 0
 Settles C state actor root s t old new = (answers_are : List Answer) × TurnRun C state actor answers_are s t old new × IsReady root t
 
--- A name was given a root, and the moment after it is noted.
-abbrev pub GivesRoot : ℕ → List ℕ → Root → List ℕ → List ℕ → CoreState → CoreState → Type 0
-GivesRoot actor name root moments moments_now old new =
-    ((answer : Answer) × DoesStep actor (asked.Commit name root) answer old new) × (moments_now ≡ moments ++ moment_of new ∷ [])
+-- a name was given a root
+abbrev pub GivesRoot : ℕ → List ℕ → Root → CoreState → CoreState → Type 0
+GivesRoot actor name root old new = (answer : Answer) × DoesStep actor (asked.Commit name root) answer old new
 
--- All turns that are due were made, and then the name was given the root; the moment is noted.
-pub record Puts (C : Type 0) (state : C → CoreState) (actor : ℕ) (name : List ℕ) (sequence : ℕ) (session : SessionState)
-    (moments moments_now : List ℕ) (old new : C) : Type 0 where
+-- All turns that are due were made, and then the name was given the root.
+pub record Puts (C : Type 0) (state : C → CoreState) (actor : ℕ) (name : List ℕ) (sequence : ℕ) (session : SessionState) (old new : C)
+    : Type 0 where
   pub answers_are : List Answer
   pub ready : SessionState
   pub mid : C
@@ -139,7 +138,6 @@ pub record Puts (C : Type 0) (state : C → CoreState) (actor : ℕ) (name : Lis
   pub answer : Answer
   pub put : DoesStep actor (asked.Commit name root) answer (state mid) (state new)
   pub sequence_is : sequence ≡ min ((state mid).tables.journal.last + 1) (2 ^ 64 - 1)
-  pub moments_are : moments_now ≡ moments ++ moment_of (state new) ∷ []
 
 -- A turn was refused; or, once all were made, there was no memory, or the name was refused.
 abbrev pub RefusesPut : (C : Type 0) → (C → CoreState) → ℕ → List ℕ → Refusal → SessionState → SessionState → C → C → Type 0
@@ -149,9 +147,9 @@ RefusesPut C state actor name refusal session last old new =
     × ((root : Root) × IsReady root last
     × (((refusal ≡ Memory) × (new ≡ mid)) ⊎ RefusesStep actor (asked.Commit name root) refusal (state mid) (state new))))
 
-abbrev pub Commits : (C : Type 0) → (C → CoreState) → ℕ → List ℕ → ℕ → Sessions → Sessions → List ℕ → List ℕ → C → C → Type 0
-Commits C state actor name sequence sessions sessions_now moments moments_now old new =
-    (session : SessionState) × (session_of sessions actor ≡ Some session) × Puts C state actor name sequence session moments moments_now old new
+abbrev pub Commits : (C : Type 0) → (C → CoreState) → ℕ → List ℕ → ℕ → Sessions → Sessions → C → C → Type 0
+Commits C state actor name sequence sessions sessions_now old new =
+    (session : SessionState) × (session_of sessions actor ≡ Some session) × Puts C state actor name sequence session old new
     × (sessions_now ≡ with_session sessions actor None)
 
 abbrev pub RefusesCommit : (C : Type 0) → (C → CoreState) → ℕ → List ℕ → Refusal → Sessions → Sessions → C → C → Type 0
@@ -191,18 +189,15 @@ Counts C state holdings old new = DoesStep 0 asked.Stat (counted holdings) (stat
 
 -- ---- names
 
--- a name is deleted, and the moment after it is noted; any actor would do
-abbrev pub DeletesName : List ℕ → List ℕ → List ℕ → CoreState → CoreState → Type 0
-DeletesName name moments moments_now old new =
-    ((answer : Answer) × DoesStep 0 (asked.Delete name) answer old new) × (moments_now ≡ moments ++ moment_of new ∷ [])
+-- a name is deleted; any actor would do
+abbrev pub DeletesName : List ℕ → CoreState → CoreState → Type 0
+DeletesName name old new = (answer : Answer) × DoesStep 0 (asked.Delete name) answer old new
 
 -- That is `DeletesName`, with the number that the reply has.
-pub record Deletes (C : Type 0) (state : C → CoreState) (name : List ℕ) (sequence : ℕ) (moments moments_now : List ℕ) (old new : C)
-    : Type 0 where
+pub record Deletes (C : Type 0) (state : C → CoreState) (name : List ℕ) (sequence : ℕ) (old new : C) : Type 0 where
   pub answer : Answer
   pub deleted : DoesStep 0 (asked.Delete name) answer (state old) (state new)
   pub sequence_is : sequence ≡ min ((state old).tables.journal.last + 1) (2 ^ 64 - 1)
-  pub moments_are : moments_now ≡ moments ++ moment_of (state new) ∷ []
 
 -- or isn't
 abbrev pub RefusesDelete : (C : Type 0) → (C → CoreState) → List ℕ → Refusal → C → C → Type 0
@@ -237,20 +232,14 @@ Sweeps C state answer old new =
 
 -- ---- an opening
 
--- the moments, and one more where the number is another: so a commit or a delete that was left open is found
-abbrev pub noted_if : ℕ → ℕ → ℕ → List ℕ → List ℕ
-noted_if was now moment moments = if was == now then moments else moments ++ moment ∷ []
-
 -- The core was opened again, perhaps once room was made; no actor gives a file any more.
-pub record Reopens (C : Type 0) (state : C → CoreState) (files : ℕ) (sessions_now : Sessions) (moments moments_now : List ℕ) (old new : C)
-    : Type 0 where
+pub record Reopens (C : Type 0) (state : C → CoreState) (files : ℕ) (sessions_now : Sessions) (old new : C) : Type 0 where
   pub mid : C
   pub opened : OpensCore C (λ c. (state c).disk) (state old).disk (state mid)
   pub holdings : Holdings
   pub counts : Counts C state holdings mid new
   pub files_are : files ≡ holdings.files
   pub sessions_are : sessions_now ≡ replicate ACTORS None
-  pub moments_are : moments_now ≡ noted_if (state old).tables.journal.last (state new).tables.journal.last (moment_of (state new)) moments
 
 -- Or it was not, for want of memory, or as the opening was refused.
 pub record RefusesReopen (C : Type 0) (state : C → CoreState) (refusal : Refusal) (old new : C) : Type 0 where
@@ -263,15 +252,14 @@ pub record RefusesReopen (C : Type 0) (state : C → CoreState) (refusal : Refus
 pub record RunnerState (C : Type 0) : Type 0 where
   pub core : C
   pub sessions : Sessions
-  pub moments : List ℕ
 
--- only what is said of core and sessions changed
+-- core and sessions changed so
 abbrev pub Both : (C : Type 0) → (Sessions → Sessions → C → C → Type 0) → RunnerState C → RunnerState C → Type 0
-Both C P r s = P r.sessions s.sessions r.core s.core × (s.moments ≡ r.moments)
+Both C P r s = P r.sessions s.sessions r.core s.core
 
 -- only the core changed
 abbrev pub Core : (C : Type 0) → (C → C → Type 0) → RunnerState C → RunnerState C → Type 0
-Core C P r s = P r.core s.core × (s.sessions ≡ r.sessions) × (s.moments ≡ r.moments)
+Core C P r s = P r.core s.core × (s.sessions ≡ r.sessions)
 
 -- A line that was taken, and what was replied.
 abbrev pub Acts : (C : Type 0) → (C → CoreState) → LineValue → ReplyValue → RunnerState C → RunnerState C → Type 0
@@ -284,7 +272,7 @@ Acts C state (lines.Finish a) (replies.Refused refusal) r s = Both C (Finishes C
 Acts C state (lines.Turn a) (replies.Turn b told) r s = (b ≡ a) × Both C (Turns C state a (Ok told)) r s
 Acts C state (lines.Turn a) (replies.Refused refusal) r s = Both C (Turns C state a (Err refusal)) r s
 Acts C state (lines.Commit a name) (replies.Committed b sequence) r s =
-    (b ≡ a) × Commits C state a name sequence r.sessions s.sessions r.moments s.moments r.core s.core
+    (b ≡ a) × Both C (Commits C state a name sequence) r s
 Acts C state (lines.Commit a name) (replies.Refused refusal) r s = Both C (RefusesCommit C state a name refusal) r s
 Acts C state (lines.Abort a) (replies.Aborted b) r s = (b ≡ a) × Both C (Aborts C state a (Ok tt)) r s
 Acts C state (lines.Abort a) (replies.Refused refusal) r s = Both C (Aborts C state a (Err refusal)) r s
@@ -296,8 +284,7 @@ Acts C state (lines.Next a) (replies.End b) r s = (b ≡ a) × ((buf : List ℕ)
 Acts C state (lines.Next a) (replies.Refused refusal) r s = (buf : List ℕ) × Core C (GivesNext C state a (Err refusal) buf) r s
 Acts C state (lines.Drop a) (replies.Dropped b) r s = (b ≡ a) × Core C (Drops C state a (Ok tt)) r s
 Acts C state (lines.Drop a) (replies.Refused refusal) r s = Core C (Drops C state a (Err refusal)) r s
-Acts C state (lines.Delete name) (replies.Deleted sequence) r s =
-    Deletes C state name sequence r.moments s.moments r.core s.core × (s.sessions ≡ r.sessions)
+Acts C state (lines.Delete name) (replies.Deleted sequence) r s = Core C (Deletes C state name sequence) r s
 Acts C state (lines.Delete name) (replies.Refused refusal) r s = Core C (RefusesDelete C state name refusal) r s
 Acts C state lines.ListNames (replies.Listed files) r s = Core C (Lists C state (Ok files)) r s
 Acts C state lines.ListNames (replies.Refused refusal) r s = Core C (Lists C state (Err refusal)) r s
@@ -312,7 +299,7 @@ Acts C state lines.Stat (replies.Stat holdings) r s = Core C (Counts C state hol
 Acts C state line reply r s = ⊥
 
 abbrev pub ActsReopen : (C : Type 0) → (C → CoreState) → ReplyValue → RunnerState C → RunnerState C → Type 0
-ActsReopen C state (replies.Opened files) r s = Reopens C state files s.sessions r.moments s.moments r.core s.core
+ActsReopen C state (replies.Opened files) r s = Reopens C state files s.sessions r.core s.core
 ActsReopen C state (replies.Refused refusal) r s = Core C (RefusesReopen C state refusal) r s
 ActsReopen C state reply r s = ⊥
 

@@ -6,7 +6,7 @@ use Rattle.dd_disk.specs.View.{DiskView, IsLater}
 use Rattle.actor_parts.specs.declared.actor.TheConstants.{ACTORS}
 use Rattle.store_core.specs.Opening.{IsNew}
 use Rattle.store_core.specs.State.{CoreState}
-use Rattle.plain_machine.specs.Runs.{Replied}
+use Rattle.store_machine.specs.Commands.{Replied}
 use Rattle.script_runner.specs.Acts.{RunnerState}
 use Rattle.script_runner.specs.Named.{GiveWhatIsNamed, WasOpened, WasShown, CountFaults}
 use Rattle.script_runner.specs.Scripts.{AreOfActors, RunsLines}

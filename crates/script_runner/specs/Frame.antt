@@ -14,7 +14,7 @@ use Rattle.store_model.specs.Steps.{HasCellsFor}
 use Rattle.store_core.specs.Frame.{HadContainer, IsOn, KeepsBytes}
 use Rattle.store_core.specs.Opening.{IsNew}
 use Rattle.store_core.specs.State.{CoreState}
-use Rattle.plain_machine.specs.Runs.{Replied}
+use Rattle.store_machine.specs.Commands.{Replied}
 use Rattle.script_runner.specs.Acts.{RunnerState}
 use Rattle.script_runner.specs.Scripts.{RunsLines}
 

@@ -1,11 +1,10 @@
 pub mod Acts
 pub mod AnyDisk
-pub mod Follows
+pub mod Complete
 pub mod Frame
 pub mod LinesAreFileRuns
 pub mod LinesAreRuns
 pub mod Named
-pub mod Opened
 pub mod Runner
 pub mod Scripts
 pub mod Sessions

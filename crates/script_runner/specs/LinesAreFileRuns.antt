@@ -1,5 +1,5 @@
 -- Lines that are run over a core whose disk tells its content, as lines of the machine of files (docs/MODEL.md, 'Scripts').
-use Rattle.std.specs.Prelude.{◌≡◌, ◌⊎◌, ◌<◌, ℕ, Bool, true, List, [], ◌∷◌, ◌++◌, replicate, slice_get, slice_index_or, Some, None, Ok}
+use Rattle.std.specs.Prelude.{◌≡◌, ◌⊎◌, ◌<◌, ℕ, Bool, true, List, [], ◌∷◌, ◌++◌, replicate, slice_get, slice_index_or, Option, Some, None, Ok}
 use Rattle.std.specs.FinMap as finite
 use Rattle.actor_parts.specs.declared.actor.TheConstants.{ACTORS}
 use Rattle.actor_parts.specs.declared.part.Part.TheVariants.{Idle, Writing}
@@ -10,25 +10,22 @@ use Rattle.base_model.specs.Known.{KnownWith}
 use Rattle.container_meta.specs.declared.kind.Kind.{Kind}
 use Rattle.container_meta.specs.Segments.{Segment, segment_key}
 use Rattle.dd_disk.specs.View.{DiskView}
-use Rattle.script_lines.specs.Grammar.{LineValue}
-use Rattle.script_lines.specs.ReplyValue.{ReplyValue}
 use Rattle.store_model.specs.Collisions.{ByteSet, HasNoCollisions, IsIn}
 use Rattle.store_model.specs.Standing.{IsSegmentOf}
 use Rattle.store_core.specs.Keeping.{IsHeldIn}
 use Rattle.store_core.specs.Opening.{OpensCore}
 use Rattle.store_core.specs.State.{CoreState, IsRunning}
-use Rattle.plain_machine.specs.Runs.{Replied}
+use Rattle.store_machine.specs.Commands.{Replied, desk}
 use Rattle.store_machine.specs.ByMap.{FileMachine}
-use Rattle.store_machine.specs.Commands.{desk}
 use Rattle.store_machine.specs.Done as done
 use Rattle.store_machine.specs.Lines.{Desk, Line, Session}
 use Rattle.store_machine.specs.Machine.{Stepped}
 use Rattle.store_machine.specs.Values.{of_files}
-use Rattle.core_machine.specs.FileOpenings.{Reopens}
+use Rattle.core_machine.specs.Bytes.{ChangesBytes}
+use Rattle.core_machine.specs.FileOpenings.{LeavesFound, Reopens, opening}
 use Rattle.core_machine.specs.Files.{IsFileMachine, IsOfFound, MayStand}
-use Rattle.script_runner.specs.Acts.{RunnerState, RunsLine}
-use Rattle.script_runner.specs.Follows.{IsOfActor}
-use Rattle.script_runner.specs.LinesAreRuns.{AllLeadTo, IsAtDesk, Kept, LeadsTo}
+use Rattle.script_runner.specs.Acts.{IsOfActor, RunnerState, RunsLine}
+use Rattle.script_runner.specs.LinesAreRuns.{AllLeadTo, Beside, IsAtDesk, Kept, LeadsTo}
 use Rattle.script_runner.specs.Scripts.{AreOfActors, RunsLines}
 
 -- ---- what actors own
@@ -69,22 +66,29 @@ IsCutBy (one ∷ more) d bytes = IsCutAt d bytes
 
 -- ---- the law
 
+-- What a step does to the content, and that this may stand for the machine's files then.
+abbrev pub ChangesContent : (List ℕ → Type 0) → Stepped (List ℕ) → FileMachine → FileMachine → Option (List ℕ) → Option (List ℕ) → Type 0
+ChangesContent S s m n was now = ChangesBytes s m n was now × KnownWith now (MayStand S n)
+
+-- what is said of a core beside the machine of files
+abbrev pub beside_files : (List ℕ → Type 0) → Beside (List ℕ) (List (List ℕ))
+beside_files S = record { Fits = IsFileMachine S; Owns = OwnsKept; Left = IsOfFound S; Changes = ChangesContent S }
+
 abbrev pub IsAtFileDesk : {C : Type 0} → (List ℕ → Type 0) → (C → CoreState) → FileDesk → RunnerState C → Type 0
-IsAtFileDesk S state d r = IsAtDesk state (IsFileMachine S) OwnsKept d r
+IsAtFileDesk S state d r = IsAtDesk state (beside_files S) d r
 
 -- Where what is cut has no collisions, what a runner does by a line is what the machine of files may do by it, with this reply.
 abbrev pub LinesAreFileRuns : (C : Type 0) → (C → CoreState) → Type 0
-LinesAreFileRuns C state = (among : ByteSet) (line : LineValue) (reply : ReplyValue) (r s : RunnerState C) (d : FileDesk)
-    → HasNoCollisions (IsIn among) → IsOfActor line → ((bytes : List ℕ) → IsCutAt d bytes → IsIn among bytes)
-    → IsAtFileDesk (IsIn among) state d r → RunsLine C state line reply r s
-    → LeadsTo of_files state (IsFileMachine (IsIn among)) OwnsKept (IsOfFound (IsIn among)) line reply d r s
+LinesAreFileRuns C state = (among : ByteSet) (one : Replied) (r s : RunnerState C) (d : FileDesk) → HasNoCollisions (IsIn among)
+    → IsOfActor one.line → ((bytes : List ℕ) → IsCutAt d bytes → IsIn among bytes) → IsAtFileDesk (IsIn among) state d r
+    → RunsLine C state one.line one.reply r s → LeadsTo of_files state (beside_files (IsIn among)) one d r s
 
 -- So it is of lines that are run one after the other.
 abbrev pub ScriptsAreFileRuns : (C : Type 0) → (C → CoreState) → Type 0
 ScriptsAreFileRuns C state = (among : ByteSet) (rs : List Replied) (r s : RunnerState C) (d : FileDesk)
     → HasNoCollisions (IsIn among) → AreOfActors rs → ((bytes : List ℕ) → IsCutBy rs d bytes → IsIn among bytes)
     → IsAtFileDesk (IsIn among) state d r → RunsLines C state rs r s
-    → AllLeadTo of_files state (IsFileMachine (IsIn among)) OwnsKept (IsOfFound (IsIn among)) rs d r s
+    → AllLeadTo of_files state (beside_files (IsIn among)) rs d r s
 
 -- So a runner begins: no actor is at anything, and none gives a file.
 abbrev pub BeginsAtFileDesk : (C : Type 0) → (C → CoreState) → Type 0
@@ -93,10 +97,12 @@ BeginsAtFileDesk C state = (among : ByteSet) (m : FileMachine) (r : RunnerState 
     → IsAtFileDesk (IsIn among) state (desk m) r
 
 -- What was opened, of a content that may stand for a machine's files, is a machine to which that may come by an opening; and a runner
--- begins there.
+-- begins there. Of a crash meanwhile `LeavesFound` holds, and of what that does to the content `ChangesContent`.
 abbrev pub OpenedIsAtDesk : (D : Type 0) → (D → DiskView) → (C : Type 0) → (C → CoreState) → Type 0
 OpenedIsAtDesk D view C state = (among : ByteSet) (actor : ℕ) (before : D) (m : FileMachine) (r : RunnerState C)
     → HasNoCollisions (IsIn among) → KnownWith (view before).content (MayStand (IsIn among) m)
     → OpensCore D view (view before) (state r.core) → r.sessions ≡ replicate ACTORS None
     → (n : FileMachine) × (Reopens actor (Ok (done.Reopened (finite.len (state r.core).tables.names))) m n
-    × IsAtFileDesk (IsIn among) state (desk n) r)
+    × IsAtFileDesk (IsIn among) state (desk n) r × LeavesFound (IsIn among) m (view before) (state r.core).disk
+    × ChangesContent (IsIn among) (opening actor (Ok (done.Reopened (finite.len (state r.core).tables.names)))) m n (view before).content
+    (state r.core).disk.content)

@@ -1,6 +1,6 @@
 -- Lines that are run over a core, on any disk, as lines of the machine of roots (docs/MODEL.md, 'Scripts').
 use Rattle.std.specs.Prelude.{◌≡◌, ◌≢◌, ◌⊎◌, ℕ, suc, false, List, [], ◌∷◌, length, replicate, Option, Some, None}
-use Rattle.dd_disk.specs.View.{CrashLeaves}
+use Rattle.dd_disk.specs.View.{CrashLeaves, DiskView}
 use Rattle.disk_format.specs.Cells.{Root}
 use Rattle.actor_parts.specs.declared.actor.TheConstants.{ACTORS}
 use Rattle.actor_parts.specs.declared.part.Part.{Part}
@@ -14,19 +14,14 @@ use Rattle.refusals.specs.declared.refusal.PartKind.TheVariants.{Writing}
 use Rattle.ingest_session.specs.Facts.{kept}
 use Rattle.ingest_session.specs.History.{History, HasHistory}
 use Rattle.ingest_session.specs.State.{SessionState}
-use Rattle.script_lines.specs.Grammar.{LineValue}
-use Rattle.script_lines.specs.ReplyValue.{ReplyValue}
 use Rattle.store_core.specs.State.{CoreState, IsRunning}
-use Rattle.plain_machine.specs.Runs.{Replied}
-use Rattle.store_machine.specs.Commands.{Lines, desk, run_of}
-use Rattle.store_machine.specs.Commands.{Replied as Answered}
+use Rattle.store_machine.specs.Commands.{Lines, Replied, desk, run_of}
 use Rattle.store_machine.specs.Lines.{Desk, Line, Session}
 use Rattle.store_machine.specs.Machine.{Machine, Stepped}
 use Rattle.store_machine.specs.Runs.{Run}
 use Rattle.store_machine.specs.Values.{Values, of_roots}
 use Rattle.core_machine.specs.Refines.{IsMachine}
-use Rattle.script_runner.specs.Acts.{RunnerState, RunsLine}
-use Rattle.script_runner.specs.Follows.{IsOfActor}
+use Rattle.script_runner.specs.Acts.{IsOfActor, RunnerState, RunsLine}
 use Rattle.script_runner.specs.Scripts.{AreOfActors, RunsLines}
 use Rattle.script_runner.specs.Sessions.{Sessions, session_of}
 
@@ -62,13 +57,20 @@ WritersGive sessions parts = (actor : ℕ) → session_of sessions actor ≡ Non
 
 -- ---- desks
 
+-- What is said of a core beside a machine: that it fits it; what an actor owns, by what answers say to be kept; which images a crash may
+-- leave of the machine; and what a step, from one machine to another, does to the content that a disk tells.
+pub record Beside (V R : Type 0) : Type 1 where
+  pub Fits : Machine V R → CoreState → Type 0
+  pub Owns : ℕ → Kept → Machine V R → CoreState → Type 0
+  pub Left : Machine V R → List ℕ → Type 0
+  pub Changes : Stepped V → Machine V R → Machine V R → Option (List ℕ) → Option (List ℕ) → Type 0
+
 -- A runner is at a desk: its core fits the machine, its sessions are those of the desk, one for each actor, and who stores a file gives it.
 -- What the answers of an actor say to be kept, it owns.
-pub record IsAtDesk {V R C : Type 0} (state : C → CoreState) (Fits : Machine V R → CoreState → Type 0)
-    (Owns : ℕ → Kept → Machine V R → CoreState → Type 0) (d : Desk V R) (r : RunnerState C) : Type 0 where
+pub record IsAtDesk {V R C : Type 0} (state : C → CoreState) (b : Beside V R) (d : Desk V R) (r : RunnerState C) : Type 0 where
   pub runs : IsRunning (state r.core)
-  pub fits : Fits d.machine (state r.core)
-  pub same : SameSessions (λ actor kept. Owns actor kept d.machine (state r.core)) d.sessions r.sessions
+  pub fits : b.Fits d.machine (state r.core)
+  pub same : SameSessions (λ actor kept. b.Owns actor kept d.machine (state r.core)) d.sessions r.sessions
   pub many : length r.sessions ≡ ACTORS
   pub give : WritersGive r.sessions (state r.core).parts
 
@@ -78,38 +80,49 @@ abbrev pub Passes : {V R : Type 0} (v : Values V R) (P : Machine V R → Type 0)
 Passes v P [] m n run = P m
 Passes v P (s ∷ ss) m n run = P m ⊎ Passes v P ss run.0 n run.1.1
 
--- A line of the machine led to a desk, and the runner is at it; and at any moment of the line, also inside a write, a crash leaves an image
--- that some machine of its run may leave, or one that the disk might have left before.
-pub record LeadsTo {V R C : Type 0} (v : Values V R) (state : C → CoreState) (Fits : Machine V R → CoreState → Type 0)
-    (Owns : ℕ → Kept → Machine V R → CoreState → Type 0) (Left : Machine V R → List ℕ → Type 0)
-    (line : LineValue) (reply : ReplyValue) (d : Desk V R) (r s : RunnerState C) : Type 0 where
+-- P holds of each step of a run, of the machines before and after it, and of what was told then.
+abbrev pub Traced : {V R : Type 0} (v : Values V R) (P : Stepped V → Machine V R → Machine V R → Option (List ℕ) → Option (List ℕ) → Type 0)
+    (ss : List (Stepped V)) (m n : Machine V R) → Run v ss m n → (was now : Option (List ℕ)) → Type 0
+Traced v P [] m n run was now = now ≡ was
+Traced v P (s ∷ ss) m n run was now = (mid : Option (List ℕ)) × (P s m run.0 was mid × Traced v P ss run.0 n run.1.1 mid now)
+
+-- What was done of steps of a run, over a disk: at any moment, also inside a write, a crash leaves an image that some machine of the run may
+-- leave, or one that the disk might have left before; and what each step does to the content is so.
+pub record IsDone {V R : Type 0} (v : Values V R) (b : Beside V R) (ss : List (Stepped V)) (m n : Machine V R) (run : Run v ss m n)
+    (old new : DiskView) : Type 0 where
+  pub leaves : CrashLeaves (λ image. Passes v (λ k. b.Left k image) ss m n run) old new
+  pub changes : Traced v b.Changes ss m n run old.content new.content
+
+-- A line of the machine led to a desk, and the runner is at it.
+pub record LeadsTo {V R C : Type 0} (v : Values V R) (state : C → CoreState) (b : Beside V R) (one : Replied) (d : Desk V R)
+    (r s : RunnerState C) : Type 0 where
   pub steps : List (Stepped V)
   pub next : Desk V R
-  pub line_is : Line v line reply steps d next
-  pub at : IsAtDesk state Fits Owns next s
-  pub leaves : CrashLeaves (λ image. Passes v (λ m. Left m image) steps d.machine next.machine line_is.0)
-      (state r.core).disk (state s.core).disk
+  pub line_is : Line v one.line one.reply steps d next
+  pub at : IsAtDesk state b next s
+  pub did : IsDone v b steps d.machine next.machine line_is.0 (state r.core).disk (state s.core).disk
 
--- over roots nothing is said of what is kept, nor of what a crash leaves
+-- over roots nothing is said of what is kept, of what a crash leaves, nor of the content
 abbrev pub RootDesk : Type 0
 RootDesk = Desk Root (List Top)
 
-abbrev pub OwnsAny : ℕ → Kept → Machine Root (List Top) → CoreState → Type 0
-OwnsAny actor kept m c = Unit {0}
-
-abbrev pub LeavesAny : Machine Root (List Top) → List ℕ → Type 0
-LeavesAny m image = Unit {0}
+abbrev pub beside_roots : Beside Root (List Top)
+beside_roots = record {
+  Fits = IsMachine false;
+  Owns = λ actor kept m c. Unit {0};
+  Left = λ m image. Unit {0};
+  Changes = λ step m n was now. Unit {0};
+}
 
 abbrev pub IsAtRoots : {C : Type 0} → (C → CoreState) → RootDesk → RunnerState C → Type 0
-IsAtRoots state d r = IsAtDesk state (IsMachine false) OwnsAny d r
+IsAtRoots state d r = IsAtDesk state beside_roots d r
 
 -- ---- the law
 
 -- With no premise on the disk, what a runner does by a line is what the machine of roots may do by it, with this reply.
 abbrev pub LinesAreRuns : (C : Type 0) → (C → CoreState) → Type 0
-LinesAreRuns C state = (line : LineValue) (reply : ReplyValue) (r s : RunnerState C) (d : RootDesk) → IsOfActor line
-    → IsAtRoots state d r → RunsLine C state line reply r s
-    → LeadsTo of_roots state (IsMachine false) OwnsAny LeavesAny line reply d r s
+LinesAreRuns C state = (one : Replied) (r s : RunnerState C) (d : RootDesk) → IsOfActor one.line
+    → IsAtRoots state d r → RunsLine C state one.line one.reply r s → LeadsTo of_roots state beside_roots one d r s
 
 -- So a runner begins: no actor is at anything, and none gives a file.
 abbrev pub BeginsAtDesk : (C : Type 0) → (C → CoreState) → Type 0
@@ -118,23 +131,17 @@ BeginsAtDesk C state = (m : Machine Root (List Top)) (r : RunnerState C) → IsR
 
 -- ---- lines, one after the other
 
--- as the machine has them
-abbrev pub as_lines : List Replied → List Answered
-as_lines [] = []
-as_lines (one ∷ more) = record { line = one.line; reply = one.reply } ∷ as_lines more
-
-pub record AllLeadTo {V R C : Type 0} (v : Values V R) (state : C → CoreState) (Fits : Machine V R → CoreState → Type 0)
-    (Owns : ℕ → Kept → Machine V R → CoreState → Type 0) (Left : Machine V R → List ℕ → Type 0) (rs : List Replied) (d : Desk V R)
+-- Lines of the machine led to a desk, and the runner is at it. Of a crash it is said of all of them together: which of them were
+-- acknowledged by that moment the law of one line says, line by line.
+pub record AllLeadTo {V R C : Type 0} (v : Values V R) (state : C → CoreState) (b : Beside V R) (rs : List Replied) (d : Desk V R)
     (r s : RunnerState C) : Type 0 where
   pub steps : List (Stepped V)
   pub next : Desk V R
-  pub lines_are : Lines v (as_lines rs) steps d next
-  pub at : IsAtDesk state Fits Owns next s
-  pub leaves : CrashLeaves
-      (λ image. Passes v (λ m. Left m image) steps d.machine next.machine (run_of v (as_lines rs) steps d next lines_are))
-      (state r.core).disk (state s.core).disk
+  pub lines_are : Lines v rs steps d next
+  pub at : IsAtDesk state b next s
+  pub did : IsDone v b steps d.machine next.machine (run_of v rs steps d next lines_are) (state r.core).disk (state s.core).disk
 
 -- So it is of lines that are run one after the other.
 abbrev pub ScriptsAreRuns : (C : Type 0) → (C → CoreState) → Type 0
 ScriptsAreRuns C state = (rs : List Replied) (r s : RunnerState C) (d : RootDesk) → AreOfActors rs → IsAtRoots state d r
-    → RunsLines C state rs r s → AllLeadTo of_roots state (IsMachine false) OwnsAny LeavesAny rs d r s
+    → RunsLines C state rs r s → AllLeadTo of_roots state beside_roots rs d r s

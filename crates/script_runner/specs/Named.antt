@@ -1,7 +1,7 @@
 -- What lines give by name, on any disk, also one that tells nothing, or lies (docs/MODEL.md, 'Scripts').
 use Rattle.std.specs.Prelude.{◌≡◌, ◌≢◌, ◌⊎◌, ◌≤◌, ◌<◌, ◌-◌, ◌^◌, ℕ, suc, ◌+◌, nat_lt, if◌then◌else◌, Bool, true, false, List, [], ◌∷◌, ◌++◌, length, replicate, slice_index_or, slice_set, sum_by, IsSome, None, Some}
 use Rattle.std.specs.FinMap as finite
-use Rattle.std.specs.List.{AllByRecursion, list_any}
+use Rattle.std.specs.List.{AllByRecursion}
 use Rattle.disk_format.specs.Cells.{IsName, Root}
 use Rattle.disk_format.specs.Layout.{half_cells}
 use Rattle.disk_format.specs.declared.numbers.TheConstants.{MOST_FILE}
@@ -25,9 +25,9 @@ use Rattle.store_model.specs.Image.{Store, Encodes, last_sequence, names_of}
 use Rattle.store_model.specs.Trees.{root_of}
 use Rattle.read_steps.specs.Opening.{HasRoot, IsNameRefusal, top_of}
 use Rattle.read_steps.specs.Walking.{GivesAll, top_key}
-use Rattle.plain_machine.specs.Machine.{one_more}
-use Rattle.plain_machine.specs.Refused.{actor_of, takes}
-use Rattle.plain_machine.specs.Runs.{Replied}
+use Rattle.store_machine.specs.Machine.{one_more}
+use Rattle.store_machine.specs.Lines.{actor_of, takes}
+use Rattle.store_machine.specs.Commands.{Replied}
 
 -- ---- what lines and their replies tell
 
@@ -353,6 +353,7 @@ tells_fault (replies.Refused DiskRead) = true
 tells_fault (replies.Refused DiskWrite) = true
 tells_fault reply = false
 
--- The disk's count of faults rose where a reply blames a call of the disk, and else is as it was.
+-- Each line whose reply blames a call of the disk made its count of faults rise, and no other line did.
 abbrev pub CountFaults : List Replied → ℕ → ℕ → Type 0
-CountFaults rs before now = Counts (list_any (λ one. tells_fault one.reply) rs) before now
+CountFaults [] before now = now ≡ before
+CountFaults (one ∷ more) before now = (mid : ℕ) × (Counts (tells_fault one.reply) before mid × CountFaults more mid now)

@@ -14,7 +14,7 @@ use Rattle.script_lines.specs.Script.{IsRightLine}
 use Rattle.script_lines.specs.ReplyValue.{ReplyValue, reply_value}
 use Rattle.script_lines.specs.ReplyValue as replies
 use Rattle.store_core.specs.State.{CoreState}
-use Rattle.plain_machine.specs.Runs.{ends}
+use Rattle.store_machine.specs.Commands.{ends}
 use Rattle.refusals.specs.declared.refusal.Refusal.{Refusal}
 use Rattle.script_lines.specs.declared.reply.Reply.{Reply}
 use Rattle.session_turns.specs.declared.turns.TheConstants.{MOST_PIECE}
@@ -78,8 +78,8 @@ MakesReply C state line told r s = (reply : ReplyValue) × (RunsLine C state lin
 -- ---- what makes it
 
 -- the runner's state, of its parts
-abbrev pub runner_of : {C : Type 0} → C → Sessions → List ℕ → RunnerState C
-runner_of core sessions moments = record { core = core; sessions = sessions; moments = moments }
+abbrev pub runner_of : {C : Type 0} → C → Sessions → RunnerState C
+runner_of core sessions = record { core = core; sessions = sessions }
 
 -- the reply that a line was done, or why it was refused
 abbrev pub answer_of : Result Reply Refusal → ReplyValue

@@ -1,5 +1,5 @@
 //! A line is run, and its reply made.
-ghost use Rattle.std.specs.Prelude.{◌≡◌, ◌≢◌, ℕ, List, true, Some, None, IfOk};
+ghost use Rattle.std.specs.Prelude.{◌≡◌, ◌≢◌, true, Some, None, IfOk};
 ghost use Rattle.script_lines.specs.Grammar as grammar;
 ghost use Rattle.script_lines.specs.Grammar.{Reopen};
 ghost use Rattle.script_lines.specs.LineValue.{line_value};
@@ -43,8 +43,8 @@ fn act<C: HasState>(
     requires plain { IsPlain (line_value line.now) }
     requires runnable { IsRunnable (line_value line.now) }
     requires admitted { Admits (line_value line.now) sessions.old (C.state core.old) }
-    ensures acts { (moments : List ℕ) → Acts C C.state (line_value line.now) (answer_of result)
-        (runner_of core.old sessions.old moments) (runner_of core.new sessions.new moments) }
+    ensures acts { Acts C C.state (line_value line.now) (answer_of result)
+        (runner_of core.old sessions.old) (runner_of core.new sessions.new) }
     ensures running { IsRunning (C.state core.new) }
 {
     match *line {
@@ -100,8 +100,8 @@ fn reply_next<C: HasState>(
 ) -> Result<Vec<u8>, AllocError>
     requires running { IsRunning (C.state core.old) }
     requires runs { (C.state core.old).stop ≡ None }
-    ensures made { (sessions : Sessions) (moments : List ℕ) → ActsWith C C.state (grammar.Next actor)
-        (λ reply. Prints (λ text. text.items) result reply) (runner_of core.old sessions moments) (runner_of core.new sessions moments) }
+    ensures made { (sessions : Sessions) → ActsWith C C.state (grammar.Next actor)
+        (λ reply. Prints (λ text. text.items) result reply) (runner_of core.old sessions) (runner_of core.new sessions) }
     ensures running { IsRunning (C.state core.new) }
 {
     match read_next(core, actor, buf) {
@@ -119,7 +119,6 @@ fn reply_commit<C: HasState>(
     alloc: Global,
     core: &mut C,
     sessions: &mut Sessions,
-    moments: &mut Vec<u64>,
     actor: Actor,
     name: &[u8],
     buf: &mut SegBuf,
@@ -127,10 +126,10 @@ fn reply_commit<C: HasState>(
     requires running { IsRunning (C.state core.old) }
     requires gave { has_ended (session_of sessions.old actor) ≡ Some true }
     ensures made { ActsWith C C.state (grammar.Commit actor name.now) (λ reply. Prints (λ text. text.items) result reply)
-        (runner_of core.old sessions.old moments.old.items) (runner_of core.new sessions.new moments.new.items) }
+        (runner_of core.old sessions.old) (runner_of core.new sessions.new) }
     ensures running { IsRunning (C.state core.new) }
 {
-    match commit(alloc, core, sessions, moments, actor, name, buf) {
+    match commit(alloc, core, sessions, actor, name, buf) {
         Ok(text) => Ok(text),
         Err(refusal) => print_reply(alloc, &Reply::Refused { refusal }),
     }
@@ -140,16 +139,15 @@ fn reply_commit<C: HasState>(
 fn reply_delete<C: HasState>(
     alloc: Global,
     core: &mut C,
-    moments: &mut Vec<u64>,
     name: &[u8],
     buf: &mut SegBuf,
 ) -> Result<Vec<u8>, AllocError>
     requires running { IsRunning (C.state core.old) }
     ensures made { (sessions : Sessions) → ActsWith C C.state (grammar.Delete name.now) (λ reply. Prints (λ text. text.items) result reply)
-        (runner_of core.old sessions moments.old.items) (runner_of core.new sessions moments.new.items) }
+        (runner_of core.old sessions) (runner_of core.new sessions) }
     ensures running { IsRunning (C.state core.new) }
 {
-    match delete(alloc, core, moments, name, buf) {
+    match delete(alloc, core, name, buf) {
         Ok(text) => Ok(text),
         Err(refusal) => print_reply(alloc, &Reply::Refused { refusal }),
     }
@@ -163,8 +161,8 @@ fn reply_list<C: HasState>(
 ) -> Result<Vec<u8>, AllocError>
     requires running { IsRunning (C.state core.old) }
     requires runs { (C.state core.old).stop ≡ None }
-    ensures made { (sessions : Sessions) (moments : List ℕ) → ActsWith C C.state grammar.ListNames
-        (λ reply. Prints (λ text. text.items) result reply) (runner_of core.old sessions moments) (runner_of core.new sessions moments) }
+    ensures made { (sessions : Sessions) → ActsWith C C.state grammar.ListNames
+        (λ reply. Prints (λ text. text.items) result reply) (runner_of core.old sessions) (runner_of core.new sessions) }
     ensures running { IsRunning (C.state core.new) }
 {
     match list(core, buf) {
@@ -185,8 +183,8 @@ fn reply_plain<C: HasState>(
     requires plain { IsPlain (line_value line.now) }
     requires runnable { IsRunnable (line_value line.now) }
     requires admitted { Admits (line_value line.now) sessions.old (C.state core.old) }
-    ensures made { (moments : List ℕ) → ActsWith C C.state (line_value line.now) (λ reply. Prints (λ text. text.items) result reply)
-        (runner_of core.old sessions.old moments) (runner_of core.new sessions.new moments) }
+    ensures made { ActsWith C C.state (line_value line.now) (λ reply. Prints (λ text. text.items) result reply)
+        (runner_of core.old sessions.old) (runner_of core.new sessions.new) }
     ensures running { IsRunning (C.state core.new) }
 {
     let answer = act(alloc, core, sessions, line, buf);
@@ -198,7 +196,6 @@ pub(crate) fn reply_to<C: HasState>(
     alloc: Global,
     core: &mut C,
     sessions: &mut Sessions,
-    moments: &mut Vec<u64>,
     line: &Line<'_>,
     buf: &mut SegBuf,
 ) -> Result<Vec<u8>, AllocError>
@@ -206,18 +203,16 @@ pub(crate) fn reply_to<C: HasState>(
     requires runnable { IsRunnable (line_value line.now) }
     requires other { line_value line.now ≢ Reopen }
     ensures made { MakesReply C C.state (line_value line.now) (λ reply. Prints (λ text. text.items) result reply)
-        (runner_of core.old sessions.old moments.old.items) (runner_of core.new sessions.new moments.new.items) }
+        (runner_of core.old sessions.old) (runner_of core.new sessions.new) }
     ensures running { IsRunning (C.state core.new) }
 {
     if let Err(refusal) = admit(core, sessions, line) {
         return print_reply(alloc, &Reply::Refused { refusal });
     }
     match *line {
-        Line::Commit(actor, name) => {
-            reply_commit(alloc, core, sessions, moments, actor, name, buf)
-        }
+        Line::Commit(actor, name) => { reply_commit(alloc, core, sessions, actor, name, buf) }
         Line::Next(actor) => reply_next(alloc, core, actor, buf),
-        Line::Delete(name) => reply_delete(alloc, core, moments, name, buf),
+        Line::Delete(name) => reply_delete(alloc, core, name, buf),
         Line::List => reply_list(alloc, core, buf),
         _ => reply_plain(alloc, core, sessions, line, buf),
     }

@@ -1,6 +1,6 @@
 //! Which lines are taken.
 ghost use Rattle.std.specs.Prelude.{◌≡◌, ◌↔◌, IsTrue, IfErr, OnOk, option_map};
-ghost use Rattle.plain_machine.specs.Refused.{actor_of, takes};
+ghost use Rattle.store_machine.specs.Lines.{actor_of, takes};
 ghost use Rattle.script_lines.specs.LineValue.{line_value};
 ghost use Rattle.script_runner.specs.Acts.{Admits, Bars};
 ghost use Rattle.script_runner.specs.Sessions.{kind_in};

@@ -37,8 +37,8 @@ pub(crate) fn step_collection<C: HasState>(
 ) -> Result<Reply<'static>, Refusal>
     requires running { IsRunning (C.state core.old) }
     requires runs { (C.state core.old).stop ≡ None }
-    ensures steps { (sessions : Sessions) (moments : List ℕ) → Acts C C.state grammar.GcStep (answer_of result)
-        (runner_of core.old sessions moments) (runner_of core.new sessions moments) }
+    ensures steps { (sessions : Sessions) → Acts C C.state grammar.GcStep (answer_of result)
+        (runner_of core.old sessions) (runner_of core.new sessions) }
     ensures running { IsRunning (C.state core.new) }
 {
     match core.make_step(first(), Step::GcStep, buf)? {
@@ -52,8 +52,8 @@ pub(crate) fn step_collection<C: HasState>(
 pub fn sweep<C: HasState>(core: &mut C, buf: &mut SegBuf) -> Result<Reply<'static>, Refusal>
     requires running { IsRunning (C.state core.old) }
     requires runs { (C.state core.old).stop ≡ None }
-    ensures sweeps { (sessions : Sessions) (moments : List ℕ) → Acts C C.state grammar.Sweep (answer_of result)
-        (runner_of core.old sessions moments) (runner_of core.new sessions moments) }
+    ensures sweeps { (sessions : Sessions) → Acts C C.state grammar.Sweep (answer_of result)
+        (runner_of core.old sessions) (runner_of core.new sessions) }
     ensures tells { IfOk result (λ reply. TellsCollected (reply_value reply)) }
     ensures running { IsRunning (C.state core.new) }
 {

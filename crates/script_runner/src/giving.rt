@@ -8,13 +8,12 @@ ghost use Rattle.script_runner.specs.Acts.{Aborts, Begins, Commits, Finishes, Gi
 ghost use Rattle.script_runner.specs.Sessions.{has_ended, session_of};
 ghost use Rattle.session_turns.specs.Turns.{TurnsStopped};
 
-use crate::naming::prepare;
 use crate::sessions::Sessions;
 use actor_parts::{Actor, Answer, SegBuf, Step};
 use ingest_session::Session;
 use namespace::Root;
 use refusals::Refusal;
-use script_lines::{Reply, Turned, decode_into};
+use script_lines::{Reply, Turned, decode_into, print_reply};
 use session_turns::{MOST_PIECE, feed, make_turn, make_turns};
 use std::alloc::Global;
 use store_core::HasState;
@@ -139,35 +138,29 @@ fn settle<C: HasState>(
     }
 }
 
-// Gives a name the root, and notes the moment, for which there is room.
+// Gives a name the root.
 fn put_root<C: HasState>(
     core: &mut C,
-    moments: &mut Vec<u64>,
     actor: Actor,
     name: &[u8],
     root: &Root,
     buf: &mut SegBuf,
 ) -> Result<(), Refusal>
     requires running { IsRunning (C.state core.old) }
-    requires room { vec_len moments.old < vec_capacity moments.old }
-    ensures gives { OnOk result
-        (GivesRoot actor name.now root.now moments.old.items moments.new.items (C.state core.old) (C.state core.new)) }
+    ensures gives { OnOk result (GivesRoot actor name.now root.now (C.state core.old) (C.state core.new)) }
     ensures refused { IfErr result (λ refusal.
         RefusesStep actor (asked.Commit name.now root.now) refusal (C.state core.old) (C.state core.new)) }
-    ensures kept { OnErr result (moments.new.items ≡ moments.old.items) }
     ensures running { IsRunning (C.state core.new) }
 {
     core.make_step(actor, Step::Commit { name, root }, buf)?;
-    moments.push(core.moment()).unwrap();
     Ok(())
 }
 
-// Makes all turns that are due, and gives a name the root. The reply's memory, and that of the moment, is taken before.
+// Makes all turns that are due, and gives a name the root. The reply's memory is taken before.
 fn put<C: HasState>(
     alloc: Global,
     core: &mut C,
     session: &mut Session,
-    moments: &mut Vec<u64>,
     actor: Actor,
     name: &[u8],
     buf: &mut SegBuf,
@@ -175,15 +168,14 @@ fn put<C: HasState>(
     requires running { IsRunning (C.state core.old) }
     requires ended { session.old.ended ≡ true }
     ensures puts { IfOk result (λ text. IsText (λ sequence. Committed actor sequence)
-        (λ sequence. Puts C C.state actor name.now sequence session.old moments.old.items moments.new.items core.old core.new) text.items) }
+        (λ sequence. Puts C C.state actor name.now sequence session.old core.old core.new) text.items) }
     ensures refused { IfErr result (λ refusal. RefusesPut C C.state actor name.now refusal session.old session.new core.old core.new) }
-    ensures kept { OnErr result (moments.new.items ≡ moments.old.items) }
     ensures running { IsRunning (C.state core.new) }
 {
     let root = settle(core, session, actor, buf)?;
     let sequence = core.last_sequence().saturating_add(1);
-    let reply = prepare(alloc, moments, &Reply::Committed { actor, sequence })?;
-    put_root(core, moments, actor, name, &root, buf)?;
+    let reply = print_reply(alloc, &Reply::Committed { actor, sequence })?;
+    put_root(core, actor, name, &root, buf)?;
     Ok(reply)
 }
 
@@ -192,7 +184,6 @@ pub(crate) fn commit<C: HasState>(
     alloc: Global,
     core: &mut C,
     sessions: &mut Sessions,
-    moments: &mut Vec<u64>,
     actor: Actor,
     name: &[u8],
     buf: &mut SegBuf,
@@ -200,16 +191,14 @@ pub(crate) fn commit<C: HasState>(
     requires running { IsRunning (C.state core.old) }
     requires gave { has_ended (session_of sessions.old actor) ≡ Some true }
     ensures commits { IfOk result (λ text. IsText (λ sequence. Committed actor sequence)
-        (λ sequence. Commits C C.state actor name.now sequence sessions.old sessions.new moments.old.items moments.new.items
-        core.old core.new) text.items) }
+        (λ sequence. Commits C C.state actor name.now sequence sessions.old sessions.new core.old core.new) text.items) }
     ensures refused { IfErr result (λ refusal. RefusesCommit C C.state actor name.now refusal sessions.old sessions.new core.old core.new) }
-    ensures kept { OnErr result (moments.new.items ≡ moments.old.items) }
     ensures running { IsRunning (C.state core.new) }
 {
     let Some(mut session) = sessions.take(actor) else {
         unreachable!()
     };
-    match put(alloc, core, &mut session, moments, actor, name, buf) {
+    match put(alloc, core, &mut session, actor, name, buf) {
         Ok(text) => Ok(text),
         Err(refusal) => {
             sessions.set(actor, Some(session));

@@ -1,33 +1,12 @@
 //! Laws of lines that are run (docs/MODEL.md, 'Scripts').
 ghost use Rattle.script_runner.specs.AnyDisk.{LinesGiveWhatIsNamed, LinesGoOn};
-ghost use Rattle.script_runner.specs.Follows.{LinesFollow};
+ghost use Rattle.script_runner.specs.Complete.{WhatCanBeDoneIsDone};
 ghost use Rattle.script_runner.specs.Frame.{LinesKeepWritten, OpenedIsOn};
 ghost use Rattle.script_runner.specs.LinesAreFileRuns.{BeginsAtFileDesk, LinesAreFileRuns, OpenedIsAtDesk, ScriptsAreFileRuns};
 ghost use Rattle.script_runner.specs.LinesAreRuns.{BeginsAtDesk, LinesAreRuns, ScriptsAreRuns};
-ghost use Rattle.script_runner.specs.Opened.{OpenedFollows};
-ghost use Rattle.script_runner.specs.Scripts.{ScriptsFollow};
 
 use dd_disk::Disk;
 use store_core::HasState;
-
-/// A runner that follows the plain machine does with each line what the machine may do, as its reply says, and follows it then; what a
-/// crash leaves at any moment of the line is of files from before it or after it. So it is where no two different data segments that
-/// are stored or given have one digest. The function does nothing.
-pub fn lines_follow_the_machine<C: HasState>()
-    ensures { LinesFollow C C.state }
-{}
-
-/// So do lines that are run one after the other, of a run of the machine; and the moments that are noted tell what a crash may leave:
-/// since each of them files after at least the commands before it, and at the end all that were acknowledged. The function does nothing.
-pub fn scripts_follow_the_machine<C: HasState>()
-    ensures { ScriptsFollow C C.state }
-{}
-
-/// A core that was opened over a disk whose content is of some files follows the plain machine that was opened with them. The function
-/// does nothing.
-pub fn an_opened_core_follows<D: Disk, C: HasState>()
-    ensures { OpenedFollows D D.view C C.state }
-{}
 
 /// Over a core that was opened just now, on any disk, also one that tells nothing, or lies, lines give what is named: `read` opens the root
 /// that its name has then, `next` gives the segments that the tree of that root names, one after the other, and ends where they are as long
@@ -77,4 +56,13 @@ pub fn lines_are_file_runs<C: HasState>()
 /// opening, and lines may begin there, where no actor gives a file. The function does nothing.
 pub fn an_opened_core_is_at_a_desk<D: Disk, C: HasState>()
     ensures { OpenedIsAtDesk D D.view C C.state }
+{}
+
+/// What can be done is done: in lines of the machine of files that runs, where no actor is at anything, and of a disk that tells its
+/// content, with the bytes of each step traced. Where no reply blames a call of the disk, a `reopen` that is refused is the last line, and
+/// no two different segments, nor two different nodes, that are given or held on the way have one SHA-256, a line is done, or refused for
+/// what its user can see: the name, the actor, the length, the number, the free slots, or want of memory; and the machine still runs,
+/// unless there was no memory to open it again. The function does nothing.
+pub fn what_can_be_done_is_done()
+    ensures { WhatCanBeDoneIsDone }
 {}

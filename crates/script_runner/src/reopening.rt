@@ -10,31 +10,23 @@ use refusals::Refusal;
 use std::alloc::Global;
 use store_core::HasState;
 
-/// Opens the store again, and makes room where it has to: all actors end. It says how many names there are. Where a commit or a delete
-/// that was left open is found, the moment is noted; its memory is taken before. Where it is refused once containers may have been given
-/// back, the core is stopped.
+/// Opens the store again, and makes room where it has to: all actors end. It says how many names there are. Where it is
+/// refused once containers may have been given back, the core is stopped.
 pub(crate) fn reopen<C: HasState>(
     alloc: Global,
     core: &mut C,
     sessions: &mut Sessions,
-    moments: &mut Vec<u64>,
     buf: &mut SegBuf,
 ) -> Result<u64, Refusal>
     requires { IsRunning (C.state core.old) }
-    ensures opened { IfOk result (λ files. Reopens C C.state files sessions.new moments.old.items moments.new.items core.old core.new) }
+    ensures opened { IfOk result (λ files. Reopens C C.state files sessions.new core.old core.new) }
     ensures refused { IfErr result (λ refusal. RefusesReopen C C.state refusal core.old core.new) }
     ensures sessions { OnErr result (sessions.new ≡ sessions.old) }
-    ensures moments { OnErr result (moments.new.items ≡ moments.old.items) }
     ensures running { IsRunning (C.state core.new) }
 {
     let none = Sessions::new(alloc)?;
-    moments.reserve(1)?;
-    let was = core.last_sequence();
     core.reopen()?;
     *sessions = none;
     let holdings = count(core, buf);
-    if core.last_sequence() != was {
-        moments.push(core.moment()).unwrap();
-    }
     Ok(holdings.files)
 }

@@ -1,5 +1,5 @@
 //! A runner: the lines of a script over a core.
-ghost use Rattle.std.specs.Prelude.{◌≡◌, ◌≢◌, [], None, replicate};
+ghost use Rattle.std.specs.Prelude.{◌≡◌, ◌≢◌, None, replicate};
 ghost use Rattle.actor_parts.specs.declared.actor.TheConstants.{ACTORS};
 ghost use Rattle.script_lines.specs.Grammar as grammar;
 ghost use Rattle.script_lines.specs.LineValue.{line_value};
@@ -26,13 +26,12 @@ pub enum Halt {
     Ended(Ending),
 }
 
-/// Runs the lines of a script over a core, one after the other: `docs/FORMAT.md`, 'Scripts'. It holds the sessions of the actors, and
-/// the moments of the disk at which commands had taken effect.
+/// Runs the lines of a script over a core, one after the other: `docs/FORMAT.md`, 'Scripts'. It holds the sessions of the
+/// actors.
 pub struct Runner<C: HasState> {
     alloc: Global,
     core: C,
     sessions: Sessions,
-    moments: Vec<u64>,
     buf: SegBuf,
 }
 
@@ -42,7 +41,7 @@ impl<C: HasState> Model for Runner<C> {
 
     ghost Value = { RunnerState C };
 
-    ghost view = { λ r. record { core = r.core; sessions = r.sessions; moments = r.moments.items } };
+    ghost view = { λ r. record { core = r.core; sessions = r.sessions } };
 
     ghost invariant = { λ r. IsRunning (C.state r.core) };
 }
@@ -66,19 +65,17 @@ fn tell<K: Sink>(alloc: Global, reply: &Reply<'_>, sink: &mut K) -> Result<(), E
 }
 
 impl<C: HasState> Runner<C> {
-    /// No actor gives a file, and no command took effect yet.
+    /// No actor gives a file yet.
     pub fn new(alloc: Global, core: C, sessions: Sessions, buf: SegBuf) -> Runner<C>
         requires running { IsRunning (C.state core) }
         requires none { sessions ≡ replicate ACTORS None }
         ensures core { result.core ≡ core }
         ensures sessions { result.sessions ≡ sessions }
-        ensures moments { result.moments ≡ [] }
     {
         Runner {
             alloc,
             core,
             sessions,
-            moments: Vec::new(alloc),
             buf,
         }
     }
@@ -91,7 +88,6 @@ impl<C: HasState> Runner<C> {
             self.alloc,
             &mut self.core,
             &mut self.sessions,
-            &mut self.moments,
             &mut self.buf,
         );
         let files = match reopened {
@@ -114,7 +110,6 @@ impl<C: HasState> Runner<C> {
             self.alloc,
             &mut self.core,
             &mut self.sessions,
-            &mut self.moments,
             line,
             &mut self.buf,
         )?;
@@ -168,7 +163,6 @@ impl<C: HasState> Runner<C> {
             alloc: _alloc,
             core,
             sessions: _sessions,
-            moments: _moments,
             buf: _buf,
         } = self;
         core

@@ -1,4 +1,4 @@
-use Rattle.std.proofs.Common.{◌∙◌, inl, inr, [], ℕ, List, Result, refl, subst}
+use Rattle.std.proofs.Common.{◌∙◌, inl, inr, ℕ, List, Result, refl, subst}
 use Rattle.refusals.specs.declared.refusal.Refusal.TheVariants.{Memory}
 use Rattle.reply_text.specs.declared.ending.Ending.{Ending}
 use Rattle.reply_text.specs.declared.ending.Ending.TheVariants.{Refused}
@@ -23,7 +23,7 @@ returns-in_err-text-in-Ok-clause-ran g c =
     let sink = g.K.Sink.view c.args.sink.now in
     let mid = c.begin_collection.new.core in
     let new = c.sweep-swept.new.core in
-    let swept = swept_ok _ state mid new c.sweep-swept.result c.in-Ok.reply c.in-Ok.is c.sweep-swept.ensures.tells (c.sweep-swept.ensures.sweeps no_sessions []) in
+    let swept = swept_ok _ state mid new c.sweep-swept.result c.in-Ok.reply c.in-Ok.is c.sweep-swept.ensures.tells (c.sweep-swept.ensures.sweeps no_sessions) in
     by_error (λ (r : Result (Unit {0}) Ending). CollectRun _ state c.args.percent r c.args.core.now new sink sink) c.from_residual-in_err-text-in-Ok.result (Refused Memory) c.from_residual-in_err-text-in-Ok.ensures.1
     (inr (c.in_ok-begin_collection.field-0, (mid, (c.in_ok-begin_collection.ensures.starts, inr (swept.freed, swept.copied, (swept.sweeps, inr (refl, refl)))))))
 
@@ -34,7 +34,7 @@ returns-in_ok-text-in-Ok-clause-ran g c =
     let sink_now = g.K.Sink.view c.send.new.sink in
     let mid = c.begin_collection.new.core in
     let new = c.sweep-swept.new.core in
-    let swept = swept_ok _ state mid new c.sweep-swept.result c.in-Ok.reply c.in-Ok.is c.sweep-swept.ensures.tells (c.sweep-swept.ensures.sweeps no_sessions []) in
+    let swept = swept_ok _ state mid new c.sweep-swept.result c.in-Ok.reply c.in-Ok.is c.sweep-swept.ensures.tells (c.sweep-swept.ensures.sweeps no_sessions) in
     let sent = subst (λ (text : List ℕ). Sent text c.send.result sink sink_now) (c.deref.ensures.value ∙ c.in_ok-text-in-Ok.ensures ∙ swept.reply_is) c.send.ensures in
     inr (c.in_ok-begin_collection.field-0, (mid, (c.in_ok-begin_collection.ensures.starts, inr (swept.freed, swept.copied, (swept.sweeps, inl sent)))))
 
@@ -44,5 +44,5 @@ returns-in-Err-clause-ran g c =
     let state = g.C.HasState.state in
     let mid = c.begin_collection.new.core in
     let new = c.sweep-swept.new.core in
-    let sweeps = swept_err _ state mid new c.sweep-swept.result c.in-Err.refusal c.in-Err.is (c.sweep-swept.ensures.sweeps no_sessions []) in
+    let sweeps = swept_err _ state mid new c.sweep-swept.result c.in-Err.refusal c.in-Err.is (c.sweep-swept.ensures.sweeps no_sessions) in
     inr (c.in_ok-begin_collection.field-0, (mid, (c.in_ok-begin_collection.ensures.starts, inl (c.in-Err.refusal, (sweeps, (refl, refl))))))

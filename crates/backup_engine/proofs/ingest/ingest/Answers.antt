@@ -1,20 +1,21 @@
-use Rattle.std.proofs.Common.{rules, sym, List, [], ℕ, Option, Some}
+use Rattle.std.proofs.Common.{inl, rules, sym, List, [], ℕ, Option, Some}
 use Rattle.std.specs.Borrow.{MutBor}
 use Rattle.dd_disk.specs.View.{DiskView, IsLater}
 use Rattle.dd_io.specs.Flow.{SourceView, SinkView}
-use Rattle.plain_machine.specs.Runs.{Replied}
+use Rattle.store_machine.specs.Commands.{Replied}
 use Rattle.reply_text.specs.declared.ending.Ending.{Ending}
 use Rattle.reply_text.specs.declared.ending.Ending.TheVariants.{Refused}
 use Rattle.backup_engine.specs.Line.{Ingest}
 use Rattle.backup_engine.specs.Singles.{IsIngest}
 use Rattle.backup_engine.specs.TopCall.{DoesCommand, ending_in}
 use Rattle.backup_engine.proofs.Ingesting.{ingest_keeps}
+use Rattle.backup_engine.proofs.ByFiles.{refused_by_files}
 use Rattle.backup_engine.proofs.Kept.{by_same, later_back}
 use Rattle.backup_engine.proofs.Lending.{none_back, none_later}
 use Rattle.backup_engine.proofs.NotDone.{unopened_ingest}
-use Rattle.backup_engine.proofs.Opens.{does_none, does_opened, opened_fresh, opened_later}
+use Rattle.backup_engine.proofs.Opens.{does_none, does_opened, opened_fresh, opened_later, single_back}
 use Rattle.backup_engine.proofs.Returned.{first_same, ingest_later, rest_same}
-use Rattle.backup_engine.proofs.SinglesRun.{ingest_actors, run_speaks, speaks_back, unopened_speaks}
+use Rattle.backup_engine.proofs.SinglesRun.{ingest_actors, unopened_speaks}
 use Rattle.backup_engine.proofs.SourceRuns.{given_of, given_told}
 use Rattle.backup_engine.proofs.Unlent.{ingest_kept}
 use Rattle.backup_engine.proofs.ingest.ingest.Goals as goal
@@ -46,8 +47,8 @@ returns-in-Err g c =
               (λ before is. record {
                 keeps = unopened_ingest before w refusal is name given source sink (given_told source.left);
                 speaks = unopened_speaks are before w refusal is sink;
-                machine = (unopened_speaks are before w refusal is sink).machine;
               })
+              (refused_by_files _ view refusal c.args.disk.now c.in-Err.refused.0.now c.an_opening_finds_its_files.ensures.unopened (none_back _ view first _ w refusal c.in-Err.ensures.refused))
               (none_back _ view first _ w refusal c.in-Err.ensures.refused),
         ),
       );
@@ -74,17 +75,22 @@ returns g c =
     let w = view c.close-disk.result.now in
     let are = IsIngest name ran.given (ending_in result) source source_now in
     let first : MutBor g.row.D.Denot = record { ref_ptr = c.args.disk.ref_ptr; ghost_name = _; now = c.args.disk.now } in
-    let later = opened_later _ view _ _ first _ w c.in-Ok.core c.store_source-stored.new.core c.an_opened_core_follows.ensures is.running closed.disk closed.moment
+    let later = opened_later _ view _ _ first _ w c.in-Ok.core c.store_source-stored.new.core c.calls_run_by_files.ensures is.running closed.disk closed.moment
     (ingest_later _ _ name result c.in-Ok.core c.store_source-stored.new.core source source_now sink sink_now ran) is.opened in
     let named = first_same c.close-disk.result.ghost_name _ _ _ later.loans_are in
-    let done = does_opened _ view _ _ first _ w c.in-Ok.core c.store_source-stored.new.core c.an_opened_core_follows.ensures is.running closed.disk closed.moment (ingest_later _ _ name result c.in-Ok.core c.store_source-stored.new.core source source_now sink sink_now ran) (Ingest name) ran.given (ending_in result) source source_now sink sink_now is.opened
-    (λ before called.
-    let said = run_speaks _ _ _ _ before _ _ _ called c.an_opened_core_follows.ensures c.scripts_follow_the_machine.ensures are (ending_in result) sink sink_now
-    (ingest_actors name ran.given (ending_in result) source source_now) ran.lines_are in
-    let speaks = speaks_back _ _ (view before.now) w are (ending_in result) said.0 sink sink_now said.1 in
-    (said.0, (ingest_kept _ _ (view before.now) w source source_now sink sink_now ran.given name (ending_in result) (ingest_keeps _ _ _ _ _ _ called name result source source_now sink sink_now ran), speaks, speaks.machine))) in
+    let core = c.in-Ok.core in
+    let core_now = c.store_source-stored.new.core in
+    let opens = c.calls_run_by_files.ensures in
+    let between = ingest_later _ _ name result core core_now source source_now sink sink_now ran in
+    let run = ran.lines_are in
+    let by_files = single_back _ view _ _ first _ w core core_now opens is.running closed.disk closed.moment between is.opened are (ending_in result) run (ingest_actors name ran.given (ending_in result) source source_now) in
+    let done = does_opened _ view _ _ first _ w core core_now opens is.running closed.disk closed.moment between (Ingest name) ran.given (ending_in result) source source_now sink sink_now run.0 by_files is.opened
+    (λ before called. (
+      ingest_kept _ _ (view before.now) w source source_now sink sink_now ran.given name (ending_in result) (ingest_keeps _ _ _ _ _ _ called name result source source_now sink sink_now ran),
+      inl run.1.0,
+    )) in
     record {
-      does = by_same (λ d. Ingested _ view (view c.args.disk.now) (view d) name (ending_in result) source source_now sink sink_now) _ c.close-disk.result.now (search (rules, named)) (ran.given, done);
+      does = by_same (λ d. Ingested _ view (view c.args.disk.now) (view d) name (ending_in result) source source_now sink sink_now) _ c.close-disk.result.now (search (rules, named)) (ran.given, (run.0, done));
       later = by_same (λ d. IsLater (view c.args.disk.now) (view d)) _ c.close-disk.result.now (search (rules, named))
           (later_back _ _ (view c.args.disk.now) w (sym (rest_same _ _ _ _ later.loans_are)) later);
     }

@@ -1,7 +1,7 @@
 use Rattle.std.proofs.Common.{rules, inl, refl, sym, List, [], Some}
 use Rattle.std.specs.Borrow.{MutBor}
 use Rattle.dd_disk.specs.View.{IsLater}
-use Rattle.plain_machine.specs.Runs.{Replied}
+use Rattle.store_machine.specs.Commands.{Replied}
 use Rattle.refusals.specs.declared.refusal.Refusal.TheVariants.{Memory}
 use Rattle.reply_text.specs.declared.ending.Ending.TheVariants.{Refused}
 use Rattle.backup_engine.specs.Line.{Restore}
@@ -9,12 +9,13 @@ use Rattle.backup_engine.specs.Singles.{IsRestore}
 use Rattle.backup_engine.specs.TopCall.{DoesCommand, ending_in}
 use Rattle.backup_engine.proofs.GivenBack.{gives}
 use Rattle.backup_engine.proofs.GivenLines.{given_lines}
+use Rattle.backup_engine.proofs.ByFiles.{refused_by_files}
 use Rattle.backup_engine.proofs.Kept.{by_same, later_back}
 use Rattle.backup_engine.proofs.Lending.{none_back, none_later}
 use Rattle.backup_engine.proofs.NotDone.{not_begun, unopened_restore}
-use Rattle.backup_engine.proofs.Opens.{does_none, does_opened, does_without_memory, opened_fresh, opened_later}
+use Rattle.backup_engine.proofs.Opens.{does_none, does_opened, does_without_memory, opened_fresh, opened_later, single_back}
 use Rattle.backup_engine.proofs.Returned.{first_same, give_later, rest_same}
-use Rattle.backup_engine.proofs.SinglesRun.{restore_actors, run_speaks, speaks_back, unbegun_speaks, unopened_speaks}
+use Rattle.backup_engine.proofs.SinglesRun.{restore_actors, unbegun_speaks, unopened_speaks}
 use Rattle.backup_engine.proofs.Unlent.{restore_kept}
 use Rattle.backup_engine.proofs.restore.restore.Goals as goal
 
@@ -47,8 +48,8 @@ returns-in-Err g c =
             (λ before is. record {
               keeps = unopened_restore before w refusal is name source sink;
               speaks = unopened_speaks are before w refusal is sink;
-              machine = (unopened_speaks are before w refusal is sink).machine;
             })
+            (refused_by_files _ view refusal c.args.disk.now c.in-Err.refused.0.now c.an_opening_finds_its_files.ensures.unopened (none_back _ view first _ w refusal c.in-Err.ensures.refused))
             (none_back _ view first _ w refusal c.in-Err.ensures.refused),
       );
       later = by_same (λ d. IsLater (view c.args.disk.now) (view d)) _ c.in-Err.refused.0.now (search rules)
@@ -74,17 +75,22 @@ returns g c =
     let core_now = c.give_out-given.new.core in
     let are = IsRestore name (ending_in result) sink sink_now in
     let first : MutBor g.row.D.Denot = record { ref_ptr = c.args.disk.ref_ptr; ghost_name = _; now = c.args.disk.now } in
-    let later = opened_later _ view _ _ first _ w core core_now c.an_opened_core_follows.ensures is.running closed.disk closed.moment
+    let opens = c.calls_run_by_files.ensures in
+    let later = opened_later _ view _ _ first _ w core core_now opens is.running closed.disk closed.moment
     (give_later _ _ name result core core_now sink sink_now ran) is.opened in
     let named = first_same c.close-disk.result.ghost_name _ _ _ later.loans_are in
-    let lines = given_lines _ _ name core (opened_fresh _ _ _ _ is.opened is.running) core_now sink sink_now result ran in
+    let run = given_lines _ _ name core (opened_fresh _ _ _ _ is.opened is.running) core_now sink sink_now result ran in
+    let between = give_later _ _ name result core core_now sink sink_now ran in
+    let by_files = single_back _ view _ _ first _ w core core_now opens is.running closed.disk closed.moment between is.opened are (ending_in result) run (restore_actors name (ending_in result) sink sink_now) in
     record {
-      does = λ source. by_same (λ d. (rs : List Replied) × DoesCommand _ view (Restore name) [] rs (ending_in result) (view c.args.disk.now) (view d) source source sink sink_now) _ c.close-disk.result.now (search (rules, named))
-          (does_opened _ view _ _ first _ w core core_now c.an_opened_core_follows.ensures is.running closed.disk closed.moment (give_later _ _ name result core core_now sink sink_now ran) (Restore name) [] (ending_in result) source source sink sink_now is.opened
-          (λ before called.
-          let said = run_speaks _ _ _ _ before _ _ _ called c.an_opened_core_follows.ensures c.scripts_follow_the_machine.ensures are (ending_in result) sink sink_now (restore_actors name (ending_in result) sink sink_now) lines in
-          let speaks = speaks_back _ _ (view before.now) w are (ending_in result) said.0 sink sink_now said.1 in
-          (said.0, (restore_kept _ _ (view before.now) w source source sink sink_now [] name (ending_in result) (gives _ _ _ _ _ _ called name result sink sink_now ran source), speaks, speaks.machine))));
+      does = λ source. by_same (λ d. (rs : List Replied) × DoesCommand _ view (Restore name) [] rs (ending_in result) (view c.args.disk.now) (view d) source source sink sink_now) _ c.close-disk.result.now (search (rules, named)) (
+        run.0,
+        does_opened _ view _ _ first _ w core core_now opens is.running closed.disk closed.moment between (Restore name) [] (ending_in result) source source sink sink_now run.0 by_files is.opened
+            (λ before called. (
+              restore_kept _ _ (view before.now) w source source sink sink_now [] name (ending_in result) (gives _ _ _ _ _ _ called name result sink sink_now ran source),
+              inl run.1.0,
+            )),
+      );
       later = by_same (λ d. IsLater (view c.args.disk.now) (view d)) _ c.close-disk.result.now (search (rules, named))
           (later_back _ _ (view c.args.disk.now) w (sym (rest_same _ _ _ _ later.loans_are)) later);
     }

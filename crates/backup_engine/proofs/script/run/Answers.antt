@@ -1,17 +1,18 @@
 use Rattle.std.proofs.Common.{rules, ◌∙◌, List, [], Some, Result, sym}
 use Rattle.std.specs.Borrow.{MutBor}
 use Rattle.dd_disk.specs.View.{IsLater}
-use Rattle.plain_machine.specs.Runs.{Replied}
+use Rattle.store_machine.specs.Commands.{Replied}
 use Rattle.refusals.specs.declared.refusal.Refusal.TheVariants.{Memory}
 use Rattle.reply_text.specs.declared.ending.Ending.{Ending}
 use Rattle.reply_text.specs.declared.ending.Ending.TheVariants.{Refused}
 use Rattle.backup_engine.specs.TopCall.{RunsScript, ending_in}
-use Rattle.backup_engine.proofs.ByFiles.{not_opened, runs_by_files}
+use Rattle.backup_engine.proofs.ByFiles.{refused_by_files}
+use Rattle.backup_engine.proofs.FailsAlone.{fails_by, fails_unopened}
 use Rattle.backup_engine.proofs.Kept.{by_error, by_same, later_back}
 use Rattle.backup_engine.proofs.Lending.{none_back, none_later}
-use Rattle.backup_engine.proofs.Opens.{opened_later, runs_none, runs_opened, runs_without_memory}
+use Rattle.backup_engine.proofs.Opens.{opened_later, runs_back, runs_none, runs_opened, runs_without_memory}
 use Rattle.backup_engine.proofs.Returned.{first_same, rest_same}
-use Rattle.backup_engine.proofs.ScriptKept.{called_by, later_by, no_memory_kept, run_kept, script_back, unopened_kept}
+use Rattle.backup_engine.proofs.ScriptKept.{called_by, ends_alone, later_by, no_memory_kept, run_kept, script_back, unopened_kept}
 use Rattle.backup_engine.proofs.script.run.Goals as goal
 
 -- there was no memory
@@ -49,7 +50,8 @@ returns-in-Err g c =
       runs = by_same (λ d. (rs : List Replied) × RunsScript _ view rs (Some (Refused refusal)) (view c.args.disk.now) (view d) source source sink sink) _ c.in-Err.refused.0.now (search rules) (
         [],
         runs_none _ view refusal (view c.args.disk.now) w source sink (λ before is. unopened_kept before w refusal is source sink c.reads_tell_scripts.ensures)
-            (not_opened _ view refusal c.args.disk.now c.in-Err.refused.0.now c.an_opening_finds_its_files.ensures.unopened (none_back _ view first _ w refusal c.in-Err.ensures.refused))
+            (refused_by_files _ view refusal c.args.disk.now c.in-Err.refused.0.now c.an_opening_finds_its_files.ensures.unopened (none_back _ view first _ w refusal c.in-Err.ensures.refused))
+            (fails_unopened _ view refusal c.args.disk.now c.in-Err.refused.0.now c.an_opening_finds_its_files.ensures.unopened (none_back _ view first _ w refusal c.in-Err.ensures.refused))
             (none_back _ view first _ w refusal c.in-Err.ensures.refused),
       );
       later = by_same (λ d. IsLater (view c.args.disk.now) (view d)) _ c.in-Err.refused.0.now (search rules)
@@ -72,22 +74,23 @@ returns g c =
     let core_now = c.into_core.result in
     let closed = c.close-disk.ensures in
     let w = view c.close-disk.result.now in
-    let opens = c.an_opened_core_follows.ensures in
+    let opens = c.calls_run_by_files.ensures in
     let run = c.run_lines-ran.ensures in
     let first : MutBor g.row.D.Denot = record { ref_ptr = c.args.disk.ref_ptr; ghost_name = _; now = c.args.disk.now } in
     let between = later_by _ _ _ _ opens core core_now r.core s.core c.new-runner.ensures.core c.into_core.ensures.core (c.lines_go_on.ensures run.rs r s run.runs).later in
     let later = opened_later _ view _ _ first _ w core core_now opens is.running closed.disk closed.moment between is.opened in
     let named = first_same c.close-disk.result.ghost_name _ _ _ later.loans_are in
+    let by_files = runs_back _ view _ _ first _ w core core_now opens is.running closed.disk closed.moment between is.opened (ending_in result) run.rs r s c.new-runner.ensures.core
+    (c.new-runner.ensures.sessions ∙ c.in_ok-sessions.ensures) c.into_core.ensures.core run.actors run.runs in
     record {
       runs = by_same (λ d. (rs : List Replied) × RunsScript _ view rs (ending_in result) (view c.args.disk.now) (view d) source source_now sink sink_now) _ c.close-disk.result.now (search (rules, named)) (
         run.rs,
         runs_opened _ view _ _ first _ w core core_now opens is.running closed.disk closed.moment between run.rs (ending_in result) source source_now sink sink_now is.opened
-            (runs_by_files _ view _ _ first _ w core core_now c.an_opened_core_is_at_a_desk.ensures c.lines_are_file_runs.ensures.scripts c.a_core_is_the_machine_of_files.ensures.stands is.opened closed.disk
-            (ending_in result) run.rs r s c.new-runner.ensures.core c.into_core.ensures.core (c.new-runner.ensures.sessions ∙ c.in_ok-sessions.ensures) run.actors run.runs)
+            by_files (fails_by (ending_in result) run.rs (view c.args.disk.now) w (ends_alone run.rs (ending_in result) source source_now sink sink_now run.caused) by_files)
             (λ before whole.
             let called = called_by _ _ _ _ core core_now r.core s.core whole c.new-runner.ensures.core c.into_core.ensures.core in
             let kept =
-            run_kept _ _ _ _ before _ r s called opens c.scripts_follow_the_machine.ensures c.lines_go_on.ensures c.lines_give_what_is_named.ensures c.lines_keep_what_is_written.ensures.opened
+            run_kept _ _ _ _ before _ r s called c.lines_go_on.ensures c.lines_give_what_is_named.ensures c.lines_keep_what_is_written.ensures.opened
             c.lines_keep_what_is_written.ensures.lines (c.new-runner.ensures.sessions ∙ c.in_ok-sessions.ensures) result source source_now sink sink_now run in
             script_back _ _ (view before.now) w run.rs (ending_in result) source source_now sink sink_now kept.1),
       );

@@ -1,5 +1,5 @@
 use Rattle.std.proofs.Common.{◌≡◌, ◌-◌, List}
-use Rattle.plain_machine.specs.Runs.{Replied}
+use Rattle.store_machine.specs.Commands.{Replied}
 use Rattle.script_lines.specs.declared.script.TheConstants.{MOST_SCRIPT}
 use Rattle.script_lines.specs.Script.{number_after}
 use Rattle.backup_engine.specs.Lines.{lines_of}

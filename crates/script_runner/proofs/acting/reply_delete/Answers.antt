@@ -11,4 +11,4 @@ returns-in-Ok-clause-made g c = λ sessions.
 pub returns-in-Err-clause-made : goal.returns-in-Err-clause-made
 returns-in-Err-clause-made g c = λ sessions.
     let reply = replies.Refused c.in-Err.refusal in
-    (reply, ((c.in-Err.ensures.refused, refl, c.in-Err.ensures.kept), printed (λ text. text.items) c.print_reply.result reply (λ x. x) c.print_reply.ensures))
+    (reply, ((c.in-Err.ensures.refused, refl), printed (λ text. text.items) c.print_reply.result reply (λ x. x) c.print_reply.ensures))

@@ -14,14 +14,14 @@ returns-in_err-tell-in-Err g c =
     let state = g.C.HasState.state in
     let sink = g.K.Sink.view c.args.sink.now in
     let sink_now = g.K.Sink.view c.tell.new.sink in
-    let s = runner_of c.reopen-reopened.new.core c.reopen-reopened.new.sessions c.reopen-reopened.new.moments.items in
+    let s = runner_of c.reopen-reopened.new.core c.reopen-reopened.new.sessions in
     let reply = replies.Refused c.in-Err.refusal in
     let e = c.in_err-tell-in-Err.field-0.0 in
     by_error (λ (x : Result (Unit {0}) Ending). Replies _ state lines.Reopen x c.args.self.now s sink sink_now) c.from_residual.result e c.from_residual.ensures.1
     (subst (λ (r : RunnerState _). Replies _ state lines.Reopen (Err e) r s sink sink_now) c.self.view_is
     (record {
       reply = reply;
-      runs = (c.in-Err.ensures.refused, c.in-Err.ensures.sessions, c.in-Err.ensures.moments);
+      runs = (c.in-Err.ensures.refused, c.in-Err.ensures.sessions);
       sends = untold_so lines.Reopen reply e sink sink_now (λ x. x) c.in_err-tell-in-Err.ensures;
     }))
 
@@ -30,12 +30,12 @@ returns-in-Err g c =
     let state = g.C.HasState.state in
     let sink = g.K.Sink.view c.args.sink.now in
     let sink_now = g.K.Sink.view c.tell.new.sink in
-    let s = runner_of c.reopen-reopened.new.core c.reopen-reopened.new.sessions c.reopen-reopened.new.moments.items in
+    let s = runner_of c.reopen-reopened.new.core c.reopen-reopened.new.sessions in
     let reply = replies.Refused c.in-Err.refusal in
     subst (λ (r : RunnerState _). Replies _ state lines.Reopen (Err (endings.Refused c.in-Err.refusal)) r s sink sink_now) c.self.view_is
     (record {
       reply = reply;
-      runs = (c.in-Err.ensures.refused, c.in-Err.ensures.sessions, c.in-Err.ensures.moments);
+      runs = (c.in-Err.ensures.refused, c.in-Err.ensures.sessions);
       sends = inr (refl, c.in_ok-tell-in-Err.ensures);
     })
 
@@ -44,7 +44,7 @@ returns g c =
     let state = g.C.HasState.state in
     let sink = g.K.Sink.view c.args.sink.now in
     let sink_now = g.K.Sink.view c.tell-2.new.sink in
-    let s = runner_of c.reopen-reopened.new.core c.reopen-reopened.new.sessions c.reopen-reopened.new.moments.items in
+    let s = runner_of c.reopen-reopened.new.core c.reopen-reopened.new.sessions in
     let reply = replies.Opened c.in-Ok.files in
     subst (λ (r : RunnerState _). Replies _ state lines.Reopen c.tell-2.result r s sink sink_now) c.self.view_is
     (record {

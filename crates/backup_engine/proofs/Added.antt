@@ -58,7 +58,8 @@ module _ (name given : List ℕ) where
   same_change n root names roots = ap (λ (x : List ℕ). ChangeName x (Put root) ∷ []) names ∙ ap (λ (r : Root). ChangeName name (Put r) ∷ []) roots
 
   -- the last one puts the name
-  put_change : (step : StepValue) (answer : Result Answer Refusal) (put : List ℕ) → IsAskedFor name given step put → IsLastPut step answer → changes_by step answer ≡ ChangeName name (Put (root_of given)) ∷ []
+  put_change : (step : StepValue) (answer : Result Answer Refusal) (put : List ℕ) → IsAskedFor name given step put → IsLastPut step answer →
+      changes_by step answer ≡ ChangeName name (Put (root_of given)) ∷ []
   put_change (asked.Commit n root) (Ok answer) put is last = same_change n root is.0 is.1
   put_change (asked.Commit n root) (Err refusal) put is last = absurd last
   put_change step answer put is last = absurd last
@@ -73,9 +74,11 @@ module _ (name given : List ℕ) where
   abbrev Last : List StoreChange → List StoreChange → List StoreChange → Type 0
   Last made seals rest = made ++ [] ≡ (seals ++ []) ++ rest
 
-  by_last : (f : FileEvent) (put : Result Unit Refusal) → IsPutStep name given f → EndsPut (f ∷ []) put → Last (changes_by f.event.step f.event.answer) (seal_by f.event.step f.event.answer) (last_change put)
+  by_last : (f : FileEvent) (put : Result Unit Refusal) → IsPutStep name given f → EndsPut (f ∷ []) put →
+      Last (changes_by f.event.step f.event.answer) (seal_by f.event.step f.event.answer) (last_change put)
   by_last f (Ok u) step ends =
-      subst (λ (made : List StoreChange). Last made (seal_by f.event.step f.event.answer) (last_change (Ok u))) (sym (put_change f.event.step f.event.answer f.bytes step.asked_for ends))
+      subst (λ (made : List StoreChange). Last made (seal_by f.event.step f.event.answer) (last_change (Ok u)))
+      (sym (put_change f.event.step f.event.answer f.bytes step.asked_for ends))
       (subst (λ (seals : List StoreChange). Last (last_change (Ok u)) seals (last_change (Ok u))) (sym (put_seals f.event.step f.event.answer ends)) refl)
   by_last f (Err refusal) step (inl is) =
       subst (λ (answer : Result Answer Refusal). Last (changes_by f.event.step answer) (seal_by f.event.step answer) []) (sym is)
@@ -115,7 +118,8 @@ module _ (name given : List ℕ) where
   ends_with (Err refusal) mid t chain = chain
 
   -- Of a store to which the steps led, which the content is: what they sealed was added, and then the name.
-  pub adds_to : (fs : List FileEvent) (put : Result Unit Refusal) (s t : Store) (content : Option (List ℕ)) → AllByRecursion (IsPutStep name given) fs → EndsPut fs put → ChangesTo (changes_of fs) s t
+  pub adds_to : (fs : List FileEvent) (put : Result Unit Refusal) (s t : Store) (content : Option (List ℕ)) → AllByRecursion (IsPutStep name given) fs → EndsPut fs put →
+      ChangesTo (changes_of fs) s t
       → AddsOnce given (seals_of fs) s → KnownWith content (λ image. Encodes image t) → AddsTo given (put_in put) s content
   adds_to fs put s t content each ends chain once here =
       let way = between (seals_of fs) (last_change put) s t (subst (λ (changes : List StoreChange). ChangesTo changes s t) (changes_are fs put each ends) chain) in

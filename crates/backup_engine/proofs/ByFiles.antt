@@ -82,7 +82,8 @@ opened_clock D view v c (inl read) = read.reads.only.later.clock_is
 opened_clock D view v c (inr (mid, (made, read))) = omega (arith, made.later.clock_is, read.reads.only.later.clock_is)
 
 pub calls_by_files : (D : Type 0) (view : D → DiskView) (C : Type 0) (state : C → CoreState) → CallsRunByFiles D view C state
-    → (start : D) (now : DiskView) (ending : Option Ending) (rs : List Replied) (r s : RunnerState C) → OpensCore D view (view start) (state r.core) → Reads Done (state s.core).disk now → r.sessions ≡ replicate ACTORS None
+    → (start : D) (now : DiskView) (ending : Option Ending) (rs : List Replied) (r s : RunnerState C) → OpensCore D view (view start) (state r.core) →
+    Reads Done (state s.core).disk now → r.sessions ≡ replicate ACTORS None
     → AreOfActors rs → RunsLines C state rs r s → RunsEachByFiles ending rs (view start) now
 calls_by_files D view C state laws start now ending rs r s opened closed fresh actors runs = λ among m distinct cut known.
     let one = laws.opens among 0 start m r distinct known opened fresh in
@@ -98,13 +99,23 @@ calls_by_files D view C state laws start now ending rs r s opened closed fresh a
       next = all.next;
       lines_are = all.lines_are;
       stands = record { content = shut.content; images = shut.images };
-      crash = call_leaves _ _ (view start) (state r.core).disk (state s.core).disk now (opened_clock D view (view start) (state r.core) opened) between one.1.2 all.did.leaves closed;
-      bytes = ((state r.core).disk.content, (one.1.3, subst (λ (told : Option (List ℕ)). Traced of_files (ChangesContent (IsIn among)) all.steps one.0 all.next.machine (run_of of_files rs all.steps (desk one.0) all.next all.lines_are) (state r.core).disk.content told) (sym closed.only.content_is) all.did.changes));
+      crash = call_leaves _ _ (view start) (state r.core).disk (state s.core).disk now (opened_clock D view (view start) (state r.core) opened) between one.1.2 all.did.leaves
+          closed;
+      bytes = (
+        (state r.core).disk.content,
+        (
+          one.1.3,
+          subst (λ (told : Option (List ℕ)). Traced of_files (ChangesContent (IsIn among)) all.steps one.0 all.next.machine
+              (run_of of_files rs all.steps (desk one.0) all.next all.lines_are) (state r.core).disk.content told) (sym closed.only.content_is) all.did.changes,
+        ),
+      );
     })
 
 -- so it is from the disk on that was read
-pub called_runs : (D : Type 0) (view : D → DiskView) (C : Type 0) (state : C → CoreState) (start : D) (w : DiskView) (old new : C) → Called C state (view start) w old new → CallsRunByFiles D view C state
-    → (ending : Option Ending) (rs : List Replied) (r s : RunnerState C) → r.core ≡ old → r.sessions ≡ replicate ACTORS None → new ≡ s.core → AreOfActors rs → RunsLines C state rs r s → RunsEachByFiles ending rs (view start) w
+pub called_runs : (D : Type 0) (view : D → DiskView) (C : Type 0) (state : C → CoreState) (start : D) (w : DiskView) (old new : C) → Called C state (view start) w old new →
+    CallsRunByFiles D view C state
+    → (ending : Option Ending) (rs : List Replied) (r s : RunnerState C) → r.core ≡ old → r.sessions ≡ replicate ACTORS None → new ≡ s.core → AreOfActors rs →
+    RunsLines C state rs r s → RunsEachByFiles ending rs (view start) w
 called_runs D view C state start w old new called laws ending rs r s begins fresh ends actors runs =
     calls_by_files D view C state laws start w ending rs r s
     (subst (λ (c : C). OpensCore D view (view start) (state c)) (sym begins) (inl (record { opened = called.opened; durable = called.durable; reads = called.first })))

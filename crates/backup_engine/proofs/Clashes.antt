@@ -75,7 +75,8 @@ ends_by name given m content (Clash key at) right left =
 ends_by name given m content refusal right left = left
 
 -- another node is a clash, or it was not given
-pub not_unlike : (name given : List ℕ) (m : Stored) (content : Option (List ℕ)) (store : Store) (shown : (List ℕ → Type 0) → Type 0) (room : Room) (refusal : Refusal) → IsRight given m content refusal
+pub not_unlike : (name given : List ℕ) (m : Stored) (content : Option (List ℕ)) (store : Store) (shown : (List ℕ → Type 0) → Type 0) (room : Room) (refusal : Refusal) →
+    IsRight given m content refusal
     → IsUnlikeNode given store shown refusal → RefusesBut name given room refusal
 not_unlike name given m content store shown room (Clash key at) right unlike = tt
 not_unlike name given m content store shown room (Corrupt slot offset count want got) right unlike = absurd right
@@ -119,7 +120,8 @@ record IsTwinOf (given : List ℕ) (index : PlaceMap) (store : Store) (image key
   pub digest : sha256 (bytes_at copy.place image) ≡ node_digest node
   pub differ : DifferBy why (spelling node) (bytes_at copy.place image)
 
-module _ (among : ByteSet) (s : Store) (m : Stored) (old new : CoreState) (distinct : HasNoCollisions (IsIn among)) (at : IsAt (IsIn among) s m old) (name given : List ℕ) (key : List ℕ) (why : Difference) where
+module _ (among : ByteSet) (s : Store) (m : Stored) (old new : CoreState) (distinct : HasNoCollisions (IsIn among)) (at : IsAt (IsIn among) s m old) (name given : List ℕ)
+    (key : List ℕ) (why : Difference) where
   abbrev image : List ℕ
   image = at.stands.known.0
 
@@ -138,7 +140,8 @@ module _ (among : ByteSet) (s : Store) (m : Stored) (old new : CoreState) (disti
         copy_placed (newest 0 s.held (node_key n)) u.place
         (at.represents.index_is_newest at.index at.index_known (node_key n) u.place (u.there at.index at.index_known))
 
-    twin_by : (difference : Difference) (u : Unlike Tree (spelling n) difference) → key ≡ node_key n → DifferBy difference (spelling n) (bytes_at (had difference u).copy.place image) → IsTwinOf given at.index s image key difference
+    twin_by : (difference : Difference) (u : Unlike Tree (spelling n) difference) → key ≡ node_key n →
+        DifferBy difference (spelling n) (bytes_at (had difference u).copy.place image) → IsTwinOf given at.index s image key difference
     twin_by difference u is differ =
         let c = had difference u in
         record {
@@ -162,7 +165,8 @@ module _ (among : ByteSet) (s : Store) (m : Stored) (old new : CoreState) (disti
         let first = (shown_content old.disk new.disk _ image u.refused.2.1 here).1 in
         twin_by (Byte place mine other) u u.refused.2.0 (subst (λ (p : Place). FirstDifference (spelling n) (bytes_at p image) place mine other) (sym c.place_is) first)
 
-  twin_of : (p : Piece) → IsPieceOf given p → (piece_segment p).kind ≡ Tree → Unlike (piece_segment p).kind (piece_segment p).segment.bytes why → IsTwinOf given at.index s image key why
+  twin_of : (p : Piece) → IsPieceOf given p → (piece_segment p).kind ≡ Tree → Unlike (piece_segment p).kind (piece_segment p).segment.bytes why →
+      IsTwinOf given at.index s image key why
   twin_of (Data bytes) is tree u = absurd (no_leaf Leaf refl tree)
   twin_of (Node n) is tree u = twin n is why u
 
@@ -171,7 +175,8 @@ module _ (among : ByteSet) (s : Store) (m : Stored) (old new : CoreState) (disti
       twin_of p is (subst (λ (x : KindSegment). x.kind ≡ Tree) same tree) (subst (λ (x : KindSegment). Unlike x.kind x.segment.bytes why) same u)
 
   -- only a claim or a seal clashes
-  step_twin : (step : StepValue) (actor : ℕ) (buf put : List ℕ) → IsAskedFor name given step put → Row step actor (Err (Clash key why)) buf old new → MayClash step → IsTwinOf given at.index s image key why
+  step_twin : (step : StepValue) (actor : ℕ) (buf put : List ℕ) → IsAskedFor name given step put → Row step actor (Err (Clash key why)) buf old new → MayClash step →
+      IsTwinOf given at.index s image key why
   step_twin (asked.Claim seg) actor buf put is row clash = twin_had seg is clash.0 row.0.1
   step_twin (asked.Seal filled) actor buf put is row clash =
       let first = row.0.2 in
@@ -182,7 +187,8 @@ module _ (among : ByteSet) (s : Store) (m : Stored) (old new : CoreState) (disti
   -- a later store has it, too
   twin_left : (next : Store) (after : List ℕ) → KeepsCopies (HasKey at.index) s image next after → IsTwinOf given at.index s image key why → HoldsTwin given next after key why
   twin_left next after copies t =
-      let has = copies (node_key t.node) t.copy.place.level (bytes_at t.copy.place image) t.indexed (record { copy = t.copy; copy_is = t.copy_is; level_is = refl; bytes_are = refl }) in
+      let has = copies (node_key t.node) t.copy.place.level (bytes_at t.copy.place image) t.indexed
+      (record { copy = t.copy; copy_is = t.copy_is; level_is = refl; bytes_are = refl }) in
       record {
         node = t.node;
         piece = t.piece;
@@ -195,7 +201,8 @@ module _ (among : ByteSet) (s : Store) (m : Stored) (old new : CoreState) (disti
 
 -- ---- a step that was refused
 
-module _ (among : ByteSet) (distinct : HasNoCollisions (IsIn among)) (name given : List ℕ) (f : FileEvent) (s : Store) (m : Stored) (old new : CoreState) (at : IsAt (IsIn among) s m old) (runs : old.stop ≡ None) (stays : new.stop ≡ None)
+module _ (among : ByteSet) (distinct : HasNoCollisions (IsIn among)) (name given : List ℕ) (f : FileEvent) (s : Store) (m : Stored) (old new : CoreState)
+    (at : IsAt (IsIn among) s m old) (runs : old.stop ≡ None) (stays : new.stop ≡ None)
     (step : FileStep (IsIn among) f old new) (put : IsPutStep name given f) where
   abbrev answers : Refusal → Type 0
   answers refusal = f.event.answer ≡ Err refusal
@@ -219,7 +226,8 @@ module _ (among : ByteSet) (distinct : HasNoCollisions (IsIn among)) (name given
           told,
           (
             subst (λ (x : Stored). IsStoreOf next.next.store x.files after) (same_files (Clash key why) is) holds,
-            twin_left among s m old new distinct at name given key why next.next.store after (next.copies at.index at.stands.known.0 after at.index_known at.stands.known.1 told) twin,
+            twin_left among s m old new distinct at name given key why next.next.store after (next.copies at.index at.stands.known.0 after at.index_known at.stands.known.1 told)
+                twin,
           ),
         ),
       )

@@ -29,9 +29,11 @@ module _ (C : Type 0) (state : C → CoreState) (old new : C) where
   by_reply reply tells acts = absurd tells
 
   -- it came to its end
-  pub swept_ok : (result : Result Reply Refusal) (reply : Reply) → result ≡ Ok reply → IfOk result (λ reply. TellsCollected (reply_value reply)) → SweptBy (answer_of result) → HasSwept (reply_value reply)
+  pub swept_ok : (result : Result Reply Refusal) (reply : Reply) → result ≡ Ok reply → IfOk result (λ reply. TellsCollected (reply_value reply)) → SweptBy (answer_of result) →
+      HasSwept (reply_value reply)
   swept_ok result reply is tells acts =
-      by_reply (reply_value reply) (subst (λ (r : Result Reply Refusal). IfOk r (λ reply. TellsCollected (reply_value reply))) is tells) (subst (λ (r : Result Reply Refusal). SweptBy (answer_of r)) is acts)
+      by_reply (reply_value reply) (subst (λ (r : Result Reply Refusal). IfOk r (λ reply. TellsCollected (reply_value reply))) is tells)
+      (subst (λ (r : Result Reply Refusal). SweptBy (answer_of r)) is acts)
 
   -- or a step was refused
   pub swept_err : (result : Result Reply Refusal) (refusal : Refusal) → result ≡ Err refusal → SweptBy (answer_of result) → Sweeps C state (Err refusal) old new

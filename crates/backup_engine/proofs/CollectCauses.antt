@@ -56,7 +56,8 @@ use Rattle.backup_engine.proofs.SweptSlots.{all-more}
 -- ---- entries
 
 -- what an entry names lies in the data of its slot
-all_within : (kind : Kind) (before entries : List Entry) → Follow kind before entries → bytes_of before + bytes_of entries ≤ 212480 → AllByRecursion (λ e. e.offset + e.length ≤ 212480) entries
+all_within : (kind : Kind) (before entries : List Entry) → Follow kind before entries → bytes_of before + bytes_of entries ≤ 212480 →
+    AllByRecursion (λ e. e.offset + e.length ≤ 212480) entries
 all_within kind before [] follow few = tt
 all_within kind before (e ∷ es) follow few =
     let more : bytes_of (before ++ e ∷ []) + bytes_of es ≤ 212480 =
@@ -79,7 +80,8 @@ record IsStuckAt (s : Source) (shown : (List ℕ → Type 0) → Type 0) (refusa
   buffer : Contents
   cause : IsOneRefusal s shown entry buffer refusal
 
-stuck_at : (s : Source) (shown : (List ℕ → Type 0) → Type 0) (refusal : Refusal) (entries : List Entry) (before : Planned) → IsStuck s shown entries before refusal → IsStuckAt s shown refusal entries
+stuck_at : (s : Source) (shown : (List ℕ → Type 0) → Type 0) (refusal : Refusal) (entries : List Entry) (before : Planned) → IsStuck s shown entries before refusal →
+    IsStuckAt s shown refusal entries
 stuck_at s shown refusal [] before is = absurd is
 stuck_at s shown refusal (e ∷ es) before (inl one) = record { entry = e; one_of = Contains-get_or (e ∷ es) 0 e (omega arith); buffer = before.buffer; cause = one }
 stuck_at s shown refusal (e ∷ es) before (inr (mid, (one, stuck))) =
@@ -89,7 +91,8 @@ stuck_at s shown refusal (e ∷ es) before (inr (mid, (one, stuck))) =
 -- ---- a step that was refused
 
 -- The call began at v and ended at w; between them a step was refused, from one moment on to another.
-module _ (percent : ℕ) (v w : DiskView) (source : SourceView) (sink : SinkView) (holds : Holds v w) (old : Moment) (new : DiskView) (first : IsLater v old.disk) (step : IsLater old.disk new) (last : Reads Done new w) where
+module _ (percent : ℕ) (v w : DiskView) (source : SourceView) (sink : SinkView) (holds : Holds v w) (old : Moment) (new : DiskView) (first : IsLater v old.disk)
+    (step : IsLater old.disk new) (last : Reads Done new w) where
   abbrev IsCausedBy : Refusal → Type 0
   IsCausedBy refusal = IsCaused (Collect percent) [] v w source source sink sink (Some (Refused refusal))
 
@@ -98,7 +101,8 @@ module _ (percent : ℕ) (v w : DiskView) (source : SourceView) (sink : SinkView
   since P known shown = record {
     parts = shown.parts;
     returned = all-more (λ (part : Part). new.read_returned old.disk.clock part.at part.bytes) (λ (part : Part). w.read_returned v.clock part.at part.bytes) shown.parts
-        (λ part was. last.only.later.returned v.clock part.at part.bytes (omega (arith, first.clock_is, step.clock_is)) (new.returned_earlier v.clock old.disk.clock part.at part.bytes first.clock_is was)) shown.returned;
+        (λ part was. last.only.later.returned v.clock part.at part.bytes (omega (arith, first.clock_is, step.clock_is))
+        (new.returned_earlier v.clock old.disk.clock part.at part.bytes first.clock_is was)) shown.returned;
     known = known;
     shows = λ image sized has. shown.shows image (sized ∙ sym first.size_is) has;
   }
@@ -115,13 +119,34 @@ module _ (percent : ℕ) (v w : DiskView) (source : SourceView) (sink : SinkView
   abbrev HasSome : ℕ → Type 0
   HasSome slot = get_or old.tables.held.ids.items slot 0 ≢ 0
 
-  header_cause : Came → new.content ≡ old.disk.content → (slot : ℕ) → HasSome slot → (refusal : Refusal) → IsHeaderRefusal old.tables.held old.disk new slot refusal → IsCausedBy refusal
+  header_cause : Came → new.content ≡ old.disk.content → (slot : ℕ) → HasSome slot → (refusal : Refusal) → IsHeaderRefusal old.tables.held old.disk new slot refusal →
+      IsCausedBy refusal
   header_cause came same slot some Memory cause = tt
   header_cause came same slot some DiskRead cause = tt
   header_cause came same slot some (Damaged at why) (at_is, inl damage) =
-      inr (holds, inl (slot, (at_is, inl (record { bytes = damage.bytes; first = damage.first; are_found = since_reads same (λ image. header_bytes slot image ≡ damage.bytes) damage.are_found }))))
+      inr (
+        holds,
+        inl (
+          slot,
+          (
+            at_is,
+            inl
+                (record { bytes = damage.bytes; first = damage.first; are_found = since_reads same (λ image. header_bytes slot image ≡ damage.bytes) damage.are_found }),
+          ),
+        ),
+      )
   header_cause came same slot some (Damaged at why) (at_is, inr other) =
-      inr (holds, inl (slot, (at_is, inr (other_header holds.store old.tables.held v w old.disk new slot why came some (λ h. since_reads same (λ image. HoldsSlot image slot (Some h))) other))))
+      inr (
+        holds,
+        inl (
+          slot,
+          (
+            at_is,
+            inr
+                (other_header holds.store old.tables.held v w old.disk new slot why came some (λ h. since_reads same (λ image. HoldsSlot image slot (Some h))) other),
+          ),
+        ),
+      )
   header_cause came same slot some refusal cause = absurd cause
 
   by_marks : (index : PlaceMap) → IsIndexOf holds.store.held index → (refusal : Refusal) → IsUnmarked index v w refusal → IsCausedBy refusal
@@ -142,9 +167,11 @@ module _ (percent : ℕ) (v w : DiskView) (source : SourceView) (sink : SinkView
         live = old.collection.live;
         fault = stops.fault;
         refusal_is = stops.refusal_is;
-        cause = fault_wider (scan_for (Some index) old.collection.live slot level stops.header) (ShowsAt old.disk new) (ShownThere v w) (λ place bytes. since_reads same (λ image. bytes_at place image ≡ bytes))
+        cause = fault_wider (scan_for (Some index) old.collection.live slot level stops.header) (ShowsAt old.disk new) (ShownThere v w)
+            (λ place bytes. since_reads same (λ image. bytes_at place image ≡ bytes))
             (λ at why. Some index ≡ None) (λ at why. ⊥) (λ at why none. let wrong = none in cc) stops.header.entries stops.fault
-            (subst (λ (k : Option PlaceMap). IsScanFault (scan_for k old.collection.live slot level stops.header) (ShowsAt old.disk new) (λ at why. k ≡ None) stops.header.entries stops.fault) known stops.cause);
+            (subst (λ (k : Option PlaceMap). IsScanFault (scan_for k old.collection.live slot level stops.header) (ShowsAt old.disk new) (λ at why. k ≡ None) stops.header.entries
+            stops.fault) known stops.cause);
       })
 
   -- the index of a core is known, and so is not damaged
@@ -161,7 +188,8 @@ module _ (percent : ℕ) (v w : DiskView) (source : SourceView) (sink : SinkView
 
   -- ---- a source, whose slot lies before the end of the slots, where the content stays
 
-  module _ (tells : (places : PlaceMap) × (old.known ≡ Some places)) (names : FindsNames holds.store v w) (slots slot : ℕ) (below : slot < slots) (moved : Both (SameBefore (slot_at slots)) old.disk.content new.content) where
+  module _ (tells : (places : PlaceMap) × (old.known ≡ Some places)) (names : FindsNames holds.store v w) (slots slot : ℕ) (below : slot < slots)
+      (moved : Both (SameBefore (slot_at slots)) old.disk.content new.content) where
     -- what was there is there
     since_before : (P : List ℕ → Type 0) → ((was image : List ℕ) → SameBefore (slot_at slots) was image → P was → P image) → Shows old.disk new P → ShownSince v w P
     since_before P still shown =
@@ -190,7 +218,8 @@ module _ (percent : ℕ) (v w : DiskView) (source : SourceView) (sink : SinkView
       there = since_held h shown
 
       -- what an entry names lies in the slot
-      found_since : (at count : ℕ) (got : List ℕ) → at ≡ data_at slot + e.offset → count ≡ e.length → WereFound (Shows old.disk new) at count got → WereFound (ShownSince v w) at count got
+      found_since : (at count : ℕ) (got : List ℕ) → at ≡ data_at slot + e.offset → count ≡ e.length → WereFound (Shows old.disk new) at count got →
+          WereFound (ShownSince v w) at count got
       found_since at count got at_is count_is found = record {
         bytes = found.bytes;
         long = found.long;
@@ -200,10 +229,12 @@ module _ (percent : ℕ) (v w : DiskView) (source : SourceView) (sink : SinkView
             let was = both_from (SameBefore (slot_at slots)) old.disk.content new.content image (sym last.only.content_is ∙ told) moved in
             let right : IsHeader h = (shown_content old.disk new (λ c. HoldsSlot c slot (Some h)) was.0 shown was.1.0).0 in
             let within : e.offset + e.length ≤ 212480 = of_each (λ x. x.offset + x.length ≤ 212480) h.entries e (entries_within h right) one_of in
-            was.1.1.before at count (omega (arith, at_is, count_is, within, below)) ∙ shown_content old.disk new (λ c. range at count c ≡ found.bytes) was.0 found.there was.1.0) found.there;
+            was.1.1.before at count (omega (arith, at_is, count_is, within, below)) ∙ shown_content old.disk new (λ c. range at count c ≡ found.bytes) was.0 found.there was.1.0)
+            found.there;
       }
 
-      one_cause : (s : Source) (buffer : Contents) (refusal : Refusal) → s.known ≡ old.known → s.slot ≡ slot → IsOneRefusal s (Shows old.disk new) e buffer refusal → IsCausedBy refusal
+      one_cause : (s : Source) (buffer : Contents) (refusal : Refusal) → s.known ≡ old.known → s.slot ≡ slot → IsOneRefusal s (Shows old.disk new) e buffer refusal →
+          IsCausedBy refusal
       one_cause s buffer Memory known same cause = tt
       one_cause s buffer DiskRead known same cause = tt
       one_cause s buffer DiskWrite known same cause = tt
@@ -227,7 +258,8 @@ module _ (percent : ℕ) (v w : DiskView) (source : SourceView) (sink : SinkView
           )
       one_cause s buffer refusal known same cause = absurd cause.1.1
 
-    source_cause : Came → HasSome slot → (live : LiveKeys) (from : ℕ) (buffer : Contents) (refusal : Refusal) → IsCopyRefusal old.tables.held old.known live slot from buffer old.disk new refusal → IsCausedBy refusal
+    source_cause : Came → HasSome slot → (live : LiveKeys) (from : ℕ) (buffer : Contents) (refusal : Refusal) →
+        IsCopyRefusal old.tables.held old.known live slot from buffer old.disk new refusal → IsCausedBy refusal
     source_cause came some live from buffer refusal (inl (inl header)) = source_header came some refusal header
     source_cause came some live from buffer refusal (inl (inr (h, tabled, shown, kind, few, plan))) = by_plan refusal plan
       where
@@ -246,14 +278,17 @@ module _ (percent : ℕ) (v w : DiskView) (source : SourceView) (sink : SinkView
     source_cause came some live from buffer (Damaged at why) (inr none) = absurd (untold tells none)
     source_cause came some live from buffer refusal (inr remove) = absurd remove
 
-  copy_cause : Came → HasStage old.tables.held old.collection SweepStage → (tells : (places : PlaceMap) × (old.known ≡ Some places)) → FindsNames holds.store v w → (slots : ℕ) → length old.tables.held.ids.items ≡ slots → Both (SameBefore (slot_at slots)) old.disk.content new.content → (source entry : ℕ) → old.collection.sweep.next ≡ Copy source entry → (refusal : Refusal)
+  copy_cause : Came → HasStage old.tables.held old.collection SweepStage → (tells : (places : PlaceMap) × (old.known ≡ Some places)) → FindsNames holds.store v w → (slots : ℕ) →
+      length old.tables.held.ids.items ≡ slots → Both (SameBefore (slot_at slots)) old.disk.content new.content → (source entry : ℕ) →
+      old.collection.sweep.next ≡ Copy source entry → (refusal : Refusal)
       → IsCopyStepRefusal old.tables.held old.collection.live old.known old.disk new source entry old.collection.sweep refusal → IsCausedBy refusal
   copy_cause came has tells names slots many moved source entry next_is Memory cause = tt
   copy_cause came has tells names slots many moved source entry next_is refusal none =
       source_cause tells names slots none.slot (omega (arith, none.is_source.within, many)) moved came
       (copied_some old.tables.held old.collection source entry none.slot has next_is none.is_source.id_is) old.collection.live entry none.filling refusal none.cause
 
-  flush_cause : (tells : (places : PlaceMap) × (old.known ≡ Some places)) → (LAST_ID ≤ old.tables.held.last_id → IsUnwritten holds.store) → FindsNames holds.store v w → (refusal : Refusal) → IsFlushStepRefusal old.tables old.known refusal → IsCausedBy refusal
+  flush_cause : (tells : (places : PlaceMap) × (old.known ≡ Some places)) → (LAST_ID ≤ old.tables.held.last_id → IsUnwritten holds.store) → FindsNames holds.store v w →
+      (refusal : Refusal) → IsFlushStepRefusal old.tables old.known refusal → IsCausedBy refusal
   flush_cause tells none names Memory cause = tt
   flush_cause tells none names Numbers cause = inr (holds, inr (inr (inr (inl (refl, none cause, names)))))
   flush_cause tells none names DiskRead cause = tt
@@ -268,14 +303,22 @@ module _ (percent : ℕ) (v w : DiskView) (source : SourceView) (sink : SinkView
   by_memory refusal is = subst IsCausedBy (sym is) tt
 
   -- by the stage
-  pub stage_cause : (slots : ℕ) → old.disk.size ≡ size_of slots → length old.tables.held.ids.items ≡ slots → (index : PlaceMap) → IsIndexOf holds.store.held index → (tells : (places : PlaceMap) × (old.known ≡ Some places))
-      → (LAST_ID ≤ old.tables.held.last_id → IsUnwritten holds.store) → Came → (stage : Stage) (next : Next) → HasStage old.tables.held old.collection stage → old.collection.sweep.next ≡ next → (IsMarking stage → old.known ≡ Some index)
-      → (HasMarkedAll stage → FindsNames holds.store v w) → (e : Ending) → Touches stage next old.collection.sweep old.tables e old.disk new → (refusal : Refusal) → IsStepRefusal stage next old new refusal → IsCausedBy refusal
-  stage_cause slots sized many index all tells none came (Mark level slot) next has next_is marks names e touches refusal (inl cause) = header_cause came touches.only.content_is slot (marked_some old.tables.held old.collection level slot has) refusal cause
-  stage_cause slots sized many index all tells none came (Mark level slot) next has next_is marks names e touches refusal (inr stops) = mark_cause touches.only.content_is index all (marks tt) level slot refusal stops
-  stage_cause slots sized many index all tells none came (Filter slot) next has next_is marks names e touches refusal cause = record_cause tells came touches.only.content_is slot (recorded_some old.tables.held old.collection slot has) refusal cause
+  pub stage_cause : (slots : ℕ) → old.disk.size ≡ size_of slots → length old.tables.held.ids.items ≡ slots → (index : PlaceMap) → IsIndexOf holds.store.held index →
+      (tells : (places : PlaceMap) × (old.known ≡ Some places))
+      → (LAST_ID ≤ old.tables.held.last_id → IsUnwritten holds.store) → Came → (stage : Stage) (next : Next) → HasStage old.tables.held old.collection stage →
+      old.collection.sweep.next ≡ next → (IsMarking stage → old.known ≡ Some index)
+      → (HasMarkedAll stage → FindsNames holds.store v w) → (e : Ending) → Touches stage next old.collection.sweep old.tables e old.disk new → (refusal : Refusal) →
+      IsStepRefusal stage next old new refusal → IsCausedBy refusal
+  stage_cause slots sized many index all tells none came (Mark level slot) next has next_is marks names e touches refusal (inl cause) =
+      header_cause came touches.only.content_is slot (marked_some old.tables.held old.collection level slot has) refusal cause
+  stage_cause slots sized many index all tells none came (Mark level slot) next has next_is marks names e touches refusal (inr stops) =
+      mark_cause touches.only.content_is index all (marks tt) level slot refusal stops
+  stage_cause slots sized many index all tells none came (Filter slot) next has next_is marks names e touches refusal cause =
+      record_cause tells came touches.only.content_is slot (recorded_some old.tables.held old.collection slot has) refusal cause
   stage_cause slots sized many index all tells none came Select next has next_is marks names e touches refusal cause = by_memory refusal cause
-  stage_cause slots sized many index all tells none came SweepStage (Copy source entry) has next_is marks names e touches refusal cause = copy_cause came has tells (names tt) slots many (touches slots sized).content_is source entry next_is refusal cause
-  stage_cause slots sized many index all tells none came SweepStage (Flush source entry) has next_is marks names e touches refusal cause = flush_cause tells none (names tt) refusal cause
+  stage_cause slots sized many index all tells none came SweepStage (Copy source entry) has next_is marks names e touches refusal cause =
+      copy_cause came has tells (names tt) slots many (touches slots sized).content_is source entry next_is refusal cause
+  stage_cause slots sized many index all tells none came SweepStage (Flush source entry) has next_is marks names e touches refusal cause =
+      flush_cause tells none (names tt) refusal cause
   stage_cause slots sized many index all tells none came SweepStage (Release source entry) has next_is marks names e touches refusal cause = by_write refusal cause
   stage_cause slots sized many index all tells none came SweepStage End has next_is marks names e touches refusal cause = absurd cause

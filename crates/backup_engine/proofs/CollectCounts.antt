@@ -90,9 +90,11 @@ module _ (old new : Moment) (freed copied : ℕ) where
   snapshot_on Sweep (Release source entry) steps = ap (λ (c : Collection). c.snapshot) steps.1
   snapshot_on Sweep End steps = ap (λ (c : Collection). c.snapshot) steps.0
 
-  pub counted_on : (stage : Stage) (next : Next) → before.stage ≡ stage → before.sweep.next ≡ next → HasCounted stage before.sweep freed copied → StepsTo stage next old new → (phase_at stage next ≡ phase_at Sweep End → ⊥) → Counted stage next
+  pub counted_on : (stage : Stage) (next : Next) → before.stage ≡ stage → before.sweep.next ≡ next → HasCounted stage before.sweep freed copied → StepsTo stage next old new →
+      (phase_at stage next ≡ phase_at Sweep End → ⊥) → Counted stage next
   counted_on (Mark level slot) next is next_is counted steps other =
-      still_none (mark_from before.snapshot old.tables.held level (slot + 1)) (ap (λ (c : Collection). c.stage) steps.0.collection_is) (early_from before.snapshot old.tables.held level (slot + 1)) counted.0 counted.1
+      still_none (mark_from before.snapshot old.tables.held level (slot + 1)) (ap (λ (c : Collection). c.stage) steps.0.collection_is)
+      (early_from before.snapshot old.tables.held level (slot + 1)) counted.0 counted.1
   counted_on (Filter slot) next is next_is counted steps other =
       let found : Option ℕ = first_slot old.tables.held (is_old_slot before.snapshot old.tables.held) (slot + 1) in
       still_none (filter_at found) (ap (λ (c : Collection). c.stage) steps.0.collection_is) (at_filter found) counted.0 counted.1
@@ -106,7 +108,8 @@ module _ (old new : Moment) (freed copied : ℕ) where
       sweeping 0 0 (ap (λ (c : Collection). c.stage) steps.1 ∙ is) (omega (arith, copies.others.freed_is, counted.0)) (omega (arith, many, counted.1))
     where
       planned_by : (found : Option Plan) (copies : CopiesSource old.tables.held before.live old.known new.known old.disk new.disk source entry before.sweep after.sweep)
-          → PlansSource old.tables.held old.known before.live copies.slot entry copies.filling old.disk new.disk found → (plan : Plan) → found ≡ Some plan → length plan.buffer.segments ≡ length copies.filling.segments + plan.copied
+          → PlansSource old.tables.held old.known before.live copies.slot entry copies.filling old.disk new.disk found → (plan : Plan) → found ≡ Some plan →
+          length plan.buffer.segments ≡ length copies.filling.segments + plan.copied
       planned_by None copies plans plan is = absurd (let wrong : None ≡ Some plan = is in cc)
       planned_by (Some found) copies plans plan is =
           let same : found ≡ plan = (let both : Some found ≡ Some plan = is in cc) in

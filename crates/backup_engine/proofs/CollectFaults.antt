@@ -69,7 +69,8 @@ module _ (old old_now new new_now : DiskView) (each : (P : List ℕ → Type 0) 
     live = is.live;
     fault = is.fault;
     refusal_is = is.refusal_is;
-    cause = fault_wider _ (ShownThere old old_now) (ShownThere new new_now) (λ place bytes. each (λ image. bytes_at place image ≡ bytes)) (λ at why. ⊥) (λ at why. ⊥) (λ at why none. none) is.header.entries is.fault is.cause;
+    cause = fault_wider _ (ShownThere old old_now) (ShownThere new new_now) (λ place bytes. each (λ image. bytes_at place image ≡ bytes)) (λ at why. ⊥) (λ at why. ⊥)
+        (λ at why none. none) is.header.entries is.fault is.cause;
   }
 
   pub uncopied_so : (refusal : Refusal) → IsUncopied old old_now refusal → IsUncopied new new_now refusal

@@ -89,9 +89,11 @@ module _ (s : Store) (index : PlaceMap) (v : DiskView) (sized : v.size ≡ size_
         let effect : GcEffect answer (state old) (state new) = steps.made.effect in
         let touches : Touches collection.stage collection.sweep.next collection.sweep (state old).tables (ending blames answer) (state old).disk (state new).disk =
         subst (λ (o : Option Collection). TouchesBy o answer (state old) (state new).disk) so.runs effect.touches in
-        leaves_weaker (SameButSlotsOf s (freed_with collection.stage collection.sweep.next collection.sweep so.freed) (filled_with collection.stage collection.sweep.next so.after so.filled) base) (IsBut s base) (state old).disk
+        leaves_weaker (SameButSlotsOf s (freed_with collection.stage collection.sweep.next collection.sweep so.freed)
+        (filled_with collection.stage collection.sweep.next so.after so.filled) base) (IsBut s base) (state old).disk
         (state new).disk (but_so collection.stage collection.sweep.next refl refl)
-        (stage_so s so.after so.freed so.filled base (state old).disk (state new).disk (so.framed base told) (state old).tables (so.later.size_is ∙ sized) so.represents (valid_so s index v sized C state old so)
+        (stage_so s so.after so.freed so.filled base (state old).disk (state new).disk (so.framed base told) (state old).tables (so.later.size_is ∙ sized) so.represents
+        (valid_so s index v sized C state old so)
         (free_so s index v sized C state old so) (so.represents.slots_are ∙ so.slots_are) collection.stage collection.sweep.next collection.sweep (ending blames answer) touches)
 
   pub all_leave : (phases : List Phase) (old new : C) → SoFar old → CollectionRun C state phases old new → LeavesFrom old new

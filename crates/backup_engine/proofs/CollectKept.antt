@@ -79,7 +79,8 @@ own_run C state (phase ∷ phases) mid last run =
     record { events = gc_event (Ok (answers.Did phase)) run.1.0.0 ∷ rest.events; run = (run.0, (run.1.0.1, rest.run)); its = (refl, rest.its) }
 
 -- and one more, however it is answered
-own_last : (C : Type 0) (state : C → CoreState) (answer : Result Answer Refusal) (phases : List Phase) (mid last new : C) → CollectionRun C state phases mid last → Collects C state answer last new → OwnRun C state mid new
+own_last : (C : Type 0) (state : C → CoreState) (answer : Result Answer Refusal) (phases : List Phase) (mid last new : C) → CollectionRun C state phases mid last →
+    Collects C state answer last new → OwnRun C state mid new
 own_last C state answer [] mid last new run collects = record {
   events = gc_event answer collects.0 ∷ [];
   run = (new, (subst (λ (c : C). CoreStep (state c) (gc_event answer collects.0) (state new)) run collects.1, refl));
@@ -99,7 +100,8 @@ module _ (C : Type 0) (state : C → CoreState) (v w : DiskView) (old new : C) (
   abbrev pub sized : v.size ≡ size_of store.slots
   sized = called.opened.valid.size_is
 
-  started : (answer : Result Answer Refusal) (mid : C) (buf : List ℕ) → CoreStep (state old) (start_event percent answer buf) (state mid) → Steps (start_event percent answer buf) (state old) (state mid)
+  started : (answer : Result Answer Refusal) (mid : C) (buf : List ℕ) → CoreStep (state old) (start_event percent answer buf) (state mid) →
+      Steps (start_event percent answer buf) (state old) (state mid)
   started answer mid buf step = running_step (state old) (state mid) (start_event percent answer buf) called.opened.stop_is step
 
   -- no actor is at anything, so the roots are those of names
@@ -114,12 +116,14 @@ module _ (C : Type 0) (state : C → CoreState) (v w : DiskView) (old new : C) (
     abbrev unbegun : Rests (Err refusal) (state old) (state new)
     unbegun = (started (Err refusal) new start.0 start.1).made.effect
 
-    unrooted : (r : Refusal) → StopsAt (state old).known (state old).known (roots_of (state old).tables.names (state old).parts) r → StopsAt (Some index) (Some index) (keys_of_names (names_of store)) r
+    unrooted : (r : Refusal) → StopsAt (state old).known (state old).known (roots_of (state old).tables.names (state old).parts) r →
+        StopsAt (Some index) (Some index) (keys_of_names (names_of store)) r
     unrooted r stops =
         subst (λ (known : Option PlaceMap). StopsAt known known (keys_of_names (names_of store)) r) called.opened.told.1
         (subst (λ roots. StopsAt (state old).known (state old).known roots r) names_only stops)
 
-    not_begun_cause : (r : Refusal) → StartRow percent (Err r) (state old) (state new) → (source : SourceView) (sink : SinkView) → IsCaused (Collect percent) [] v w source source sink sink (Some (Refused r))
+    not_begun_cause : (r : Refusal) → StartRow percent (Err r) (state old) (state new) → (source : SourceView) (sink : SinkView) →
+        IsCaused (Collect percent) [] v w source source sink sink (Some (Refused r))
     not_begun_cause refusals.Memory row source sink = tt
     not_begun_cause (refusals.Collecting phase) row source sink = absurd (let wrong : None ≡ Some row.0.0 = sym called.opened.collection_is ∙ row.0.1.0 in cc)
     not_begun_cause refusals.DiskRead row source sink = tt
@@ -202,13 +206,15 @@ module _ (C : Type 0) (state : C → CoreState) (v w : DiskView) (old new : C) (
     leaves_begun : (base : List ℕ) → v.content ≡ Some base → CrashLeaves (IsBut store base) (state old).disk (state mid).disk
     leaves_begun base told =
         let here : (state old).disk.content ≡ Some base = called.first.only.content_is ∙ told in
-        reads_leave (IsBut store base) (state old).disk (state mid).disk (λ c image. subst (IsBut store base) (sym (called.durable base here c image)) (but_here store base)) rested.disk.only
+        reads_leave (IsBut store base) (state old).disk (state mid).disk (λ c image. subst (IsBut store base) (sym (called.durable base here c image)) (but_here store base))
+        rested.disk.only
 
     begun_reads : OnlyReads v (state mid).disk
     begun_reads = reads_on v (state old).disk (state mid).disk called.first.only rested.disk.only
 
     -- what was shown since it began was shown in the call
-    apart_to : (end : C) → v.clock ≤ (state end).disk.clock → IsLater (state end).disk w → HeadersAreApart store.held v w → HeadersAreApart store.held (state mid).disk (state end).disk
+    apart_to : (end : C) → v.clock ≤ (state end).disk.clock → IsLater (state end).disk w → HeadersAreApart store.held v w →
+        HeadersAreApart store.held (state mid).disk (state end).disk
     apart_to end clock later apart = λ slot h g there shown digest.
         apart slot h g there (until v (state end).disk w (since v (state mid).disk (state end).disk begun_reads shown) clock later) digest
 
@@ -259,7 +265,8 @@ module _ (C : Type 0) (state : C → CoreState) (v w : DiskView) (old new : C) (
 
       -- it only read, or had found all keys
       pub ends_found : FindsBeforeWriting (Collect percent) v w
-      ends_found = by_case (reads_or_finds C state 0 percent snapshot start.0 whole.events store index old mid new called.running called.opened.stop_is indexed start.1 whole.run whole.its)
+      ends_found = by_case (reads_or_finds C state 0 percent snapshot start.0 whole.events store index old mid new called.running called.opened.stop_is indexed start.1 whole.run
+          whole.its)
         where
           whole : OwnRun C state mid new
           whole = own_last C state answer phases mid last new sweeps.1.1.0 collects
@@ -267,7 +274,9 @@ module _ (C : Type 0) (state : C → CoreState) (v w : DiskView) (old new : C) (
           later : IsLater v (state new).disk
           later = later_on v (state old).disk (state new).disk called.first.only.later since_old
 
-          by_case : OnlyReads (state mid).disk (state new).disk ⊎ (HeadersAreApart store.held (state mid).disk (state new).disk → FindsAll index (roots_of (state old).tables.names (state old).parts)) → FindsBeforeWriting (Collect percent) v w
+          by_case : OnlyReads (state mid).disk (state new).disk
+              ⊎ (HeadersAreApart store.held (state mid).disk (state new).disk → FindsAll index (roots_of (state old).tables.names (state old).parts)) →
+              FindsBeforeWriting (Collect percent) v w
           by_case (inl reads) = inl (unchanged v w (reads_on v (state mid).disk w begun_reads (reads_on (state mid).disk (state new).disk w reads called.last.only)))
           by_case (inr found) = inr (
             ends_holds,
@@ -292,7 +301,8 @@ module _ (C : Type 0) (state : C → CoreState) (v w : DiskView) (old new : C) (
       run_leaves base told =
           let IsSo : List ℕ → Type 0 = IsBut store base in
           leaves_on IsSo IsSo IsSo (state old).disk (state mid).disk (state new).disk rested.disk.only.later.clock_is (leaves_begun base told)
-          (leaves_on IsSo IsSo IsSo (state mid).disk (state last).disk (state new).disk (collection_later C state phases mid last sweeps.1.1.0).clock_is (all_leave store index v sized C state base told phases mid last so_begun sweeps.1.1.0)
+          (leaves_on IsSo IsSo IsSo (state mid).disk (state last).disk (state new).disk (collection_later C state phases mid last sweeps.1.1.0).clock_is
+          (all_leave store index v sized C state base told phases mid last so_begun sweeps.1.1.0)
           (ends_leave base told) (λ c but. but) (λ c but. but)) (λ c but. but) (λ c but. but)
 
       but_sweep : (base : List ℕ) → v.content ≡ Some base → (c : List ℕ) → IsBut store base c → KeepsButSweep base c
@@ -314,7 +324,8 @@ module _ (C : Type 0) (state : C → CoreState) (v w : DiskView) (old new : C) (
             let now = since_old.tells base (called.first.only.content_is ∙ told) in
             (now.0, called.last.only.content_is ∙ now.1, inr (but_sweep base told now.0 ((ends_leave base told).now now.0 ((state new).disk.as_read now.0 now.1))));
         crash = λ base told.
-            leaves_more (IsBut store base) (KeepsRest (Collect percent) over base) v w (λ c but. inr (but_sweep base told c but)) (leaves_of C state v w old new called (IsBut store base) since_old (run_leaves base told));
+            leaves_more (IsBut store base) (KeepsRest (Collect percent) over base) v w (λ c but. inr (but_sweep base told c but))
+            (leaves_of C state v w old new called (IsBut store base) since_old (run_leaves base told));
       }
 
     -- ---- it ended
@@ -348,17 +359,20 @@ module _ (C : Type 0) (state : C → CoreState) (v w : DiskView) (old new : C) (
 
       is_settled : IsSettledDisk w
       is_settled slots is =
-          let now : IsSettled store.slots w = reads_settled store.slots (state new).disk w (reads_settled store.slots (state sweeps.1.0).disk (state new).disk so_done.settled last_reads) called.last.only in
+          let now : IsSettled store.slots w =
+          reads_settled store.slots (state new).disk w (reads_settled store.slots (state sweeps.1.0).disk (state new).disk so_done.settled last_reads) called.last.only in
           let later : IsLater v w = later_on v (state old).disk w called.first.only.later (to_end C state v w old new called (since_old done sweeps)) in
           let same : store.slots ≡ slots = omega (arith, sized, later.size_is, is) in
           subst (λ (n : ℕ). IsSettled n w) same now
 
-      done_wrote : (over : Option reply.Ending) (sink sink_now : SinkView) → IsReplied over sink sink_now → WroteReply (collected_line freed copied) over sink sink_now → WroteOnAny (Collect percent) [] over v w sink sink_now
+      done_wrote : (over : Option reply.Ending) (sink sink_now : SinkView) → IsReplied over sink sink_now → WroteReply (collected_line freed copied) over sink sink_now →
+          WroteOnAny (Collect percent) [] over v w sink sink_now
       done_wrote None sink sink_now replied wrote = (freed, copied, (swept, wrote))
       done_wrote (Some Sink) sink sink_now replied wrote = (freed, copied, (swept, wrote))
       done_wrote (Some over) sink sink_now replied wrote = absurd replied
 
-      done_caused : (over : Option reply.Ending) (source : SourceView) (sink sink_now : SinkView) → IsReplied over sink sink_now → IsCaused (Collect percent) [] v w source source sink sink_now over
+      done_caused : (over : Option reply.Ending) (source : SourceView) (sink sink_now : SinkView) → IsReplied over sink sink_now →
+          IsCaused (Collect percent) [] v w source source sink sink_now over
       done_caused None source sink sink_now replied = tt
       done_caused (Some Sink) source sink sink_now replied = (tt, replied)
       done_caused (Some over) source sink sink_now replied = absurd replied
@@ -373,7 +387,8 @@ module _ (C : Type 0) (state : C → CoreState) (v w : DiskView) (old new : C) (
       done_faults (Some Sink) sink sink_now replied = ends_faults done sweeps
       done_faults (Some over) sink sink_now replied = absurd replied
 
-      pub done_any : (over : Option reply.Ending) (source : SourceView) (sink sink_now : SinkView) → IsReplied over sink sink_now → WroteReply (collected_line freed copied) over sink sink_now
+      pub done_any : (over : Option reply.Ending) (source : SourceView) (sink sink_now : SinkView) → IsReplied over sink sink_now →
+          WroteReply (collected_line freed copied) over sink sink_now
           → OnAnyDisk (Collect percent) [] over v w source source sink sink_now
       done_any over source sink sink_now replied wrote = record {
         took = (refl, refl);
@@ -414,7 +429,14 @@ module _ (C : Type 0) (state : C → CoreState) (v w : DiskView) (old new : C) (
       no_id none = omega (arith, none, so_far.ids)
 
       unwritten : LAST_ID ≤ at.tables.held.last_id → IsUnwritten store
-      unwritten none = record { changes = so_far.changes; sweeps = record { each = so_far.each; after = so_far.after; chain = so_far.chain }; ids = no_id none; earlier = so_far.frees_old; few = few_so store index v sized C state sweeps.1.0 so_far called.opened.valid.many }
+      unwritten none = record {
+        changes = so_far.changes;
+        sweeps = record { each = so_far.each; after = so_far.after; chain = so_far.chain };
+        ids = no_id none;
+        earlier =
+            so_far.frees_old;
+        few = few_so store index v sized C state sweeps.1.0 so_far called.opened.valid.many;
+      }
 
       came_to : CameTo store at.tables.held
       came_to = record { changes = so_far.changes; sweeps = record { each = so_far.each; after = so_far.after; chain = so_far.chain }; slots = so_far.represents.slots_hold }
@@ -422,13 +444,18 @@ module _ (C : Type 0) (state : C → CoreState) (v w : DiskView) (old new : C) (
       slots_many : length at.tables.held.ids.items ≡ store.slots
       slots_many = omega (arith, ap (λ (ids : List ℕ). length ids) so_far.represents.slots_hold.ids_are, as_many_ids so_far.after.held, so_far.valid.many, so_far.slots_are)
 
-      by_row : (r : Refusal) → IsNotMade r at (state new) → TouchesBy at.collection err at (state new).disk → (source : SourceView) (sink : SinkView) → IsCaused (Collect percent) [] v w source source sink sink (Some (Refused r))
+      by_row : (r : Refusal) → IsNotMade r at (state new) → TouchesBy at.collection err at (state new).disk → (source : SourceView) (sink : SinkView) →
+          IsCaused (Collect percent) [] v w source source sink sink (Some (Refused r))
       by_row r made touches source sink =
           let c = made.before in
           let so_is = same_collection so_far.collection c at.collection so_far.runs made.ran in
-          stage_cause percent v w source sink (ends_holds err sweeps) (at_moment at c) (state new).disk so_far.later (ends err sweeps).made.effect.later called.last store.slots (so_far.later.size_is ∙ sized) slots_many
-          index (called.opened.whole index called.opened.told.1) so_far.tells unwritten came_to c.stage c.sweep.next (subst (λ (x : Collection). HasStage at.tables.held x x.stage) so_is (under_way store index v sized C state sweeps.1.0 so_far).stage_is) refl (λ marks. so_far.marks (subst (λ (x : Collection). IsMarking x.stage) (sym so_is) marks))
-          (λ marked. marked_names err sweeps c made.ran marked) (ending blames err) (subst (λ (o : Option Collection). TouchesBy o err at (state new).disk) made.ran touches) r made.cause
+          stage_cause percent v w source sink (ends_holds err sweeps) (at_moment at c) (state new).disk so_far.later (ends err sweeps).made.effect.later called.last store.slots
+          (so_far.later.size_is ∙ sized) slots_many
+          index (called.opened.whole index called.opened.told.1) so_far.tells unwritten came_to c.stage c.sweep.next
+          (subst (λ (x : Collection). HasStage at.tables.held x x.stage) so_is (under_way store index v sized C state sweeps.1.0 so_far).stage_is) refl
+          (λ marks. so_far.marks (subst (λ (x : Collection). IsMarking x.stage) (sym so_is) marks))
+          (λ marked. marked_names err sweeps c made.ran marked) (ending blames err) (subst (λ (o : Option Collection). TouchesBy o err at (state new).disk) made.ran touches) r
+          made.cause
 
       cause_of : (r : Refusal) → GcRow (Err r) at (state new) → TouchesBy at.collection err at (state new).disk → (source : SourceView) (sink : SinkView)
           → IsCaused (Collect percent) [] v w source source sink sink (Some (Refused r))

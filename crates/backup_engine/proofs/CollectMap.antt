@@ -82,7 +82,8 @@ use Rattle.backup_engine.proofs.WholeCall.{all_reads, leaves_more, leaves_of}
 -- ---- the last step, by what comes next
 
 -- where it was refused, and no write failed, the slots of the reserve are closed
-room_at : (t : Tables) (c : Collection) → IsUnderWay t.held c → (stage : Stage) (next : Next) → c.stage ≡ stage → c.sweep.next ≡ next → (refusal : Refusal) → (refusal ≡ refusals.DiskWrite → ⊥) → IsCauseAt stage next t refusal → HasRoom t.held
+room_at : (t : Tables) (c : Collection) → IsUnderWay t.held c → (stage : Stage) (next : Next) → c.stage ≡ stage → c.sweep.next ≡ next → (refusal : Refusal) →
+    (refusal ≡ refusals.DiskWrite → ⊥) → IsCauseAt stage next t refusal → HasRoom t.held
 room_at t c under (Mark level slot) next is next_is refusal whole cause = (at_stage t.held c (Mark level slot) under is).4
 room_at t c under (Filter slot) next is next_is refusal whole cause = (at_stage t.held c (Filter slot) under is).2
 room_at t c under Select next is next_is refusal whole cause = (at_stage t.held c Select under is).1
@@ -140,7 +141,8 @@ both_told R a b was now is also both_are = subst (λ (o : Option (List ℕ)). Bo
 module _ (C : Type 0) (state : C → CoreState) (v w : DiskView) (old new : C) (called : Called C state v w old new) (percent : ℕ) where
   -- ---- none was begun
 
-  unbegun_answer : (S : List ℕ → Type 0) (m : Stored) (image : List ℕ) → v.content ≡ Some image → w.content ≡ Some image → IsOf S m image → (r : Refusal) → StartRow percent (Err r) (state old) (state new) → EndsBy (Collect percent) [] m w.content (Some (Refused r))
+  unbegun_answer : (S : List ℕ → Type 0) (m : Stored) (image : List ℕ) → v.content ≡ Some image → w.content ≡ Some image → IsOf S m image → (r : Refusal) →
+      StartRow percent (Err r) (state old) (state new) → EndsBy (Collect percent) [] m w.content (Some (Refused r))
   unbegun_answer S m image was told is refusals.Memory row = left_with S m image w.content (λ store. Unit {0}) told is tt
   unbegun_answer S m image was told is (refusals.Collecting phase) row = absurd (let wrong : None ≡ Some row.0.0 = sym called.opened.collection_is ∙ row.0.1.0 in cc)
   unbegun_answer S m image was told is r row =
@@ -148,7 +150,8 @@ module _ (C : Type 0) (state : C → CoreState) (v w : DiskView) (old new : C) (
       subst (λ (x : Refusal). EndsBy (Collect percent) [] m w.content (Some (Refused x))) (sym (unbegun_memory S at.store m (state old) (state new) at.is_at r row))
       (left_with S m image w.content (λ store. Unit {0}) told is tt)
 
-  pub unbegun_map : (refusal : Refusal) → Starts C state percent (Err refusal) old new → (sink : SinkView) → KeepsEachMap (Collect percent) [] (Some (Refused refusal)) v w sink sink
+  pub unbegun_map : (refusal : Refusal) → Starts C state percent (Err refusal) old new → (sink : SinkView) →
+      KeepsEachMap (Collect percent) [] (Some (Refused refusal)) v w sink sink
   unbegun_map refusal start sink =
       let e : Event = start_event percent (Err refusal) start.0 in
       let steps : Steps e (state old) (state new) = made e start.1 in
@@ -228,14 +231,17 @@ module _ (C : Type 0) (state : C → CoreState) (v w : DiskView) (old new : C) (
       left_so (Some (Refused refusals.DiskWrite)) c of = inl of
       left_so (Some ending) c of = of
 
-      pub keeps : (ending : Option Ending) (sink sink_now : SinkView) → EndsFrom (Collect percent) [] m v.content w.content ending → promise.Wrote (Collect percent) [] m ending sink sink_now
-          → ((store : Store) → Encodes image store → GivesSlotsBack (Collect percent) ending m.files store image w.content sink sink_now) → KeepsMap S (Collect percent) [] ending m v w sink sink_now
+      pub keeps : (ending : Option Ending) (sink sink_now : SinkView) → EndsFrom (Collect percent) [] m v.content w.content ending →
+          promise.Wrote (Collect percent) [] m ending sink sink_now
+          → ((store : Store) → Encodes image store → GivesSlotsBack (Collect percent) ending m.files store image w.content sink sink_now) →
+          KeepsMap S (Collect percent) [] ending m v w sink sink_now
       keeps ending sink sink_now by_map wrote gave = record {
         by_map = by_map;
         wrote = wrote;
         added = λ base known store right. tt;
         gave_back = λ base known store right.
-            subst (λ (bytes : List ℕ). GivesSlotsBack (Collect percent) ending m.files store bytes w.content sink sink_now) (sym (one_image base known)) (gave store (subst (λ (bytes : List ℕ). Encodes bytes store) (one_image base known) right));
+            subst (λ (bytes : List ℕ). GivesSlotsBack (Collect percent) ending m.files store bytes w.content sink sink_now) (sym (one_image base known))
+            (gave store (subst (λ (bytes : List ℕ). Encodes bytes store) (one_image base known) right));
         left = inl (
           (content_now.0, content_now.1.0, left_so ending content_now.0 (now_is content_now.0 (w.as_read content_now.0 content_now.1.0))),
           λ c there. left_so ending c (now_is c there),
@@ -264,7 +270,8 @@ module _ (C : Type 0) (state : C → CoreState) (v w : DiskView) (old new : C) (
       led = any_step among distinct first at.store m (state old) (state mid) first_step at.is_at begins.stops
 
       led_same : led.next.store ≡ opened
-      led_same = subst (λ (changes : List StoreChange). ChangesTo changes at.store led.next.store) led.changes_are led.next.chain ∙ store_once image at.store opened at.stands.holds.right opened_right
+      led_same = subst (λ (changes : List StoreChange). ChangesTo changes at.store led.next.store) led.changes_are led.next.chain
+          ∙ store_once image at.store opened at.stands.holds.right opened_right
 
       abbrev begun : CollectedSoFar opened (index C state v w old new called percent) v (state mid)
       begun = so_begun C state v w old new called percent snapshot mid start
@@ -282,7 +289,8 @@ module _ (C : Type 0) (state : C → CoreState) (v w : DiskView) (old new : C) (
           }
 
       pub far : Far sweeps.1.0
-      far = all_maps opened (index C state v w old new called percent) v (sized C state v w old new called percent) C state among distinct m sweeps.0 mid sweeps.1.0 far_begun sweeps.1.1.0
+      far = all_maps opened (index C state v w old new called percent) v (sized C state v w old new called percent) C state among distinct m sweeps.0 mid sweeps.1.0 far_begun
+          sweeps.1.1.0
 
       abbrev so : CollectedSoFar opened (index C state v w old new called percent) v (state sweeps.1.0)
       so = far.so
@@ -325,7 +333,20 @@ module _ (C : Type 0) (state : C → CoreState) (v w : DiskView) (old new : C) (
             so.after,
             (content_now.0, content_now.1.0, holds_last),
             enough,
-            (image, told, record { store = opened; was = opened_right; changes = so.changes; chain = far.chain; ids = omega (arith, over, so.ids); earlier = so.frees_old; few = few_here }),
+            (
+              image,
+              told,
+              record {
+                store = opened;
+                was = opened_right;
+                changes = so.changes;
+                chain = far.chain;
+                ids = omega (arith, over, so.ids);
+                earlier = so.frees_old;
+                few =
+                    few_here;
+              },
+            ),
           )
 
         -- and what was there before
@@ -333,7 +354,8 @@ module _ (C : Type 0) (state : C → CoreState) (v w : DiskView) (old new : C) (
           but_now : SameButSlotsOf opened so.freed so.filled image content_now.0
           but_now =
               let framed = content_framed opened so.freed so.filled image (state sweeps.1.0).disk (so.framed image told) in
-              but_before opened so.freed so.filled image framed.0 content_now.0 framed.2 (both_told (SameBefore (slot_at opened.slots)) framed.0 content_now.0 (state sweeps.1.0).disk.content (state new).disk.content framed.1 content_now.1.1 kept)
+              but_before opened so.freed so.filled image framed.0 content_now.0 framed.2
+              (both_told (SameBefore (slot_at opened.slots)) framed.0 content_now.0 (state sweeps.1.0).disk.content (state new).disk.content framed.1 content_now.1.1 kept)
 
           abbrev StaysFrom : Store → Type 0
           StaysFrom s = (slot : ℕ) (h : HeaderValue) → slice_get so.after.held slot ≡ Some (Some h)
@@ -343,10 +365,12 @@ module _ (C : Type 0) (state : C → CoreState) (v w : DiskView) (old new : C) (
           one_store store right = store_once image opened store opened_right right
 
           all_stay : (store : Store) → Encodes image store → StaysFrom store
-          all_stay store right = subst StaysFrom (one_store store right) (stays opened so.after so.freed so.filled image content_now.0 so.slots opened_right holds_last.right but_now)
+          all_stay store right = subst StaysFrom (one_store store right)
+              (stays opened so.after so.freed so.filled image content_now.0 so.slots opened_right holds_last.right but_now)
 
           -- by changes that led to it
-          abbrev gave_along : (freed copied : ℕ) (changes : List StoreChange) (s store : Store) → freed ≡ freed_in changes → copied ≡ copied_in changes → s ≡ store → SweepsSpare Needs changes s so.after → Encodes image store
+          abbrev gave_along : (freed copied : ℕ) (changes : List StoreChange) (s store : Store) → freed ≡ freed_in changes → copied ≡ copied_in changes → s ≡ store →
+              SweepsSpare Needs changes s so.after → Encodes image store
               → Collected m.files freed copied store image content_now.0
           gave_along freed copied changes s store freed_are copied_are same chain right = record {
             changes = changes;
@@ -362,13 +386,15 @@ module _ (C : Type 0) (state : C → CoreState) (v w : DiskView) (old new : C) (
           gave_some store right =
               (content_now.0, content_now.1.0, gave_along (freed_in so.changes) (copied_in so.changes) so.changes opened store refl refl (one_store store right) far.chain right)
 
-          pub gave_all : (freed copied : ℕ) → HasChosen S m percent freed copied at.store (state new) → ((slot : ℕ) → ¬ (IsSpare Needs so.after.held slot)) → (percent ≡ 100 → HoldsJustNeeded m.files so.after.held)
+          pub gave_all : (freed copied : ℕ) → HasChosen S m percent freed copied at.store (state new) → ((slot : ℕ) → ¬ (IsSpare Needs so.after.held slot)) →
+              (percent ≡ 100 → HoldsJustNeeded m.files so.after.held)
               → (store : Store) → Encodes image store → KnownWith w.content (CollectedAll m.files percent freed copied store image)
           gave_all freed copied chosen none full store right =
               let released = chosen.collected.released in
               let same : at.store ≡ store = store_once image at.store store at.stands.holds.right right in
               let same_now : released.store ≡ so.after =
-              store_once content_now.0 released.store so.after (released.is_at.stands.each content_now.0 ((state new).disk.as_read content_now.0 content_now.1.1)).holds.right holds_last.right in
+              store_once content_now.0 released.store so.after (released.is_at.stands.each content_now.0 ((state new).disk.as_read content_now.0 content_now.1.1)).holds.right
+              holds_last.right in
               let chain : SweepsSpare Needs released.changes at.store so.after = subst (λ (x : Store). SweepsSpare Needs released.changes at.store x) same_now released.chain in
               let chooses : Chooses Needs percent store.held so.after.held released.changes =
               subst (λ (x : Store). Chooses Needs percent x.held so.after.held released.changes) same
@@ -381,7 +407,8 @@ module _ (C : Type 0) (state : C → CoreState) (v w : DiskView) (old new : C) (
                   chooses = chooses;
                   moved = moved Needs percent store so.after released.changes collected.chain chooses;
                   all_moved = all_moved Needs percent store so.after released.changes collected.chain chooses
-                      (subst (λ (x : Store). (slot : ℕ) (h : HeaderValue) → slice_get so.after.held slot ≡ Some (Some h) → (slice_get x.held slot ≡ Some (Some h)) ⊎ (last_id x.held < h.id)) (one_store store right) so.slots.there);
+                      (subst (λ (x : Store). (slot : ℕ) (h : HeaderValue) → slice_get so.after.held slot ≡ Some (Some h) → (slice_get x.held slot ≡ Some (Some h))
+                      ⊎ (last_id x.held < h.id)) (one_store store right) so.slots.there);
                   none_copied = λ zero_is. collected.copied_are ∙ none_copied Needs percent store so.after released.changes (headers_of_right image store right) chooses zero_is;
                   none_spare = none;
                   full = full;
@@ -393,7 +420,8 @@ module _ (C : Type 0) (state : C → CoreState) (v w : DiskView) (old new : C) (
       module _ (freed copied : ℕ) (done : answer ≡ Ok (answers.Done freed copied)) where
         row_done : HasEnded freed copied (state sweeps.1.0) (state new) × (freed ≡ freed_in so.changes) × (copied ≡ copied_in so.changes)
         row_done =
-            ended opened (index C state v w old new called percent) v (sized C state v w old new called percent) C state freed copied sweeps.1.0 new so (subst (λ (a : Result Answer Refusal). Collects C state a sweeps.1.0 new) done collects)
+            ended opened (index C state v w old new called percent) v (sized C state v w old new called percent) C state freed copied sweeps.1.0 new so
+            (subst (λ (a : Result Answer Refusal). Collects C state a sweeps.1.0 new) done collects)
 
         same_done : (c : Collection) → (state sweeps.1.0).collection ≡ Some c → so.collection ≡ c
         same_done c ran = same_collection so.collection c (state sweeps.1.0).collection so.runs ran
@@ -423,13 +451,16 @@ module _ (C : Type 0) (state : C → CoreState) (v w : DiskView) (old new : C) (
 
         none_before : (slot : ℕ) → ¬ (IsSpare Needs so.after.held slot)
         none_before =
-            leaves_none_spare C state among 0 0 percent snapshot freed copied start.0 collects.0 did.steps at.store so.after m old mid sweeps.1.0 new distinct at.is_at (none_held (state old).parts called.opened.parts_are)
-            called.opened.stop_is start.1 did.run did.all so.stop_is (subst (λ (a : Result Answer Refusal). CoreStep (state sweeps.1.0) (gc_event a collects.0) (state new)) done collects.1) far.is_at
+            leaves_none_spare C state among 0 0 percent snapshot freed copied start.0 collects.0 did.steps at.store so.after m old mid sweeps.1.0 new distinct at.is_at
+            (none_held (state old).parts called.opened.parts_are)
+            called.opened.stop_is start.1 did.run did.all so.stop_is
+            (subst (λ (a : Result Answer Refusal). CoreStep (state sweeps.1.0) (gc_event a collects.0) (state new)) done collects.1) far.is_at
 
         -- one of 100 leaves just what the files need
         full_now : percent ≡ 100 → HoldsJustNeeded m.files so.after.held
         full_now full =
-            leaves_just_needed C state among 0 0 snapshot freed copied start.0 collects.0 did.steps at.store so.after m old mid sweeps.1.0 new distinct at.is_at (none_held (state old).parts called.opened.parts_are)
+            leaves_just_needed C state among 0 0 snapshot freed copied start.0 collects.0 did.steps at.store so.after m old mid sweeps.1.0 new distinct at.is_at
+            (none_held (state old).parts called.opened.parts_are)
             (subst (λ (p : ℕ). CoreStep (state old) (bounds.starts 0 p snapshot start.0) (state mid)) full start.1) did.run did.all
             (subst (λ (a : Result Answer Refusal). CoreStep (state sweeps.1.0) (gc_event a collects.0) (state new)) done collects.1) (at_last only_done runs_done)
 
@@ -439,7 +470,8 @@ module _ (C : Type 0) (state : C → CoreState) (v w : DiskView) (old new : C) (
         -- it chose by what the files need
         chosen_now : HasChosen S m percent freed copied at.store (state new)
         chosen_now =
-            collects_by_need C state among 0 0 percent snapshot freed copied start.0 collects.0 did.steps at.store m old mid sweeps.1.0 new distinct at.is_at (none_held (state old).parts called.opened.parts_are)
+            collects_by_need C state among 0 0 percent snapshot freed copied start.0 collects.0 did.steps at.store m old mid sweeps.1.0 new distinct at.is_at
+            (none_held (state old).parts called.opened.parts_are)
             start.1 did.run did.all (subst (λ (a : Result Answer Refusal). CoreStep (state sweeps.1.0) (gc_event a collects.0) (state new)) done collects.1)
 
         pub done_gave : (store : Store) → Encodes image store → KnownWith w.content (CollectedAll m.files percent freed copied store image)
@@ -497,7 +529,8 @@ module _ (C : Type 0) (state : C → CoreState) (v w : DiskView) (old new : C) (
 
           kept : Both (SameBefore (slot_at opened.slots)) (state sweeps.1.0).disk.content (state new).disk.content
           kept =
-              refused_stays opened.slots (state sweeps.1.0).tables (so.represents.slots_are ∙ so.slots_are) (state sweeps.1.0).disk (state new).disk (so.later.size_is ∙ sized C state v w old new called percent) refusal c.stage c.sweep.next c.sweep
+              refused_stays opened.slots (state sweeps.1.0).tables (so.represents.slots_are ∙ so.slots_are) (state sweeps.1.0).disk (state new).disk
+              (so.later.size_is ∙ sized C state v w old new called percent) refusal c.stage c.sweep.next c.sweep
               whole cause touched
 
           pub refused_gave : (store : Store) → Encodes image store → KnownWith w.content (Collected m.files (freed_in so.changes) (copied_in so.changes) store image)
@@ -510,7 +543,8 @@ module _ (C : Type 0) (state : C → CoreState) (v w : DiskView) (old new : C) (
           refused_no_id is = no_id_left only_refused runs room (numbers is)
 
         -- by the refusal
-        ends_by : (r : Refusal) → r ≡ refusal → IsCollectCause r → StopsAfter asked.GcStep (Err r) (state sweeps.1.0).acknowledged (state new).stop → EndsFrom (Collect percent) [] m v.content w.content (Some (Refused r))
+        ends_by : (r : Refusal) → r ≡ refusal → IsCollectCause r → StopsAfter asked.GcStep (Err r) (state sweeps.1.0).acknowledged (state new).stop →
+            EndsFrom (Collect percent) [] m v.content w.content (Some (Refused r))
         ends_by refusals.DiskWrite is why stops = tt
         ends_by refusals.Memory is why stops = refused_left stops
         ends_by refusals.DiskRead is why stops = refused_left stops
@@ -532,7 +566,8 @@ module _ (C : Type 0) (state : C → CoreState) (v w : DiskView) (old new : C) (
   module _ (snapshot : ℕ) (mid : C) (start : Starts C state percent (Ok snapshot) old mid) where
     -- a step was refused
     pub stopped_map : (refusal : Refusal) → Sweeps C state (Err refusal) mid new → (sink : SinkView) → KeepsEachMap (Collect percent) [] (Some (Refused refusal)) v w sink sink
-    stopped_map refusal sweeps sink = λ image told among m distinct segments is. refused_map snapshot mid start (Err refusal) sweeps among m distinct image told is refusal refl sink
+    stopped_map refusal sweeps sink = λ image told among m distinct segments is. refused_map snapshot mid start (Err refusal) sweeps among m distinct image told is refusal refl
+        sink
 
     -- it ended
     module _ (freed copied : ℕ) (sweeps : Sweeps C state (Ok (answers.Done freed copied)) mid new) where
@@ -543,11 +578,14 @@ module _ (C : Type 0) (state : C → CoreState) (v w : DiskView) (old new : C) (
         all_gave : (store : Store) → Encodes image store → KnownWith w.content (CollectedAll m.files percent freed copied store image)
         all_gave = done_gave snapshot mid start done sweeps among m distinct image told is freed copied refl
 
-        done_answer : (ending : Option Ending) (sink sink_now : SinkView) → IsDone ending → WroteReply (collected_line freed copied) ending sink sink_now → KeepsMap (IsIn among) (Collect percent) [] ending m v w sink sink_now
+        done_answer : (ending : Option Ending) (sink sink_now : SinkView) → IsDone ending → WroteReply (collected_line freed copied) ending sink sink_now →
+            KeepsMap (IsIn among) (Collect percent) [] ending m v w sink sink_now
         done_answer None sink sink_now over wrote =
-            keeps snapshot mid start done sweeps among m distinct image told is None sink sink_now tt (freed, copied, wrote) (λ store right. (freed, copied, (all_gave store right, wrote)))
+            keeps snapshot mid start done sweeps among m distinct image told is None sink sink_now tt (freed, copied, wrote)
+            (λ store right. (freed, copied, (all_gave store right, wrote)))
         done_answer (Some Sink) sink sink_now over wrote =
-            keeps snapshot mid start done sweeps among m distinct image told is (Some Sink) sink sink_now tt (freed, copied, wrote) (λ store right. (freed, copied, (all_gave store right, wrote)))
+            keeps snapshot mid start done sweeps among m distinct image told is (Some Sink) sink sink_now tt (freed, copied, wrote)
+            (λ store right. (freed, copied, (all_gave store right, wrote)))
         done_answer (Some ending) sink sink_now over wrote = absurd over
 
         some_gave : (store : Store) → Encodes image store → KnownWith w.content (Collected m.files freed copied store image)
@@ -555,10 +593,12 @@ module _ (C : Type 0) (state : C → CoreState) (v w : DiskView) (old new : C) (
 
         untold_answer : (sink : SinkView) → KeepsMap (IsIn among) (Collect percent) [] (Some (Refused refusals.Memory)) m v w sink sink
         untold_answer sink =
-            keeps snapshot mid start done sweeps among m distinct image told is (Some (Refused refusals.Memory)) sink sink (done_left snapshot mid start done sweeps among m distinct image told is freed copied refl)
+            keeps snapshot mid start done sweeps among m distinct image told is (Some (Refused refusals.Memory)) sink sink
+            (done_left snapshot mid start done sweeps among m distinct image told is freed copied refl)
             (wrote_nothing (Collect percent) [] m (Refused refusals.Memory) sink (not_sink refusals.Memory)) (λ store right. (freed, copied, some_gave store right))
 
-      pub done_map : (ending : Option Ending) (sink sink_now : SinkView) → IsDone ending → WroteReply (collected_line freed copied) ending sink sink_now → KeepsEachMap (Collect percent) [] ending v w sink sink_now
+      pub done_map : (ending : Option Ending) (sink sink_now : SinkView) → IsDone ending → WroteReply (collected_line freed copied) ending sink sink_now →
+          KeepsEachMap (Collect percent) [] ending v w sink sink_now
       done_map ending sink sink_now over wrote = λ image told among m distinct segments is. done_answer among m distinct image told is ending sink sink_now over wrote
 
       -- there was no memory for its reply

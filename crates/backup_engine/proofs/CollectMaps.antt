@@ -111,7 +111,8 @@ module _ (C : Type 0) (state : C → CoreState) (S : List ℕ → Type 0) where
       let step : FileStep S f (state old) (state run.0) = record { asked = tt; given = tt; made = run.1.0.1 } in
       record { steps = f ∷ rest.steps; run = (run.0, (step, rest.run)); quiet = (tt, rest.quiet); all = (refl, rest.all) }
 
-  pub run_then : (fs : List FileEvent) (f : FileEvent) (old mid new : C) → FileRun C state S fs old mid → FileStep S f (state mid) (state new) → FileRun C state S (fs ++ f ∷ []) old new
+  pub run_then : (fs : List FileEvent) (f : FileEvent) (old mid new : C) → FileRun C state S fs old mid → FileStep S f (state mid) (state new) →
+      FileRun C state S (fs ++ f ∷ []) old new
   run_then [] f old mid new run step = subst (λ (c : C). FileRun C state S (f ∷ []) c new) run (new, (step, refl))
   run_then (one ∷ fs) f old mid new run step = (run.0, (run.1.0, run_then fs f run.0 mid new run.1.1 step))
 
@@ -143,7 +144,8 @@ written_id : (h : HeaderValue) (held : List (Option HeaderValue)) → 1 ≤ free
 written_id h held some = id_at (with_slot (first_free held) h held) (first_free held) h (first_with h held some)
 
 -- two stores by the same tables, once a container was written: it has one id
-one_id : (s : Store) (id other : ℕ) (kind : Kind) (segments : List Segment) (t : Tables) (known : Option PlaceMap) → 1 ≤ free_slots s.held → Represents (with_sealed id kind segments s) known t
+one_id : (s : Store) (id other : ℕ) (kind : Kind) (segments : List Segment) (t : Tables) (known : Option PlaceMap) → 1 ≤ free_slots s.held →
+    Represents (with_sealed id kind segments s) known t
     → Represents (with_sealed other kind segments s) None t → id ≡ other
 one_id s id other kind segments t known some one two =
     sym (written_id (header_of id kind segments) s.held some) ∙ ap (λ (ids : List ℕ). get_or ids (first_free s.held) 0) (sym one.slots_hold.ids_are ∙ two.slots_hold.ids_are)
@@ -151,7 +153,8 @@ one_id s id other kind segments t known some one two =
 
 -- ---- over a map, step by step
 
-module _ (s : Store) (index : PlaceMap) (v : DiskView) (sized : v.size ≡ size_of s.slots) (C : Type 0) (state : C → CoreState) (among : ByteSet) (distinct : HasNoCollisions (IsIn among)) (m : Stored) where
+module _ (s : Store) (index : PlaceMap) (v : DiskView) (sized : v.size ≡ size_of s.slots) (C : Type 0) (state : C → CoreState) (among : ByteSet)
+    (distinct : HasNoCollisions (IsIn among)) (m : Stored) where
   abbrev S : List ℕ → Type 0
   S = IsIn among
 
@@ -193,7 +196,8 @@ module _ (s : Store) (index : PlaceMap) (v : DiskView) (sized : v.size ≡ size_
     to = led_to among so.after m (state old) (state new) far.is_at t led.next.is_at phase row steps.made.effect.touches steps.made.effect.later
 
     -- whatever the disk holds it led there
-    same_by : (stage : Stage) (next : Next) (sweep : Sweep) (changes : List StoreChange) (now : Store) → IsStoreAfter stage next row.before.snapshot sweep far.is_at.index so.after t image
+    same_by : (stage : Stage) (next : Next) (sweep : Sweep) (changes : List StoreChange) (now : Store) → IsStoreAfter stage next row.before.snapshot sweep far.is_at.index so.after
+        t image
         → IsChangeOf stage next sweep (state old).tables.held.last_id so.after changes now → Represents now None (state new).tables → t ≡ now
     same_by (Mark level slot) next sweep changes now is change represents = is ∙ sym change.1
     same_by (Filter slot) next sweep changes now is change represents = is ∙ sym change.1
@@ -204,7 +208,8 @@ module _ (s : Store) (index : PlaceMap) (v : DiskView) (sized : v.size ≡ size_
         let kind = sweep.buffer.kind in
         let segments = sweep.buffer.segments in
         let id_is : is.id ≡ last + 1 =
-        one_id so.after is.id (last + 1) kind segments (state new).tables (state new).known (omega (arith, is.can.slot)) (subst (λ (x : Store). Represents x (state new).known (state new).tables) is.now_is led.next.is_at.represents)
+        one_id so.after is.id (last + 1) kind segments (state new).tables (state new).known (omega (arith, is.can.slot))
+        (subst (λ (x : Store). Represents x (state new).known (state new).tables) is.now_is led.next.is_at.represents)
         (subst (λ (x : Store). Represents x None (state new).tables) change.1 represents) in
         is.now_is ∙ ap (λ (id : ℕ). with_sealed id kind segments so.after) id_is ∙ sym change.1
     same_by SweepStage (Release source entry) sweep changes now is change represents = is.now_is ∙ sym change.1
@@ -217,7 +222,8 @@ module _ (s : Store) (index : PlaceMap) (v : DiskView) (sized : v.size ≡ size_
     nothing changes now none same = subst (λ (l : List StoreChange). SweepsSpare Needs l so.after now) (sym none) same
 
     -- what it gave back the files don't need
-    alone_by : (stage : Stage) (next : Next) (sweep : Sweep) (last : ℕ) (changes : List StoreChange) (now : Store) → IsStoreAfter stage next row.before.snapshot sweep far.is_at.index so.after t image
+    alone_by : (stage : Stage) (next : Next) (sweep : Sweep) (last : ℕ) (changes : List StoreChange) (now : Store) →
+        IsStoreAfter stage next row.before.snapshot sweep far.is_at.index so.after t image
         → IsChangeOf stage next sweep last so.after changes now → ChangesTo changes so.after now → SweepsSpare Needs changes so.after now
     alone_by (Mark level slot) next sweep last changes now is change chain = nothing changes now change.0 change.1
     alone_by (Filter slot) next sweep last changes now is change chain = nothing changes now change.0 change.1

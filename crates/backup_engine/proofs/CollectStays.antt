@@ -35,7 +35,8 @@ beside_other slot other differ = elim (cases_lt slot other) [
   | inr above ↦ inr (omega (arith, above, differ))
 ]
 
-module _ (s after : Store) (freed filled : List ℕ) (base now : List ℕ) (slots : SweptSlots s after freed filled) (was : Encodes base s) (is : Encodes now after) (but : SameButSlotsOf s freed filled base now) where
+module _ (s after : Store) (freed filled : List ℕ) (base now : List ℕ) (slots : SweptSlots s after freed filled) (was : Encodes base s) (is : Encodes now after)
+    (but : SameButSlotsOf s freed filled base now) where
   module _ (slot : ℕ) (h : HeaderValue) (there : slice_get after.held slot ≡ Some (Some h)) (first : slice_get s.held slot ≡ Some (Some h)) where
     beside : (places : List ℕ) → AllByRecursion (IsRenewed s after) places → LiesBeside places (slot_at slot + 49664) (SLOT_BYTES - 49664)
     beside [] all = tt

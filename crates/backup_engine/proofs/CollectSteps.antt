@@ -93,13 +93,20 @@ IsChangeOf SweepStage (Flush source entry) sweep last after changes now =
 IsChangeOf SweepStage (Release source entry) sweep last after changes now = (changes ≡ FreeContainer (slot_in_turn sweep) ∷ []) × (now ≡ with_freed (slot_in_turn sweep) after)
 IsChangeOf stage next sweep last after changes now = (changes ≡ []) × (now ≡ after)
 
-module _ (s after : Store) (freed filled : List ℕ) (slots : SweptSlots s after freed filled) (old new : Moment) (represents : Represents after None old.tables) (valid : IsValidFor old.disk.size after)
-    (runs : Runs old.disk.size None old.tables) (under : IsUnderWay old.tables.held old.collection) (began : old.collection.snapshot ≤ last_id s.held + 1) (above : last_id s.held ≤ old.tables.held.last_id) where
+module _ (s after : Store) (freed filled : List ℕ) (slots : SweptSlots s after freed filled) (old new : Moment) (represents : Represents after None old.tables)
+    (valid : IsValidFor old.disk.size after)
+    (runs : Runs old.disk.size None old.tables) (under : IsUnderWay old.tables.held old.collection) (began : old.collection.snapshot ≤ last_id s.held + 1)
+    (above : last_id s.held ≤ old.tables.held.last_id) where
   abbrev c : Collection
   c = old.collection
 
   pub has_free : HasFree after.held
-  has_free = omega (arith, runs.has_free, same_free after.held runs.store.held valid.headers runs.valid.headers (sym represents.slots_hold.ids_are ∙ runs.represents.slots_hold.ids_are))
+  has_free = omega (
+    arith,
+    runs.has_free,
+    same_free after.held runs.store.held valid.headers runs.valid.headers
+        (sym represents.slots_hold.ids_are ∙ runs.represents.slots_hold.ids_are),
+  )
 
   -- The source that is given back next had its container at first.
   module _ (source entry : ℕ) (stage_is : c.stage ≡ SweepStage) (next_is : c.sweep.next ≡ Release source entry) where
@@ -153,7 +160,8 @@ module _ (s after : Store) (freed filled : List ℕ) (slots : SweptSlots s after
     pub new_now : new_in (last_id s.held) store_now.held ≡ new_in (last_id s.held) after.held + written_in changes
     pub frees_now : FreesUpTo (last_id s.held) changes after
 
-  changed_none : (stage : Stage) (next : Next) → freed_by (phase_at stage next) ≡ 0 → copies_by stage next c.sweep ≡ 0 → freed_with stage next c.sweep freed ≡ freed → filled_with stage next after filled ≡ filled
+  changed_none : (stage : Stage) (next : Next) → freed_by (phase_at stage next) ≡ 0 → copies_by stage next c.sweep ≡ 0 → freed_with stage next c.sweep freed ≡ freed →
+      filled_with stage next after filled ≡ filled
       → IsChangeOf stage next c.sweep old.tables.held.last_id after [] after → new.tables ≡ old.tables → Changed stage next
   changed_none stage next none_freed none_copied freed_same filled_same change same = record {
     changes = [];
@@ -224,7 +232,8 @@ module _ (s after : Store) (freed filled : List ℕ) (slots : SweptSlots s after
         filled_is = refl;
         swept = slots_freed s after freed filled slots slot (had_in_turn source entry is next_is);
         ids_now = omega (arith, gives.last_stays);
-        new_now = let in_turn = stands source entry is next_is in omega (arith, new_without (last_id s.held) slot in_turn.header after.held in_turn.there (omega (arith, in_turn.old, began)));
+        new_now = let in_turn = stands source entry is next_is in omega
+            (arith, new_without (last_id s.held) slot in_turn.header after.held in_turn.there (omega (arith, in_turn.old, began)));
         frees_now = (old_in_turn source entry is next_is, tt);
       }
   changed_by SweepStage End is next_is same = changed_none SweepStage End refl refl refl refl (refl, refl) same
@@ -259,10 +268,12 @@ module _ (old new : CoreState) (before after : Collection) where
   still_marks SweepStage End is steps index marks now = absurd (subst IsMarking (ap (λ (c : Collection). c.stage) steps.0 ∙ is) now)
 
   -- a release ends durable
-  release_durable : (stage : Stage) (next : Next) → StepsTo stage next (at_moment old before) (at_moment new after) → (source entry : ℕ) → stage ≡ SweepStage → next ≡ Release source entry → IsDurable new.disk
+  release_durable : (stage : Stage) (next : Next) → StepsTo stage next (at_moment old before) (at_moment new after) → (source entry : ℕ) → stage ≡ SweepStage →
+      next ≡ Release source entry → IsDurable new.disk
   release_durable stage next steps source entry is next_is =
       let so : StepsTo SweepStage (Release source entry) (at_moment old before) (at_moment new after) =
-      subst (λ (n : Next). StepsTo SweepStage n (at_moment old before) (at_moment new after)) next_is (subst (λ (x : Stage). StepsTo x next (at_moment old before) (at_moment new after)) is steps) in
+      subst (λ (n : Next). StepsTo SweepStage n (at_moment old before) (at_moment new after)) next_is
+      (subst (λ (x : Stage). StepsTo x next (at_moment old before) (at_moment new after)) is steps) in
       so.2
 
 -- ---- what the disk keeps
@@ -294,7 +305,8 @@ module _ (slots : ℕ) (old new : DiskView) (settled : IsSettled slots old) wher
       ]
 
   -- where a step was made
-  stage_settled : (stage : Stage) (next : Next) (s : Sweep) (t : Tables) → old.size ≡ size_of slots → t.slots ≡ slots → ((source entry : ℕ) → stage ≡ SweepStage → next ≡ Release source entry → IsDurable new)
+  stage_settled : (stage : Stage) (next : Next) (s : Sweep) (t : Tables) → old.size ≡ size_of slots → t.slots ≡ slots →
+      ((source entry : ℕ) → stage ≡ SweepStage → next ≡ Release source entry → IsDurable new)
       → Touches stage next s t Finished old new → IsSettled slots new
   stage_settled (Mark level slot) next s t sized many durable touches = reads_settled touches.only
   stage_settled (Filter slot) next s t sized many durable touches = reads_settled touches.only
@@ -371,7 +383,8 @@ module _ (s : Store) (index : PlaceMap) (v : DiskView) (sized : v.size ≡ size_
 
     pub free_so : HasFree so.after.held
     free_so =
-        has_free s so.after so.freed so.filled so.slots (at_moment (state c) so.collection) (at_moment (state c) so.collection) so.represents valid_so runs_so (under_way c so) so.began above_so
+        has_free s so.after so.freed so.filled so.slots (at_moment (state c) so.collection) (at_moment (state c) so.collection) so.represents valid_so runs_so (under_way c so)
+        so.began above_so
 
     -- it wrote fewer containers than there are slots
     pub few_so : length s.held ≡ s.slots → written_in so.changes < length s.held
@@ -379,7 +392,8 @@ module _ (s : Store) (index : PlaceMap) (v : DiskView) (sized : v.size ≡ size_
 
     pub had_so : (source entry : ℕ) → so.collection.stage ≡ SweepStage → so.collection.sweep.next ≡ Release source entry → HadContainer s (slot_in_turn so.collection.sweep)
     had_so =
-        had_in_turn s so.after so.freed so.filled so.slots (at_moment (state c) so.collection) (at_moment (state c) so.collection) so.represents valid_so runs_so (under_way c so) so.began above_so
+        had_in_turn s so.after so.freed so.filled so.slots (at_moment (state c) so.collection) (at_moment (state c) so.collection) so.represents valid_so runs_so (under_way c so)
+        so.began above_so
 
     pub may_fill_so : MayFill s so.freed (first_free so.after.held)
     may_fill_so = so.slots.closed (first_free so.after.held) (first_closed so.after.held (some_free so.after.held free_so))
@@ -414,7 +428,8 @@ module _ (s : Store) (index : PlaceMap) (v : DiskView) (sized : v.size ≡ size_
 
     -- what it changed
     abbrev pub ChangedSo : Type 0
-    ChangedSo = Changed s so.after so.freed so.filled so.slots was now so.represents (valid_so old so) (runs_so old so) under_before began_before (above_so old so) before.stage before.sweep.next
+    ChangedSo = Changed s so.after so.freed so.filled so.slots was now so.represents (valid_so old so) (runs_so old so) under_before began_before (above_so old so) before.stage
+        before.sweep.next
 
     pub changed : ChangedSo
     changed =
@@ -426,7 +441,8 @@ module _ (s : Store) (index : PlaceMap) (v : DiskView) (sized : v.size ≡ size_
 
     framed_now : (base : List ℕ) → v.content ≡ Some base → IsFramed s changed.freed_now changed.filled_now base (state new).disk
     framed_now base told =
-        let leaves = stage_so s so.after so.freed so.filled base (state old).disk (state new).disk (so.framed base told) (state old).tables (so.later.size_is ∙ sized) so.represents (valid_so old so) (free_so old so)
+        let leaves = stage_so s so.after so.freed so.filled base (state old).disk (state new).disk (so.framed base told) (state old).tables (so.later.size_is ∙ sized)
+        so.represents (valid_so old so) (free_so old so)
         (so.represents.slots_are ∙ so.slots_are) before.stage before.sweep.next before.sweep Finished touched in
         let content = one_step.made.effect.later.tells (so.framed base told).told.0 (so.framed base told).told.1 in
         record {
@@ -441,7 +457,8 @@ module _ (s : Store) (index : PlaceMap) (v : DiskView) (sized : v.size ≡ size_
         counts_as goes.after _ (freed_in (so.changes ++ changed.changes)) _ (copied_in (so.changes ++ changed.changes))
         (omega (arith, freed-append so.changes changed.changes, changed.freed_many)) (omega (arith, copied-append so.changes changed.changes, changed.copied_many))
         (counted_on was now (freed_in so.changes) (copied_in so.changes) before.stage before.sweep.next refl refl
-        (subst (λ (c : Collection). CountsSo c so.changes) same so.counted) goes.steps (no_end before.stage before.sweep.next before.sweep.freed before.sweep.copied phase goes.phase_is))
+        (subst (λ (c : Collection). CountsSo c so.changes) same so.counted) goes.steps
+        (no_end before.stage before.sweep.next before.sweep.freed before.sweep.copied phase goes.phase_is))
 
     pub one_more : SoFar new
     one_more =
@@ -466,13 +483,21 @@ module _ (s : Store) (index : PlaceMap) (v : DiskView) (sized : v.size ≡ size_
           frees_old = frees_on (last_id s.held) so.changes changed.changes s so.after so.chain so.frees_old changed.frees_now;
           collection = goes.after;
           runs = goes.runs;
-          began = omega (arith, so.began, ap (λ (c : Collection). c.snapshot) same, snapshot_on was now (freed_in so.changes) (copied_in so.changes) before.stage before.sweep.next goes.steps);
+          began = omega (
+            arith,
+            so.began,
+            ap (λ (c : Collection). c.snapshot) same,
+            snapshot_on was now (freed_in so.changes) (copied_in so.changes) before.stage before.sweep.next
+                goes.steps,
+          );
           counted = counted_now;
-          marks = still_marks (state old) (state new) before goes.after before.stage before.sweep.next refl goes.steps index (λ marks. so.marks (stage_same before so.collection (sym same) marks));
+          marks = still_marks (state old) (state new) before goes.after before.stage before.sweep.next refl goes.steps index
+              (λ marks. so.marks (stage_same before so.collection (sym same) marks));
           tells = effect.tells here.0 here.1;
           faults_are = effect.faults_are ∙ so.faults_are;
           later = later_on v (state old).disk (state new).disk so.later effect.later;
-          settled = stage_settled s.slots (state old).disk (state new).disk so.settled before.stage before.sweep.next before.sweep (state old).tables (so.later.size_is ∙ sized) (so.represents.slots_are ∙ so.slots_are)
+          settled = stage_settled s.slots (state old).disk (state new).disk so.settled before.stage before.sweep.next before.sweep (state old).tables (so.later.size_is ∙ sized)
+              (so.represents.slots_are ∙ so.slots_are)
               (release_durable (state old) (state new) before goes.after before.stage before.sweep.next goes.steps) touched;
         }
 
@@ -500,7 +525,8 @@ module _ (s : Store) (index : PlaceMap) (v : DiskView) (sized : v.size ≡ size_
       let sweeping : IsSweeping (state old).tables.held c.snapshot c.sweep = at_stage (state old).tables.held c SweepStage under row.at_end.0 in
       let at_end : HasNext (state old).tables.held c.sweep End = subst (HasNext (state old).tables.held c.sweep) row.at_end.1 sweeping.next_is in
       let counted : HasCounted SweepStage c.sweep (freed_in so.changes) (copied_in so.changes) =
-      subst (λ (stage : Stage). HasCounted stage c.sweep (freed_in so.changes) (copied_in so.changes)) row.at_end.0 (subst (λ (x : Collection). CountsSo x so.changes) same so.counted) in (
+      subst (λ (stage : Stage). HasCounted stage c.sweep (freed_in so.changes) (copied_in so.changes)) row.at_end.0
+      (subst (λ (x : Collection). CountsSo x so.changes) same so.counted) in (
         row,
         row.freed_is ∙ counted.0,
         omega (arith, row.copied_is, counted.1, ap (λ (l : List Segment). length l) at_end.1),

@@ -18,7 +18,8 @@ use Rattle.backup_engine.proofs.WholeMade.{RunsIfOpened, whole_here, whole_made,
 
 module _ (D : Type 0) (view : D → DiskView) (command : CommandLine) (given : List ℕ) (v w : DiskView) (source source_now : SourceView) (sink sink_now : SinkView) where
   -- it was opened as it was
-  pub does_here : (rs : List Replied) (ending : Option Ending) → RunsIfOpened v → Keeps command given ending v w source source_now sink sink_now → SpeaksAs command given ending rs v w source source_now sink sink_now
+  pub does_here : (rs : List Replied) (ending : Option Ending) → RunsIfOpened v → Keeps command given ending v w source source_now sink sink_now →
+      SpeaksAs command given ending rs v w source source_now sink sink_now
       → RunsEachByFiles ending rs v w → Holds v w → DoesCommand D view command given rs ending v w source source_now sink sink_now
   does_here rs ending runs keeps speaks by_files holds = record {
     whole = whole_here command given ending sink sink_now v w runs keeps.map;
@@ -29,7 +30,8 @@ module _ (D : Type 0) (view : D → DiskView) (command : CommandLine) (given : L
 
   -- or once room was made
   pub does_made : (rs : List Replied) (ending : Option Ending) (mid : D) → RoomMade v (view mid) → Keeps command given ending (view mid) w source source_now sink sink_now
-      → SpeaksAs command given ending rs (view mid) w source source_now sink sink_now → RunsEachByFiles ending rs v w → IsLater (view mid) w → DoesCommand D view command given rs ending v w source source_now sink sink_now
+      → SpeaksAs command given ending rs (view mid) w source source_now sink sink_now → RunsEachByFiles ending rs v w → IsLater (view mid) w →
+      DoesCommand D view command given rs ending v w source source_now sink sink_now
   does_made rs ending mid made keeps speaks by_files later = record {
     whole = whole_made command given ending sink sink_now v (view mid) w made keeps.map;
     by_files = by_files;
@@ -46,7 +48,8 @@ full_not refusal free is not =
 module _ (D : Type 0) (view : D → DiskView) (command : CommandLine) (given : List ℕ) (v w : DiskView) (source : SourceView) (sink : SinkView) (refusal : Refusal) where
   -- it wasn't, though not because too few slots are closed
   pub does_unread : IsNotRead refusal v w → IsNotFull refusal → Keeps command given (Some (Refused refusal)) v w source source sink sink
-      → SpeaksAs command given (Some (Refused refusal)) [] v w source source sink sink → RunsEachByFiles (Some (Refused refusal)) [] v w → DoesCommand D view command given [] (Some (Refused refusal)) v w source source sink sink
+      → SpeaksAs command given (Some (Refused refusal)) [] v w source source sink sink → RunsEachByFiles (Some (Refused refusal)) [] v w →
+      DoesCommand D view command given [] (Some (Refused refusal)) v w source source sink sink
   does_unread is not keeps speaks by_files = record {
     whole = whole_unread command given refusal sink v w is not;
     by_files = by_files;
@@ -55,7 +58,8 @@ module _ (D : Type 0) (view : D → DiskView) (command : CommandLine) (given : L
   }
 
   -- or no room was made
-  pub does_unmade : RoomUnmade refusal v w → Took command given (Some (Refused refusal)) source source → RunsEachByFiles (Some (Refused refusal)) [] v w → DoesCommand D view command given [] (Some (Refused refusal)) v w source source sink sink
+  pub does_unmade : RoomUnmade refusal v w → Took command given (Some (Refused refusal)) source source → RunsEachByFiles (Some (Refused refusal)) [] v w →
+      DoesCommand D view command given [] (Some (Refused refusal)) v w source source sink sink
   does_unmade is took by_files = record {
     whole = whole_unmade command given refusal sink v w is;
     by_files = by_files;

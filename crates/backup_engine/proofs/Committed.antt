@@ -27,7 +27,8 @@ itself : (p : Piece) (xs : List KindSegment) → IsOneOf (record { kind = (piece
 itself (Data bytes) xs one = one
 itself (Node n) xs one = one
 
-module _ (C : Type 0) (state : C → CoreState) (name given : List ℕ) (s : SessionState) (start old new : C) (all : IsAllFed C state given s start old) (kept : AllIsKept) (counted : BytesAreCounted) (buf : List ℕ) where
+module _ (C : Type 0) (state : C → CoreState) (name given : List ℕ) (s : SessionState) (start old new : C) (all : IsAllFed C state given s start old) (kept : AllIsKept)
+    (counted : BytesAreCounted) (buf : List ℕ) where
   few : length given ≤ MOST_FILE
   few = subst (λ (l : List ℕ). length l ≤ MOST_FILE) all.fed.given_is (counted s all.fed.history all.fed.has).1
 
@@ -45,7 +46,8 @@ module _ (C : Type 0) (state : C → CoreState) (name given : List ℕ) (s : Ses
       let put = way_commits C state (MayBe given s) (opens_of s) start old new all.fed.way buf name given may_be few whole answer step in
       record { ran = put.0; few = few; held = put.1; refused = tt }
 
-  pub put_refused : (refusal : Refusal) → CoreStep (state old) (by_first (asked.Commit name (root_of given)) (Err refusal) buf) (state new) → IsPut C state name given (Err refusal) start new
+  pub put_refused : (refusal : Refusal) → CoreStep (state old) (by_first (asked.Commit name (root_of given)) (Err refusal) buf) (state new) →
+      IsPut C state name given (Err refusal) start new
   put_refused refusal step =
       let put = way_uncommitted C state (MayBe given s) (opens_of s) start old new all.fed.way buf name given may_be few whole refusal step in
       record { ran = put.0; few = tt; held = tt; refused = put.1 }

@@ -100,7 +100,8 @@ module _ (C : Type 0) (state : C → CoreState) (v w : DiskView) (old new : C) (
       }
 
       -- nothing but the bytes of a record changed
-      cell_frame : ChangesJournalAlone (state old).tables name Gone (state old).disk (state new).disk → IsLater (state old).disk (state new).disk → KeepsOthers (Delete name) ending v w
+      cell_frame : ChangesJournalAlone (state old).tables name Gone (state old).disk (state new).disk → IsLater (state old).disk (state new).disk →
+          KeepsOthers (Delete name) ending v w
       cell_frame alone later = record {
         content = λ base known.
             let now = (alone.synced called.durable base (called.first.only.content_is ∙ known)).0 in
@@ -137,7 +138,8 @@ module _ (C : Type 0) (state : C → CoreState) (v w : DiskView) (old new : C) (
         names = λ base known. names_without base known;
       }
 
-      done_caused : (ending : Option Ending) (source : SourceView) (sink sink_now : SinkView) → IsReplied ending sink sink_now → IsCaused (Delete name) [] v w source source sink sink_now ending
+      done_caused : (ending : Option Ending) (source : SourceView) (sink sink_now : SinkView) → IsReplied ending sink sink_now →
+          IsCaused (Delete name) [] v w source source sink sink_now ending
       done_caused None source sink sink_now replied = was_deleted
       done_caused (Some Sink) source sink sink_now replied = (was_deleted, replied)
       done_caused (Some ending) source sink sink_now replied = absurd replied
@@ -155,7 +157,8 @@ module _ (C : Type 0) (state : C → CoreState) (v w : DiskView) (old new : C) (
       done_durable (Some Sink) sink sink_now replied = is_durable
       done_durable (Some ending) sink sink_now replied = absurd replied
 
-      pub done_any : (ending : Option Ending) (source : SourceView) (sink sink_now : SinkView) → IsReplied ending sink sink_now → WroteReply (deleted_line name) ending sink sink_now → OnAnyDisk (Delete name) [] ending v w source source sink sink_now
+      pub done_any : (ending : Option Ending) (source : SourceView) (sink sink_now : SinkView) → IsReplied ending sink sink_now →
+          WroteReply (deleted_line name) ending sink sink_now → OnAnyDisk (Delete name) [] ending v w source source sink sink_now
       done_any ending source sink sink_now replied wrote = record {
         took = (refl, refl);
         caused = done_caused ending source sink sink_now replied;
@@ -193,13 +196,17 @@ module _ (C : Type 0) (state : C → CoreState) (v w : DiskView) (old new : C) (
       no_numbers (inl most) = inl (sym called.opened.represents.names_are.last_is ∙ most)
       no_numbers (inr full) = inr (omega (arith, full.0, called.opened.represents.names_are.count), sym called.opened.represents.names_are.generation ∙ full.1)
 
-      caused_by : (r : Refusal) (source : SourceView) (sink : SinkView) → IsDeleteRefusal (state old).tables name r → IsCaused (Delete name) [] v w source source sink sink (Some (Refused r))
+      caused_by : (r : Refusal) (source : SourceView) (sink : SinkView) → IsDeleteRefusal (state old).tables name r →
+          IsCaused (Delete name) [] v w source source sink sink (Some (Refused r))
       caused_by Memory source sink cause = tt
       caused_by DiskRead source sink cause = tt
       caused_by DiskWrite source sink cause = tt
       caused_by BadName source sink cause = inr (holds C state v w old new called (to_end C state v w old new called undone.disk.later), cause)
       caused_by NoFile source sink cause =
-          inr (holds C state v w old new called (to_end C state v w old new called undone.disk.later), (cause.0, is_none (finite.get (names_of store) name) (ap (λ (names : NameMap). finite.get names name) (sym names_are) ∙ cause.1)))
+          inr (
+            holds C state v w old new called (to_end C state v w old new called undone.disk.later),
+            (cause.0, is_none (finite.get (names_of store) name) (ap (λ (names : NameMap). finite.get names name) (sym names_are) ∙ cause.1)),
+          )
       caused_by Numbers source sink cause =
           inr (
             holds C state v w old new called (to_end C state v w old new called undone.disk.later),
@@ -221,7 +228,8 @@ module _ (C : Type 0) (state : C → CoreState) (v w : DiskView) (old new : C) (
         sink_faults = λ other. refl;
       }
 
-      frame_by : (r : Refusal) → IsDeleteRefusal (state old).tables name r → Acts (ending_of (blames r)) (state old).disk (state new).disk → KeepsOthers (Delete name) (Some (Refused r)) v w
+      frame_by : (r : Refusal) → IsDeleteRefusal (state old).tables name r → Acts (ending_of (blames r)) (state old).disk (state new).disk →
+          KeepsOthers (Delete name) (Some (Refused r)) v w
       frame_by DiskWrite cause acts = cell_frame (Some (Refused DiskWrite)) tt undone.frame acts.later
       frame_by DiskRead cause acts = absurd cause
       frame_by r cause acts = reads_frame (Delete name) (Some (Refused r)) v w (all_reads C state v w old new called acts.ends)

@@ -81,7 +81,8 @@ module _ (name : List ℕ) where
   none_bars m (WrongPart kind) runs bars = absurd (let none = bars.1.1 in cc)
   none_bars m refusal runs bars = absurd bars
 
-  delete_made : (reply : ReplyValue) (m : FileMachine) (steps : List (Stepped (List ℕ))) (e : FileDesk) → m.state ≡ Running → Line of_files (lines.Delete name) reply steps (desk m) e
+  delete_made : (reply : ReplyValue) (m : FileMachine) (steps : List (Stepped (List ℕ))) (e : FileDesk) → m.state ≡ Running →
+      Line of_files (lines.Delete name) reply steps (desk m) e
       → MadeOne (asked.Delete name) reply m e.machine steps
   delete_made reply m steps e runs line = elim line.1 [
     | inl taken ↦
@@ -93,11 +94,13 @@ module _ (name : List ℕ) where
 
 -- ---- it was done
 
-module _ (S : List ℕ → Type 0) (name : List ℕ) (sequence : ℕ) (m : Stored) (image : List ℕ) (v w : DiskView) (told : v.content ≡ Some image) (one : OneStep S (lines.Delete name) (replies.Deleted sequence) m image v w) where
+module _ (S : List ℕ → Type 0) (name : List ℕ) (sequence : ℕ) (m : Stored) (image : List ℕ) (v w : DiskView) (told : v.content ≡ Some image)
+    (one : OneStep S (lines.Delete name) (replies.Deleted sequence) m image v w) where
   abbrev made : MadeOne (asked.Delete name) (replies.Deleted sequence) one.opened one.last.machine one.steps
   made = delete_made name (replies.Deleted sequence) one.opened one.steps one.last one.runs one.line_is
 
-  deletes : (actor : ℕ) (answer : Result Done Refusal) → replies.Deleted sequence ≡ reply_of actor answer → machine.Answers of_files actor (asked.Delete name) answer one.opened one.last.machine
+  deletes : (actor : ℕ) (answer : Result Done Refusal) → replies.Deleted sequence ≡ reply_of actor answer →
+      machine.Answers of_files actor (asked.Delete name) answer one.opened one.last.machine
       → Deletes of_files name sequence one.opened one.last.machine
   deletes actor (Ok (done.Deleted number)) is does =
       let same : number ≡ sequence = cc in subst (λ (n : ℕ). Deletes of_files name n one.opened one.last.machine) same does
@@ -135,9 +138,11 @@ module _ (S : List ℕ → Type 0) (name : List ℕ) (sequence : ℕ) (m : Store
 
   pub done_map : (ending : Option Ending) (sink sink_now : SinkView) → IsDone ending → WroteReply (deleted_line name) ending sink sink_now → Kept ending sink sink_now
   done_map None sink sink_now is wrote =
-      keeps_map S (lines.Delete name) (replies.Deleted sequence) m image v w one _ made.steps_are told (Delete name) None sink sink_now there wrote there adds (λ store right. tt) leaves
+      keeps_map S (lines.Delete name) (replies.Deleted sequence) m image v w one _ made.steps_are told (Delete name) None sink sink_now there wrote there adds (λ store right. tt)
+      leaves
   done_map (Some Sink) sink sink_now is wrote =
-      keeps_map S (lines.Delete name) (replies.Deleted sequence) m image v w one _ made.steps_are told (Delete name) (Some Sink) sink sink_now there wrote there adds (λ store right. tt) leaves
+      keeps_map S (lines.Delete name) (replies.Deleted sequence) m image v w one _ made.steps_are told (Delete name) (Some Sink) sink sink_now there wrote there adds
+      (λ store right. tt) leaves
   done_map (Some ending) sink sink_now is wrote = absurd is
 
 -- ---- it was refused
@@ -164,7 +169,8 @@ module _ (S : List ℕ → Type 0) (name : List ℕ) (refusal : Refusal) (m : St
 
   undone : (r : Refusal) (sink : SinkView) → Same → EndsBy (Delete name) [] m w.content (Some (Refused r)) → KeptBy r sink
   undone r sink same by_map =
-      keeps_map S (lines.Delete name) (replies.Refused refusal) m image v w one _ refused_made.steps_are told (Delete name) (Some (Refused r)) sink sink by_map refl tt (added_so r same) (λ store right. tt)
+      keeps_map S (lines.Delete name) (replies.Refused refusal) m image v w one _ refused_made.steps_are told (Delete name) (Some (Refused r)) sink sink by_map refl tt
+      (added_so r same) (λ store right. tt)
       (λ d found. left_so r d (still_found S (lines.Delete name) (replies.Refused refusal) m image v w one same d found))
 
   left_by : (P : Store → Type 0) → Same → P one.opened.store → IsLeftWith m w.content P
@@ -203,11 +209,13 @@ module _ (S : List ℕ → Type 0) (name : List ℕ) (refusal : Refusal) (m : St
       undone Numbers sink why.3 (left_by (λ store. MayDelete name (room_of (Delete name) m store) × LacksNumbers (room_of (Delete name) m store)) why.3
       (record { named = why.0; knows = has_name why.1 }, lacks why.2))
   by_refusal DiskWrite sink why =
-      keeps_map S (lines.Delete name) (replies.Refused refusal) m image v w one _ refused_made.steps_are told (Delete name) (Some (Refused DiskWrite)) sink sink tt refl tt (λ store right. tt) (λ store right. tt)
+      keeps_map S (lines.Delete name) (replies.Refused refusal) m image v w one _ refused_made.steps_are told (Delete name) (Some (Refused DiskWrite)) sink sink tt refl tt
+      (λ store right. tt) (λ store right. tt)
       (λ d found. may_be_gone why.1 d (subst (λ (n : FileMachine). IsOfFound S n d) why.3 found))
   by_refusal r sink why = absurd why
 
-  refused_by : (actor : ℕ) (answer : Result Done Refusal) → replies.Refused refusal ≡ reply_of actor answer → machine.Answers of_files actor (asked.Delete name) answer one.opened one.last.machine
+  refused_by : (actor : ℕ) (answer : Result Done Refusal) → replies.Refused refusal ≡ reply_of actor answer →
+      machine.Answers of_files actor (asked.Delete name) answer one.opened one.last.machine
       → RefusesDelete of_files name refusal one.opened one.last.machine
   refused_by actor (Ok (done.Deleted number)) is does = absurd (let no : replies.Refused refusal ≡ replies.Deleted number = is in cc)
   refused_by actor (Ok answer) is does = absurd does
@@ -225,13 +233,16 @@ module _ (S : List ℕ → Type 0) (name : List ℕ) (refusal : Refusal) (m : St
 -- ---- by each map
 
 -- it was done as the map has it, and leaves the map after it
-pub deleted_map : (name : List ℕ) (sequence : ℕ) (ending : Option Ending) (v w : DiskView) (sink sink_now : SinkView) → RunsEachByFiles ending (said (lines.Delete name) (replies.Deleted sequence) ∷ []) v w
+pub deleted_map : (name : List ℕ) (sequence : ℕ) (ending : Option Ending) (v w : DiskView) (sink sink_now : SinkView) →
+    RunsEachByFiles ending (said (lines.Delete name) (replies.Deleted sequence) ∷ []) v w
     → IsDone ending → WroteReply (deleted_line name) ending sink sink_now → KeepsEachMap (Delete name) [] ending v w sink sink_now
 deleted_map name sequence ending v w sink sink_now each is_done wrote image told among m distinct all is =
-    done_map (IsIn among) name sequence m image v w told (step_of ending (lines.Delete name) (replies.Deleted sequence) v w each image told among m distinct is) ending sink sink_now is_done wrote
+    done_map (IsIn among) name sequence m image v w told (step_of ending (lines.Delete name) (replies.Deleted sequence) v w each image told among m distinct is) ending sink
+    sink_now is_done wrote
 
 -- it was refused as the map has it
 pub undeleted_map : (name : List ℕ) (refusal : Refusal) (v w : DiskView) (sink : SinkView) → RunsEachByFiles (Some (Refused refusal)) (refused (lines.Delete name) refusal ∷ []) v w
     → KeepsEachMap (Delete name) [] (Some (Refused refusal)) v w sink sink
 undeleted_map name refusal v w sink each image told among m distinct all is =
-    undone_map (IsIn among) name refusal m image v w told (step_of (Some (Refused refusal)) (lines.Delete name) (replies.Refused refusal) v w each image told among m distinct is) sink
+    undone_map (IsIn among) name refusal m image v w told (step_of (Some (Refused refusal)) (lines.Delete name) (replies.Refused refusal) v w each image told among m distinct is)
+    sink

@@ -55,7 +55,8 @@ slots_freed [] s = refl
 slots_freed (slot ∷ slots) s = slots_freed slots (with_freed slot s) ∙ length-without_slot slot s.held
 
 -- what was given back was there before
-frees_from : (P : List ℕ → Type 0) (last : ℕ) (slots : List ℕ) (more : List StoreChange) (s t : Store) → FreesTo P slots s t → last_id s.held ≤ last → FreesUpTo last more t → FreesUpTo last (frees slots ++ more) s
+frees_from : (P : List ℕ → Type 0) (last : ℕ) (slots : List ℕ) (more : List StoreChange) (s t : Store) → FreesTo P slots s t → last_id s.held ≤ last → FreesUpTo last more t →
+    FreesUpTo last (frees slots ++ more) s
 unfolding frees
 frees_from P last [] more s t frees_to low ups = subst (λ (x : Store). FreesUpTo last more x) frees_to.0 ups
 frees_from P last (slot ∷ slots) more s t frees_to low ups =
@@ -70,9 +71,12 @@ module _ (v mid : DiskView) (made : RoomMade v mid) (old : List ℕ) (told : v.c
       let content = made.content old told in
       let right : Encodes now made.after = subst (λ (b : List ℕ). Encodes b made.after) (same_list content.0 now (sym content.1 ∙ now_told)) content.2.0 in
       let spares = content.2.2.spares among m opens in
-      let same : none.store ≡ with_all_freed made.freed made.short.store = store_once now none.store made.after none.was right ∙ all_freed _ made.freed made.short.store made.after made.frees in
-      let low : last_id none.store.held ≤ last_id made.short.store.held = omega (arith, ap (λ (s : Store). last_id s.held) same, last_freed _ made.freed made.short.store (with_all_freed made.freed made.short.store) spares) in
-      let first : LAST_ID ≤ last_id (with_all_freed made.freed made.short.store).held + written_in none.changes = subst (λ (s : Store). LAST_ID ≤ last_id s.held + written_in none.changes) same none.ids in (
+      let same : none.store ≡ with_all_freed made.freed made.short.store = store_once now none.store made.after none.was right ∙ all_freed _ made.freed made.short.store made.after
+      made.frees in
+      let low : last_id none.store.held ≤ last_id made.short.store.held =
+      omega (arith, ap (λ (s : Store). last_id s.held) same, last_freed _ made.freed made.short.store (with_all_freed made.freed made.short.store) spares) in
+      let first : LAST_ID ≤ last_id (with_all_freed made.freed made.short.store).held + written_in none.changes =
+      subst (λ (s : Store). LAST_ID ≤ last_id s.held + written_in none.changes) same none.ids in (
         old,
         told,
         record {
@@ -90,6 +94,7 @@ module _ (v mid : DiskView) (made : RoomMade v mid) (old : List ℕ) (told : v.c
       )
 
   -- how it ended, by what the content was before
-  pub ends_earlier : (command : CommandLine) (given : List ℕ) (content : Option (List ℕ)) (ending : Option Ending) → EndsFrom command given m mid.content content ending → EndsFrom command given m v.content content ending
+  pub ends_earlier : (command : CommandLine) (given : List ℕ) (content : Option (List ℕ)) (ending : Option Ending) → EndsFrom command given m mid.content content ending →
+      EndsFrom command given m v.content content ending
   ends_earlier (Collect percent) given content (Some (Refused Numbers)) ends = (ends.0, ends.1, ends.2, no_id_earlier ends.0 ends.3)
   ends_earlier command given content ending ends = ends

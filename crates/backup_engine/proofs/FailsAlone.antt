@@ -49,7 +49,8 @@ told_refused a (Ok answer) refusal is = absurd (no_refusal answer is)
     no_refusal answer is = cc
 
 -- as the last line
-last_may : (before : List Replied) (refusal : Refusal) (ss : List (Stepped (List ℕ))) (d e : FileDesk) → Lines of_files (before ++ unopened_line refusal ∷ []) ss d e → MayRefuseOpening of_files refusal
+last_may : (before : List Replied) (refusal : Refusal) (ss : List (Stepped (List ℕ))) (d e : FileDesk) → Lines of_files (before ++ unopened_line refusal ∷ []) ss d e →
+    MayRefuseOpening of_files refusal
 last_may [] refusal ss d e ran =
     let line = ran.4 in
     let says = line.1.0 in
@@ -83,7 +84,8 @@ pub fails_by : (ending : Option Ending) (rs : List Replied) (v w : DiskView) →
 fails_by ending rs v w ends each among m distinct cut known refusal is = elim (ends refusal is) [
   | inl memory ↦ subst (λ (r : Refusal). IsTrue (fails r)) (sym memory) refl
   | inr last ↦ elim (each among m distinct cut known) [
-    | inl runs ↦ refusal_fails refusal (last_may last.0 refusal runs.steps (desk runs.opened) runs.next (subst (λ (l : List Replied). Lines of_files l runs.steps (desk runs.opened) runs.next) last.1 runs.lines_are))
+    | inl runs ↦ refusal_fails refusal (last_may last.0 refusal runs.steps (desk runs.opened) runs.next
+        (subst (λ (l : List Replied). Lines of_files l runs.steps (desk runs.opened) runs.next) last.1 runs.lines_are))
     | inr none ↦ let same : Some (Refused none.refusal) ≡ Some (Refused refusal) = sym none.ending_is ∙ is in
         let so : none.refusal ≡ refusal = cc in
         subst (λ (r : Refusal). IsTrue (fails r)) so (refusal_fails none.refusal none.opens.0)

@@ -87,7 +87,8 @@ module _ (s : SessionState) (id : ℕ) (mine : Kind) (due : due_in s ≡ Seal mi
   all_differ kind other x [] apart = tt
   all_differ kind other x (y ∷ ys) apart = (kinds_differ kind other x y apart, all_differ kind other x ys apart)
 
-  none_of_keys : (kind : Kind) (key : List ℕ) (ys : List Segment) → list_any (λ k. bytes_eq k key) (map (segment_key kind) ys) ≡ false → AllByRecursion (λ y. key ≢ segment_key kind y) ys
+  none_of_keys : (kind : Kind) (key : List ℕ) (ys : List Segment) → list_any (λ k. bytes_eq k key) (map (segment_key kind) ys) ≡ false →
+      AllByRecursion (λ y. key ≢ segment_key kind y) ys
   none_of_keys kind key [] none = tt
   none_of_keys kind key (y ∷ ys) none =
       let parts = neither (bytes_eq (segment_key kind y) key) (list_any (λ k. bytes_eq k key) (map (segment_key kind) ys)) none in
@@ -143,7 +144,8 @@ module _ (s : SessionState) (id : ℕ) (mine : Kind) (due : due_in s ≡ Seal mi
         let item = one_item s mine x one in
         let turn = turn_of_item (turn_node s) s.spelled s.ahead s.queue (session.waits on).0 session.ahead in
         subst (λ (k : Kind). AllByRecursion (λ y. segment_key k x ≢ segment_key k y) (open_of s k).segments) (sym item.0)
-        (subst (λ (z : Segment). AllByRecursion (λ y. segment_key (item_kind (turn_node s)) z ≢ segment_key (item_kind (turn_node s)) y) (open_of s (item_kind (turn_node s))).segments) (sym item.1)
+        (subst (λ (z : Segment). AllByRecursion (λ y. segment_key (item_kind (turn_node s)) z ≢ segment_key (item_kind (turn_node s)) y)
+        (open_of s (item_kind (turn_node s))).segments) (sym item.1)
         (item_lacks (turn_node s) s.queue turn (sym (same_held (turn_node s)) ∙ lacks refl)))
 
     by_kind : (s.waits ≡ true → item_is_held s (turn_node s) ≡ false) → (kind : Kind) (same : Bool) → same_kind kind mine ≡ same → (x : Segment) → IsOneOf x (left kind)

@@ -40,10 +40,12 @@ may_be_still given s t file same is = (is.0, λ on. is.1 (same ∙ on), is.2)
 module _ (C : Type 0) (state : C → CoreState) where
   -- The session is another, which says no more of what is kept and of the file, and has as much to seal.
   fed_as : (given now : List ℕ) (s t : SessionState) (start old : C) (fed : IsFed C state given s start old) (h : History) → HasHistory t h → h.given ≡ now
-      → ((kind : Kind) (x : Segment) → IsKept h kind x → IsKept fed.history kind x) → ((file : List ℕ) → MayBe now t file → MayBe given s file) → ((kind : Kind) → opens_of t kind ≡ opens_of s kind)
+      → ((kind : Kind) (x : Segment) → IsKept h kind x → IsKept fed.history kind x) → ((file : List ℕ) → MayBe now t file → MayBe given s file) →
+      ((kind : Kind) → opens_of t kind ≡ opens_of s kind)
       → IsFed C state now t start old
   fed_as given now s t start old fed h has given_is kept files opens =
-      let way = way_as C state (MayBe given s) (opens_of s) start old fed.way (MayBe now t) (opens_of t) files (λ kind places fresh. subst (AreNew places kind) (sym (opens kind)) fresh) in
+      let way = way_as C state (MayBe given s) (opens_of s) start old fed.way (MayBe now t) (opens_of t) files
+      (λ kind places fresh. subst (AreNew places kind) (sym (opens kind)) fresh) in
       record {
         history = h;
         has = has;
@@ -58,7 +60,8 @@ module _ (C : Type 0) (state : C → CoreState) where
   pub fed_begun : (s : SessionState) (start old : C) → IsBegun s → HasHistory s no_history → (w : Way C state (MayBe [] s) (λ kind. []) start old) → IsFed C state [] s start old
   fed_begun s start old begun has w =
       let none : (kind : Kind) → opens_of s kind ≡ [] = λ kind. by_kind kind in
-      let way = way_as C state (MayBe [] s) (λ kind. []) start old w (MayBe [] s) (opens_of s) (λ file is. is) (λ kind places fresh. subst (AreNew places kind) (sym (none kind)) tt) in
+      let way = way_as C state (MayBe [] s) (λ kind. []) start old w (MayBe [] s) (opens_of s) (λ file is. is)
+      (λ kind places fresh. subst (AreNew places kind) (sym (none kind)) tt) in
       record { history = no_history; has = has; given_is = refl; way = way.0; told = λ kind x is. absurd (let no : None ≡ Some x = is.1 in cc) }
     where
       by_kind : (kind : Kind) → opens_of s kind ≡ []
@@ -79,7 +82,8 @@ module _ (C : Type 0) (state : C → CoreState) where
       (λ kind. opens_stay s t kind (ap (λ (x : SessionState). x.leaves) taking.others) (ap (λ (x : SessionState). x.nodes) taking.others)
       (ap (λ (x : SessionState). x.waits) taking.others) taking.item)
 
-  pub fed_ended : (given : List ℕ) (s t : SessionState) (start old : C) → IsFed C state given s start old → IsEnding s t → ((h : History) → HasHistory s h → HasHistory t h) → IsFed C state given t start old
+  pub fed_ended : (given : List ℕ) (s t : SessionState) (start old : C) → IsFed C state given s start old → IsEnding s t → ((h : History) → HasHistory s h → HasHistory t h) →
+      IsFed C state given t start old
   fed_ended given s t start old fed ending history =
       fed_as given given s t start old fed fed.history (history fed.history fed.has) fed.given_is (λ kind x is. is)
       (λ file is. (is.0, λ on. absurd (let both = sym ending.ongoing ∙ on in cc), is.2))
@@ -116,10 +120,12 @@ module _ (C : Type 0) (state : C → CoreState) where
               ]);
         }
 
-    pub fed_held : (seg : KindSegment) → due_in s ≡ Claim → IsItem (turn_node s) s.queue seg → WayOn (opens_of s) (seg ∷ []) → HasHistory (told_by answers.Held s) (answered answers.Held s fed.history)
+    pub fed_held : (seg : KindSegment) → due_in s ≡ Claim → IsItem (turn_node s) s.queue seg → WayOn (opens_of s) (seg ∷ []) →
+        HasHistory (told_by answers.Held s) (answered answers.Held s fed.history)
         → IsFed C state given (told_by answers.Held s) start new
     fed_held seg due item on has =
-        let opens = way_as C state (MayBe given s) (opens_of s) start new on.0 (MayBe given s) (opens_of (told_by answers.Held s)) (λ file is. is) (λ kind places fresh. subst (AreNew places kind) (sym (opens_held s kind due)) fresh) in
+        let opens = way_as C state (MayBe given s) (opens_of s) start new on.0 (MayBe given s) (opens_of (told_by answers.Held s)) (λ file is. is)
+        (λ kind places fresh. subst (AreNew places kind) (sym (opens_held s kind due)) fresh) in
         fed_on answers.Held (seg ∷ []) (opens.0, ap kept_of opens.1 ∙ on.1) has
         (λ kind x is. elim (kept_held s fed.history kind x is) [
           | inl before ↦ inl before
@@ -144,5 +150,6 @@ module _ (C : Type 0) (state : C → CoreState) where
         fed_on (answers.Sealed id) (map as_kept (open_of s mine).segments) on has
         (λ kind x is. elim (kept_sealed s fed.history kind x id mine due is) [
           | inl before ↦ inl before
-          | inr now ↦ inr (subst (λ (k : Kind). IsOneOf (record { kind = k; segment = x }) (map as_kept (open_of s mine).segments)) (sym now.0) (one_of_map as_kept x (open_of s mine).segments now.1))
+          | inr now ↦ inr (subst (λ (k : Kind). IsOneOf (record { kind = k; segment = x }) (map as_kept (open_of s mine).segments)) (sym now.0)
+              (one_of_map as_kept x (open_of s mine).segments now.1))
         ])

@@ -68,7 +68,8 @@ none_filled C state s core source off = record {
   says = λ start begun. ([], (refl, refl));
 }
 
-module _ (C : Type 0) (state : C → CoreState) (s t : SessionState) (old mid : C) (source between : SourceView) (so_far : FilledSoFar C state s t old mid source between) (source_now : SourceView) where
+module _ (C : Type 0) (state : C → CoreState) (s t : SessionState) (old mid : C) (source between : SourceView) (so_far : FilledSoFar C state s t old mid source between)
+    (source_now : SourceView) where
   abbrev taken : List ℕ
   taken = so_far.taken
 
@@ -79,7 +80,8 @@ module _ (C : Type 0) (state : C → CoreState) (s t : SessionState) (old mid : 
       (more.0, (λ on. absurd (let both = sym so_far.ongoing ∙ on in cc)), more.1)
 
   -- the source failed
-  pub fill_failed : Known between.left (λ left. source_now.left ≡ Some left) → Rose between.faults source_now.faults → Fills C state (SaysPushes C state) (Err Source) s t old mid source source_now
+  pub fill_failed : Known between.left (λ left. source_now.left ≡ Some left) → Rose between.faults source_now.faults →
+      Fills C state (SaysPushes C state) (Err Source) s t old mid source source_now
   fill_failed kept rose =
       let still = still_taken source.left between.left source_now.left taken so_far.took kept in
       record {
@@ -125,7 +127,8 @@ module _ (C : Type 0) (state : C → CoreState) (s t : SessionState) (old mid : 
             ongoing = stays ∙ so_far.ongoing;
             fed = fed;
             says = λ start begun.
-                push_says C state laws.counts start actor first taken piece line.0 line.1 s t u old mid new so_far.ongoing (so_far.fed start begun) (fed start begun) feeds (so_far.says start begun);
+                push_says C state laws.counts start actor first taken piece line.0 line.1 s t u old mid new so_far.ongoing (so_far.fed start begun) (fed start begun) feeds
+                (so_far.says start begun);
           }
 
       -- a step was refused as it was fed
@@ -143,7 +146,8 @@ module _ (C : Type 0) (state : C → CoreState) (s t : SessionState) (old mid : 
             spoken = λ start begun name.
                 let says = so_far.says start begun in
                 let pushes = says.0 in
-                let parts : pushed pushes ++ pushed_bytes line.0.digits ≡ taken ++ piece = ap (λ (l : List ℕ). l ++ pushed_bytes line.0.digits) says.1.0 ∙ ap (λ (l : List ℕ). taken ++ l) line.1 in (
+                let parts : pushed pushes ++ pushed_bytes line.0.digits ≡ taken ++ piece = ap (λ (l : List ℕ). l ++ pushed_bytes line.0.digits) says.1.0
+                ∙ ap (λ (l : List ℕ). taken ++ l) line.1 in (
                   push_lines 0 pushes ++ one ∷ [],
                   (
                     (pushes, inl (line.0, (gave_so source source_now (taken ++ piece) (pushed pushes ++ pushed_bytes line.0.digits) more parts, refl))),
@@ -156,16 +160,19 @@ module _ (C : Type 0) (state : C → CoreState) (s t : SessionState) (old mid : 
 -- ---- the end of the file
 
 -- where it ended before, the same lines were run
-pub fill_stopped : (C : Type 0) (state : C → CoreState) (s t : SessionState) (old mid : C) (source source_now : SourceView) (e : Ending) (result : Result Unit Ending) → IsErrAnd result (λ y. y ≡ e)
+pub fill_stopped : (C : Type 0) (state : C → CoreState) (s t : SessionState) (old mid : C) (source source_now : SourceView) (e : Ending) (result : Result Unit Ending) →
+    IsErrAnd result (λ y. y ≡ e)
     → Fills C state (SaysPushes C state) (Err e) s t old mid source source_now → Fills C state (SaysEnd C state) result s t old mid source source_now
 fill_stopped C state s t old mid source source_now e result is filled =
     by_error (λ r. Fills C state (SaysEnd C state) r s t old mid source source_now) result e is
     (record { given = filled.given; took = filled.took; heard = filled.heard; filled = filled.filled; spoken = filled.spoken })
 
-module _ (C : Type 0) (state : C → CoreState) (s t u : SessionState) (old mid : C) (source source_now : SourceView) (filled : Fills C state (SaysPushes C state) (Ok tt) s t old mid source source_now) (laws : SessionLaws) where
+module _ (C : Type 0) (state : C → CoreState) (s t u : SessionState) (old mid : C) (source source_now : SourceView)
+    (filled : Fills C state (SaysPushes C state) (Ok tt) s t old mid source source_now) (laws : SessionLaws) where
   end_not_filled : (new : C) (refusal : Refusal) (result : Result Unit Ending) → IsErrAnd result (λ e. e ≡ Refused refusal)
       → ((start : C) (name : List ℕ) → IsFed C state filled.given t start mid → Stops C state name filled.given refusal start new)
-      → ((start : C) → IsFed C state filled.given t start mid → StopsSaying C state t u mid new filled.given refusal) → Fills C state (SaysEnd C state) result s u old new source source_now
+      → ((start : C) → IsFed C state filled.given t start mid → StopsSaying C state t u mid new filled.given refusal) →
+      Fills C state (SaysEnd C state) result s u old new source source_now
   end_not_filled new refusal result is ends says = by_error (λ r. Fills C state (SaysEnd C state) r s u old new source source_now) result (Refused refusal) is (record {
     given = filled.given;
     took = filled.took;
@@ -193,7 +200,8 @@ module _ (C : Type 0) (state : C → CoreState) (s t u : SessionState) (old mid 
           (turns_made C state laws.counts start filled.given t ended u mid new ending history (filled.filled.1 start begun) actor first turns);
     }
 
-    pub turns_refused : (refusal : Refusal) (result : Result Unit Ending) → IsErrAnd result (λ e. e ≡ Refused refusal) → TakesTurns {T = Unit {0}} C state actor (Err refusal) ended u mid new
+    pub turns_refused : (refusal : Refusal) (result : Result Unit Ending) → IsErrAnd result (λ e. e ≡ Refused refusal) →
+        TakesTurns {T = Unit {0}} C state actor (Err refusal) ended u mid new
         → Fills C state (SaysEnd C state) result s u old new source source_now
     turns_refused refusal result is stopped =
         end_not_filled new refusal result is (λ start name fed. end_stopped C state laws actor first filled.given start t ended u mid new ending history fed refusal stopped name)

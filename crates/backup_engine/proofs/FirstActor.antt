@@ -48,7 +48,8 @@ module _ (old new : CoreState) where
 
   pub represents_still : KeepsTables old new → (store : Store) → Represents store old.known old.tables → Represents store new.known new.tables
   represents_still kept store represents =
-      subst (λ (t : Tables). Represents store new.known t) (sym kept.tables_are) (subst (λ (known : Option PlaceMap). Represents store known old.tables) (sym kept.index_is) represents)
+      subst (λ (t : Tables). Represents store new.known t) (sym kept.tables_are)
+      (subst (λ (known : Option PlaceMap). Represents store known old.tables) (sym kept.index_is) represents)
 
   -- tables, index and the disk's size are as they were
   pub record Rested : Type 0 where

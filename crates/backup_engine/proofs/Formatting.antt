@@ -46,7 +46,8 @@ module _ (slots : ℕ) (v w : DiskView) where
   shown = Shows v w
 
   -- the map has no clash
-  ends_by : (m : Stored) (content : Option (List ℕ)) (refusal : Refusal) → IsLeftWith m content (λ store. Refuses (Format slots) [] (room_of (Format slots) m store) refusal) → EndsBy (Format slots) [] m content (Some (Refused refusal))
+  ends_by : (m : Stored) (content : Option (List ℕ)) (refusal : Refusal) → IsLeftWith m content (λ store. Refuses (Format slots) [] (room_of (Format slots) m store) refusal) →
+      EndsBy (Format slots) [] m content (Some (Refused refusal))
   ends_by m content (Clash key at) left = absurd left.3
   ends_by m content refusal left = left
 
@@ -64,7 +65,8 @@ module _ (slots : ℕ) (v w : DiskView) where
     refuses refusal wrong = absurd wrong
 
   -- that is never a write that failed
-  reads_over : (refusal : Refusal) → IsFormatRefusal shown v.size slots refusal → Acts (ending_of (blames refusal)) v w → (old : List ℕ) → v.content ≡ Some old → (store : Store) → Encodes old store
+  reads_over : (refusal : Refusal) → IsFormatRefusal shown v.size slots refusal → Acts (ending_of (blames refusal)) v w → (old : List ℕ) → v.content ≡ Some old → (store : Store) →
+      Encodes old store
       → OnlyReads v w
   reads_over DiskWrite wrong acts old known store right = absurd (shown_content v w _ old wrong.1 known (gate_open old store right))
   reads_over DiskRead wrong acts old known store right = acts.ends
@@ -85,7 +87,8 @@ module _ (slots : ℕ) (v w : DiskView) where
   one_content : OnlyReads v w → (old now : List ℕ) → v.content ≡ Some old → w.content ≡ Some now → now ≡ old
   one_content reads old now known told = let same : Some now ≡ Some old = sym told ∙ reads.content_is ∙ known in cc
 
-  by_gate : (ending : Option Ending) → ReadsAStore → (old : List ℕ) → v.content ≡ Some old → (stands : Bool) → byte_at 0 old == FORMAT_GATE ≡ stands → LeavesMeanwhile (KeepsRest (Format slots) ending old) v w
+  by_gate : (ending : Option Ending) → ReadsAStore → (old : List ℕ) → v.content ≡ Some old → (stands : Bool) → byte_at 0 old == FORMAT_GATE ≡ stands →
+      LeavesMeanwhile (KeepsRest (Format slots) ending old) v w
   by_gate ending store old known true is = reads_leave v w (store old known (eqb-true (byte_at 0 old) FORMAT_GATE is)) _
   by_gate ending store old known false is = record {
     now = λ c image. inr (λ gate. absurd (eqb-false (byte_at 0 old) FORMAT_GATE is gate));
@@ -121,7 +124,8 @@ module _ (slots : ℕ) (v w : DiskView) where
 
   -- ---- all of it
 
-  caused : (refusal : Refusal) (source : SourceView) (sink : SinkView) → IsFormatRefusal shown v.size slots refusal → IsCaused (Format slots) [] v w source source sink sink (Some (Refused refusal))
+  caused : (refusal : Refusal) (source : SourceView) (sink : SinkView) → IsFormatRefusal shown v.size slots refusal →
+      IsCaused (Format slots) [] v w source source sink sink (Some (Refused refusal))
   caused Memory source sink wrong = tt
   caused refusal source sink wrong = wrong
 
@@ -169,7 +173,8 @@ module _ (slots : ℕ) (v w : DiskView) where
     }
 
     -- it was done, and its reply was written, or not
-    pub done_keeps : (ending : Option Ending) (sink sink_now : SinkView) → IsReplied ending sink sink_now → Formats slots v w → IsDurable w → Acts Done v w → WroteReply (formatted_line slots) ending sink sink_now
+    pub done_keeps : (ending : Option Ending) (sink sink_now : SinkView) → IsReplied ending sink sink_now → Formats slots v w → IsDurable w → Acts Done v w →
+        WroteReply (formatted_line slots) ending sink sink_now
         → Keeps (Format slots) [] ending v w source source sink sink_now
     done_keeps ending sink sink_now replied formats durable acts wrote = record {
       map = λ old known among m distinct right is. absurd (shown_content v w _ old formats.closed known (gate_open old is.store is.stands.holds.right));

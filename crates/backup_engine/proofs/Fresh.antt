@@ -29,7 +29,13 @@ fresh v c new size running = record {
   runs = new.stop_is;
   idle = new.parts_are;
   told = new.told;
-  indexed = record { store = new.store; represents = new.represents; valid = subst (λ (n : ℕ). IsValidFor n new.store) (sym size) new.valid; has_free = omega (arith, new.reserve) };
+  indexed = record {
+    store = new.store;
+    represents = new.represents;
+    valid = subst (λ (n : ℕ). IsValidFor n new.store) (sym size) new.valid;
+    has_free =
+        omega (arith, new.reserve);
+  };
   ids = record {
     store_has = λ store represents valid free.
         new.last_id_is ∙ same_last new.store.held store.held (sym new.represents.slots_hold.ids_are ∙ represents.slots_hold.ids_are);

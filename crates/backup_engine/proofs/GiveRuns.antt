@@ -37,7 +37,8 @@ module _ (C : Type 0) (state : C → CoreState) where
 
 -- ---- what was given
 
-given_before : (own : Bool) (answer : Result Answer Refusal) (buf : List ℕ) (first others : List (List ℕ)) → given_by own answer buf (first ++ others) ≡ given_by own answer buf first ++ others
+given_before : (own : Bool) (answer : Result Answer Refusal) (buf : List ℕ) (first others : List (List ℕ)) →
+    given_by own answer buf (first ++ others) ≡ given_by own answer buf first ++ others
 given_before true (Ok (answers.Bytes count)) buf first others = refl
 given_before true (Ok answer) buf first others = refl
 given_before true (Err refusal) buf first others = refl
@@ -57,7 +58,8 @@ one_more es e piece is =
     ∙ concat-append (given_to 0 es) (piece ∷ []) ∙ ap (λ (x : List ℕ). concat (given_to 0 es) ++ x) (append-nil piece)
 
 -- the last of the reads says how they ended
-ends_giving : (es : List Event) (e : Event) (result : Result Unit Ending) → AllByRecursion (λ x. IsGiven x.answer) es → EndsGiving (e ∷ []) result → EndsGiving (es ++ e ∷ []) result
+ends_giving : (es : List Event) (e : Event) (result : Result Unit Ending) → AllByRecursion (λ x. IsGiven x.answer) es → EndsGiving (e ∷ []) result →
+    EndsGiving (es ++ e ∷ []) result
 ends_giving [] e result given ends = ends
 ends_giving (f ∷ []) e result given ends = (given.0, ends)
 ends_giving (f ∷ g ∷ gs) e result given ends = (given.0, ends_giving (g ∷ gs) e result given.1 ends)
@@ -126,7 +128,8 @@ module _ (C : Type 0) (state : C → CoreState) (name : List ℕ) (old : C) (sin
     steps answer step = steps_of (state now) (state new) (read answer) so_far.runs step
 
     -- it was the last
-    given_out : (answer : Result Answer Refusal) (result : Result Unit Ending) (sink_new : SinkView) → CoreStep (state now) (read answer) (state new) → EndsGiving (read answer ∷ []) result
+    given_out : (answer : Result Answer Refusal) (result : Result Unit Ending) (sink_new : SinkView) → CoreStep (state now) (read answer) (state new) →
+        EndsGiving (read answer ∷ []) result
         → WroteGiven result (concat (given_to 0 (so_far.reads ++ read answer ∷ []))) sink sink_new
         → WroteLast result (given_to 0 (so_far.reads ++ read answer ∷ [])) sink sink_new → GiveRun C state name result old new sink sink_new
     given_out answer result sink_new step ends wrote last = inr (record {
@@ -142,10 +145,12 @@ module _ (C : Type 0) (state : C → CoreState) (name : List ℕ) (old : C) (sin
       wrote_last = last;
     })
 
-    still_wrote : (answer : Result Answer Refusal) → given_to 0 (read answer ∷ []) ≡ [] → Appended sink.written sink_now.written (concat (given_to 0 (so_far.reads ++ read answer ∷ [])))
+    still_wrote : (answer : Result Answer Refusal) → given_to 0 (read answer ∷ []) ≡ [] →
+        Appended sink.written sink_now.written (concat (given_to 0 (so_far.reads ++ read answer ∷ [])))
     still_wrote answer none = subst (λ (b : List ℕ). Appended sink.written sink_now.written b) (sym (nothing_more so_far.reads (read answer) none)) so_far.wrote
 
-    pub read_refused : (refusal : Refusal) (result : Result Unit Ending) → IsErrAnd result (λ e. e ≡ endings.Refused refusal) → Reads (Err refusal) → GiveRun C state name result old new sink sink_now
+    pub read_refused : (refusal : Refusal) (result : Result Unit Ending) → IsErrAnd result (λ e. e ≡ endings.Refused refusal) → Reads (Err refusal) →
+        GiveRun C state name result old new sink sink_now
     read_refused refusal result is step =
         by_error (λ r. GiveRun C state name r old new sink sink_now) result (endings.Refused refusal) is
         (given_out (Err refusal) (Err (endings.Refused refusal)) sink_now (by_own (Err refusal) step) refl (still_wrote (Err refusal) refl, so_far.faults_are) tt)
@@ -175,7 +180,8 @@ module _ (C : Type 0) (state : C → CoreState) (name : List ℕ) (old : C) (sin
       not_written : (sink_new : SinkView) → AppendedPart sink_now.written sink_new.written piece → Rose sink_now.faults sink_new.faults
           → GiveRun C state name (Err endings.Sink) old new sink sink_new
       not_written sink_new part rose = given_out (Ok (answers.Bytes count)) (Err endings.Sink) sink_new step tt (
-        subst (λ (b : List ℕ). AppendedPart sink.written sink_new.written b) (sym all_is) (written_part sink.written sink_now.written sink_new.written bytes piece so_far.wrote part),
+        subst (λ (b : List ℕ). AppendedPart sink.written sink_new.written b) (sym all_is)
+            (written_part sink.written sink_now.written sink_new.written bytes piece so_far.wrote part),
         subst (λ (n : ℕ). Rose n sink_new.faults) so_far.faults_are rose,
       ) (
         given_to 0 so_far.reads,
@@ -185,7 +191,11 @@ module _ (C : Type 0) (state : C → CoreState) (name : List ℕ) (old : C) (sin
             given_on so_far.reads (read (Ok (answers.Bytes count)) ∷ []),
             (
               take part.count piece,
-              ((drop part.count piece, sym (take-append-drop part.count piece)), written_on sink.written sink_now.written sink_new.written bytes (take part.count piece) so_far.wrote part.is),
+              (
+                (drop part.count piece, sym (take-append-drop part.count piece)),
+                written_on sink.written sink_now.written sink_new.written bytes (take part.count piece)
+                    so_far.wrote part.is,
+              ),
             ),
           ),
         ),
@@ -204,14 +214,16 @@ module _ (C : Type 0) (state : C → CoreState) (name : List ℕ) (old : C) (sin
             ran = run_on C state so_far.reads (read (Ok (answers.Bytes count)) ∷ []) so_far.mid now new so_far.ran (new, (step, refl));
             each = all_on IsRead so_far.reads (read (Ok (answers.Bytes count)) ∷ []) so_far.each ((refl, refl), tt);
             given = all_on (λ e. IsGiven e.answer) so_far.reads (read (Ok (answers.Bytes count)) ∷ []) so_far.given (tt, tt);
-            wrote = subst (λ (b : List ℕ). Appended sink.written sink_new.written b) (sym all_is) (written_on sink.written sink_now.written sink_new.written bytes piece so_far.wrote wrote);
+            wrote = subst (λ (b : List ℕ). Appended sink.written sink_new.written b) (sym all_is)
+                (written_on sink.written sink_now.written sink_new.written bytes piece so_far.wrote wrote);
             faults_are = faults ∙ so_far.faults_are;
             up = up_of (state new) stops running;
             runs = stops;
           }
 
       -- it was written, or not
-      module _ {T E : Type 0} (sink_new : SinkView) (result : Result T E) (bytes_are : List ℕ) (same : bytes_are ≡ buf) (sends : Sends (take count bytes_are) result sink_now sink_new) where
+      module _ {T E : Type 0} (sink_new : SinkView) (result : Result T E) (bytes_are : List ℕ) (same : bytes_are ≡ buf)
+          (sends : Sends (take count bytes_are) result sink_now sink_new) where
         same_piece : take count bytes_are ≡ piece
         same_piece = ap (λ (b : List ℕ). take count b) same
 
@@ -230,5 +242,12 @@ module _ (C : Type 0) (state : C → CoreState) (name : List ℕ) (old : C) (sin
       fewer =
           let on = row.next.goes_on in
           let before : bytes_to_come (state now) ≡ bytes_ahead row.next.was = ap bytes_of_part on.part_is in
-          let after : bytes_to_come (state new) ≡ bytes_ahead row.next.rest = ap bytes_of_part (first_part (state now) (state new) (reading on.root row.next.rest) so_far.up on.parts_are) in
-          omega (arith, before, after, given_bytes (WasRead (state now).known (state now).disk (state new).disk) row.next.was row.next.rest count piece row.next.given, row.next.given.read.some)
+          let after : bytes_to_come (state new) ≡ bytes_ahead row.next.rest =
+          ap bytes_of_part (first_part (state now) (state new) (reading on.root row.next.rest) so_far.up on.parts_are) in
+          omega (
+            arith,
+            before,
+            after,
+            given_bytes (WasRead (state now).known (state now).disk (state new).disk) row.next.was row.next.rest count piece row.next.given,
+            row.next.given.read.some,
+          )

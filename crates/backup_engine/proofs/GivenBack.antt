@@ -55,7 +55,8 @@ module _ (C : Type 0) (state : C → CoreState) (S : List ℕ → Type 0) where
 
 -- ---- over a map
 
-module _ (C : Type 0) (state : C → CoreState) (v w : DiskView) (old new : C) (was : Called C state v w old new) (name : List ℕ) (source : SourceView) (sink sink_now : SinkView) (result : Result Unit Ending) (out : IsGivenOut C state name result old new sink sink_now) where
+module _ (C : Type 0) (state : C → CoreState) (v w : DiskView) (old new : C) (was : Called C state v w old new) (name : List ℕ) (source : SourceView) (sink sink_now : SinkView)
+    (result : Result Unit Ending) (out : IsGivenOut C state name result old new sink sink_now) where
   abbrev opening : FileEvent
   opening = record { event = opens 0 name out.count out.buf; bytes = [] }
 
@@ -76,12 +77,14 @@ module _ (C : Type 0) (state : C → CoreState) (v w : DiskView) (old new : C) (
       let filed : finite.get m.files name ≡ Some bytes = finds.1.0 in
       let reads = subst (ReadsAlone 0) (sym (same_events out.reads)) (alone C state v w old new was name source sink sink_now result out) in
       let last = way C state v w old new was name source sink sink_now result out in
-      let gives = gives_the_file C state among 0 name bytes out.count out.buf (as_files out.reads) start.store m old out.mid new distinct start.is_at filed (some_actors C state v w old new was name source sink sink_now)
+      let gives = gives_the_file C state among 0 name bytes out.count out.buf (as_files out.reads) start.store m old out.mid new distinct start.is_at filed
+      (some_actors C state v w old new was name source sink sink_now)
       out.opened (file_run C state (IsIn among) out.reads out.mid new out.each out.ran) reads (last_leaves C state result out.mid new last).runs in
       let order = subst (λ (es : List Event). GivesInOrder 0 es (segments_of bytes)) (same_events out.reads) gives.1 in
       let part = gave out.reads result (segments_of bytes) out.each out.ends order in
       record {
-        by_map = by_map (IsIn among) m image ((of_call C state v w old new was name source sink sink_now result out).only.content_is ∙ known) is (ap is_some filed) result last.event part.rest last.ends part.left;
+        by_map = by_map (IsIn among) m image ((of_call C state v w old new was name source sink sink_now result out).only.content_is ∙ known) is (ap is_some filed) result
+            last.event part.rest last.ends part.left;
         wrote = subst (λ (file : Option (List ℕ)). WroteFile file (ending_in result) sink sink_now) (sym filed)
             (wrote_file (given_to 0 out.reads) (segments_of bytes) bytes (segments_of-laws bytes).together sink sink_now result part out.wrote);
       }
@@ -100,7 +103,8 @@ module _ (C : Type 0) (state : C → CoreState) (v w : DiskView) (old new : C) (
       }
 
 -- What a `restore` keeps, from the steps that it made of a core that was opened.
-pub gives : (C : Type 0) (state : C → CoreState) (v w : DiskView) (old new : C) → Called C state v w old new → (name : List ℕ) (result : Result Unit Ending) (sink sink_now : SinkView)
+pub gives : (C : Type 0) (state : C → CoreState) (v w : DiskView) (old new : C) → Called C state v w old new →
+    (name : List ℕ) (result : Result Unit Ending) (sink sink_now : SinkView)
     → GiveRun C state name result old new sink sink_now → (source : SourceView) → Keeps (Restore name) [] (ending_in result) v w source source sink sink_now
 gives C state v w old new was name result sink sink_now (inl not) source = not_opened C state v w old new was name result source sink sink_now not
 gives C state v w old new was name result sink sink_now (inr out) source = given_out C state v w old new was name source sink sink_now result out

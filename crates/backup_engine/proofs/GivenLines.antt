@@ -56,7 +56,8 @@ own : (e : Event) (others : List (List ℕ)) → e.actor ≡ 0 → given_by (e.a
 own e others is = ap (λ (a : ℕ). given_by (a == 0) e.answer e.buf others) is
 
 -- one segment more before them
-more_ends : (result : Result Unit Ending) (segments : List (List ℕ)) (last : Replied) (given : List (List ℕ)) (bytes : List ℕ) → EndsBy result segments last given → EndsBy result (bytes ∷ segments) last (bytes ∷ given)
+more_ends : (result : Result Unit Ending) (segments : List (List ℕ)) (last : Replied) (given : List (List ℕ)) (bytes : List ℕ) → EndsBy result segments last given →
+    EndsBy result (bytes ∷ segments) last (bytes ∷ given)
 more_ends (Ok u) segments last given bytes ends = (ends.0, ap (λ (l : List (List ℕ)). bytes ∷ l) ends.1)
 more_ends (Err (endings.Refused refusal)) segments last given bytes ends = (ends.0, ap (λ (l : List (List ℕ)). bytes ∷ l) ends.1)
 more_ends (Err endings.Sink) segments last given bytes ends = (ends.0, (ends.1.0, ap (λ (l : List (List ℕ)). bytes ∷ l) ends.1.1))
@@ -72,14 +73,17 @@ module _ (C : Type 0) (state : C → CoreState) where
   read_first : (e : Event) (old new : C) → IsRead e → CoreStep (state old) e (state new) → CoreStep (state old) (by_first asked.ReadNext e.answer e.buf) (state new)
   read_first e old new is step = as_first (state old) (state new) e.actor e.step asked.ReadNext e.answer e.buf is.0 is.1 step
 
-  answered : (e : Event) (answer : Result Answer Refusal) (old new : C) → IsRead e → e.answer ≡ answer → CoreStep (state old) e (state new) → CoreStep (state old) (by_first asked.ReadNext answer e.buf) (state new)
-  answered e answer old new is same step = subst (λ (a : Result Answer Refusal). CoreStep (state old) (by_first asked.ReadNext a e.buf) (state new)) same (read_first e old new is step)
+  answered : (e : Event) (answer : Result Answer Refusal) (old new : C) → IsRead e → e.answer ≡ answer → CoreStep (state old) e (state new) →
+      CoreStep (state old) (by_first asked.ReadNext answer e.buf) (state new)
+  answered e answer old new is same step = subst (λ (a : Result Answer Refusal). CoreStep (state old) (by_first asked.ReadNext a e.buf) (state new)) same
+      (read_first e old new is step)
 
   bytes_line : (old new : C) (count : ℕ) (buf : List ℕ) → Takes (state old) → CoreStep (state old) (by_first asked.ReadNext (Ok (answers.Bytes count)) buf) (state new)
       → RunsLine C state (lines.Next 0) (replies.Bytes 0 (take count buf)) (idle old) (idle new)
   bytes_line old new count buf takes step = inl (admits_next old takes, (refl, (count, (buf, (refl, (step, refl))))))
 
-  end_line : (old new : C) (buf : List ℕ) → Takes (state old) → CoreStep (state old) (by_first asked.ReadNext (Ok answers.End) buf) (state new) → RunsLine C state (lines.Next 0) (replies.End 0) (idle old) (idle new)
+  end_line : (old new : C) (buf : List ℕ) → Takes (state old) → CoreStep (state old) (by_first asked.ReadNext (Ok answers.End) buf) (state new) →
+      RunsLine C state (lines.Next 0) (replies.End 0) (idle old) (idle new)
   end_line old new buf takes step = inl (admits_next old takes, (refl, (buf, (step, refl))))
 
   refused_line : (old new : C) (buf : List ℕ) (refusal : Refusal) → Takes (state old) → CoreStep (state old) (by_first asked.ReadNext (Err refusal) buf) (state new)
@@ -118,7 +122,8 @@ module _ (C : Type 0) (state : C → CoreState) where
     sink_failed (Ok (answers.Bytes count)) same given = record {
       segments = [];
       last = said (lines.Next 0) (replies.Bytes 0 (take count e.buf));
-      runs = line_then C state (said (lines.Next 0) (replies.Bytes 0 (take count e.buf))) [] (idle old) (idle new) (idle new) refl (bytes_line old new count e.buf takes (answered e (Ok (answers.Bytes count)) old new is same step)) refl;
+      runs = line_then C state (said (lines.Next 0) (replies.Bytes 0 (take count e.buf))) [] (idle old) (idle new) (idle new) refl
+          (bytes_line old new count e.buf takes (answered e (Ok (answers.Bytes count)) old new is same step)) refl;
       ends = (take count e.buf, (refl, given_as (Ok (answers.Bytes count)) same));
     }
     sink_failed answer same given = absurd given
@@ -127,34 +132,41 @@ module _ (C : Type 0) (state : C → CoreState) where
     last_read (Ok u) ends = record {
       segments = [];
       last = said (lines.Next 0) (replies.End 0);
-      runs = line_then C state (said (lines.Next 0) (replies.End 0)) [] (idle old) (idle new) (idle new) refl (end_line old new e.buf takes (answered e (Ok answers.End) old new is ends step)) refl;
+      runs = line_then C state (said (lines.Next 0) (replies.End 0)) [] (idle old) (idle new) (idle new) refl
+          (end_line old new e.buf takes (answered e (Ok answers.End) old new is ends step)) refl;
       ends = (refl, given_as (Ok answers.End) ends);
     }
     last_read (Err (endings.Refused refusal)) ends = record {
       segments = [];
       last = refused (lines.Next 0) refusal;
-      runs = line_then C state (refused (lines.Next 0) refusal) [] (idle old) (idle new) (idle new) refl (refused_line old new e.buf refusal takes (answered e (Err refusal) old new is ends step)) refl;
+      runs = line_then C state (refused (lines.Next 0) refusal) [] (idle old) (idle new) (idle new) refl
+          (refused_line old new e.buf refusal takes (answered e (Err refusal) old new is ends step)) refl;
       ends = (refl, given_as (Err refusal) ends);
     }
     last_read (Err endings.Sink) ends = sink_failed e.answer refl ends
     last_read (Err ending) ends = absurd ends
 
     -- and another one
-    read_then : (result : Result Unit Ending) (others : List Event) (end : C) (answer : Result Answer Refusal) → e.answer ≡ answer → IsGiven answer → (Takes (state new) → SaysReads result others new end) → SaysReads result (e ∷ others) old end
+    read_then : (result : Result Unit Ending) (others : List Event) (end : C) (answer : Result Answer Refusal) → e.answer ≡ answer → IsGiven answer →
+        (Takes (state new) → SaysReads result others new end) → SaysReads result (e ∷ others) old end
     read_then result others end (Ok (answers.Bytes count)) same given on =
         let rest = on (still_takes e count old new is same takes step) in
         let bytes = take count e.buf in
         let one = said (lines.Next 0) (replies.Bytes 0 bytes) in
-        let all : given_to 0 (e ∷ others) ≡ bytes ∷ given_to 0 others = own e (given_to 0 others) is.0 ∙ ap (λ (a : Result Answer Refusal). given_by true a e.buf (given_to 0 others)) same in
+        let all : given_to 0 (e ∷ others) ≡ bytes ∷ given_to 0 others = own e (given_to 0 others) is.0
+        ∙ ap (λ (a : Result Answer Refusal). given_by true a e.buf (given_to 0 others)) same in
         record {
           segments = bytes ∷ rest.segments;
           last = rest.last;
-          runs = line_then C state one (next_lines rest.segments ++ rest.last ∷ []) (idle old) (idle new) (idle end) refl (bytes_line old new count e.buf takes (answered e (Ok (answers.Bytes count)) old new is same step)) rest.runs;
-          ends = subst (λ (given : List (List ℕ)). EndsBy result (bytes ∷ rest.segments) rest.last given) (sym all) (more_ends result rest.segments rest.last (given_to 0 others) bytes rest.ends);
+          runs = line_then C state one (next_lines rest.segments ++ rest.last ∷ []) (idle old) (idle new) (idle end) refl
+              (bytes_line old new count e.buf takes (answered e (Ok (answers.Bytes count)) old new is same step)) rest.runs;
+          ends = subst (λ (given : List (List ℕ)). EndsBy result (bytes ∷ rest.segments) rest.last given) (sym all)
+              (more_ends result rest.segments rest.last (given_to 0 others) bytes rest.ends);
         }
     read_then result others end answer same given on = absurd given
 
-  all_reads : (reads : List Event) (result : Result Unit Ending) (old new : C) → Takes (state old) → CoreRun C state reads old new → AllByRecursion IsRead reads → EndsGiving reads result → SaysReads result reads old new
+  all_reads : (reads : List Event) (result : Result Unit Ending) (old new : C) → Takes (state old) → CoreRun C state reads old new → AllByRecursion IsRead reads →
+      EndsGiving reads result → SaysReads result reads old new
   all_reads [] result old new takes ran each ends = absurd ends
   all_reads (e ∷ []) result old new takes ran each ends =
       subst (λ (c : C). SaysReads result (e ∷ []) old c) (sym ran.1.1) (last_read e old ran.0 each.0 takes ran.1.0 result ends)
@@ -183,7 +195,8 @@ module _ (C : Type 0) (state : C → CoreState) where
     one count = said (lines.Read 0 name) (replies.Reading 0 count)
 
     -- what was written is what the segments have
-    wrote_as : (result : Result Unit Ending) (count : ℕ) (segments : List (List ℕ)) (last : Replied) (given : List (List ℕ)) (sink sink_now : SinkView) → EndsBy result segments last given → WroteGiven result (concat given) sink sink_now
+    wrote_as : (result : Result Unit Ending) (count : ℕ) (segments : List (List ℕ)) (last : Replied) (given : List (List ℕ)) (sink sink_now : SinkView) →
+        EndsBy result segments last given → WroteGiven result (concat given) sink sink_now
         → WroteLast result given sink sink_now → IsRestore name (ending_in result) sink sink_now (one count ∷ next_lines segments ++ last ∷ [])
     wrote_as (Ok u) count segments last given sink sink_now ends wrote up_to = (
       segments,
@@ -220,7 +233,8 @@ module _ (C : Type 0) (state : C → CoreState) where
     wrote_as (Err ending) count segments last given sink sink_now ends wrote up_to = absurd ends
 
     module _ (new : C) (sink sink_now : SinkView) where
-      not_opened : (result : Result Unit Ending) → IsNotOpened C state name result old new sink sink_now → RunsSingle C state (IsRestore name (ending_in result) sink sink_now) old new
+      not_opened : (result : Result Unit Ending) → IsNotOpened C state name result old new sink sink_now → RunsSingle C state (IsRestore name (ending_in result) sink sink_now) old
+          new
       not_opened result is =
           let line = refused (lines.Read 0 name) is.refusal in
           subst (λ (r : Result Unit Ending). RunsSingle C state (IsRestore name (ending_in r) sink sink_now) old new) (sym is.result_is) (
@@ -234,7 +248,8 @@ module _ (C : Type 0) (state : C → CoreState) where
             ),
           )
 
-      given_out : (result : Result Unit Ending) → IsGivenOut C state name result old new sink sink_now → RunsSingle C state (IsRestore name (ending_in result) sink sink_now) old new
+      given_out : (result : Result Unit Ending) → IsGivenOut C state name result old new sink sink_now → RunsSingle C state (IsRestore name (ending_in result) sink sink_now) old
+          new
       given_out result g =
           let says = all_reads g.reads result g.mid new (opened_takes g.mid g.count g.buf g.opened) g.ran g.each g.ends in
           let more = next_lines says.segments ++ says.last ∷ [] in (
@@ -248,6 +263,7 @@ module _ (C : Type 0) (state : C → CoreState) where
             ),
           )
 
-      pub given_lines : (result : Result Unit Ending) → GiveRun C state name result old new sink sink_now → RunsSingle C state (IsRestore name (ending_in result) sink sink_now) old new
+      pub given_lines : (result : Result Unit Ending) → GiveRun C state name result old new sink sink_now →
+          RunsSingle C state (IsRestore name (ending_in result) sink sink_now) old new
       given_lines result (inl is) = not_opened result is
       given_lines result (inr g) = given_out result g

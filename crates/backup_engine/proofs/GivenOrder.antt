@@ -31,14 +31,16 @@ pub record GaveOf (result : Result Unit Ending) (given segments : List (List ℕ
   pub parts : segments ≡ given ++ rest
   pub left : IsLeftBy result rest
 
-own_gives : (e : Event) (segments : List (List ℕ)) (next : List (List ℕ) → Type 0) → e.actor ≡ 0 → GivesOne (e.actor == 0) e.answer e.buf segments next → GivesOne true e.answer e.buf segments next
+own_gives : (e : Event) (segments : List (List ℕ)) (next : List (List ℕ) → Type 0) → e.actor ≡ 0 → GivesOne (e.actor == 0) e.answer e.buf segments next →
+    GivesOne true e.answer e.buf segments next
 own_gives e segments next is gives = subst (λ (a : ℕ). GivesOne (a == 0) e.answer e.buf segments next) is gives
 
 own_given : (e : Event) (others : List (List ℕ)) → e.actor ≡ 0 → given_by (e.actor == 0) e.answer e.buf others ≡ given_by true e.answer e.buf others
 own_given e others is = ap (λ (a : ℕ). given_by (a == 0) e.answer e.buf others) is
 
 -- a segment was given, and then others
-gave_one : (result : Result Unit Ending) (answer : Result Answer Refusal) (buf : List ℕ) (given segments : List (List ℕ)) (next : List (List ℕ) → Type 0) → IsGiven answer → GivesOne true answer buf segments next
+gave_one : (result : Result Unit Ending) (answer : Result Answer Refusal) (buf : List ℕ) (given segments : List (List ℕ)) (next : List (List ℕ) → Type 0) → IsGiven answer →
+    GivesOne true answer buf segments next
     → ((rest : List (List ℕ)) → next rest → GaveOf result given rest) → GaveOf result (given_by true answer buf given) segments
 gave_one result (Ok (answers.Bytes count)) buf given segments next is gives on =
     let others = on gives.0 gives.1.1 in
@@ -50,7 +52,8 @@ refused_read DiskRead buf segments next gives = refl
 refused_read refusal buf segments next gives = absurd gives
 
 -- the last of them
-gave_last : (result : Result Unit Ending) (e : Event) (segments : List (List ℕ)) (next : List (List ℕ) → Type 0) → EndsGiving (e ∷ []) result → GivesOne true e.answer e.buf segments next
+gave_last : (result : Result Unit Ending) (e : Event) (segments : List (List ℕ)) (next : List (List ℕ) → Type 0) → EndsGiving (e ∷ []) result →
+    GivesOne true e.answer e.buf segments next
     → GaveOf result (given_by true e.answer e.buf []) segments
 gave_last (Ok u) e segments next ends gives =
     let none : given_by true e.answer e.buf [] ≡ [] = ap (λ (a : Result Answer Refusal). given_by true a e.buf []) ends in
@@ -67,7 +70,8 @@ gave_last (Err endings.Sink) e segments next ends gives =
     gave_one (Err endings.Sink) e.answer e.buf [] segments next ends gives (λ rest others. record { rest = rest; parts = refl; left = tt })
 gave_last (Err ending) e segments next ends gives = absurd ends
 
-pub gave : (reads : List Event) (result : Result Unit Ending) (segments : List (List ℕ)) → AllByRecursion IsRead reads → EndsGiving reads result → GivesInOrder 0 reads segments → GaveOf result (given_to 0 reads) segments
+pub gave : (reads : List Event) (result : Result Unit Ending) (segments : List (List ℕ)) → AllByRecursion IsRead reads → EndsGiving reads result → GivesInOrder 0 reads segments →
+    GaveOf result (given_to 0 reads) segments
 gave [] result segments each ends gives = absurd ends
 gave (e ∷ []) result segments each ends gives =
     subst (λ (given : List (List ℕ)). GaveOf result given segments) (sym (own_given e [] each.0.0))
@@ -102,9 +106,11 @@ module _ (given segments : List (List ℕ)) (bytes : List ℕ) (together : conca
   some_written rest parts part =
       subst (λ (b : List ℕ). AppendedPart sink.written sink_now.written b) (all_given rest parts) (part_of_more sink.written sink_now.written (concat given) (concat rest) part)
 
-  pub wrote_file : (result : Result Unit Ending) → GaveOf result given segments → WroteGiven result (concat given) sink sink_now → WroteFile (Some bytes) (ending_in result) sink sink_now
+  pub wrote_file : (result : Result Unit Ending) → GaveOf result given segments → WroteGiven result (concat given) sink sink_now →
+      WroteFile (Some bytes) (ending_in result) sink sink_now
   wrote_file (Ok u) gave wrote =
-      let whole : concat given ≡ bytes = sym (append-nil (concat given)) ∙ ap (λ (rest : List (List ℕ)). concat given ++ concat rest) (sym gave.left) ∙ all_given gave.rest gave.parts in
+      let whole : concat given ≡ bytes = sym (append-nil (concat given)) ∙ ap (λ (rest : List (List ℕ)). concat given ++ concat rest) (sym gave.left)
+      ∙ all_given gave.rest gave.parts in
       subst (λ (b : List ℕ). Appended sink.written sink_now.written b) whole wrote.0
   wrote_file (Err endings.Sink) gave wrote = some_written gave.rest gave.parts wrote.0
   wrote_file (Err ending) gave wrote = some_written gave.rest gave.parts (all_is_part sink.written sink_now.written (concat given) wrote.0)

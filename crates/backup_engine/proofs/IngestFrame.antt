@@ -50,9 +50,11 @@ module _ (C : Type 0) (state : C → CoreState) (v w : DiskView) (old new : C) (
         let there = framed_way store base name bytes (state old).disk C state ways.way old ways.mid framed ways.ran ways.each in
         last_put store base encodes reserve (state old).disk name bytes ending may (state ways.mid) (state new) there ways.last
 
-    ended : (name bytes : List ℕ) (refusal : Refusal) (mid : C) → IsFramed store base (state old).disk (state mid) → EndsBy C state name bytes (Err refusal) mid new → Left name base (Some (Refused refusal))
+    ended : (name bytes : List ℕ) (refusal : Refusal) (mid : C) → IsFramed store base (state old).disk (state mid) → EndsBy C state name bytes (Err refusal) mid new →
+        Left name base (Some (Refused refusal))
     ended name bytes refusal mid there (inl none) =
-        framed_open store base encodes reserve (state old).disk name (state new) (Some (Refused refusal)) (subst (λ (c : C). IsFramed store base (state old).disk (state c)) (sym none.0) there)
+        framed_open store base encodes reserve (state old).disk name (state new) (Some (Refused refusal))
+        (subst (λ (c : C). IsFramed store base (state old).disk (state c)) (sym none.0) there)
     ended name bytes refusal mid there (inr last) = last_refused store base encodes reserve (state old).disk name bytes refusal (state mid) (state new) there last
 
     refused_left : (name bytes : List ℕ) (refusal : Refusal) → PutRun C state name bytes (Err refusal) old new → Left name base (Some (Refused refusal))
@@ -91,7 +93,8 @@ module _ (C : Type 0) (state : C → CoreState) (v w : DiskView) (old new : C) (
     source_changes source source_now (Refused TooLong) cause may = may
     source_changes source source_now ending cause may = absurd cause
 
-    taken_left : (name bytes : List ℕ) (put : Result Unit Refusal) → PutRun C state name bytes put old new → (reply : List ℕ) (result : Result Unit Ending) (sink sink_now : SinkView)
+    taken_left : (name bytes : List ℕ) (put : Result Unit Refusal) → PutRun C state name bytes put old new →
+        (reply : List ℕ) (result : Result Unit Ending) (sink sink_now : SinkView)
         → Replies reply put result sink sink_now → Left name base (ending_in result)
     taken_left name bytes (Ok u) run reply (Ok done) sink sink_now sent = put_left name bytes None tt run
     taken_left name bytes (Ok u) run reply (Err Sink) sink sink_now sent = put_left name bytes (Some Sink) tt run
@@ -103,7 +106,8 @@ module _ (C : Type 0) (state : C → CoreState) (v w : DiskView) (old new : C) (
   module _ (name : List ℕ) (ending : Option Ending) (left : (base : List ℕ) → v.content ≡ Some base → Left name base ending) where
     crashed : (base : List ℕ) → v.content ≡ Some base → IsLater (state old).disk (state new).disk → LeavesMeanwhile (KeepsRest (Ingest name) ending base) v w
     crashed base known later =
-        leaves_more (KeepsOpen name ending base) (KeepsRest (Ingest name) ending base) v w (λ c kept. inr kept) (leaves_of C state v w old new called (KeepsOpen name ending base) later (left base known).images)
+        leaves_more (KeepsOpen name ending base) (KeepsRest (Ingest name) ending base) v w (λ c kept. inr kept)
+        (leaves_of C state v w old new called (KeepsOpen name ending base) later (left base known).images)
 
     pub others_kept : IsLater (state old).disk (state new).disk → KeepsOthers (Ingest name) ending v w
     others_kept later = record {
@@ -118,7 +122,8 @@ pub ingest_frame : (C : Type 0) (state : C → CoreState) (v w : DiskView) (old 
 ingest_frame C state v w old new called name result source source_now sink sink_now run = elim run.way [
   | inl none ↦ others_kept C state v w old new called name (ending_in result)
       (λ base known. subst (λ (r : Result Unit Ending). Left C state v w old new called name base (ending_in r)) (sym none.result_is)
-      (stopped_left C state v w old new called base known name run.given (Some none.ending) (source_changes C state v w old new called base known source source_now none.ending none.cause) none.ran))
+      (stopped_left C state v w old new called base known name run.given (Some none.ending)
+      (source_changes C state v w old new called base known source source_now none.ending none.cause) none.ran))
       (run_later C state (events_of none.ran.steps) old new none.ran.ran)
   | inr taken ↦ others_kept C state v w old new called name (ending_in result)
       (λ base known. taken_left C state v w old new called base known name run.given taken.put taken.ran (stored_line name (root_of run.given)) result sink sink_now taken.replies)

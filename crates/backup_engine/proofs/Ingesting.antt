@@ -21,7 +21,8 @@ use Rattle.backup_engine.proofs.PutMaps.{refused_map, stopped_map, done_map}
 use Rattle.backup_engine.proofs.Replied.{wrote_sent}
 
 -- the count of the source's faults stays, but at a fault of it
-heard_in : (result : Result Unit Ending) (source source_now : SourceView) → IsHeard result source source_now → ¬ (ending_in result ≡ Some Source) → source_now.faults ≡ source.faults
+heard_in : (result : Result Unit Ending) (source source_now : SourceView) → IsHeard result source source_now → ¬ (ending_in result ≡ Some Source) →
+    source_now.faults ≡ source.faults
 heard_in (Ok u) source source_now heard other = heard
 heard_in (Err Source) source source_now heard other = absurd (other refl)
 heard_in (Err ending) source source_now heard other = heard
@@ -42,14 +43,16 @@ module _ (C : Type 0) (state : C → CoreState) (v w : DiskView) (old new : C) (
         (subst (λ (k : SinkView). KeepsEachMap (Ingest name) given (Some (Refused refusal)) v w sink k) (sym replies.1)
         (refused_map C state v w old new called name given refusal ran sink refused))
 
-    unput_map : (result : Result Unit Ending) (source source_now : SourceView) → IsStopped C state name given result old new source source_now sink sink_now → KeepsEachMap (Ingest name) given (ending_in result) v w sink sink_now
+    unput_map : (result : Result Unit Ending) (source source_now : SourceView) → IsStopped C state name given result old new source source_now sink sink_now →
+        KeepsEachMap (Ingest name) given (ending_in result) v w sink sink_now
     unput_map result source source_now none =
         subst (λ (r : Result Unit Ending). KeepsEachMap (Ingest name) given (ending_in r) v w sink sink_now) (sym none.result_is)
         (subst (λ (k : SinkView). KeepsEachMap (Ingest name) given (Some none.ending) v w sink k) (sym none.sink_is)
         (stopped_map C state v w old new called name given source source_now none.ran sink none.ending none.cause none.long))
 
   -- what the source gave was stored, or not
-  pub ingest_keeps : (result : Result Unit Ending) (source source_now : SourceView) (sink sink_now : SinkView) (run : IngestRun C state name result old new source source_now sink sink_now)
+  pub ingest_keeps : (result : Result Unit Ending) (source source_now : SourceView) (sink sink_now : SinkView)
+      (run : IngestRun C state name result old new source source_now sink sink_now)
       → Keeps (Ingest name) run.given (ending_in result) v w source source_now sink sink_now
   ingest_keeps result source source_now sink sink_now run = record {
     map = elim run.way [

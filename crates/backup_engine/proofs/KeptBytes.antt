@@ -68,7 +68,8 @@ pub free_held : (base : List ℕ) (store : Store) → Encodes base store → IsF
 free_held base store right = record { slots_are = refl; rest_is = refl; free = closed_held 0 store.held base right.slots_are }
 
 -- and so it is of a store with more containers
-pub free_sealed : (first : Store) (base : List ℕ) (changes : List StoreChange) (s t : Store) → ChangesTo changes s t → AllByRecursion IsSeal changes → IsFreeIn first base s → IsFreeIn first base t
+pub free_sealed : (first : Store) (base : List ℕ) (changes : List StoreChange) (s t : Store) → ChangesTo changes s t → AllByRecursion IsSeal changes → IsFreeIn first base s →
+    IsFreeIn first base t
 free_sealed first base [] s t chain seals free = subst (IsFreeIn first base) (sym chain) free
 free_sealed first base (SealContainer id kind segments ∷ changes) s t chain seals free =
     free_sealed first base changes (changed (SealContainer id kind segments) s) t chain.1 seals.1 (record {
@@ -106,7 +107,8 @@ module _ (first store : Store) (is : store ≡ record first { held = store.held 
       subst (λ (s : Store). HasJournal (with_change name change s) image) (sym is) (record { holds = has.holds; other = has.other })
 
 -- its first free slot is closed there
-pub first_is_shut : (first : Store) (base : List ℕ) (store : Store) → IsFreeIn first base store → first_free store.held < length store.held → byte_at (slot_at (first_free store.held)) base ≢ CONTAINER_GATE
+pub first_is_shut : (first : Store) (base : List ℕ) (store : Store) → IsFreeIn first base store → first_free store.held < length store.held →
+    byte_at (slot_at (first_free store.held)) base ≢ CONTAINER_GATE
 first_is_shut first base store free within = first_shut (first_free store.held) 0 store.held base (omega arith) within free.free
 
 -- ---- what stays
@@ -137,7 +139,8 @@ module _ (slots : ℕ) (base old : List ℕ) (keeps : KeepsSlots slots base old)
     containers = λ other within opened. other_slot other within opened ∙ keeps.containers other within opened;
   }
     where
-      below_or : (other : ℕ) (below : Bool) → nat_lt other slot ≡ below → other < slots → (other ≡ slot → ⊥) → range (slot_at other) SLOT_BYTES new ≡ range (slot_at other) SLOT_BYTES old
+      below_or : (other : ℕ) (below : Bool) → nat_lt other slot ≡ below → other < slots → (other ≡ slot → ⊥) →
+          range (slot_at other) SLOT_BYTES new ≡ range (slot_at other) SLOT_BYTES old
       below_or other true is within differ = same.before (slot_at other) SLOT_BYTES (omega (arith, ltb-true other slot is))
       below_or other false is within differ =
           same.after (slot_at other) SLOT_BYTES (omega (arith, ltb-false other slot is, differ)) (omega (arith, within))
@@ -163,7 +166,8 @@ module _ (store : Store) (base : List ℕ) (right : Encodes base store) (reserve
   }
 
   -- and so it does where a record is written
-  module _ (journal : JournalValue) (half_is : journal.half ≡ store.selector.half) (count_is : journal.count ≡ length store.records) (new : List ℕ) (same : SameButRecord journal old new) where
+  module _ (journal : JournalValue) (half_is : journal.half ≡ store.selector.half) (count_is : journal.count ≡ length store.records) (new : List ℕ)
+      (same : SameButRecord journal old new) where
     low : journal.half ≤ 1
     low = omega (arith, half_is, right.journal.selector_is.0.half)
 
@@ -186,7 +190,8 @@ module _ (store : Store) (base : List ℕ) (right : Encodes base store) (reserve
       below_or h c true is differ = next.before (cell_at h c) CELL_BYTES (omega (arith, ltb-true (cell_at h c) (cell_at journal.half journal.count) is))
       below_or h c false is differ = next.after (cell_at h c) CELL_BYTES (omega (arith, ltb-false (cell_at h c) (cell_at journal.half journal.count) is, differ))
 
-      journal_next : (ending : Option Ending) → MayChange ending → SameJournal (λ half cell. MayChange ending × (half ≡ store.selector.half) × (cell ≡ length store.records)) base new
+      journal_next : (ending : Option Ending) → MayChange ending → SameJournal (λ half cell. MayChange ending × (half ≡ store.selector.half) × (cell ≡ length store.records)) base
+          new
       journal_next ending may = record {
         head = next.before 0 FIRST_HALF (omega arith) ∙ keeps.front 0 FIRST_HALF (omega arith);
         cells = λ h c low_too within_too other.

@@ -55,7 +55,8 @@ is_piece file seg has = (
 )
 
 -- what steps kept are pieces of the file
-kept_by_step : (name file : List ℕ) (step : StepValue) (answer : Result Answer Refusal) (put : List ℕ) → IsAskedFor name file step put → AllByRecursion (HasPieceOf file) (kept_by step answer)
+kept_by_step : (name file : List ℕ) (step : StepValue) (answer : Result Answer Refusal) (put : List ℕ) → IsAskedFor name file step put →
+    AllByRecursion (HasPieceOf file) (kept_by step answer)
 kept_by_step name file (asked.Claim seg) (Ok answers.Held) put has = (has, tt)
 kept_by_step name file (asked.Seal filled) (Ok (answers.Sealed id)) put has = all_map (HasPieceOf file) (of_kind filled.kind) filled.segments has
 kept_by_step name file step answer put has = tt
@@ -63,7 +64,8 @@ kept_by_step name file step answer put has = tt
 pub kept_pieces : (name file : List ℕ) (steps : List FileEvent) → AllByRecursion (IsPutStep name file) steps → AllByRecursion (HasPieceOf file) (kept_of steps)
 kept_pieces name file [] each = tt
 kept_pieces name file (f ∷ fs) each =
-    all_on (HasPieceOf file) (kept_by f.event.step f.event.answer) (kept_of fs) (kept_by_step name file f.event.step f.event.answer f.bytes each.0.asked_for) (kept_pieces name file fs each.1)
+    all_on (HasPieceOf file) (kept_by f.event.step f.event.answer) (kept_of fs) (kept_by_step name file f.event.step f.event.answer f.bytes each.0.asked_for)
+    (kept_pieces name file fs each.1)
 
 -- ---- pins
 
@@ -113,7 +115,8 @@ module _ (kept : List KindSegment) (seg : KindSegment) (pins : PinMap) where
       all_on (λ x. HasPin (key_of_seg x)) kept (seg ∷ []) (all_then (λ x. HasPinOf kept pins (key_of_seg x)) (λ x. HasPin (key_of_seg x)) kept (λ x. next_pin (key_of_seg x)) are)
       (last_pin (key_of_seg seg) refl, tt)
 
-pub pinned_all : (kind : Kind) (ss : List Segment) (kept : List KindSegment) (pins : PinMap) → ArePinned kept pins → ArePinned (kept ++ map (of_kind kind) ss) (with_pins kind ss pins)
+pub pinned_all : (kind : Kind) (ss : List Segment) (kept : List KindSegment) (pins : PinMap) → ArePinned kept pins →
+    ArePinned (kept ++ map (of_kind kind) ss) (with_pins kind ss pins)
 pinned_all kind [] kept pins are = subst (λ (l : List KindSegment). ArePinned l pins) (sym (append-nil kept)) are
 pinned_all kind (s ∷ ss) kept pins are =
     let more : PinMap = finite.insert pins (segment_key kind s) (pin_by kind s) in
@@ -129,10 +132,12 @@ first_same : (a b : ℕ) (xs ys : List ℕ) → a ∷ xs ≡ b ∷ ys → a ≡ 
 first_same a b xs ys is = cc
 
 -- two pieces of one key, of which the index has one length, are one, or two nodes
-two_pieces : (file : List ℕ) (p q : Piece) (places : PlaceMap) → IsPieceOf file p → IsPieceOf file q → piece_key p ≡ piece_key q → length_in places (piece_key p) ≡ Some (length (piece_bytes p))
+two_pieces : (file : List ℕ) (p q : Piece) (places : PlaceMap) → IsPieceOf file p → IsPieceOf file q → piece_key p ≡ piece_key q →
+    length_in places (piece_key p) ≡ Some (length (piece_bytes p))
     → length_in places (piece_key q) ≡ Some (length (piece_bytes q)) → pin_of (piece_segment p) ≢ pin_of (piece_segment q) → HasTwins file (piece_key p)
 two_pieces file (Data a) (Data b) places here there same long other_long differ =
-    absurd (differ (ap (λ (n : ℕ). let pin : Pin = record { level = 0; length = n } in pin) (same_length (length a) (length b) (sym long ∙ ap (length_in places) same ∙ other_long))))
+    absurd (differ (ap (λ (n : ℕ). let pin : Pin = record { level = 0; length = n } in pin)
+    (same_length (length a) (length b) (sym long ∙ ap (length_in places) same ∙ other_long))))
 two_pieces file (Data a) (Node m) places here there same long other_long differ = absurd (omega (arith, first_same 0 1 (sha256 a) (node_digest m) same))
 two_pieces file (Node n) (Data b) places here there same long other_long differ = absurd (omega (arith, first_same 1 0 (node_digest n) (sha256 b) same))
 two_pieces file (Node n) (Node m) places here there same long other_long differ =
@@ -166,7 +171,8 @@ module _ (file : List ℕ) (kept : List KindSegment) (pins : PinMap) (places : P
 
   child_twins : (c : KeyPin) → IsKeptChild kept c → has_pin pins c.key c.pin ≡ false → HasTwins file c.key
   child_twins c has unpinned =
-      subst (HasTwins file) has.2 (twins has.0 has.1 (ap (λ (pin : Pin). has_pin pins (key_of_seg has.0) pin) has.3 ∙ ap (λ (key : List ℕ). has_pin pins key c.pin) has.2 ∙ unpinned))
+      subst (HasTwins file) has.2 (twins has.0 has.1 (ap (λ (pin : Pin). has_pin pins (key_of_seg has.0) pin) has.3 ∙ ap (λ (key : List ℕ). has_pin pins key c.pin) has.2
+      ∙ unpinned))
 
   some_key : (a b : List ℕ) → Some a ≡ Some b → a ≡ b
   some_key a b is = cc
@@ -181,7 +187,8 @@ module _ (file : List ℕ) (kept : List KindSegment) (pins : PinMap) (places : P
       by_test false other further =
           subst (HasTwins file) (some_key c.key key (sym (ap (λ (b : Bool). if b then first_not_in pins cs else Some c.key) other) ∙ is)) (child_twins c all.0 other)
 
-  pub all_unpinned_twins : (kind : Kind) (ss : List Segment) (key : List ℕ) → AllByRecursion (λ s. AllByRecursion (IsKeptChild kept) (children_by kind s)) ss → first_unpinned_of kind ss pins ≡ Some key → HasTwins file key
+  pub all_unpinned_twins : (kind : Kind) (ss : List Segment) (key : List ℕ) → AllByRecursion (λ s. AllByRecursion (IsKeptChild kept) (children_by kind s)) ss →
+      first_unpinned_of kind ss pins ≡ Some key → HasTwins file key
   all_unpinned_twins kind [] key all is = absurd cc
   all_unpinned_twins kind (s ∷ ss) key all is = by_child (first_not_in pins (children_by kind s)) refl (λ more. all_unpinned_twins kind ss key all.1 more)
     where

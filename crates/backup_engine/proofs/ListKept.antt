@@ -62,7 +62,8 @@ none_bars m (IsStopped at) runs bars = absurd (let both = sym runs ∙ bars.0.2 
 none_bars m (WrongPart kind) runs bars = absurd (let none = bars.1.1 in cc)
 none_bars m refusal runs bars = absurd bars
 
-list_made : (reply : ReplyValue) (m : FileMachine) (steps : List (Stepped (List ℕ))) (e : FileDesk) → m.state ≡ Running → Line of_files lines.ListNames reply steps (desk m) e → MadeOne machine_asked.ListNames reply m e.machine steps
+list_made : (reply : ReplyValue) (m : FileMachine) (steps : List (Stepped (List ℕ))) (e : FileDesk) → m.state ≡ Running → Line of_files lines.ListNames reply steps (desk m) e →
+    MadeOne machine_asked.ListNames reply m e.machine steps
 list_made reply m steps e runs line = elim line.1 [
   | inl taken ↦
       let acts = taken.1 in
@@ -71,11 +72,13 @@ list_made reply m steps e runs line = elim line.1 [
   | inr barred ↦ absurd (none_bars m barred.0 runs barred.1)
 ]
 
-module _ (S : List ℕ → Type 0) (files : List NamedRoot) (m : Stored) (image : List ℕ) (v w : DiskView) (told : v.content ≡ Some image) (one : OneStep S lines.ListNames (replies.Listed files) m image v w) where
+module _ (S : List ℕ → Type 0) (files : List NamedRoot) (m : Stored) (image : List ℕ) (v w : DiskView) (told : v.content ≡ Some image)
+    (one : OneStep S lines.ListNames (replies.Listed files) m image v w) where
   abbrev made_list : MadeOne machine_asked.ListNames (replies.Listed files) one.opened one.last.machine one.steps
   made_list = list_made (replies.Listed files) one.opened one.steps one.last one.runs one.line_is
 
-  lists_so : (actor : ℕ) (answer : Result Done Refusal) → replies.Listed files ≡ reply_of actor answer → machine.Answers of_files actor machine_asked.ListNames answer one.opened one.last.machine
+  lists_so : (actor : ℕ) (answer : Result Done Refusal) → replies.Listed files ≡ reply_of actor answer → machine.Answers of_files actor machine_asked.ListNames answer one.opened
+      one.last.machine
       → (files ≡ listing of_files one.opened.now) × (one.last.machine ≡ one.opened)
   lists_so actor (Ok (done.Listed names)) is does = let same : files ≡ names = cc in (same ∙ does.0, does.1)
   lists_so actor (Ok answer) is does = absurd does
@@ -93,21 +96,27 @@ module _ (S : List ℕ → Type 0) (files : List NamedRoot) (m : Stored) (image 
   adds : (store : Store) → Encodes image store → IsStore store w.content
   adds store right = store_same S lines.ListNames (replies.Listed files) m image v w one listed.1 store right
 
-  wrote_files : (ending : Option Ending) (sink sink_now : SinkView) → WroteReply (listing_text files) ending sink sink_now → WroteReply (listing_text (file_listing m.files)) ending sink sink_now
+  wrote_files : (ending : Option Ending) (sink sink_now : SinkView) → WroteReply (listing_text files) ending sink sink_now →
+      WroteReply (listing_text (file_listing m.files)) ending sink sink_now
   wrote_files ending sink sink_now wrote = subst (λ (l : List NamedRoot). WroteReply (listing_text l) ending sink sink_now) named_are wrote
 
-  pub listed_keeps : (ending : Option Ending) (sink sink_now : SinkView) → IsDone ending → WroteReply (listing_text files) ending sink sink_now → KeepsMap S table.List [] ending m v w sink sink_now
+  pub listed_keeps : (ending : Option Ending) (sink sink_now : SinkView) → IsDone ending → WroteReply (listing_text files) ending sink sink_now →
+      KeepsMap S table.List [] ending m v w sink sink_now
   listed_keeps None sink sink_now is wrote =
-      keeps_map S lines.ListNames (replies.Listed files) m image v w one _ made_list.steps_are told table.List None sink sink_now tt (wrote_files None sink sink_now wrote) tt adds (λ store right. tt) leaves
+      keeps_map S lines.ListNames (replies.Listed files) m image v w one _ made_list.steps_are told table.List None sink sink_now tt (wrote_files None sink sink_now wrote) tt adds
+      (λ store right. tt) leaves
   listed_keeps (Some Sink) sink sink_now is wrote =
-      keeps_map S lines.ListNames (replies.Listed files) m image v w one _ made_list.steps_are told table.List (Some Sink) sink sink_now tt (wrote_files (Some Sink) sink sink_now wrote) tt adds (λ store right. tt) leaves
+      keeps_map S lines.ListNames (replies.Listed files) m image v w one _ made_list.steps_are told table.List (Some Sink) sink sink_now tt
+      (wrote_files (Some Sink) sink sink_now wrote) tt adds (λ store right. tt) leaves
   listed_keeps (Some ending) sink sink_now is wrote = absurd is
 
 -- they are the files of the map, which stays
-listed_map : (files : List NamedRoot) (ending : Option Ending) (v w : DiskView) (sink sink_now : SinkView) → RunsEachByFiles ending (said lines.ListNames (replies.Listed files) ∷ []) v w
+listed_map : (files : List NamedRoot) (ending : Option Ending) (v w : DiskView) (sink sink_now : SinkView) →
+    RunsEachByFiles ending (said lines.ListNames (replies.Listed files) ∷ []) v w
     → IsDone ending → WroteReply (listing_text files) ending sink sink_now → KeepsEachMap table.List [] ending v w sink sink_now
 listed_map files ending v w sink sink_now each is_done wrote image told among m distinct all is =
-    listed_keeps (IsIn among) files m image v w told (step_of ending lines.ListNames (replies.Listed files) v w each image told among m distinct is) ending sink sink_now is_done wrote
+    listed_keeps (IsIn among) files m image v w told (step_of ending lines.ListNames (replies.Listed files) v w each image told among m distinct is) ending sink sink_now is_done
+    wrote
 
 pub is_done : (ending : Option Ending) (sink sink_now : SinkView) → IsReplied ending sink sink_now → IsDone ending
 is_done None sink sink_now replied = tt
@@ -134,15 +143,20 @@ module _ (C : Type 0) (state : C → CoreState) (v w : DiskView) (old new : C) (
     files_are = steps.made.row.0 ∙ ap listing_of called.opened.represents.names_are.names_are
 
     lists : (ending : Option Ending) (sink sink_now : SinkView) → WroteReply (listing_text files) ending sink sink_now → ListsNames ending v w sink sink_now
-    lists ending sink sink_now wrote =
-        (holds C state v w old new called (to_end C state v w old new called reads.only.later), subst (λ (l : List NamedRoot). WroteReply (listing_text l) ending sink sink_now) files_are wrote)
+    lists ending sink sink_now wrote = (
+      holds C state v w old new called (to_end C state v w old new called reads.only.later),
+      subst (λ (l : List NamedRoot). WroteReply (listing_text l) ending sink sink_now)
+          files_are wrote,
+    )
 
-    wrote_any : (ending : Option Ending) (sink sink_now : SinkView) → IsReplied ending sink sink_now → WroteReply (listing_text files) ending sink sink_now → WroteOnAny table.List [] ending v w sink sink_now
+    wrote_any : (ending : Option Ending) (sink sink_now : SinkView) → IsReplied ending sink sink_now → WroteReply (listing_text files) ending sink sink_now →
+        WroteOnAny table.List [] ending v w sink sink_now
     wrote_any None sink sink_now replied wrote = lists None sink sink_now wrote
     wrote_any (Some Sink) sink sink_now replied wrote = lists (Some Sink) sink sink_now wrote
     wrote_any (Some ending) sink sink_now replied wrote = absurd replied
 
-    caused : (ending : Option Ending) (source : SourceView) (sink sink_now : SinkView) → IsReplied ending sink sink_now → IsCaused table.List [] v w source source sink sink_now ending
+    caused : (ending : Option Ending) (source : SourceView) (sink sink_now : SinkView) → IsReplied ending sink sink_now →
+        IsCaused table.List [] v w source source sink sink_now ending
     caused None source sink sink_now replied = tt
     caused (Some Sink) source sink sink_now replied = (tt, replied)
     caused (Some ending) source sink sink_now replied = absurd replied
@@ -175,23 +189,30 @@ module _ (C : Type 0) (state : C → CoreState) (v w : DiskView) (old new : C) (
     -- there was no memory for their text
     untold : (source : SourceView) (sink : SinkView) → Keeps table.List [] (Some (Refused Memory)) v w source source sink sink
     untold source sink =
-        without_memory table.List [] v w source source sink (record { only = all_reads C state v w old new called reads.only; faults_are = all_counted C state v w old new called NoFault reads.faults_are }) (refl, refl) refl
+        without_memory table.List [] v w source source sink
+        (record { only = all_reads C state v w old new called reads.only; faults_are = all_counted C state v w old new called NoFault reads.faults_are }) (refl, refl) refl
 
-    pub told_names : (result : Result Unit Ending) (source : SourceView) (sink sink_now : SinkView) → WritesNames (Ok files) result sink sink_now → RunsEachByFiles (ending_in result) (said lines.ListNames (replies.Listed files) ∷ []) v w
+    pub told_names : (result : Result Unit Ending) (source : SourceView) (sink sink_now : SinkView) → WritesNames (Ok files) result sink sink_now →
+        RunsEachByFiles (ending_in result) (said lines.ListNames (replies.Listed files) ∷ []) v w
         → Keeps table.List [] (ending_in result) v w source source sink sink_now
     told_names result source sink sink_now (inl sent) each =
-        were_listed (ending_in result) source sink sink_now (replied_sent (listing_text files) result sink sink_now sent) (wrote_sent (listing_text files) result sink sink_now sent) each
+        were_listed (ending_in result) source sink sink_now (replied_sent (listing_text files) result sink sink_now sent)
+        (wrote_sent (listing_text files) result sink sink_now sent) each
     told_names result source sink sink_now (inr (is, stays)) each =
         subst (λ (r : Result Unit Ending). Keeps table.List [] (ending_in r) v w source source sink sink_now) (sym is)
         (subst (λ (s : SinkView). Keeps table.List [] (Some (Refused Memory)) v w source source sink s) (sym stays) (untold source sink))
 
   -- there was no memory for the list
-  by_refusal : (r : Refusal) (buf : List ℕ) → CoreStep (state old) (asks (Err r) buf) (state new) → ListRow (Err r) (state old) (state new) → (source : SourceView) (sink : SinkView)
+  by_refusal : (r : Refusal) (buf : List ℕ) → CoreStep (state old) (asks (Err r) buf) (state new) → ListRow (Err r) (state old) (state new) →
+      (source : SourceView) (sink : SinkView)
       → Keeps table.List [] (Some (Refused r)) v w source source sink sink
   by_refusal Memory buf step row source sink =
       let effect = (made (Err Memory) buf step).made.effect in
-      without_memory table.List [] v w source source sink (record { only = all_reads C state v w old new called effect.disk.only; faults_are = all_counted C state v w old new called NoFault effect.disk.faults_are }) (refl, refl) refl
+      without_memory table.List [] v w source source sink
+      (record { only = all_reads C state v w old new called effect.disk.only; faults_are = all_counted C state v w old new called NoFault effect.disk.faults_are })
+      (refl, refl) refl
   by_refusal r buf step row source sink = absurd row
 
-  pub not_listed : (refusal : Refusal) → Lists C state (Err refusal) old new → (source : SourceView) (sink : SinkView) → Keeps table.List [] (Some (Refused refusal)) v w source source sink sink
+  pub not_listed : (refusal : Refusal) → Lists C state (Err refusal) old new → (source : SourceView) (sink : SinkView) →
+      Keeps table.List [] (Some (Refused refusal)) v w source source sink sink
   not_listed refusal listed source sink = by_refusal refusal listed.0 listed.1 (made (Err refusal) listed.0 listed.1).made.row source sink

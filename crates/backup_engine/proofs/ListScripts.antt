@@ -64,7 +64,8 @@ module _ (S : List ℕ → Type 0) (rs : List Replied) (m : Stored) (store : Sto
   rest = run_of of_files rs runs.steps (desk runs.opened) runs.next runs.lines_are
 
   abbrev Passed : (FileMachine → Type 0) → Type 0
-  Passed P = Passes of_files P script_of.steps (unopened m store) runs.next.machine (run_of of_files (said lines.Reopen script_of.first ∷ rs) script_of.steps (desk (unopened m store)) runs.next script_of.lines_are)
+  Passed P = Passes of_files P script_of.steps (unopened m store) runs.next.machine
+      (run_of of_files (said lines.Reopen script_of.first ∷ rs) script_of.steps (desk (unopened m store)) runs.next script_of.lines_are)
 
   -- what is passed once it was opened is passed
   later : (P : FileMachine → Type 0) → Passes of_files P runs.steps runs.opened runs.next.machine rest → Passed P
@@ -72,7 +73,8 @@ module _ (S : List ℕ → Type 0) (rs : List Replied) (m : Stored) (store : Sto
       let first : List (Stepped (List ℕ)) = opening 0 (Ok (done.Reopened runs.files)) ∷ [] in
       let run : Run of_files first (unopened m store) runs.opened = (runs.opened, (runs.opens, refl)) in
       let same : first ++ runs.steps ≡ first ++ runs.steps = refl in
-      (subst (λ (zs : List (Stepped (List ℕ))). (ran : Run of_files zs (unopened m store) runs.next.machine) × Passes of_files P zs (unopened m store) runs.next.machine ran) (sym same) (
+      (subst (λ (zs : List (Stepped (List ℕ))). (ran : Run of_files zs (unopened m store) runs.next.machine) × Passes of_files P zs (unopened m store) runs.next.machine ran)
+      (sym same) (
         run_on of_files first runs.steps (unopened m store) runs.opened runs.next.machine run rest,
         passes_later of_files P first runs.steps (unopened m store) runs.opened runs.next.machine run rest passed,
       )).1
@@ -80,9 +82,23 @@ module _ (S : List ℕ → Type 0) (rs : List Replied) (m : Stored) (store : Sto
   pub script_leads : (d : List ℕ) → MayStand S runs.next.machine d → Leads S (ScriptLeads rs m) d
   script_leads d may = (stored_in may.found, (record { script = script_of; found = may.found; may = may.may; next_is = refl }, opens_found S runs.next.machine d may))
 
-  pub passes_of : (d : List ℕ) → IsOfFound S (unopened m store) d ⊎ Passes of_files (λ n. IsOfFound S n d) runs.steps runs.opened runs.next.machine (run_of of_files rs runs.steps (desk runs.opened) runs.next runs.lines_are)
+  pub passes_of : (d : List ℕ) → IsOfFound S (unopened m store) d ⊎ Passes of_files (λ n. IsOfFound S n d) runs.steps runs.opened runs.next.machine
+      (run_of of_files rs runs.steps (desk runs.opened) runs.next runs.lines_are)
       → Leads S (ScriptPasses rs m) d
-  passes_of d (inl before) = (stored_in before.0, (record { script = script_of; found = before.0; passed = passes_here of_files (λ n. MayBeFound of_files n.state n.now before.0) script_of.steps (unopened m store) runs.next.machine (run_of of_files (said lines.Reopen script_of.first ∷ rs) script_of.steps (desk (unopened m store)) runs.next script_of.lines_are) before.1; next_is = refl }, before.2))
+  passes_of d (inl before) = (
+    stored_in before.0,
+    (
+      record {
+        script = script_of;
+        found = before.0;
+        passed = passes_here of_files (λ n. MayBeFound of_files n.state n.now before.0) script_of.steps (unopened m store)
+            runs.next.machine (run_of of_files (said lines.Reopen script_of.first ∷ rs) script_of.steps (desk (unopened m store)) runs.next script_of.lines_are) before.1;
+        next_is =
+            refl;
+      },
+      before.2,
+    ),
+  )
   passes_of d (inr passed) =
       let one = passes_found S d runs.steps runs.opened runs.next.machine (run_of of_files rs runs.steps (desk runs.opened) runs.next runs.lines_are) passed in
       (stored_in one.0, (record { script = script_of; found = one.0; passed = later (λ n. MayBeFound of_files n.state n.now one.0) one.1; next_is = refl }, one.2))
@@ -122,7 +138,8 @@ no_lines S rs m d opens none =
       next_is = refl;
     }
 
-module _ (S : List ℕ → Type 0) (ending : Option Ending) (rs : List Replied) (m : Stored) (store : Store) (v w : DiskView) (none : RefusedByFiles S ending rs (unopened m store) v w) where
+module _ (S : List ℕ → Type 0) (ending : Option Ending) (rs : List Replied) (m : Stored) (store : Store) (v w : DiskView)
+    (none : RefusedByFiles S ending rs (unopened m store) v w) where
   pub refused_leads : (d : List ℕ) → MayStand S none.next d → Leads S (ScriptLeads rs m) d
   refused_leads d may =
       let one = unopened_script rs m store none.refusal none.next none.none none.opens in (

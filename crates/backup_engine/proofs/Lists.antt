@@ -40,7 +40,8 @@ abbrev pub OfSome : (List ℕ → Type 0) → (Stored → Type 0) → List ℕ �
 OfSome S P image = (next : Stored) × (P next × OpensAs S next image)
 
 -- a line that wrote nothing may leave any map as it was
-leads_nowhere : (command : CommandLine) (given : List ℕ) (ending : Option Ending) (m : Stored) → ((e : Ending) × (ending ≡ Some e) × ¬ (e ≡ Sink)) → LeadsBy command given ending m m
+leads_nowhere : (command : CommandLine) (given : List ℕ) (ending : Option Ending) (m : Stored) → ((e : Ending) × (ending ≡ Some e) × ¬ (e ≡ Sink)) →
+    LeadsBy command given ending m m
 leads_nowhere command given None m (e, is, other) = cc
 leads_nowhere command given (Some Sink) m (e, is, other) = absurd (other cc)
 leads_nowhere command given (Some (Refused DiskWrite)) m not_done = inl refl
@@ -97,7 +98,8 @@ module _ (S : List ℕ → Type 0) (P : Stored → Type 0) (c : Call) where
   words_lead : (image : List ℕ) → OfSome S P image → OfSome S (After P None c) image
   words_lead image (next, (has, of)) = (next, ((next, (has, refl)), of))
 
-  same_leads : (command : CommandLine) (image : List ℕ) → ((e : Ending) × (c.ending ≡ Some e) × ¬ (e ≡ Sink)) → OfSome S P image → OfSome S (After P (Some (Single command)) c) image
+  same_leads : (command : CommandLine) (image : List ℕ) → ((e : Ending) × (c.ending ≡ Some e) × ¬ (e ≡ Sink)) → OfSome S P image →
+      OfSome S (After P (Some (Single command)) c) image
   same_leads command image not_done (next, (has, of)) = (next, ((next, (has, leads_nowhere command c.given c.ending next not_done)), of))
 
   module _ (m : Stored) (v w : DiskView) (has : P m) (stands : Stands (OfSome S P) v) where
@@ -106,8 +108,11 @@ module _ (S : List ℕ → Type 0) (P : Stored → Type 0) (c : Call) where
 
     line_leaves : (command : CommandLine) → Stands (IsLeftAs S command c.given m c.ending) w ⊎ NothingWritten c.ending v w → Stands (OfSome S (After P (Some (Single command)) c)) w
     line_leaves command (inl left) = ((left.0.0, left.0.1, line_leads command left.0.0 left.0.2), λ d is. line_leads command d (left.1 d is))
-    line_leaves command (inr none) =
-        ((stands.0.0, none.content ∙ stands.0.1, same_leads command stands.0.0 none.not_done stands.0.2), λ d is. same_leads command d none.not_done (stands.1 d (none.images d is)))
+    line_leaves command (inr none) = (
+      (stands.0.0, none.content ∙ stands.0.1, same_leads command stands.0.0 none.not_done stands.0.2),
+      λ d is. same_leads command d none.not_done
+          (stands.1 d (none.images d is)),
+    )
 
     -- lines of a machine that was opened
     module _ (store : Store) (runs : RunsByFiles S c.rs (unopened m store) v w) where
@@ -150,7 +155,8 @@ module _ (S : List ℕ → Type 0) (P : Stored → Type 0) (c : Call) where
         | inr same ↦ none_same d same
       ]
 
-    script_leaves : (store : Store) × (RunsByFiles S c.rs (unopened m store) v w ⊎ RefusedByFiles S c.ending c.rs (unopened m store) v w) → Stands (OfSome S (After P (Some Run) c)) w
+    script_leaves : (store : Store) × (RunsByFiles S c.rs (unopened m store) v w ⊎ RefusedByFiles S c.ending c.rs (unopened m store) v w) →
+        Stands (OfSome S (After P (Some Run) c)) w
     script_leaves (store, inl runs) = ran_stands store runs
     script_leaves (store, inr none) = none_stands store none
 
@@ -173,7 +179,8 @@ module _ (S : List ℕ → Type 0) (P : Stored → Type 0) (c : Call) where
     line_crash command image (inr meanwhile) = elim (leads_meanwhile S command c.given c.ending m image meanwhile) [ inl was ↦ inl (m, (has, was)) | inr led ↦ inr led ]
 
     -- and what a crash since it began leaves
-    crash_leaves : (D : Type 0) (view : D → DiskView) (line : Option TableLine) → Answers D view line S c m v w → (image : List ℕ) → SinceStart v w image → OfSome S P image ⊎ OfSome S (MayPass line c m) image
+    crash_leaves : (D : Type 0) (view : D → DiskView) (line : Option TableLine) → Answers D view line S c m v w → (image : List ℕ) → SinceStart v w image →
+        OfSome S P image ⊎ OfSome S (MayPass line c m) image
     crash_leaves D view None nothing image since = inl (stands.1 image (since_start v w (same_reads v w nothing.disk_is) image since))
     crash_leaves D view (Some (Single command)) answers image since = let left = command_leaves S c m v w command answers in line_crash command image (left.crash image since)
     crash_leaves D view (Some Run) runs image since = script_meanwhile runs image since
@@ -201,7 +208,8 @@ given_last S [] last given = given.0
 given_last S (c ∷ cs) last given = given_last S cs last given.1
 
 module _ (D : Type 0) (view : D → DiskView) (among : ByteSet) (apart : HasNoCollisions (IsIn among)) where
-  answers_line : (line : Option TableLine) (c : Call) (m : Stored) (v w : DiskView) (image : List ℕ) → IsGivenAmong (IsIn among) c → v.content ≡ Some image → OpensAs (IsIn among) m image
+  answers_line : (line : Option TableLine) (c : Call) (m : Stored) (v w : DiskView) (image : List ℕ) → IsGivenAmong (IsIn among) c → v.content ≡ Some image →
+      OpensAs (IsIn among) m image
       → Does D view line c.given c.rs c.ending v w c.source c.source_now c.sink c.sink_now → Answers D view line (IsIn among) c m v w
   answers_line None c m v w image given told opens does = does
   answers_line (Some (Single (Format slots))) c m v w image given told opens does = formats_nothing among apart slots c m v w image given.given told opens does.0
@@ -242,12 +250,14 @@ leaves_possible D view among m calls old new begins run =
     weaker (IsIn among) (AfterAll (λ s. s ≡ m) calls) (LeadsTo calls m) (view new) (λ next all. subst (λ (s : Stored). LeadsTo calls s next) all.1.0 all.1.1)
     (all_calls D view among begins.apart (λ s. s ≡ m) calls old new begins.given (only_one (IsIn among) m (view old) begins.stands) run)
 
-module _ (D : Type 0) (view : D → DiskView) (among : ByteSet) (m : Stored) (calls : List Call) (last : Call) (old mid new : D) (begins : BeginsOfMap (IsIn among) (calls ++ last ∷ []) m (view old))
+module _ (D : Type 0) (view : D → DiskView) (among : ByteSet) (m : Stored) (calls : List Call) (last : Call) (old mid new : D)
+    (begins : BeginsOfMap (IsIn among) (calls ++ last ∷ []) m (view old))
     (run : CallRun D view calls old mid) (keeps : KeepsCall D view last (view mid) (view new)) where
   before : Stands (Possible (IsIn among) calls m) (view mid)
   before = leaves_possible D view among m calls old mid (record { apart = begins.apart; given = given_before (IsIn among) calls last begins.given; stands = begins.stands }) run
 
-  last_finds : (now : Stored) × (LeadsTo calls m now × KnownWith (view mid).content (OpensAs (IsIn among) now) × Answers D view last.line (IsIn among) last now (view mid) (view new))
+  last_finds : (now : Stored) × (LeadsTo calls m now × KnownWith (view mid).content (OpensAs (IsIn among) now) × Answers D view last.line (IsIn among) last now (view mid)
+      (view new))
   last_finds = found D view among begins.apart (LeadsTo calls m) last (view mid) (view new) (given_last (IsIn among) calls last begins.given) before keeps
 
   by_led : (now : Stored) → LeadsTo calls m now → (c : List ℕ) → Possible (IsIn among) calls m c ⊎ OfSome (IsIn among) (MayPass last.line last now) c
@@ -269,7 +279,8 @@ pub survives_a_crash : (D : Type 0) (view : D → DiskView) → SurvivesACrash D
 survives_a_crash D view among m calls last old mid new begins run keeps c since =
     let one = last_finds D view among m calls last old mid new begins run keeps in
     by_led D view among m calls last old mid new begins run keeps one.0 one.1.0 c
-    (crash_leaves (IsIn among) (LeadsTo calls m) last one.0 (view mid) (view new) one.1.0 (before D view among m calls last old mid new begins run keeps) D view last.line one.1.2 c since)
+    (crash_leaves (IsIn among) (LeadsTo calls m) last one.0 (view mid) (view new) one.1.0 (before D view among m calls last old mid new begins run keeps) D view last.line one.1.2
+    c since)
 
 -- ---- the empty map
 
@@ -330,7 +341,8 @@ module _ (D : Type 0) (view : D → DiskView) (slots : ℕ) (c : Call) (v w : Di
 
   format_done : KeepsCall D view c v w → c.line ≡ Some (Single (Format slots)) → c.status ≡ 0 → Formats slots v w × IsDurable w
   format_done keeps line_is zero_is =
-      let done : DoesBy (Some (Single (Format slots))) None = subst (DoesBy (Some (Single (Format slots)))) (done_at_zero c.ending (sym keeps.status_is ∙ zero_is)) (subst (λ (l : Option TableLine). DoesBy l c.ending) line_is keeps.does) in
+      let done : DoesBy (Some (Single (Format slots))) None = subst (DoesBy (Some (Single (Format slots)))) (done_at_zero c.ending (sym keeps.status_is ∙ zero_is))
+      (subst (λ (l : Option TableLine). DoesBy l c.ending) line_is keeps.does) in
       (done.0.any.caused, done.0.any.durable)
 
 pub format_begins : (D : Type 0) (view : D → DiskView) → FormatBegins D view

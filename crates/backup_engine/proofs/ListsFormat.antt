@@ -53,7 +53,8 @@ module _ (slots : ℕ) (given : List ℕ) (v w : DiskView) (source source_now : 
       | inr rest ↦ subst (λ (b : List ℕ). v.images b) (sym (rest gate)) (v.as_read old known)
     ]
 
-pub formats_nothing : (among : ByteSet) → HasNoCollisions (IsIn among) → (slots : ℕ) (c : Call) (m : Stored) (v w : DiskView) (image : List ℕ) → ((bytes : List ℕ) → IsSegmentOf c.given bytes → IsIn among bytes)
+pub formats_nothing : (among : ByteSet) → HasNoCollisions (IsIn among) → (slots : ℕ) (c : Call) (m : Stored) (v w : DiskView) (image : List ℕ) →
+    ((bytes : List ℕ) → IsSegmentOf c.given bytes → IsIn among bytes)
     → v.content ≡ Some image → OpensAs (IsIn among) m image → Keeps (Format slots) c.given c.ending v w c.source c.source_now c.sink c.sink_now
     → FormatsNothing (IsIn among) slots c m v w
 formats_nothing among apart slots c m v w image given told opens keeps =

@@ -69,7 +69,8 @@ other_keys kind (s ∷ ss) key none = (
 )
 
 -- the keys of the entries of segments are theirs
-keys_of_entries : (kind : Kind) (offset : ℕ) (segments : List Segment) (keys : List (List ℕ)) → ((key : List ℕ) → Contains (map (segment_key kind) segments) key → Contains keys key)
+keys_of_entries : (kind : Kind) (offset : ℕ) (segments : List Segment) (keys : List (List ℕ)) →
+    ((key : List ℕ) → Contains (map (segment_key kind) segments) key → Contains keys key)
     → AllByRecursion (λ e. Contains keys (entry_key kind e)) (entries_from offset segments)
 keys_of_entries kind offset [] keys each = tt
 keys_of_entries kind offset (s ∷ ss) keys each = (
@@ -78,7 +79,8 @@ keys_of_entries kind offset (s ∷ ss) keys each = (
 )
 
 -- the entry of one of these keys
-entry_of_key : (kind : Kind) (offset : ℕ) (segments : List Segment) (key : List ℕ) → Contains (map (segment_key kind) segments) key → (Q : Entry → Type 0) → AllByRecursion Q (entries_from offset segments)
+entry_of_key : (kind : Kind) (offset : ℕ) (segments : List Segment) (key : List ℕ) → Contains (map (segment_key kind) segments) key → (Q : Entry → Type 0) →
+    AllByRecursion Q (entries_from offset segments)
     → (e : Entry) × ((entry_key kind e ≡ key) × Q e)
 entry_of_key kind offset [] key (k, below, is) Q all = absurd (omega (arith, below))
 entry_of_key kind offset (s ∷ ss) key (zero, below, is) Q all = (record { digest = sha256 s.bytes; offset = offset; length = length s.bytes; level = s.level }, (is, all.0))
@@ -90,7 +92,8 @@ units [] = tt
 units (e ∷ es) = (tt, units es)
 
 found_key : (kind : Kind) (key : List ℕ) (es : List Entry) (e : Entry) → find (λ x. bytes_eq (key_of (kind_byte kind) x.digest) key) es ≡ Some e → entry_key kind e ≡ key
-found_key kind key es e found = (bytes_eq-Decides (entry_key kind e) key).0 (found_so (λ (x : Entry). Unit {0}) (λ x. bytes_eq (key_of (kind_byte kind) x.digest) key) es e (units es) found).1
+found_key kind key es e found = (bytes_eq-Decides (entry_key kind e) key).0
+    (found_so (λ (x : Entry). Unit {0}) (λ x. bytes_eq (key_of (kind_byte kind) x.digest) key) es e (units es) found).1
 
 -- ---- the newest copy of a key that a container holds is none of a lower id
 
@@ -140,7 +143,8 @@ AreNewest keys held slot h =
 
 module _ (P : List ℕ → Type 0) where
   -- the newest copy of a key that is needed stays, where no change copies it
-  still_newest : (changes : List StoreChange) (s t : Store) (key : List ℕ) → SweepsSpare P changes s t → P key → (Contains (copied_keys changes) key → ⊥) → newest 0 t.held key ≡ newest 0 s.held key
+  still_newest : (changes : List StoreChange) (s t : Store) (key : List ℕ) → SweepsSpare P changes s t → P key → (Contains (copied_keys changes) key → ⊥) →
+      newest 0 t.held key ≡ newest 0 s.held key
   still_newest [] s t key sweeps needed none = ap (λ (x : Store). newest 0 x.held key) sweeps
   still_newest (SealContainer id kind segments ∷ more) s t key sweeps needed none = absurd sweeps
   still_newest (ChangeName name change ∷ more) s t key sweeps needed none = absurd sweeps
@@ -153,7 +157,8 @@ module _ (P : List ℕ → Type 0) where
 
   -- one that is written has the newest copies of its keys, up to the end
   module _ (id : ℕ) (kind : Kind) (segments : List Segment) (more : List StoreChange) (s t : Store) (sweeps : SweepsSpare P (FlushContainer id kind segments ∷ more) s t)
-      (once : IsDistinct bytes_eq (map (segment_key kind) segments ++ copied_keys more)) (needed : (key : List ℕ) → Contains (map (segment_key kind) segments ++ copied_keys more) key → P key) where
+      (once : IsDistinct bytes_eq (map (segment_key kind) segments ++ copied_keys more))
+      (needed : (key : List ℕ) → Contains (map (segment_key kind) segments ++ copied_keys more) key → P key) where
     abbrev keys : List (List ℕ)
     keys = map (segment_key kind) segments
 
@@ -161,14 +166,16 @@ module _ (P : List ℕ → Type 0) where
     flushed =
         all_both _ _ _ (entries_from 0 segments) (λ e has newest_is. (
           Contains-append_left keys (copied_keys more) (entry_key kind e) has,
-          still_newest more (with_sealed id kind segments s) t (entry_key kind e) sweeps.1 (needed (entry_key kind e) (Contains-append_left keys (copied_keys more) (entry_key kind e) has))
+          still_newest more (with_sealed id kind segments s) t (entry_key kind e) sweeps.1
+              (needed (entry_key kind e) (Contains-append_left keys (copied_keys more) (entry_key kind e) has))
               (distinct_apart keys (copied_keys more) (entry_key kind e) once has)
               ∙ newest_is,
         )) (keys_of_entries kind 0 segments keys (λ key has. has))
         (newest_of_entries (header_of id kind segments) s.held sweeps.0.right (omega (arith, sweeps.0.slot)) sweeps.0.new_id)
 
   -- a key that is copied has a newer copy at the end
-  carried : (changes : List StoreChange) (s t : Store) (key : List ℕ) (copy : Copy) → SweepsSpare P changes s t → IsDistinct bytes_eq (copied_keys changes) → ((k : List ℕ) → Contains (copied_keys changes) k → P k)
+  carried : (changes : List StoreChange) (s t : Store) (key : List ℕ) (copy : Copy) → SweepsSpare P changes s t → IsDistinct bytes_eq (copied_keys changes) →
+      ((k : List ℕ) → Contains (copied_keys changes) k → P k)
       → Contains (copied_keys changes) key → P key → newest 0 s.held key ≡ Some copy → (now : Copy) × ((newest 0 t.held key ≡ Some now) × (copy.id < now.id))
   carried [] s t key copy sweeps once each (k, below, has) needed is = absurd (omega (arith, below))
   carried (SealContainer id kind segments ∷ more) s t key copy sweeps once each has needed is = absurd sweeps
@@ -180,21 +187,25 @@ module _ (P : List ℕ → Type 0) where
             let found = entry_of_key kind 0 segments key here _ (flushed id kind segments more s t sweeps once each) in
             (entry_copy (first_free s.held) id found.0, (ap (newest 0 t.held) (sym found.1.0) ∙ found.1.1.1, omega (arith, sweeps.0.new_id, newest_id 0 s.held key copy is)))
         | inr later ↦
-            carried more (with_sealed id kind segments s) t key copy sweeps.1 (distinct_later keys (copied_keys more) once) (λ k there. each k (Contains-append_right keys (copied_keys more) k there)) later needed
-            (newest_beside id kind segments s key (omega (arith, sweeps.0.slot)) (other_keys kind segments key (λ here. distinct_apart keys (copied_keys more) key once here later)) ∙ is)
+            carried more (with_sealed id kind segments s) t key copy sweeps.1 (distinct_later keys (copied_keys more) once)
+            (λ k there. each k (Contains-append_right keys (copied_keys more) k there)) later needed
+            (newest_beside id kind segments s key (omega (arith, sweeps.0.slot))
+            (other_keys kind segments key (λ here. distinct_apart keys (copied_keys more) key once here later)) ∙ is)
       ]
   carried (FreeContainer slot ∷ more) s t key copy sweeps once each has needed is =
       carried more (with_freed slot s) t key copy sweeps.1 once each has needed (newest_freed P slot s.held sweeps.0.none key needed ∙ is)
 
   -- so each container that is there was there, or is such a one
-  written : (changes : List StoreChange) (s t : Store) → SweepsSpare P changes s t → IsDistinct bytes_eq (copied_keys changes) → ((key : List ℕ) → Contains (copied_keys changes) key → P key)
+  written : (changes : List StoreChange) (s t : Store) → SweepsSpare P changes s t → IsDistinct bytes_eq (copied_keys changes) →
+      ((key : List ℕ) → Contains (copied_keys changes) key → P key)
       → (slot : ℕ) (h : HeaderValue) → slice_get t.held slot ≡ Some (Some h) → (slice_get s.held slot ≡ Some (Some h)) ⊎ AreNewest (copied_keys changes) t.held slot h
   written [] s t sweeps once needed slot h there = inl (subst (λ (x : Store). slice_get x.held slot ≡ Some (Some h)) sweeps there)
   written (SealContainer id kind segments ∷ more) s t sweeps once needed slot h there = absurd sweeps
   written (ChangeName name change ∷ more) s t sweeps once needed slot h there = absurd sweeps
   written (FlushContainer id kind segments ∷ more) s t sweeps once needed slot h there =
       let keys : List (List ℕ) = map (segment_key kind) segments in
-      elim (written more (with_sealed id kind segments s) t sweeps.1 (distinct_later keys (copied_keys more) once) (λ key has. needed key (Contains-append_right keys (copied_keys more) key has)) slot h there) [
+      elim (written more (with_sealed id kind segments s) t sweeps.1 (distinct_later keys (copied_keys more) once)
+      (λ key has. needed key (Contains-append_right keys (copied_keys more) key has)) slot h there) [
         | inr all ↦ inr (all_so _ _ h.entries (λ e is. (Contains-append_right keys (copied_keys more) (entry_key h.kind e) is.0, is.1)) all)
         | inl was ↦ elim (filled_there (header_of id kind segments) h s.held slot (omega (arith, sweeps.0.slot)) was) [
           | inl here ↦ inr (subst (λ (n : ℕ). AreNewest (keys ++ copied_keys more) t.held n h) (sym here.0)
@@ -251,7 +262,8 @@ copied_count (FreeContainer slot ∷ more) = copied_count more
 
 module _ (P : List ℕ → Type 0) (held : List (Option HeaderValue)) (kind : Kind) (slot : ℕ) where
   -- where nothing is needed, no entry of some length is
-  none_needed : (test : Entry → Bool) (es : List Entry) (e : Entry) (sum : ℕ) → SumsNeeded P held kind slot es sum → sum ≡ 0 → find test es ≡ Some e → 1 ≤ e.length → IsNeededCopy P held kind slot e → ⊥
+  none_needed : (test : Entry → Bool) (es : List Entry) (e : Entry) (sum : ℕ) → SumsNeeded P held kind slot es sum → sum ≡ 0 → find test es ≡ Some e → 1 ≤ e.length →
+      IsNeededCopy P held kind slot e → ⊥
   none_needed test [] e sum sums none found some needed = absurd cc
   none_needed test (x ∷ xs) e sum sums none found some needed =
       elim (test x) as (λ b. cond b (Some x) (find test xs) ≡ Some e → ⊥) [
@@ -266,7 +278,8 @@ module _ (P : List ℕ → Type 0) (held : List (Option HeaderValue)) (kind : Ki
       ] found
 
 -- at 0 percent nothing is copied
-module _ (P : List ℕ → Type 0) (percent : ℕ) (s t : Store) (changes : List StoreChange) (headers : AreHeaders s.held) (chooses : Chooses P percent s.held t.held changes) (zero_is : percent ≡ 0) where
+module _ (P : List ℕ → Type 0) (percent : ℕ) (s t : Store) (changes : List StoreChange) (headers : AreHeaders s.held) (chooses : Chooses P percent s.held t.held changes)
+    (zero_is : percent ≡ 0) where
   none_there : (key : List ℕ) → Contains (copied_keys changes) key → ⊥
   none_there key has =
       let of = chooses.only key has in
@@ -276,7 +289,8 @@ module _ (P : List ℕ → Type 0) (percent : ℕ) (s t : Store) (changes : List
       let place_is : copy.place ≡ place_of (0 + at.index) at.entry = ap (λ (c : Copy). c.place) at.copy_is in
       let slot_is : copy.place.slot ≡ at.index = let is : copy.place.slot ≡ 0 + at.index = ap (λ (p : _). p.slot) place_is in omega (arith, is) in
       let header_is : chosen.header ≡ at.header =
-      some_same chosen.header at.header (some_same (Some chosen.header) (Some at.header) (sym chosen.there ∙ ap (slice_get s.held) slot_is ∙ slice_get-get_or s.held at.index None at.within ∙ ap Some at.there)) in
+      some_same chosen.header at.header (some_same (Some chosen.header) (Some at.header)
+      (sym chosen.there ∙ ap (slice_get s.held) slot_is ∙ slice_get-get_or s.held at.index None at.within ∙ ap Some at.there)) in
       let none : chosen.needed ≡ 0 = nothing chosen.needed _ chosen.little in
       let key_is : entry_key at.header.kind at.entry ≡ key = found_key at.header.kind key at.header.entries at.entry at.found in
       let needed : IsNeededCopy P s.held at.header.kind copy.place.slot at.entry = (
@@ -285,7 +299,8 @@ module _ (P : List ℕ → Type 0) (percent : ℕ) (s t : Store) (changes : List
             ∙ ap Some (place_is ∙ ap (λ (n : ℕ). place_of n at.entry) (let is : 0 + at.index ≡ copy.place.slot = omega (arith, slot_is) in is)),
       ) in
       let some : 1 ≤ at.entry.length = omega (arith, (newest_within s.held key copy headers of.1.1.0).some, ap (λ (p : _). p.length) place_is) in
-      none_needed P s.held at.header.kind copy.place.slot _ at.header.entries at.entry chosen.needed (subst (λ (h : HeaderValue). Needs P s.held copy.place.slot h chosen.needed) header_is chosen.sums) none at.found some needed
+      none_needed P s.held at.header.kind copy.place.slot _ at.header.entries at.entry chosen.needed
+      (subst (λ (h : HeaderValue). Needs P s.held copy.place.slot h chosen.needed) header_is chosen.sums) none at.found some needed
     where
       nothing : (needed all : ℕ) → IsLittle percent needed all → needed ≡ 0
       nothing needed all (inl less) = absurd (let less_now : needed * 100 < 0 * all = subst (λ (p : ℕ). needed * 100 < p * all) zero_is less in omega (arith, less_now))

@@ -53,7 +53,8 @@ module _ (D : Type 0) (view : D → DiskView) (C : Type 0) (state : C → CoreSt
           called_runs D view C state before w old new called runs ending done_lines (idle old) (idle new) refl refl refl
           (one_actor (lines.Delete name) refl (replies.Deleted number) done_lines refl) (deleted_line_run C state old new called.opened.stop_is name answer step)
 
-      deleted : (result : Result Unit Ending) (sink_now : SinkView) → Sent (deleted_line name) result sink sink_now → Keeps (Delete name) [] (ending_in result) v w source source sink sink_now
+      deleted : (result : Result Unit Ending) (sink_now : SinkView) → Sent (deleted_line name) result sink sink_now →
+          Keeps (Delete name) [] (ending_in result) v w source source sink sink_now
       deleted result sink_now sent =
           let ending = ending_in result in
           let replied = replied_sent (deleted_line name) result sink sink_now sent in
@@ -68,7 +69,8 @@ module _ (D : Type 0) (view : D → DiskView) (C : Type 0) (state : C → CoreSt
           }
 
     -- it was refused
-    undeleted : (refusal : Refusal) → RefusesStep 0 (asked.Delete name) refusal (state old) (state new) → Keeps (Delete name) [] (Some (Refused refusal)) v w source source sink sink
+    undeleted : (refusal : Refusal) → RefusesStep 0 (asked.Delete name) refusal (state old) (state new) →
+        Keeps (Delete name) [] (Some (Refused refusal)) v w source source sink sink
     undeleted refusal step =
         let rs : List Replied = refused (lines.Delete name) refusal ∷ [] in
         let each =
@@ -83,7 +85,8 @@ module _ (D : Type 0) (view : D → DiskView) (C : Type 0) (state : C → CoreSt
           untouched = tt;
         }
 
-    pub delete_keeps : (result : Result Unit Ending) (sink_now : SinkView) → DeleteRun C state name (deleted_line name) result old new sink sink_now → Keeps (Delete name) [] (ending_in result) v w source source sink sink_now
+    pub delete_keeps : (result : Result Unit Ending) (sink_now : SinkView) → DeleteRun C state name (deleted_line name) result old new sink sink_now →
+        Keeps (Delete name) [] (ending_in result) v w source source sink sink_now
     delete_keeps result sink_now (Ok u, (asks, sent)) = deleted asks.0 asks.1 result sink_now sent
     delete_keeps result sink_now (Err refusal, (asks, (is, same))) =
         subst (λ (r : Result Unit Ending). Keeps (Delete name) [] (ending_in r) v w source source sink sink_now) (sym is)
@@ -91,7 +94,8 @@ module _ (D : Type 0) (view : D → DiskView) (C : Type 0) (state : C → CoreSt
 
   -- ---- list
 
-  pub list_keeps : (result : Result Unit Ending) (source : SourceView) (sink sink_now : SinkView) → ListRun C state result old new sink sink_now → Keeps table.List [] (ending_in result) v w source source sink sink_now
+  pub list_keeps : (result : Result Unit Ending) (source : SourceView) (sink sink_now : SinkView) → ListRun C state result old new sink sink_now →
+      Keeps table.List [] (ending_in result) v w source source sink sink_now
   list_keeps result source sink sink_now (Ok files, (listed, wrote)) =
       let rs : List Replied = said lines.ListNames (replies.Listed files) ∷ [] in
       told_names C state v w old new called files listed result source sink sink_now wrote
@@ -99,7 +103,8 @@ module _ (D : Type 0) (view : D → DiskView) (C : Type 0) (state : C → CoreSt
       (one_actor lines.ListNames refl (replies.Listed files) rs refl) (listed_line_run C state old new called.opened.stop_is files listed))
   list_keeps result source sink sink_now (Err refusal, (listed, (is, same))) =
       subst (λ (r : Result Unit Ending). Keeps table.List [] (ending_in r) v w source source sink sink_now) (sym is)
-      (subst (λ (s : SinkView). Keeps table.List [] (Some (Refused refusal)) v w source source sink s) (sym same) (not_listed C state v w old new called refusal listed source sink))
+      (subst (λ (s : SinkView). Keeps table.List [] (Some (Refused refusal)) v w source source sink s) (sym same)
+      (not_listed C state v w old new called refusal listed source sink))
 
 -- ---- the disk, later
 
@@ -108,7 +113,8 @@ module _ (C : Type 0) (state : C → CoreState) (old new : C) where
   asked_later name (Ok u) asks = one_later C state _ old new asks.1.1
   asked_later name (Err refusal) asks = one_later C state _ old new asks.1
 
-  pub delete_later : (name reply : List ℕ) (result : Result Unit Ending) (sink sink_now : SinkView) → DeleteRun C state name reply result old new sink sink_now → IsLater (state old).disk (state new).disk
+  pub delete_later : (name reply : List ℕ) (result : Result Unit Ending) (sink sink_now : SinkView) → DeleteRun C state name reply result old new sink sink_now →
+      IsLater (state old).disk (state new).disk
   delete_later name reply result sink sink_now run = asked_later name run.0 run.1.0
 
   listed_later : (listed : Result (List NamedRoot) Refusal) → Lists C state listed old new → IsLater (state old).disk (state new).disk

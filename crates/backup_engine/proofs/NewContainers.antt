@@ -40,14 +40,16 @@ none_new last (None ∷ cs) low = none_new last cs low
 none_new last (Some h ∷ cs) low = omega (arith, not_above last h.id (omega (arith, low)), none_new last cs (omega (arith, low)))
 
 -- one that is written is one more
-pub new_with : (last : ℕ) (h : HeaderValue) (held : List (Option HeaderValue)) → 1 ≤ free_slots held → last < h.id → new_in last (with_slot (first_free held) h held) ≡ 1 + new_in last held
+pub new_with : (last : ℕ) (h : HeaderValue) (held : List (Option HeaderValue)) → 1 ≤ free_slots held → last < h.id →
+    new_in last (with_slot (first_free held) h held) ≡ 1 + new_in last held
 unfolding new_in
 new_with last h [] some above = absurd (omega (arith, some))
 new_with last h (None ∷ cs) some above = ap (λ (n : ℕ). n + new_in last cs) (is_above last h.id above)
 new_with last h (Some g ∷ cs) some above = omega (arith, new_with last h cs some above)
 
 -- an older one that is given back is none fewer
-pub new_without : (last slot : ℕ) (h : HeaderValue) (held : List (Option HeaderValue)) → slice_get held slot ≡ Some (Some h) → h.id ≤ last → new_in last (without_slot slot held) ≡ new_in last held
+pub new_without : (last slot : ℕ) (h : HeaderValue) (held : List (Option HeaderValue)) → slice_get held slot ≡ Some (Some h) → h.id ≤ last →
+    new_in last (without_slot slot held) ≡ new_in last held
 unfolding new_in
 new_without last slot h [] there low = refl
 new_without last zero h (None ∷ cs) there low = refl

@@ -32,11 +32,13 @@ pub not_sink : (refusal : Refusal) → ¬ (Refused refusal ≡ Sink)
 not_sink refusal is = cc
 
 -- the content is a store of the map's files
-pub left_with : (S : List ℕ → Type 0) (m : Stored) (old : List ℕ) (content : Option (List ℕ)) (P : Store → Type 0) → content ≡ Some old → (is : IsOf S m old) → P is.store → IsLeftWith m content P
+pub left_with : (S : List ℕ → Type 0) (m : Stored) (old : List ℕ) (content : Option (List ℕ)) (P : Store → Type 0) → content ≡ Some old → (is : IsOf S m old) → P is.store →
+    IsLeftWith m content P
 left_with S m old content P told is holds = (is.store, (old, told, is.stands.holds), is.reserve, holds)
 
 -- want of memory, whatever the map is
-no_memory : (command : CommandLine) (given : List ℕ) (S : List ℕ → Type 0) (m : Stored) (old : List ℕ) (content : Option (List ℕ)) → content ≡ Some old → IsOf S m old → EndsBy command given m content (Some (Refused Memory))
+no_memory : (command : CommandLine) (given : List ℕ) (S : List ℕ → Type 0) (m : Stored) (old : List ℕ) (content : Option (List ℕ)) → content ≡ Some old → IsOf S m old →
+    EndsBy command given m content (Some (Refused Memory))
 no_memory (Format slots) given S m old content told is = left_with S m old content (λ store. Unit {0}) told is tt
 no_memory (Ingest name) given S m old content told is = left_with S m old content (λ store. Unit {0}) told is tt
 no_memory (Restore name) given S m old content told is = left_with S m old content (λ store. Unit {0}) told is tt
@@ -55,35 +57,40 @@ false_not_true : false ≡ true → ⊥
 false_not_true wrong = cc
 
 -- memory or the disk failed, whatever the map is
-ingest_failed : (name given : List ℕ) (S : List ℕ → Type 0) (m : Stored) (old : List ℕ) (content : Option (List ℕ)) → content ≡ Some old → IsOf S m old → (refusal : Refusal) → IsTrue (fails refusal)
+ingest_failed : (name given : List ℕ) (S : List ℕ → Type 0) (m : Stored) (old : List ℕ) (content : Option (List ℕ)) → content ≡ Some old → IsOf S m old → (refusal : Refusal) →
+    IsTrue (fails refusal)
     → EndsBy (Ingest name) given m content (Some (Refused refusal))
 ingest_failed name given S m old content told is Memory fails = left_with S m old content (λ store. Unit {0}) told is tt
 ingest_failed name given S m old content told is DiskRead fails = left_with S m old content (λ store. Unit {0}) told is tt
 ingest_failed name given S m old content told is DiskWrite fails = tt
 ingest_failed name given S m old content told is refusal fails = absurd (false_not_true fails)
 
-pub restore_failed : (name given : List ℕ) (S : List ℕ → Type 0) (m : Stored) (old : List ℕ) (content : Option (List ℕ)) → content ≡ Some old → IsOf S m old → (refusal : Refusal) → IsTrue (fails refusal)
+pub restore_failed : (name given : List ℕ) (S : List ℕ → Type 0) (m : Stored) (old : List ℕ) (content : Option (List ℕ)) → content ≡ Some old → IsOf S m old →
+    (refusal : Refusal) → IsTrue (fails refusal)
     → EndsBy (Restore name) given m content (Some (Refused refusal))
 restore_failed name given S m old content told is Memory fails = left_with S m old content (λ store. Unit {0}) told is tt
 restore_failed name given S m old content told is DiskRead fails = left_with S m old content (λ store. Unit {0}) told is tt
 restore_failed name given S m old content told is DiskWrite fails = left_with S m old content (λ store. Unit {0}) told is tt
 restore_failed name given S m old content told is refusal fails = absurd (false_not_true fails)
 
-delete_failed : (name given : List ℕ) (S : List ℕ → Type 0) (m : Stored) (old : List ℕ) (content : Option (List ℕ)) → content ≡ Some old → IsOf S m old → (refusal : Refusal) → IsTrue (fails refusal)
+delete_failed : (name given : List ℕ) (S : List ℕ → Type 0) (m : Stored) (old : List ℕ) (content : Option (List ℕ)) → content ≡ Some old → IsOf S m old → (refusal : Refusal) →
+    IsTrue (fails refusal)
     → EndsBy (Delete name) given m content (Some (Refused refusal))
 delete_failed name given S m old content told is Memory fails = left_with S m old content (λ store. Unit {0}) told is tt
 delete_failed name given S m old content told is DiskRead fails = left_with S m old content (λ store. Unit {0}) told is tt
 delete_failed name given S m old content told is DiskWrite fails = tt
 delete_failed name given S m old content told is refusal fails = absurd (false_not_true fails)
 
-list_failed : (given : List ℕ) (S : List ℕ → Type 0) (m : Stored) (old : List ℕ) (content : Option (List ℕ)) → content ≡ Some old → IsOf S m old → (refusal : Refusal) → IsTrue (fails refusal)
+list_failed : (given : List ℕ) (S : List ℕ → Type 0) (m : Stored) (old : List ℕ) (content : Option (List ℕ)) → content ≡ Some old → IsOf S m old → (refusal : Refusal) →
+    IsTrue (fails refusal)
     → EndsBy table.List given m content (Some (Refused refusal))
 list_failed given S m old content told is Memory fails = left_with S m old content (λ store. Unit {0}) told is tt
 list_failed given S m old content told is DiskRead fails = left_with S m old content (λ store. Unit {0}) told is tt
 list_failed given S m old content told is DiskWrite fails = left_with S m old content (λ store. Unit {0}) told is tt
 list_failed given S m old content told is refusal fails = absurd (false_not_true fails)
 
-collect_failed : (percent : ℕ) (given : List ℕ) (S : List ℕ → Type 0) (m : Stored) (old : List ℕ) (content : Option (List ℕ)) → content ≡ Some old → IsOf S m old → (refusal : Refusal) → IsTrue (fails refusal)
+collect_failed : (percent : ℕ) (given : List ℕ) (S : List ℕ → Type 0) (m : Stored) (old : List ℕ) (content : Option (List ℕ)) → content ≡ Some old → IsOf S m old →
+    (refusal : Refusal) → IsTrue (fails refusal)
     → EndsBy (Collect percent) given m content (Some (Refused refusal))
 collect_failed percent given S m old content told is Memory fails = left_with S m old content (λ store. Unit {0}) told is tt
 collect_failed percent given S m old content told is DiskRead fails = left_with S m old content (λ store. Unit {0}) told is tt
@@ -152,7 +159,8 @@ restore_caused v w name given source sink DiskRead cause = tt
 restore_caused v w name given source sink DiskWrite cause = tt
 restore_caused v w name given source sink refusal cause = inl cause
 
-pub unopened_ingest : (v w : DiskView) (refusal : Refusal) → IsUnopened v w refusal → (name given : List ℕ) (source : SourceView) (sink : SinkView) → Known source.left (λ all. given ≡ all)
+pub unopened_ingest : (v w : DiskView) (refusal : Refusal) → IsUnopened v w refusal → (name given : List ℕ) (source : SourceView) (sink : SinkView) →
+    Known source.left (λ all. given ≡ all)
     → Keeps (Ingest name) given (Some (Refused refusal)) v w source source sink sink
 unopened_ingest v w refusal is name given source sink took = record {
   map = reads_map (Ingest name) given (Refused refusal) v w sink sink is.reads.only (not_sink refusal) (ingest_answers v w refusal is name source sink given);
@@ -311,7 +319,8 @@ memory_durable table.List w = tt
 memory_durable (Collect percent) w = tt
 
 -- There was no memory, and the disk was read at most.
-pub without_memory : (command : CommandLine) (given : List ℕ) (v w : DiskView) (source source_now : SourceView) (sink : SinkView) → Reads NoFault v w → Took command given (Some (Refused Memory)) source source_now → source_now.faults ≡ source.faults
+pub without_memory : (command : CommandLine) (given : List ℕ) (v w : DiskView) (source source_now : SourceView) (sink : SinkView) → Reads NoFault v w →
+    Took command given (Some (Refused Memory)) source source_now → source_now.faults ≡ source.faults
     → Keeps command given (Some (Refused Memory)) v w source source_now sink sink
 without_memory command given v w source source_now sink reads took faults = record {
   map = reads_map command given (Refused Memory) v w sink sink reads.only (not_sink Memory) (memory_answers command given v w sink reads.only);
@@ -330,7 +339,8 @@ without_memory command given v w source source_now sink reads took faults = reco
   untouched = memory_untouched command v w reads.only;
 }
 
-pub not_begun : (command : CommandLine) (given : List ℕ) (v : DiskView) (source : SourceView) (sink : SinkView) → Took command given (Some (Refused Memory)) source source → Keeps command given (Some (Refused Memory)) v v source source sink sink
+pub not_begun : (command : CommandLine) (given : List ℕ) (v : DiskView) (source : SourceView) (sink : SinkView) → Took command given (Some (Refused Memory)) source source →
+    Keeps command given (Some (Refused Memory)) v v source source sink sink
 not_begun command given v source sink took = without_memory command given v v source source sink (reads_refused v) took refl
 
 -- ---- a store that was opened

@@ -47,7 +47,8 @@ idle_first : part_of (replicate ACTORS Idle) 0 ≡ Idle
 unfolding part_of
 idle_first = refl
 
-module _ (C : Type 0) (state : C → CoreState) (v w : DiskView) (old new : C) (was : Called C state v w old new) (name : List ℕ) (source : SourceView) (sink : SinkView) (refusal : Refusal) (buf : List ℕ) where
+module _ (C : Type 0) (state : C → CoreState) (v w : DiskView) (old new : C) (was : Called C state v w old new) (name : List ℕ) (source : SourceView) (sink : SinkView)
+    (refusal : Refusal) (buf : List ℕ) where
   abbrev asks : Event
   asks = record { actor = 0; step = asked.OpenRead name; answer = Err refusal; buf = buf }
 
@@ -70,11 +71,19 @@ module _ (C : Type 0) (state : C → CoreState) (v w : DiskView) (old new : C) (
     -- ---- over any disk
 
     -- no reader has this name, since it is no name, or has no root; else there was no memory
-    caused_by : (r : Refusal) → readers.IsOpenRefusal (state old).tables.names name (part_of (state old).parts 0) r → IsCaused (Restore name) [] v w source source sink sink (Some (endings.Refused r))
+    caused_by : (r : Refusal) → readers.IsOpenRefusal (state old).tables.names name (part_of (state old).parts 0) r →
+        IsCaused (Restore name) [] v w source source sink sink (Some (endings.Refused r))
     caused_by Memory cause = tt
     caused_by BadName cause = inr (inl (holds C state v w old new was of_core.only.later, cause.1))
     caused_by NoFile cause =
-        inr (inl (holds C state v w old new was of_core.only.later, (cause.1.0, is_none (finite.get (names_of was.opened.store) name) (ap (λ (names : NameMap). finite.get names name) (sym was.opened.represents.names_are.names_are) ∙ cause.1.1))))
+        inr (inl (
+          holds C state v w old new was of_core.only.later,
+          (
+            cause.1.0,
+            is_none (finite.get (names_of was.opened.store) name) (ap (λ (names : NameMap). finite.get names name) (sym was.opened.represents.names_are.names_are)
+                ∙ cause.1.1),
+          ),
+        ))
     caused_by (WrongPart kind) cause = absurd (cause.0 idle)
     caused_by r cause = absurd cause.1
 
@@ -84,7 +93,8 @@ module _ (C : Type 0) (state : C → CoreState) (v w : DiskView) (old new : C) (
     opening = record { event = asks; bytes = [] }
 
     by_map : (S : List ℕ → Type 0) (m : Stored) (image : List ℕ) → w.content ≡ Some image → IsOf S m image
-        → (r : Refusal) → readers.IsOpenRefusal (state old).tables.names name (part_of (state old).parts 0) r → FindsFile m.files (asked.OpenRead name) (Err r) → EndsBy (Restore name) [] m w.content (Some (endings.Refused r))
+        → (r : Refusal) → readers.IsOpenRefusal (state old).tables.names name (part_of (state old).parts 0) r → FindsFile m.files (asked.OpenRead name) (Err r) →
+        EndsBy (Restore name) [] m w.content (Some (endings.Refused r))
     by_map S m image told is Memory cause finds = restore_failed name [] S m image w.content told is Memory refl
     by_map S m image told is BadName cause finds = left_with S m image w.content (λ store. ¬ (IsName name)) told is cause.1
     by_map S m image told is NoFile cause finds =
@@ -119,7 +129,8 @@ module _ (C : Type 0) (state : C → CoreState) (v w : DiskView) (old new : C) (
       untouched = tt;
     }
 
-pub not_opened : (C : Type 0) (state : C → CoreState) (v w : DiskView) (old new : C) → Called C state v w old new → (name : List ℕ) (result : Result Unit Ending) (source : SourceView) (sink sink_now : SinkView)
+pub not_opened : (C : Type 0) (state : C → CoreState) (v w : DiskView) (old new : C) → Called C state v w old new →
+    (name : List ℕ) (result : Result Unit Ending) (source : SourceView) (sink sink_now : SinkView)
     → IsNotOpened C state name result old new sink sink_now → Keeps (Restore name) [] (ending_in result) v w source source sink sink_now
 not_opened C state v w old new was name result source sink sink_now is =
     subst (λ (r : Result Unit Ending). Keeps (Restore name) [] (ending_in r) v w source source sink sink_now) (sym is.result_is)

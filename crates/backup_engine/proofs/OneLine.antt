@@ -76,7 +76,8 @@ pub record OneStep (S : List ℕ → Type 0) (line : LineValue) (reply : ReplyVa
   pub crash : (step : Stepped (List ℕ)) → steps ≡ step ∷ [] → LeavesMeanwhile (λ d. OpensAs S m d ⊎ IsOfFound S last.machine d) v w
 
 -- a run of one step passes its ends
-passes_ends : (P : FileMachine → Type 0) (step : Stepped (List ℕ)) (ss : List (Stepped (List ℕ))) (m n : FileMachine) (run : Run of_files ss m n) → ss ≡ step ∷ [] → Passes of_files P ss m n run → P m ⊎ P n
+passes_ends : (P : FileMachine → Type 0) (step : Stepped (List ℕ)) (ss : List (Stepped (List ℕ))) (m n : FileMachine) (run : Run of_files ss m n) → ss ≡ step ∷ [] →
+    Passes of_files P ss m n run → P m ⊎ P n
 passes_ends P step [] m n run is passes = cc
 passes_ends P step (s ∷ []) m n run is (inl here) = inl here
 passes_ends P step (s ∷ []) m n run is (inr after) = inr (subst P (sym run.1.1) after)
@@ -91,7 +92,8 @@ only_one : (store before : Store) → Contains (store ∷ []) before → before 
 only_one store before (zero, below, is) = sym is
 only_one store before (suc place, below, is) = absurd (omega (arith, below))
 
-module _ (S : List ℕ → Type 0) (line : LineValue) (reply : ReplyValue) (m : Stored) (image : List ℕ) (v w : DiskView) (opens : OpensAs S m image) (free : RESERVE ≤ free_slots opens.store.held)
+module _ (S : List ℕ → Type 0) (line : LineValue) (reply : ReplyValue) (m : Stored) (image : List ℕ) (v w : DiskView) (opens : OpensAs S m image)
+    (free : RESERVE ≤ free_slots opens.store.held)
     (is : RunsByFiles S (said line reply ∷ []) (unopened m opens.store) v w) where
   abbrev first : FileMachine
   first = unopened m opens.store
@@ -110,7 +112,8 @@ module _ (S : List ℕ → Type 0) (line : LineValue) (reply : ReplyValue) (m : 
 
   store_is : is.opened.store ≡ opens.store
   store_is =
-      none_freed (NamesNeed of_files is.opens.found) is.opens.freed is.opens.before is.opened.store (subst (λ (s : Store). RESERVE ≤ free_slots s.held) (sym before_is) free) (is.opens.frees tt) ∙ before_is
+      none_freed (NamesNeed of_files is.opens.found) is.opens.freed is.opens.before is.opened.store (subst (λ (s : Store). RESERVE ≤ free_slots s.held) (sym before_is) free)
+      (is.opens.frees tt) ∙ before_is
 
   abbrev after : FileDesk
   after = is.lines_are.2
@@ -132,11 +135,13 @@ module _ (S : List ℕ → Type 0) (line : LineValue) (reply : ReplyValue) (m : 
   as_first : (d : List ℕ) → IsOfFound S first d → OpensAs S m d
   as_first d found = subst (λ (x : Found (List ℕ)). OpensAs S (stored_in x) d) found.1 found.2
 
-  at_ends : (step : Stepped (List ℕ)) → is.lines_are.0 ≡ step ∷ [] → (d : List ℕ) → IsOfFound S first d ⊎ Passes of_files (λ n. IsOfFound S n d) is.steps is.opened is.next.machine (run_of of_files (said line reply ∷ []) is.steps (desk is.opened) is.next is.lines_are)
+  at_ends : (step : Stepped (List ℕ)) → is.lines_are.0 ≡ step ∷ [] → (d : List ℕ) → IsOfFound S first d ⊎ Passes of_files (λ n. IsOfFound S n d) is.steps is.opened is.next.machine
+      (run_of of_files (said line reply ∷ []) is.steps (desk is.opened) is.next is.lines_are)
       → OpensAs S m d ⊎ IsOfFound S after.machine d
   at_ends step one d (inl before) = inl (as_first d before)
   at_ends step one d (inr passed) =
-      elim (passes_ends (λ n. IsOfFound S n d) step is.steps is.opened is.next.machine (run_of of_files (said line reply ∷ []) is.steps (desk is.opened) is.next is.lines_are) (steps_are ∙ one) passed) [
+      elim (passes_ends (λ n. IsOfFound S n d) step is.steps is.opened is.next.machine (run_of of_files (said line reply ∷ []) is.steps (desk is.opened) is.next is.lines_are)
+      (steps_are ∙ one) passed) [
         | inl before ↦ inl (as_found is.opened state_is now_is d before)
         | inr last ↦ inr (subst (λ (e : FileDesk). IsOfFound S e.machine d) last_is last)
       ]
@@ -160,10 +165,18 @@ module _ (S : List ℕ → Type 0) (line : LineValue) (reply : ReplyValue) (m : 
 
 -- of a disk that stands for the map, where nothing is cut
 pub step_of : (ending : Option Ending) (line : LineValue) (reply : ReplyValue) (v w : DiskView) → RunsEachByFiles ending (said line reply ∷ []) v w
-    → (image : List ℕ) → v.content ≡ Some image → (among : ByteSet) (m : Stored) → HasNoCollisions (IsIn among) → IsOf (IsIn among) m image → OneStep (IsIn among) line reply m image v w
+    → (image : List ℕ) → v.content ≡ Some image → (among : ByteSet) (m : Stored) → HasNoCollisions (IsIn among) → IsOf (IsIn among) m image →
+    OneStep (IsIn among) line reply m image v w
 step_of ending line reply v w each image told among m distinct is =
-    let opens : OpensAs (IsIn among) m image = record { store = is.store; stands = is.stands; opens = free_reserve (IsReachable m.files) is.store.held is.reserve; last_is = is.last_is } in
-    elim (each among (unopened m opens.store) distinct (λ files opened bytes re cut. absurd (none_cut_by line reply opened bytes cut)) (image, told, files_begin among m image opens)) [
+    let opens : OpensAs (IsIn among) m image = record {
+      store = is.store;
+      stands = is.stands;
+      opens = free_reserve (IsReachable m.files) is.store.held is.reserve;
+      last_is =
+          is.last_is;
+    } in
+    elim (each among (unopened m opens.store) distinct (λ files opened bytes re cut. absurd (none_cut_by line reply opened bytes cut))
+    (image, told, files_begin among m image opens)) [
       | inl runs ↦ one_step (IsIn among) line reply m image v w opens is.reserve runs opens.stands.holds.right
       | inr none ↦ absurd (let no = none.none in cc)
     ]
@@ -176,7 +189,8 @@ CanBeIf command given m None = CanBeDone command given m
 CanBeIf command given m (Some Sink) = CanBeDone command given m
 CanBeIf command given m (Some ending) = Unit {0}
 
-meanwhile : (S : List ℕ → Type 0) (command : CommandLine) (given : List ℕ) (m : Stored) (ending : Option Ending) (d : List ℕ) → CanBeIf command given m ending → IsLeftAs S command given m ending d → MayBeMeanwhile S command given m ending d
+meanwhile : (S : List ℕ → Type 0) (command : CommandLine) (given : List ℕ) (m : Stored) (ending : Option Ending) (d : List ℕ) → CanBeIf command given m ending →
+    IsLeftAs S command given m ending d → MayBeMeanwhile S command given m ending d
 meanwhile S command given m None d can is = inr (tt, can, is)
 meanwhile S command given m (Some Sink) d can is = inr (tt, can, is)
 meanwhile S command given m (Some (Refused DiskWrite)) d can (inl is) = inl is
@@ -195,8 +209,13 @@ module _ (S : List ℕ → Type 0) (line : LineValue) (reply : ReplyValue) (m : 
     wrote = wrote;
     added = λ old known store right. adds store (subst (λ (bytes : List ℕ). Encodes bytes store) (same_content old known) right);
     gave_back = λ old known store right.
-        subst (λ (bytes : List ℕ). GivesSlotsBack command ending m.files store bytes w.content sink sink_now) (sym (same_content old known)) (gave store (subst (λ (bytes : List ℕ). Encodes bytes store) (same_content old known) right));
-    left = inl ((one.stands.content.0, one.stands.content.1, leaves one.stands.content.0 (found_of one.stands.content.0 one.stands.content.2)), λ d is. leaves d (found_of d (one.stands.images d is)));
+        subst (λ (bytes : List ℕ). GivesSlotsBack command ending m.files store bytes w.content sink sink_now) (sym (same_content old known))
+        (gave store (subst (λ (bytes : List ℕ). Encodes bytes store) (same_content old known) right));
+    left = inl (
+      (one.stands.content.0, one.stands.content.1, leaves one.stands.content.0 (found_of one.stands.content.0 one.stands.content.2)),
+      λ d is. leaves d
+          (found_of d (one.stands.images d is)),
+    );
     crash = leaves_more (λ d. OpensAs S m d ⊎ IsOfFound S one.last.machine d) (MayBeMeanwhile S command [] m ending) v w between (one.crash step steps);
   }
     where
@@ -212,7 +231,8 @@ module _ (S : List ℕ → Type 0) (line : LineValue) (reply : ReplyValue) (m : 
 
 -- ---- where the machine stays as it was opened
 
-module _ (S : List ℕ → Type 0) (line : LineValue) (reply : ReplyValue) (m : Stored) (image : List ℕ) (v w : DiskView) (one : OneStep S line reply m image v w) (same : one.last.machine ≡ one.opened) where
+module _ (S : List ℕ → Type 0) (line : LineValue) (reply : ReplyValue) (m : Stored) (image : List ℕ) (v w : DiskView) (one : OneStep S line reply m image v w)
+    (same : one.last.machine ≡ one.opened) where
   pub still_found : (d : List ℕ) → IsOfFound S one.last.machine d → OpensAs S m d
   still_found d found =
       let at : IsOfFound S one.opened d = subst (λ (n : FileMachine). IsOfFound S n d) same found in

@@ -55,7 +55,8 @@ module _ (D : Type 0) (view : D → DiskView) (refusal : Refusal) (v w : DiskVie
   does_none command given took unread by_files (inl is) =
       let un = unread v is.0 in does_unread D view command given v w source sink refusal is.0 is.1 un.keeps un.speaks by_files
   does_none command given took unread by_files (inr (inl is)) =
-      let un = unread (view is.0) is.1.1 in does_made D view command given v w source source sink sink [] (Some (Refused refusal)) is.0 is.1.0 un.keeps un.speaks by_files is.1.1.reads.only.later
+      let un = unread (view is.0) is.1.1 in does_made D view command given v w source source sink sink [] (Some (Refused refusal)) is.0 is.1.0 un.keeps un.speaks by_files
+      is.1.1.reads.only.later
   does_none command given took unread by_files (inr (inr is)) = does_unmade D view command given v w source sink refusal is took by_files
 
   pub runs_none : ((before : DiskView) → IsNotRead refusal before w → KeepsScript [] (Some (Refused refusal)) before w source source sink sink)
@@ -90,7 +91,8 @@ pub does_without_memory : (D : Type 0) (view : D → DiskView) (v : DiskView) (s
     → DoesCommand D view command given [] (Some (Refused Memory)) v v source source sink sink
 does_without_memory D view v source sink command given keeps speaks = does_unread D view command given v v source sink Memory (unbegun v) tt keeps speaks (memory_by_files v)
 
-pub runs_without_memory : (D : Type 0) (view : D → DiskView) (v : DiskView) (source : SourceView) (sink : SinkView) → KeepsScript [] (Some (Refused Memory)) v v source source sink sink
+pub runs_without_memory : (D : Type 0) (view : D → DiskView) (v : DiskView) (source : SourceView) (sink : SinkView) →
+    KeepsScript [] (Some (Refused Memory)) v v source source sink sink
     → RunsScript D view [] (Some (Refused Memory)) v v source source sink sink
 runs_without_memory D view v source sink keeps = record {
   by_files = memory_by_files v;
@@ -133,13 +135,16 @@ module _ (D : Type 0) (view : D → DiskView) (C : Type 0) (state : C → CoreSt
     read_holds before read = holds_back _ _ (view before.now) w (holds C state (lent before) end old new (called before read) to_end)
 
     -- its lines, over all of the call
-    pub runs_back : OpensCore (MutBor D) lent (lent first) (state old) → (ending : Option Ending) (rs : List Replied) (r s : RunnerState C) → r.core ≡ old → r.sessions ≡ replicate ACTORS None → new ≡ s.core
+    pub runs_back : OpensCore (MutBor D) lent (lent first) (state old) → (ending : Option Ending) (rs : List Replied) (r s : RunnerState C) → r.core ≡ old →
+        r.sessions ≡ replicate ACTORS None → new ≡ s.core
         → AreOfActors rs → RunsLines C state rs r s → RunsEachByFiles ending rs (view first.now) w
     runs_back opened ending rs r s begins fresh ends actors runs =
         by_files_back _ _ (view first.now) w ending rs
-        (calls_by_files (MutBor D) lent C state opens first end ending rs r s (subst (λ (c : C). OpensCore (MutBor D) lent (lent first) (state c)) (sym begins) opened) (subst (λ (c : C). Reads Done (state c).disk end) ends last) fresh actors runs)
+        (calls_by_files (MutBor D) lent C state opens first end ending rs r s (subst (λ (c : C). OpensCore (MutBor D) lent (lent first) (state c)) (sym begins) opened)
+        (subst (λ (c : C). Reads Done (state c).disk end) ends last) fresh actors runs)
 
-    pub single_back : OpensCore (MutBor D) lent (lent first) (state old) → (AreSo : List Replied → Type 0) (ending : Option Ending) (run : RunsSingle C state AreSo old new) → ((rs : List Replied) → AreSo rs → AreOfActors rs)
+    pub single_back : OpensCore (MutBor D) lent (lent first) (state old) → (AreSo : List Replied → Type 0) (ending : Option Ending) (run : RunsSingle C state AreSo old new) →
+        ((rs : List Replied) → AreSo rs → AreOfActors rs)
         → RunsEachByFiles ending run.0 (view first.now) w
     single_back opened AreSo ending run actors = runs_back opened ending run.0 (idle old) run.1.1.0 refl refl (sym run.1.1.1.0) (actors run.0 run.1.0) run.1.1.1.1
 
@@ -147,16 +152,19 @@ module _ (D : Type 0) (view : D → DiskView) (C : Type 0) (state : C → CoreSt
         (by_files : RunsEachByFiles ending rs (view first.now) w) where
       -- What it does from the disk on that was read.
       abbrev pub Goes : MutBor D → Type 0
-      Goes before = Keeps command given ending (view before.now) w source source_now sink sink_now × SpeaksAs command given ending rs (view before.now) w source source_now sink sink_now
+      Goes before = Keeps command given ending (view before.now) w source source_now sink sink_now × SpeaksAs command given ending rs (view before.now) w source source_now sink
+          sink_now
 
       pub does_opened : OpensCore (MutBor D) lent (lent first) (state old) → ((before : MutBor D) → Called C state (lent before) end old new → Goes before)
           → DoesCommand D view command given rs ending (view first.now) w source source_now sink sink_now
       does_opened (inl read) goes =
           let went = goes first (called first read) in
-          does_here D view command given (view first.now) w source source_now sink sink_now rs ending (read_runs (lent first) (state old) read) went.0 went.1 by_files (read_holds first read)
+          does_here D view command given (view first.now) w source source_now sink sink_now rs ending (read_runs (lent first) (state old) read) went.0 went.1 by_files
+          (read_holds first read)
       does_opened (inr is) goes =
           let went = goes is.0 (called is.0 is.1.1) in
-          does_made D view command given (view first.now) w source source_now sink sink_now rs ending is.0.now (made_there D view first is.0 is.1.0) went.0 went.1 by_files (made_later is.0 is.1.1)
+          does_made D view command given (view first.now) w source source_now sink sink_now rs ending is.0.now (made_there D view first is.0 is.1.0) went.0 went.1 by_files
+          (made_later is.0 is.1.1)
 
     module _ (rs : List Replied) (ending : Option Ending) (source source_now : SourceView) (sink sink_now : SinkView) where
       pub runs_opened : OpensCore (MutBor D) lent (lent first) (state old) → RunsEachByFiles ending rs (view first.now) w → FailsAlone ending rs (view first.now)

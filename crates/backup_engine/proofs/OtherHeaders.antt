@@ -65,7 +65,8 @@ module _ (t : SlotTable) (c : Collection) where
   pub recorded_some : (slot : ℕ) → HasStage t c (Filter slot) → get_or t.ids.items slot 0 ≢ 0
   recorded_some slot has = (old_id c.snapshot (get_or t.ids.items slot 0) has.0.1).0
 
-  pub copied_some : (source entry slot : ℕ) → HasStage t c SweepStage → c.sweep.next ≡ Copy source entry → get_or t.ids.items slot 0 ≡ get_or c.sweep.sources.items source 0 → get_or t.ids.items slot 0 ≢ 0
+  pub copied_some : (source entry slot : ℕ) → HasStage t c SweepStage → c.sweep.next ≡ Copy source entry → get_or t.ids.items slot 0 ≡ get_or c.sweep.sources.items source 0 →
+      get_or t.ids.items slot 0 ≢ 0
   copied_some source entry slot has next_is id_is =
       let at : HasNext t c.sweep (Copy source entry) = subst (HasNext t c.sweep) next_is has.next_is in
       let some : get_or c.sweep.sources.items source 0 ≢ 0 = (old_id c.snapshot (get_or c.sweep.sources.items source 0) (has.left.old source at.0)).0 in

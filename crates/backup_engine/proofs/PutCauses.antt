@@ -59,13 +59,15 @@ module _ (C : Type 0) (state : C → CoreState) where
   run_later (e ∷ es) old new run =
       later_on (state old).disk (state run.0).disk (state new).disk (step_later (state old) (state run.0) e (state old).stop run.1.0) (run_later es run.0 new run.1.1)
 
-  way_faults : (name bytes : List ℕ) (way : List FileEvent) (old new : C) → CoreRun C state (events_of way) old new → AllByRecursion (IsWayStep name bytes) way → faults new ≡ faults old
+  way_faults : (name bytes : List ℕ) (way : List FileEvent) (old new : C) → CoreRun C state (events_of way) old new → AllByRecursion (IsWayStep name bytes) way →
+      faults new ≡ faults old
   way_faults name bytes [] old new run each = ap faults run
   way_faults name bytes (f ∷ fs) old new run each =
       way_faults name bytes fs run.0 new run.1.1 each.1
       ∙ done_faults f.event.answer (faults old) (faults run.0) each.0.1.1 (step_went (state old) (state run.0) f.event run.1.0).faults
 
-  last_faults : (name bytes : List ℕ) (result : Result Unit Refusal) (mid new : C) → EndsBy C state name bytes result mid new → CountsFault (ending blames result) (faults mid) (faults new)
+  last_faults : (name bytes : List ℕ) (result : Result Unit Refusal) (mid new : C) → EndsBy C state name bytes result mid new →
+      CountsFault (ending blames result) (faults mid) (faults new)
   last_faults name bytes (Ok u) mid new last =
       let e = last.f.event in
       done_faults e.answer (faults mid) (faults new) (last_ok e.step e.answer last.last) (step_went (state mid) (state new) e last.made).faults
@@ -75,10 +77,12 @@ module _ (C : Type 0) (state : C → CoreState) where
       subst (λ (answer : Result Answer Refusal). CountsFault (ending blames answer) (faults mid) (faults new)) last.answer_is
       (step_went (state mid) (state new) last.f.event last.made).faults
 
-  pub put_faults : (name bytes : List ℕ) (result : Result Unit Refusal) (old new : C) → PutRun C state name bytes result old new → CountsFault (ending blames result) (faults old) (faults new)
+  pub put_faults : (name bytes : List ℕ) (result : Result Unit Refusal) (old new : C) → PutRun C state name bytes result old new →
+      CountsFault (ending blames result) (faults old) (faults new)
   put_faults name bytes result old new run =
       let ways = ways_of C state name bytes result old new run in
-      counts_on (ending blames result) (faults old) (faults ways.mid) (faults new) (way_faults name bytes ways.way old ways.mid ways.ran ways.each) (last_faults name bytes result ways.mid new ways.last)
+      counts_on (ending blames result) (faults old) (faults ways.mid) (faults new) (way_faults name bytes ways.way old ways.mid ways.ran ways.each)
+      (last_faults name bytes result ways.mid new ways.last)
 
 -- ---- the call
 
@@ -96,7 +100,8 @@ module _ (C : Type 0) (state : C → CoreState) (v w : DiskView) (old new : C) (
     reserve = called.opened.reserve;
   }
 
-  abbrev has_added : (given : List ℕ) → IsLater (state old).disk (state new).disk → (changes : List StoreChange) (after : Store) → ChangesTo changes store after → AddsOnce given changes store
+  abbrev has_added : (given : List ℕ) → IsLater (state old).disk (state new).disk → (changes : List StoreChange) (after : Store) → ChangesTo changes store after →
+      AddsOnce given changes store
       → HasAdded given v w
   has_added given later changes after chain adds = record { holds = holds later; changes = changes; after = after; chain = chain; adds = adds }
 
@@ -115,12 +120,14 @@ module _ (C : Type 0) (state : C → CoreState) (v w : DiskView) (old new : C) (
     wider : IsLater (state old).disk (state new).disk → (P : List ℕ → Type 0) → Since P → ReadsSince v w P
     wider later P since = reads_wider v (state old).disk (state new).disk w called.first.only.later later called.last.only.later called.last.only.content_is P since
 
-    in_call : IsLater (state old).disk (state new).disk → (refusal : Refusal) (after : Store) → RefusesIngest name given (room_in (Ingest name) after) refusal ⊎ IsUnlikeNode given after Since refusal
+    in_call : IsLater (state old).disk (state new).disk → (refusal : Refusal) (after : Store) → RefusesIngest name given (room_in (Ingest name) after) refusal
+        ⊎ IsUnlikeNode given after Since refusal
         → RefusesIngest name given (room_in (Ingest name) after) refusal ⊎ IsUnlikeNode given after (ReadsSince v w) refusal
     in_call later refusal after (inl refuses) = inl refuses
     in_call later refusal after (inr unlike) = inr (unlike_so Since (ReadsSince v w) (wider later) given after refusal unlike)
 
-    cause_of : (refusal : Refusal) (added : HasAdded given v w) → AreUnless refusal added.after (state new) → IsLater (state old).disk (state new).disk → IsPutRefusal name given (state old).disk (state new) refusal
+    cause_of : (refusal : Refusal) (added : HasAdded given v w) → AreUnless refusal added.after (state new) → IsLater (state old).disk (state new).disk →
+        IsPutRefusal name given (state old).disk (state new) refusal
         → IsCaused (Ingest name) given v w source source_now sink sink_now (Some (Refused refusal))
     cause_of Memory added are later refuses = tt
     cause_of DiskRead added are later refuses = tt
@@ -187,7 +194,8 @@ module _ (C : Type 0) (state : C → CoreState) (v w : DiskView) (old new : C) (
       was_put run few held (Err ending) sent out heard = absurd sent
 
       -- it was refused
-      was_refused : (refusal : Refusal) → PutRun C state name given (Err refusal) old new → IsPutRefusal name given (state old).disk (state new) refusal → sink_now ≡ sink → Heard (Some (Refused refusal))
+      was_refused : (refusal : Refusal) → PutRun C state name given (Err refusal) old new → IsPutRefusal name given (state old).disk (state new) refusal → sink_now ≡ sink →
+          Heard (Some (Refused refusal))
           → Any (Some (Refused refusal))
       was_refused refusal run refuses same heard = record {
         took = refused_took;
@@ -200,14 +208,16 @@ module _ (C : Type 0) (state : C → CoreState) (v w : DiskView) (old new : C) (
       }
 
       by_put : (put : Result Unit Refusal) → PutRun C state name given put old new → OnOk put (length given ≤ MOST_FILE) → OnOk put (HoldsPieces name given (state new))
-          → IfErr put (IsPutRefusal name given (state old).disk (state new)) → (result : Result Unit Ending) → Replies (stored_line name (root_of given)) put result sink sink_now → IsReadOut result source.left source_now.left → Heard (ending_in result)
+          → IfErr put (IsPutRefusal name given (state old).disk (state new)) → (result : Result Unit Ending) →
+          Replies (stored_line name (root_of given)) put result sink sink_now → IsReadOut result source.left source_now.left → Heard (ending_in result)
           → Any (ending_in result)
       by_put (Ok u) run few held refused result replies out heard = was_put run few held result replies out heard
       by_put (Err refusal) run few held refused result replies out heard =
           subst (λ (r : Result Unit Ending). Any (ending_in r)) (sym replies.0)
           (was_refused refusal run refused replies.1 (subst (λ (r : Result Unit Ending). Heard (ending_in r)) replies.0 heard))
 
-      pub taken_any : (result : Result Unit Ending) → IsTaken C state name given result old new sink sink_now → IsReadOut result source.left source_now.left → Heard (ending_in result)
+      pub taken_any : (result : Result Unit Ending) → IsTaken C state name given result old new sink sink_now → IsReadOut result source.left source_now.left →
+          Heard (ending_in result)
           → Any (ending_in result)
       taken_any result taken out heard = by_put taken.put taken.ran taken.few taken.held taken.refused result taken.replies out heard
 
@@ -249,7 +259,8 @@ module _ (C : Type 0) (state : C → CoreState) (v w : DiskView) (old new : C) (
         }
         stopped ending cause long heard = absurd cause
 
-      pub stopped_any : (result : Result Unit Ending) → IsStopped C state name given result old new source source_now sink sink_now → Heard (ending_in result) → Any (ending_in result)
+      pub stopped_any : (result : Result Unit Ending) → IsStopped C state name given result old new source source_now sink sink_now → Heard (ending_in result) →
+          Any (ending_in result)
       stopped_any result is heard =
           subst (λ (r : Result Unit Ending). Any (ending_in r)) (sym is.result_is)
           (stopped is.ran is.sink_is is.ending is.cause is.long (subst (λ (r : Result Unit Ending). Heard (ending_in r)) is.result_is heard))

@@ -61,7 +61,8 @@ pub record Ways (C : Type 0) (state : C → CoreState) (name bytes : List ℕ) (
   pub last : EndsBy C state name bytes result mid new
 
 -- what is so of each commit is so of a last step
-pub last_is : (P : StepValue → Result Answer Refusal → Type 0) → ((name : List ℕ) (root : Root) (answer : Result Answer Refusal) → IsLastPut (asked.Commit name root) answer → P (asked.Commit name root) answer)
+pub last_is : (P : StepValue → Result Answer Refusal → Type 0) →
+    ((name : List ℕ) (root : Root) (answer : Result Answer Refusal) → IsLastPut (asked.Commit name root) answer → P (asked.Commit name root) answer)
     → (step : StepValue) (answer : Result Answer Refusal) → IsLastPut step answer → P step answer
 last_is P commits (asked.Commit name root) answer last = commits name root answer last
 last_is P commits asked.Begin answer last = absurd last
@@ -142,7 +143,8 @@ module _ (C : Type 0) (state : C → CoreState) (name bytes : List ℕ) where
     last = rest.last;
   }
 
-  ways : (steps : List FileEvent) (result : Result Unit Refusal) (old new : C) → CoreRun C state (events_of steps) old new → AllByRecursion (IsPutStep name bytes) steps → EndsPut steps result
+  ways : (steps : List FileEvent) (result : Result Unit Refusal) (old new : C) → CoreRun C state (events_of steps) old new → AllByRecursion (IsPutStep name bytes) steps →
+      EndsPut steps result
       → Ways C state name bytes steps result old new
   ways [] (Ok u) old new run each ends = absurd ends
   ways [] (Err refusal) old new run each ends = record { mid = old; way = []; seals_are = refl; ran = refl; each = tt; last = inl (run, ends) }
@@ -239,7 +241,8 @@ module _ (s : Store) (old new : CoreState) (on : IsOn s old) (runs : new.stop �
       seals_one filled id (subst (λ (n : ℕ). Makes (SealContainer n filled.kind filled.segments) old new) (sym row.id_is) effect.made)
   by_seal filled actor buf answer row effect = absurd row
 
-  by_step : (name bytes put : List ℕ) (actor : ℕ) (buf : List ℕ) (step : StepValue) (answer : Result Answer Refusal) → IsAskedFor name bytes step put → IsNoCommit step → IsOk answer
+  by_step : (name bytes put : List ℕ) (actor : ℕ) (buf : List ℕ) (step : StepValue) (answer : Result Answer Refusal) → IsAskedFor name bytes step put → IsNoCommit step →
+      IsOk answer
       → Row step actor answer buf old new → Effect step answer old new → SealedTo (seal_by step answer) s new
   by_step name bytes put actor buf step (Err refusal) asks other ok row effect = absurd ok
   by_step name bytes put actor buf asked.Begin (Ok answer) asks other ok row effect = rests (Ok answer) effect
@@ -262,7 +265,8 @@ done_runs step (Err refusal) count stop ok stops = absurd ok
 done_runs step (Ok answer) count stop ok stops = stops
 
 module _ (name bytes : List ℕ) where
-  pub way_step : (f : FileEvent) (s : Store) (old new : CoreState) → IsOn s old → CoreStep old f.event new → IsWayStep name bytes f → SealedTo (seal_by f.event.step f.event.answer) s new
+  pub way_step : (f : FileEvent) (s : Store) (old new : CoreState) → IsOn s old → CoreStep old f.event new → IsWayStep name bytes f →
+      SealedTo (seal_by f.event.step f.event.answer) s new
   way_step f s old new on made is =
       let e = f.event in
       let steps = running_step old new e on.runs made in
@@ -330,12 +334,14 @@ module _ (s : Store) (old new : CoreState) (on : IsOn s old) where
     whole = subst (IndexesAll s) (sym tables.index_is) on.whole;
   })
 
-  unsealed : (filled : Contents) (actor : ℕ) (buf : List ℕ) (refusal : Refusal) → Row (asked.Seal filled) actor (Err refusal) buf old new → SealsOne filled (Err refusal) old new → AreUnless refusal s new
+  unsealed : (filled : Contents) (actor : ℕ) (buf : List ℕ) (refusal : Refusal) → Row (asked.Seal filled) actor (Err refusal) buf old new → SealsOne filled (Err refusal) old new →
+      AreUnless refusal s new
   unsealed filled actor buf DiskWrite row effect = tt
   unsealed filled actor buf (Damaged at why) row effect = absurd (let none : None ≡ Some on.told.0 = sym row.0.2 ∙ on.told.1 in cc)
   unsealed filled actor buf refusal row effect = kept refusal effect.kept effect.disk.later
 
-  step_refused : (step : StepValue) → IsNoGcStep step → (actor : ℕ) (buf : List ℕ) (refusal : Refusal) → Row step actor (Err refusal) buf old new → Effect step (Err refusal) old new → AreUnless refusal s new
+  step_refused : (step : StepValue) → IsNoGcStep step → (actor : ℕ) (buf : List ℕ) (refusal : Refusal) → Row step actor (Err refusal) buf old new →
+      Effect step (Err refusal) old new → AreUnless refusal s new
   step_refused asked.Begin no_gc actor buf refusal row effect = kept refusal effect.tables effect.disk.only.later
   step_refused (asked.Claim seg) no_gc actor buf refusal row effect = kept refusal effect.tables effect.disk.only.later
   step_refused (asked.Seal filled) no_gc actor buf refusal row effect = unsealed filled actor buf refusal row effect
@@ -356,11 +362,18 @@ module _ (s : Store) (old new : CoreState) (on : IsOn s old) where
       record {
         root = root;
         can = (made.can.store_has s on.represents on.valid on.has_free).0;
-        are = record { represents = made.represents.store_has s on.represents on.valid on.has_free; valid = made.valid.store_has s on.represents on.valid on.has_free; has_free = on.has_free; whole = made.whole.store_has s on.represents on.valid on.has_free on.whole };
+        are = record {
+          represents = made.represents.store_has s on.represents on.valid on.has_free;
+          valid = made.valid.store_has s on.represents on.valid on.has_free;
+          has_free =
+              on.has_free;
+          whole = made.whole.store_has s on.represents on.valid on.has_free on.whole;
+        };
         durable = effect.durable;
       }
 
-  put_last : (name bytes put : List ℕ) (step : StepValue) (answer : Result Answer Refusal) → IsAskedFor name bytes step put → IsLastPut step answer → Effect step answer old new → IsPutAt name s new
+  put_last : (name bytes put : List ℕ) (step : StepValue) (answer : Result Answer Refusal) → IsAskedFor name bytes step put → IsLastPut step answer → Effect step answer old new →
+      IsPutAt name s new
   put_last name bytes put (asked.Commit n root) (Err refusal) asks last effect = absurd last
   put_last name bytes put (asked.Commit n root) (Ok answer) asks last effect = subst (λ (x : List ℕ). IsPutAt x s new) asks.0 (was_put n root answer effect)
   put_last name bytes put asked.Begin answer asks last effect = absurd last
@@ -385,7 +398,8 @@ module _ (C : Type 0) (state : C → CoreState) (name bytes : List ℕ) (s : Sto
   ends_at (Err refusal) mid new on (inr last) =
       let e = last.f.event in
       let steps = running_step (state mid) (state new) e on.runs last.made in
-      step_refused s (state mid) (state new) on e.step (asked_no_gc name bytes e.step last.f.bytes last.put_step.asked_for) e.actor e.buf refusal (subst (λ (answer : Result Answer Refusal). Row e.step e.actor answer e.buf (state mid) (state new)) last.answer_is steps.made.row)
+      step_refused s (state mid) (state new) on e.step (asked_no_gc name bytes e.step last.f.bytes last.put_step.asked_for) e.actor e.buf refusal
+      (subst (λ (answer : Result Answer Refusal). Row e.step e.actor answer e.buf (state mid) (state new)) last.answer_is steps.made.row)
       (subst (λ (answer : Result Answer Refusal). Effect e.step answer (state mid) (state new)) last.answer_is steps.made.effect)
 
 -- From a store that a core is on, the steps seal containers; the store that they lead to can take the name, or is that of the

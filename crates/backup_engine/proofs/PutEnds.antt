@@ -24,7 +24,8 @@ ended (Err refusal) = Some (Refused refusal)
 -- ---- a step
 
 -- a step that is no commit puts no file, and tries none
-puts_none : (step : StepValue) (answer : Result Answer Refusal) (bytes : List ℕ) (m : Stored) → IsNoCommit step → (stored_with step answer bytes m ≡ m) × (stored_tried step answer bytes m ≡ m)
+puts_none : (step : StepValue) (answer : Result Answer Refusal) (bytes : List ℕ) (m : Stored) → IsNoCommit step → (stored_with step answer bytes m ≡ m)
+    × (stored_tried step answer bytes m ≡ m)
 puts_none (asked.Commit name root) answer bytes m kind = absurd kind
 puts_none asked.Begin answer bytes m kind = (refl, refl)
 puts_none (asked.Claim seg) answer bytes m kind = (refl, refl)
@@ -106,17 +107,20 @@ module _ (S : List ℕ → Type 0) (name given : List ℕ) (m : Stored) where
   same_put : (n bytes : List ℕ) → n ≡ name → bytes ≡ given → with_stored m n bytes ≡ after
   same_put n bytes names same = ap (λ (x : List ℕ). with_stored m x bytes) names ∙ ap (with_stored m name) same
 
-  done_with : (step : StepValue) (answer : Result Answer Refusal) (bytes : List ℕ) → IsAskedFor name given step bytes → IsLastPut step answer → stored_with step answer bytes m ≡ after
+  done_with : (step : StepValue) (answer : Result Answer Refusal) (bytes : List ℕ) → IsAskedFor name given step bytes → IsLastPut step answer →
+      stored_with step answer bytes m ≡ after
   done_with (asked.Commit n root) (Ok answer) bytes is last = same_put n bytes is.0 is.2
   done_with (asked.Commit n root) (Err refusal) bytes is last = absurd last
   done_with step answer bytes is last = absurd last
 
-  done_tried : (step : StepValue) (answer : Result Answer Refusal) (bytes : List ℕ) → IsAskedFor name given step bytes → IsLastPut step answer → stored_tried step answer bytes m ≡ after
+  done_tried : (step : StepValue) (answer : Result Answer Refusal) (bytes : List ℕ) → IsAskedFor name given step bytes → IsLastPut step answer →
+      stored_tried step answer bytes m ≡ after
   done_tried (asked.Commit n root) (Ok answer) bytes is last = same_put n bytes is.0 is.2
   done_tried (asked.Commit n root) (Err refusal) bytes is last = absurd last
   done_tried step answer bytes is last = absurd last
 
-  failed_tried : (step : StepValue) (refusal : Refusal) (bytes : List ℕ) (c : List ℕ) → IsAskedFor name given step bytes → CanTry step (Err refusal) → OpensAs S (stored_tried step (Err refusal) bytes m) c → Left (Err refusal) c
+  failed_tried : (step : StepValue) (refusal : Refusal) (bytes : List ℕ) (c : List ℕ) → IsAskedFor name given step bytes → CanTry step (Err refusal) →
+      OpensAs S (stored_tried step (Err refusal) bytes m) c → Left (Err refusal) c
   failed_tried (asked.Commit n root) refusals.DiskWrite bytes c is can of = inr (can, subst (λ (x : Stored). OpensAs S x c) (same_put n bytes is.0 is.2) of)
   failed_tried (asked.Commit n root) refusal bytes c is can of = of
   failed_tried asked.Begin refusal bytes c is can of = left_before refusal c of
@@ -129,10 +133,12 @@ module _ (S : List ℕ → Type 0) (name given : List ℕ) (m : Stored) where
   last_with f (Err refusal) step (inl is) = ap (λ (a : Result Answer Refusal). stored_with f.event.step a f.bytes m) is ∙ refused_with f.event.step refusal f.bytes m
   last_with f (Err refusal) step (inr is) = none_with f.event.step f.event.answer f.bytes m is.0.0
 
-  last_tried : (f : FileEvent) (put : Result Unit Refusal) (c : List ℕ) → IsPutStep name given f → EndsPut (f ∷ []) put → CanTryBy f → OpensAs S (stored_tried f.event.step f.event.answer f.bytes m) c → Left put c
+  last_tried : (f : FileEvent) (put : Result Unit Refusal) (c : List ℕ) → IsPutStep name given f → EndsPut (f ∷ []) put → CanTryBy f →
+      OpensAs S (stored_tried f.event.step f.event.answer f.bytes m) c → Left put c
   last_tried f (Ok u) c step ends can of = subst (λ (x : Stored). OpensAs S x c) (done_tried f.event.step f.event.answer f.bytes step.asked_for ends) of
   last_tried f (Err refusal) c step (inl is) can of =
-      failed_tried f.event.step refusal f.bytes c step.asked_for (subst (CanTry f.event.step) is can) (subst (λ (a : Result Answer Refusal). OpensAs S (stored_tried f.event.step a f.bytes m) c) is of)
+      failed_tried f.event.step refusal f.bytes c step.asked_for (subst (CanTry f.event.step) is can)
+      (subst (λ (a : Result Answer Refusal). OpensAs S (stored_tried f.event.step a f.bytes m) c) is of)
   last_tried f (Err refusal) c step (inr is) can of = left_before refusal c (subst (λ (x : Stored). OpensAs S x c) (none_tried f.event.step f.event.answer f.bytes m is.0.0) of)
 
   left_by : (put : Result Unit Refusal) (c : List ℕ) → OpensAs S (put_after put) c → Left put c
@@ -149,12 +155,14 @@ module _ (S : List ℕ → Type 0) (name given : List ℕ) (m : Stored) where
   maps_after (f ∷ g ∷ fs) put each ends = ap (stored_after (g ∷ fs)) (none_with f.event.step f.event.answer f.bytes m ends.0.0) ∙ maps_after (g ∷ fs) put each.1 ends.1
 
   -- where a write that failed may stand
-  pub maps_tried : (fs : List FileEvent) (put : Result Unit Refusal) (c : List ℕ) → AllByRecursion (IsPutStep name given) fs → EndsPut fs put → AllByRecursion CanTryBy fs → OpensAs S (stored_tried_by fs m) c → Left put c
+  pub maps_tried : (fs : List FileEvent) (put : Result Unit Refusal) (c : List ℕ) → AllByRecursion (IsPutStep name given) fs → EndsPut fs put → AllByRecursion CanTryBy fs →
+      OpensAs S (stored_tried_by fs m) c → Left put c
   maps_tried [] (Ok u) c each ends can of = absurd ends
   maps_tried [] (Err refusal) c each ends can of = left_before refusal c of
   maps_tried (f ∷ []) put c each ends can of = last_tried f put c each.0 ends can.0 of
   maps_tried (f ∷ g ∷ fs) put c each ends can of =
-      maps_tried (g ∷ fs) put c each.1 ends.1 can.1 (subst (λ (x : Stored). OpensAs S (stored_tried_by (g ∷ fs) x) c) (none_tried f.event.step f.event.answer f.bytes m ends.0.0) of)
+      maps_tried (g ∷ fs) put c each.1 ends.1 can.1 (subst (λ (x : Stored). OpensAs S (stored_tried_by (g ∷ fs) x) c) (none_tried f.event.step f.event.answer f.bytes m ends.0.0)
+      of)
 
   pub left_at_end : (fs : List FileEvent) (put : Result Unit Refusal) (c : List ℕ) → AllByRecursion (IsPutStep name given) fs → EndsPut fs put → AllByRecursion CanTryBy fs
       → OpensAs S (stored_after fs m) c ⊎ OpensAs S (stored_tried_by fs m) c → Left put c
@@ -162,7 +170,8 @@ module _ (S : List ℕ → Type 0) (name given : List ℕ) (m : Stored) where
   left_at_end fs put c each ends can (inr of) = maps_tried fs put c each ends can of
 
   -- and on the way
-  pub left_on_the_way : (fs : List FileEvent) (put : Result Unit Refusal) (c : List ℕ) → AllByRecursion (IsPutStep name given) fs → EndsPut fs put → CanBe put → AllByRecursion CanTryBy fs → IsOnTheWay S fs m c
+  pub left_on_the_way : (fs : List FileEvent) (put : Result Unit Refusal) (c : List ℕ) → AllByRecursion (IsPutStep name given) fs → EndsPut fs put → CanBe put →
+      AllByRecursion CanTryBy fs → IsOnTheWay S fs m c
       → LeftMeanwhile put c
   left_on_the_way [] put c each ends may can of = inl of
   left_on_the_way (f ∷ []) put c each ends may can (inl of) = inl of

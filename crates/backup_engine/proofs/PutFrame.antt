@@ -170,7 +170,8 @@ module _ (first : Store) (base : List ℕ) where
     reads_held : OnlyReads old.disk new.disk → Leaves All old.disk new.disk × IsSettled first.slots new.disk
     reads_held reads = (by_reads first base t old new on held reads, still_settled first base t old new on held reads)
 
-    step_held : (name bytes put : List ℕ) (step : StepValue) (answer : Result Answer Refusal) → IsAskedFor name bytes step put → IsNoCommit step → IsOk answer → Effect step answer old new
+    step_held : (name bytes put : List ℕ) (step : StepValue) (answer : Result Answer Refusal) → IsAskedFor name bytes step put → IsNoCommit step → IsOk answer →
+        Effect step answer old new
         → Leaves All old.disk new.disk × IsSettled first.slots new.disk
     step_held name bytes put step (Err refusal) asks other ok effect = absurd ok
     step_held name bytes put asked.Begin (Ok answer) asks other ok effect = reads_held effect.disk.only
@@ -218,7 +219,8 @@ module _ (first : Store) (base : List ℕ) where
       abbrev HasPut : List ℕ → Root → Type 0
       HasPut n root = StandsFor (HasJournal (with_change n (Put root) first)) new.disk
 
-      commit_named : (put n : List ℕ) (root : Root) (answer : Result Answer Refusal) → IsLastPut (asked.Commit n root) answer → IsAskedFor name bytes (asked.Commit n root) put → NamesOne n (Put root) answer old new
+      commit_named : (put n : List ℕ) (root : Root) (answer : Result Answer Refusal) → IsLastPut (asked.Commit n root) answer → IsAskedFor name bytes (asked.Commit n root) put →
+          NamesOne n (Put root) answer old new
           → HasJournal first base → HasPut name (root_of bytes)
       commit_named put n root (Err refusal) last asks effect has = absurd last
       commit_named put n root (Ok answer) last asks effect has =
@@ -250,11 +252,13 @@ module _ (first : Store) (base : List ℕ) (right : Encodes base first) (reserve
     reads_open ending reads = here_open ending (by_reads first base t old new framed.on framed.held reads)
 
     -- a root was given to the name, or in part
-    put_change : (ending : Option Ending) → MayChange ending → (n : List ℕ) (root : Root) (answer : Result Answer Refusal) → n ≡ name → NamesOne n (Put root) answer old new → EndsSo ending
+    put_change : (ending : Option Ending) → MayChange ending → (n : List ℕ) (root : Root) (answer : Result Answer Refusal) → n ≡ name → NamesOne n (Put root) answer old new →
+        EndsSo ending
     put_change ending may n root answer is effect =
         by_change first base t old new framed.on framed.held name ending right reserve may root answer (subst (λ (x : List ℕ). NamesOne x (Put root) answer old new) is effect)
 
-    put_open : (ending : Option Ending) → MayChange ending → (bytes put : List ℕ) (step : StepValue) (answer : Result Answer Refusal) → IsAskedFor name bytes step put → IsLastPut step answer
+    put_open : (ending : Option Ending) → MayChange ending → (bytes put : List ℕ) (step : StepValue) (answer : Result Answer Refusal) → IsAskedFor name bytes step put →
+        IsLastPut step answer
         → Effect step answer old new → EndsSo ending
     put_open ending may bytes put (asked.Commit n root) (Err refusal) asks last effect = absurd last
     put_open ending may bytes put (asked.Commit n root) (Ok answer) asks last effect = put_change ending may n root (Ok answer) asks.0 effect
@@ -277,10 +281,12 @@ module _ (first : Store) (base : List ℕ) (right : Encodes base first) (reserve
     uncommitted n root DiskRead is effect = reads_open (Some (Refused DiskRead)) effect.disk.ends
     uncommitted n root refusal is effect = reads_open (Some (Refused refusal)) effect.disk.ends
 
-    refused_open : (bytes put : List ℕ) (refusal : Refusal) (step : StepValue) → IsAskedFor name bytes step put → Effect step (Err refusal) old new → EndsSo (Some (Refused refusal))
+    refused_open : (bytes put : List ℕ) (refusal : Refusal) (step : StepValue) → IsAskedFor name bytes step put → Effect step (Err refusal) old new →
+        EndsSo (Some (Refused refusal))
     refused_open bytes put refusal asked.Begin asks effect = reads_open (Some (Refused refusal)) effect.disk.only
     refused_open bytes put refusal (asked.Claim seg) asks effect = reads_open (Some (Refused refusal)) effect.disk.only
-    refused_open bytes put refusal (asked.Seal filled) asks effect = here_open (Some (Refused refusal)) (by_seal first base t old new framed.on framed.held filled (Err refusal) effect)
+    refused_open bytes put refusal (asked.Seal filled) asks effect =
+        here_open (Some (Refused refusal)) (by_seal first base t old new framed.on framed.held filled (Err refusal) effect)
     refused_open bytes put refusal (asked.Commit n root) asks effect = uncommitted n root refusal asks.0 effect
     refused_open bytes put refusal asked.Abort asks effect = absurd asks
     refused_open bytes put refusal (asked.OpenRead n) asks effect = absurd asks

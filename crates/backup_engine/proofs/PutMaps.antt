@@ -57,8 +57,10 @@ by_write DiskWrite = inl refl
 by_write refusal = inr (λ is. subst IsWrite (sym is) tt)
 
 -- what the store of a map refuses the map refuses, but for a clash
-refuses_by : (name given : List ℕ) (m : Stored) (content : Option (List ℕ)) (disk : DiskView) (t : Store) (c : CoreState) (refusal : Refusal) → Represents t c.known c.tables → room_in (Ingest name) t ≡ room_of (Ingest name) m t
-    → IsValidFor c.disk.size t → HasFree t.held → IndexesAll t c.known → IsRight given m content refusal → IsPutRefusal name given disk c refusal → RefusesBut name given (room_of (Ingest name) m t) refusal
+refuses_by : (name given : List ℕ) (m : Stored) (content : Option (List ℕ)) (disk : DiskView) (t : Store) (c : CoreState) (refusal : Refusal) → Represents t c.known c.tables →
+    room_in (Ingest name) t ≡ room_of (Ingest name) m t
+    → IsValidFor c.disk.size t → HasFree t.held → IndexesAll t c.known → IsRight given m content refusal → IsPutRefusal name given disk c refusal →
+    RefusesBut name given (room_of (Ingest name) m t) refusal
 refuses_by name given m content disk t c Memory represents same valid free whole right is = tt
 refuses_by name given m content disk t c DiskRead represents same valid free whole right is = tt
 refuses_by name given m content disk t c DiskWrite represents same valid free whole right is = tt
@@ -72,14 +74,17 @@ one_image : (a b : List ℕ) → Some a ≡ Some b → a ≡ b
 one_image a b is = cc
 
 -- after a write that failed nothing is said of what was added
-refused_adds : (name given : List ℕ) (refusal : Refusal) (store : Store) (content : Option (List ℕ)) → (¬ (refusal ≡ DiskWrite) → AddsTo given (λ after. after) store content) → Adds (Ingest name) given (Some (Refused refusal)) store content
+refused_adds : (name given : List ℕ) (refusal : Refusal) (store : Store) (content : Option (List ℕ)) → (¬ (refusal ≡ DiskWrite) → AddsTo given (λ after. after) store content) →
+    Adds (Ingest name) given (Some (Refused refusal)) store content
 refused_adds name given DiskWrite store content adds = tt
 refused_adds name given refusal store content adds = adds (λ is. subst IsWrite (sym is) tt)
 
 -- ---- a run over a map
 
-module _ (C : Type 0) (state : C → CoreState) (v w : DiskView) (old new : C) (was : Called C state v w old new) (name given : List ℕ) (put : Result Unit Refusal) (ran : PutRun C state name given put old new)
-    (among : ByteSet) (m : Stored) (image : List ℕ) (told : v.content ≡ Some image) (distinct : HasNoCollisions (IsIn among)) (all : (segment : List ℕ) → IsSegmentOf given segment → IsIn among segment)
+module _ (C : Type 0) (state : C → CoreState) (v w : DiskView) (old new : C) (was : Called C state v w old new) (name given : List ℕ) (put : Result Unit Refusal)
+    (ran : PutRun C state name given put old new)
+    (among : ByteSet) (m : Stored) (image : List ℕ) (told : v.content ≡ Some image) (distinct : HasNoCollisions (IsIn among))
+    (all : (segment : List ℕ) → IsSegmentOf given segment → IsIn among segment)
     (is : IsOf (IsIn among) m image) where
   abbrev S : List ℕ → Type 0
   S = IsIn among
@@ -89,7 +94,8 @@ module _ (C : Type 0) (state : C → CoreState) (v w : DiskView) (old new : C) (
 
   run : FileRun C state S ran.steps old new
   run =
-      file_run C state among name given distinct all start.store m old start.is_at (settled C state v w old new was (state old).tables.slots) ran.steps new ran.ran ran.each ran.whole
+      file_run C state among name given distinct all start.store m old start.is_at (settled C state v w old new was (state old).tables.slots) ran.steps new ran.ran ran.each
+      ran.whole
 
   crashes : CrashLeaves (IsOnTheWay S ran.steps m) (state old).disk (state new).disk
   crashes = leaves C state among distinct ran.steps start.store m old new start.is_at run
@@ -103,7 +109,8 @@ module _ (C : Type 0) (state : C → CoreState) (v w : DiskView) (old new : C) (
 
   -- at the end
   image_left : (c : List ℕ) → (state new).disk.images c → Left S name given m put c
-  image_left c there = left_at_end S name given m ran.steps put c ran.each ran.ends can_try (ends_with_all C state among ran.steps start.store m old new distinct start.is_at run c there)
+  image_left c there = left_at_end S name given m ran.steps put c ran.each ran.ends can_try
+      (ends_with_all C state among ran.steps start.store m old new distinct start.is_at run c there)
 
   images_left : (c : List ℕ) → w.images c → Left S name given m put c
   images_left c there = image_left c (was.last.only.images_are c there)
@@ -125,7 +132,8 @@ module _ (C : Type 0) (state : C → CoreState) (v w : DiskView) (old new : C) (
   -- A command that ended so, and left what the put left.
   keeps : (ending : Option Ending) (sink sink_now : SinkView) → EndsBy (Ingest name) given m w.content ending → WroteReply (stored_line name (root_of given)) ending sink sink_now
       → ((store : Store) → Encodes image store → Adds (Ingest name) given ending store w.content)
-      → ((c : List ℕ) → Left S name given m put c → IsLeftAs S (Ingest name) given m ending c) → ((c : List ℕ) → LeftMeanwhile S name given m put c → MayBeMeanwhile S (Ingest name) given m ending c)
+      → ((c : List ℕ) → Left S name given m put c → IsLeftAs S (Ingest name) given m ending c) →
+      ((c : List ℕ) → LeftMeanwhile S name given m put c → MayBeMeanwhile S (Ingest name) given m ending c)
       → KeepsMap S (Ingest name) given ending m v w sink sink_now
   keeps ending sink sink_now by_map wrote adds at_end between = record {
     by_map = by_map;
@@ -151,12 +159,16 @@ module _ (C : Type 0) (state : C → CoreState) (v w : DiskView) (old new : C) (
       let holds = (stands_content (collisions.Stands S end.store (stored_after ran.steps m).files) (state new).disk end.is_at.stands left here).holds in
       let once : AddsOnce given (seals_of ran.steps) first = ran.adds.store_has first start.is_at.represents start.is_at.valid (omega (arith, start.reserve)) start.whole in
       subst (λ (s : Store). AddsTo given (put_in name given put) s w.content) (store_once image first store start.stands.holds.right right)
-      (adds_to name given ran.steps put first end.store w.content ran.each ran.ends (subst (λ (changes : List StoreChange). ChangesTo changes first end.store) (changes_told ran.steps end.changes others end.changes_are) end.chain) once (left, was.last.only.content_is ∙ here, holds.right))
+      (adds_to name given ran.steps put first end.store w.content ran.each ran.ends
+      (subst (λ (changes : List StoreChange). ChangesTo changes first end.store) (changes_told ran.steps end.changes others end.changes_are) end.chain) once
+      (left, was.last.only.content_is ∙ here, holds.right))
 
 -- ---- a put that was refused
 
-module _ (C : Type 0) (state : C → CoreState) (v w : DiskView) (old new : C) (was : Called C state v w old new) (name given : List ℕ) (refusal : Refusal) (ran : PutRun C state name given (Err refusal) old new) where
-  module _ (among : ByteSet) (m : Stored) (image : List ℕ) (told : v.content ≡ Some image) (distinct : HasNoCollisions (IsIn among)) (all : (segment : List ℕ) → IsSegmentOf given segment → IsIn among segment)
+module _ (C : Type 0) (state : C → CoreState) (v w : DiskView) (old new : C) (was : Called C state v w old new) (name given : List ℕ) (refusal : Refusal)
+    (ran : PutRun C state name given (Err refusal) old new) where
+  module _ (among : ByteSet) (m : Stored) (image : List ℕ) (told : v.content ≡ Some image) (distinct : HasNoCollisions (IsIn among))
+      (all : (segment : List ℕ) → IsSegmentOf given segment → IsIn among segment)
       (is : IsOf (IsIn among) m image) where
     abbrev first : Starts (IsIn among) m image (state old)
     first = starts C state v w old new was (IsIn among) m image told is
@@ -171,11 +183,18 @@ module _ (C : Type 0) (state : C → CoreState) (v w : DiskView) (old new : C) (
     at_end other =
         let end = reached C state v w old new was name given (Err refusal) ran among m image told distinct all is (runs_on other).runs in (
           end.store,
-          (subst (λ (stored : Stored). IsAt (IsIn among) end.store stored (state new)) (maps_after (IsIn among) name given m ran.steps (Err refusal) ran.each ran.ends) end.is_at, end.whole (puts_no_gc name given ran.steps ran.each) first.whole, enough_after end.changes first.store end.store (none_flushed ran.steps end.changes (puts_no_gc name given ran.steps ran.each) end.changes_are) end.chain first.reserve),
+          (
+            subst (λ (stored : Stored). IsAt (IsIn among) end.store stored (state new)) (maps_after (IsIn among) name given m ran.steps (Err refusal) ran.each ran.ends) end.is_at,
+            end.whole (puts_no_gc name given ran.steps ran.each) first.whole,
+            enough_after end.changes first.store end.store
+                (none_flushed ran.steps end.changes (puts_no_gc name given ran.steps ran.each) end.changes_are) end.chain first.reserve,
+          ),
         )
 
     -- what is so of that store
-    store_left : (P : Store → Type 0) → ¬ (refusal ≡ DiskWrite) → ((t : Store) (left : List ℕ) → IsAt (IsIn among) t m (state new) → IndexesAll t (state new).known → room_in (Ingest name) t ≡ room_of (Ingest name) m t → HasFree t.held → P t)
+    store_left : (P : Store → Type 0) → ¬ (refusal ≡ DiskWrite) →
+        ((t : Store) (left : List ℕ) → IsAt (IsIn among) t m (state new) → IndexesAll t (state new).known → room_in (Ingest name) t ≡ room_of (Ingest name) m t → HasFree t.held →
+        P t)
         → IsLeftWith m w.content P
     store_left P other each =
         let end = at_end other in
@@ -199,7 +218,8 @@ module _ (C : Type 0) (state : C → CoreState) (v w : DiskView) (old new : C) (
 
     not_done : (sink : SinkView) → IsPutRefusal name given (state old).disk (state new) refusal → KeepsMap (IsIn among) (Ingest name) given (Some (Refused refusal)) m v w sink sink
     not_done sink why = keeps C state v w old new was name given (Err refusal) ran among m image told distinct all is (Some (Refused refusal)) sink sink (by_map why) refl
-        (λ store right. refused_adds name given refusal store w.content (λ other. adds C state v w old new was name given (Err refusal) ran among m image told distinct all is (runs_on other).runs store right))
+        (λ store right. refused_adds name given refusal store w.content
+        (λ other. adds C state v w old new was name given (Err refusal) ran among m image told distinct all is (runs_on other).runs store right))
         (λ c left. left) (λ c left. left)
 
   -- It is refused as the map has it, and leaves the map.
@@ -211,26 +231,34 @@ module _ (C : Type 0) (state : C → CoreState) (v w : DiskView) (old new : C) (
 memory_only : ¬ (Memory ≡ DiskWrite)
 memory_only is = cc
 
-module _ (C : Type 0) (state : C → CoreState) (v w : DiskView) (old new : C) (was : Called C state v w old new) (name given : List ℕ) (source source_now : SourceView) (ran : PutRun C state name given (Err Memory) old new) (sink : SinkView) where
-  module _ (among : ByteSet) (m : Stored) (image : List ℕ) (told : v.content ≡ Some image) (distinct : HasNoCollisions (IsIn among)) (all : (segment : List ℕ) → IsSegmentOf given segment → IsIn among segment)
+module _ (C : Type 0) (state : C → CoreState) (v w : DiskView) (old new : C) (was : Called C state v w old new) (name given : List ℕ) (source source_now : SourceView)
+    (ran : PutRun C state name given (Err Memory) old new) (sink : SinkView) where
+  module _ (among : ByteSet) (m : Stored) (image : List ℕ) (told : v.content ≡ Some image) (distinct : HasNoCollisions (IsIn among))
+      (all : (segment : List ℕ) → IsSegmentOf given segment → IsIn among segment)
       (is : IsOf (IsIn among) m image) where
     stopped_adds : (store : Store) → Encodes image store → AddsTo given (λ after. after) store w.content
     stopped_adds =
-        adds C state v w old new was name given (Err Memory) ran among m image told distinct all is (runs_on C state v w old new was name given Memory ran among m image told distinct all is memory_only).runs
+        adds C state v w old new was name given (Err Memory) ran among m image told distinct all is
+        (runs_on C state v w old new was name given Memory ran among m image told distinct all is memory_only).runs
 
     long_left : MOST_FILE < length given → IsLeftWith m w.content (λ store. MOST_FILE < length given)
-    long_left long = store_left C state v w old new was name given Memory ran among m image told distinct all is (λ store. MOST_FILE < length given) memory_only (λ t left at whole room free. long)
+    long_left long = store_left C state v w old new was name given Memory ran among m image told distinct all is (λ store. MOST_FILE < length given) memory_only
+        (λ t left at whole room free. long)
 
-    stopped_keeps : (ending : Ending) → IsSourceFault source source_now ending → (ending ≡ Refused TooLong → MOST_FILE < length given) → KeepsMap (IsIn among) (Ingest name) given (Some ending) m v w sink sink
+    stopped_keeps : (ending : Ending) → IsSourceFault source source_now ending → (ending ≡ Refused TooLong → MOST_FILE < length given) →
+        KeepsMap (IsIn among) (Ingest name) given (Some ending) m v w sink sink
     stopped_keeps Source cause long =
-        keeps C state v w old new was name given (Err Memory) ran among m image told distinct all is (Some Source) sink sink (name, refl) refl stopped_adds (λ c left. left) (λ c left. left)
+        keeps C state v w old new was name given (Err Memory) ran among m image told distinct all is (Some Source) sink sink (name, refl) refl stopped_adds (λ c left. left)
+        (λ c left. left)
     stopped_keeps (Refused Memory) cause long = not_done C state v w old new was name given Memory ran among m image told distinct all is sink tt
     stopped_keeps (Refused TooLong) cause long =
-        keeps C state v w old new was name given (Err Memory) ran among m image told distinct all is (Some (Refused TooLong)) sink sink (long_left (long refl)) refl stopped_adds (λ c left. left) (λ c left. left)
+        keeps C state v w old new was name given (Err Memory) ran among m image told distinct all is (Some (Refused TooLong)) sink sink (long_left (long refl)) refl stopped_adds
+        (λ c left. left) (λ c left. left)
     stopped_keeps ending cause long = absurd cause
 
   -- It leaves the map, too.
-  pub stopped_map : (ending : Ending) → IsSourceFault source source_now ending → (ending ≡ Refused TooLong → MOST_FILE < length given) → KeepsEachMap (Ingest name) given (Some ending) v w sink sink
+  pub stopped_map : (ending : Ending) → IsSourceFault source source_now ending → (ending ≡ Refused TooLong → MOST_FILE < length given) →
+      KeepsEachMap (Ingest name) given (Some ending) v w sink sink
   stopped_map ending cause long image told among m distinct all is = stopped_keeps among m image told distinct all is ending cause long
 
 -- ---- a put that was done
@@ -241,8 +269,10 @@ IsDone None = Unit {0}
 IsDone (Some Sink) = Unit {0}
 IsDone (Some ending) = ⊥
 
-module _ (C : Type 0) (state : C → CoreState) (v w : DiskView) (old new : C) (was : Called C state v w old new) (name given : List ℕ) (u : Unit {0}) (ran : PutRun C state name given (Ok u) old new) where
-  module _ (among : ByteSet) (m : Stored) (image : List ℕ) (told : v.content ≡ Some image) (distinct : HasNoCollisions (IsIn among)) (all : (segment : List ℕ) → IsSegmentOf given segment → IsIn among segment)
+module _ (C : Type 0) (state : C → CoreState) (v w : DiskView) (old new : C) (was : Called C state v w old new) (name given : List ℕ) (u : Unit {0})
+    (ran : PutRun C state name given (Ok u) old new) where
+  module _ (among : ByteSet) (m : Stored) (image : List ℕ) (told : v.content ≡ Some image) (distinct : HasNoCollisions (IsIn among))
+      (all : (segment : List ℕ) → IsSegmentOf given segment → IsIn among segment)
       (is : IsOf (IsIn among) m image) where
     can : CanBeDone (Ingest name) given m
     can = can_be C state v w old new was name given (Ok u) ran among m image told distinct all is (Ok u) ran.ends
@@ -250,11 +280,14 @@ module _ (C : Type 0) (state : C → CoreState) (v w : DiskView) (old new : C) (
     -- it runs on
     done_adds : (store : Store) → Encodes image store → AddsTo given (with_change name (Put (root_of given))) store w.content
     done_adds store right =
-        let runs = done_on C state among name given distinct ran.steps u old new was.opened.stop_is (run C state v w old new was name given (Ok u) ran among m image told distinct all is) ran.each ran.ends in
+        let runs = done_on C state among name given distinct ran.steps u old new was.opened.stop_is
+        (run C state v w old new was name given (Ok u) ran among m image told distinct all is) ran.each ran.ends in
         adds C state v w old new was name given (Ok u) ran among m image told distinct all is runs store right
 
-    done_keeps : (ending : Option Ending) (sink sink_now : SinkView) → IsDone ending → WroteReply (stored_line name (root_of given)) ending sink sink_now → KeepsMap (IsIn among) (Ingest name) given ending m v w sink sink_now
-    done_keeps None sink sink_now done wrote = keeps C state v w old new was name given (Ok u) ran among m image told distinct all is None sink sink_now can wrote done_adds (λ c left. left) (λ c left. left)
+    done_keeps : (ending : Option Ending) (sink sink_now : SinkView) → IsDone ending → WroteReply (stored_line name (root_of given)) ending sink sink_now →
+        KeepsMap (IsIn among) (Ingest name) given ending m v w sink sink_now
+    done_keeps None sink sink_now done wrote = keeps C state v w old new was name given (Ok u) ran among m image told distinct all is None sink sink_now can wrote done_adds
+        (λ c left. left) (λ c left. left)
     done_keeps (Some Sink) sink sink_now done wrote =
         keeps C state v w old new was name given (Ok u) ran among m image told distinct all is (Some Sink) sink sink_now can wrote done_adds (λ c left. left) (λ c left. left)
     done_keeps (Some ending) sink sink_now done wrote = absurd done

@@ -36,7 +36,8 @@ ok_runs step (Ok answer) count stop ok stops = stops
 ok_runs step (Err refusal) count stop ok stops = absurd ok
 
 -- nor one that was refused, but for a write that failed, and damage
-refused_runs : (step : StepValue) (refusal : Refusal) (count : ℕ) (stop : Option Stop) (clash : Type 0) → ¬ (refusal ≡ refusals.DiskWrite) → IsHarmless clash refusal → StopsAfter step (Err refusal) count stop → stop ≡ None
+refused_runs : (step : StepValue) (refusal : Refusal) (count : ℕ) (stop : Option Stop) (clash : Type 0) → ¬ (refusal ≡ refusals.DiskWrite) → IsHarmless clash refusal →
+    StopsAfter step (Err refusal) count stop → stop ≡ None
 refused_runs step refusals.DiskWrite count stop clash other harmless stops = absurd (other refl)
 refused_runs step (refusals.Damaged at why) count stop clash other harmless stops = absurd harmless
 refused_runs step refusal count stop clash other harmless stops = stops
@@ -59,11 +60,13 @@ memory_runs : (given : List ℕ) (m : Stored) (refusal : Refusal) (c : CoreState
 memory_runs given m refusal c is runs = record { runs = runs; right = memory_right given m c.disk.content refusal is }
 
 module _ (C : Type 0) (state : C → CoreState) (among : ByteSet) (name given : List ℕ) (distinct : HasNoCollisions (IsIn among)) where
-  last_runs : (f : FileEvent) (refusal : Refusal) (s : Store) (m : Stored) (old new : C) → ¬ (refusal ≡ refusals.DiskWrite) → (state old).stop ≡ None → IsAt (IsIn among) s m (state old)
+  last_runs : (f : FileEvent) (refusal : Refusal) (s : Store) (m : Stored) (old new : C) → ¬ (refusal ≡ refusals.DiskWrite) → (state old).stop ≡ None →
+      IsAt (IsIn among) s m (state old)
       → FileStep (IsIn among) f (state old) (state new) → IsPutStep name given f → EndsPut (f ∷ []) (Err refusal) → RunsOn given m refusal (state new)
   last_runs f refusal s m old new other runs at step put (inl is) =
       let harmless : IsHarmless (MayClash f.event.step) refusal =
-      subst (λ (answer : Result Answer Refusal). IfErr answer (λ r. IsHarmless (MayClash f.event.step) r)) is (never_damaged C state among [] f s m old old new distinct at refl step) in
+      subst (λ (answer : Result Answer Refusal). IfErr answer (λ r. IsHarmless (MayClash f.event.step) r)) is
+      (never_damaged C state among [] f s m old old new distinct at refl step) in
       let stops = (step_of (state old) (state new) f.event runs step.made).stops in
       let stays = refused_runs f.event.step refusal (state old).acknowledged (state new).stop (MayClash f.event.step) other harmless
       (subst (λ (answer : Result Answer Refusal). StopsAfter f.event.step answer (state old).acknowledged (state new).stop) is stops) in
@@ -71,7 +74,8 @@ module _ (C : Type 0) (state : C → CoreState) (among : ByteSet) (name given : 
   last_runs f refusal s m old new other runs at step put (inr is) = memory_runs given m refusal (state new) is.1 (goes_on (state old) (state new) f.event runs step.made is.0)
 
   -- where no write failed
-  pub refused_on : (fs : List FileEvent) (refusal : Refusal) (s : Store) (m : Stored) (old new : C) → ¬ (refusal ≡ refusals.DiskWrite) → (state old).stop ≡ None → IsAt (IsIn among) s m (state old)
+  pub refused_on : (fs : List FileEvent) (refusal : Refusal) (s : Store) (m : Stored) (old new : C) → ¬ (refusal ≡ refusals.DiskWrite) → (state old).stop ≡ None →
+      IsAt (IsIn among) s m (state old)
       → FileRun C state (IsIn among) fs old new → AllByRecursion (IsPutStep name given) fs → EndsPut fs (Err refusal) → RunsOn given m refusal (state new)
   refused_on [] refusal s m old new other runs at run each ends = memory_runs given m refusal (state new) ends (subst (λ (c : C). (state c).stop ≡ None) (sym run) runs)
   refused_on (f ∷ []) refusal s m old new other runs at run each ends =
@@ -84,7 +88,8 @@ module _ (C : Type 0) (state : C → CoreState) (among : ByteSet) (name given : 
 
   -- ---- a put that comes to a write which fails
 
-  tries : (step : StepValue) (answer : Result Answer Refusal) (actor : ℕ) (buf bytes : List ℕ) (old new : CoreState) (m : Stored) → IsAskedFor name given step bytes → Row step actor answer buf old new
+  tries : (step : StepValue) (answer : Result Answer Refusal) (actor : ℕ) (buf bytes : List ℕ) (old new : CoreState) (m : Stored) → IsAskedFor name given step bytes →
+      Row step actor answer buf old new
       → CanTry (IsIn among) name given m step answer
   tries (asked.Commit n root) (Err refusals.DiskWrite) actor buf bytes old new m is row = (subst IsName is.0 row.0.0.may_name.named, is.3)
   tries (asked.Commit n root) (Err refusal) actor buf bytes old new m is row = tt
@@ -96,27 +101,32 @@ module _ (C : Type 0) (state : C → CoreState) (among : ByteSet) (name given : 
   stopped_tries (asked.Commit n root) m at = tt
   stopped_tries step m at = tt
 
-  step_tries : (stop : Option Stop) (f : FileEvent) (old new : CoreState) (m : Stored) → IsPutStep name given f → StepsOr stop f.event old new → CanTryBy (IsIn among) name given m f
+  step_tries : (stop : Option Stop) (f : FileEvent) (old new : CoreState) (m : Stored) → IsPutStep name given f → StepsOr stop f.event old new →
+      CanTryBy (IsIn among) name given m f
   step_tries None f old new m put steps = tries f.event.step f.event.answer f.event.actor f.event.buf f.bytes old new m put.asked_for steps.made.row
   step_tries (Some stop) f old new m put steps = subst (CanTry (IsIn among) name given m f.event.step) (sym steps.answer_is) (stopped_tries f.event.step m stop.at)
 
   -- each commit of a run that comes to one has a good name, and the file is not too long
-  pub run_tries : (fs : List FileEvent) (old new : C) (m : Stored) → FileRun C state (IsIn among) fs old new → AllByRecursion (IsPutStep name given) fs → AllByRecursion (CanTryBy (IsIn among) name given m) fs
+  pub run_tries : (fs : List FileEvent) (old new : C) (m : Stored) → FileRun C state (IsIn among) fs old new → AllByRecursion (IsPutStep name given) fs →
+      AllByRecursion (CanTryBy (IsIn among) name given m) fs
   run_tries [] old new m run each = tt
   run_tries (f ∷ fs) old new m run each = (step_tries (state old).stop f (state old) (state run.0) m each.0 run.1.0.made, run_tries fs run.0 new m run.1.1 each.1)
 
   -- ---- a put that is done
 
-  last_can : (m : Stored) (step : StepValue) (answer : Result Answer Refusal) (actor : ℕ) (buf bytes : List ℕ) (old new : CoreState) → IsAskedFor name given step bytes → IsLastPut step answer → Row step actor answer buf old new → CanBeDone (Ingest name) given m
+  last_can : (m : Stored) (step : StepValue) (answer : Result Answer Refusal) (actor : ℕ) (buf bytes : List ℕ) (old new : CoreState) → IsAskedFor name given step bytes →
+      IsLastPut step answer → Row step actor answer buf old new → CanBeDone (Ingest name) given m
   last_can m (asked.Commit n root) (Ok (answers.Committed sequence)) actor buf bytes old new is last row = (subst IsName is.0 row.0.may_name.named, is.3)
   last_can m (asked.Commit n root) (Ok answer) actor buf bytes old new is last row = absurd row
   last_can m (asked.Commit n root) (Err refusal) actor buf bytes old new is last row = absurd last
   last_can m step answer actor buf bytes old new is last row = absurd last
 
-  pub done_can : (m : Stored) (fs : List FileEvent) (u : Unit {0}) (old new : C) → (state old).stop ≡ None → FileRun C state (IsIn among) fs old new → AllByRecursion (IsPutStep name given) fs → EndsPut fs (Ok u) → CanBeDone (Ingest name) given m
+  pub done_can : (m : Stored) (fs : List FileEvent) (u : Unit {0}) (old new : C) → (state old).stop ≡ None → FileRun C state (IsIn among) fs old new →
+      AllByRecursion (IsPutStep name given) fs → EndsPut fs (Ok u) → CanBeDone (Ingest name) given m
   done_can m [] u old new runs run each ends = absurd ends
   done_can m (f ∷ []) u old new runs run each ends =
-      last_can m f.event.step f.event.answer f.event.actor f.event.buf f.bytes (state old) (state run.0) each.0.asked_for ends (step_of (state old) (state run.0) f.event runs run.1.0.made).made.row
+      last_can m f.event.step f.event.answer f.event.actor f.event.buf f.bytes (state old) (state run.0) each.0.asked_for ends
+      (step_of (state old) (state run.0) f.event runs run.1.0.made).made.row
   done_can m (f ∷ g ∷ fs) u old new runs run each ends = done_can m (g ∷ fs) u run.0 new (goes_on (state old) (state run.0) f.event runs run.1.0.made ends.0) run.1.1 each.1 ends.1
 
   put_ok : (step : StepValue) (answer : Result Answer Refusal) → IsLastPut step answer → IsOk answer
@@ -124,11 +134,13 @@ module _ (C : Type 0) (state : C → CoreState) (among : ByteSet) (name given : 
   put_ok step answer last = absurd last
 
   -- it stops no core
-  pub done_on : (fs : List FileEvent) (u : Unit {0}) (old new : C) → (state old).stop ≡ None → FileRun C state (IsIn among) fs old new → AllByRecursion (IsPutStep name given) fs → EndsPut fs (Ok u) → (state new).stop ≡ None
+  pub done_on : (fs : List FileEvent) (u : Unit {0}) (old new : C) → (state old).stop ≡ None → FileRun C state (IsIn among) fs old new → AllByRecursion (IsPutStep name given) fs →
+      EndsPut fs (Ok u) → (state new).stop ≡ None
   done_on [] u old new runs run each ends = absurd ends
   done_on (f ∷ []) u old new runs run each ends =
       let steps = step_of (state old) (state run.0) f.event runs run.1.0.made in
-      subst (λ (c : C). (state c).stop ≡ None) (sym run.1.1) (ok_runs f.event.step f.event.answer (state old).acknowledged (state run.0).stop (put_ok f.event.step f.event.answer ends) steps.stops)
+      subst (λ (c : C). (state c).stop ≡ None) (sym run.1.1)
+      (ok_runs f.event.step f.event.answer (state old).acknowledged (state run.0).stop (put_ok f.event.step f.event.answer ends) steps.stops)
   done_on (f ∷ g ∷ fs) u old new runs run each ends = done_on (g ∷ fs) u run.0 new (goes_on (state old) (state run.0) f.event runs run.1.0.made ends.0) run.1.1 each.1 ends.1
 
   -- ---- the disk

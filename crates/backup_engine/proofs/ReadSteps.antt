@@ -47,11 +47,13 @@ pub record LeavesAll (answer : Result Answer Refusal) (old new : CoreState) : Ty
 
 -- a name is opened, or not
 
-open_stays : (name : List ℕ) (answer : Result Answer Refusal) (actor count : ℕ) (buf : List ℕ) (old new : CoreState) → OpenRow name actor answer old new → StopsAfter (asked.OpenRead name) answer count new.stop → new.stop ≡ None
+open_stays : (name : List ℕ) (answer : Result Answer Refusal) (actor count : ℕ) (buf : List ℕ) (old new : CoreState) → OpenRow name actor answer old new →
+    StopsAfter (asked.OpenRead name) answer count new.stop → new.stop ≡ None
 open_stays name (Err DiskWrite) actor count buf old new row stops = absurd row.0.1
 open_stays name answer actor count buf old new row stops = stops
 
-pub open_leaves : (name : List ℕ) (answer : Result Answer Refusal) (buf : List ℕ) (old new : CoreState) → old.stop ≡ None → CoreStep old (record { actor = 0; step = asked.OpenRead name; answer = answer; buf = buf }) new
+pub open_leaves : (name : List ℕ) (answer : Result Answer Refusal) (buf : List ℕ) (old new : CoreState) → old.stop ≡ None →
+    CoreStep old (record { actor = 0; step = asked.OpenRead name; answer = answer; buf = buf }) new
     → LeavesAll answer old new
 open_leaves name answer buf old new runs step =
     let steps = steps_of (record { actor = 0; step = asked.OpenRead name; answer = answer; buf = buf }) old new runs step in
@@ -68,7 +70,8 @@ no_next : (known : Option PlaceMap) (breaks : ℕ → Why → List ℕ → Type 
 no_next known breaks old new [] cause = cause
 no_next known breaks old new (t ∷ ts) cause = cause
 
-read_stays : (answer : Result Answer Refusal) (count : ℕ) (buf : List ℕ) (old new : CoreState) → ReadRow 0 answer buf old new → StopsAfter asked.ReadNext answer count new.stop → new.stop ≡ None
+read_stays : (answer : Result Answer Refusal) (count : ℕ) (buf : List ℕ) (old new : CoreState) → ReadRow 0 answer buf old new → StopsAfter asked.ReadNext answer count new.stop →
+    new.stop ≡ None
 read_stays (Err DiskWrite) count buf old new row stops = absurd (no_next old.known old.breaks old.disk new.disk row.cause.rest row.cause.refused.cause)
 read_stays answer count buf old new row stops = stops
 
@@ -95,7 +98,8 @@ given_reads (Ok (answers.Bytes count)) old new is reads = reads
 given_reads answer old new is reads = absurd is
 
 -- how the last of them ended is how all of it did
-last_ending : (result : Result Unit Ending) (e : Event) (old new : DiskView) → EndsGiving (e ∷ []) result → Reads (device.ending blames e.answer) old new → Reads (disk_ending (ending_in result)) old new
+last_ending : (result : Result Unit Ending) (e : Event) (old new : DiskView) → EndsGiving (e ∷ []) result → Reads (device.ending blames e.answer) old new →
+    Reads (disk_ending (ending_in result)) old new
 last_ending (Ok u) e old new ends reads = subst (λ (a : Result Answer Refusal). Reads (device.ending blames a) old new) ends reads
 last_ending (Err (endings.Refused refusal)) e old new ends reads = subst (λ (a : Result Answer Refusal). Reads (device.ending blames a) old new) ends reads
 last_ending (Err endings.Sink) e old new ends reads = given_reads e.answer old new ends reads
@@ -114,7 +118,8 @@ module _ (C : Type 0) (state : C → CoreState) where
     pub reads : Reads Done (state old).disk (state before).disk
     pub tables : KeepsTables (state old) (state before)
 
-  pub came : (events : List Event) (result : Result Unit Ending) (old new : C) → AllByRecursion IsRead events → EndsGiving events result → (state old).stop ≡ None → 0 < length (state old).parts → CoreRun C state events old new
+  pub came : (events : List Event) (result : Result Unit Ending) (old new : C) → AllByRecursion IsRead events → EndsGiving events result → (state old).stop ≡ None →
+      0 < length (state old).parts → CoreRun C state events old new
       → Came result old new
   came [] result old new each ends runs below run = absurd ends
   came (e ∷ []) result old new each ends runs below run = record {

@@ -86,16 +86,19 @@ pub record Answers (command : CommandLine) (given : List ℕ) (ending : Option E
 -- so it is of each map that the content stands for
 abbrev pub AnswersEach : CommandLine → List ℕ → Option Ending → DiskView → DiskView → SinkView → SinkView → Type 0
 AnswersEach command given ending v w sink sink_now =
-    Known v.content (λ old. (among : ByteSet) (m : Stored) → HasNoCollisions (IsIn among) → ((bytes : List ℕ) → IsSegmentOf given bytes → IsIn among bytes) → IsOf (IsIn among) m old
+    Known v.content (λ old. (among : ByteSet) (m : Stored) → HasNoCollisions (IsIn among) → ((bytes : List ℕ) → IsSegmentOf given bytes → IsIn among bytes) →
+    IsOf (IsIn among) m old
     → Answers command given ending m w.content sink sink_now)
 
 -- where it ended so by what is left it did, whatever the content was
-pub ends_from : (command : CommandLine) (given : List ℕ) (m : Stored) (before content : Option (List ℕ)) (ending : Option Ending) → EndsBy command given m content ending → EndsFrom command given m before content ending
+pub ends_from : (command : CommandLine) (given : List ℕ) (m : Stored) (before content : Option (List ℕ)) (ending : Option Ending) → EndsBy command given m content ending →
+    EndsFrom command given m before content ending
 ends_from (Collect percent) given m before content (Some (Refused Numbers)) ends = absurd ends.3
 ends_from command given m before content ending ends = ends
 
 -- what was not done adds nothing to a content that stays
-pub added_none : (command : CommandLine) (given : List ℕ) (ending : Ending) (store : Store) (old : List ℕ) (content : Option (List ℕ)) → ¬ (ending ≡ Sink) → content ≡ Some old → Encodes old store → Adds command given (Some ending) store content
+pub added_none : (command : CommandLine) (given : List ℕ) (ending : Ending) (store : Store) (old : List ℕ) (content : Option (List ℕ)) → ¬ (ending ≡ Sink) → content ≡ Some old →
+    Encodes old store → Adds command given (Some ending) store content
 added_none (Format slots) given ending store old content not told right = tt
 added_none (Restore name) given ending store old content not told right = tt
 added_none (Delete name) given Sink store old content not told right = absurd (not refl)
@@ -108,7 +111,8 @@ added_none (Ingest name) given (Refused DiskWrite) store old content not told ri
 added_none (Ingest name) given ending store old content not told right = record { changes = []; after = store; chain = refl; once = tt; content_is = (old, told, right) }
 
 -- and gives nothing back
-pub gave_none : (command : CommandLine) (ending : Ending) (files : Files) (store : Store) (old : List ℕ) (content : Option (List ℕ)) (sink sink_now : SinkView) → ¬ (ending ≡ Sink) → content ≡ Some old → Encodes old store
+pub gave_none : (command : CommandLine) (ending : Ending) (files : Files) (store : Store) (old : List ℕ) (content : Option (List ℕ)) (sink sink_now : SinkView) →
+    ¬ (ending ≡ Sink) → content ≡ Some old → Encodes old store
     → GivesSlotsBack command (Some ending) files store old content sink sink_now
 gave_none (Collect percent) Sink files store old content sink sink_now not told right = absurd (not refl)
 gave_none (Collect percent) (Refused DiskWrite) files store old content sink sink_now not told right = tt
@@ -121,7 +125,8 @@ gave_none (Delete name) ending files store old content sink sink_now not told ri
 gave_none table.List ending files store old content sink sink_now not told right = tt
 
 -- what was not done, and only read
-pub reads_map : (command : CommandLine) (given : List ℕ) (ending : Ending) (v w : DiskView) (sink sink_now : SinkView) → OnlyReads v w → ¬ (ending ≡ Sink) → AnswersEach command given (Some ending) v w sink sink_now
+pub reads_map : (command : CommandLine) (given : List ℕ) (ending : Ending) (v w : DiskView) (sink sink_now : SinkView) → OnlyReads v w → ¬ (ending ≡ Sink) →
+    AnswersEach command given (Some ending) v w sink sink_now
     → KeepsEachMap command given (Some ending) v w sink sink_now
 reads_map command given ending v w sink sink_now reads not answers old known among m distinct right is =
     let answer = answers old known among m distinct right is in
@@ -142,7 +147,8 @@ restored S name given m (Some (Refused DiskWrite)) image is = inl is
 restored S name given m (Some ending) image is = is
 
 -- A `restore` only reads; once the disk is durable, each image is its content.
-pub reads_restore : (name given : List ℕ) (ending : Option Ending) (v w : DiskView) (sink sink_now : SinkView) → OnlyReads v w → IsDurable w → AnswersEach (Restore name) given ending v w sink sink_now
+pub reads_restore : (name given : List ℕ) (ending : Option Ending) (v w : DiskView) (sink sink_now : SinkView) → OnlyReads v w → IsDurable w →
+    AnswersEach (Restore name) given ending v w sink sink_now
     → KeepsEachMap (Restore name) given ending v w sink sink_now
 reads_restore name given ending v w sink sink_now reads durable answers old known among m distinct right is =
     let answer = answers old known among m distinct right is in
@@ -171,7 +177,8 @@ wrote_no_file None ending sink = refl
 wrote_no_file (Some bytes) ending sink = wrote_none sink bytes
 
 -- A command that was not done wrote nothing.
-pub wrote_nothing : (command : CommandLine) (given : List ℕ) (m : Stored) (ending : Ending) (sink : SinkView) → ¬ (ending ≡ Sink) → promise.Wrote command given m (Some ending) sink sink
+pub wrote_nothing : (command : CommandLine) (given : List ℕ) (m : Stored) (ending : Ending) (sink : SinkView) → ¬ (ending ≡ Sink) →
+    promise.Wrote command given m (Some ending) sink sink
 wrote_nothing (Format slots) given m ending sink not = refl
 wrote_nothing (Ingest name) given m Sink sink not = absurd (not refl)
 wrote_nothing (Ingest name) given m ending sink not = refl

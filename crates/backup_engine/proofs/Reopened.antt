@@ -29,7 +29,8 @@ module _ (shown other : (List ℕ → Type 0) → Type 0) (size : ℕ) (each : (
       (is.0, record { bytes = was.bytes; was_read = read_so _ was.bytes was.was_read; at_is = was.at_is; digest = was.digest; wrong = was.wrong })
   barrier_so ahead refusal is = absurd is
 
-pub room_so : (shown other : (List ℕ → Type 0) → Type 0) (size : ℕ) → ((P : List ℕ → Type 0) → shown P → other P) → (refusal : Refusal) → HasNoRoom shown size refusal → HasNoRoom other size refusal
+pub room_so : (shown other : (List ℕ → Type 0) → Type 0) (size : ℕ) → ((P : List ℕ → Type 0) → shown P → other P) → (refusal : Refusal) → HasNoRoom shown size refusal →
+    HasNoRoom other size refusal
 room_so shown other size each refusal is = record {
   store = is.store;
   right = each _ is.right;
@@ -42,10 +43,12 @@ room_so shown other size each refusal is = record {
   rest = is.rest;
   names_are = is.names_are;
   visited = is.visited;
-  visits = roots_wider (IsReadFor shown size is.index) (IsReadFor other size is.index) (HasPlace (Some is.index)) (HasPlace (Some is.index)) is.before is.visited is.visits (read_so shown other size each is.index) (λ key has. has);
+  visits = roots_wider (IsReadFor shown size is.index) (IsReadFor other size is.index) (HasPlace (Some is.index)) (HasPlace (Some is.index)) is.before is.visited is.visits
+      (read_so shown other size each is.index) (λ key has. has);
   visited_there = is.visited_there;
   ahead = is.ahead;
-  way = visits_wider (IsReadFor shown size is.index) (IsReadFor other size is.index) (HasPlace (Some is.index)) (HasPlace (Some is.index)) _ is.visited_there is.ahead is.way (read_so shown other size each is.index) (λ key has. has);
+  way = visits_wider (IsReadFor shown size is.index) (IsReadFor other size is.index) (HasPlace (Some is.index)) (HasPlace (Some is.index)) _ is.visited_there is.ahead is.way
+      (read_so shown other size each is.index) (λ key has. has);
   cause = barrier_so shown other size each is.index is.ahead refusal is.cause;
 }
 
@@ -84,7 +87,8 @@ module _ (old new : DiskView) where
         (node, record { bytes = wrong.bytes; was_read = read_for (top_key t) wrong.bytes wrong.was_read; at_is = wrong.at_is; digest = wrong.digest; wrong = wrong.wrong })
 
   module _ (short : IsShort (Shows old new) old.size) where
-    none_for : (refusal : Refusal) (stuck : IsStuck old new short refusal) → IsBarrier (Shows old new) old.size short.index stuck.ahead refusal → HasNoRoom (Shows old new) old.size refusal
+    none_for : (refusal : Refusal) (stuck : IsStuck old new short refusal) → IsBarrier (Shows old new) old.size short.index stuck.ahead refusal →
+        HasNoRoom (Shows old new) old.size refusal
     none_for refusal stuck cause = record {
       store = short.store;
       right = short.right;
@@ -97,11 +101,13 @@ module _ (old new : DiskView) where
       rest = stuck.rest;
       names_are = stuck.names_are;
       visited = stuck.visited;
-      visits = roots_wider (WasRead (Some short.index) old new) (IsReadFor (Shows old new) old.size short.index) (HasPlace (Some short.index)) (HasPlace (Some short.index)) stuck.before stuck.visited stuck.visits
+      visits = roots_wider (WasRead (Some short.index) old new) (IsReadFor (Shows old new) old.size short.index) (HasPlace (Some short.index)) (HasPlace (Some short.index))
+          stuck.before stuck.visited stuck.visits
           (read_for short.index) (λ key has. has);
       visited_there = stuck.visited_there;
       ahead = stuck.ahead;
-      way = visits_wider (WasRead (Some short.index) old new) (IsReadFor (Shows old new) old.size short.index) (HasPlace (Some short.index)) (HasPlace (Some short.index)) _ stuck.visited_there stuck.ahead stuck.way
+      way = visits_wider (WasRead (Some short.index) old new) (IsReadFor (Shows old new) old.size short.index) (HasPlace (Some short.index)) (HasPlace (Some short.index)) _
+          stuck.visited_there stuck.ahead stuck.way
           (read_for short.index) (λ key has. has);
       cause = cause;
     }

@@ -22,12 +22,14 @@ module _ (C : Type 0) (state : C → CoreState) where
   pub one_later : (e : Event) (old new : C) → CoreStep (state old) e (state new) → IsLater (state old).disk (state new).disk
   one_later e old new made = run_later C state (e ∷ []) old new (new, (made, refl))
 
-  pub give_later : (name : List ℕ) (result : Result Unit Ending) (old new : C) (sink sink_now : SinkView) → GiveRun C state name result old new sink sink_now → IsLater (state old).disk (state new).disk
+  pub give_later : (name : List ℕ) (result : Result Unit Ending) (old new : C) (sink sink_now : SinkView) → GiveRun C state name result old new sink sink_now →
+      IsLater (state old).disk (state new).disk
   give_later name result old new sink sink_now (inl none) = one_later _ old new none.asked
   give_later name result old new sink sink_now (inr out) =
       later_on (state old).disk (state out.mid).disk (state new).disk (one_later _ old out.mid out.opened) (run_later C state out.reads out.mid new out.ran)
 
-  pub ingest_later : (name : List ℕ) (result : Result Unit Ending) (old new : C) (source source_now : SourceView) (sink sink_now : SinkView) → IngestRun C state name result old new source source_now sink sink_now
+  pub ingest_later : (name : List ℕ) (result : Result Unit Ending) (old new : C) (source source_now : SourceView) (sink sink_now : SinkView) →
+      IngestRun C state name result old new source source_now sink sink_now
       → IsLater (state old).disk (state new).disk
   ingest_later name result old new source source_now sink sink_now run = elim run.way [
     | inl none ↦ run_later C state (events_of none.ran.steps) old new none.ran.ran

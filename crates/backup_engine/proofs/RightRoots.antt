@@ -51,11 +51,13 @@ module _ (given : List ℕ) (few : length given ≤ MOST_FILE) where
 
   pub nodes_are : nodes_of of_segment (file_tree given) ≡ nodes_of_file given
   unfolding file_tree
-  nodes_are = ap (λ (segments : List (List ℕ)). nodes_of of_segment (tree_of ByCount of_segment segments)) (sym (take_all (room_of ByCount) (segments_of given) (are_few given few)))
+  nodes_are = ap (λ (segments : List (List ℕ)). nodes_of of_segment (tree_of ByCount of_segment segments))
+      (sym (take_all (room_of ByCount) (segments_of given) (are_few given few)))
 
   -- ---- each piece is held
 
-  module _ (kept : List KindSegment) (c : CoreState) (held : AllByRecursion (λ seg. IsHeldIn seg c) kept) (whole : (p : Piece) → IsPieceOf given p → IsOneOf (piece_segment p) kept) where
+  module _ (kept : List KindSegment) (c : CoreState) (held : AllByRecursion (λ seg. IsHeldIn seg c) kept)
+      (whole : (p : Piece) → IsPieceOf given p → IsOneOf (piece_segment p) kept) where
     piece_held : (p : Piece) → IsPieceOf given p → IsHeldIn (piece_segment p) c
     piece_held p is = let one = whole p is in all_get (λ seg. IsHeldIn seg c) kept one.0 (piece_segment p) held one.1
 

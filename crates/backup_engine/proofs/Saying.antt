@@ -25,7 +25,8 @@ all_go_on [] more first second = second
 all_go_on (one ∷ rs) more first second = (first.0, all_go_on rs more first.1 second)
 
 module _ (C : Type 0) (state : C → CoreState) where
-  pub line_then : (one : Replied) (more : List Replied) (r m s : RunnerState C) → ends one.line one.reply ≡ false → RunsLine C state one.line one.reply r m → RunsLines C state more m s → RunsLines C state (one ∷ more) r s
+  pub line_then : (one : Replied) (more : List Replied) (r m s : RunnerState C) → ends one.line one.reply ≡ false → RunsLine C state one.line one.reply r m →
+      RunsLines C state more m s → RunsLines C state (one ∷ more) r s
   line_then one more r m s goes first second = ((λ end. absurd (let both = sym goes ∙ end in cc)), (m, (first, second)))
 
   pub lines_on : (rs more : List Replied) (r m s : RunnerState C) → GoOn rs → RunsLines C state rs r m → RunsLines C state more m s → RunsLines C state (rs ++ more) r s
@@ -33,7 +34,8 @@ module _ (C : Type 0) (state : C → CoreState) where
   lines_on (one ∷ rs) more r m s go first second = line_then one (rs ++ more) r first.1.0 s go.0 first.1.1.0 (lines_on rs more first.1.0 m s go.1 first.1.1.1 second)
 
   -- a line after others
-  pub line_after : (rs : List Replied) (one : Replied) (r m s : RunnerState C) → GoOn rs → ends one.line one.reply ≡ false → RunsLines C state rs r m → RunsLine C state one.line one.reply m s → RunsLines C state (rs ++ one ∷ []) r s
+  pub line_after : (rs : List Replied) (one : Replied) (r m s : RunnerState C) → GoOn rs → ends one.line one.reply ≡ false → RunsLines C state rs r m →
+      RunsLine C state one.line one.reply m s → RunsLines C state (rs ++ one ∷ []) r s
   line_after rs one r m s go goes first second = lines_on rs (one ∷ []) r m s go first (line_then one [] m s s goes second refl)
 
 -- ---- pushes
@@ -55,7 +57,8 @@ abbrev push_line : List ℕ → ℕ → List Replied
 push_line digits count = said (lines.Push 0 digits) (replies.Pushed 0 count) ∷ []
 
 pub one_push_more : (count : ℕ) (pushes : List Digits) (d : Digits)
-    → push_lines count (pushes ++ d ∷ []) ≡ push_lines count pushes ++ said (lines.Push 0 d.digits) (replies.Pushed 0 (count + length (pushed pushes) + length (pushed_bytes d.digits))) ∷ []
+    → push_lines count (pushes ++ d ∷ []) ≡ push_lines count pushes ++ said (lines.Push 0 d.digits)
+    (replies.Pushed 0 (count + length (pushed pushes) + length (pushed_bytes d.digits))) ∷ []
 one_push_more count [] d =
     let so : count + length (pushed_bytes d.digits) ≡ count + length (pushed []) + length (pushed_bytes d.digits) = omega arith in ap (push_line d.digits) so
 one_push_more count (first ∷ more) d =
@@ -76,7 +79,8 @@ all_of_actors [] more first second = second
 all_of_actors (one ∷ rs) more first second = (first.0, all_of_actors rs more first.1 second)
 
 -- it is taken where the core runs, and the first actor is at what it takes
-pub admits : (line : LineValue) (sessions : Sessions) (c : CoreState) (kind : PartKind) → c.stop ≡ None → actor_of line ≡ Some 0 → kind_in sessions c.parts 0 ≡ kind → takes line kind ≡ true → Admits line sessions c
+pub admits : (line : LineValue) (sessions : Sessions) (c : CoreState) (kind : PartKind) → c.stop ≡ None → actor_of line ≡ Some 0 → kind_in sessions c.parts 0 ≡ kind →
+    takes line kind ≡ true → Admits line sessions c
 admits line sessions c kind runs first at taken = record {
   runs = runs;
   taken = λ actor is.

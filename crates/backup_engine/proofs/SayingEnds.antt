@@ -81,7 +81,8 @@ module _ (C : Type 0) (state : C → CoreState) where
         (
           pushed_more pushes digits ∙ ap (λ (l : List ℕ). l ++ pushed_bytes digits.digits) one ∙ ap (λ (l : List ℕ). taken ++ l) same,
           subst (λ (rs : List Replied). Says C state rs s u old new) (sym (one_push_more 0 pushes digits))
-              (line_after C state (push_lines 0 pushes) (said (lines.Push 0 digits.digits) (replies.Pushed 0 count)) (giving old s) (giving mid t) (giving new u) (pushes_go_on 0 pushes) refl says.1.1 line),
+              (line_after C state (push_lines 0 pushes) (said (lines.Push 0 digits.digits) (replies.Pushed 0 count)) (giving old s) (giving mid t) (giving new u)
+              (pushes_go_on 0 pushes) refl says.1.1 line),
         ),
       )
 
@@ -106,7 +107,8 @@ module _ (C : Type 0) (state : C → CoreState) where
     abbrev pushes : List Digits
     pushes = says.0
 
-    ended : (before : SessionState) → RunsLine C state (lines.Finish 0) (replies.Finished 0 (length given)) (giving mid t) (giving mid before) → Says C state (finish_lines pushes) s before old mid
+    ended : (before : SessionState) → RunsLine C state (lines.Finish 0) (replies.Finished 0 (length given)) (giving mid t) (giving mid before) →
+        Says C state (finish_lines pushes) s before old mid
     ended before line =
         line_after C state (push_lines 0 pushes) (finished (length (pushed pushes))) (giving old s) (giving mid t) (giving mid before) (pushes_go_on 0 pushes) refl says.1.1
         (subst (λ (n : ℕ). RunsLine C state (lines.Finish 0) (replies.Finished 0 n) (giving mid t) (giving mid before)) (ap length (sym says.1.0)) line)
@@ -124,7 +126,8 @@ module _ (C : Type 0) (state : C → CoreState) where
       turns = ends.1.1;
     }
 
-    pub says_stop : (source source_now : SourceView) (refusal : Refusal) → StopsSaying t u mid new given refusal → (name : List ℕ) → (rs : List Replied) × (StopsAt name given source source_now refusal rs × Says C state rs s u old new)
+    pub says_stop : (source source_now : SourceView) (refusal : Refusal) → StopsSaying t u mid new given refusal → (name : List ℕ) →
+        (rs : List Replied) × (StopsAt name given source source_now refusal rs × Says C state rs s u old new)
     says_stop source source_now refusal (inl line) name = (
       push_lines 0 pushes ++ refused (lines.Finish 0) refusal ∷ [],
       (
@@ -136,7 +139,8 @@ module _ (C : Type 0) (state : C → CoreState) where
       finish_lines pushes ++ refused (lines.Commit 0 name) refusal ∷ [],
       (
         (pushes, inr (inr (says.1.0, refl))),
-        line_after C state (finish_lines pushes) (refused (lines.Commit 0 name) refusal) (giving old s) (giving mid ends.0.before) (giving new u) (finish_goes_on pushes) refl (ended ends.0.before ends.0.line)
+        line_after C state (finish_lines pushes) (refused (lines.Commit 0 name) refusal) (giving old s) (giving mid ends.0.before) (giving new u) (finish_goes_on pushes) refl
+            (ended ends.0.before ends.0.line)
             (commit_refused C state mid new ends.0.before u ends.0.runs ends.0.on name refusal (inl ends.1)),
       ),
     )

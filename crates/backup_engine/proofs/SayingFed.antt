@@ -23,23 +23,27 @@ module _ (C : Type 0) (state : C → CoreState) (counted : BytesAreCounted) (sta
   counts given s core fed = sym ((counted s fed.history fed.has).0 ∙ ap length fed.given_is)
 
   module _ (actor : ℕ) (first : actor ≡ 0) (taken piece : List ℕ) (digits : Digits) (same : pushed_bytes digits.digits ≡ piece) where
-    pub push_says : (s t u : SessionState) (old mid new : C) → t.ended ≡ false → IsFed C state taken t start mid → IsFed C state (taken ++ piece) u start new → Feeds C state actor (Ok tt) piece t u mid new
+    pub push_says : (s t u : SessionState) (old mid new : C) → t.ended ≡ false → IsFed C state taken t start mid → IsFed C state (taken ++ piece) u start new →
+        Feeds C state actor (Ok tt) piece t u mid new
         → SaysPushed C state taken s t old mid → SaysPushed C state (taken ++ piece) s u old new
     push_says s t u old mid new off fed after feeds says =
         says_more C state s t u old mid new taken piece digits same says
         (push_line C state mid new t u fed.way.runs off actor first digits.digits piece same (length (taken ++ piece)) feeds (counts (taken ++ piece) u new after))
 
-    pub push_stops : (t u : SessionState) (mid new : C) → t.ended ≡ false → IsFed C state taken t start mid → (refusal : Refusal) → Feeds C state actor (Err refusal) piece t u mid new
+    pub push_stops : (t u : SessionState) (mid new : C) → t.ended ≡ false → IsFed C state taken t start mid → (refusal : Refusal) →
+        Feeds C state actor (Err refusal) piece t u mid new
         → RunsLine C state (lines.Push 0 digits.digits) (replies.Refused refusal) (giving mid t) (giving new u)
     push_stops t u mid new off fed refusal feeds = push_refused C state mid new t u fed.way.runs off actor first digits.digits piece same refusal feeds
 
-  module _ (given : List ℕ) (t before u : SessionState) (mid new : C) (ending : IsEnding t before) (history : (h : History) → HasHistory t h → HasHistory before h) (fed : IsFed C state given t start mid) where
+  module _ (given : List ℕ) (t before u : SessionState) (mid new : C) (ending : IsEnding t before) (history : (h : History) → HasHistory t h → HasHistory before h)
+      (fed : IsFed C state given t start mid) where
     abbrev has_ended : HasEnded C state t mid given
     has_ended = record {
       before = before;
       on = ending.ended;
       runs = fed.way.runs;
-      line = finish_line C state mid mid t before fed.way.runs (length given) ending history (sym ((counted before fed.history (history fed.history fed.has)).0 ∙ ap length fed.given_is));
+      line = finish_line C state mid mid t before fed.way.runs (length given) ending history
+          (sym ((counted before fed.history (history fed.history fed.has)).0 ∙ ap length fed.given_is));
     }
 
     module _ (actor : ℕ) (first : actor ≡ 0) where

@@ -61,7 +61,8 @@ kind_without ps part is = ap (λ (x : Option SessionState). kind_by (has_ended x
 -- ---- lines
 
 module _ (C : Type 0) (state : C → CoreState) where
-  pub begin_line : (old new : C) (s : SessionState) (answer : Answer) (buf : List ℕ) → IsFresh (state old) → CoreStep (state old) (by_first asked.Begin (Ok answer) buf) (state new) → IsBegun s → HasHistory s no_history
+  pub begin_line : (old new : C) (s : SessionState) (answer : Answer) (buf : List ℕ) → IsFresh (state old) →
+      CoreStep (state old) (by_first asked.Begin (Ok answer) buf) (state new) → IsBegun s → HasHistory s no_history
       → RunsLine C state (lines.Begin 0) (replies.Begun 0) (idle old) (giving new s)
   begin_line old new s answer buf fresh step begun has =
       inl (
@@ -91,21 +92,24 @@ module _ (C : Type 0) (state : C → CoreState) where
       feeds_so result feeds =
           subst (λ (bytes : List ℕ). Feeds C state 0 result bytes s t old new) (sym same) (subst (λ (a : ℕ). Feeds C state a result piece s t old new) first feeds)
 
-      pub push_line : (count : ℕ) → Feeds C state actor (Ok tt) piece s t old new → count ≡ t.count → RunsLine C state (lines.Push 0 digits) (replies.Pushed 0 count) (giving old s) (giving new t)
+      pub push_line : (count : ℕ) → Feeds C state actor (Ok tt) piece s t old new → count ≡ t.count →
+          RunsLine C state (lines.Push 0 digits) (replies.Pushed 0 count) (giving old s) (giving new t)
       push_line count feeds count_is =
           inl (
             admits (lines.Push 0 digits) (giving old s).sessions (state old) kinds.Writing runs refl (kind_writing old s (state old).parts off) refl,
             (refl, (s, t, replaces old new s t, feeds_so (Ok tt) feeds, count_is)),
           )
 
-      pub push_refused : (refusal : Refusal) → Feeds C state actor (Err refusal) piece s t old new → RunsLine C state (lines.Push 0 digits) (replies.Refused refusal) (giving old s) (giving new t)
+      pub push_refused : (refusal : Refusal) → Feeds C state actor (Err refusal) piece s t old new →
+          RunsLine C state (lines.Push 0 digits) (replies.Refused refusal) (giving old s) (giving new t)
       push_refused refusal feeds =
           inl (
             admits (lines.Push 0 digits) (giving old s).sessions (state old) kinds.Writing runs refl (kind_writing old s (state old).parts off) refl,
             (s, t, replaces old new s t, feeds_so (Err refusal) feeds),
           )
 
-    pub finish_line : (count : ℕ) → IsEnding s t → ((h : History) → HasHistory s h → HasHistory t h) → count ≡ t.count → RunsLine C state (lines.Finish 0) (replies.Finished 0 count) (giving old s) (giving old t)
+    pub finish_line : (count : ℕ) → IsEnding s t → ((h : History) → HasHistory s h → HasHistory t h) → count ≡ t.count →
+        RunsLine C state (lines.Finish 0) (replies.Finished 0 count) (giving old s) (giving old t)
     finish_line count ending history count_is =
         inl (
           admits (lines.Finish 0) (giving old s).sessions (state old) kinds.Writing runs refl (kind_writing old s (state old).parts ending.ongoing) refl,
@@ -116,10 +120,12 @@ module _ (C : Type 0) (state : C → CoreState) where
       commit_taken : Admits (lines.Commit 0 name) (giving old s).sessions (state old)
       commit_taken = admits (lines.Commit 0 name) (giving old s).sessions (state old) kinds.Finished runs refl (kind_finished old s (state old).parts on) refl
 
-      pub commit_refused : (refusal : Refusal) → RefusesPut C state 0 name refusal s t old new → RunsLine C state (lines.Commit 0 name) (replies.Refused refusal) (giving old s) (giving new t)
+      pub commit_refused : (refusal : Refusal) → RefusesPut C state 0 name refusal s t old new → RunsLine C state (lines.Commit 0 name) (replies.Refused refusal) (giving old s)
+          (giving new t)
       commit_refused refusal refuses = inl (commit_taken, (s, t, replaces old new s t, refuses))
 
-      pub commit_line : (ready : SessionState) (mid : C) (answers_are : List Answer) (root : Root) (answer : Answer) → TurnRun C state 0 answers_are s ready old mid → IsReady root ready
+      pub commit_line : (ready : SessionState) (mid : C) (answers_are : List Answer) (root : Root) (answer : Answer) → TurnRun C state 0 answers_are s ready old mid →
+          IsReady root ready
           → DoesStep 0 (asked.Commit name root) answer (state mid) (state new)
           → RunsLine C state (lines.Commit 0 name) (replies.Committed 0 (sequence_after (state mid))) (giving old s) (committed old new s)
       commit_line ready mid answers_are root answer turns is_ready put =

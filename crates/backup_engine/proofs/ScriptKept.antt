@@ -64,13 +64,15 @@ module _ (Shown More : Store → Type 0) (each : (store : Store) → Shown store
     pub named_so : (rs : List Replied) → GiveWhatIsNamed First Shown rs → GiveWhatIsNamed Wider More rs
     named_so rs named = record { store = named.store; shown = first named.store named.shown; tell = all_tell rs (opened named.store) named.tell }
 
-    pub named_or : (ending : Option Ending) (rs : List Replied) → script.IsUnopened ending rs ⊎ GiveWhatIsNamed First Shown rs → script.IsUnopened ending rs ⊎ GiveWhatIsNamed Wider More rs
+    pub named_or : (ending : Option Ending) (rs : List Replied) → script.IsUnopened ending rs ⊎ GiveWhatIsNamed First Shown rs →
+        script.IsUnopened ending rs ⊎ GiveWhatIsNamed Wider More rs
     named_or ending rs (inl none) = inl none
     named_or ending rs (inr named) = inr (named_so rs named)
 
 -- ---- no line was run
 
-module _ (v w : DiskView) (refusal : Refusal) (only : OnlyReads v w) (counted : CountsFault (ending_of (blames refusal)) v.faults w.faults) (cause : IsOpenRefusal (Shows v w) v.size refusal) where
+module _ (v w : DiskView) (refusal : Refusal) (only : OnlyReads v w) (counted : CountsFault (ending_of (blames refusal)) v.faults w.faults)
+    (cause : IsOpenRefusal (Shows v w) v.size refusal) where
   module _ (source : SourceView) (sink : SinkView) (laws : ReadsTellScripts) where
     caused_by : (r : Refusal) → IsOpenRefusal (Shows v w) v.size r → IsScriptEnd (IsRunRefusal [] v w source source) (Some (Refused r)) [] source source sink sink
     caused_by Memory is = tt
@@ -101,7 +103,8 @@ pub no_memory_kept : (v : DiskView) (source : SourceView) (sink : SinkView) → 
 no_memory_kept v source sink laws = none_kept v v Memory (reads_here v) refl tt source sink laws
 
 -- it was not opened
-pub unopened_kept : (v w : DiskView) (refusal : Refusal) → IsUnopened v w refusal → (source : SourceView) (sink : SinkView) → ReadsTellScripts → KeepsScript [] (Some (Refused refusal)) v w source source sink sink
+pub unopened_kept : (v w : DiskView) (refusal : Refusal) → IsUnopened v w refusal → (source : SourceView) (sink : SinkView) → ReadsTellScripts →
+    KeepsScript [] (Some (Refused refusal)) v w source source sink sink
 unopened_kept v w refusal is source sink laws = none_kept v w refusal is.reads.only is.reads.faults_are is.cause source sink laws
 
 -- ---- lines were run
@@ -110,14 +113,16 @@ no_last : (before : List Replied) (last : Replied) → [] ≡ before ++ last ∷
 no_last [] last is = cc
 no_last (one ∷ before) last is = cc
 
-counts_lines : (ending : Option Ending) (rs : List Replied) (source source_now : SourceView) (sink sink_now : SinkView) (before now : ℕ) → IsScriptEnd (EndsReopening rs) ending rs source source_now sink sink_now
+counts_lines : (ending : Option Ending) (rs : List Replied) (source source_now : SourceView) (sink sink_now : SinkView) (before now : ℕ) →
+    IsScriptEnd (EndsReopening rs) ending rs source source_now sink sink_now
     → CountFaults rs before now → CountsLines ending rs before now
 counts_lines (Some (Refused Memory)) [] source source_now sink sink_now before now end counts = counts
 counts_lines (Some (Refused refusal)) [] source source_now sink sink_now before now end counts = absurd (no_last end.0 _ end.1.are)
 counts_lines (Some (Refused refusal)) (one ∷ more) source source_now sink sink_now before now end counts = counts
 counts_lines ending rs source source_now sink sink_now before now end counts = counts
 
-ends_so : (A B : Refusal → Type 0) → ((refusal : Refusal) → A refusal → B refusal) → (ending : Option Ending) (rs : List Replied) (source source_now : SourceView) (sink sink_now : SinkView)
+ends_so : (A B : Refusal → Type 0) → ((refusal : Refusal) → A refusal → B refusal) → (ending : Option Ending) (rs : List Replied) (source source_now : SourceView)
+    (sink sink_now : SinkView)
     → IsScriptEnd A ending rs source source_now sink sink_now → IsScriptEnd B ending rs source source_now sink sink_now
 ends_so A B each (Some (Refused Memory)) rs source source_now sink sink_now end = end
 ends_so A B each (Some (Refused refusal)) rs source source_now sink sink_now end = each refusal end
@@ -125,7 +130,8 @@ ends_so A B each ending rs source source_now sink sink_now end = end
 
 -- ---- refusals
 
-ended_by : (rs : List Replied) (refusal : Refusal) (source source_now : SourceView) (sink sink_now : SinkView) → IsScriptEnd (EndsReopening rs) (Some (Refused refusal)) rs source source_now sink sink_now
+ended_by : (rs : List Replied) (refusal : Refusal) (source source_now : SourceView) (sink sink_now : SinkView) →
+    IsScriptEnd (EndsReopening rs) (Some (Refused refusal)) rs source source_now sink sink_now
     → (refusal ≡ Memory) ⊎ EndsReopening rs refusal
 ended_by rs Memory source source_now sink sink_now end = inl refl
 ended_by rs refusal source source_now sink sink_now end = inr end
@@ -136,7 +142,8 @@ by_refusal rs refusal ending is source source_now sink sink_now end =
     ended_by rs refusal source source_now sink sink_now (subst (λ (e : Option Ending). IsScriptEnd (EndsReopening rs) e rs source source_now sink sink_now) is end)
 
 -- so a refusal ends it only where there was no memory, or as a `reopen` was refused
-pub ends_alone : (rs : List Replied) (ending : Option Ending) (source source_now : SourceView) (sink sink_now : SinkView) → IsScriptEnd (EndsReopening rs) ending rs source source_now sink sink_now → EndsAlone ending rs
+pub ends_alone : (rs : List Replied) (ending : Option Ending) (source source_now : SourceView) (sink sink_now : SinkView) →
+    IsScriptEnd (EndsReopening rs) ending rs source source_now sink sink_now → EndsAlone ending rs
 ends_alone rs ending source source_now sink sink_now end refusal is = elim (by_refusal rs refusal ending is source source_now sink sink_now end) [
   | inl memory ↦ inl memory
   | inr last ↦ inr (last.0, last.1.are)
@@ -154,8 +161,10 @@ runs_split C state (one ∷ before) last r s runs =
     no_more : (others : List Replied) → others ++ last ∷ [] ≡ [] → others ≡ []
     no_more others is = absurd (no_last others last (sym is))
 
-module _ (D : Type 0) (view : D → DiskView) (C : Type 0) (state : C → CoreState) (before : D) (w : DiskView) (r s : RunnerState C) (called : Called C state (view before) w r.core s.core)
-    (go_on : LinesGoOn C state) (give : LinesGiveWhatIsNamed D view C state) (is_on : OpenedIsOn D view C state) (keep : LinesKeepWritten C state) (fresh : r.sessions ≡ replicate ACTORS None)
+module _ (D : Type 0) (view : D → DiskView) (C : Type 0) (state : C → CoreState) (before : D) (w : DiskView) (r s : RunnerState C)
+    (called : Called C state (view before) w r.core s.core)
+    (go_on : LinesGoOn C state) (give : LinesGiveWhatIsNamed D view C state) (is_on : OpenedIsOn D view C state) (keep : LinesKeepWritten C state)
+    (fresh : r.sessions ≡ replicate ACTORS None)
     (result : Result Unit Ending) (source source_now : SourceView) (sink sink_now : SinkView) (run : ScriptRun C state result r s source source_now sink sink_now) where
   abbrev v : DiskView
   v = view before
@@ -201,7 +210,8 @@ module _ (D : Type 0) (view : D → DiskView) (C : Type 0) (state : C → CoreSt
     kept_lines = keep run.rs stands.store base r s unswept stands.on stands.told stands.encodes stands.reserve run.runs
 
     crashed : LeavesMeanwhile (KeepsAll run.rs base) v w
-    crashed = leaves_more (KeepsOver run.rs stands.store base) (KeepsAll run.rs base) v w kept_all (leaves_of C state v w r.core s.core called (KeepsOver run.rs stands.store base) later kept_lines.1)
+    crashed = leaves_more (KeepsOver run.rs stands.store base) (KeepsAll run.rs base) v w kept_all
+        (leaves_of C state v w r.core s.core called (KeepsOver run.rs stands.store base) later kept_lines.1)
 
   others : LinesKeepOthers run.rs v w
   others = record {
@@ -236,7 +246,8 @@ module _ (D : Type 0) (view : D → DiskView) (C : Type 0) (state : C → CoreSt
 
     either_cause : (refusal : Refusal) → IsOpenRefusal (Shows here last) here.size refusal ⊎ HasNoRoom (Shows here last) here.size refusal → Unopened refusal
     either_cause refusal (inl is) = inl (opening_cause refusal is)
-    either_cause refusal (inr is) = inr (subst (λ (n : ℕ). HasNoRoom (ReadsSince v w) n refusal) size_here (room_so (Shows here last) (ReadsSince v w) here.size shown_in_call refusal is))
+    either_cause refusal (inr is) = inr (subst (λ (n : ℕ). HasNoRoom (ReadsSince v w) n refusal) size_here
+        (room_so (Shows here last) (ReadsSince v w) here.size shown_in_call refusal is))
 
   free_write : (refusal : Refusal) → refusal ≡ DiskWrite → Unopened refusal
   free_write refusal is = inl (subst (λ (x : Refusal). IsOpenRefusal (ReadsSince v w) v.size x) (sym is) tt)
@@ -258,7 +269,8 @@ module _ (D : Type 0) (view : D → DiskView) (C : Type 0) (state : C → CoreSt
 
   reopening : (refusal : Refusal) → EndsReopening run.rs refusal → IsRunRefusal run.rs v w source source_now refusal
   reopening refusal ends =
-      let split = runs_split C state ends.0 (record { line = lines.Reopen; reply = replies.Refused refusal }) r s (subst (λ (l : List Replied). RunsLines C state l r s) ends.1.are run.runs) in
+      let split = runs_split C state ends.0 (record { line = lines.Reopen; reply = replies.Refused refusal }) r s
+      (subst (λ (l : List Replied). RunsLines C state l r s) ends.1.are run.runs) in
       inr (record {
         before = ends.0;
         has_last = ends.1;
@@ -275,7 +287,8 @@ module _ (D : Type 0) (view : D → DiskView) (C : Type 0) (state : C → CoreSt
       caused = ends_so (EndsReopening run.rs) (IsRunRefusal run.rs v w source source_now) reopening (ending_in result) run.rs source source_now sink sink_now run.caused;
       wrote = run.wrote;
       frame = others;
-      named = inr (named_so (WasShown v last) (WasShown v w) wider (WasOpened v last) (WasOpened v w) wider_first run.rs (give run.rs before r s called.opened called.first fresh run.actors run.runs));
+      named = inr (named_so (WasShown v last) (WasShown v w) wider (WasOpened v last) (WasOpened v w) wider_first run.rs
+          (give run.rs before r s called.opened called.first fresh run.actors run.runs));
       disk_faults = counts_lines (ending_in result) run.rs source source_now sink sink_now v.faults w.faults run.caused counted;
       source_faults = run.source_faults;
       sink_faults = run.sink_faults;
@@ -291,11 +304,13 @@ module _ (loans loans_now : List ℕ) (v w : DiskView) where
   abbrev lent_now : DiskView
   lent_now = record w { loans = loans_now }
 
-  cause_unlent : (refusal : Refusal) → IsOpenRefusal (ReadsSince lent lent_now) v.size refusal ⊎ HasNoRoom (ReadsSince lent lent_now) v.size refusal → IsOpenRefusal (ReadsSince v w) v.size refusal ⊎ HasNoRoom (ReadsSince v w) v.size refusal
+  cause_unlent : (refusal : Refusal) → IsOpenRefusal (ReadsSince lent lent_now) v.size refusal ⊎ HasNoRoom (ReadsSince lent lent_now) v.size refusal →
+      IsOpenRefusal (ReadsSince v w) v.size refusal ⊎ HasNoRoom (ReadsSince v w) v.size refusal
   cause_unlent refusal (inl is) = inl (open_refusal (ReadsSince lent lent_now) (ReadsSince v w) (reads loans loans_now v w) v.size refusal is)
   cause_unlent refusal (inr is) = inr (room_so (ReadsSince lent lent_now) (ReadsSince v w) v.size (reads loans loans_now v w) refusal is)
 
-  not_opened : (refusal : Refusal) (rs : List Replied) (source source_now : SourceView) → IsRunRefusal rs lent lent_now source source_now refusal → IsRunRefusal rs v w source source_now refusal
+  not_opened : (refusal : Refusal) (rs : List Replied) (source source_now : SourceView) → IsRunRefusal rs lent lent_now source source_now refusal →
+      IsRunRefusal rs v w source source_now refusal
   not_opened refusal rs source source_now (inl is) =
       inl (record { none = is.none; cause = open_refusal (Shows lent lent_now) (Shows v w) (shows loans loans_now v w) v.size refusal is.cause; left_is = is.left_is })
   not_opened refusal rs source source_now (inr is) =
@@ -304,22 +319,26 @@ module _ (loans loans_now : List ℕ) (v w : DiskView) where
   shown_unlent : (store : Store) → WasShown lent lent_now store → WasShown v w store
   shown_unlent store is = record { parts = is.parts; returned = is.returned; shows = is.shows }
 
-  pub script_back : (rs : List Replied) (ending : Option Ending) (source source_now : SourceView) (sink sink_now : SinkView) → KeepsScript rs ending lent lent_now source source_now sink sink_now
+  pub script_back : (rs : List Replied) (ending : Option Ending) (source source_now : SourceView) (sink sink_now : SinkView) →
+      KeepsScript rs ending lent lent_now source source_now sink sink_now
       → KeepsScript rs ending v w source source_now sink sink_now
   script_back rs ending source source_now sink sink_now is = record {
     begins = is.begins;
     stops = is.stops;
-    caused = ends_so (IsRunRefusal rs lent lent_now source source_now) (IsRunRefusal rs v w source source_now) (λ refusal. not_opened refusal rs source source_now) ending rs source source_now sink sink_now is.caused;
+    caused = ends_so (IsRunRefusal rs lent lent_now source source_now) (IsRunRefusal rs v w source source_now) (λ refusal. not_opened refusal rs source source_now) ending rs
+        source source_now sink sink_now is.caused;
     wrote = is.wrote;
     frame = record { content = is.frame.content; crash = λ unswept old told. let leaves = is.frame.crash unswept old told in record { now = leaves.now; since = leaves.since } };
-    named = named_or (WasShown lent lent_now) (WasShown v w) shown_unlent (WasOpened lent lent_now) (WasOpened v w) (λ store. shows loans loans_now v w (λ image. Encodes image store)) ending rs is.named;
+    named = named_or (WasShown lent lent_now) (WasShown v w) shown_unlent (WasOpened lent lent_now) (WasOpened v w)
+        (λ store. shows loans loans_now v w (λ image. Encodes image store)) ending rs is.named;
     disk_faults = is.disk_faults;
     source_faults = is.source_faults;
     sink_faults = is.sink_faults;
   }
 
 -- the runner has the core that was opened, and the core that is closed was the runner's
-pub called_by : (C : Type 0) (state : C → CoreState) (v w : DiskView) (old new first last : C) → Called C state v w old new → first ≡ old → new ≡ last → Called C state v w first last
+pub called_by : (C : Type 0) (state : C → CoreState) (v w : DiskView) (old new first last : C) → Called C state v w old new → first ≡ old → new ≡ last →
+    Called C state v w first last
 called_by C state v w old new first last called begins ends =
     subst (λ (c : C). Called C state v w c last) (sym begins) (subst (λ (c : C). Called C state v w old c) ends called)
 

@@ -40,7 +40,8 @@ pub actors_snoc : (rs : List Replied) (one : Replied) → AreOfActors rs → IsO
 actors_snoc [] one all is = (is, tt)
 actors_snoc (first ∷ rs) one all is = (all.0, actors_snoc rs one all.1 is)
 
-pub runs_snoc : (C : Type 0) (state : C → CoreState) (rs : List Replied) (one : Replied) (r mid s : RunnerState C) → NoneEnds rs → RunsLines C state rs r mid → RunsLine C state one.line one.reply mid s
+pub runs_snoc : (C : Type 0) (state : C → CoreState) (rs : List Replied) (one : Replied) (r mid s : RunnerState C) → NoneEnds rs → RunsLines C state rs r mid →
+    RunsLine C state one.line one.reply mid s
     → RunsLines C state (rs ++ one ∷ []) r s
 runs_snoc C state [] one r mid s none runs line = (λ last. refl, (s, (subst (λ (from : RunnerState C). RunsLine C state one.line one.reply from s) runs line, refl)))
 runs_snoc C state (first ∷ rs) one r mid s none runs line =

@@ -38,7 +38,8 @@ appended_on a b c xs ys first second = record {
   is = λ old told. second.is (old ++ xs) (first.is old told) ∙ ap Some (append_assoc old xs ys);
 }
 
-pub begin_script : (C : Type 0) (state : C → CoreState) (r : RunnerState C) (source : SourceView) (sink : SinkView) (laws : ReadsTellScripts) → ScriptSoFar C state [] fresh_reader r r source source sink sink
+pub begin_script : (C : Type 0) (state : C → CoreState) (r : RunnerState C) (source : SourceView) (sink : SinkView) (laws : ReadsTellScripts) →
+    ScriptSoFar C state [] fresh_reader r r source source sink sink
 begin_script C state r source sink laws = record {
   runs = refl;
   actors = tt;
@@ -49,19 +50,22 @@ begin_script C state r source sink laws = record {
   sent = refl;
 }
 
-same_refusal : (one : Replied) (a b : Refusal) → ◌≡◌ {A = Replied} one (record { line = lines.Reopen; reply = replies.Refused a }) → ◌≡◌ {A = Replied} one (record { line = lines.Reopen; reply = replies.Refused b }) → a ≡ b
+same_refusal : (one : Replied) (a b : Refusal) → ◌≡◌ {A = Replied} one (record { line = lines.Reopen; reply = replies.Refused a }) →
+    ◌≡◌ {A = Replied} one (record { line = lines.Reopen; reply = replies.Refused b }) → a ≡ b
 same_refusal one a b first second =
     let both : replies.Refused a ≡ replies.Refused b = sym (ap (λ (o : Replied). o.reply) first) ∙ ap (λ (o : Replied). o.reply) second in
     cc
 
-module _ (C : Type 0) (state : C → CoreState) (laws : ReadsTellScripts) (rs : List Replied) (reader after : ReaderState) (r mid s : RunnerState C) (source between source_now : SourceView)
+module _ (C : Type 0) (state : C → CoreState) (laws : ReadsTellScripts) (rs : List Replied) (reader after : ReaderState) (r mid s : RunnerState C)
+    (source between source_now : SourceView)
     (sink sink_mid sink_now : SinkView) (so_far : ScriptSoFar C state rs reader r mid source between sink sink_mid) where
   abbrev begun : Given source.left (λ bytes. (rest : List ℕ) × Begins bytes (lines_of rs) rest)
   begun = laws.so_far source.left between.left (lines_of rs) reader so_far.read
 
   -- ---- a line was run
 
-  module _ (result : Result Unit Ending) (run : IsRun C state after.line result mid s sink_mid sink_now) (is_next : IsNext next.Line reader after between.left source_now.left) (part : IsPart after.line) where
+  module _ (result : Result Unit Ending) (run : IsRun C state after.line result mid s sink_mid sink_now) (is_next : IsNext next.Line reader after between.left source_now.left)
+      (part : IsPart after.line) where
     abbrev one : Replied
     one = record { line = run.line; reply = run.replies.reply }
 
@@ -88,7 +92,8 @@ module _ (C : Type 0) (state : C → CoreState) (laws : ReadsTellScripts) (rs : 
     -- the script goes on
     goes_so : result ≡ Ok tt → source_now.faults ≡ between.faults → ScriptSoFar C state all after r s source source_now sink sink_now
     goes_so done same =
-        let sends : SendsReply run.line run.replies.reply (Ok tt) sink_mid sink_now = subst (λ (x : Result Unit Ending). SendsReply run.line run.replies.reply x sink_mid sink_now) done run.replies.sends in
+        let sends : SendsReply run.line run.replies.reply (Ok tt) sink_mid sink_now = subst (λ (x : Result Unit Ending). SendsReply run.line run.replies.reply x sink_mid sink_now)
+        done run.replies.sends in
         record {
           runs = ran;
           actors = of_actors;
@@ -108,7 +113,8 @@ module _ (C : Type 0) (state : C → CoreState) (laws : ReadsTellScripts) (rs : 
       stops_by ending by = stops_snoc (Some ending) rs one so_far.none_ends (λ refusal is. by refusal)
 
       -- the sink failed
-      not_sent : AppendedPart sink_mid.written sink_now.written (reply_line one.reply) → Rose sink_mid.faults sink_now.faults → ScriptRun C state (Err Sink) r s source source_now sink sink_now
+      not_sent : AppendedPart sink_mid.written sink_now.written (reply_line one.reply) → Rose sink_mid.faults sink_now.faults →
+          ScriptRun C state (Err Sink) r s source source_now sink sink_now
       not_sent part_is rose = record {
         rs = all;
         runs = ran;
@@ -157,14 +163,16 @@ module _ (C : Type 0) (state : C → CoreState) (laws : ReadsTellScripts) (rs : 
       wrote_reopen Memory wrote = inl wrote
       wrote_reopen refusal wrote = wrote
 
-      not_reopened : (refusal : Refusal) → ◌≡◌ {A = Replied} one (record { line = lines.Reopen; reply = replies.Refused refusal }) → Appended sink_mid.written sink_now.written (reply_line one.reply)
+      not_reopened : (refusal : Refusal) → ◌≡◌ {A = Replied} one (record { line = lines.Reopen; reply = replies.Refused refusal }) →
+          Appended sink_mid.written sink_now.written (reply_line one.reply)
           → sink_now.faults ≡ sink_mid.faults → ScriptRun C state (Err (Refused refusal)) r s source source_now sink sink_now
       not_reopened refusal is wrote sent = record {
         rs = all;
         runs = ran;
         actors = of_actors;
         begins = begun_all;
-        stops = stops_snoc (Some (Refused refusal)) rs one so_far.none_ends (λ other is_other. inl (ap (λ (x : Refusal). Some (Refused x)) (same_refusal one refusal other is is_other)));
+        stops = stops_snoc (Some (Refused refusal)) rs one so_far.none_ends
+            (λ other is_other. inl (ap (λ (x : Refusal). Some (Refused x)) (same_refusal one refusal other is is_other)));
         caused = by_reopen refusal (rs, record { are = ap (λ (o : Replied). rs ++ o ∷ []) is });
         wrote = wrote_reopen refusal (wrote_all wrote);
         source_faults = λ other. heard_all;
@@ -173,7 +181,8 @@ module _ (C : Type 0) (state : C → CoreState) (laws : ReadsTellScripts) (rs : 
 
       -- what ends it is a refusal
       refusal_of : (line : LineValue) (reply : ReplyValue) (ending : Ending) → EndsBy line reply ending
-          → (refusal : Refusal) × ((ending ≡ Refused refusal) × (◌≡◌ {A = Replied} (record { line = line; reply = reply }) (record { line = lines.Reopen; reply = replies.Refused refusal })))
+          → (refusal : Refusal) × ((ending ≡ Refused refusal)
+          × (◌≡◌ {A = Replied} (record { line = line; reply = reply }) (record { line = lines.Reopen; reply = replies.Refused refusal })))
       refusal_of lines.Reopen (replies.Refused refusal) ending is = (refusal, (is, refl))
       refusal_of line reply ending is = absurd is
 
@@ -232,7 +241,8 @@ module _ (C : Type 0) (state : C → CoreState) (laws : ReadsTellScripts) (rs : 
         (after.line, now.0, (now.1, subst (λ (l : List ℕ). Begins all (lines_of rs) l) left before.2, part.not_ended, part.short))
 
     -- the source failed
-    unread : IsPart after.line → after.ready ≡ [] → TakesOff after.line reader after between.left source_now.left → Rose between.faults source_now.faults → ScriptRun C state (Err Source) r s source source_now sink sink_now
+    unread : IsPart after.line → after.ready ≡ [] → TakesOff after.line reader after between.left source_now.left → Rose between.faults source_now.faults →
+        ScriptRun C state (Err Source) r s source source_now sink sink_now
     unread part drained takes rose = record {
       rs = rs;
       runs = runs_here;
@@ -287,7 +297,8 @@ module _ (C : Type 0) (state : C → CoreState) (laws : ReadsTellScripts) (rs : 
     not_line : IsPart after.line → IsNoLine after.line mid s sink_mid sink_now → (value : LineValue) → ¬ (IsLine value after.line)
     not_line part none value is = none.none value (record { short = part.short; is_line = is })
 
-    on_line : (halt : Result Unit Halt) (on : Bool) → Ok on ≡ goes_on number halt → RunsBytes C state after.line halt mid s sink_mid sink_now → IsNext next.Line reader after between.left source_now.left → IsPart after.line
+    on_line : (halt : Result Unit Halt) (on : Bool) → Ok on ≡ goes_on number halt → RunsBytes C state after.line halt mid s sink_mid sink_now →
+        IsNext next.Line reader after between.left source_now.left → IsPart after.line
         → source_now.faults ≡ between.faults → (on ≡ true) × GoneOn
     on_line (Ok u) on is run is_next part heard = (
       cc,
@@ -301,7 +312,8 @@ module _ (C : Type 0) (state : C → CoreState) (laws : ReadsTellScripts) (rs : 
     on_line (Err NoLine) on is run is_next part heard = absurd cc
     on_line (Err (Ended ending)) on is run is_next part heard = absurd cc
 
-    off_line : (halt : Result Unit Halt) (e : Ending) → Err e ≡ goes_on number halt → RunsBytes C state after.line halt mid s sink_mid sink_now → IsNext next.Line reader after between.left source_now.left → IsPart after.line
+    off_line : (halt : Result Unit Halt) (e : Ending) → Err e ≡ goes_on number halt → RunsBytes C state after.line halt mid s sink_mid sink_now →
+        IsNext next.Line reader after between.left source_now.left → IsPart after.line
         → source_now.faults ≡ between.faults → ScriptRun C state (Err e) r s source source_now sink sink_now
     off_line (Ok u) e is run is_next part heard = absurd cc
     off_line (Err NoLine) e is run is_next part heard =
@@ -332,14 +344,16 @@ module _ (C : Type 0) (state : C → CoreState) (laws : ReadsTellScripts) (rs : 
     goes_out : RunsNext C state number (Ok false) reader after mid s between source_now sink_mid sink_now → ScriptRun C state (Ok tt) r s source source_now sink sink_now
     goes_out (inl on) = by_next on.next on.is_next on.runs
       where
-        by_next : (n : NextLine) → IsNext n reader after between.left source_now.left → RunsBy C state n number (Ok false) after.line mid s sink_mid sink_now → ScriptRun C state (Ok tt) r s source source_now sink sink_now
+        by_next : (n : NextLine) → IsNext n reader after between.left source_now.left → RunsBy C state n number (Ok false) after.line mid s sink_mid sink_now →
+            ScriptRun C state (Ok tt) r s source source_now sink sink_now
         by_next next.Line is_next runs = let no : false ≡ true = (on_line runs.0 false runs.1.0 runs.1.1 is_next on.part on.heard).0 in absurd cc
         by_next next.End is_next runs = read_out runs.1.0 runs.1.1 on.heard is_next
         by_next next.Wrong is_next runs = let no = runs.0 in absurd cc
         by_next next.TooMany is_next runs = let no = runs.0 in absurd cc
     goes_out (inr none) = let no = none.result_is in absurd cc
 
-    pub went_out : (more : Bool) → more ≡ false → RunsNext C state number (Ok more) reader after mid s between source_now sink_mid sink_now → ScriptRun C state (Ok tt) r s source source_now sink sink_now
+    pub went_out : (more : Bool) → more ≡ false → RunsNext C state number (Ok more) reader after mid s between source_now sink_mid sink_now →
+        ScriptRun C state (Ok tt) r s source source_now sink sink_now
     went_out false out next = goes_out next
     went_out true out next = absurd cc
 
@@ -347,7 +361,8 @@ module _ (C : Type 0) (state : C → CoreState) (laws : ReadsTellScripts) (rs : 
     Gives x = ScriptRun C state (Err x) r s source source_now sink sink_now
 
     -- or it was given up
-    gives_up : (e : Ending) → RunsNext C state number (Err e) reader after mid s between source_now sink_mid sink_now → ScriptRun C state (Err e) r s source source_now sink sink_now
+    gives_up : (e : Ending) → RunsNext C state number (Err e) reader after mid s between source_now sink_mid sink_now →
+        ScriptRun C state (Err e) r s source source_now sink sink_now
     gives_up e (inl on) = by_next on.next on.is_next on.runs
       where
         by_next : (n : NextLine) → IsNext n reader after between.left source_now.left → RunsBy C state n number (Err e) after.line mid s sink_mid sink_now → Gives e
@@ -366,9 +381,11 @@ module _ (C : Type 0) (state : C → CoreState) (laws : ReadsTellScripts) (rs : 
     gives_up e (inr none) =
         let is = none.result_is in
         let same : e ≡ Source = cc in
-        subst (λ (x : Ending). ScriptRun C state (Err x) r s source source_now sink sink_now) (sym same) (unread none.none.0 none.none.1 none.part none.drained none.takes none.rose)
+        subst (λ (x : Ending). ScriptRun C state (Err x) r s source source_now sink sink_now) (sym same)
+        (unread none.none.0 none.none.1 none.part none.drained none.takes none.rose)
 
-    pub gave_up : (e : Ending) (result : Result Unit Ending) → IsErrAnd result (λ y. y ≡ e) → RunsNext C state number (Err e) reader after mid s between source_now sink_mid sink_now
+    pub gave_up : (e : Ending) (result : Result Unit Ending) → IsErrAnd result (λ y. y ≡ e) → RunsNext C state number (Err e) reader after mid s between source_now sink_mid
+        sink_now
         → ScriptRun C state result r s source source_now sink sink_now
     gave_up e result is next = by_error (λ x. ScriptRun C state x r s source source_now sink sink_now) result e is (gives_up e next)
 

@@ -26,7 +26,8 @@ use Rattle.backup_engine.proofs.WayLists.{all_both}
 -- ---- from entries to segments
 
 -- what is so of the entries of segments, by digest and length, is so of the segments
-by_entries : (P : List ℕ → ℕ → Type 0) (offset : ℕ) (ss : List Segment) → AllByRecursion (λ (e : Entry). P e.digest e.length) (entries_from offset ss) → AllByRecursion (λ (s : Segment). P (sha256 s.bytes) (length s.bytes)) ss
+by_entries : (P : List ℕ → ℕ → Type 0) (offset : ℕ) (ss : List Segment) → AllByRecursion (λ (e : Entry). P e.digest e.length) (entries_from offset ss) →
+    AllByRecursion (λ (s : Segment). P (sha256 s.bytes) (length s.bytes)) ss
 by_entries P offset [] all = tt
 by_entries P offset (s ∷ ss) all = (all.0, by_entries P (offset + length s.bytes) ss all.1)
 
@@ -52,7 +53,8 @@ same_last held other same = last_by_ids held ∙ ap last_of_ids same ∙ sym (la
 
 -- ---- the index
 
-module _ (old new : CoreState) (kind : Kind) (segments : List Segment) (made : Makes (SealContainer (next_id old) kind segments) old new) (indexed : Runs old.disk.size old.known old.tables) (places : PlaceMap) (known : old.known ≡ Some places) where
+module _ (old new : CoreState) (kind : Kind) (segments : List Segment) (made : Makes (SealContainer (next_id old) kind segments) old new)
+    (indexed : Runs old.disk.size old.known old.tables) (places : PlaceMap) (known : old.known ≡ Some places) where
   abbrev store : Store
   store = indexed.store
 
@@ -82,12 +84,14 @@ module _ (old new : CoreState) (kind : Kind) (segments : List Segment) (made : M
   pub sealed_long : AllByRecursion (λ s. length_in now_told.0 (segment_key kind s) ≡ Some (length s.bytes)) segments
   sealed_long =
       by_entries (λ digest long. length_in now_told.0 (key_of (kind_byte kind) digest) ≡ Some long) 0 segments
-      (entries_so (λ e. HasKey now_told.0 (key_of (kind_byte kind) e.digest) × (newest 0 after.held (key_of (kind_byte kind) e.digest) ≡ Some (entry_copy (first_free store.held) (next_id old) e)))
+      (entries_so (λ e. HasKey now_told.0 (key_of (kind_byte kind) e.digest)
+      × (newest 0 after.held (key_of (kind_byte kind) e.digest) ≡ Some (entry_copy (first_free store.held) (next_id old) e)))
       (λ e. length_in now_told.0 (key_of (kind_byte kind) e.digest) ≡ Some e.length) (entries_from 0 segments)
       (λ e found.
       let key : List ℕ = key_of (kind_byte kind) e.digest in
       ap (option_map (λ (p : Place). p.length)) (found.0.1 ∙ sym (index_after key found.0.0 found.0.1) ∙ ap (option_map (λ (c : Copy). c.place)) found.1))
-      (all_both (λ e. HasKey now_told.0 (key_of (kind_byte kind) e.digest)) (λ e. newest 0 after.held (key_of (kind_byte kind) e.digest) ≡ Some (entry_copy (first_free store.held) (next_id old) e))
+      (all_both (λ e. HasKey now_told.0 (key_of (kind_byte kind) e.digest))
+      (λ e. newest 0 after.held (key_of (kind_byte kind) e.digest) ≡ Some (entry_copy (first_free store.held) (next_id old) e))
       (entries_from 0 segments) has_entries (newest_of_entries header store.held can.right (omega (arith, can.slot)) can.new_id)))
 
   -- another key has what it had

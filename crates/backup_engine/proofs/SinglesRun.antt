@@ -22,11 +22,13 @@ push_actors count [] = tt
 push_actors count (d ∷ more) = (of_first (lines.Push 0 d.digits) refl, push_actors (count + length (pushed_bytes d.digits)) more)
 
 finish_actors : (pushes : List Digits) → AreOfActors (finish_lines pushes)
-finish_actors pushes = all_of_actors (push_lines 0 pushes) (said (lines.Finish 0) (replies.Finished 0 (length (pushed pushes))) ∷ []) (push_actors 0 pushes) (of_first (lines.Finish 0) refl, tt)
+finish_actors pushes = all_of_actors (push_lines 0 pushes) (said (lines.Finish 0) (replies.Finished 0 (length (pushed pushes))) ∷ []) (push_actors 0 pushes)
+    (of_first (lines.Finish 0) refl, tt)
 
 stop_actors : (name given : List ℕ) (source source_now : SourceView) (refusal : Refusal) (rs : List Replied) → StopsAt name given source source_now refusal rs → AreOfActors rs
 stop_actors name given source source_now refusal rs (pushes, inl (d, (first, is))) =
-    subst AreOfActors (sym is) (all_of_actors (push_lines 0 pushes) (refused (lines.Push 0 d.digits) refusal ∷ []) (push_actors 0 pushes) (of_first (lines.Push 0 d.digits) refl, tt))
+    subst AreOfActors (sym is) (all_of_actors (push_lines 0 pushes) (refused (lines.Push 0 d.digits) refusal ∷ []) (push_actors 0 pushes)
+    (of_first (lines.Push 0 d.digits) refl, tt))
 stop_actors name given source source_now refusal rs (pushes, inr (inl (all, is))) =
     subst AreOfActors (sym is) (all_of_actors (push_lines 0 pushes) (refused (lines.Finish 0) refusal ∷ []) (push_actors 0 pushes) (of_first (lines.Finish 0) refl, tt))
 stop_actors name given source source_now refusal rs (pushes, inr (inr (all, is))) =
@@ -39,12 +41,14 @@ store_actors name given rs (pushes, (sequence, (all, is))) =
       all_of_actors (finish_lines pushes) (said (lines.Commit 0 name) (replies.Committed 0 sequence) ∷ []) (finish_actors pushes) (of_first (lines.Commit 0 name) refl, tt),
     )
 
-pub ingest_actors : (name given : List ℕ) (ending : Option Ending) (source source_now : SourceView) (rs : List Replied) → IsIngest name given ending source source_now rs → AreOfActors rs
+pub ingest_actors : (name given : List ℕ) (ending : Option Ending) (source source_now : SourceView) (rs : List Replied) → IsIngest name given ending source source_now rs →
+    AreOfActors rs
 ingest_actors name given None source source_now rs is = store_actors name given rs is
 ingest_actors name given (Some Sink) source source_now rs is = store_actors name given rs is
 ingest_actors name given (Some Source) source source_now rs (pushes, (first, is)) = subst AreOfActors (sym is) (of_first (lines.Begin 0) refl, push_actors 0 pushes)
 ingest_actors name given (Some (Refused refusal)) source source_now rs (inl (memory, none)) = subst AreOfActors (sym none) tt
-ingest_actors name given (Some (Refused refusal)) source source_now rs (inr (more, (are, stops))) = subst AreOfActors (sym are) (of_first (lines.Begin 0) refl, stop_actors name given source source_now refusal more stops)
+ingest_actors name given (Some (Refused refusal)) source source_now rs (inr (more, (are, stops))) =
+    subst AreOfActors (sym are) (of_first (lines.Begin 0) refl, stop_actors name given source source_now refusal more stops)
 ingest_actors name given (Some ending) source source_now rs is = absurd is
 
 next_actors : (segments : List (List ℕ)) → AreOfActors (next_lines segments)
@@ -52,20 +56,24 @@ next_actors [] = tt
 next_actors (bytes ∷ more) = (of_first (lines.Next 0) refl, next_actors more)
 
 read_actors : (name : List ℕ) (segments : List (List ℕ)) (last : Replied) (rs : List Replied) → AreOfActors (last ∷ []) → ReadsFile name segments last rs → AreOfActors rs
-read_actors name segments last rs end (count, is) = subst AreOfActors (sym is) (of_first (lines.Read 0 name) refl, all_of_actors (next_lines segments) (last ∷ []) (next_actors segments) end)
+read_actors name segments last rs end (count, is) =
+    subst AreOfActors (sym is) (of_first (lines.Read 0 name) refl, all_of_actors (next_lines segments) (last ∷ []) (next_actors segments) end)
 
 pub restore_actors : (name : List ℕ) (ending : Option Ending) (sink sink_now : SinkView) (rs : List Replied) → IsRestore name ending sink sink_now rs → AreOfActors rs
 restore_actors name None sink sink_now rs (segments, (reads, wrote)) = read_actors name segments (said (lines.Next 0) (replies.End 0)) rs (of_first (lines.Next 0) refl, tt) reads
-restore_actors name (Some Sink) sink sink_now rs (segments, (last, (reads, wrote))) = read_actors name segments (said (lines.Next 0) (replies.Bytes 0 last)) rs (of_first (lines.Next 0) refl, tt) reads
+restore_actors name (Some Sink) sink sink_now rs (segments, (last, (reads, wrote))) = read_actors name segments (said (lines.Next 0) (replies.Bytes 0 last)) rs
+    (of_first (lines.Next 0) refl, tt) reads
 restore_actors name (Some (Refused refusal)) sink sink_now rs (inl (memory, none, wrote)) = subst AreOfActors (sym none) tt
 restore_actors name (Some (Refused refusal)) sink sink_now rs (inr (inl (is, wrote))) = subst AreOfActors (sym is) (of_first (lines.Read 0 name) refl, tt)
-restore_actors name (Some (Refused refusal)) sink sink_now rs (inr (inr (segments, (reads, wrote)))) = read_actors name segments (refused (lines.Next 0) refusal) rs (of_first (lines.Next 0) refl, tt) reads
+restore_actors name (Some (Refused refusal)) sink sink_now rs (inr (inr (segments, (reads, wrote)))) = read_actors name segments (refused (lines.Next 0) refusal) rs
+    (of_first (lines.Next 0) refl, tt) reads
 restore_actors name (Some ending) sink sink_now rs is = absurd is
 
 -- ---- what is said
 
 -- the store was not opened
-pub unopened_speaks : (AreSo : List Replied → Type 0) (v w : DiskView) (refusal : Refusal) → IsUnopened v w refusal → (sink : SinkView) → Speaks AreSo (Some (Refused refusal)) [] v w sink sink
+pub unopened_speaks : (AreSo : List Replied → Type 0) (v w : DiskView) (refusal : Refusal) → IsUnopened v w refusal → (sink : SinkView) →
+    Speaks AreSo (Some (Refused refusal)) [] v w sink sink
 unopened_speaks AreSo v w refusal is sink = inr (record { refusal = refusal; ending_is = refl; none = refl; cause = is.cause; wrote = refl })
 
 -- there was no memory before the store was opened

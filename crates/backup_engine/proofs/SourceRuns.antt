@@ -32,7 +32,8 @@ module _ (C : Type 0) (state : C → CoreState) (name : List ℕ) (source source
   pub nothing_put : (given : List ℕ) (c : C) → PutRun C state name given (Err Memory) c c
   nothing_put given c = record { steps = []; ran = refl; each = tt; ends = refl; whole = tt; adds = record { store_has = λ store represents valid free whole. tt } }
 
-  heard_sent : (reply : List ℕ) (result : Result Unit Ending) (sink sink_now : SinkView) → source_now.faults ≡ source.faults → Sent reply result sink sink_now → IsHeard result source source_now
+  heard_sent : (reply : List ℕ) (result : Result Unit Ending) (sink sink_now : SinkView) → source_now.faults ≡ source.faults → Sent reply result sink sink_now →
+      IsHeard result source source_now
   heard_sent reply (Ok u) sink sink_now same sent = same
   heard_sent reply (Err Sink) sink sink_now same sent = same
   heard_sent reply (Err ending) sink sink_now same sent = absurd sent
@@ -42,13 +43,15 @@ module _ (C : Type 0) (state : C → CoreState) (name : List ℕ) (source source
   failed_out (Refused refusal) cause = tt
   failed_out ending cause = absurd cause
 
-  sent_out : (reply : List ℕ) (result : Result Unit Ending) (sink sink_now : SinkView) → Known source.left (λ all. source_now.left ≡ Some []) → Sent reply result sink sink_now → IsReadOut result source.left source_now.left
+  sent_out : (reply : List ℕ) (result : Result Unit Ending) (sink sink_now : SinkView) → Known source.left (λ all. source_now.left ≡ Some []) → Sent reply result sink sink_now →
+      IsReadOut result source.left source_now.left
   sent_out reply (Ok u) sink sink_now out sent = out
   sent_out reply (Err Sink) sink sink_now out sent = out
   sent_out reply (Err ending) sink sink_now out sent = absurd sent
 
   -- but perhaps for the reply, all lines were run
-  sent_lines : (given reply : List ℕ) (result : Result Unit Ending) (sink sink_now : SinkView) (old new : C) → Sent reply result sink sink_now → RunsSingle C state (StoresFile name given) old new
+  sent_lines : (given reply : List ℕ) (result : Result Unit Ending) (sink sink_now : SinkView) (old new : C) → Sent reply result sink sink_now →
+      RunsSingle C state (StoresFile name given) old new
       → RunsSingle C state (IsIngest name given (ending_in result) source source_now) old new
   sent_lines given reply (Ok u) sink sink_now old new sent said = said
   sent_lines given reply (Err Sink) sink sink_now old new sent said = said
@@ -60,7 +63,8 @@ module _ (C : Type 0) (state : C → CoreState) (name : List ℕ) (source source
     too_long long = λ all told. subst (λ (b : List ℕ). MOST_FILE < length b) (took all told) long
 
     -- no more was asked
-    pub stopped : (ending : Ending) (sink : SinkView) → IsSourceFault source source_now ending → IsHeardAt source source_now ending → (ending ≡ Refused TooLong → MOST_FILE < length given) → PutRun C state name given (Err Memory) old new
+    pub stopped : (ending : Ending) (sink : SinkView) → IsSourceFault source source_now ending → IsHeardAt source source_now ending →
+        (ending ≡ Refused TooLong → MOST_FILE < length given) → PutRun C state name given (Err Memory) old new
         → RunsSingle C state (IsIngest name given (Some ending) source source_now) old new → IngestRun C state name (Err ending) old new source source_now sink sink
     stopped ending sink cause heard long ran said = record {
       given = given;
@@ -72,8 +76,10 @@ module _ (C : Type 0) (state : C → CoreState) (name : List ℕ) (source source
     }
 
     -- a step was refused
-    pub not_stored : (refusal : Refusal) (sink : SinkView) → source_now.faults ≡ source.faults → PutRun C state name given (Err refusal) old new → IsPutRefusal name given (state old).disk (state new) refusal
-        → RunsSingle C state (IsIngest name given (Some (Refused refusal)) source source_now) old new → IngestRun C state name (Err (Refused refusal)) old new source source_now sink sink
+    pub not_stored : (refusal : Refusal) (sink : SinkView) → source_now.faults ≡ source.faults → PutRun C state name given (Err refusal) old new →
+        IsPutRefusal name given (state old).disk (state new) refusal
+        → RunsSingle C state (IsIngest name given (Some (Refused refusal)) source source_now) old new → IngestRun C state name (Err (Refused refusal)) old new source source_now
+        sink sink
     not_stored refusal sink same ran refused said = record {
       given = given;
       took = took;
@@ -84,8 +90,10 @@ module _ (C : Type 0) (state : C → CoreState) (name : List ℕ) (source source
     }
 
     -- all of it was stored
-    pub stored : (result : Result Unit Ending) (sink sink_now : SinkView) → Known source.left (λ all. source_now.left ≡ Some []) → source_now.faults ≡ source.faults → PutRun C state name given (Ok tt) old new
-        → length given ≤ MOST_FILE → HoldsPieces name given (state new) → Sent (stored_line name (root_of given)) result sink sink_now → RunsSingle C state (StoresFile name given) old new → IngestRun C state name result old new source source_now sink sink_now
+    pub stored : (result : Result Unit Ending) (sink sink_now : SinkView) → Known source.left (λ all. source_now.left ≡ Some []) → source_now.faults ≡ source.faults →
+        PutRun C state name given (Ok tt) old new
+        → length given ≤ MOST_FILE → HoldsPieces name given (state new) → Sent (stored_line name (root_of given)) result sink sink_now →
+        RunsSingle C state (StoresFile name given) old new → IngestRun C state name result old new source source_now sink sink_now
     stored result sink sink_now out same ran few held sent said = record {
       given = given;
       took = took;

@@ -88,11 +88,19 @@ module _ (s : Store) (freed filled : List ℕ) (base : List ℕ) (old new : Disk
 
   gate_so : (slot : ℕ) → CrashLeaves (SteppedFrom (SameOutside (slot_at slot) 1) old) old new → Leaves (SameButSlotsOf s (slot ∷ freed) filled base)
   gate_so slot leaves = leaves_weaker (SteppedFrom (SameOutside (slot_at slot) 1) old) (SameButSlotsOf s (slot ∷ freed) filled base) old new
-      (λ c stepped. elim stepped [ inl was ↦ more_freed s freed filled base c c (framed.each c was) slot | inr (d, was, same) ↦ but_gate s freed filled base d c (framed.each d was) slot same ]) leaves
+      (λ c stepped. elim stepped [
+        | inl was ↦ more_freed s freed filled base c c (framed.each c was) slot
+        | inr (d, was, same) ↦ but_gate s freed filled base d c
+            (framed.each d was) slot same
+      ]) leaves
 
   slot_so : (slot : ℕ) → CrashLeaves (SteppedFrom (SameButSlotOf s.slots slot) old) old new → Leaves (SameButSlotsOf s freed (slot ∷ filled) base)
   slot_so slot leaves = leaves_weaker (SteppedFrom (SameButSlotOf s.slots slot) old) (SameButSlotsOf s freed (slot ∷ filled) base) old new
-      (λ c stepped. elim stepped [ inl was ↦ more_filled s freed filled base c c (framed.each c was) slot | inr (d, was, same) ↦ but_slot s freed filled base d c (framed.each d was) slot same ]) leaves
+      (λ c stepped. elim stepped [
+        | inl was ↦ more_filled s freed filled base c c (framed.each c was) slot
+        | inr (d, was, same) ↦ but_slot s freed filled base d c
+            (framed.each d was) slot same
+      ]) leaves
 
 -- which slots were given back, and filled, once a step of a stage was tried
 abbrev pub freed_with : Stage → Next → Sweep → List ℕ → List ℕ
@@ -103,10 +111,12 @@ abbrev pub filled_with : Stage → Next → Store → List ℕ → List ℕ
 filled_with SweepStage (Flush source entry) after filled = first_free after.held ∷ filled
 filled_with stage next after filled = filled
 
-module _ (s after : Store) (freed filled : List ℕ) (base : List ℕ) (old new : DiskView) (framed : IsFramed s freed filled base old) (t : Tables) (sized : old.size ≡ size_of s.slots) (represents : Represents after None t) (valid : IsValidFor old.size after)
+module _ (s after : Store) (freed filled : List ℕ) (base : List ℕ) (old new : DiskView) (framed : IsFramed s freed filled base old) (t : Tables)
+    (sized : old.size ≡ size_of s.slots) (represents : Represents after None t) (valid : IsValidFor old.size after)
     (has_free : HasFree after.held) (slots_are : t.slots ≡ s.slots) where
   -- what it leaves, by the stage
-  pub stage_so : (stage : Stage) (next : Next) (sweep : Sweep) (e : Ending) → Touches stage next sweep t e old new → CrashLeaves (SameButSlotsOf s (freed_with stage next sweep freed) (filled_with stage next after filled) base) old new
+  pub stage_so : (stage : Stage) (next : Next) (sweep : Sweep) (e : Ending) → Touches stage next sweep t e old new →
+      CrashLeaves (SameButSlotsOf s (freed_with stage next sweep freed) (filled_with stage next after filled) base) old new
   stage_so (Mark level slot) next sweep e touches = reads_so s freed filled base old new framed touches.only
   stage_so (Filter slot) next sweep e touches = reads_so s freed filled base old new framed touches.only
   stage_so Select next sweep e touches = reads_so s freed filled base old new framed touches.only

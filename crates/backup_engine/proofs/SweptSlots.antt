@@ -50,7 +50,8 @@ all-more P Q (x ∷ xs) each all = (each x all.0, all-more P Q xs each all.1)
 -- ---- one slot
 
 -- what a slot has once a container is in one of them, or one of them is closed
-with_there : (place slot : ℕ) (h g : HeaderValue) (held : List (Option HeaderValue)) → slice_get (with_slot place h held) slot ≡ Some (Some g) → (g ≡ h) ⊎ (slice_get held slot ≡ Some (Some g))
+with_there : (place slot : ℕ) (h g : HeaderValue) (held : List (Option HeaderValue)) → slice_get (with_slot place h held) slot ≡ Some (Some g) →
+    (g ≡ h) ⊎ (slice_get held slot ≡ Some (Some g))
 with_there place slot h g [] there = inr there
 with_there zero zero h g (c ∷ cs) there = inl (sym (some_same h g (some_same (Some h) (Some g) there)))
 with_there zero (suc slot) h g (c ∷ cs) there = inr there

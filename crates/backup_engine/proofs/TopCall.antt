@@ -45,7 +45,8 @@ saw v w source source_now sink sink_now notes notes_now = record {
 }
 
 -- words that are no line
-pub words_promise : (D : Type 0) (view : D → DiskView) (line : Option TableLine) (status : ℕ) (v : DiskView) (source : SourceView) (sink notes notes_now : SinkView) → line ≡ None → status ≡ status_of Words → IsNoted notes notes_now Words
+pub words_promise : (D : Type 0) (view : D → DiskView) (line : Option TableLine) (status : ℕ) (v : DiskView) (source : SourceView) (sink notes notes_now : SinkView) →
+    line ≡ None → status ≡ status_of Words → IsNoted notes notes_now Words
     → Promise D view line status (saw v v source source sink sink notes notes_now)
 words_promise D view line status v source sink notes notes_now none is noted = record {
   ending = Some Words;
@@ -71,29 +72,58 @@ memory_does D view (Some (Single (Ingest name))) v source sink laws =
             (unbegun_speaks (IsIngest name given (Some (Refused Memory)) source source) v sink (inl (refl, refl))),
       ),
     )
-memory_does D view (Some (Single (Restore name))) v source sink laws =
-    ([], ([], does_without_memory D view v source sink (Restore name) [] (not_begun (Restore name) [] v source sink (refl, refl)) (unbegun_speaks (IsRestore name (Some (Refused Memory)) sink sink) v sink (inl (refl, refl, refl)))))
-memory_does D view (Some (Single (Delete name))) v source sink laws =
-    ([], ([], does_without_memory D view v source sink (Delete name) [] (not_begun (Delete name) [] v source sink (refl, refl)) (unbegun_speaks (IsDelete name (Some (Refused Memory)) sink sink) v sink (inl (refl, refl), refl))))
-memory_does D view (Some (Single table.List)) v source sink laws =
-    ([], ([], does_without_memory D view v source sink table.List [] (not_begun table.List [] v source sink (refl, refl)) (unbegun_speaks (IsListing (Some (Refused Memory)) sink sink) v sink (inl (refl, inl refl), refl))))
-memory_does D view (Some (Single (Collect percent))) v source sink laws =
-    ([], ([], does_without_memory D view v source sink (Collect percent) [] (not_begun (Collect percent) [] v source sink (refl, refl)) (unbegun_speaks (IsCollect percent (Some (Refused Memory)) sink sink) v sink (inl (refl, inl refl), refl))))
+memory_does D view (Some (Single (Restore name))) v source sink laws = (
+  [],
+  (
+    [],
+    does_without_memory D view v source sink (Restore name) [] (not_begun (Restore name) [] v source sink (refl, refl))
+        (unbegun_speaks (IsRestore name (Some (Refused Memory)) sink sink) v sink (inl (refl, refl, refl))),
+  ),
+)
+memory_does D view (Some (Single (Delete name))) v source sink laws = (
+  [],
+  (
+    [],
+    does_without_memory D view v source sink (Delete name) [] (not_begun (Delete name) [] v source sink (refl, refl))
+        (unbegun_speaks (IsDelete name (Some (Refused Memory)) sink sink) v sink (inl (refl, refl), refl)),
+  ),
+)
+memory_does D view (Some (Single table.List)) v source sink laws = (
+  [],
+  (
+    [],
+    does_without_memory D view v source sink table.List [] (not_begun table.List [] v source sink (refl, refl))
+        (unbegun_speaks (IsListing (Some (Refused Memory)) sink sink) v sink (inl (refl, inl refl), refl)),
+  ),
+)
+memory_does D view (Some (Single (Collect percent))) v source sink laws = (
+  [],
+  (
+    [],
+    does_without_memory D view v source sink (Collect percent) [] (not_begun (Collect percent) [] v source sink (refl, refl))
+        (unbegun_speaks (IsCollect percent (Some (Refused Memory)) sink sink) v sink (inl (refl, inl refl), refl)),
+  ),
+)
 memory_does D view (Some Run) v source sink laws = ([], ([], runs_without_memory D view v source sink (no_memory_kept v source sink laws)))
 
-pub memory_promise : (D : Type 0) (view : D → DiskView) (line : Option TableLine) (status : ℕ) (v : DiskView) (source : SourceView) (sink notes notes_now : SinkView) → ReadsTellScripts → status ≡ status_of (Refused Memory) → IsNoted notes notes_now (Refused Memory)
+pub memory_promise : (D : Type 0) (view : D → DiskView) (line : Option TableLine) (status : ℕ) (v : DiskView) (source : SourceView) (sink notes notes_now : SinkView) →
+    ReadsTellScripts → status ≡ status_of (Refused Memory) → IsNoted notes notes_now (Refused Memory)
     → Promise D view line status (saw v v source source sink sink notes notes_now)
 memory_promise D view line status v source sink notes notes_now laws is noted =
     let does = memory_does D view line v source sink laws in
     record { ending = Some (Refused Memory); given = does.0; rs = does.1.0; status_is = is; noted = noted; does = does.1.1 }
 
 -- what is so of a line is so of what is that line
-pub does_as : (D : Type 0) (view : D → DiskView) (line said : TableLine) → line ≡ said → (given : List ℕ) (rs : List Replied) (ending : Option Ending) (v w : DiskView) (source source_now : SourceView) (sink sink_now : SinkView)
-    → Does D view (Some said) given rs ending v w source source_now sink sink_now → (given : List ℕ) × ((rs : List Replied) × Does D view (Some line) given rs ending v w source source_now sink sink_now)
-does_as D view line said is given rs ending v w source source_now sink sink_now does = (given, (rs, subst (λ (l : TableLine). Does D view (Some l) given rs ending v w source source_now sink sink_now) (sym is) does))
+pub does_as : (D : Type 0) (view : D → DiskView) (line said : TableLine) → line ≡ said → (given : List ℕ) (rs : List Replied) (ending : Option Ending) (v w : DiskView)
+    (source source_now : SourceView) (sink sink_now : SinkView)
+    → Does D view (Some said) given rs ending v w source source_now sink sink_now →
+    (given : List ℕ) × ((rs : List Replied) × Does D view (Some line) given rs ending v w source source_now sink sink_now)
+does_as D view line said is given rs ending v w source source_now sink sink_now does =
+    (given, (rs, subst (λ (l : TableLine). Does D view (Some l) given rs ending v w source source_now sink sink_now) (sym is) does))
 
 -- a line, as it ended
-pub line_promise : (D : Type 0) (view : D → DiskView) (line : Option TableLine) (said : TableLine) (status : ℕ) (ending : Option Ending) (v w : DiskView) (source source_now : SourceView) (sink sink_now notes notes_now : SinkView) → line ≡ Some said
+pub line_promise : (D : Type 0) (view : D → DiskView) (line : Option TableLine) (said : TableLine) (status : ℕ) (ending : Option Ending) (v w : DiskView)
+    (source source_now : SourceView) (sink sink_now notes notes_now : SinkView) → line ≡ Some said
     → status ≡ status_by ending → AreNoted notes notes_now ending
     → ((given : List ℕ) × ((rs : List Replied) × Does D view (Some said) given rs ending v w source source_now sink sink_now))
     → Promise D view line status (saw v w source source_now sink sink_now notes notes_now)

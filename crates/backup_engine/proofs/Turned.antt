@@ -20,10 +20,12 @@ use Rattle.backup_engine.proofs.Turning.{asked_on, asked_refused}
 use Rattle.backup_engine.proofs.Ways.{way_stops}
 
 -- a push is refused, before the end, where the file is too long
-why_long : (s : SessionState) (n : ℕ) (refusal : Refusal) (ended : Bool) → s.ended ≡ false → s.ended ≡ ended → IsPushAnswer s n (Err refusal) → (refusal ≡ TooLong) × (MOST_FILE < s.count + n)
+why_long : (s : SessionState) (n : ℕ) (refusal : Refusal) (ended : Bool) → s.ended ≡ false → s.ended ≡ ended → IsPushAnswer s n (Err refusal) →
+    (refusal ≡ TooLong) × (MOST_FILE < s.count + n)
 why_long s n refusal true off is answer = absurd (let both = sym off ∙ is in cc)
 why_long s n refusal false off is answer =
-    by_length (nat_lt MOST_FILE (s.count + n)) refl (ap (λ (b : Bool). if b then Some (WrongPart Finished) else if nat_lt MOST_FILE (s.count + n) then Some TooLong else None) (sym is) ∙ answer)
+    by_length (nat_lt MOST_FILE (s.count + n)) refl (ap (λ (b : Bool). if b then Some (WrongPart Finished) else if nat_lt MOST_FILE (s.count + n) then Some TooLong else None)
+    (sym is) ∙ answer)
   where
     other : (a b : Refusal) → Some a ≡ Some b → b ≡ a
     other a b is = cc
@@ -48,7 +50,8 @@ module _ (C : Type 0) (state : C → CoreState) (laws : SessionLaws) (actor : �
   fed_paused : (s t : SessionState) (old : C) → IsPaused s t → IsFed C state given s start old → IsFed C state given t start old
   fed_paused s t old pause fed = fed_due C state given s t start old fed pause.places pause.keeps
 
-  fed_turn : (answer : Answer) (s t : SessionState) (old new : C) → IsTurn actor answer s t (state old) (state new) → IsFed C state given s start old → IsFed C state given t start new
+  fed_turn : (answer : Answer) (s t : SessionState) (old new : C) → IsTurn actor answer s t (state old) (state new) → IsFed C state given s start old →
+      IsFed C state given t start new
   fed_turn answer s t old new turn fed =
       let before = turn.before in
       let here = fed_paused s before old turn.paused fed in
@@ -57,7 +60,8 @@ module _ (C : Type 0) (state : C → CoreState) (laws : SessionLaws) (actor : �
       subst (λ (u : SessionState). IsFed C state given u start new) (sym turn.told)
       (asked_on C state given before start old new here laws.turns laws.opens laws.waits (due_in before) answer refl asks turn.running has)
 
-  pub fed_turns : (answers : List Answer) (s t : SessionState) (old new : C) → TurnRun C state actor answers s t old new → IsFed C state given s start old → IsFed C state given t start new
+  pub fed_turns : (answers : List Answer) (s t : SessionState) (old new : C) → TurnRun C state actor answers s t old new → IsFed C state given s start old →
+      IsFed C state given t start new
   fed_turns [] s t old new run fed = subst (λ (c : C). IsFed C state given t start c) (sym run.1) (fed_paused s t old run.0 fed)
   fed_turns (answer ∷ answers) s t old new run fed = fed_turns answers run.0 t run.1 new run.3 (fed_turn answer s run.0 old run.1 run.2 fed)
 
@@ -67,14 +71,17 @@ module _ (C : Type 0) (state : C → CoreState) (laws : SessionLaws) (actor : �
   no_memory : (s : SessionState) (old : C) → IsFed C state given s start old → (name file : List ℕ) → MayBe given s file → Stops C state name file Memory start old
   no_memory s old fed name file may = inl (way_stops C state (MayBe given s) (opens_of s) start old fed.way name file may, tt)
 
-  refused_turn : (refusal : Refusal) (s t : SessionState) (old new : C) → IsRefusedTurn actor refusal s t (state old) (state new) → IsFed C state given s start old → (name file : List ℕ) → MayBe given s file
+  refused_turn : (refusal : Refusal) (s t : SessionState) (old new : C) → IsRefusedTurn actor refusal s t (state old) (state new) → IsFed C state given s start old →
+      (name file : List ℕ) → MayBe given s file
       → Stops C state name file refusal start new
   refused_turn refusal s t old new refused fed name file may =
       let here = fed_paused s t old refused.0 fed in
       let asks = subst (λ (a : ℕ). Asks a (due_in t) t (Err refusal) (state old) (state new)) first refused.2 in
-      asked_refused C state given t start old new here laws.turns laws.opens laws.claims laws.seals refused.1 (due_in t) refusal refl asks name file (may_be_still given t s file (sym refused.0.keeps.ended) may)
+      asked_refused C state given t start old new here laws.turns laws.opens laws.claims laws.seals refused.1 (due_in t) refusal refl asks name file
+      (may_be_still given t s file (sym refused.0.keeps.ended) may)
 
-  pub stopped_turns : (refusal : Refusal) (s t : SessionState) (old new : C) → TurnsStopped C state actor refusal s t old new → IsFed C state given s start old → (name file : List ℕ) → MayBe given s file
+  pub stopped_turns : (refusal : Refusal) (s t : SessionState) (old new : C) → TurnsStopped C state actor refusal s t old new → IsFed C state given s start old →
+      (name file : List ℕ) → MayBe given s file
       → Stops C state name file refusal start new
   stopped_turns refusal s t old new stopped fed name file may =
       let mid = stopped.1 in
@@ -98,7 +105,8 @@ module _ (C : Type 0) (state : C → CoreState) (laws : SessionLaws) (actor : �
         fed_pushed C state given bytes mid t start new here ((turns_stay C state actor feeds.0 s mid old new feeds.2).ended ∙ off) feeds.3 feeds.4
 
     -- they were too many
-    too_long : (refusal : Refusal) (answers : List Answer) → TurnRun C state actor answers s t old new → IsPushAnswer t (length bytes) (Err refusal) → (name file : List ℕ) → MayBe (given ++ bytes) s file
+    too_long : (refusal : Refusal) (answers : List Answer) → TurnRun C state actor answers s t old new → IsPushAnswer t (length bytes) (Err refusal) → (name file : List ℕ) →
+        MayBe (given ++ bytes) s file
         → Stops C state name file refusal start new
     too_long refusal answers run answer name file may =
         let here = fed_turns answers s t old new run fed in
@@ -115,7 +123,8 @@ module _ (C : Type 0) (state : C → CoreState) (laws : SessionLaws) (actor : �
           way_stops C state (MayBe given t) (opens_of t) start new here.way name file (may_be_before given bytes s t file on may),
         )
 
-    pub not_fed : (refusal : Refusal) → Feeds C state actor (Err refusal) bytes s t old new → (name file : List ℕ) → MayBe (given ++ bytes) s file → Stops C state name file refusal start new
+    pub not_fed : (refusal : Refusal) → Feeds C state actor (Err refusal) bytes s t old new → (name file : List ℕ) → MayBe (given ++ bytes) s file →
+        Stops C state name file refusal start new
     not_fed refusal feeds name file may = elim feeds [
       | inl stopped ↦ stopped_turns refusal s t old new stopped.0 fed name file (may_be_before given bytes s s file off may)
       | inr long ↦ too_long refusal long.0 long.1 long.2 name file may
@@ -123,7 +132,8 @@ module _ (C : Type 0) (state : C → CoreState) (laws : SessionLaws) (actor : �
 
   -- ---- the end
 
-  pub end_refused : (refusal : Refusal) (s : SessionState) (old : C) → s.ended ≡ false → IsFinishAnswer s (Err refusal) → IsFed C state given s start old → (name : List ℕ) → Stops C state name given refusal start old
+  pub end_refused : (refusal : Refusal) (s : SessionState) (old : C) → s.ended ≡ false → IsFinishAnswer s (Err refusal) → IsFed C state given s start old → (name : List ℕ) →
+      Stops C state name given refusal start old
   end_refused Memory s old off answer fed name = no_memory s old fed name given (itself given s)
   end_refused (WrongPart Finished) s old off answer fed name = absurd (let both = sym off ∙ answer in cc)
   end_refused refusal s old off answer fed name = absurd answer

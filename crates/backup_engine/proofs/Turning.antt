@@ -73,13 +73,15 @@ module _ (C : Type 0) (state : C → CoreState) (given : List ℕ) (s : SessionS
   -- ---- a claim
 
   -- the item is a piece
-  item_piece : (file : List ℕ) (n : Option node.Contents) (queue : List (List ℕ)) (seg : KindSegment) → IsItem n queue seg → AllByRecursion (IsPieceOf file) (turn_of n queue) → HasPieceOf file seg
+  item_piece : (file : List ℕ) (n : Option node.Contents) (queue : List (List ℕ)) (seg : KindSegment) → IsItem n queue seg → AllByRecursion (IsPieceOf file) (turn_of n queue) →
+      HasPieceOf file seg
   item_piece file (Some n) queue seg is all = (Node n, all.0, is)
   item_piece file None [] seg is all = absurd is
   item_piece file None (x ∷ xs) seg is all = (Data x, all.0, is)
 
   -- data has no children, and those of a node are kept
-  item_children : (n : Option node.Contents) (queue : List (List ℕ)) (seg : KindSegment) → IsItem n queue seg → ((m : node.Contents) → n ≡ Some m → AllByRecursion (IsKeptChild fed.history) (children_of (node_segment m)))
+  item_children : (n : Option node.Contents) (queue : List (List ℕ)) (seg : KindSegment) → IsItem n queue seg →
+      ((m : node.Contents) → n ≡ Some m → AllByRecursion (IsKeptChild fed.history) (children_of (node_segment m)))
       → AllByRecursion (pieces.IsKeptChild (kept_of fed.way.steps)) (children_of seg)
   item_children (Some n) queue seg is each =
       subst (λ (x : KindSegment). AllByRecursion (pieces.IsKeptChild (kept_of fed.way.steps)) (children_of x)) (sym is) (children_kept (children_of (node_segment n)) (each n refl))
@@ -88,7 +90,8 @@ module _ (C : Type 0) (state : C → CoreState) (given : List ℕ) (s : SessionS
 
   module _ (turns : TurnsArePieces) (due : due_in s ≡ Claim) (seg : KindSegment) (offered : IsOffered s seg) (buf : List ℕ) where
     seg_piece : (file : List ℕ) → files file → HasPieceOf file seg
-    seg_piece = by_more (λ file. HasPieceOf file seg) (λ more may. item_piece (fed.history.given ++ more) (turn_node s) s.queue seg offered.is (turns s fed.history more fed.has may))
+    seg_piece = by_more (λ file. HasPieceOf file seg)
+        (λ more may. item_piece (fed.history.given ++ more) (turn_node s) s.queue seg offered.is (turns s fed.history more fed.has may))
 
     seg_is : seg ≡ record { kind = item_kind (turn_node s); segment = item_of (turn_node s) s.queue }
     seg_is = item_is (turn_node s) s.queue seg offered.is
@@ -112,7 +115,8 @@ module _ (C : Type 0) (state : C → CoreState) (given : List ℕ) (s : SessionS
         → HasHistory (told_by answers.Absent s) (answered answers.Absent s fed.history) → IsFed C state given (told_by answers.Absent s) start new
     claim_absent step running has =
         let way = way_absent C state files (opens_of s) start old new fed.way seg buf offered.right seg_piece (opens_of (told_by answers.Absent s))
-        (λ kind places fresh none. subst (AreNew places kind) (sym (opens_absent s kind due)) (all_on (λ x. finite.get places (segment_key kind x) ≡ None) (opens_of s kind) (item_if kind s) fresh (new_item kind places none)))
+        (λ kind places fresh none. subst (AreNew places kind) (sym (opens_absent s kind due))
+        (all_on (λ x. finite.get places (segment_key kind x) ≡ None) (opens_of s kind) (item_if kind s) fresh (new_item kind places none)))
         step running in
         fed_absent C state given s start old new fed (way.0, way.1 ∙ sym (append-nil (kept_of fed.way.steps))) has
 
@@ -124,22 +128,27 @@ module _ (C : Type 0) (state : C → CoreState) (given : List ℕ) (s : SessionS
 
   -- ---- a seal
 
-  module _ (opens : OpensArePieces) (mine : Kind) (due : due_in s ≡ Seal mine) (right : IsStep (asked.Seal (open_of s mine))) (kind_is : (open_of s mine).kind ≡ mine) (buf : List ℕ) where
+  module _ (opens : OpensArePieces) (mine : Kind) (due : due_in s ≡ Seal mine) (right : IsStep (asked.Seal (open_of s mine))) (kind_is : (open_of s mine).kind ≡ mine)
+      (buf : List ℕ) where
     open_pieces : (file : List ℕ) → files file → AllByRecursion (λ x. HasPieceOf file (record { kind = (open_of s mine).kind; segment = x })) (open_of s mine).segments
     open_pieces =
         subst (λ (k : Kind). (file : List ℕ) → files file → AllByRecursion (λ x. HasPieceOf file (record { kind = k; segment = x })) (open_of s mine).segments) (sym kind_is)
-        (by_more (λ file. AllByRecursion (λ x. HasPieceOf file (record { kind = mine; segment = x })) (open_of s mine).segments) (λ more may. opens s fed.history more fed.has may mine))
+        (by_more (λ file. AllByRecursion (λ x. HasPieceOf file (record { kind = mine; segment = x })) (open_of s mine).segments)
+        (λ more may. opens s fed.history more fed.has may mine))
 
     open_new : AreNew fed.way.places (open_of s mine).kind (open_of s mine).segments
     open_new =
         subst (λ (k : Kind). AreNew fed.way.places k (open_of s mine).segments) (sym kind_is)
         (all_first (λ x. finite.get fed.way.places (segment_key mine x) ≡ None) (open_of s mine).segments (waiting mine s) (fed.way.fresh mine))
 
-    pub seal_made : WaitsForAnother → (id : ℕ) → CoreStep (state old) (record { actor = 0; step = asked.Seal (open_of s mine); answer = Ok (answers.Sealed id); buf = buf }) (state new) → IsRunning (state new)
+    pub seal_made : WaitsForAnother → (id : ℕ) → CoreStep (state old) (record { actor = 0; step = asked.Seal (open_of s mine); answer = Ok (answers.Sealed id); buf = buf })
+        (state new) → IsRunning (state new)
         → HasHistory (told_by (answers.Sealed id) s) (answered (answers.Sealed id) s fed.history) → IsFed C state given (told_by (answers.Sealed id) s) start new
     seal_made waits id step running has =
         let way = way_sealed C state files (opens_of s) start old new fed.way (open_of s mine) buf right open_pieces open_new id step (opens_of (told_by (answers.Sealed id) s))
-        (subst (λ (k : Kind). (kind : Kind) → AllByRecursion (λ x. IsOneOf x (opens_of s kind) × AllByRecursion (λ y. segment_key kind x ≢ segment_key k y) (open_of s mine).segments) (opens_of (told_by (answers.Sealed id) s) kind)) (sym kind_is)
+        (subst (λ (k : Kind). (kind : Kind) →
+        AllByRecursion (λ x. IsOneOf x (opens_of s kind) × AllByRecursion (λ y. segment_key kind x ≢ segment_key k y) (open_of s mine).segments)
+        (opens_of (told_by (answers.Sealed id) s) kind)) (sym kind_is)
         (λ kind. left_differs s id mine due (session_of s fed.history fed.has) (waits s fed.history fed.has) kind))
         running in
         fed_sealed C state given s start old new fed id mine due
@@ -148,7 +157,8 @@ module _ (C : Type 0) (state : C → CoreState) (given : List ℕ) (s : SessionS
     open_children : OpenNodesHaveChildren → (k : Kind) → k ≡ mine
         → AllByRecursion (λ x. AllByRecursion (pieces.IsKeptChild (kept_of fed.way.steps)) (children_by (open_of s mine).kind x)) (open_of s mine).segments
     open_children nodes Leaf is =
-        subst (λ (m : Kind). AllByRecursion (λ x. AllByRecursion (pieces.IsKeptChild (kept_of fed.way.steps)) (children_by m x)) (open_of s mine).segments) (is ∙ sym kind_is) (none (open_of s mine).segments)
+        subst (λ (m : Kind). AllByRecursion (λ x. AllByRecursion (pieces.IsKeptChild (kept_of fed.way.steps)) (children_by m x)) (open_of s mine).segments) (is ∙ sym kind_is)
+        (none (open_of s mine).segments)
       where
         none : (xs : List Segment) → AllByRecursion (λ x. AllByRecursion (pieces.IsKeptChild (kept_of fed.way.steps)) (children_by Leaf x)) xs
         none [] = tt
@@ -161,24 +171,31 @@ module _ (C : Type 0) (state : C → CoreState) (given : List ℕ) (s : SessionS
     pub seal_refused : OpenNodesHaveChildren → (name file : List ℕ) → files file → (refusal : Refusal)
         → CoreStep (state old) (record { actor = 0; step = asked.Seal (open_of s mine); answer = Err refusal; buf = buf }) (state new) → Stops C state name file refusal start new
     seal_refused nodes name file is refusal step =
-        inl (way_unsealed C state files (opens_of s) start old new fed.way buf name file is (open_of s mine) right open_pieces open_new (open_children nodes mine refl) refusal step)
+        inl (way_unsealed C state files (opens_of s) start old new fed.way buf name file is (open_of s mine) right open_pieces open_new (open_children nodes mine refl) refusal
+        step)
 
 -- ---- either
 
-module _ (C : Type 0) (state : C → CoreState) (given : List ℕ) (s : SessionState) (start old new : C) (fed : IsFed C state given s start old) (turns : TurnsArePieces) (opens : OpensArePieces) where
+module _ (C : Type 0) (state : C → CoreState) (given : List ℕ) (s : SessionState) (start old new : C) (fed : IsFed C state given s start old) (turns : TurnsArePieces)
+    (opens : OpensArePieces) where
   -- the step was made, and the session was told
   pub asked_on : WaitsForAnother → (due : Due) (answer : Answer) → due_in s ≡ due → Asks 0 due s (Ok answer) (state old) (state new) → IsRunning (state new)
       → HasHistory (told_by answer s) (answered answer s fed.history) → IsFed C state given (told_by answer s) start new
   asked_on waits Claim answers.Held is asks running has = claim_held C state given s start old new fed turns is asks.0 asks.2 asks.1 asks.3 running has
   asked_on waits Claim answers.Absent is asks running has = claim_absent C state given s start old new fed turns is asks.0 asks.2 asks.1 asks.3 running has
-  asked_on waits Claim answer is asks running has = absurd (elim (held_or_absent C state (MayBe given s) (opens_of s) start old new fed.way asks.0 asks.1 answer asks.3) [ inl held ↦ cc | inr absent ↦ cc ])
+  asked_on waits Claim answer is asks running has =
+      absurd (elim (held_or_absent C state (MayBe given s) (opens_of s) start old new fed.way asks.0 asks.1 answer asks.3) [ inl held ↦ cc | inr absent ↦ cc ])
   asked_on waits (Seal kind) (answers.Sealed id) is asks running has = seal_made C state given s start old new fed opens kind is asks.1 asks.2 asks.0 waits id asks.3 running has
-  asked_on waits (Seal kind) answer is asks running has = absurd (let sealed = only_sealed C state (MayBe given s) (opens_of s) start old new fed.way (open_of s kind) asks.0 answer asks.3 in cc)
+  asked_on waits (Seal kind) answer is asks running has =
+      absurd (let sealed = only_sealed C state (MayBe given s) (opens_of s) start old new fed.way (open_of s kind) asks.0 answer asks.3 in cc)
   asked_on waits Nothing answer is asks running has = absurd asks
 
   -- it was refused
-  pub asked_refused : ChildrenComeFirst → OpenNodesHaveChildren → IsSettled s → (due : Due) (refusal : Refusal) → due_in s ≡ due → Asks 0 due s (Err refusal) (state old) (state new) → (name file : List ℕ) → MayBe given s file
+  pub asked_refused : ChildrenComeFirst → OpenNodesHaveChildren → IsSettled s → (due : Due) (refusal : Refusal) → due_in s ≡ due →
+      Asks 0 due s (Err refusal) (state old) (state new) → (name file : List ℕ) → MayBe given s file
       → Stops C state name file refusal start new
-  asked_refused children nodes settled Claim refusal is asks name file may = claim_refused C state given s start old new fed turns is asks.0 asks.2 asks.1 children settled name file may refusal asks.3
-  asked_refused children nodes settled (Seal kind) refusal is asks name file may = seal_refused C state given s start old new fed opens kind is asks.1 asks.2 asks.0 nodes name file may refusal asks.3
+  asked_refused children nodes settled Claim refusal is asks name file may = claim_refused C state given s start old new fed turns is asks.0 asks.2 asks.1 children settled name
+      file may refusal asks.3
+  asked_refused children nodes settled (Seal kind) refusal is asks name file may = seal_refused C state given s start old new fed opens kind is asks.1 asks.2 asks.0 nodes name
+      file may refusal asks.3
   asked_refused children nodes settled Nothing refusal is asks name file may = absurd asks

@@ -160,7 +160,8 @@ module _ (loans loans_now : List ℕ) (v w : DiskView) where
     opens : (refusal : Refusal) → IsOpenRefusal (Shows lent lent_now) v.size refusal → IsOpenRefusal (Shows v w) v.size refusal
     opens = open_refusal (Shows lent lent_now) (Shows v w) on v.size
 
-    ingest_refused : (refusal : Refusal) → IsRefused (Ingest name) given lent lent_now source source_now sink sink_now refusal → IsRefused (Ingest name) given v w source source_now sink sink_now refusal
+    ingest_refused : (refusal : Refusal) → IsRefused (Ingest name) given lent lent_now source source_now sink sink_now refusal →
+        IsRefused (Ingest name) given v w source source_now sink sink_now refusal
     ingest_refused DiskRead is = is
     ingest_refused DiskWrite is = is
     ingest_refused refusal (inl is) = inl (opens refusal is.0, is.1)
@@ -176,7 +177,8 @@ module _ (loans loans_now : List ℕ) (v w : DiskView) where
       names = λ old told. let stands = is.names old told in record { known = stands.known; each = stands.each };
     }
 
-    ingest_caused : (ending : Option Ending) → IsCaused (Ingest name) given lent lent_now source source_now sink sink_now ending → IsCaused (Ingest name) given v w source source_now sink sink_now ending
+    ingest_caused : (ending : Option Ending) → IsCaused (Ingest name) given lent lent_now source source_now sink sink_now ending →
+        IsCaused (Ingest name) given v w source source_now sink sink_now ending
     ingest_caused None is = ingest_done is
     ingest_caused (Some Source) is = (is.0, added given is.1, is.2)
     ingest_caused (Some Sink) is = (ingest_done is.0, is.1)
@@ -189,7 +191,8 @@ module _ (loans loans_now : List ℕ) (v w : DiskView) where
     ingest_durable (Some Sink) is = is
     ingest_durable (Some ending) is = tt
 
-    restore_refused : (refusal : Refusal) → IsRefused (Restore name) given lent lent_now source source_now sink sink_now refusal → IsRefused (Restore name) given v w source source_now sink sink_now refusal
+    restore_refused : (refusal : Refusal) → IsRefused (Restore name) given lent lent_now source source_now sink sink_now refusal →
+        IsRefused (Restore name) given v w source source_now sink sink_now refusal
     restore_refused DiskRead is = is
     restore_refused DiskWrite is = is
     restore_refused refusal (inl is) = inl (opens refusal is)
@@ -197,7 +200,8 @@ module _ (loans loans_now : List ℕ) (v w : DiskView) where
     restore_refused refusal (inr (inr is)) =
         inr (inr (given_back sink sink_now name (Some (Refused refusal)) is.0, stuck sink sink_now name (Some (Refused refusal)) is.0 refusal is.1))
 
-    restore_caused : (ending : Option Ending) → IsCaused (Restore name) given lent lent_now source source_now sink sink_now ending → IsCaused (Restore name) given v w source source_now sink sink_now ending
+    restore_caused : (ending : Option Ending) → IsCaused (Restore name) given lent lent_now source source_now sink sink_now ending →
+        IsCaused (Restore name) given v w source source_now sink sink_now ending
     restore_caused None is = is
     restore_caused (Some Source) is = (is.0, added given is.1, is.2)
     restore_caused (Some Sink) is = is
@@ -211,7 +215,8 @@ module _ (loans loans_now : List ℕ) (v w : DiskView) where
     restore_wrote (Some ending) (inl is) = inl is
     restore_wrote (Some ending) (inr is) = inr (given_back sink sink_now name (Some ending) is)
 
-    delete_refused : (refusal : Refusal) → IsRefused (Delete name) given lent lent_now source source_now sink sink_now refusal → IsRefused (Delete name) given v w source source_now sink sink_now refusal
+    delete_refused : (refusal : Refusal) → IsRefused (Delete name) given lent lent_now source source_now sink sink_now refusal →
+        IsRefused (Delete name) given v w source source_now sink sink_now refusal
     delete_refused DiskRead is = is
     delete_refused DiskWrite is = is
     delete_refused refusal (inl is) = inl (opens refusal is)
@@ -225,7 +230,8 @@ module _ (loans loans_now : List ℕ) (v w : DiskView) where
       names = λ old told. let stands = is.names old told in record { known = stands.known; each = stands.each };
     }
 
-    delete_caused : (ending : Option Ending) → IsCaused (Delete name) given lent lent_now source source_now sink sink_now ending → IsCaused (Delete name) given v w source source_now sink sink_now ending
+    delete_caused : (ending : Option Ending) → IsCaused (Delete name) given lent lent_now source source_now sink sink_now ending →
+        IsCaused (Delete name) given v w source source_now sink sink_now ending
     delete_caused None is = deleted is
     delete_caused (Some Source) is = (is.0, added given is.1, is.2)
     delete_caused (Some Sink) is = (deleted is.0, is.1)
@@ -238,12 +244,14 @@ module _ (loans loans_now : List ℕ) (v w : DiskView) where
     delete_durable (Some Sink) is = is
     delete_durable (Some ending) is = tt
 
-    list_refused : (refusal : Refusal) → IsRefused table.List given lent lent_now source source_now sink sink_now refusal → IsRefused table.List given v w source source_now sink sink_now refusal
+    list_refused : (refusal : Refusal) → IsRefused table.List given lent lent_now source source_now sink sink_now refusal →
+        IsRefused table.List given v w source source_now sink sink_now refusal
     list_refused DiskRead is = is
     list_refused DiskWrite is = is
     list_refused refusal is = opens refusal is
 
-    list_caused : (ending : Option Ending) → IsCaused table.List given lent lent_now source source_now sink sink_now ending → IsCaused table.List given v w source source_now sink sink_now ending
+    list_caused : (ending : Option Ending) → IsCaused table.List given lent lent_now source source_now sink sink_now ending →
+        IsCaused table.List given v w source source_now sink sink_now ending
     list_caused None is = is
     list_caused (Some Source) is = (is.0, added given is.1, is.2)
     list_caused (Some Sink) is = is
@@ -282,13 +290,15 @@ module _ (loans loans_now : List ℕ) (v w : DiskView) where
     uncollected is refusal (inr (inr (inr (inl unwritten)))) = inr (inr (inr (inl (unwritten.0, unwritten.1, names_so is.store unwritten.2))))
     uncollected is refusal (inr (inr (inr (inr none)))) = inr (inr (inr (inr none)))
 
-    collect_refused : (percent : ℕ) (refusal : Refusal) → IsRefused (Collect percent) given lent lent_now source source_now sink sink_now refusal → IsRefused (Collect percent) given v w source source_now sink sink_now refusal
+    collect_refused : (percent : ℕ) (refusal : Refusal) → IsRefused (Collect percent) given lent lent_now source source_now sink sink_now refusal →
+        IsRefused (Collect percent) given v w source source_now sink sink_now refusal
     collect_refused percent DiskRead is = is
     collect_refused percent DiskWrite is = is
     collect_refused percent refusal (inl is) = inl (opens refusal is)
     collect_refused percent refusal (inr is) = inr (holds is.0, uncollected is.0 refusal is.1)
 
-    collect_caused : (percent : ℕ) (ending : Option Ending) → IsCaused (Collect percent) given lent lent_now source source_now sink sink_now ending → IsCaused (Collect percent) given v w source source_now sink sink_now ending
+    collect_caused : (percent : ℕ) (ending : Option Ending) → IsCaused (Collect percent) given lent lent_now source source_now sink sink_now ending →
+        IsCaused (Collect percent) given v w source source_now sink sink_now ending
     collect_caused percent None is = is
     collect_caused percent (Some Source) is = (is.0, added given is.1, is.2)
     collect_caused percent (Some Sink) is = is
@@ -296,7 +306,8 @@ module _ (loans loans_now : List ℕ) (v w : DiskView) where
     collect_caused percent (Some (Refused refusal)) is = collect_refused percent refusal is
     collect_caused percent (Some ending) is = absurd is
 
-    collect_wrote : (percent : ℕ) (ending : Option Ending) → WroteOnAny (Collect percent) given ending lent lent_now sink sink_now → WroteOnAny (Collect percent) given ending v w sink sink_now
+    collect_wrote : (percent : ℕ) (ending : Option Ending) → WroteOnAny (Collect percent) given ending lent lent_now sink sink_now →
+        WroteOnAny (Collect percent) given ending v w sink sink_now
     collect_wrote percent None is = says_swept None is
     collect_wrote percent (Some Sink) is = says_swept (Some Sink) is
     collect_wrote percent (Some ending) is = is
@@ -306,7 +317,8 @@ module _ (loans loans_now : List ℕ) (v w : DiskView) where
     collect_durable percent (Some Sink) is = is
     collect_durable percent (Some ending) is = tt
 
-    kept_left : (command : CommandLine) (ending : Option Ending) (among : ByteSet) (m : Stored) → Stands (IsLeftAs (IsIn among) command given m ending) lent_now ⊎ NothingWritten ending lent lent_now
+    kept_left : (command : CommandLine) (ending : Option Ending) (among : ByteSet) (m : Stored) → Stands (IsLeftAs (IsIn among) command given m ending) lent_now
+        ⊎ NothingWritten ending lent lent_now
         → Stands (IsLeftAs (IsIn among) command given m ending) w ⊎ NothingWritten ending v w
     kept_left command ending among m (inl is) = inl is
     kept_left command ending among m (inr is) = inr (record { not_done = is.not_done; content = is.content; images = is.images })
@@ -315,15 +327,25 @@ module _ (loans loans_now : List ℕ) (v w : DiskView) where
     found_so percent (inl same) = inl (record { content = same.content; images = same.images; between = same.between })
     found_so percent (inr (is, names)) = inr (holds is, names_so is.store names)
 
-    map_kept : (command : CommandLine) (ending : Option Ending) → KeepsEachMap command given ending lent lent_now sink sink_now → KeepsEachMap command given ending v w sink sink_now
+    map_kept : (command : CommandLine) (ending : Option Ending) → KeepsEachMap command given ending lent lent_now sink sink_now →
+        KeepsEachMap command given ending v w sink sink_now
     map_kept command ending each = λ old told among m apart segments is.
         let kept = each old told among m apart segments is in
-        record { by_map = kept.by_map; wrote = kept.wrote; added = kept.added; gave_back = kept.gave_back; left = kept_left command ending among m kept.left; crash = record { now = kept.crash.now; since = kept.crash.since } }
+        record {
+          by_map = kept.by_map;
+          wrote = kept.wrote;
+          added = kept.added;
+          gave_back = kept.gave_back;
+          left = kept_left command ending among m kept.left;
+          crash =
+              record { now = kept.crash.now; since = kept.crash.since };
+        }
 
     frame_kept : (command : CommandLine) (ending : Option Ending) → KeepsOthers command ending lent lent_now → KeepsOthers command ending v w
     frame_kept command ending is = record { content = is.content; crash = λ old told. let leaves = is.crash old told in record { now = leaves.now; since = leaves.since } }
 
-    pub ingest_kept : (ending : Option Ending) → Keeps (Ingest name) given ending lent lent_now source source_now sink sink_now → Keeps (Ingest name) given ending v w source source_now sink sink_now
+    pub ingest_kept : (ending : Option Ending) → Keeps (Ingest name) given ending lent lent_now source source_now sink sink_now →
+        Keeps (Ingest name) given ending v w source source_now sink sink_now
     ingest_kept ending is = record {
       map = map_kept (Ingest name) ending is.map;
       any = record {
@@ -341,7 +363,8 @@ module _ (loans loans_now : List ℕ) (v w : DiskView) where
       untouched = is.untouched;
     }
 
-    pub restore_kept : (ending : Option Ending) → Keeps (Restore name) given ending lent lent_now source source_now sink sink_now → Keeps (Restore name) given ending v w source source_now sink sink_now
+    pub restore_kept : (ending : Option Ending) → Keeps (Restore name) given ending lent lent_now source source_now sink sink_now →
+        Keeps (Restore name) given ending v w source source_now sink sink_now
     restore_kept ending is = record {
       map = map_kept (Restore name) ending is.map;
       any = record {
@@ -359,7 +382,8 @@ module _ (loans loans_now : List ℕ) (v w : DiskView) where
       untouched = is.untouched;
     }
 
-    pub delete_kept : (ending : Option Ending) → Keeps (Delete name) given ending lent lent_now source source_now sink sink_now → Keeps (Delete name) given ending v w source source_now sink sink_now
+    pub delete_kept : (ending : Option Ending) → Keeps (Delete name) given ending lent lent_now source source_now sink sink_now →
+        Keeps (Delete name) given ending v w source source_now sink sink_now
     delete_kept ending is = record {
       map = map_kept (Delete name) ending is.map;
       any = record {
@@ -377,7 +401,8 @@ module _ (loans loans_now : List ℕ) (v w : DiskView) where
       untouched = is.untouched;
     }
 
-    pub list_kept : (ending : Option Ending) → Keeps table.List given ending lent lent_now source source_now sink sink_now → Keeps table.List given ending v w source source_now sink sink_now
+    pub list_kept : (ending : Option Ending) → Keeps table.List given ending lent lent_now source source_now sink sink_now →
+        Keeps table.List given ending v w source source_now sink sink_now
     list_kept ending is = record {
       map = map_kept table.List ending is.map;
       any = record {
@@ -395,7 +420,8 @@ module _ (loans loans_now : List ℕ) (v w : DiskView) where
       untouched = is.untouched;
     }
 
-    pub collect_kept : (percent : ℕ) (ending : Option Ending) → Keeps (Collect percent) given ending lent lent_now source source_now sink sink_now → Keeps (Collect percent) given ending v w source source_now sink sink_now
+    pub collect_kept : (percent : ℕ) (ending : Option Ending) → Keeps (Collect percent) given ending lent lent_now source source_now sink sink_now →
+        Keeps (Collect percent) given ending v w source source_now sink sink_now
     collect_kept percent ending is = record {
       map = map_kept (Collect percent) ending is.map;
       any = record {

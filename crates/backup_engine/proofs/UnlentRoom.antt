@@ -34,7 +34,8 @@ module _ (loans loans_now : List ℕ) (v w : DiskView) where
   abbrev walk_back : (is : IsShort (Shows lent lent_now) v.size) → WalksAll lent lent_now is → WalksAll v w (short_back is)
   walk_back is walk = record {
     visited = walk.visited;
-    visits = roots_wider (WasRead _ lent lent_now) (WasRead _ v w) (HasPlace (Some is.index)) (HasPlace (Some is.index)) _ walk.visited walk.visits (read loans loans_now v w _) (λ key has. has);
+    visits = roots_wider (WasRead _ lent lent_now) (WasRead _ v w) (HasPlace (Some is.index)) (HasPlace (Some is.index)) _ walk.visited walk.visits (read loans loans_now v w _)
+        (λ key has. has);
   }
 
   crashes_back : (P : List ℕ → Type 0) → CrashLeaves P lent lent_now → CrashLeaves P v w
@@ -78,10 +79,12 @@ module _ (loans loans_now : List ℕ) (v w : DiskView) where
     rest = stuck.rest;
     names_are = stuck.names_are;
     visited = stuck.visited;
-    visits = roots_wider (WasRead _ lent lent_now) (WasRead _ v w) (HasPlace (Some is.index)) (HasPlace (Some is.index)) _ stuck.visited stuck.visits (read loans loans_now v w _) (λ key has. has);
+    visits = roots_wider (WasRead _ lent lent_now) (WasRead _ v w) (HasPlace (Some is.index)) (HasPlace (Some is.index)) _ stuck.visited stuck.visits (read loans loans_now v w _)
+        (λ key has. has);
     visited_there = stuck.visited_there;
     ahead = stuck.ahead;
-    way = visits_wider (WasRead _ lent lent_now) (WasRead _ v w) (HasPlace (Some is.index)) (HasPlace (Some is.index)) _ stuck.visited_there stuck.ahead stuck.way (read loans loans_now v w _) (λ key has. has);
+    way = visits_wider (WasRead _ lent lent_now) (WasRead _ v w) (HasPlace (Some is.index)) (HasPlace (Some is.index)) _ stuck.visited_there stuck.ahead stuck.way
+        (read loans loans_now v w _) (λ key has. has);
     cause = visit_back (Some is.index) stuck.ahead refusal stuck.cause;
   }
 
@@ -94,7 +97,8 @@ module _ (loans loans_now : List ℕ) (v w : DiskView) where
   refusal_back is (Damaged at why) cause = stuck_back is (Damaged at why) cause
   refusal_back is refusal cause = absurd cause
 
-  frees_back : (is : IsShort (Shows lent lent_now) v.size) (refusal : Refusal) (freed : List ℕ) → FreesAfterAll refusal lent lent_now is freed → FreesAfterAll refusal v w (short_back is) freed
+  frees_back : (is : IsShort (Shows lent lent_now) v.size) (refusal : Refusal) (freed : List ℕ) → FreesAfterAll refusal lent lent_now is freed →
+      FreesAfterAll refusal v w (short_back is) freed
   frees_back is refusal freed (inl none) = inl none
   frees_back is refusal freed (inr some) = inr (some.0, (walk_back is some.1.0, some.1.1))
 

@@ -40,7 +40,8 @@ shown_since first old new later same P shown = record {
 }
 
 -- why a copy isn't given follows from what follows from what is shown
-node_refusal_so : (shown more : (List ℕ → Type 0) → Type 0) → ((P : List ℕ → Type 0) → shown P → more P) → (kind : Kind) (digest offered : List ℕ) (place : Place) (refusal : Refusal) → IsNodeRefusal shown kind digest offered place refusal
+node_refusal_so : (shown more : (List ℕ → Type 0) → Type 0) → ((P : List ℕ → Type 0) → shown P → more P) →
+    (kind : Kind) (digest offered : List ℕ) (place : Place) (refusal : Refusal) → IsNodeRefusal shown kind digest offered place refusal
     → IsNodeRefusal more kind digest offered place refusal
 node_refusal_so shown more each kind digest offered place (refusals.Clash key (Byte at mine other)) is = (is.0, each _ is.1)
 node_refusal_so shown more each kind digest offered place (refusals.Clash key (Length mine other)) is = absurd is
@@ -52,11 +53,13 @@ node_refusal_so shown more each kind digest offered place refusal is = absurd is
 -- ---- a node
 
 -- a piece of a tree container is a node
-node_piece : (file : List ℕ) (seg : KindSegment) (p : Piece) → IsPieceOf file p → seg ≡ piece_segment p → seg.kind ≡ Tree → (n : Contents) × IsPieceOf file (Node n) × (seg ≡ piece_segment (Node n))
+node_piece : (file : List ℕ) (seg : KindSegment) (p : Piece) → IsPieceOf file p → seg ≡ piece_segment p → seg.kind ≡ Tree → (n : Contents) × IsPieceOf file (Node n)
+    × (seg ≡ piece_segment (Node n))
 node_piece file seg (Data bytes) piece is tree = absurd (let both = sym (ap (λ (x : KindSegment). x.kind) is) ∙ tree in cc)
 node_piece file seg (Node n) piece is tree = (n, piece, is)
 
-module _ (name file : List ℕ) (first : DiskView) (old new : CoreState) (later : IsLater first old.disk) (same : new.disk.content ≡ old.disk.content) (places : PlaceMap) (was : old.known ≡ Some places) (told : new.known ≡ Some places) (seg : KindSegment) (piece : HasPieceOf file seg) where
+module _ (name file : List ℕ) (first : DiskView) (old new : CoreState) (later : IsLater first old.disk) (same : new.disk.content ≡ old.disk.content) (places : PlaceMap)
+    (was : old.known ≡ Some places) (told : new.known ≡ Some places) (seg : KindSegment) (piece : HasPieceOf file seg) where
   abbrev IsOther : Refusal → Type 0
   IsOther refusal = IsUnlike old.disk.size old.known (Shows old.disk new.disk) seg.kind (sha256 seg.segment.bytes) seg.segment.bytes refusal
 
@@ -65,21 +68,25 @@ module _ (name file : List ℕ) (first : DiskView) (old new : CoreState) (later 
     index = represents.index_is_newest places told
 
     -- the copy of its key has another length
-    clash_by_length : (key : List ℕ) (offered held : ℕ) → IsOther (refusals.Clash key (Length offered held)) → (IsPiece file key offered) × ((room_in (Ingest name) store).held key ≡ Some held)
+    clash_by_length : (key : List ℕ) (offered held : ℕ) → IsOther (refusals.Clash key (Length offered held)) →
+        (IsPiece file key offered) × ((room_in (Ingest name) store).held key ≡ Some held)
     clash_by_length key offered held unlike =
         let copy = finds store places (key_of_seg seg) unlike.place index (unlike.there places was) in
         let clash = unlike.refused in (
           subst (λ (k : List ℕ). IsPiece file k offered) (sym clash.0) (subst (λ (n : ℕ). IsPiece file (key_of_seg seg) n) (sym clash.1) (is_piece file seg piece)),
-          ap (room_in (Ingest name) store).held clash.0 ∙ ap (option_map (λ (c : Copy). c.place.length)) copy.1 ∙ ap (λ (p : Place). Some p.length) copy.2 ∙ ap (λ (n : ℕ). Some n) (sym clash.2),
+          ap (room_in (Ingest name) store).held clash.0 ∙ ap (option_map (λ (c : Copy). c.place.length)) copy.1 ∙ ap (λ (p : Place). Some p.length) copy.2
+              ∙ ap (λ (n : ℕ). Some n) (sym clash.2),
         )
 
     -- that of a node, of its length, isn't the same
     unlike_node : (refusal : Refusal) (unlike : IsOther refusal) → seg.kind ≡ Tree → unlike.place.length ≡ length seg.segment.bytes
-        → IsNodeRefusal (Shows old.disk new.disk) seg.kind (sha256 seg.segment.bytes) seg.segment.bytes unlike.place refusal → IsUnlikeNode file store (ReadsSince first new.disk) refusal
+        → IsNodeRefusal (Shows old.disk new.disk) seg.kind (sha256 seg.segment.bytes) seg.segment.bytes unlike.place refusal →
+        IsUnlikeNode file store (ReadsSince first new.disk) refusal
     unlike_node refusal unlike tree long refused =
         let node = node_piece file seg piece.0 piece.1 piece.2 tree in
         let copy = finds store places (key_of_seg seg) unlike.place index (unlike.there places was) in
-        let since = node_refusal_so (Shows old.disk new.disk) (ReadsSince first new.disk) (shown_since first old.disk new.disk later same) seg.kind (sha256 seg.segment.bytes) seg.segment.bytes unlike.place refusal refused in
+        let since = node_refusal_so (Shows old.disk new.disk) (ReadsSince first new.disk) (shown_since first old.disk new.disk later same) seg.kind (sha256 seg.segment.bytes)
+        seg.segment.bytes unlike.place refusal refused in
         let here = subst (λ (x : KindSegment). IsNodeRefusal (ReadsSince first new.disk) x.kind (sha256 x.segment.bytes) x.segment.bytes unlike.place refusal) node.2 since in
         record {
           node = node.0;

@@ -26,7 +26,8 @@ module _ (shown other : (List ℕ → Type 0) → Type 0) (each : (P : List ℕ 
   copy_refusal place digest (Corrupt slot offset count want got) is = (is.0, is.1, is.2, is.3, is.4, found _ count got is.5)
   copy_refusal place digest refusal is = absurd is
 
-  node_refusal : (kind : Kind) (digest offered : List ℕ) (place : Place) (refusal : Refusal) → IsNodeRefusal shown kind digest offered place refusal → IsNodeRefusal other kind digest offered place refusal
+  node_refusal : (kind : Kind) (digest offered : List ℕ) (place : Place) (refusal : Refusal) → IsNodeRefusal shown kind digest offered place refusal →
+      IsNodeRefusal other kind digest offered place refusal
   node_refusal kind digest offered place (Clash key (Byte at mine theirs)) is = (is.0, each _ is.1)
   node_refusal kind digest offered place (Clash key (Length mine theirs)) is = absurd is
   node_refusal kind digest offered place refusal is = copy_refusal place digest refusal is
@@ -43,7 +44,8 @@ module _ (shown other : (List ℕ → Type 0) → Type 0) (each : (P : List ℕ 
 
 -- ---- reads since an earlier moment
 
-returned_all : (first second third last : DiskView) (parts : List Part) → first.clock ≤ second.clock → second.clock ≤ third.clock → IsLater third last → AllByRecursion (λ part. third.read_returned second.clock part.at part.bytes) parts
+returned_all : (first second third last : DiskView) (parts : List Part) → first.clock ≤ second.clock → second.clock ≤ third.clock → IsLater third last →
+    AllByRecursion (λ part. third.read_returned second.clock part.at part.bytes) parts
     → AllByRecursion (λ part. last.read_returned first.clock part.at part.bytes) parts
 returned_all first second third last [] before within later all = tt
 returned_all first second third last (part ∷ parts) before within later all = (
@@ -51,7 +53,8 @@ returned_all first second third last (part ∷ parts) before within later all = 
   returned_all first second third last parts before within later all.1,
 )
 
-pub reads_wider : (first second third last : DiskView) → IsLater first second → IsLater second third → IsLater third last → last.content ≡ third.content → (P : List ℕ → Type 0) → ReadsSince second third P → ReadsSince first last P
+pub reads_wider : (first second third last : DiskView) → IsLater first second → IsLater second third → IsLater third last → last.content ≡ third.content → (P : List ℕ → Type 0) →
+    ReadsSince second third P → ReadsSince first last P
 reads_wider first second third last before within later same P reads = record {
   parts = reads.parts;
   returned = returned_all first second third last reads.parts before.clock_is within.clock_is later reads.returned;

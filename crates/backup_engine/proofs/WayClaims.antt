@@ -32,14 +32,16 @@ pub same_pins : (a b : PinMap) → Writing a ≡ Writing b → a ≡ b
 same_pins a b is = cc
 
 -- a segment more is kept, of which the index has a copy that is as long
-pub keeps_one : (kept : List KindSegment) (seg : KindSegment) (pins : PinMap) (places : PlaceMap) → AreKept kept pins places → length_in places (key_of_seg seg) ≡ Some (length seg.segment.bytes)
+pub keeps_one : (kept : List KindSegment) (seg : KindSegment) (pins : PinMap) (places : PlaceMap) → AreKept kept pins places →
+    length_in places (key_of_seg seg) ≡ Some (length seg.segment.bytes)
     → AreKept (kept ++ seg ∷ []) (finite.insert pins (key_of_seg seg) (pin_of seg)) places
 keeps_one kept seg pins places are long = record {
   long = all_on (λ x. length_in places (key_of_seg x) ≡ Some (length x.segment.bytes)) kept (seg ∷ []) are.long (long, tt);
   pinned = pinned_next kept seg pins are.pinned;
 }
 
-module _ (C : Type 0) (state : C → CoreState) (files : List ℕ → Type 0) (opens : Kind → List Segment) (start old new : C) (w : Way C state files opens start old) (seg : KindSegment) (buf : List ℕ) where
+module _ (C : Type 0) (state : C → CoreState) (files : List ℕ → Type 0) (opens : Kind → List Segment) (start old new : C) (w : Way C state files opens start old)
+    (seg : KindSegment) (buf : List ℕ) where
   abbrev pub claim : Result Answer Refusal → FileEvent
   claim answer = file_event (asked.Claim seg) answer buf []
 
@@ -83,7 +85,8 @@ module _ (C : Type 0) (state : C → CoreState) (files : List ℕ → Type 0) (o
           known = rested.kept.index_is ∙ w.known;
           indexed = kept_indexed (state old) (state new) rested w.indexed;
           ids = kept_ids (state old) (state new) rested w.ids;
-          kept = keeps_one (kept_of w.steps) seg w.pins w.places w.kept (ap (option_map (λ (p : Place). p.length)) (claimed.looked_up.found w.places w.known) ∙ ap (λ (n : ℕ). Some n) claimed.looked_up.length_is);
+          kept = keeps_one (kept_of w.steps) seg w.pins w.places w.kept (ap (option_map (λ (p : Place). p.length)) (claimed.looked_up.found w.places w.known)
+              ∙ ap (λ (n : ℕ). Some n) claimed.looked_up.length_is);
           fresh = w.fresh;
         } in
         let on : IsStepOn C state files opens start old w opens (claim (Ok answers.Held)) new = record {

@@ -67,16 +67,19 @@ newest_long : (places : PlaceMap) (held : List (Option HeaderValue)) → IsParti
     → option_map (λ (p : Place). p.length) (option_map (λ (c : Copy). c.place) (newest 0 held key)) ≡ Some long
 newest_long places held index key long is = by_place (finite.get places key) refl is
   where
-    by_place : (o : Option Place) → finite.get places key ≡ o → option_map (λ (p : Place). p.length) o ≡ Some long → option_map (λ (p : Place). p.length) (option_map (λ (c : Copy). c.place) (newest 0 held key)) ≡ Some long
+    by_place : (o : Option Place) → finite.get places key ≡ o → option_map (λ (p : Place). p.length) o ≡ Some long →
+        option_map (λ (p : Place). p.length) (option_map (λ (c : Copy). c.place) (newest 0 held key)) ≡ Some long
     by_place None found is = absurd cc
     by_place (Some place) found is = ap (option_map (λ (p : Place). p.length)) (index key place found) ∙ is
 
-module _ (C : Type 0) (state : C → CoreState) (files : List ℕ → Type 0) (opens : Kind → List Segment) (start old new : C) (w : Way C state files opens start old) (buf name file : List ℕ) (is : files file) (few : length file ≤ MOST_FILE)
+module _ (C : Type 0) (state : C → CoreState) (files : List ℕ → Type 0) (opens : Kind → List Segment) (start old new : C) (w : Way C state files opens start old)
+    (buf name file : List ℕ) (is : files file) (few : length file ≤ MOST_FILE)
     (whole : (p : Piece) → IsPieceOf file p → IsOneOf (piece_segment p) (kept_of w.steps)) where
   abbrev commit : Result Answer Refusal → FileEvent
   commit answer = file_event (asked.Commit name (root_of file)) answer buf file
 
-  commit_made : (answer : Result Answer Refusal) → CoreStep (state old) (by_first (asked.Commit name (root_of file)) answer buf) (state new) → Steps (commit answer).event (state old) (state new)
+  commit_made : (answer : Result Answer Refusal) → CoreStep (state old) (by_first (asked.Commit name (root_of file)) answer buf) (state new) →
+      Steps (commit answer).event (state old) (state new)
   commit_made answer step = steps_of (state old) (state new) (commit answer).event w.runs step
 
   commit_put : (answer : Result Answer Refusal) → IsPutStep name file (commit answer)
@@ -98,13 +101,15 @@ module _ (C : Type 0) (state : C → CoreState) (files : List ℕ → Type 0) (o
       ∙ ap (λ (n : ℕ). Some n) (sym piece.3)
 
   -- a name that is put leaves the index
-  index_put : Makes (ChangeName name (Put (root_of file))) (state old) (state new) → (store : Store) → Represents store (state new).known (state new).tables → IsPartialIndexOf store.held w.places
+  index_put : Makes (ChangeName name (Put (root_of file))) (state old) (state new) → (store : Store) → Represents store (state new).known (state new).tables →
+      IsPartialIndexOf store.held w.places
   index_put made store represents key place found =
       let runs = w.indexed in
       let told = made.tells w.places w.known in
       let put = made.represents.store_has runs.store runs.represents runs.valid runs.has_free in
       let has = made.keeps_keys w.places w.known told.0 told.1 key (place, found) in
-      represents.index_is_newest told.0 told.1 key has.0 has.1 ∙ sym (put.index_is_newest told.0 told.1 key has.0 has.1) ∙ runs.represents.index_is_newest w.places w.known key place found
+      represents.index_is_newest told.0 told.1 key has.0 has.1 ∙ sym (put.index_is_newest told.0 told.1 key has.0 has.1) ∙ runs.represents.index_is_newest w.places w.known key
+      place found
 
   pub way_commits : (answer : Answer) → CoreStep (state old) (by_first (asked.Commit name (root_of file)) (Ok answer) buf) (state new)
       → PutRun C state name file (Ok tt) start new × HoldsPieces name file (state new)
@@ -126,7 +131,8 @@ module _ (C : Type 0) (state : C → CoreState) (files : List ℕ → Type 0) (o
           let seg : KindSegment = piece_segment has.piece in
           let key_is : key ≡ key_of_seg seg = not_stored.key_is ∙ has.key_is ∙ sym (key_of_piece has.piece) in
           let unpinned : has_pin w.pins (key_of_seg seg) (pin_of seg) ≡ false =
-          ap (λ (k : List ℕ). has_pin w.pins k (pin_of seg)) (key_of_piece has.piece ∙ sym has.key_is) ∙ ap (has_pin w.pins (root_key (root_of file))) has.pin_is ∙ not_stored.unpinned in
+          ap (λ (k : List ℕ). has_pin w.pins k (pin_of seg)) (key_of_piece has.piece ∙ sym has.key_is) ∙ ap (has_pin w.pins (root_key (root_of file))) has.pin_is
+          ∙ not_stored.unpinned in
           subst (HasTwins file) (sym key_is)
           (twins file (kept_of w.steps) w.pins w.places w.kept (kept_pieces name file w.steps (w.each name file is)) seg (whole has.piece has.is_of) unpinned)
 
@@ -153,7 +159,8 @@ module _ (C : Type 0) (state : C → CoreState) (files : List ℕ → Type 0) (o
     no_numbers (inl most) = inl (sym before.names_are.last_is ∙ most)
     no_numbers (inr full) = inr (omega (arith, full.0, before.names_are.count), sym before.names_are.generation ∙ full.1)
 
-  commit_cause : (refusal : Refusal) → KeepsTables (state old) (state new) → IsCommitRefusal (part_of (state old).parts 0) (state old).tables name (root_of file) refusal → IsPutRefusal name file (state start).disk (state new) refusal
+  commit_cause : (refusal : Refusal) → KeepsTables (state old) (state new) → IsCommitRefusal (part_of (state old).parts 0) (state old).tables name (root_of file) refusal →
+      IsPutRefusal name file (state start).disk (state new) refusal
   commit_cause refusals.Memory same cause = tt
   commit_cause refusals.DiskRead same cause = tt
   commit_cause refusals.DiskWrite same cause = tt

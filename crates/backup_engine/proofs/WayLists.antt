@@ -68,7 +68,8 @@ pub whole_all : (file : List ℕ) (kept : List KindSegment) (fs : List FileEvent
 whole_all file kept [] done = tt
 whole_all file kept (f ∷ fs) done = (no_commit_whole file kept f.event.step done.0.0, whole_all file (kept ++ kept_by f.event.step f.event.answer) fs done.1)
 
-pub whole_on : (file : List ℕ) (kept : List KindSegment) (fs gs : List FileEvent) → AllByRecursion (λ f. IsDoneBefore f.event) fs → AreWhole file (kept ++ kept_of fs) gs → AreWhole file kept (fs ++ gs)
+pub whole_on : (file : List ℕ) (kept : List KindSegment) (fs gs : List FileEvent) → AllByRecursion (λ f. IsDoneBefore f.event) fs → AreWhole file (kept ++ kept_of fs) gs →
+    AreWhole file kept (fs ++ gs)
 whole_on file kept [] gs done rest = subst (λ (l : List KindSegment). AreWhole file l gs) (append-nil kept) rest
 whole_on file kept (f ∷ fs) gs done rest =
     let here : List KindSegment = kept_by f.event.step f.event.answer in (
@@ -101,6 +102,7 @@ module _ (C : Type 0) (state : C → CoreState) where
   run_on [] fs old mid new first second = subst (λ (c : C). CoreRun C state fs c new) first second
   run_on (e ∷ es) fs old mid new first second = (first.0, (first.1.0, run_on es fs first.0 mid new first.1.1 second))
 
-  pub files_on : (fs gs : List FileEvent) (old mid new : C) → CoreRun C state (events_of fs) old mid → CoreRun C state (events_of gs) mid new → CoreRun C state (events_of (fs ++ gs)) old new
+  pub files_on : (fs gs : List FileEvent) (old mid new : C) → CoreRun C state (events_of fs) old mid → CoreRun C state (events_of gs) mid new →
+      CoreRun C state (events_of (fs ++ gs)) old new
   files_on fs gs old mid new first second =
       subst (λ (es : List Event). CoreRun C state es old new) (sym (events_on fs gs)) (run_on (events_of fs) (events_of gs) old mid new first second)

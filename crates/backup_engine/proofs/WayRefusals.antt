@@ -44,7 +44,8 @@ use Rattle.backup_engine.proofs.WaySeals.{seal, seal_made, seal_put}
 use Rattle.backup_engine.proofs.Ways.{way_later, with_last}
 
 -- the first of these pieces, none of which the index has, is lacked
-lacks_first : (name file : List ℕ) (kind : Kind) (ss : List Segment) (store : Store) (places : PlaceMap) → 1 ≤ length ss → AllByRecursion (λ s. HasPieceOf file (of_kind kind s)) ss → AreNew places kind ss → IsIndexOf store.held places
+lacks_first : (name file : List ℕ) (kind : Kind) (ss : List Segment) (store : Store) (places : PlaceMap) → 1 ≤ length ss →
+    AllByRecursion (λ s. HasPieceOf file (of_kind kind s)) ss → AreNew places kind ss → IsIndexOf store.held places
     → LacksPiece file (room_in (Ingest name) store)
 lacks_first name file kind [] store places some pieces fresh index = absurd (omega (arith, some))
 lacks_first name file kind (s ∷ ss) store places some pieces fresh index = (
@@ -52,20 +53,23 @@ lacks_first name file kind (s ∷ ss) store places some pieces fresh index = (
   (length s.bytes, is_piece file (of_kind kind s) pieces.0, ap (option_map (λ (c : Copy). c.place.length)) (lacks store places (segment_key kind s) index fresh.0)),
 )
 
-module _ (C : Type 0) (state : C → CoreState) (files : List ℕ → Type 0) (opens : Kind → List Segment) (start old new : C) (w : Way C state files opens start old) (buf name file : List ℕ) (is : files file) where
+module _ (C : Type 0) (state : C → CoreState) (files : List ℕ → Type 0) (opens : Kind → List Segment) (start old new : C) (w : Way C state files opens start old)
+    (buf name file : List ℕ) (is : files file) where
   pieces_kept : AllByRecursion (HasPieceOf file) (kept_of w.steps)
   pieces_kept = kept_pieces name file w.steps (w.each name file is)
 
   -- ---- a claim
 
-  module _ (seg : KindSegment) (right : IsStepSegment seg) (piece : (file : List ℕ) → files file → HasPieceOf file seg) (children : AllByRecursion (IsKeptChild (kept_of w.steps)) (children_of seg)) where
+  module _ (seg : KindSegment) (right : IsStepSegment seg) (piece : (file : List ℕ) → files file → HasPieceOf file seg)
+      (children : AllByRecursion (IsKeptChild (kept_of w.steps)) (children_of seg)) where
     child_unpinned : (key : List ℕ) (pins : PinMap) → part_of (state old).parts 0 ≡ Writing pins → first_unpinned seg pins ≡ Some key → HasTwins file key
     child_unpinned key pins writing unpinned =
         unpinned_twins file (kept_of w.steps) w.pins w.places w.kept pieces_kept (children_of seg) key children
         (subst (λ (p : PinMap). first_unpinned seg p ≡ Some key) (same_pins pins w.pins (sym writing ∙ w.writing)) unpinned)
 
     claim_cause : (refusal : Refusal) → (state new).disk.content ≡ (state old).disk.content → KeepsTables (state old) (state new)
-        → IsClaimRefusal (part_of (state old).parts 0) seg (IsDamage (state old) (state new)) (DiffersFrom (state old).disk.size (state old).known seg (Shows (state old).disk (state new).disk)) refusal
+        → IsClaimRefusal (part_of (state old).parts 0) seg (IsDamage (state old) (state new))
+        (DiffersFrom (state old).disk.size (state old).known seg (Shows (state old).disk (state new).disk)) refusal
         → IsPutRefusal name file (state start).disk (state new) refusal
     claim_cause refusals.Memory same kept cause = tt
     claim_cause refusals.DiskRead same kept cause = tt
@@ -74,7 +78,8 @@ module _ (C : Type 0) (state : C → CoreState) (files : List ℕ → Type 0) (o
     claim_cause (refusals.Unpinned key) same kept cause = record { store_has = λ store represents valid free whole. inl (child_unpinned key cause.0 cause.1 cause.2) }
     claim_cause (refusals.Damaged at why) same kept cause = absurd (let other = sym w.known ∙ cause.1.0 in cc)
     claim_cause refusal same kept cause =
-        unlike_refused name file (state start).disk (state old) (state new) (way_later C state files opens start old w) same w.places w.known (kept.index_is ∙ w.known) seg (piece file is) refusal cause.1
+        unlike_refused name file (state start).disk (state old) (state new) (way_later C state files opens start old w) same w.places w.known (kept.index_is ∙ w.known) seg
+        (piece file is) refusal cause.1
 
     pub way_unclaimed : (refusal : Refusal) → CoreStep (state old) (by_first (asked.Claim seg) (Err refusal) buf) (state new)
         → PutRun C state name file (Err refusal) start new × IsPutRefusal name file (state start).disk (state new) refusal
@@ -87,7 +92,8 @@ module _ (C : Type 0) (state : C → CoreState) (files : List ℕ → Type 0) (o
 
   -- ---- a seal
 
-  module _ (filled : Contents) (right : IsStep (asked.Seal filled)) (pieces : (file : List ℕ) → files file → AllByRecursion (λ s. HasPieceOf file (of_kind filled.kind s)) filled.segments) (fresh : AreNew w.places filled.kind filled.segments)
+  module _ (filled : Contents) (right : IsStep (asked.Seal filled))
+      (pieces : (file : List ℕ) → files file → AllByRecursion (λ s. HasPieceOf file (of_kind filled.kind s)) filled.segments) (fresh : AreNew w.places filled.kind filled.segments)
       (children : AllByRecursion (λ x. AllByRecursion (IsKeptChild (kept_of w.steps)) (children_by filled.kind x)) filled.segments) where
     one_unpinned : (key : List ℕ) (pins : PinMap) → part_of (state old).parts 0 ≡ Writing pins → first_unpinned_of filled.kind filled.segments pins ≡ Some key → HasTwins file key
     one_unpinned key pins writing unpinned =
@@ -97,7 +103,8 @@ module _ (C : Type 0) (state : C → CoreState) (files : List ℕ → Type 0) (o
     -- no other copy is held of any
     none_unlike : (refusal : Refusal) → IsFirstUnlike (state old).disk.size (state old).known (Shows (state old).disk (state new).disk) filled.kind filled.segments refusal → ⊥
     none_unlike refusal unlike =
-        absurd (let both = sym (all_at (λ s. finite.get w.places (segment_key filled.kind s) ≡ None) filled.segments unlike.number unlike.within fresh) ∙ unlike.unlike.there w.places w.known in cc)
+        absurd (let both =
+        sym (all_at (λ s. finite.get w.places (segment_key filled.kind s) ≡ None) filled.segments unlike.number unlike.within fresh) ∙ unlike.unlike.there w.places w.known in cc)
 
     lacks_one : (store : Store) → IndexesAll store (state old).known → LacksPiece file (room_in (Ingest name) store)
     lacks_one store whole = lacks_first name file filled.kind filled.segments store w.places right.0 (pieces file is) fresh (whole w.places w.known)
@@ -124,7 +131,12 @@ module _ (C : Type 0) (state : C → CoreState) (files : List ℕ → Type 0) (o
             let before = kept_represents (state old) (state new) kept store represents in
             let sized = subst (λ (n : ℕ). IsValidFor n store) size_is valid in
             let so = cause.1.0.store_has store (alone store (state old).known (state old).tables before) sized free in
-            inl (inl (lacks_one store (subst (IndexesAll store) kept.index_is whole), so, omega (arith, last_within store.held valid.headers, w.ids.store_has store before sized free, cause.1.1)));
+            inl (inl (
+              lacks_one store (subst (IndexesAll store) kept.index_is whole),
+              so,
+              omega
+                  (arith, last_within store.held valid.headers, w.ids.store_has store before sized free, cause.1.1),
+            ));
       }
       seal_cause refusal kept cause = absurd (none_unlike refusal cause.2)
 

@@ -33,7 +33,8 @@ use Rattle.backup_engine.proofs.WayLists.{all_on, kept_on, seals_on, seals_then,
 abbrev pub file_event : StepValue → Result Answer Refusal → List ℕ → List ℕ → FileEvent
 file_event step answer buf bytes = record { event = by_first step answer buf; bytes = bytes }
 
-pub put_step : (name bytes : List ℕ) (step : StepValue) (answer : Result Answer Refusal) (buf put : List ℕ) → IsStep step → IsAskedFor name bytes step put → IsPutStep name bytes (file_event step answer buf put)
+pub put_step : (name bytes : List ℕ) (step : StepValue) (answer : Result Answer Refusal) (buf put : List ℕ) → IsStep step → IsAskedFor name bytes step put →
+    IsPutStep name bytes (file_event step answer buf put)
 put_step name bytes step answer buf put right asked_for = record { by_first = refl; is_step = right; asked_for = asked_for }
 
 -- ---- what a step makes of the store and of the core
@@ -79,14 +80,16 @@ rests file old new rested = record {
   };
 }
 
-seals_more : (file : List ℕ) (steps : List FileEvent) (f : FileEvent) (s : Store) (old new : CoreState) → SealsSo file steps s old → AddsFromEach file (seal_by f.event.step f.event.answer) old new
+seals_more : (file : List ℕ) (steps : List FileEvent) (f : FileEvent) (s : Store) (old new : CoreState) → SealsSo file steps s old →
+    AddsFromEach file (seal_by f.event.step f.event.answer) old new
     → SealsSo file (steps ++ f ∷ []) s new
 seals_more file steps f s old new before adds =
     let more : List StoreChange = seal_by f.event.step f.event.answer in
     let next = adds.store_has before.after before.represents before.valid before.has_free before.whole in
     record {
       after = next.after;
-      chain = subst (λ (l : List StoreChange). ChangesTo l s next.after) (sym (seals_on steps f)) (chain_on (seals_of steps) more s before.after next.after before.chain next.chain);
+      chain = subst (λ (l : List StoreChange). ChangesTo l s next.after) (sym (seals_on steps f))
+          (chain_on (seals_of steps) more s before.after next.after before.chain next.chain);
       once = subst (λ (l : List StoreChange). AddsOnce file l s) (sym (seals_on steps f)) (adds_on file (seals_of steps) more s before.after before.chain before.once next.once);
       represents = next.represents;
       valid = next.valid;
@@ -97,7 +100,8 @@ seals_more file steps f s old new before adds =
 module _ (C : Type 0) (state : C → CoreState) (files : List ℕ → Type 0) where
   -- ---- the beginning
 
-  pub way_begun : (old new : C) (answer : Answer) (buf : List ℕ) → IsFresh (state old) → CoreStep (state old) (by_first asked.Begin (Ok answer) buf) (state new) → IsRunning (state new)
+  pub way_begun : (old new : C) (answer : Answer) (buf : List ℕ) → IsFresh (state old) → CoreStep (state old) (by_first asked.Begin (Ok answer) buf) (state new) →
+      IsRunning (state new)
       → (w : Way C state files (λ kind. []) old new) × (kept_of w.steps ≡ [])
   way_begun old new answer buf fresh step running =
       let f : FileEvent = file_event asked.Begin (Ok answer) buf [] in
@@ -111,7 +115,9 @@ module _ (C : Type 0) (state : C → CoreState) (files : List ℕ → Type 0) wh
         done = ((tt, tt), tt);
         seals = λ file is. record {
           store_has = λ s represents valid free whole.
-              seals_more file [] f s (state old) (state new) (record { after = s; chain = refl; once = tt; represents = represents; valid = valid; has_free = free; whole = whole }) (rests file (state old) (state new) rested);
+              seals_more file [] f s (state old) (state new)
+              (record { after = s; chain = refl; once = tt; represents = represents; valid = valid; has_free = free; whole = whole })
+              (rests file (state old) (state new) rested);
         };
         up = up_of (state new) runs running;
         runs = runs;
@@ -202,7 +208,8 @@ module _ (C : Type 0) (state : C → CoreState) (files : List ℕ → Type 0) wh
     }
 
     -- a last step follows, which seals nothing
-    pub with_last : (name file : List ℕ) (result : Result Unit Refusal) (f : FileEvent) (new : C) → files file → CoreStep (state old) f.event (state new) → IsPutStep name file f → seal_by f.event.step f.event.answer ≡ []
+    pub with_last : (name file : List ℕ) (result : Result Unit Refusal) (f : FileEvent) (new : C) → files file → CoreStep (state old) f.event (state new) → IsPutStep name file f →
+        seal_by f.event.step f.event.answer ≡ []
         → EndsPut (f ∷ []) result → IsWholeAt file (kept_of w.steps) f.event.step → PutRun C state name file result start new
     with_last name file result f new is step put none ends whole = record {
       steps = w.steps ++ f ∷ [];
@@ -210,7 +217,8 @@ module _ (C : Type 0) (state : C → CoreState) (files : List ℕ → Type 0) wh
       each = all_on (IsPutStep name file) w.steps (f ∷ []) (w.each name file is) (put, tt);
       ends = ends_on w.steps (f ∷ []) result w.done ends;
       whole = whole_on file [] w.steps (f ∷ []) w.done (whole, tt);
-      adds = subst (λ (l : List StoreChange). OfEachIndexed (state start).disk.size (state start).known (state start).tables (λ s. AddsOnce file l s)) (sym (seals_then w.steps f none)) (adds_all file is);
+      adds = subst (λ (l : List StoreChange). OfEachIndexed (state start).disk.size (state start).known (state start).tables (λ s. AddsOnce file l s))
+          (sym (seals_then w.steps f none)) (adds_all file is);
     }
 
     -- ---- the disk

@@ -20,7 +20,8 @@ module _ (C : Type 0) (state : C → CoreState) (v w : DiskView) (old new : C) (
   to_end later = later_on (state old).disk (state new).disk w later called.last.only.later
 
   -- what a crash since the call began leaves, by what one since the store was opened does
-  pub crash_of : (P : List ℕ → Type 0) → IsLater (state old).disk (state new).disk → CrashLeaves P (state old).disk (state new).disk → (c : List ℕ) → SinceStart v w c → v.images c ⊎ P c
+  pub crash_of : (P : List ℕ → Type 0) → IsLater (state old).disk (state new).disk → CrashLeaves P (state old).disk (state new).disk → (c : List ℕ) → SinceStart v w c →
+      v.images c ⊎ P c
   crash_of P later leaves c (inl image) = inr (leaves.now c (called.last.only.images_are c image))
   crash_of P later leaves c (inr since) =
       elim (called.last.only.since_are v.clock c (omega (arith, called.first.only.later.clock_is, later.clock_is)) since.1) [

@@ -29,7 +29,8 @@ use Rattle.backup_engine.proofs.Reading.{reads_leave, wrote_nothing}
 use Rattle.backup_engine.proofs.WholeCall.{leaves_more}
 
 -- a map that stays is one that an ending which isn't the command's own may leave
-stays_left : (S : List ℕ → Type 0) (command : CommandLine) (given : List ℕ) (m : Stored) (e : Ending) (c : List ℕ) → ¬ (e ≡ Sink) → OpensAs S m c → IsLeftAs S command given m (Some e) c
+stays_left : (S : List ℕ → Type 0) (command : CommandLine) (given : List ℕ) (m : Stored) (e : Ending) (c : List ℕ) → ¬ (e ≡ Sink) → OpensAs S m c →
+    IsLeftAs S command given m (Some e) c
 stays_left S command given m Sink c not is = absurd (not refl)
 stays_left S command given m (Refused DiskWrite) c not is = inl is
 stays_left S command given m e c not is = is
@@ -62,7 +63,8 @@ module _ (command : CommandLine) (given : List ℕ) (ending : Option Ending) (si
 -- ---- room was made
 
 -- what a crash leaves at the end of it, and at any moment before
-pub room_leaves : (v mid : DiskView) (made : RoomMade v mid) (old : List ℕ) → v.content ≡ Some old → (among : ByteSet) (m : Stored) → OpensAs (IsIn among) m old → LeavesMeanwhile (OpensAs (IsIn among) m) v mid
+pub room_leaves : (v mid : DiskView) (made : RoomMade v mid) (old : List ℕ) → v.content ≡ Some old → (among : ByteSet) (m : Stored) → OpensAs (IsIn among) m old →
+    LeavesMeanwhile (OpensAs (IsIn among) m) v mid
 room_leaves v mid made old told among m opens =
     let keeps : KeepsFiles made.short.store made.freed old (made.content old told).0 = (made.content old told).2.2 in
     let crash = made.crash old told in
@@ -86,12 +88,14 @@ leaves_on P v mid w later first second = record {
 }
 
 -- the content that is left is of the map, with two closed slots
-pub made_stands : (v mid : DiskView) (made : RoomMade v mid) (old : List ℕ) → v.content ≡ Some old → (among : ByteSet) (m : Stored) → OpensAs (IsIn among) m old → KnownWith mid.content (IsOf (IsIn among) m)
+pub made_stands : (v mid : DiskView) (made : RoomMade v mid) (old : List ℕ) → v.content ≡ Some old → (among : ByteSet) (m : Stored) → OpensAs (IsIn among) m old →
+    KnownWith mid.content (IsOf (IsIn among) m)
 made_stands v mid made old told among m opens =
     let now = made.content old told in
     (now.0, now.1, now.2.2.stands among m opens)
 
-module _ (command : CommandLine) (given : List ℕ) (ending : Option Ending) (sink sink_now : SinkView) (v mid w : DiskView) (made : RoomMade v mid) (keeps : KeepsEachMap command given ending mid w sink sink_now) where
+module _ (command : CommandLine) (given : List ℕ) (ending : Option Ending) (sink sink_now : SinkView) (v mid w : DiskView) (made : RoomMade v mid)
+    (keeps : KeepsEachMap command given ending mid w sink sink_now) where
   module _ (old : List ℕ) (told : v.content ≡ Some old) (among : ByteSet) (m : Stored) (opens : OpensAs (IsIn among) m old) where
     abbrev S : List ℕ → Type 0
     S = IsIn among
@@ -133,13 +137,15 @@ fails_not_full : (store : Store) (refusal : Refusal) → IsNotFull refusal → O
 fails_not_full store (Full free) not opens = absurd not
 fails_not_full store refusal not opens = opens
 
-pub unread_fails : (v w : DiskView) (refusal : Refusal) → IsNotRead refusal v w → IsNotFull refusal → (old : List ℕ) → v.content ≡ Some old → (S : List ℕ → Type 0) (m : Stored) → OpensAs S m old → IsTrue (fails refusal)
+pub unread_fails : (v w : DiskView) (refusal : Refusal) → IsNotRead refusal v w → IsNotFull refusal → (old : List ℕ) → v.content ≡ Some old → (S : List ℕ → Type 0) (m : Stored) →
+    OpensAs S m old → IsTrue (fails refusal)
 unread_fails v w refusal is not old told S m opens =
     fails_not_full opens.store refusal not (shown_content v w (IsGivenUp refusal) old is.given_up told opens.store opens.stands.holds.right)
 
 -- no room was made
 module _ (refusal : Refusal) (v w : DiskView) where
-  pub unmade_leaves : (is : RoomUnmade refusal v w) (old : List ℕ) → v.content ≡ Some old → (among : ByteSet) (m : Stored) → OpensAs (IsIn among) m old → LeavesMeanwhile (OpensAs (IsIn among) m) v w
+  pub unmade_leaves : (is : RoomUnmade refusal v w) (old : List ℕ) → v.content ≡ Some old → (among : ByteSet) (m : Stored) → OpensAs (IsIn among) m old →
+      LeavesMeanwhile (OpensAs (IsIn among) m) v w
   unmade_leaves is old told among m opens =
       let on_the_way = (is.files old told among m opens).1 in
       let crash = is.crash old told in
@@ -173,5 +179,6 @@ module _ (command : CommandLine) (given : List ℕ) (refusal : Refusal) (sink : 
           (content.0, content.1, left content.0 (not_sink refusal) (files.1 content.0 content.2)),
           λ c image. left c (not_sink refusal) (files.1 c (is.images old told c image)),
         );
-        crash = leaves_more (OpensAs (IsIn among) m) (MayBeMeanwhile (IsIn among) command given m (Some (Refused refusal))) v w (λ c there. inl there) (unmade_leaves refusal v w is old told among m opens);
+        crash = leaves_more (OpensAs (IsIn among) m) (MayBeMeanwhile (IsIn among) command given m (Some (Refused refusal))) v w (λ c there. inl there)
+            (unmade_leaves refusal v w is old told among m opens);
       }

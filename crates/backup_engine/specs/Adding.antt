@@ -22,7 +22,8 @@ abbrev pub AddsOnce : List ℕ → List StoreChange → Store → Type 0
 AddsOnce given [] store = Unit {0}
 AddsOnce given (SealContainer id kind segments ∷ rest) store =
     (id ≡ suc (last_id store.held))
-    × AllByRecursion (λ s. HasPieceOf given (record { kind = kind; segment = s }) × (newest 0 store.held (segment_key kind s) ≡ None)) segments
+    × AllByRecursion (λ s. HasPieceOf given (record { kind = kind; segment = s }) × (newest 0 store.held (segment_key kind s) ≡ None))
+    segments
     × AddsOnce given rest (with_sealed id kind segments store)
 AddsOnce given (ChangeName name change ∷ rest) store = ⊥
 AddsOnce given (FlushContainer id kind segments ∷ rest) store = ⊥

@@ -21,9 +21,9 @@ use Rattle.script_runner.specs.LinesAreRuns.{Passes, Traced}
 
 -- The store is opened, as the machine may, which may then give each line its reply. At the end what reads give of the disk, and each image
 -- that a crash may leave, is a store that may stand there, of files that may be found: so after all that was acknowledged. At any moment of
--- the call, also inside a write, a crash leaves an image that can be opened as files that may be found before the opening, or at a machine to
--- which the lines come; or one that it might have left before the call. And what the opening, and then each step of the lines, compared of
--- the bytes of the disk, and may have changed, is so, and what reads give then may stand there.
+-- the call, also inside a write, a crash leaves an image that can be opened as files that may be found before the opening, or at a machine
+-- to which the lines come; or one that it might have left before the call. And what the opening, and then each step of the lines, compared
+-- of the bytes of the disk, and may have changed, is so, and what reads give then may stand there.
 pub record RunsByFiles (S : List ℕ → Type 0) (rs : List Replied) (m : FileMachine) (disk disk_now : DiskView) : Type 0 where
   pub files : ℕ
   pub opened : FileMachine
@@ -37,7 +37,8 @@ pub record RunsByFiles (S : List ℕ → Type 0) (rs : List Replied) (m : FileMa
       ⊎ Passes of_files (λ n. IsOfFound S n image) steps opened next.machine (run_of of_files rs steps (desk opened) next lines_are))
       disk disk_now
   pub bytes : (then : Option (List ℕ)) × (ChangesContent S (opening 0 (Ok (done.Reopened files))) m opened disk.content then
-      × Traced of_files (ChangesContent S) steps opened next.machine (run_of of_files rs steps (desk opened) next lines_are) then disk_now.content)
+      × Traced of_files (ChangesContent S) steps opened next.machine (run_of of_files rs steps (desk opened) next lines_are) then
+      disk_now.content)
 
 -- Or it is not, as the machine may refuse it, and no line is run. What reads give may stand for its files still, and so may each image
 -- that a crash leaves now and could not before; and at any moment of the call a crash leaves an image that can be opened as files that may

@@ -45,7 +45,8 @@ FreesUpTo last (change ∷ more) s = FreesUpTo last more (changed change s)
 
 -- The content that was a store is one to which such changes lead: containers of copies were written, with so many segments in all, and so
 -- many containers given back, each of which held, in its turn, the newest copy of no key that these files need. All else of the store is as
--- it was: each container that is there now was there before, in the same slot, byte for byte, or came since, under an id above all of before.
+-- it was: each container that is there now was there before, in the same slot, byte for byte, or came since, under an id above all of
+-- before.
 pub record Collected (files : Files) (freed copied : ℕ) (store : Store) (old new : List ℕ) : Type 0 where
   pub changes : List StoreChange
   pub freed_are : freed ≡ freed_in changes

@@ -66,7 +66,8 @@ pub record IsAllFed (C : Type 0) (state : C → CoreState) (given : List ℕ) (s
   pub done : due_in s ≡ Nothing
 
 -- How reading a source to its end went: a session was fed what it gave; or no more was asked of the core.
-abbrev pub FilledBy : (C : Type 0) → (C → CoreState) → Result Unit Ending → List ℕ → SessionState → SessionState → C → C → SourceView → SourceView
+abbrev pub FilledBy : (C : Type 0) → (C → CoreState) → Result Unit Ending → List ℕ → SessionState → SessionState → C → C → SourceView →
+    SourceView
     → Type 0
 FilledBy C state (Ok u) given s t old new source source_now =
     Known source.left (λ all. source_now.left ≡ Some [])

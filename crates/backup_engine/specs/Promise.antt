@@ -123,8 +123,8 @@ GivesSlotsBack command ending files store old content sink sink_now = Unit {0}
 
 -- ---- what is left
 
--- As what the content, and each image that a crash leaves, can be opened at the end: the map as it was, or as it is after the command, where
--- that could be done.
+-- As what the content, and each image that a crash leaves, can be opened at the end: the map as it was, or as it is after the command,
+-- where that could be done.
 abbrev pub IsLeftAs : (List ℕ → Type 0) → CommandLine → List ℕ → Stored → Option Ending → List ℕ → Type 0
 IsLeftAs S command given m None image = OpensAs S (map_after command given m) image
 IsLeftAs S command given m (Some Sink) image = OpensAs S (map_after command given m) image

@@ -60,7 +60,8 @@ pub record Way (C : Type 0) (state : C → CoreState) (files : List ℕ → Type
   pub ran : CoreRun C state (events_of steps) old new
   pub each : (name file : List ℕ) → files file → AllByRecursion (IsPutStep name file) steps
   pub done : AllByRecursion (λ f. IsDoneBefore f.event) steps
-  pub seals : (file : List ℕ) → files file → OfEachIndexed (state old).disk.size (state old).known (state old).tables (λ s. SealsSo file steps s (state new))
+  pub seals : (file : List ℕ) → files file → OfEachIndexed (state old).disk.size (state old).known (state old).tables
+      (λ s. SealsSo file steps s (state new))
   pub up : IsUp (state new)
   pub runs : (state new).stop ≡ None
   pub pins : PinMap
@@ -68,6 +69,7 @@ pub record Way (C : Type 0) (state : C → CoreState) (files : List ℕ → Type
   pub places : PlaceMap
   pub known : (state new).known ≡ Some places
   pub indexed : Runs (state new).disk.size (state new).known (state new).tables
-  pub ids : OfEach (state new).disk.size (state new).known (state new).tables (λ store. (state new).tables.held.last_id ≡ last_id store.held)
+  pub ids : OfEach (state new).disk.size (state new).known (state new).tables
+      (λ store. (state new).tables.held.last_id ≡ last_id store.held)
   pub kept : AreKept (kept_of steps) pins places
   pub fresh : (kind : Kind) → AreNew places kind (opens kind)

@@ -46,7 +46,8 @@ RunsBy C state next.Wrong number result line r s sink sink_now = (result ≡ Err
 RunsBy C state next.TooMany number result line r s sink sink_now = (result ≡ Err Script) × RunsNothing r s sink sink_now
 
 -- the reader took what comes next, and it was run
-pub record ReadsOn (C : Type 0) (state : C → CoreState) (number : ℕ) (result : Result Bool Ending) (old new : ReaderState) (r s : RunnerState C)
+pub record ReadsOn (C : Type 0) (state : C → CoreState) (number : ℕ) (result : Result Bool Ending) (old new : ReaderState)
+    (r s : RunnerState C)
     (source source_now : SourceView) (sink sink_now : SinkView) : Type 0 where
   pub next : NextLine
   pub is_next : IsNext next old new source.left source_now.left
@@ -55,7 +56,8 @@ pub record ReadsOn (C : Type 0) (state : C → CoreState) (number : ℕ) (result
   pub runs : RunsBy C state next number result new.line r s sink sink_now
 
 -- or the source failed
-pub record ReadsNone (C : Type 0) (result : Result Bool Ending) (old new : ReaderState) (r s : RunnerState C) (source source_now : SourceView)
+pub record ReadsNone (C : Type 0) (result : Result Bool Ending) (old new : ReaderState) (r s : RunnerState C)
+    (source source_now : SourceView)
     (sink sink_now : SinkView) : Type 0 where
   pub result_is : result ≡ Err Source
   pub takes : TakesOff new.line old new source.left source_now.left
@@ -64,10 +66,12 @@ pub record ReadsNone (C : Type 0) (result : Result Bool Ending) (old new : Reade
   pub rose : Rose source.faults source_now.faults
   pub none : RunsNothing r s sink sink_now
 
-abbrev pub RunsNext : (C : Type 0) → (C → CoreState) → ℕ → Result Bool Ending → ReaderState → ReaderState → RunnerState C → RunnerState C → SourceView
+abbrev pub RunsNext : (C : Type 0) → (C → CoreState) → ℕ → Result Bool Ending → ReaderState → ReaderState → RunnerState C → RunnerState C →
+    SourceView
     → SourceView → SinkView → SinkView → Type 0
 RunsNext C state number result old new r s source source_now sink sink_now =
-    ReadsOn C state number result old new r s source source_now sink sink_now ⊎ ReadsNone C result old new r s source source_now sink sink_now
+    ReadsOn C state number result old new r s source source_now sink sink_now ⊎ ReadsNone C result old new r s source source_now sink
+    sink_now
 
 -- ---- all lines
 
@@ -91,7 +95,8 @@ abbrev pub EndsReopening : List Replied → Refusal → Type 0
 EndsReopening rs refusal = (before : List Replied) × HasLast rs before (record { line = lines.Reopen; reply = replies.Refused refusal })
 
 -- These are all that were run of a script, and so it ended.
-pub record ScriptRun (C : Type 0) (state : C → CoreState) (result : Result Unit Ending) (r s : RunnerState C) (source source_now : SourceView)
+pub record ScriptRun (C : Type 0) (state : C → CoreState) (result : Result Unit Ending) (r s : RunnerState C)
+    (source source_now : SourceView)
     (sink sink_now : SinkView) : Type 0 where
   pub rs : List Replied
   pub runs : RunsLines C state rs r s

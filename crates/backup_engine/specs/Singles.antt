@@ -165,8 +165,8 @@ abbrev pub Sweeps : ℕ → ℕ → ℕ → List Replied → Type 0
 Sweeps percent freed copied rs =
     (snapshot : ℕ) × (rs ≡ collecting percent snapshot ∷ said lines.Sweep (replies.Collected freed copied) ∷ [])
 
--- The lines of a `collect`, and what was written: how many containers were given back, and how many segments copied. Where there was no memory
--- for that, where a line was refused, or none was run, nothing was.
+-- The lines of a `collect`, and what was written: how many containers were given back, and how many segments copied. Where there was no
+-- memory for that, where a line was refused, or none was run, nothing was.
 abbrev pub IsCollect : ℕ → Option Ending → SinkView → SinkView → List Replied → Type 0
 IsCollect percent None sink sink_now rs =
     (freed copied : ℕ) × (Sweeps percent freed copied rs × WroteReply (collected_line freed copied) None sink sink_now)

@@ -144,7 +144,8 @@ pub record RunsScript (D : Type 0) (view : D → DiskView) (rs : List Replied) (
       ⊎ MakesNoRoom rs ending disk disk_now source source_now sink sink_now
 
 -- What a line of the table does. A disk is anything that has a view.
-abbrev pub Does : (D : Type 0) → (D → DiskView) → Option TableLine → List ℕ → List Replied → Option Ending → DiskView → DiskView → SourceView
+abbrev pub Does : (D : Type 0) → (D → DiskView) → Option TableLine → List ℕ → List Replied → Option Ending → DiskView → DiskView →
+    SourceView
     → SourceView → SinkView → SinkView → Type 0
 Does D view None given rs ending disk disk_now source source_now sink sink_now =
     DoesNothing ending disk disk_now source source_now sink sink_now

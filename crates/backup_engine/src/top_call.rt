@@ -108,7 +108,8 @@ fn run_line<D: Disk, S: Source, K: Sink>(
 ) -> Result<(), Ending>
     requires { IsRightLine line.now }
     ensures does { (given : List ℕ) × ((rs : List Replied) × Does D D.view (Some (line_value line.now)) given rs
-        (ending_in result) (D.view disk.old) (D.view disk.new) (S.view source.old) (S.view source.new) (K.view sink.old) (K.view sink.new)) }
+        (ending_in result) (D.view disk.old) (D.view disk.new) (S.view source.old) (S.view source.new)
+        (K.view sink.old) (K.view sink.new)) }
     ensures later { IsLater (D.view disk.old) (D.view disk.new) }
 {
     match line {

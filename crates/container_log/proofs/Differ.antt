@@ -21,7 +21,8 @@ FaultDiffers (meta.Field offset got) = Unit {0}
 FaultDiffers (meta.Digest want got) = want ≢ got
 FaultDiffers meta.Memory = ⊥
 
-entries_differ : (kind : Kind) (data_length after : ℕ) (before : List Entry) (bytes : List ℕ) (fault : MetaFault) → entries_at kind data_length after before bytes ≡ Err fault → FaultDiffers fault
+entries_differ : (kind : Kind) (data_length after : ℕ) (before : List Entry) (bytes : List ℕ) (fault : MetaFault) → entries_at kind data_length after before bytes ≡ Err fault →
+    FaultDiffers fault
 unfolding entries_at
 entries_differ kind data_length zero before bytes fault e = absurd cc
 entries_differ kind data_length (suc after) before bytes fault e =

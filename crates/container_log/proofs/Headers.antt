@@ -8,7 +8,8 @@ use Rattle.container_log.specs.declared.fault.LogFault.TheVariants.{Memory, Disk
 use Rattle.container_log.specs.Faults.{blames, OrMemory, IsDecodeFault, IsHeaderFault}
 
 -- what is read from bytes blames no call of the disk
-pub decode_reads : {T : Type 0} (result : Result T LogFault) (bytes : List ℕ) (at : ℕ) (old new : DiskView) → IfErr result (OrMemory (IsDecodeFault bytes at)) → Reads Done old new → Reads (ending blames result) old new
+pub decode_reads : {T : Type 0} (result : Result T LogFault) (bytes : List ℕ) (at : ℕ) (old new : DiskView) → IfErr result (OrMemory (IsDecodeFault bytes at)) →
+    Reads Done old new → Reads (ending blames result) old new
 decode_reads (Ok m) bytes at old new fault reads = reads
 decode_reads (Err Memory) bytes at old new fault reads = reads_then old new reads
 decode_reads (Err DiskRead) bytes at old new fault reads = absurd fault
@@ -17,7 +18,8 @@ decode_reads (Err (Damaged place why)) bytes at old new fault reads = reads_then
 decode_reads (Err (Corrupt slot offset count want got)) bytes at old new fault reads = absurd fault
 
 -- what was found, by what is known more
-pub fault_weaker : (found more : List ℕ → Type 0) (at : ℕ) (e : LogFault) → ((bytes : List ℕ) → found bytes → more bytes) → OrMemory (IsHeaderFault found at) e → OrMemory (IsHeaderFault more at) e
+pub fault_weaker : (found more : List ℕ → Type 0) (at : ℕ) (e : LogFault) → ((bytes : List ℕ) → found bytes → more bytes) → OrMemory (IsHeaderFault found at) e →
+    OrMemory (IsHeaderFault more at) e
 fault_weaker found more at Memory each fault = tt
 fault_weaker found more at DiskRead each fault = tt
 fault_weaker found more at DiskWrite each fault = absurd fault

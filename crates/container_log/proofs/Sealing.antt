@@ -34,7 +34,8 @@ bytes_in-cons : (s : Segment) (ss : List Segment) → bytes_in (s ∷ ss) ≡ le
 bytes_in-cons s ss = omega (arith, sum_by-append (λ (x : Segment). length x.bytes) (s ∷ []) ss)
 
 -- segments stand on the disk where they stand in the slot's bytes
-stand_at : (offset at place : ℕ) (segments : List Segment) (cell image : List ℕ) → range at SLOT_BYTES image ≡ cell → place ≡ at + (HEADER_BYTES + offset) → HEADER_BYTES + offset + bytes_in segments ≤ SLOT_BYTES
+stand_at : (offset at place : ℕ) (segments : List Segment) (cell image : List ℕ) → range at SLOT_BYTES image ≡ cell → place ≡ at + (HEADER_BYTES + offset) →
+    HEADER_BYTES + offset + bytes_in segments ≤ SLOT_BYTES
     → StandFrom offset segments cell → StandAt place segments image
 stand_at offset at place [] cell image stands there fits stored = tt
 stand_at offset at place (s ∷ ss) cell image stands there fits stored = (
@@ -46,7 +47,8 @@ stand_at offset at place (s ∷ ss) cell image stands there fits stored = (
 )
 
 -- with some gate before the bytes of a cell, its gate is another, or the whole cell stands
-gate_cases : (at gate some_gate : ℕ) (cell old new : List ℕ) → 1 ≤ length cell → at + length cell ≤ length old → byte_at 0 cell ≡ gate → new ≡ written at (some_gate ∷ drop 1 cell) old
+gate_cases : (at gate some_gate : ℕ) (cell old new : List ℕ) → 1 ≤ length cell → at + length cell ≤ length old → byte_at 0 cell ≡ gate →
+    new ≡ written at (some_gate ∷ drop 1 cell) old
     → (byte_at at new ≢ gate) ⊎ (new ≡ written at cell old)
 gate_cases at gate some_gate [] old new some fits is stands = absurd (omega (arith, some))
 gate_cases at gate some_gate (first ∷ body) old new some fits is stands =
@@ -91,7 +93,8 @@ module _ (slot id : ℕ) (kind : Kind) (segments : List Segment) (cell : List �
     body_torn : Torn (slot_at slot + 1) (length cell - 1) old new → (given : List ℕ) → Seals slot id kind segments given old new
     body_torn torn given = inl (
       same (inl torn),
-      λ closed opened. closed (sym (ap (byte_at (slot_at slot)) torn.holds ∙ byte-written-before (slot_at slot) (slot_at slot + 1) torn.bytes old (omega arith) (omega (arith, fits))) ∙ opened),
+      λ closed opened. closed (sym (ap (byte_at (slot_at slot)) torn.holds ∙ byte-written-before (slot_at slot) (slot_at slot + 1) torn.bytes old (omega arith)
+          (omega (arith, fits))) ∙ opened),
     )
 
     written_whole : Puts (slot_at slot) cell old new → HoldsContainer new slot id kind segments
@@ -106,12 +109,14 @@ module _ (slot id : ℕ) (kind : Kind) (segments : List Segment) (cell : List �
 
     pub sealed_whole : Puts (slot_at slot) cell old new → IsSealed slot id kind segments old new
     sealed_whole whole = (
-      subst (λ (n : ℕ). SameOutside (slot_at slot) n old new) is.size (subst (SameOutside (slot_at slot) (length cell) old) (sym whole) (same_written (slot_at slot) (length cell) cell old refl room)),
+      subst (λ (n : ℕ). SameOutside (slot_at slot) n old new) is.size
+          (subst (SameOutside (slot_at slot) (length cell) old) (sym whole) (same_written (slot_at slot) (length cell) cell old refl room)),
       written_whole whole,
     )
 
 pub writes_sealed : (slot id : ℕ) (kind : Kind) (segments : List Segment) (cell : List ℕ) (e : Ending) (old new : DiskView) → slot_at slot + SLOT_BYTES ≤ old.size
-    → IsSlotOf id kind segments cell → Writes (TornFrom (slot_at slot) cell) (Puts (slot_at slot) cell) e old new → Writes (Seals slot id kind segments) (IsSealed slot id kind segments) e old new
+    → IsSlotOf id kind segments cell → Writes (TornFrom (slot_at slot) cell) (Puts (slot_at slot) cell) e old new →
+    Writes (Seals slot id kind segments) (IsSealed slot id kind segments) e old new
 writes_sealed slot id kind segments cell e old new fits is writes =
     writes_weaker (TornFrom (slot_at slot) cell) (Seals slot id kind segments) (Puts (slot_at slot) cell) (IsSealed slot id kind segments) old new
     (λ given c known whole. sealed_whole slot id kind segments cell is given c (omega (arith, fits, old.sized given known)) whole)

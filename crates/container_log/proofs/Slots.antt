@@ -24,10 +24,12 @@ byte_read at place image into there read =
 -- a gate, and in place of what stood after it what was read
 pub gate_put : (l into : List ℕ) (gate : ℕ) → 1 ≤ length l → put_mid 1 (length (set l 0 gate) - 1) (set l 0 gate) into ≡ gate ∷ into
 gate_put [] into gate some = absurd (omega (arith, some))
-gate_put (x ∷ l) into gate some = ap (λ (r : List ℕ). gate ∷ into ++ r) (drop_all (length (set (x ∷ l) 0 gate) - 1) l (omega arith)) ∙ ap (λ (r : List ℕ). gate ∷ r) (append-nil into)
+gate_put (x ∷ l) into gate some = ap (λ (r : List ℕ). gate ∷ into ++ r) (drop_all (length (set (x ∷ l) 0 gate) - 1) l (omega arith))
+    ∙ ap (λ (r : List ℕ). gate ∷ r) (append-nil into)
 
 -- the gate and so many bytes that were read after it are the bytes from the gate on
-pub joined : (n at place count gate : ℕ) (image l into : List ℕ) → at + (1 + n) ≤ length image → 1 ≤ length l → place ≡ at + 1 → count ≡ n → range place count image ≡ into → byte_at at image ≡ gate
+pub joined : (n at place count gate : ℕ) (image l into : List ℕ) → at + (1 + n) ≤ length image → 1 ≤ length l → place ≡ at + 1 → count ≡ n → range place count image ≡ into →
+    byte_at at image ≡ gate
     → range at (1 + n) image ≡ put_mid 1 (length (set l 0 gate) - 1) (set l 0 gate) into
 joined n at place count gate image l into fits some there long read is =
     let after : range (at + 1) n image ≡ into = ap (λ p. range p n image) (sym there) ∙ ap (λ m. range place m image) (sym long) ∙ read in
@@ -37,7 +39,8 @@ joined n at place count gate image l into fits some there long read is =
     ∙ ap (λ (b : List ℕ). gate ∷ b) after
     ∙ sym (gate_put l into gate some)
 
-pub read_together : (at place count gate : ℕ) (image l into : List ℕ) → at + 49664 ≤ length image → 1 ≤ length l → place ≡ at + 1 → count ≡ 49663 → range place count image ≡ into → byte_at at image ≡ gate
+pub read_together : (at place count gate : ℕ) (image l into : List ℕ) → at + 49664 ≤ length image → 1 ≤ length l → place ≡ at + 1 → count ≡ 49663 →
+    range place count image ≡ into → byte_at at image ≡ gate
     → range at 49664 image ≡ put_mid 1 (length (set l 0 gate) - 1) (set l 0 gate) into
 read_together at place count gate image l into fits some there long read is = joined 49663 at place count gate image l into fits some there long read is
 
@@ -52,7 +55,8 @@ closed_holds image slot None closed holds = refl
 closed_holds image slot (Some h) closed holds = absurd (closed (gate_of image slot h holds))
 
 -- and one whose gate is open a header, if anything
-pub open_holds : (image : List ℕ) (slot : ℕ) (held : Option HeaderValue) → byte_at (slot_at slot) image ≡ CONTAINER_GATE → HoldsSlot image slot held → (h : HeaderValue) × (held ≡ Some h) × HoldsSlot image slot (Some h)
+pub open_holds : (image : List ℕ) (slot : ℕ) (held : Option HeaderValue) → byte_at (slot_at slot) image ≡ CONTAINER_GATE → HoldsSlot image slot held →
+    (h : HeaderValue) × (held ≡ Some h) × HoldsSlot image slot (Some h)
 open_holds image slot None opened holds = absurd (holds opened)
 open_holds image slot (Some h) opened holds = (h, refl, holds)
 
@@ -62,7 +66,8 @@ passed (Err y) P e is failed = subst (λ f. IsTrue (fails f)) (sym is) failed
 
 -- where an open slot's header was not given, the error that is handed on says nothing of what the slot holds
 pub unless_open : (image : List ℕ) (slot : ℕ) (result : Result (Option Meta) LogFault) (e : LogFault) → IsErrAnd result (λ y. y ≡ e) → byte_at (slot_at slot) image ≡ CONTAINER_GATE
-    → ((h : HeaderValue) → HoldsSlot image slot (Some h) → IsTrue (fails e)) → (held : Option HeaderValue) → HoldsSlot image slot held → UnlessFailed fails (λ m. held ≡ option_map view m) result
+    → ((h : HeaderValue) → HoldsSlot image slot (Some h) → IsTrue (fails e)) → (held : Option HeaderValue) → HoldsSlot image slot held →
+    UnlessFailed fails (λ m. held ≡ option_map view m) result
 unless_open image slot result e is opened failed held holds =
     let h = open_holds image slot held opened holds in
     passed result _ e is (failed h.0 h.2)

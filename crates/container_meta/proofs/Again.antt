@@ -39,18 +39,22 @@ end_right (suc after) data_length end within last = other_way (suc after == 0) (
 -- the parts of a list whose front has 48 bytes
 first_part : (at n : ℕ) (bytes a b : List ℕ) → length a ≡ 48 → range at (48 + n) bytes ≡ a ++ b → range at 48 bytes ≡ a
 first_part at n bytes a b long h =
-    ap (λ (k : ℕ). range k 48 bytes) (omega arith) ∙ sym (range-range 0 48 at (48 + n) bytes (omega arith)) ∙ ap (range 0 48) h ∙ range-first 0 48 a b (omega arith) ∙ range-whole 48 a long
+    ap (λ (k : ℕ). range k 48 bytes) (omega arith) ∙ sym (range-range 0 48 at (48 + n) bytes (omega arith)) ∙ ap (range 0 48) h ∙ range-first 0 48 a b (omega arith)
+    ∙ range-whole 48 a long
 
 second_part : (at n : ℕ) (bytes a b : List ℕ) → length a ≡ 48 → length b ≡ n → range at (48 + n) bytes ≡ a ++ b → range (at + 48) n bytes ≡ b
 second_part at n bytes a b long other h =
     sym (range-range 48 n at (48 + n) bytes (omega arith)) ∙ ap (range 48 n) h ∙ range-second 0 n 48 48 a b long refl ∙ range-whole n b other
 
 -- the checks of an entry that stands in its place
-entry_passes : (kind : Kind) (data_length after : ℕ) (before : List Entry) (at : ℕ) (bytes : List ℕ) (e : Entry) → entry_at at bytes ≡ e → seven_at (at + 41) bytes ≡ 0 → IsNext kind before e → bytes_of before + e.length ≤ data_length → (after ≡ 0 → bytes_of before + e.length ≡ data_length) → AllHold (entry_checks kind data_length after before at bytes)
+entry_passes : (kind : Kind) (data_length after : ℕ) (before : List Entry) (at : ℕ) (bytes : List ℕ) (e : Entry) → entry_at at bytes ≡ e → seven_at (at + 41) bytes ≡ 0 →
+    IsNext kind before e → bytes_of before + e.length ≤ data_length → (after ≡ 0 → bytes_of before + e.length ≡ data_length) →
+    AllHold (entry_checks kind data_length after before at bytes)
 entry_passes kind data_length after before at bytes e is none next within last =
     let new : has_digest before (range at 32 bytes) ≡ false = ap (λ (y : Entry). has_digest before y.digest) is ∙ next.new in
     let sized : is_length kind (number_at w32 (at + 36) bytes) ≡ true = ap (λ (y : Entry). is_length kind y.length) is ∙ next.length in
-    let ends : is_end after data_length (bytes_of before + number_at w32 (at + 36) bytes) ≡ true = ap (λ (y : Entry). is_end after data_length (bytes_of before + y.length)) is ∙ end_right after data_length (bytes_of before + e.length) within last in (
+    let ends : is_end after data_length (bytes_of before + number_at w32 (at + 36) bytes) ≡ true = ap (λ (y : Entry). is_end after data_length (bytes_of before + y.length)) is
+    ∙ end_right after data_length (bytes_of before + e.length) within last in (
       not_false (has_digest before (range at 32 bytes)) new,
       (
         eq-eqb (number_at w32 (at + 32) bytes) (bytes_of before) (ap (λ (y : Entry). y.offset) is ∙ next.offset),
@@ -68,7 +72,9 @@ no_more : (es : List Entry) → length es ≡ 0 → bytes_of es ≡ 0
 no_more [] h = refl
 no_more (e ∷ es) h = absurd (omega arith)
 
-pub entries_again : (kind : Kind) (data_length : ℕ) (before rest : List Entry) (bytes : List ℕ) → entry_place (length before + length rest) ≤ length bytes → Follow kind before rest → range (entry_place (length before)) (48 * length rest) bytes ≡ entries_spelling rest → bytes_of (before ++ rest) ≡ data_length → data_length ≤ DATA_BYTES → entries_at kind data_length (length rest) before bytes ≡ Ok (before ++ rest)
+pub entries_again : (kind : Kind) (data_length : ℕ) (before rest : List Entry) (bytes : List ℕ) → entry_place (length before + length rest) ≤ length bytes →
+    Follow kind before rest → range (entry_place (length before)) (48 * length rest) bytes ≡ entries_spelling rest → bytes_of (before ++ rest) ≡ data_length →
+    data_length ≤ DATA_BYTES → entries_at kind data_length (length rest) before bytes ≡ Ok (before ++ rest)
 unfolding entries_at
 entries_again kind data_length before [] bytes fits allowed here whole small = ap (λ (l : List Entry). Ok l) (sym (append-nil before))
 entries_again kind data_length before (e ∷ es) bytes fits allowed here whole small =
@@ -79,12 +85,17 @@ entries_again kind data_length before (e ∷ es) bytes fits allowed here whole s
     let rest_long : length (entries_spelling es) ≡ 48 * n = length-entries_spelling kind (before ++ e ∷ []) es allowed.1 in
     let both_parts : range at (48 + 48 * n) bytes ≡ entry_spelling e ++ entries_spelling es = ap (λ (k : ℕ). range at k bytes) (omega arith) ∙ here ∙ entries_spelling-cons e es in
     let total : (bytes_of before + e.length) + bytes_of es ≡ data_length =
-    ap (λ (k : ℕ). k + bytes_of es) (sym (bytes_of-push before e)) ∙ sym (sum_by-append (λ (y : Entry). y.length) (before ++ e ∷ []) es) ∙ ap bytes_of (append_assoc before (e ∷ []) es) ∙ whole in
-    let read = entry_again at bytes e (omega arith) next.digest (omega (arith, next.offset)) (omega arith) (first_part at (48 * n) bytes (entry_spelling e) (entries_spelling es) long both_parts) in
+    ap (λ (k : ℕ). k + bytes_of es) (sym (bytes_of-push before e)) ∙ sym (sum_by-append (λ (y : Entry). y.length) (before ++ e ∷ []) es)
+    ∙ ap bytes_of (append_assoc before (e ∷ []) es) ∙ whole in
+    let read = entry_again at bytes e (omega arith) next.digest (omega (arith, next.offset)) (omega arith)
+    (first_part at (48 * n) bytes (entry_spelling e) (entries_spelling es) long both_parts) in
     let one_more : length (before ++ e ∷ []) ≡ length before + 1 = length-append before (e ∷ []) in
-    let there : range (entry_place (length (before ++ e ∷ []))) (48 * n) bytes ≡ entries_spelling es = ap (λ (k : ℕ). range k (48 * n) bytes) (omega (arith, one_more)) ∙ second_part at (48 * n) bytes (entry_spelling e) (entries_spelling es) long rest_long both_parts in
-    let others = entries_again kind data_length (before ++ e ∷ []) es bytes (omega (arith, one_more)) allowed.1 there (ap bytes_of (append_assoc before (e ∷ []) es) ∙ whole) small in
-    let passed : next_read kind data_length n before bytes ≡ Ok (entry_at at bytes) = checked_all (entry_checks kind data_length n before at bytes) (entry_at at bytes) (entry_passes kind data_length n before at bytes e read.0 read.1 next (omega arith) (λ none. omega (arith, no_more es none))) in
+    let there : range (entry_place (length (before ++ e ∷ []))) (48 * n) bytes ≡ entries_spelling es = ap (λ (k : ℕ). range k (48 * n) bytes) (omega (arith, one_more))
+    ∙ second_part at (48 * n) bytes (entry_spelling e) (entries_spelling es) long rest_long both_parts in
+    let others = entries_again kind data_length (before ++ e ∷ []) es bytes (omega (arith, one_more)) allowed.1 there (ap bytes_of (append_assoc before (e ∷ []) es) ∙ whole) small
+    in
+    let passed : next_read kind data_length n before bytes ≡ Ok (entry_at at bytes) = checked_all (entry_checks kind data_length n before at bytes) (entry_at at bytes)
+    (entry_passes kind data_length n before at bytes e read.0 read.1 next (omega arith) (λ none. omega (arith, no_more es none))) in
     then_step (next_read kind data_length n before bytes) (λ (y : Entry). entries_at kind data_length n (before ++ y ∷ []) bytes) (entry_at at bytes) (Ok (before ++ e ∷ es)) passed
     (ap (λ (y : Entry). entries_at kind data_length n (before ++ y ∷ []) bytes) read.0 ∙ others ∙ ap (λ (l : List Entry). Ok l) (append_assoc before (e ∷ []) es))
 
@@ -104,7 +115,8 @@ small_id n h = leb-true n (2 ^ 64 - 2) (both (nat_le 1 n) (nat_le n (2 ^ 64 - 2)
 small_length : (n : ℕ) → is_data_length n ≡ true → n ≤ DATA_BYTES
 small_length n h = leb-true n DATA_BYTES (both (nat_le 1 n) (nat_le n DATA_BYTES) h).1
 
-same_header : (i i' : ℕ) (k k' : Kind) (d d' : ℕ) (es : List Entry) → i ≡ i' → k ≡ k' → d ≡ d' → (let v : HeaderValue = record { id = i; kind = k; data_length = d; entries = es } in v) ≡ record { id = i'; kind = k'; data_length = d'; entries = es }
+same_header : (i i' : ℕ) (k k' : Kind) (d d' : ℕ) (es : List Entry) → i ≡ i' → k ≡ k' → d ≡ d' →
+    (let v : HeaderValue = record { id = i; kind = k; data_length = d; entries = es } in v) ≡ record { id = i'; kind = k'; data_length = d'; entries = es }
 same_header i i' k k' d d' es hi hk hd = cc
 
 -- what the fields before the entries read as
@@ -143,9 +155,19 @@ header_again bytes h long allowed is =
     let count : ℕ = count_at bytes in
     let data_length : ℕ = number_at w32 20 bytes in
     let kind : kind_at bytes ≡ h.kind = ap (λ (o : Option Kind). unwrap_or o Leaf) f.kind_byte_is in
-    let opening : AllHold (opening_checks bytes) = (eq-eqb (byte_at 0 bytes) CONTAINER_GATE p.gate, ((bytes_eq-Decides (range 1 7 bytes) magic).1 f.name, (ap is_count f.count_is ∙ allowed.count, tt))) in
+    let opening : AllHold (opening_checks bytes) =
+    (eq-eqb (byte_at 0 bytes) CONTAINER_GATE p.gate, ((bytes_eq-Decides (range 1 7 bytes) magic).1 f.name, (ap is_count f.count_is ∙ allowed.count, tt))) in
     let digest : AllHold (digest_checks bytes) = ((bytes_eq-Decides (range 24 32 bytes) (digest_at bytes)).1 (digest_read h bytes p f.count_is), tt) in
-    let fields : AllHold (field_checks bytes) = (ap is_id f.id_is ∙ allowed.id, (ap is_some f.kind_byte_is, (eq-eqb (byte_at 17 bytes) 0 f.zero_is, (ap is_data_length f.length_is ∙ allowed.data_length, (zeros_end_of 56 456 512 bytes refl p.padding, tt))))) in
+    let fields : AllHold (field_checks bytes) = (
+      ap is_id f.id_is ∙ allowed.id,
+      (
+        ap is_some f.kind_byte_is,
+        (
+          eq-eqb (byte_at 17 bytes) 0 f.zero_is,
+          (ap is_data_length f.length_is ∙ allowed.data_length, (zeros_end_of 56 456 512 bytes refl p.padding, tt)),
+        ),
+      ),
+    ) in
     let entries : entries_at (kind_at bytes) data_length count [] bytes ≡ Ok h.entries =
     ap (λ (k : Kind). entries_at k data_length count [] bytes) kind
     ∙ ap (λ (d : ℕ). entries_at h.kind d count [] bytes) f.length_is

@@ -20,6 +20,7 @@ other_level s t other = sym (ne_eqb s.level t.level other) ∙ refused_by (s.lev
 pub other_digest : (s t : Segment) → bytes_eq (sha256 s.bytes) (sha256 t.bytes) ≡ false → false ≡ is_segment t s
 other_digest s t other =
     elim (cases_Bool (is_segment t s)) [
-      | inl is ↦ absurd (unequal (sha256 s.bytes) (sha256 t.bytes) other (ap sha256 ((bytes_eq-Decides s.bytes t.bytes).0 (both (s.level == t.level) (bytes_eq s.bytes t.bytes) is).1)))
+      | inl is ↦ absurd (unequal (sha256 s.bytes) (sha256 t.bytes) other
+          (ap sha256 ((bytes_eq-Decides s.bytes t.bytes).0 (both (s.level == t.level) (bytes_eq s.bytes t.bytes) is).1)))
       | inr isnt ↦ sym isnt
     ]

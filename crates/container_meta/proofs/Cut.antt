@@ -23,7 +23,8 @@ further : (offset : ℕ) (x s : Segment) (xs : List Segment) (e : Entry) → IsC
 further offset x s xs e cut =
     let all : data_of (x ∷ xs) ≡ x.bytes ++ data_of xs = flat_map-cons (λ (y : Segment). y.bytes) x xs in
     let long : length (data_of (x ∷ xs)) ≡ length x.bytes + length (data_of xs) = ap length all ∙ length-append x.bytes (data_of xs) in
-    let past : drop (length x.bytes + cut.from) (data_of (x ∷ xs)) ≡ drop cut.from (data_of xs) = ap (drop (length x.bytes + cut.from)) all ∙ drop-append-add x.bytes (data_of xs) cut.from in
+    let past : drop (length x.bytes + cut.from) (data_of (x ∷ xs)) ≡ drop cut.from (data_of xs) = ap (drop (length x.bytes + cut.from)) all ∙ drop-append-add x.bytes (data_of xs)
+    cut.from in
     record {
       from = length x.bytes + cut.from;
       offset_is = omega (arith, cut.offset_is);
@@ -47,10 +48,12 @@ cut d offset (s ∷ ss) zero within =
       length_is = refl;
       level_is = refl;
     }
-cut d offset (s ∷ ss) (suc i) within = further offset s (segment_at ss i) ss (get_or (entries_from (offset + length s.bytes) ss) i d) (cut d (offset + length s.bytes) ss i (omega (arith, within)))
+cut d offset (s ∷ ss) (suc i) within = further offset s (segment_at ss i) ss (get_or (entries_from (offset + length s.bytes) ss) i d)
+    (cut d (offset + length s.bytes) ss i (omega (arith, within)))
 
 -- the same of a container that is kept as entries and bytes
-pub cut_packed : (d : Entry) (es : List Entry) (bytes : List ℕ) (ss : List Segment) (i : ℕ) → ss ≡ segments_in es bytes → es ≡ entries_from 0 (segments_in es bytes) → bytes_of es ≡ length bytes → i < length ss
+pub cut_packed : (d : Entry) (es : List Entry) (bytes : List ℕ) (ss : List Segment) (i : ℕ) → ss ≡ segments_in es bytes → es ≡ entries_from 0 (segments_in es bytes) →
+    bytes_of es ≡ length bytes → i < length ss
     → IsCut 0 bytes (segment_at ss i) (get_or es i d)
 cut_packed d es bytes ss i is exact whole within =
     subst (λ (l : List Segment). IsCut 0 bytes (segment_at l i) (get_or es i d)) (sym is)

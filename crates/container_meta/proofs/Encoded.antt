@@ -86,7 +86,8 @@ first_tells kind (e ∷ es) allowed there = record {
   some = omega (arith, bytes_of-cons e es, some_length kind e.length allowed.0.length);
 }
 
-pub header_allowed : (id : ℕ) (kind : Kind) (es : List Entry) (bytes : List ℕ) → is_id id ≡ true → es ≡ entries_from 0 (segments_in es bytes) → bytes_of es ≡ length bytes → Follow kind [] es → 1 ≤ length es → length es ≤ MOST_ENTRIES → length bytes ≤ DATA_BYTES → IsHeader (header_of id kind (segments_in es bytes))
+pub header_allowed : (id : ℕ) (kind : Kind) (es : List Entry) (bytes : List ℕ) → is_id id ≡ true → es ≡ entries_from 0 (segments_in es bytes) → bytes_of es ≡ length bytes →
+    Follow kind [] es → 1 ≤ length es → length es ≤ MOST_ENTRIES → length bytes ≤ DATA_BYTES → IsHeader (header_of id kind (segments_in es bytes))
 header_allowed id kind es bytes right exact whole allowed there few fits =
     let ss : List Segment = segments_in es bytes in
     let first = first_tells kind es allowed there in

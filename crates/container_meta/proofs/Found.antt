@@ -46,7 +46,8 @@ last_end : (after data_length end : ℕ) → after ≡ 0 → is_end after data_l
 last_end zero data_length end none h = eqb-true end data_length h
 last_end (suc after) data_length end none h = absurd (omega arith)
 
-pub entries_found : (kind : Kind) (data_length n : ℕ) (before : List Entry) (bytes : List ℕ) (all : List Entry) → IsBytes bytes → entry_place (length before + n) ≤ length bytes → entries_at kind data_length n before bytes ≡ Ok all → Read kind data_length n before bytes all
+pub entries_found : (kind : Kind) (data_length n : ℕ) (before : List Entry) (bytes : List ℕ) (all : List Entry) → IsBytes bytes → entry_place (length before + n) ≤ length bytes →
+    entries_at kind data_length n before bytes ≡ Ok all → Read kind data_length n before bytes all
 unfolding entries_at
 entries_found kind data_length zero before bytes all fits long e =
     record {
@@ -74,7 +75,8 @@ entries_found kind data_length (suc n) before bytes all fits long e =
       level = b.0.1.1.1.0;
     } in
     let here : range at 48 bytes ≡ entry_spelling x = sym (entry_spelled at bytes (omega arith) fits (eqb-true (seven_at (at + 41) bytes) 0 b.0.1.1.1.1.0)) in
-    let there : range (entry_place (length (before ++ x ∷ []))) (48 * n) bytes ≡ range (at + 48) (48 * n) bytes = ap (λ (k : ℕ). range k (48 * n) bytes) (omega (arith, one_more)) in
+    let there : range (entry_place (length (before ++ x ∷ []))) (48 * n) bytes ≡ range (at + 48) (48 * n) bytes = ap (λ (k : ℕ). range k (48 * n) bytes) (omega (arith, one_more))
+    in
     record {
       rest = x ∷ r.rest;
       parts = r.parts ∙ append_assoc before (x ∷ []) r.rest;
@@ -97,19 +99,23 @@ entries_found kind data_length (suc n) before bytes all fits long e =
 
 -- ---- the header
 
-kind_found : (b : ℕ) → is_some (kind_of b) ≡ true → (b ≡ kind_byte (unwrap_or (kind_of b) Leaf)) × (kind_of (kind_byte (unwrap_or (kind_of b) Leaf)) ≡ Some (unwrap_or (kind_of b) Leaf))
+kind_found : (b : ℕ) → is_some (kind_of b) ≡ true → (b ≡ kind_byte (unwrap_or (kind_of b) Leaf))
+    × (kind_of (kind_byte (unwrap_or (kind_of b) Leaf)) ≡ Some (unwrap_or (kind_of b) Leaf))
 kind_found zero h = (refl, refl)
 kind_found (suc zero) h = (refl, refl)
 kind_found (suc (suc b)) h = absurd cc
 
-zeros_found : (from count place : ℕ) (bytes : List ℕ) → from + count ≤ length bytes → place ≡ from + count → (zeros_end from count bytes == place) ≡ true → range from count bytes ≡ zeros count
+zeros_found : (from count place : ℕ) (bytes : List ℕ) → from + count ≤ length bytes → place ≡ from + count → (zeros_end from count bytes == place) ≡ true →
+    range from count bytes ≡ zeros count
 unfolding zeros_end
 zeros_found from count place bytes fits e h =
     let long : length (range from count bytes) ≡ count = length-range from count bytes fits in
-    let all : zeros_in_front (range from count bytes) ≡ length (range from count bytes) = omega (arith, long, e, eqb-true (from + zeros_in_front (range from count bytes)) place h) in
+    let all : zeros_in_front (range from count bytes) ≡ length (range from count bytes) = omega (arith, long, e, eqb-true (from + zeros_in_front (range from count bytes)) place h)
+    in
     all_zeros (range from count bytes) all ∙ ap zeros long
 
-digest_found : (fields entries bytes : List ℕ) → bytes_eq (range 24 32 bytes) (digest_at bytes) ≡ true → range 1 23 bytes ≡ fields → range 512 (48 * count_at bytes) bytes ≡ entries → range 24 32 bytes ≡ sha256 (fields ++ entries)
+digest_found : (fields entries bytes : List ℕ) → bytes_eq (range 24 32 bytes) (digest_at bytes) ≡ true → range 1 23 bytes ≡ fields →
+    range 512 (48 * count_at bytes) bytes ≡ entries → range 24 32 bytes ≡ sha256 (fields ++ entries)
 digest_found fields entries bytes same fields_are entries_are =
     (bytes_eq-Decides (range 24 32 bytes) (digest_at bytes)).0 same
     ∙ ap (λ (l : List ℕ). sha256 (l ++ range 512 (48 * count_at bytes) bytes)) fields_are
@@ -174,7 +180,8 @@ steps bytes h e =
       is = ap (value bytes kind) (sym same) ∙ is;
     }
 
-fields_found : (bytes : List ℕ) (h : HeaderValue) (entries : List Entry) → IsBytes bytes → length bytes ≡ HEADER_BYTES → Steps bytes h → length entries ≡ count_at bytes → FieldParts (number_at w64 8 bytes) (kind_at bytes) (length entries) (number_at w32 20 bytes) bytes
+fields_found : (bytes : List ℕ) (h : HeaderValue) (entries : List Entry) → IsBytes bytes → length bytes ≡ HEADER_BYTES → Steps bytes h → length entries ≡ count_at bytes →
+    FieldParts (number_at w64 8 bytes) (kind_at bytes) (length entries) (number_at w32 20 bytes) bytes
 fields_found bytes h entries fits long s many = record {
   name = (bytes_eq-Decides (range 1 7 bytes) magic).0 s.opened.1.0;
   id_is = sym (spelled_8 8 bytes (omega arith) fits);
@@ -184,22 +191,26 @@ fields_found bytes h entries fits long s many = record {
   length_is = sym (spelled_4 20 bytes (omega arith) fits);
 }
 
-rest_found : (bytes : List ℕ) (count n : ℕ) → length bytes ≡ HEADER_BYTES → n ≡ count → count ≤ MOST_ENTRIES → (zeros_end (entry_place count) (HEADER_BYTES - entry_place count) bytes == HEADER_BYTES) ≡ true → range (512 + 48 * n) (49152 - 48 * n) bytes ≡ zeros (49152 - 48 * n)
+rest_found : (bytes : List ℕ) (count n : ℕ) → length bytes ≡ HEADER_BYTES → n ≡ count → count ≤ MOST_ENTRIES →
+    (zeros_end (entry_place count) (HEADER_BYTES - entry_place count) bytes == HEADER_BYTES) ≡ true → range (512 + 48 * n) (49152 - 48 * n) bytes ≡ zeros (49152 - 48 * n)
 rest_found bytes count n long many few ended =
     ap (λ (k : ℕ). range (512 + 48 * k) (49152 - 48 * k) bytes) many
     ∙ ap (λ (k : ℕ). range (512 + 48 * count) k bytes) (omega arith)
     ∙ zeros_found (entry_place count) (HEADER_BYTES - entry_place count) HEADER_BYTES bytes (omega arith) (omega arith) ended
     ∙ ap zeros (omega (arith, many))
 
-parts_found : (bytes : List ℕ) (h : HeaderValue) (entries : List Entry) → IsBytes bytes → length bytes ≡ HEADER_BYTES → Steps bytes h → length entries ≡ count_at bytes → range 512 (48 * count_at bytes) bytes ≡ entries_spelling entries → Parts (value bytes (kind_at bytes) entries) bytes
+parts_found : (bytes : List ℕ) (h : HeaderValue) (entries : List Entry) → IsBytes bytes → length bytes ≡ HEADER_BYTES → Steps bytes h → length entries ≡ count_at bytes →
+    range 512 (48 * count_at bytes) bytes ≡ entries_spelling entries → Parts (value bytes (kind_at bytes) entries) bytes
 parts_found bytes h entries fits long s many spelled =
     let count : ℕ = count_at bytes in
     let few : count ≤ MOST_ENTRIES = count_small count s.opened.1.1.0 in
-    let fields = fields_from_parts (number_at w64 8 bytes) (kind_at bytes) (length entries) (number_at w32 20 bytes) bytes (omega arith) (fields_found bytes h entries fits long s many) in
+    let fields = fields_from_parts (number_at w64 8 bytes) (kind_at bytes) (length entries) (number_at w32 20 bytes) bytes (omega arith)
+    (fields_found bytes h entries fits long s many) in
     record {
       gate = eqb-true (byte_at 0 bytes) CONTAINER_GATE s.opened.0;
       fields = fields;
-      digest = digest_found (fields_spelling (number_at w64 8 bytes) (kind_at bytes) (length entries) (number_at w32 20 bytes)) (entries_spelling entries) bytes s.digested.0 fields spelled;
+      digest = digest_found (fields_spelling (number_at w64 8 bytes) (kind_at bytes) (length entries) (number_at w32 20 bytes)) (entries_spelling entries) bytes s.digested.0
+          fields spelled;
       padding = zeros_found 56 456 512 bytes (omega arith) refl s.fielded.1.1.1.1.0;
       entries = ap (λ (n : ℕ). range 512 (48 * n) bytes) many ∙ spelled;
       rest = rest_found bytes count (length entries) long many few s.ended.0;
@@ -225,6 +236,7 @@ header_found bytes h fits long e =
     subst (λ (v : HeaderValue). IsHeader v × (bytes ≡ header_spelling v)) s.is
     (header, spelling_from_parts made bytes long (omega (arith, many)) (parts_found bytes h h.entries fits long s many spelled))
 
-pub is_found : (bytes : List ℕ) (r : Result Header MetaFault) (entries : List Entry) → IsBytes bytes → length bytes ≡ HEADER_BYTES → decoded r entries ≡ header_at bytes → IfOk r (λ h. IsHeader (with_entries h entries) × (bytes ≡ header_spelling (with_entries h entries)))
+pub is_found : (bytes : List ℕ) (r : Result Header MetaFault) (entries : List Entry) → IsBytes bytes → length bytes ≡ HEADER_BYTES → decoded r entries ≡ header_at bytes →
+    IfOk r (λ h. IsHeader (with_entries h entries) × (bytes ≡ header_spelling (with_entries h entries)))
 is_found bytes (Ok h) entries fits long given = header_found bytes (with_entries h entries) fits long (sym given)
 is_found bytes (Err e) entries fits long given = tt

@@ -49,26 +49,30 @@ module _ {X : Type 0} where
   pub entries_seen : (es : List (List ℕ × X)) → IsStrictlySortedBy order (keys_of es) → finite.entries (seen es) ≡ es
   entries_seen es h =
       let sorted = sorted_entries es h in
-      ap finite.entries (finite.same_map nat_list_cmp_total exact_bytes (seen es) (finite.from_sorted es) (λ q. finite.get-from_entries nat_list_cmp_total es q ∙ sym (finite.get-from_sorted order es q sorted)))
+      ap finite.entries (finite.same_map nat_list_cmp_total exact_bytes (seen es) (finite.from_sorted es)
+      (λ q. finite.get-from_entries nat_list_cmp_total es q ∙ sym (finite.get-from_sorted order es q sorted)))
       ∙ finite.entries-from_sorted order es sorted
 
   put_entry : (es : List (List ℕ × X)) (k : List ℕ) (v : X) → insert_entry order es k v ≡ put order k v es
   put_entry [] k v = refl
   put_entry (e ∷ es) k v =
-      elim (order k e.0) as (λ o. match_ordering o ((k, v) ∷ e ∷ es) ((e.0, v) ∷ es) (e ∷ insert_entry order es k v) ≡ by_order o ((k, v) ∷ e ∷ es) ((e.0, v) ∷ es) (e ∷ put order k v es)) [
+      elim (order k e.0) as (λ o. match_ordering o ((k, v) ∷ e ∷ es) ((e.0, v) ∷ es) (e ∷ insert_entry order es k v) ≡ by_order o ((k, v) ∷ e ∷ es) ((e.0, v) ∷ es)
+      (e ∷ put order k v es)) [
         | Less ↦ refl
         | Equal ↦ refl
         | Greater ↦ ap (λ rest. e ∷ rest) (put_entry es k v)
       ]
 
   -- an insertion, where the keys ascend before it and after it
-  pub inserted_seen : (es fs : List (List ℕ × X)) (k : List ℕ) (v : X) → IsStrictlySortedBy order (keys_of es) → IsStrictlySortedBy order (keys_of fs) → fs ≡ insert_entry order es k v → seen fs ≡ finite.insert (seen es) k v
+  pub inserted_seen : (es fs : List (List ℕ × X)) (k : List ℕ) (v : X) → IsStrictlySortedBy order (keys_of es) → IsStrictlySortedBy order (keys_of fs) →
+      fs ≡ insert_entry order es k v → seen fs ≡ finite.insert (seen es) k v
   inserted_seen es fs k v h g e =
       finite.same_entries_map _ _
       (entries_seen fs g ∙ e ∙ put_entry es k v ∙ ap (put order k v) (sym (entries_seen es h)) ∙ sym (finite.entries-insert nat_list_cmp_total (seen es) k v))
 
   -- a removal, where another key finds the same before it and after it
-  pub removed_seen : (es fs : List (List ℕ × X)) (k : List ℕ) → KeepsOthers (eq_by_cmp order) (is_at (order k)) es fs → lookup (is_at (order k)) fs ≡ None → seen fs ≡ finite.remove (seen es) k
+  pub removed_seen : (es fs : List (List ℕ × X)) (k : List ℕ) → KeepsOthers (eq_by_cmp order) (is_at (order k)) es fs → lookup (is_at (order k)) fs ≡ None →
+      seen fs ≡ finite.remove (seen es) k
   unfolding KeepsOthers
   removed_seen es fs k others gone =
       let laws = eq_by_cmp_equiv nat_list_cmp_total in

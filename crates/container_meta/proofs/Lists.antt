@@ -46,12 +46,14 @@ pub written_to : (at n place : ℕ) (front bytes old new : List ℕ) → place �
 written_to at n place front bytes old new e before h = ap (λ (k : ℕ). take k new) e ∙ next_written at n front bytes old new before h
 
 -- the same of bytes that are known to be others
-pub part_written : (at place : ℕ) (front bytes exact old new : List ℕ) → bytes ≡ exact → place ≡ at + length exact → take at old ≡ front → take (at + length bytes) new ≡ take at old ++ bytes → take place new ≡ front ++ exact
+pub part_written : (at place : ℕ) (front bytes exact old new : List ℕ) → bytes ≡ exact → place ≡ at + length exact → take at old ≡ front →
+    take (at + length bytes) new ≡ take at old ++ bytes → take place new ≡ front ++ exact
 part_written at place front bytes exact old new same e before h =
     written_to at (length bytes) place front bytes old new (e ∙ ap (λ (l : List ℕ). at + length l) (sym same)) before h ∙ ap (λ (l : List ℕ). front ++ l) same
 
 -- after a part was filled with zeros
-pub zeros_written : (at n : ℕ) (xs ys : List ℕ) → at + n ≤ length xs → ys ≡ replicate (length (take (at + n - at) (drop at xs))) 0 → take (at + n) (put_mid at (at + n - at) xs ys) ≡ take at xs ++ zeros n
+pub zeros_written : (at n : ℕ) (xs ys : List ℕ) → at + n ≤ length xs → ys ≡ replicate (length (take (at + n - at) (drop at xs))) 0 →
+    take (at + n) (put_mid at (at + n - at) xs ys) ≡ take at xs ++ zeros n
 unfolding zeros
 zeros_written at n xs ys fits filled =
     let long : length (take (at + n - at) (drop at xs)) ≡ n = omega (arith, length-take (at + n - at) (drop at xs), length-drop at xs) in

@@ -42,9 +42,17 @@ bytes_in-segments_in [] bytes whole = whole
 bytes_in-segments_in (e ∷ es) bytes whole =
     let left : bytes_of es ≡ length (drop e.length bytes) = omega (arith, bytes_of-cons e es, length-drop e.length bytes) in
     let first : Segment = record { level = e.level; bytes = take e.length bytes } in
-    omega (arith, bytes_in-cons first (segments_in es (drop e.length bytes)), bytes_in-segments_in es (drop e.length bytes) left, bytes_of-cons e es, length-drop e.length bytes, length-take e.length bytes)
+    omega (
+      arith,
+      bytes_in-cons first (segments_in es (drop e.length bytes)),
+      bytes_in-segments_in es (drop e.length bytes) left,
+      bytes_of-cons e es,
+      length-drop e.length bytes,
+      length-take e.length bytes,
+    )
 
-pub segments_in-push : (es : List Entry) (bytes : List ℕ) (e : Entry) (new : List ℕ) → bytes_of es ≡ length bytes → e.length ≡ length new → segments_in (es ++ e ∷ []) (bytes ++ new) ≡ segments_in es bytes ++ record { level = e.level; bytes = new } ∷ []
+pub segments_in-push : (es : List Entry) (bytes : List ℕ) (e : Entry) (new : List ℕ) → bytes_of es ≡ length bytes → e.length ≡ length new →
+    segments_in (es ++ e ∷ []) (bytes ++ new) ≡ segments_in es bytes ++ record { level = e.level; bytes = new } ∷ []
 segments_in-push [] bytes e new whole long =
     let none : bytes ≡ [] = nil_from_length bytes (sym whole) in
     let all : take e.length (bytes ++ new) ≡ new = ap (λ (l : List ℕ). take e.length (l ++ new)) none ∙ take_all e.length new (omega (arith, long)) in
@@ -82,14 +90,16 @@ never : (a : Bool) → false ≡ a && false
 never true = refl
 never false = refl
 
-key_found : (kind : Kind) (x : ℕ) (digest : List ℕ) (offset : ℕ) (ss : List Segment) → list_any (λ k. bytes_eq k (x ∷ digest)) (map (segment_key kind) ss) ≡ (kind_byte kind == x) && has_digest (entries_from offset ss) digest
+key_found : (kind : Kind) (x : ℕ) (digest : List ℕ) (offset : ℕ) (ss : List Segment) → list_any (λ k. bytes_eq k (x ∷ digest)) (map (segment_key kind) ss) ≡ (kind_byte kind == x)
+    && has_digest (entries_from offset ss) digest
 key_found kind x digest offset [] = never (kind_byte kind == x)
 key_found kind x digest offset (s ∷ ss) =
     ap (λ b. (kind_byte kind == x && bytes_eq (sha256 s.bytes) digest) || b) (key_found kind x digest (offset + length s.bytes) ss)
     ∙ spread (kind_byte kind == x) (bytes_eq (sha256 s.bytes) digest) (has_digest (entries_from (offset + length s.bytes) ss) digest)
 
 -- what the entries know of a key
-pub has_key-packed : (kind : Kind) (es : List Entry) (bytes : List ℕ) (x : ℕ) (digest : List ℕ) → es ≡ entries_from 0 (segments_in es bytes) → has_key (record { kind = kind; segments = segments_in es bytes }) (x ∷ digest) ≡ (kind_byte kind == x) && has_digest es digest
+pub has_key-packed : (kind : Kind) (es : List Entry) (bytes : List ℕ) (x : ℕ) (digest : List ℕ) → es ≡ entries_from 0 (segments_in es bytes) →
+    has_key (record { kind = kind; segments = segments_in es bytes }) (x ∷ digest) ≡ (kind_byte kind == x) && has_digest es digest
 has_key-packed kind es bytes x digest exact =
     key_found kind x digest 0 (segments_in es bytes) ∙ ap (λ (l : List Entry). (kind_byte kind == x) && has_digest l digest) (sym exact)
 
@@ -111,14 +121,18 @@ refused_by true b e = absurd cc
 refused_by false b e = refl
 
 -- what the two lengths tell of room
-pub room_tested : (contents : Contents) (count held bytes : ℕ) → length contents.segments ≡ count → bytes_in contents.segments ≡ held → held ≤ DATA_BYTES → count < MOST_ENTRIES → nat_le bytes (DATA_BYTES - held) ≡ has_room contents bytes
+pub room_tested : (contents : Contents) (count held bytes : ℕ) → length contents.segments ≡ count → bytes_in contents.segments ≡ held → held ≤ DATA_BYTES → count < MOST_ENTRIES →
+    nat_le bytes (DATA_BYTES - held) ≡ has_room contents bytes
 room_tested contents count held bytes many whole fits few =
-    let test : nat_le bytes (DATA_BYTES - held) ≡ nat_le (bytes_in contents.segments + bytes) DATA_BYTES = same_test bytes (DATA_BYTES - held) (bytes_in contents.segments + bytes) DATA_BYTES (λ h. omega (arith, whole)) (λ h. omega (arith, whole)) in
-    test ∙ chosen_by (nat_lt (length contents.segments) MOST_ENTRIES) (nat_le (bytes_in contents.segments + bytes) DATA_BYTES) (lt-ltb (length contents.segments) MOST_ENTRIES (omega (arith, many)))
+    let test : nat_le bytes (DATA_BYTES - held) ≡ nat_le (bytes_in contents.segments + bytes) DATA_BYTES = same_test bytes (DATA_BYTES - held) (bytes_in contents.segments + bytes)
+    DATA_BYTES (λ h. omega (arith, whole)) (λ h. omega (arith, whole)) in
+    test ∙ chosen_by (nat_lt (length contents.segments) MOST_ENTRIES) (nat_le (bytes_in contents.segments + bytes) DATA_BYTES)
+    (lt-ltb (length contents.segments) MOST_ENTRIES (omega (arith, many)))
 
 pub no_room_tested : (contents : Contents) (count bytes : ℕ) → length contents.segments ≡ count → MOST_ENTRIES ≤ count → nat_lt count MOST_ENTRIES ≡ has_room contents bytes
 no_room_tested contents count bytes many full =
-    ap (λ (n : ℕ). nat_lt n MOST_ENTRIES) (sym many) ∙ refused_by (nat_lt (length contents.segments) MOST_ENTRIES) (nat_le (bytes_in contents.segments + bytes) DATA_BYTES) (le-ltb (length contents.segments) MOST_ENTRIES (omega (arith, many)))
+    ap (λ (n : ℕ). nat_lt n MOST_ENTRIES) (sym many) ∙ refused_by (nat_lt (length contents.segments) MOST_ENTRIES) (nat_le (bytes_in contents.segments + bytes) DATA_BYTES)
+    (le-ltb (length contents.segments) MOST_ENTRIES (omega (arith, many)))
 
 pub room_holds : (contents : Contents) (bytes : ℕ) → has_room contents bytes ≡ true → (length contents.segments < MOST_ENTRIES) × (bytes_in contents.segments + bytes ≤ DATA_BYTES)
 room_holds contents bytes h =
@@ -132,19 +146,23 @@ and_false true b h e = e
 and_false false b h e = absurd cc
 
 -- the entry of a segment that may be added may stand after the others
-pub next_allowed : (kind : Kind) (es : List Entry) (bytes : List ℕ) (s : KindSegment) → es ≡ entries_from 0 (segments_in es bytes) → bytes_of es ≡ length bytes → CanAdd (record { kind = kind; segments = segments_in es bytes }) s → IsNext kind es (entry_for (length bytes) s.segment)
+pub next_allowed : (kind : Kind) (es : List Entry) (bytes : List ℕ) (s : KindSegment) → es ≡ entries_from 0 (segments_in es bytes) → bytes_of es ≡ length bytes →
+    CanAdd (record { kind = kind; segments = segments_in es bytes }) s → IsNext kind es (entry_for (length bytes) s.segment)
 next_allowed kind es bytes s exact whole can =
     let digest : List ℕ = sha256 s.segment.bytes in
-    let asked : has_key (record { kind = kind; segments = segments_in es bytes }) (segment_key kind s.segment) ≡ false = ap (λ (k : Kind). has_key (record { kind = kind; segments = segments_in es bytes }) (segment_key k s.segment)) (sym can.kind) ∙ can.new in
+    let asked : has_key (record { kind = kind; segments = segments_in es bytes }) (segment_key kind s.segment) ≡ false =
+    ap (λ (k : Kind). has_key (record { kind = kind; segments = segments_in es bytes }) (segment_key k s.segment)) (sym can.kind) ∙ can.new in
     record {
       digest = length-sha256 s.segment.bytes;
-      new = and_false (kind_byte kind == kind_byte kind) (has_digest es digest) (eq-eqb (kind_byte kind) (kind_byte kind) refl) (sym (has_key-packed kind es bytes (kind_byte kind) digest exact) ∙ asked);
+      new = and_false (kind_byte kind == kind_byte kind) (has_digest es digest) (eq-eqb (kind_byte kind) (kind_byte kind) refl)
+          (sym (has_key-packed kind es bytes (kind_byte kind) digest exact) ∙ asked);
       offset = sym whole;
       length = ap (λ (k : Kind). is_length k (length s.segment.bytes)) (sym can.kind) ∙ can.length;
       level = ap (λ (k : Kind). is_level k s.segment.level) (sym can.kind) ∙ can.level;
     }
 
-pub exact-push : (es : List Entry) (bytes : List ℕ) (s : Segment) → es ≡ entries_from 0 (segments_in es bytes) → bytes_of es ≡ length bytes → es ++ entry_for (length bytes) s ∷ [] ≡ entries_from 0 (segments_in (es ++ entry_for (length bytes) s ∷ []) (bytes ++ s.bytes))
+pub exact-push : (es : List Entry) (bytes : List ℕ) (s : Segment) → es ≡ entries_from 0 (segments_in es bytes) → bytes_of es ≡ length bytes →
+    es ++ entry_for (length bytes) s ∷ [] ≡ entries_from 0 (segments_in (es ++ entry_for (length bytes) s ∷ []) (bytes ++ s.bytes))
 exact-push es bytes s exact whole =
     let e : Entry = entry_for (length bytes) s in
     let held : bytes_in (segments_in es bytes) ≡ length bytes = bytes_in-segments_in es bytes whole in
@@ -157,7 +175,9 @@ pub whole-push : (es : List Entry) (bytes : List ℕ) (s : Segment) → bytes_of
 whole-push es bytes s whole = omega (arith, bytes_of-push es (entry_for (length bytes) s), length-append bytes s.bytes, whole)
 
 -- what is known of a key, by its first byte and the rest
-pub has_key-is : (contents : Contents) (kind : Kind) (es : List Entry) (bytes key : List ℕ) (number : ℕ) → (let v : Contents = record { kind = kind; segments = segments_in es bytes } in v) ≡ contents → es ≡ entries_from 0 (segments_in es bytes) → 0 < length key → number ≡ kind_byte kind → has_key contents key ≡ (number == get_or key 0 0) && has_digest es (drop 1 key)
+pub has_key-is : (contents : Contents) (kind : Kind) (es : List Entry) (bytes key : List ℕ) (number : ℕ) →
+    (let v : Contents = record { kind = kind; segments = segments_in es bytes } in v) ≡ contents → es ≡ entries_from 0 (segments_in es bytes) → 0 < length key →
+    number ≡ kind_byte kind → has_key contents key ≡ (number == get_or key 0 0) && has_digest es (drop 1 key)
 has_key-is contents kind es bytes key number is exact some e =
     ap (λ (v : Contents). has_key v key) (sym is)
     ∙ ap (has_key (record { kind = kind; segments = segments_in es bytes })) (drop-cons key 0 0 some)

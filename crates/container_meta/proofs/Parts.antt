@@ -18,7 +18,8 @@ pub length-entries_spelling : (kind : Kind) (before es : List Entry) → Follow 
 length-entries_spelling kind before [] h = ap length entries_spelling-nil
 length-entries_spelling kind before (e ∷ es) h =
     let rest = length-entries_spelling kind (before ++ e ∷ []) es h.1 in
-    let all : length (entries_spelling (e ∷ es)) ≡ 48 + 48 * length es = ap length (entries_spelling-cons e es) ∙ omega (arith, length-append (entry_spelling e) (entries_spelling es), length-entry_spelling e h.0.digest, rest) in
+    let all : length (entries_spelling (e ∷ es)) ≡ 48 + 48 * length es = ap length (entries_spelling-cons e es)
+    ∙ omega (arith, length-append (entry_spelling e) (entries_spelling es), length-entry_spelling e h.0.digest, rest) in
     omega (arith, all)
 
 -- ---- the fields before the digest
@@ -34,7 +35,8 @@ pub record FieldParts (id : ℕ) (kind : Kind) (count data_length : ℕ) (bytes 
 abbrev spelled_fields : ℕ → Kind → ℕ → ℕ → List ℕ
 spelled_fields id kind count data_length = magic ++ to_be_bytes w64 id ++ kind_byte kind ∷ 0 ∷ to_be_bytes w16 count ++ to_be_bytes w32 data_length
 
-pub field_parts : (id : ℕ) (kind : Kind) (count data_length : ℕ) (bytes : List ℕ) → range 1 23 bytes ≡ fields_spelling id kind count data_length → FieldParts id kind count data_length bytes
+pub field_parts : (id : ℕ) (kind : Kind) (count data_length : ℕ) (bytes : List ℕ) → range 1 23 bytes ≡ fields_spelling id kind count data_length →
+    FieldParts id kind count data_length bytes
 unfolding fields_spelling range
 field_parts id kind count data_length bytes h =
     let inside = λ (p n : ℕ) (within : p + n ≤ 23). sym (range-range p n 1 23 bytes within) ∙ ap (range p n) h in
@@ -47,16 +49,22 @@ field_parts id kind count data_length bytes h =
       length_is = inside 19 4 (omega arith);
     }
 
-pub fields_from_parts : (id : ℕ) (kind : Kind) (count data_length : ℕ) (bytes : List ℕ) → 24 ≤ length bytes → FieldParts id kind count data_length bytes → range 1 23 bytes ≡ fields_spelling id kind count data_length
+pub fields_from_parts : (id : ℕ) (kind : Kind) (count data_length : ℕ) (bytes : List ℕ) → 24 ≤ length bytes → FieldParts id kind count data_length bytes →
+    range 1 23 bytes ≡ fields_spelling id kind count data_length
 unfolding fields_spelling
 fields_from_parts id kind count data_length bytes fits p =
     let k : range 16 1 bytes ≡ kind_byte kind ∷ [] = range-one 16 bytes (omega arith) ∙ ap (λ (n : ℕ). n ∷ []) p.kind_is in
     let z : range 17 1 bytes ≡ 0 ∷ [] = range-one 17 bytes (omega arith) ∙ ap (λ (n : ℕ). n ∷ []) p.zero_is in
-    let a : range 1 15 bytes ≡ magic ++ to_be_bytes w64 id = sym (range-join 1 7 8 8 bytes refl) ∙ ap (λ (l : List ℕ). l ++ range 8 8 bytes) p.name ∙ ap (λ (l : List ℕ). magic ++ l) p.id_is in
-    let b : range 17 3 bytes ≡ 0 ∷ to_be_bytes w16 count = sym (range-join 17 1 2 18 bytes refl) ∙ ap (λ (l : List ℕ). l ++ range 18 2 bytes) z ∙ ap (λ (l : List ℕ). 0 ∷ l) p.count_is in
-    let d : range 16 4 bytes ≡ kind_byte kind ∷ 0 ∷ to_be_bytes w16 count = sym (range-join 16 1 3 17 bytes refl) ∙ ap (λ (l : List ℕ). l ++ range 17 3 bytes) k ∙ ap (λ (l : List ℕ). kind_byte kind ∷ l) b in
-    let e : range 1 19 bytes ≡ magic ++ to_be_bytes w64 id ++ kind_byte kind ∷ 0 ∷ to_be_bytes w16 count = sym (range-join 1 15 4 16 bytes refl) ∙ ap (λ (l : List ℕ). l ++ range 16 4 bytes) a ∙ ap (λ (l : List ℕ). (magic ++ to_be_bytes w64 id) ++ l) d in
-    sym (range-join 1 19 4 20 bytes refl) ∙ ap (λ (l : List ℕ). l ++ range 20 4 bytes) e ∙ ap (λ (l : List ℕ). (magic ++ to_be_bytes w64 id ++ kind_byte kind ∷ 0 ∷ to_be_bytes w16 count) ++ l) p.length_is
+    let a : range 1 15 bytes ≡ magic ++ to_be_bytes w64 id = sym (range-join 1 7 8 8 bytes refl) ∙ ap (λ (l : List ℕ). l ++ range 8 8 bytes) p.name
+    ∙ ap (λ (l : List ℕ). magic ++ l) p.id_is in
+    let b : range 17 3 bytes ≡ 0 ∷ to_be_bytes w16 count = sym (range-join 17 1 2 18 bytes refl) ∙ ap (λ (l : List ℕ). l ++ range 18 2 bytes) z
+    ∙ ap (λ (l : List ℕ). 0 ∷ l) p.count_is in
+    let d : range 16 4 bytes ≡ kind_byte kind ∷ 0 ∷ to_be_bytes w16 count = sym (range-join 16 1 3 17 bytes refl) ∙ ap (λ (l : List ℕ). l ++ range 17 3 bytes) k
+    ∙ ap (λ (l : List ℕ). kind_byte kind ∷ l) b in
+    let e : range 1 19 bytes ≡ magic ++ to_be_bytes w64 id ++ kind_byte kind ∷ 0 ∷ to_be_bytes w16 count = sym (range-join 1 15 4 16 bytes refl)
+    ∙ ap (λ (l : List ℕ). l ++ range 16 4 bytes) a ∙ ap (λ (l : List ℕ). (magic ++ to_be_bytes w64 id) ++ l) d in
+    sym (range-join 1 19 4 20 bytes refl) ∙ ap (λ (l : List ℕ). l ++ range 20 4 bytes) e
+    ∙ ap (λ (l : List ℕ). (magic ++ to_be_bytes w64 id ++ kind_byte kind ∷ 0 ∷ to_be_bytes w16 count) ++ l) p.length_is
 
 -- ---- the whole
 
@@ -76,11 +84,16 @@ spelling_from_parts h bytes long few p =
     let fields : List ℕ = fields_spelling h.id h.kind (length h.entries) h.data_length in
     let entries : List ℕ = entries_spelling h.entries in
     let digest : List ℕ = sha256 (fields ++ entries) in
-    let a : range 0 24 bytes ≡ CONTAINER_GATE ∷ fields = sym (range-join 0 1 23 1 bytes refl) ∙ ap (λ (l : List ℕ). l ++ range 1 23 bytes) (range-one 0 bytes (omega arith) ∙ ap (λ (b : ℕ). b ∷ []) p.gate) ∙ ap (λ (l : List ℕ). CONTAINER_GATE ∷ l) p.fields in
-    let b : range 0 56 bytes ≡ CONTAINER_GATE ∷ fields ++ digest = sym (range-join 0 24 32 24 bytes refl) ∙ ap (λ (l : List ℕ). l ++ range 24 32 bytes) a ∙ ap (λ (l : List ℕ). (CONTAINER_GATE ∷ fields) ++ l) p.digest in
-    let d : range 0 512 bytes ≡ CONTAINER_GATE ∷ fields ++ digest ++ zeros 456 = sym (range-join 0 56 456 56 bytes refl) ∙ ap (λ (l : List ℕ). l ++ range 56 456 bytes) b ∙ ap (λ (l : List ℕ). ((CONTAINER_GATE ∷ fields) ++ digest) ++ l) p.padding in
-    let e : range 0 (512 + n) bytes ≡ CONTAINER_GATE ∷ fields ++ digest ++ zeros 456 ++ entries = sym (range-join 0 512 n 512 bytes refl) ∙ ap (λ (l : List ℕ). l ++ range 512 n bytes) d ∙ ap (λ (l : List ℕ). (((CONTAINER_GATE ∷ fields) ++ digest) ++ zeros 456) ++ l) p.entries in
-    let f : range 0 ((512 + n) + k) bytes ≡ CONTAINER_GATE ∷ fields ++ digest ++ zeros 456 ++ entries ++ zeros k = sym (range-join 0 (512 + n) k (512 + n) bytes (omega arith)) ∙ ap (λ (l : List ℕ). l ++ range (512 + n) k bytes) e ∙ ap (λ (l : List ℕ). ((((CONTAINER_GATE ∷ fields) ++ digest) ++ zeros 456) ++ entries) ++ l) p.rest in
+    let a : range 0 24 bytes ≡ CONTAINER_GATE ∷ fields = sym (range-join 0 1 23 1 bytes refl) ∙ ap (λ (l : List ℕ). l ++ range 1 23 bytes)
+    (range-one 0 bytes (omega arith) ∙ ap (λ (b : ℕ). b ∷ []) p.gate) ∙ ap (λ (l : List ℕ). CONTAINER_GATE ∷ l) p.fields in
+    let b : range 0 56 bytes ≡ CONTAINER_GATE ∷ fields ++ digest = sym (range-join 0 24 32 24 bytes refl) ∙ ap (λ (l : List ℕ). l ++ range 24 32 bytes) a
+    ∙ ap (λ (l : List ℕ). (CONTAINER_GATE ∷ fields) ++ l) p.digest in
+    let d : range 0 512 bytes ≡ CONTAINER_GATE ∷ fields ++ digest ++ zeros 456 = sym (range-join 0 56 456 56 bytes refl) ∙ ap (λ (l : List ℕ). l ++ range 56 456 bytes) b
+    ∙ ap (λ (l : List ℕ). ((CONTAINER_GATE ∷ fields) ++ digest) ++ l) p.padding in
+    let e : range 0 (512 + n) bytes ≡ CONTAINER_GATE ∷ fields ++ digest ++ zeros 456 ++ entries = sym (range-join 0 512 n 512 bytes refl)
+    ∙ ap (λ (l : List ℕ). l ++ range 512 n bytes) d ∙ ap (λ (l : List ℕ). (((CONTAINER_GATE ∷ fields) ++ digest) ++ zeros 456) ++ l) p.entries in
+    let f : range 0 ((512 + n) + k) bytes ≡ CONTAINER_GATE ∷ fields ++ digest ++ zeros 456 ++ entries ++ zeros k = sym (range-join 0 (512 + n) k (512 + n) bytes (omega arith))
+    ∙ ap (λ (l : List ℕ). l ++ range (512 + n) k bytes) e ∙ ap (λ (l : List ℕ). ((((CONTAINER_GATE ∷ fields) ++ digest) ++ zeros 456) ++ entries) ++ l) p.rest in
     sym (range-whole ((512 + n) + k) bytes (omega arith)) ∙ f
 
 -- the parts of five lists, one after the other
@@ -95,7 +108,8 @@ tail_is : (x : ℕ) (a : List ℕ) → length a ≡ 23 → range 1 23 (x ∷ a) 
 unfolding range
 tail_is x a long = take_all 23 a (omega (arith, long))
 
-five : (x : ℕ) (a b c d e : List ℕ) (n k : ℕ) → length a ≡ 23 → length b ≡ 32 → length c ≡ 456 → length d ≡ n → length e ≡ k → Five x a b c d e n k (((((x ∷ a) ++ b) ++ c) ++ d) ++ e)
+five : (x : ℕ) (a b c d e : List ℕ) (n k : ℕ) → length a ≡ 23 → length b ≡ 32 → length c ≡ 456 → length d ≡ n → length e ≡ k →
+    Five x a b c d e n k (((((x ∷ a) ++ b) ++ c) ++ d) ++ e)
 five x a b c d e n k la lb lc ld le =
     let f1 : List ℕ = x ∷ a in
     let f2 : List ℕ = f1 ++ b in
@@ -106,8 +120,10 @@ five x a b c d e n k la lb lc ld le =
     let l3 : length f3 ≡ 512 = omega (arith, length-append f2 c) in
     let l4 : length f4 ≡ 512 + n = omega (arith, length-append f3 d) in
     record {
-      first = range-first 1 23 f4 e (omega arith) ∙ range-first 1 23 f3 d (omega arith) ∙ range-first 1 23 f2 c (omega arith) ∙ range-first 1 23 f1 b (omega arith) ∙ tail_is x a la;
-      second = range-first 24 32 f4 e (omega arith) ∙ range-first 24 32 f3 d (omega arith) ∙ range-first 24 32 f2 c (omega arith) ∙ range-second 0 32 24 24 f1 b l1 refl ∙ range-whole 32 b lb;
+      first = range-first 1 23 f4 e (omega arith) ∙ range-first 1 23 f3 d (omega arith) ∙ range-first 1 23 f2 c (omega arith) ∙ range-first 1 23 f1 b (omega arith)
+          ∙ tail_is x a la;
+      second = range-first 24 32 f4 e (omega arith) ∙ range-first 24 32 f3 d (omega arith) ∙ range-first 24 32 f2 c (omega arith) ∙ range-second 0 32 24 24 f1 b l1 refl
+          ∙ range-whole 32 b lb;
       third = range-first 56 456 f4 e (omega arith) ∙ range-first 56 456 f3 d (omega arith) ∙ range-second 0 456 56 56 f2 c l2 refl ∙ range-whole 456 c lc;
       fourth = range-first 512 n f4 e (omega arith) ∙ range-second 0 n 512 512 f3 d l3 refl ∙ range-whole n d ld;
       fifth = range-second 0 k (512 + n) (512 + n) f4 e l4 (omega arith) ∙ range-whole k e le;
@@ -121,7 +137,8 @@ parts_of_spelling h bytes few allowed is =
     let fields : List ℕ = fields_spelling h.id h.kind (length h.entries) h.data_length in
     let entries : List ℕ = entries_spelling h.entries in
     let digest : List ℕ = sha256 (fields ++ entries) in
-    let five_parts = five CONTAINER_GATE fields digest (zeros 456) entries (zeros k) n k (length-fields_spelling h.id h.kind (length h.entries) h.data_length) (length-sha256 (fields ++ entries)) (length-zeros 456) (length-entries_spelling h.kind [] h.entries allowed) (length-zeros k) in
+    let five_parts = five CONTAINER_GATE fields digest (zeros 456) entries (zeros k) n k (length-fields_spelling h.id h.kind (length h.entries) h.data_length)
+    (length-sha256 (fields ++ entries)) (length-zeros 456) (length-entries_spelling h.kind [] h.entries allowed) (length-zeros k) in
     record {
       gate = ap (byte_at 0) is;
       fields = ap (range 1 23) is ∙ five_parts.first;

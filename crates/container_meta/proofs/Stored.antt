@@ -16,7 +16,13 @@ use Rattle.container_meta.proofs.Again.{small_count}
 length-front_spelling : (fields entries : List ℕ) → length fields ≡ 23 → length (front_spelling fields entries) ≡ 512
 unfolding front_spelling
 length-front_spelling fields entries long =
-    omega (arith, length-append ((CONTAINER_GATE ∷ fields) ++ sha256 (fields ++ entries)) (zeros 456), length-append (CONTAINER_GATE ∷ fields) (sha256 (fields ++ entries)), length-sha256 (fields ++ entries), length-zeros 456)
+    omega (
+      arith,
+      length-append ((CONTAINER_GATE ∷ fields) ++ sha256 (fields ++ entries)) (zeros 456),
+      length-append (CONTAINER_GATE ∷ fields) (sha256 (fields ++ entries)),
+      length-sha256 (fields ++ entries),
+      length-zeros 456,
+    )
 
 pub length-header_spelling : (h : HeaderValue) → IsHeader h → length (header_spelling h) ≡ HEADER_BYTES
 length-header_spelling h allowed =
@@ -39,21 +45,35 @@ stand_after offset (s ∷ ss) front rest slot long is =
     ap (range (HEADER_BYTES + offset) (length s.bytes)) (parts ∙ ap (λ (l : List ℕ). front ++ l) (append_assoc s.bytes (data_of ss) rest))
     ∙ range-second 0 (length s.bytes) (HEADER_BYTES + offset) (HEADER_BYTES + offset) front (s.bytes ++ (data_of ss ++ rest)) long (omega arith)
     ∙ range-first 0 (length s.bytes) s.bytes (data_of ss ++ rest) (omega arith)
-    ∙ range-whole (length s.bytes) s.bytes refl in
-    (here, stand_after (offset + length s.bytes) ss (front ++ s.bytes) rest slot (omega (arith, length-append front s.bytes, long)) (parts ∙ regrouped front s.bytes (data_of ss) rest))
+    ∙ range-whole (length s.bytes) s.bytes refl in (
+      here,
+      stand_after (offset + length s.bytes) ss (front ++ s.bytes) rest slot (omega (arith, length-append front s.bytes, long))
+          (parts ∙ regrouped front s.bytes (data_of ss) rest),
+    )
 
 pub stand_in_spelling : (id : ℕ) (kind : Kind) (ss : List Segment) → IsHeader (header_of id kind ss) → StandFrom 0 ss (container_spelling id kind ss)
 stand_in_spelling id kind ss allowed =
-    stand_after 0 ss (header_spelling (header_of id kind ss)) (zeros (DATA_BYTES - bytes_in ss)) (container_spelling id kind ss) (length-header_spelling (header_of id kind ss) allowed)
+    stand_after 0 ss (header_spelling (header_of id kind ss)) (zeros (DATA_BYTES - bytes_in ss)) (container_spelling id kind ss)
+    (length-header_spelling (header_of id kind ss) allowed)
     (append_assoc (header_spelling (header_of id kind ss)) (data_of ss) (zeros (DATA_BYTES - bytes_in ss)))
 
-pub length-container_spelling : (id : ℕ) (kind : Kind) (ss : List Segment) → IsHeader (header_of id kind ss) → bytes_in ss ≤ DATA_BYTES → length (container_spelling id kind ss) ≡ SLOT_BYTES
+pub length-container_spelling : (id : ℕ) (kind : Kind) (ss : List Segment) → IsHeader (header_of id kind ss) → bytes_in ss ≤ DATA_BYTES →
+    length (container_spelling id kind ss) ≡ SLOT_BYTES
 length-container_spelling id kind ss allowed fits =
     let header : List ℕ = header_spelling (header_of id kind ss) in
-    length-append (header ++ data_of ss) (zeros (DATA_BYTES - bytes_in ss)) ∙ omega (arith, length-append header (data_of ss), length-header_spelling (header_of id kind ss) allowed, length-flat_map (λ (s : Segment). s.bytes) ss, length-zeros (DATA_BYTES - bytes_in ss))
+    length-append (header ++ data_of ss) (zeros (DATA_BYTES - bytes_in ss))
+    ∙ omega (
+      arith,
+      length-append header (data_of ss),
+      length-header_spelling (header_of id kind ss) allowed,
+      length-flat_map (λ (s : Segment). s.bytes) ss,
+      length-zeros
+          (DATA_BYTES - bytes_in ss),
+    )
 
 -- a container begins with its header
-pub header-container_spelling : (id : ℕ) (kind : Kind) (ss : List Segment) → IsHeader (header_of id kind ss) → range 0 HEADER_BYTES (container_spelling id kind ss) ≡ header_spelling (header_of id kind ss)
+pub header-container_spelling : (id : ℕ) (kind : Kind) (ss : List Segment) → IsHeader (header_of id kind ss) →
+    range 0 HEADER_BYTES (container_spelling id kind ss) ≡ header_spelling (header_of id kind ss)
 header-container_spelling id kind ss allowed =
     let header : List ℕ = header_spelling (header_of id kind ss) in
     let long : length header ≡ HEADER_BYTES = length-header_spelling (header_of id kind ss) allowed in

@@ -69,7 +69,8 @@ module _ (s : Source) (S : (List ℕ → Type 0) → Type 0) where
             ∙ ap (λ (xs : List Segment). record before.buffer { segments = xs }) (append_assoc before.buffer.segments first.0 last_grow.0),
       )
 
-pub filling_keys : (buffer filling : Contents) (kind : Kind) → IsFilling buffer kind filling → (keys_of filling ≡ keys_of buffer) × (length filling.segments ≡ length buffer.segments)
+pub filling_keys : (buffer filling : Contents) (kind : Kind) → IsFilling buffer kind filling →
+    (keys_of filling ≡ keys_of buffer) × (length filling.segments ≡ length buffer.segments)
 filling_keys buffer filling kind (inl (none, is)) =
     (ap keys_of is ∙ sym (no_keys buffer none), ap (λ (c : Contents). length c.segments) is ∙ sym (ap length none))
 filling_keys buffer filling kind (inr (some, is)) = (ap keys_of is, ap (λ (c : Contents). length c.segments) is)

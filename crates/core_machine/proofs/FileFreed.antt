@@ -43,14 +43,27 @@ on_the_way (suc count) (slot ∷ rest) s = elim (on_the_way count rest (with_fre
   | inr later ↦ inr (Contains-append_right (with_freed slot s ∷ []) (stores_freed rest (with_freed slot s)) (with_all_freed (take count rest) (with_freed slot s)) later)
 ]
 
-each_on_way : (P : Store → Type 0) (freed : List ℕ) (s : Store) → ((count : ℕ) → take count freed ≢ [] → P (with_all_freed (take count freed) s)) → AllByRecursion P (stores_freed freed s)
+each_on_way : (P : Store → Type 0) (freed : List ℕ) (s : Store) → ((count : ℕ) → take count freed ≢ [] → P (with_all_freed (take count freed) s)) →
+    AllByRecursion P (stores_freed freed s)
 each_on_way P [] s each = tt
 each_on_way P (slot ∷ rest) s each = (each 1 (λ none. cc), each_on_way P rest (with_freed slot s) (λ count some. each (suc count) (λ none. cc)))
 
 module _ (m : FileMachine) (found : Found (List ℕ)) (may : MayBeFound of_files m.state m.now found) (before : Store) (stands : Stands of_files m.state m.store before)
     (named : IsNamedBy of_files found before) (few : free_slots before.held < RESERVE) where
   pub given_back : (freed : List ℕ) → freed ≢ [] → FreesSome (NamesNeed of_files found) freed before → IsGivenBack of_files m (with_all_freed freed before)
-  given_back freed some frees = record { found = found; may = may; before = before; stands = stands; named = named; few = few; freed = freed; some = some; frees = frees; left = refl }
+  given_back freed some frees = record {
+    found = found;
+    may = may;
+    before = before;
+    stands = stands;
+    named = named;
+    few = few;
+    freed = freed;
+    some = some;
+    frees = frees;
+    left =
+        refl;
+  }
 
   pub each_given : (freed : List ℕ) → FreesSome (NamesNeed of_files found) freed before → AllByRecursion (IsGivenBack of_files m) (stores_freed freed before)
   each_given freed frees =

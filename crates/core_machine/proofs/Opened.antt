@@ -195,7 +195,8 @@ module _ (D : Type 0) (view : D → DiskView) where
     }
 
 -- none may stand beside the store of before only where a write failed
-pub some_left : (D : Type 0) (view : D → DiskView) (refusal : Refusal) (old new : DiskView) (wrote : WritesUnread D view refusal old new) → stores_left D view refusal old new wrote ≡ []
+pub some_left : (D : Type 0) (view : D → DiskView) (refusal : Refusal) (old new : DiskView) (wrote : WritesUnread D view refusal old new) →
+    stores_left D view refusal old new wrote ≡ []
     → refusal ≡ refusals.DiskWrite
 some_left D view refusal old new (inl (mid, (made, read))) none = absurd cc
 some_left D view refusal old new (inr (failed, unmade)) none = failed
@@ -210,7 +211,11 @@ module _ (D : Type 0) (view : D → DiskView) (C : Type 0) (state : C → CoreSt
       let stores = stores_left D view refusal (state old).disk (state new).disk stops.wrote in (
         record m { state = freeing of_roots stores m.state },
         (
-          (may_refuse D view refusal (state old).disk (state new).disk none, inr (stores, refl, some_left D view refusal (state old).disk (state new).disk stops.wrote, (λ known. absurd known))),
+          (
+            may_refuse D view refusal (state old).disk (state new).disk none,
+            inr
+                (stores, refl, some_left D view refusal (state old).disk (state new).disk stops.wrote, (λ known. absurd known)),
+          ),
           stopped_so D view refusal (state old) (state new) m at stores stops,
           refl,
         ),

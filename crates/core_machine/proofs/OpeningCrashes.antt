@@ -44,7 +44,8 @@ module _ (among : ByteSet) (m : FileMachine) (old : DiskView) (image : List ℕ)
   -- room was made, and then it was only read
   room_read : (mid new : DiskView) → RoomMade old mid → OnlyReads mid new → LeavesFound S m old new
   room_read mid new made reads =
-      leaves_on Left Left Left old mid new made.later.clock_is (room_leaves mid made) (reads_leave Left mid new (room_leaves mid made).now reads) (λ left here. here) (λ left here. here)
+      leaves_on Left Left Left old mid new made.later.clock_is (room_leaves mid made) (reads_leave Left mid new (room_leaves mid made).now reads) (λ left here. here)
+      (λ left here. here)
 
   module _ (D : Type 0) (view : D → DiskView) where
     pub opened_leaves : (c : CoreState) → OpensCore D view old c → LeavesFound S m old c.disk

@@ -24,11 +24,12 @@ IsClosedAt (stages.Mark level at) P held image = (n : node.Contents) (copy : Hel
 IsClosedAt stage P held image = Unit {0}
 
 -- The key is one of the tree of a live key; that tree is held whole.
-pub record IsBelowLive (index : PlaceMap) (held : List (Option HeaderValue)) (image : List ℕ) (live : LiveKeys) (key : List ℕ) : Type 0 where
-  pub root : List ℕ
-  pub is_live : IsLive index live root
-  pub tree : IsWhole index held image root
-  pub there : Contains (tree_keys tree.whole) key
+pub record IsBelowLive (index : PlaceMap) (held : List (Option HeaderValue)) (image : List ℕ) (live : LiveKeys) (key : List ℕ) : Type 0
+  where
+    pub root : List ℕ
+    pub is_live : IsLive index live root
+    pub tree : IsWhole index held image root
+    pub there : Contains (tree_keys tree.whole) key
 
 -- While it marks each key of which P holds is one below a live key; then it is live.
 abbrev pub IsLiveAtStage : Stage → PlaceMap → List (Option HeaderValue) → List ℕ → LiveKeys → List ℕ → Type 0

@@ -20,8 +20,8 @@ pub fn a_core_is_the_machine<C: HasState>()
 {}
 
 /// On any disk: what has been opened is a machine of roots, of the store that reads showed, which each machine may come to by an opening;
-/// and a core that could not be opened again is the machine that it was, or is stopped, to which the machine may come as well, by the stores
-/// that may stand then. The function does nothing.
+/// and a core that could not be opened again is the machine that it was, or is stopped, to which the machine may come as well, by the
+/// stores that may stand then. The function does nothing.
 pub fn an_opening_is_the_machines<D: Disk, C: HasState>()
     ensures opened { OpenedRefines D D.view C C.state }
     ensures reopened { OpenedRefines C (λ c. (C.state c).disk) C C.state }

@@ -19,14 +19,20 @@ length_rest : (cell : List ℕ) → length (take (length cell - 1) (drop 1 cell)
 length_rest cell = ap length (take_rest cell 1) ∙ length-drop 1 cell
 
 -- before bytes that are there, some gate
-pub gate_torn : (at n : ℕ) (cell old mid new : List ℕ) → mid ≡ written (at + 1) (drop 1 cell) old → 1 ≤ length cell → at + length cell ≤ length old → n ≡ 1 → Torn at n mid new → CellTorn at cell old new
+pub gate_torn : (at n : ℕ) (cell old mid new : List ℕ) → mid ≡ written (at + 1) (drop 1 cell) old → 1 ≤ length cell → at + length cell ≤ length old → n ≡ 1 → Torn at n mid new →
+    CellTorn at cell old new
 gate_torn at n [] old mid new is some room single torn = absurd (omega arith)
 gate_torn at n (first ∷ body) old mid new is some room single torn =
     let gate = one torn.bytes (torn.count ∙ single) in
-    inr (gate.0, torn.holds ∙ ap (λ (l : List ℕ). written at torn.bytes l) is ∙ ap (λ (l : List ℕ). written at l (written (at + 1) body old)) gate.1 ∙ written-after at gate.0 body old (omega arith))
+    inr (
+      gate.0,
+      torn.holds ∙ ap (λ (l : List ℕ). written at torn.bytes l) is ∙ ap (λ (l : List ℕ). written at l (written (at + 1) body old)) gate.1
+          ∙ written-after at gate.0 body old (omega arith),
+    )
 
 -- both writes are one
-pub gate_written : (at : ℕ) (cell old : List ℕ) → 1 ≤ length cell → at + length cell ≤ length old → written at (take 1 cell) (written (at + 1) (drop 1 cell) old) ≡ written at cell old
+pub gate_written : (at : ℕ) (cell old : List ℕ) → 1 ≤ length cell → at + length cell ≤ length old → written at (take 1 cell) (written (at + 1) (drop 1 cell) old) ≡ written at cell
+    old
 gate_written at [] old some room = absurd (omega arith)
 gate_written at (first ∷ body) old some room = written-after at first body old (omega arith)
 
@@ -47,8 +53,10 @@ pub writes_gated : (at : ℕ) (cell : List ℕ) (e : Ending) (old mid new : Disk
 writes_gated at cell e old mid new some room un first second =
     let body = take (length cell - 1) (drop 1 cell) in
     let fits : (given : List ℕ) → old.content ≡ Some given → at + length cell ≤ length given = λ given known. omega (arith, room, old.sized given known) in
-    let after : (given m : List ℕ) → Puts (at + 1) body given m → m ≡ written (at + 1) (drop 1 cell) given = λ given m is. is ∙ ap (λ (l : List ℕ). written (at + 1) l given) (take_rest cell 1) in
-    writes_on (λ _. Torn (at + 1) (length body)) (λ _. Torn at (length (take 1 cell))) (TornFrom at cell) (Puts (at + 1) body) (Puts at (take 1 cell)) (Puts at cell) old mid new first
+    let after : (given m : List ℕ) → Puts (at + 1) body given m → m ≡ written (at + 1) (drop 1 cell) given = λ given m is. is ∙ ap (λ (l : List ℕ). written (at + 1) l given)
+    (take_rest cell 1) in
+    writes_on (λ _. Torn (at + 1) (length body)) (λ _. Torn at (length (take 1 cell))) (TornFrom at cell) (Puts (at + 1) body) (Puts at (take 1 cell)) (Puts at cell) old mid new
+    first
     (λ given m c known is stands. stands ∙ ap (written at (take 1 cell)) (after given m is) ∙ gate_written at cell given some (fits given known))
     e un second
     (λ given d c known torn. body_torn at cell given d c torn)

@@ -53,7 +53,8 @@ reads_leave P old new each reads = record {
 
 pub reads_on : (old mid new : DiskView) → OnlyReads old mid → OnlyReads mid new → OnlyReads old new
 reads_on old mid new first second =
-    let leaves = leaves_on old.images old.images old.images old mid new first.later.clock_is (reads_leave old.images old mid (λ c image. image) first) (reads_leave old.images mid new first.images_are second) (λ c image. image) (λ c image. image) in
+    let leaves = leaves_on old.images old.images old.images old mid new first.later.clock_is (reads_leave old.images old mid (λ c image. image) first)
+    (reads_leave old.images mid new first.images_are second) (λ c image. image) (λ c image. image) in
     record { later = later_on old mid new first.later second.later; content_is = second.content_is ∙ first.content_is; images_are = leaves.now; since_are = leaves.since }
 
 -- what stands after a crash stands there until a write

@@ -7,7 +7,8 @@ use Rattle.dd_disk.specs.Calls.{CrashSteps, TimeAdvances}
 abbrev pub Goes : DiskView → DiskView → Type 0
 Goes old new = TimeAdvances old.clock new.clock old.images_since new.images_since new.images
 
-module _ (old new : DiskView) (size : new.size ≡ old.size) (loans : new.loans ≡ old.loans) (faults : old.faults ≤ new.faults) (returned : (t at : ℕ) (bytes : List ℕ) → t ≤ old.clock → old.read_returned t at bytes → new.read_returned t at bytes) where
+module _ (old new : DiskView) (size : new.size ≡ old.size) (loans : new.loans ≡ old.loans) (faults : old.faults ≤ new.faults)
+    (returned : (t at : ℕ) (bytes : List ℕ) → t ≤ old.clock → old.read_returned t at bytes → new.read_returned t at bytes) where
   pub view_later : Known old.content (λ _. KnownWith new.content (λ _. Unit {0})) → Goes old new → IsLater old new
   view_later tells time = record { size_is = size; loans_are = loans; clock_is = time.later; faults_are = faults; tells = tells; returned = returned; images_were = time.keeps }
 

@@ -31,7 +31,8 @@ stands_left P B old new stands later leaves =
     record { known = (now.0, now.1); each = leaves.now }
 
 -- What bytes that are written make of what the disk stands for.
-module _ (P B Q : List ℕ → Type 0) (steps : List ℕ → List ℕ → List ℕ → Type 0) (whole : List ℕ → List ℕ → Type 0) (old new : DiskView) (all : (given c : List ℕ) → P given → whole given c → Q c) where
+module _ (P B Q : List ℕ → Type 0) (steps : List ℕ → List ℕ → List ℕ → Type 0) (whole : List ℕ → List ℕ → Type 0) (old new : DiskView)
+    (all : (given c : List ℕ) → P given → whole given c → Q c) where
   arrives_written : (e : Ending) → StandsFor P old → IsLater old new → CrashLeaves B old new → Written whole e old new → Arrives (step P B Q) e old new
   arrives_written Done stands later leaves written =
       let given = stands.known.0 in
@@ -41,7 +42,8 @@ module _ (P B Q : List ℕ → Type 0) (steps : List ℕ → List ℕ → List �
   arrives_written Unread stands later leaves written = inl written
   arrives_written Broken stands later leaves written = stands_left B P old new stands later leaves
 
-  pub moves_written : (e : Ending) → ((c : List ℕ) → P c → B c) → ((given d c : List ℕ) → P given → P d → steps given d c → B c) → Writes steps whole e old new → Moves (step P B Q) e old new
+  pub moves_written : (e : Ending) → ((c : List ℕ) → P c → B c) → ((given d c : List ℕ) → P given → P d → steps given d c → B c) → Writes steps whole e old new →
+      Moves (step P B Q) e old new
   moves_written e starts each writes stands =
       let given = stands.known.0 in
       let known = stands.known.1 in
@@ -62,7 +64,11 @@ pub moves_none : (way : Way) (v : DiskView) → ((c : List ℕ) → way.before c
 moves_none way v starts stands = record { leaves = reads_leave way.between v v (λ c image. starts c (stands.each c image)) (reads_here v); arrives = inl (reads_here v) }
 
 pub moves_done : (way : Way) (v : DiskView) → ((c : List ℕ) → way.before c → way.between c) → ((c : List ℕ) → way.before c → way.after c) → Moves way Done v v
-moves_done way v starts ends stands = record { leaves = reads_leave way.between v v (λ c image. starts c (stands.each c image)) (reads_here v); arrives = stands_weaker way.before way.after v ends stands }
+moves_done way v starts ends stands = record {
+  leaves = reads_leave way.between v v (λ c image. starts c (stands.each c image)) (reads_here v);
+  arrives =
+      stands_weaker way.before way.after v ends stands;
+}
 
 -- a way begins with another one
 pub record Begins (first way : Way) : Type 0 where
@@ -184,12 +190,14 @@ acts_still blames (Err error) v still = acts_refused (blames error) v still
 pub moves_refused : (way : Way) (b : Blame) (v : DiskView) → b ≡ NoCall → ((c : List ℕ) → way.before c → way.between c) → Moves way (ending_of b) v v
 moves_refused way b v still starts = subst (λ (a : Blame). Moves way (ending_of a) v v) (sym still) (moves_none way v starts)
 
-pub moves_still : {T E : Type 0} (blames : E → Blame) (result : Result T E) (way : Way) (v : DiskView) → IfErr result (λ error. blames error ≡ NoCall) → ((c : List ℕ) → way.before c → way.between c)
+pub moves_still : {T E : Type 0} (blames : E → Blame) (result : Result T E) (way : Way) (v : DiskView) → IfErr result (λ error. blames error ≡ NoCall) →
+    ((c : List ℕ) → way.before c → way.between c)
     → OnOk result ((c : List ℕ) → way.before c → way.after c) → Moves way (ending blames result) v v
 moves_still blames (Ok x) way v still starts ends = moves_done way v starts ends
 moves_still blames (Err error) way v still starts ends = moves_refused way (blames error) v still starts
 
 -- a `?` passes an error on
-pub passed : {T E : Type 0} (X : Ending → Type 0) (blames : E → Blame) (result : Result T E) (error : E) → IsErrAnd result (λ y. y ≡ error) → X (ending_of (blames error)) → X (ending blames result)
+pub passed : {T E : Type 0} (X : Ending → Type 0) (blames : E → Blame) (result : Result T E) (error : E) → IsErrAnd result (λ y. y ≡ error) → X (ending_of (blames error)) →
+    X (ending blames result)
 passed X blames (Ok x) error is has = absurd is
 passed X blames (Err y) error is has = subst (λ (z : _). X (ending_of (blames z))) (sym is) has

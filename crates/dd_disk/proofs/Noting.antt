@@ -19,7 +19,8 @@ module _ (last : Call) where
   images_push [] shown images c left = left
   images_push (call ∷ calls) shown images c left = images_push calls _ _ c left
 
-  images_more : (calls : List Call) (shown : List ℕ) (images : List ℕ → Type 0) (c : List ℕ) → images_by last.asked last.done (shown_after shown calls) (images_after shown images calls) c
+  images_more : (calls : List Call) (shown : List ℕ) (images : List ℕ → Type 0) (c : List ℕ) →
+      images_by last.asked last.done (shown_after shown calls) (images_after shown images calls) c
       → images_after shown images (calls ++ last ∷ []) c
   images_more [] shown images c left = left
   images_more (call ∷ calls) shown images c left = images_more calls _ _ c left
@@ -31,12 +32,14 @@ module _ (last : Call) where
   before_push (call ∷ calls) shown images t c (inl here) = inl (inl here)
   before_push (call ∷ calls) shown images t c (inr there) = ⊎_elim (λ old. inl (inr old)) (λ now. inr now) (before_push calls _ _ t c there)
 
-  before_kept : (calls : List Call) (shown : List ℕ) (images : List ℕ → Type 0) (t : ℕ) (c : List ℕ) → images_before shown images calls t c → images_before shown images (calls ++ last ∷ []) t c
+  before_kept : (calls : List Call) (shown : List ℕ) (images : List ℕ → Type 0) (t : ℕ) (c : List ℕ) → images_before shown images calls t c →
+      images_before shown images (calls ++ last ∷ []) t c
   before_kept [] shown images t c left = absurd left
   before_kept (call ∷ calls) shown images t c (inl here) = inl here
   before_kept (call ∷ calls) shown images t c (inr there) = inr (before_kept calls _ _ t c there)
 
-  before_last : (calls : List Call) (shown : List ℕ) (images : List ℕ → Type 0) (t : ℕ) (c : List ℕ) → t < last.number → images_after shown images calls c → images_before shown images (calls ++ last ∷ []) t c
+  before_last : (calls : List Call) (shown : List ℕ) (images : List ℕ → Type 0) (t : ℕ) (c : List ℕ) → t < last.number → images_after shown images calls c →
+      images_before shown images (calls ++ last ∷ []) t c
   before_last [] shown images t c lt left = inl (lt, left)
   before_last (call ∷ calls) shown images t c lt left = inr (before_last calls _ _ t c lt left)
 
@@ -89,7 +92,8 @@ module _ (first bytes : List ℕ) (count : ℕ) (calls : List Call) (before : St
         replayed = ap (λ (f : List ℕ). shown_after f new) kept ∙ ap (shown_after first) made.noted ∙ shown-push last calls first ∙ ap (shown_by asked) before.replayed ∙ sym shows;
         past = subst (λ (f : List ℕ). IsPast (length f) now new) (sym kept) (
             subst (λ n. IsPast (length first) n new) (sym made.time) (
-            subst (λ (l : List Call). IsPast (length first) (count + 1) l) (sym made.noted) (past_push last calls (length first) count made.time (omega (arith, fits, same_size)) before.past)
+            subst (λ (l : List Call). IsPast (length first) (count + 1) l) (sym made.noted)
+            (past_push last calls (length first) count made.time (omega (arith, fits, same_size)) before.past)
             )
             );
       }
@@ -97,7 +101,8 @@ module _ (first bytes : List ℕ) (count : ℕ) (calls : List Call) (before : St
       pub made_images : (c : List ℕ) → images_of first' new c → images_by asked done bytes (images_of first calls) c
       made_images c left =
           let had = subst (λ (f : List ℕ). images_of f new c) kept left in
-          subst (λ (s : List ℕ). images_by asked done s (images_of first calls) c) before.replayed (images_push last calls first _ c (subst (λ (l : List Call). images_of first l c) made.noted had))
+          subst (λ (s : List ℕ). images_by asked done s (images_of first calls) c) before.replayed
+          (images_push last calls first _ c (subst (λ (l : List Call). images_of first l c) made.noted had))
 
       -- and the other way round
       pub made_leaves : (c : List ℕ) → images_by asked done bytes (images_of first calls) c → images_of first' new c
@@ -108,8 +113,10 @@ module _ (first bytes : List ℕ) (count : ℕ) (calls : List Call) (before : St
       time_of_first : TimeAdvances count now (images_past first calls) (images_past first new) (images_of first new)
       time_of_first = record {
         later = omega (arith, made.time);
-        nothing_else = λ t c le left. ⊎_elim (λ here. inr here) (λ had. inl (was t c (before_push last calls first _ t c (subst (λ (l : List Call). images_before first (λ d. d ≡ first) l t c) made.noted had)))) left;
-        keeps = λ t c le left. inr (subst (λ (l : List Call). images_before first (λ d. d ≡ first) l t c) (sym made.noted) (⊎_elim (before_last last calls first _ t c (omega (arith, made.time, le))) (before_kept last calls first _ t c) left));
+        nothing_else = λ t c le left. ⊎_elim (λ here. inr here)
+            (λ had. inl (was t c (before_push last calls first _ t c (subst (λ (l : List Call). images_before first (λ d. d ≡ first) l t c) made.noted had)))) left;
+        keeps = λ t c le left. inr (subst (λ (l : List Call). images_before first (λ d. d ≡ first) l t c) (sym made.noted)
+            (⊎_elim (before_last last calls first _ t c (omega (arith, made.time, le))) (before_kept last calls first _ t c) left));
       }
         where
           was : (t : ℕ) (c : List ℕ) → images_before first (λ d. d ≡ first) calls t c ⊎ images_of first calls c → images_past first calls t c
@@ -137,7 +144,8 @@ module _ (first bytes : List ℕ) (count : ℕ) (calls : List Call) (before : St
   still Missed asked now new same fits missed = missed_stands first refl new now missed
 
 module _ (last : Call) where
-  pub before_at : (calls after : List Call) (shown : List ℕ) (images : List ℕ → Type 0) (t : ℕ) (c : List ℕ) → t < last.number → images_after shown images calls c → images_before shown images (calls ++ last ∷ after) t c
+  pub before_at : (calls after : List Call) (shown : List ℕ) (images : List ℕ → Type 0) (t : ℕ) (c : List ℕ) → t < last.number → images_after shown images calls c →
+      images_before shown images (calls ++ last ∷ after) t c
   before_at [] after shown images t c lt left = inl (lt, left)
   before_at (next ∷ calls) after shown images t c lt left = inr (before_at calls after _ _ t c lt left)
 
@@ -157,7 +165,8 @@ pub record Replaying (first : List ℕ) (calls rest : List Call) (shown : List �
   pub past : IsPast (length first) count rest
   pub size : length shown ≡ length first
 
-pub replays_on : (first : List ℕ) (calls rest after : List Call) (call : Call) (shown shown' : List ℕ) → rest ≡ call ∷ after → Replaying first calls rest shown → shown' ≡ shown_by call.asked shown
+pub replays_on : (first : List ℕ) (calls rest after : List Call) (call : Call) (shown shown' : List ℕ) → rest ≡ call ∷ after → Replaying first calls rest shown →
+    shown' ≡ shown_by call.asked shown
     → Replaying first calls after shown'
 replays_on first calls rest after call shown shown' is so_far shows =
     let past = subst (λ (l : List Call). IsPast (length first) so_far.count l) is so_far.past in

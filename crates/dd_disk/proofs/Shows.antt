@@ -44,14 +44,19 @@ also old new first second = record {
   parts = first.parts ++ second.parts;
   returned = both_all (λ part. new.read_returned old.clock part.at part.bytes) first.parts second.parts first.returned second.returned;
   known = λ image is. both_all (HasPart image) first.parts second.parts (first.known image is) (second.known image is);
-  shows = λ image sized has. (first.shows image sized (front_all (HasPart image) first.parts second.parts has), second.shows image sized (back_all (HasPart image) first.parts second.parts has));
+  shows = λ image sized has. (
+    first.shows image sized (front_all (HasPart image) first.parts second.parts has),
+    second.shows image sized
+        (back_all (HasPart image) first.parts second.parts has),
+  );
 }
 
 -- what was shown stays shown
 pub until : (old mid new : DiskView) {P : List ℕ → Type 0} → Shows old mid P → old.clock ≤ mid.clock → IsLater mid new → Shows old new P
 until old mid new shown before later = record {
   parts = shown.parts;
-  returned = map_all (λ part. mid.read_returned old.clock part.at part.bytes) (λ part. new.read_returned old.clock part.at part.bytes) shown.parts (λ part. later.returned old.clock part.at part.bytes before) shown.returned;
+  returned = map_all (λ part. mid.read_returned old.clock part.at part.bytes) (λ part. new.read_returned old.clock part.at part.bytes) shown.parts
+      (λ part. later.returned old.clock part.at part.bytes before) shown.returned;
   known = shown.known;
   shows = shown.shows;
 }
@@ -60,7 +65,8 @@ until old mid new shown before later = record {
 pub since : (old mid new : DiskView) {P : List ℕ → Type 0} → OnlyReads old mid → Shows mid new P → Shows old new P
 since old mid new reads shown = record {
   parts = shown.parts;
-  returned = map_all (λ part. new.read_returned mid.clock part.at part.bytes) (λ part. new.read_returned old.clock part.at part.bytes) shown.parts (λ part. new.returned_earlier old.clock mid.clock part.at part.bytes reads.later.clock_is) shown.returned;
+  returned = map_all (λ part. new.read_returned mid.clock part.at part.bytes) (λ part. new.read_returned old.clock part.at part.bytes) shown.parts
+      (λ part. new.returned_earlier old.clock mid.clock part.at part.bytes reads.later.clock_is) shown.returned;
   known = λ image is. shown.known image (reads.content_is ∙ is);
   shows = λ image sized has. shown.shows image (sized ∙ sym reads.later.size_is) has;
 }
@@ -70,7 +76,8 @@ pub both : (old mid new : DiskView) {P Q : List ℕ → Type 0} → Shows old mi
 both old mid new first reads second later = also old new (until old mid new first reads.later.clock_is later) (since old mid new reads second)
 
 -- what one read returned
-pub shows_read : (old new : DiskView) (at count : ℕ) (bytes : List ℕ) → length bytes ≡ count → new.read_returned old.clock at bytes → ((image : List ℕ) → old.content ≡ Some image → bytes ≡ range at count image)
+pub shows_read : (old new : DiskView) (at count : ℕ) (bytes : List ℕ) → length bytes ≡ count → new.read_returned old.clock at bytes →
+    ((image : List ℕ) → old.content ≡ Some image → bytes ≡ range at count image)
     → Shows old new (λ image. range at count image ≡ bytes)
 shows_read old new at count bytes long returned known = record {
   parts = record { at = at; bytes = bytes } ∷ [];

@@ -29,7 +29,8 @@ passed false call rest is = refl
 abbrev pub Passes : ℕ → List Call → ℕ → Type 0
 Passes stop calls i = reached stop calls ≡ take i calls ++ reached stop (drop i calls)
 
-pub passes_on : (stop : ℕ) (calls : List Call) (i : ℕ) (call : Call) → i < length calls → call ≡ get_or calls i call → is_left_out stop call ≡ false → Passes stop calls i → Passes stop calls (i + 1)
+pub passes_on : (stop : ℕ) (calls : List Call) (i : ℕ) (call : Call) → i < length calls → call ≡ get_or calls i call → is_left_out stop call ≡ false → Passes stop calls i →
+    Passes stop calls (i + 1)
 passes_on stop calls i call more here goes so_far =
     let next : drop i calls ≡ call ∷ drop (i + 1) calls = drop_more calls i call more ∙ ap (λ (x : Call). x ∷ drop (i + 1) calls) (sym here) in
     let one : take (i + 1) calls ≡ take i calls ++ call ∷ [] = take_more calls i call more ∙ ap (λ (x : Call). take i calls ++ x ∷ []) (sym here) in
@@ -39,10 +40,12 @@ passes_on stop calls i call more here goes so_far =
     ∙ sym (append_assoc (take i calls) (call ∷ []) (reached stop (drop (i + 1) calls)))
     ∙ ap (λ (l : List Call). l ++ reached stop (drop (i + 1) calls)) (sym one)
 
-pub passes_to : (stop : ℕ) (calls : List Call) (i : ℕ) (call : Call) → i < length calls → call ≡ get_or calls i call → is_left_out stop call ≡ true → Passes stop calls i → take i calls ≡ reached stop calls
+pub passes_to : (stop : ℕ) (calls : List Call) (i : ℕ) (call : Call) → i < length calls → call ≡ get_or calls i call → is_left_out stop call ≡ true → Passes stop calls i →
+    take i calls ≡ reached stop calls
 passes_to stop calls i call more here ends so_far =
     let next : drop i calls ≡ call ∷ drop (i + 1) calls = drop_more calls i call more ∙ ap (λ (x : Call). x ∷ drop (i + 1) calls) (sym here) in
-    sym (so_far ∙ ap (λ (l : List Call). take i calls ++ reached stop l) next ∙ ap (λ (l : List Call). take i calls ++ l) (stopped (is_left_out stop call) call (reached stop (drop (i + 1) calls)) ends) ∙ append-nil (take i calls))
+    sym (so_far ∙ ap (λ (l : List Call). take i calls ++ reached stop l) next ∙ ap (λ (l : List Call). take i calls ++ l)
+    (stopped (is_left_out stop call) call (reached stop (drop (i + 1) calls)) ends) ∙ append-nil (take i calls))
 
 -- ---- the last sync
 
@@ -53,7 +56,8 @@ shown-push : (last : Call) (calls : List Call) (shown : List ℕ) → shown_afte
 shown-push last [] shown = refl
 shown-push last (call ∷ calls) shown = shown-push last calls (shown_by call.asked shown)
 
-pub filled-append : (fill : Fill) (xs ys : List Call) (shown image : List ℕ) → filled_after fill (xs ++ ys) shown image ≡ filled_after fill ys (shown_after shown xs) (filled_after fill xs shown image)
+pub filled-append : (fill : Fill) (xs ys : List Call) (shown image : List ℕ) → filled_after fill (xs ++ ys) shown image ≡ filled_after fill ys (shown_after shown xs)
+    (filled_after fill xs shown image)
 filled-append fill [] ys shown image = refl
 filled-append fill (call ∷ xs) ys shown image = filled-append fill xs ys _ _
 
@@ -102,7 +106,8 @@ fills fill (Write at bytes) done shown image fits = filled_torn fill at bytes.it
 fills fill Sync true shown image fits = refl
 fills fill Sync false shown image fits = refl
 
-image_goes : (asked : Asked) (done : Bool) (shown : List ℕ) (images : List ℕ → Type 0) (d c : List ℕ) → images d → image_by asked done shown d c → images_by asked done shown images c
+image_goes : (asked : Asked) (done : Bool) (shown : List ℕ) (images : List ℕ → Type 0) (d c : List ℕ) → images d → image_by asked done shown d c →
+    images_by asked done shown images c
 image_goes (Read at count) done shown images d c was is = subst images (sym is) was
 image_goes (Write at bytes) done shown images d c was is = (d, was, is)
 image_goes Sync true shown images d c was is = is
@@ -114,7 +119,8 @@ image_keeps (Write at bytes) done shown d c long fits is = torn_length at (lengt
 image_keeps Sync true shown d c long fits is = ap length is ∙ long
 image_keeps Sync false shown d c long fits is = ap length is
 
-filled_left : (fill : Fill) (calls : List Call) (size count : ℕ) (shown image : List ℕ) (images : List ℕ → Type 0) → IsPast size count calls → length shown ≡ size → length image ≡ size → images image
+filled_left : (fill : Fill) (calls : List Call) (size count : ℕ) (shown image : List ℕ) (images : List ℕ → Type 0) → IsPast size count calls → length shown ≡ size →
+    length image ≡ size → images image
     → images_after shown images calls (filled_after fill calls shown image)
 filled_left fill [] size count shown image images past long same was = was
 filled_left fill (call ∷ calls) size count shown image images past long same was =
@@ -153,13 +159,15 @@ leaves_out : (stop : ℕ) (calls : List Call) → LeavesOut stop calls
 leaves_out stop [] = record { rest = []; split = refl; later = inl refl }
 leaves_out stop (call ∷ calls) = leaves_cons stop call calls (is_left_out stop call) refl (leaves_out stop calls)
 
-past_cond : (b : Bool) (call : Call) (rest : List Call) (size count : ℕ) → call.number ≤ count → end_of call.asked ≤ size → IsPast size count rest → IsPast size count (cond b [] (call ∷ rest))
+past_cond : (b : Bool) (call : Call) (rest : List Call) (size count : ℕ) → call.number ≤ count → end_of call.asked ≤ size → IsPast size count rest →
+    IsPast size count (cond b [] (call ∷ rest))
 past_cond true call rest size count number fits past = tt
 past_cond false call rest size count number fits past = (number, (fits, past))
 
 past_passed : (stop : ℕ) (calls : List Call) (size count : ℕ) → IsPast size count calls → IsPast size count (reached stop calls)
 past_passed stop [] size count past = tt
-past_passed stop (call ∷ calls) size count past = past_cond (is_left_out stop call) call (reached stop calls) size count past.0 past.1.0 (past_passed stop calls size count past.1.1)
+past_passed stop (call ∷ calls) size count past = past_cond (is_left_out stop call) call (reached stop calls) size count past.0 past.1.0
+    (past_passed stop calls size count past.1.1)
 
 module _ (first : List ℕ) (calls : List Call) (stop count : ℕ) (fill : Fill) (past : IsPast (length first) count calls) where
   pub past_reached : IsPast (length first) count (reached stop calls)
@@ -195,7 +203,8 @@ pub record Filled (fill : Fill) (first : List ℕ) (calls after : List Call) (sh
 
 shown_sizes : (calls : List Call) (size count : ℕ) (shown : List ℕ) → IsPast size count calls → length shown ≡ size → length (shown_after shown calls) ≡ size
 shown_sizes [] size count shown past long = long
-shown_sizes (call ∷ calls) size count shown past long = shown_sizes calls size count (shown_by call.asked shown) past.1.1 (shown_length call.asked shown (omega (arith, past.1.0, long)) ∙ long)
+shown_sizes (call ∷ calls) size count shown past long = shown_sizes calls size count (shown_by call.asked shown) past.1.1
+    (shown_length call.asked shown (omega (arith, past.1.0, long)) ∙ long)
 
 past_split : (calls after : List Call) (size count : ℕ) → IsPast size count (calls ++ after) → IsPast size count calls × IsPast size count after
 past_split [] after size count past = (tt, past)
@@ -203,7 +212,8 @@ past_split (call ∷ calls) after size count past =
     let rest = past_split calls after size count past.1.1 in
     ((past.0, (past.1.0, rest.0)), rest.1)
 
-pub filled_begins : (fill : Fill) (first : List ℕ) (calls before after : List Call) (shown image : List ℕ) (count : ℕ) → IsPast (length first) count calls → before ++ after ≡ calls → EndsSynced before
+pub filled_begins : (fill : Fill) (first : List ℕ) (calls before after : List Call) (shown image : List ℕ) (count : ℕ) → IsPast (length first) count calls →
+    before ++ after ≡ calls → EndsSynced before
     → shown ≡ shown_after first before → image ≡ shown → Filled fill first calls after shown image
 filled_begins fill first calls before after shown image count past split ends shows same =
     let parts = past_split before after (length first) count (subst (λ (l : List Call). IsPast (length first) count l) (sym split) past) in
@@ -220,7 +230,8 @@ filled_begins fill first calls before after shown image count past split ends sh
       image_size = ap length same ∙ size;
     }
 
-pub filled_on : (fill : Fill) (first : List ℕ) (calls rest after : List Call) (call : Call) (shown image shown' image' : List ℕ) → rest ≡ call ∷ after → Filled fill first calls rest shown image
+pub filled_on : (fill : Fill) (first : List ℕ) (calls rest after : List Call) (call : Call) (shown image shown' image' : List ℕ) → rest ≡ call ∷ after →
+    Filled fill first calls rest shown image
     → shown' ≡ shown_by call.asked shown → image' ≡ filled_by fill call.asked call.done shown image → Filled fill first calls after shown' image'
 filled_on fill first calls rest after call shown image shown' image' is so_far shows fills_in =
     let past = subst (λ (l : List Call). IsPast (length first) so_far.count l) is so_far.past in
@@ -234,7 +245,8 @@ filled_on fill first calls rest after call shown image shown' image' is so_far s
       count = so_far.count;
       past = past.1.1;
       shown_size = ap length shows ∙ shown_length call.asked shown (omega (arith, past.1.0, so_far.shown_size)) ∙ so_far.shown_size;
-      image_size = ap length fills_in ∙ image_keeps call.asked call.done shown image _ (so_far.shown_size ∙ sym so_far.image_size) fits (fills fill call.asked call.done shown image fits) ∙ so_far.image_size;
+      image_size = ap length fills_in ∙ image_keeps call.asked call.done shown image _ (so_far.shown_size ∙ sym so_far.image_size) fits
+          (fills fill call.asked call.done shown image fits) ∙ so_far.image_size;
     }
 
 -- where the old bytes stay the image stays

@@ -42,11 +42,17 @@ module _ (one next step : List ℕ → List ℕ → List ℕ → Type 0) (part r
         let m = first.written.0 given known in
         let before : (c : List ℕ) → SteppedFrom (one given) old c → SteppedFrom (step given) old c =
         λ c from. elim from [ inl same ↦ inl same | inr stepped ↦ inr (stepped.0, stepped.1, weaker given stepped.0 c known stepped.2) ] in
-        leaves_on (SteppedFrom (one given) old) (SteppedFrom (next m.0) mid) (SteppedFrom (step given) old) old mid new first.later.clock_is (first.steps given known) (second.steps m.0 m.1)
+        leaves_on (SteppedFrom (one given) old) (SteppedFrom (next m.0) mid) (SteppedFrom (step given) old) old mid new first.later.clock_is (first.steps given known)
+        (second.steps m.0 m.1)
         before
         (λ c from. elim from [
           | inl same ↦ before c ((first.steps given known).now c same)
-          | inr stepped ↦ inr (given, old.as_read given known, joined given m.0 c known m.2 (subst (λ (d : List ℕ). next m.0 d c) (first.written.1 m.0 m.1 stepped.0 stepped.1) stepped.2))
+          | inr stepped ↦ inr (
+            given,
+            old.as_read given known,
+            joined given m.0 c known m.2
+                (subst (λ (d : List ℕ). next m.0 d c) (first.written.1 m.0 m.1 stepped.0 stepped.1) stepped.2),
+          )
         ]);
     written = written_on e un second.written;
     faults_are = counts_on e old.faults mid.faults new.faults first.faults_are second.faults_are;
@@ -68,14 +74,16 @@ written_ok blames (Ok x) step whole old new writes = writes.written.0
 written_ok blames (Err e) step whole old new writes = tt
 
 -- what is less said of it
-module _ (step wider : List ℕ → List ℕ → List ℕ → Type 0) (whole more : List ℕ → List ℕ → Type 0) (old new : DiskView) (wholes : (given c : List ℕ) → old.content ≡ Some given → whole given c → more given c) where
+module _ (step wider : List ℕ → List ℕ → List ℕ → Type 0) (whole more : List ℕ → List ℕ → Type 0) (old new : DiskView) (wholes : (given c : List ℕ) → old.content ≡ Some given →
+    whole given c → more given c) where
   written_weaker : (e : Ending) → Written whole e old new → Written more e old new
   written_weaker Done written = (λ given known. let c = written.0 given known in (c.0, c.1, wholes given c.0 known c.2), written.1)
   written_weaker Refused written = written
   written_weaker Unread written = written
   written_weaker Broken written = tt
 
-  pub writes_weaker : (e : Ending) → ((given d c : List ℕ) → old.content ≡ Some given → old.images d → step given d c → wider given d c) → Writes step whole e old new → Writes wider more e old new
+  pub writes_weaker : (e : Ending) → ((given d c : List ℕ) → old.content ≡ Some given → old.images d → step given d c → wider given d c) → Writes step whole e old new →
+      Writes wider more e old new
   writes_weaker e each writes = record {
     later = writes.later;
     steps = λ given known. leaves_weaker (SteppedFrom (step given) old) (SteppedFrom (wider given) old) old new (λ c from. elim from [
@@ -87,5 +95,6 @@ module _ (step wider : List ℕ → List ℕ → List ℕ → Type 0) (whole mor
   }
 
 -- an error that is handed on as another that blames the same
-pub writes_blamed : (step : List ℕ → List ℕ → List ℕ → Type 0) (whole : List ℕ → List ℕ → Type 0) (one other : Blame) (old new : DiskView) → one ≡ other → Writes step whole (ending_of one) old new → Writes step whole (ending_of other) old new
+pub writes_blamed : (step : List ℕ → List ℕ → List ℕ → Type 0) (whole : List ℕ → List ℕ → Type 0) (one other : Blame) (old new : DiskView) → one ≡ other →
+    Writes step whole (ending_of one) old new → Writes step whole (ending_of other) old new
 writes_blamed step whole one other old new same writes = subst (λ (b : Blame). Writes step whole (ending_of b) old new) same writes

@@ -17,7 +17,8 @@ appends_on (Some xs) (Some ys) None one two first second = absurd second
 appends_on (Some xs) (Some ys) (Some zs) one two first second = second ∙ ap (λ (l : List ℕ). l ++ two) first ∙ append_assoc xs one two
 
 -- one write more, of what was left of the piece
-pub more_written : (a b c : Option (List ℕ)) (xs : List ℕ) (done count now : ℕ) → now ≡ done + count → Appends a b (take done xs) → Appends b c (take count (take (length xs - done) (drop done xs)))
+pub more_written : (a b c : Option (List ℕ)) (xs : List ℕ) (done count now : ℕ) → now ≡ done + count → Appends a b (take done xs) →
+    Appends b c (take count (take (length xs - done) (drop done xs)))
     → Appends a c (take now xs)
 more_written a b c xs done count now is first second =
     let parts : take done xs ++ take count (take (length xs - done) (drop done xs)) ≡ take now xs =

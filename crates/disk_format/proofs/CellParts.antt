@@ -69,11 +69,19 @@ module _ (name : List ℕ) (root : Root) where
     pub name-put : range 52 (length name) (put_cell 1 name root) ≡ name
     name-put =
         ap (range 52 (length name)) (regrouped ∙ sym (append_assoc (RECORD_GATE ∷ front) root.digest (name ++ rest)))
-        ∙ range-middle ((RECORD_GATE ∷ front) ++ root.digest) name rest 52 (length name) (omega (arith, length-append (RECORD_GATE ∷ front) root.digest, length-front, digest_long)) refl
+        ∙ range-middle ((RECORD_GATE ∷ front) ++ root.digest) name rest 52 (length name)
+        (omega (arith, length-append (RECORD_GATE ∷ front) root.digest, length-front, digest_long)) refl
 
     pub length-put_fields : length name ≤ 428 → length (put_fields 1 name root) ≡ 479
     unfolding put_fields
-    length-put_fields short = omega (arith, length-zeros (428 - length name), digest_long, length-append (root.digest ++ name) (zeros (428 - length name)), length-append root.digest name)
+    length-put_fields short = omega (
+      arith,
+      length-zeros (428 - length name),
+      digest_long,
+      length-append (root.digest ++ name) (zeros (428 - length name)),
+      length-append
+          root.digest name,
+    )
 
 -- ---- a cell by its parts
 
@@ -86,8 +94,10 @@ pub sealed_from_parts : (gate : ℕ) (fields cell : List ℕ) → length cell �
 unfolding sealed
 sealed_from_parts gate fields cell long p =
     let a : range 0 480 cell ≡ gate ∷ fields =
-    sym (range-join 0 1 479 1 cell refl) ∙ ap (λ (l : List ℕ). l ++ range 1 479 cell) (range-one 0 cell (omega arith) ∙ ap (λ (b : ℕ). b ∷ []) p.gate_is) ∙ ap (λ (l : List ℕ). gate ∷ l) p.fields_are in
-    sym (range-whole 512 cell long) ∙ sym (range-join 0 480 32 480 cell refl) ∙ ap (λ (l : List ℕ). l ++ range 480 32 cell) a ∙ ap (λ (l : List ℕ). (gate ∷ fields) ++ l) p.digest_is
+    sym (range-join 0 1 479 1 cell refl) ∙ ap (λ (l : List ℕ). l ++ range 1 479 cell) (range-one 0 cell (omega arith) ∙ ap (λ (b : ℕ). b ∷ []) p.gate_is)
+    ∙ ap (λ (l : List ℕ). gate ∷ l) p.fields_are in
+    sym (range-whole 512 cell long) ∙ sym (range-join 0 480 32 480 cell refl) ∙ ap (λ (l : List ℕ). l ++ range 480 32 cell) a ∙ ap (λ (l : List ℕ). (gate ∷ fields) ++ l)
+    p.digest_is
 
 after_gate : (gate : ℕ) (fields : List ℕ) → length fields ≡ 479 → range 1 479 (gate ∷ fields) ≡ fields
 unfolding range

@@ -69,7 +69,8 @@ module _ (known known' : Option PlaceMap) (same : known' ≡ known) (n : Content
     misplaced = subst (λ (k : Option PlaceMap). IsMisplaced k (n.level - 1) key at why) same wrong;
   }
 
-  pub child_stuck : (damaged damaged' : ℕ → Why → Type 0) (fault : ScanFault) → ((at : ℕ) (why : Why) → damaged' at why → damaged at why) → IsUnplaced known' damaged' (n.level - 1) key fault
+  pub child_stuck : (damaged damaged' : ℕ → Why → Type 0) (fault : ScanFault) → ((at : ℕ) (why : Why) → damaged' at why → damaged at why) →
+      IsUnplaced known' damaged' (n.level - 1) key fault
       → IsChildFault known damaged n fault
   child_stuck damaged damaged' DiskRead wider cause = tt
   child_stuck damaged damaged' Memory wider cause = tt

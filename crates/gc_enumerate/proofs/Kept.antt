@@ -73,7 +73,8 @@ marked (Ok x) old new key place is = λ other there.
 marked (Err e) old new key place is = tt
 
 pub marked_live : {E : Type 0} (result : Result (Unit {0}) E) (old new : LiveKeys) (key : List ℕ) (place : Place)
-    → OnOk result ((other : List ℕ) (there : Place) → IsLiveAt new other there ↔ (IsLiveAt old other there ⊎ SharesMark other there key place)) → OnOk result (IsLiveAt new key place)
+    → OnOk result ((other : List ℕ) (there : Place) → IsLiveAt new other there ↔ (IsLiveAt old other there ⊎ SharesMark other there key place)) →
+    OnOk result (IsLiveAt new key place)
 unfolding SharesMark
 marked_live (Ok x) old new key place marks = (marks key place).1 (inr refl)
 marked_live (Err e) old new key place marks = tt

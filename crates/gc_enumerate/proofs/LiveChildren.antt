@@ -49,7 +49,8 @@ module _ (s : Scan) (showed : Place → List ℕ → Type 0) (new : LiveKeys) (m
       (λ to_scan. (has.0, (has.1.1.2, subst (λ (level : ℕ). All (LiveBelow level) (child_keys has.0)) (sym has.1.1.2.level_is) own)))
       (each_has es has.1.0 has.1.1.3 (last_part (LiveBelow s.layer.level) (child_keys has.0) (flat_map child_keys has.1.0) split))
 
-pub children_live : (s : Scan) (showed : Place → List ℕ → Type 0) (entries : List Entry) (found : List KeyPlace) (new : LiveKeys) → FindsChildren s showed entries found → AddsMarks found s.live new
+pub children_live : (s : Scan) (showed : Place → List ℕ → Type 0) (entries : List Entry) (found : List KeyPlace) (new : LiveKeys) → FindsChildren s showed entries found →
+    AddsMarks found s.live new
     → ChildrenAreLive s showed entries new
 children_live s showed entries found new finds marks m is_known =
     each_has s showed new m is_known entries finds.nodes finds.nodes_are
@@ -61,7 +62,8 @@ children_live s showed entries found new finds marks m is_known =
 pub some_none : (s : Scan) (showed : Place → List ℕ → Type 0) (entries : List Entry) → MarksSome s showed entries s.live
 some_none s showed entries = record { count = 0; found = []; finds = finds_none s showed; marks = ([], ([], (refl, marks_none s.live))) }
 
-pub some_found : (s : Scan) (showed : Place → List ℕ → Type 0) (entries : List Entry) (found : List KeyPlace) (new : LiveKeys) → FindsChildren s showed entries found → AddsSome found s.live new
+pub some_found : (s : Scan) (showed : Place → List ℕ → Type 0) (entries : List Entry) (found : List KeyPlace) (new : LiveKeys) → FindsChildren s showed entries found →
+    AddsSome found s.live new
     → MarksSome s showed entries new
 some_found s showed entries found new finds marks = record {
   count = length entries;
@@ -90,7 +92,8 @@ module _ (key : List ℕ) (place : Place) where
     | inr later ↦ inr (keys_among fs later)
   ]
 
-pub marks_children : (s : Scan) (showed : Place → List ℕ → Type 0) (entries : List Entry) (found : List KeyPlace) (new : LiveKeys) → FindsChildren s showed entries found → AddsMarks found s.live new
+pub marks_children : (s : Scan) (showed : Place → List ℕ → Type 0) (entries : List Entry) (found : List KeyPlace) (new : LiveKeys) → FindsChildren s showed entries found →
+    AddsMarks found s.live new
     → MarksChildren s showed entries new
 marks_children s showed entries found new finds marks = record {
   found = found;

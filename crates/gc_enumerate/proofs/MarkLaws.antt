@@ -21,7 +21,8 @@ unfolding IsLiveAt SharesMark
 live_too live key other place there is shares = subst (λ (k : List ℕ). IsLiveAt live k there) shares is
 
 -- no two keys of an index share one mark where no two have one place
-pub one_key : (m : PlaceMap) (key other : List ℕ) (place there : Place) → IsOneToOne m → finite.get m key ≡ Some place → finite.get m other ≡ Some there → SharesMark key place other there
+pub one_key : (m : PlaceMap) (key other : List ℕ) (place there : Place) → IsOneToOne m → finite.get m key ≡ Some place → finite.get m other ≡ Some there →
+    SharesMark key place other there
     → key ≡ other
 unfolding SharesMark
 one_key m key other place there apart has other_has shares = shares

@@ -56,13 +56,15 @@ marks_one fs f old mid new before one key place = (
 )
 
 pub marks_more : (found : List KeyPlace) (i : ℕ) (d : KeyPlace) (old mid new : LiveKeys) → i < length found → AddsMarks (take i found) old mid
-    → ((key : List ℕ) (place : Place) → IsLiveAt new key place ↔ (IsLiveAt mid key place ⊎ SharesMark key place (get_or found i d).key (get_or found i d).place)) → AddsMarks (take (i + 1) found) old new
+    → ((key : List ℕ) (place : Place) → IsLiveAt new key place ↔ (IsLiveAt mid key place ⊎ SharesMark key place (get_or found i d).key (get_or found i d).place)) →
+    AddsMarks (take (i + 1) found) old new
 marks_more found i d old mid new within before one =
     subst (λ (fs : List KeyPlace). AddsMarks fs old new) (sym (take_more found i d within)) (marks_one (take i found) (get_or found i d) old mid new before one)
 
 -- the first ones, where there is no memory for the next
 pub marks_some : (found : List KeyPlace) (i : ℕ) (old mid new : LiveKeys) → new ≡ mid → AddsMarks (take i found) old mid → AddsSome found old new
-marks_some found i old mid new same marks = (take i found, (drop i found, (sym (take-append-drop i found), subst (λ (live : LiveKeys). AddsMarks (take i found) old live) (sym same) marks)))
+marks_some found i old mid new same marks =
+    (take i found, (drop i found, (sym (take-append-drop i found), subst (λ (live : LiveKeys). AddsMarks (take i found) old live) (sym same) marks)))
 
 -- what holds anyway holds after an error
 pub on_err : {T E : Type 0} (result : Result T E) {P : Type 0} → P → OnErr result P

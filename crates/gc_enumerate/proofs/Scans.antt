@@ -36,7 +36,8 @@ finds_one s showed known e n found same to_scan node keys placed = record {
   placed = subst (λ (level : ℕ). ArePlaced s.known (level - 1) found) node.level_is (subst (λ (k : Option PlaceMap). ArePlaced k (n.level - 1) found) same placed);
 }
 
-pub if_found : {E : Type 0} (result : Result (Vec KeyPlace Global) E) (s : Scan) (showed : Place → List ℕ → Type 0) (known : Option PlaceMap) (e : Entry) (n : Contents) → known ≡ s.known → IsToScan s e
+pub if_found : {E : Type 0} (result : Result (Vec KeyPlace Global) E) (s : Scan) (showed : Place → List ℕ → Type 0) (known : Option PlaceMap) (e : Entry) (n : Contents) →
+    known ≡ s.known → IsToScan s e
     → IsNodeOf s.layer showed e n → IfOk result (λ found. keys_of found.items ≡ child_keys n) → IfOk result (λ found. ArePlaced known (n.level - 1) found.items)
     → IfOk result (λ found. FindsChildren s showed (e ∷ []) found.items)
 if_found (Ok found) s showed known e n same to_scan node keys placed = finds_one s showed known e n found.items same to_scan node keys placed
@@ -99,8 +100,10 @@ module _ (s : Scan) (showed showed' : Place → List ℕ → Type 0) (wider : (p
     entry_fault_wider e (Damaged at why) (inr (inr wrong)) = inr (inr (wrong.0, (wrong.1.0, node_wider e wrong.0 wrong.1.1, wrong.1.2)))
 
 -- why a child's place is not given is why the entry is not scanned
-pub child_lacks : (s : Scan) (showed : Place → List ℕ → Type 0) (known : Option PlaceMap) (damaged damaged' : ℕ → Why → Type 0) (e : Entry) (n : Contents) (fault : ScanFault) → known ≡ s.known
-    → ((at : ℕ) (why : Why) → damaged at why → damaged' at why) → IsToScan s e → IsNodeOf s.layer showed e n → IsChildFault known damaged n fault → IsEntryFault s showed damaged' e fault
+pub child_lacks : (s : Scan) (showed : Place → List ℕ → Type 0) (known : Option PlaceMap) (damaged damaged' : ℕ → Why → Type 0) (e : Entry) (n : Contents) (fault : ScanFault) →
+    known ≡ s.known
+    → ((at : ℕ) (why : Why) → damaged at why → damaged' at why) → IsToScan s e → IsNodeOf s.layer showed e n → IsChildFault known damaged n fault →
+    IsEntryFault s showed damaged' e fault
 child_lacks s showed known damaged damaged' e n Memory same wider to_scan node cause = tt
 child_lacks s showed known damaged damaged' e n DiskRead same wider to_scan node cause = was_asked s e to_scan
 child_lacks s showed known damaged damaged' e n (Corrupt slot offset count want got) same wider to_scan node cause = absurd cause
@@ -118,7 +121,8 @@ module _ (s : Scan) (showed : Place → List ℕ → Type 0) where
   nodes_append (e ∷ es) fs ns ms (inr has) more =
       inr (has.0, (has.1.0 ++ ms, (ap (λ (all : List Contents). all ++ ms) has.1.1.0, has.1.1.1, has.1.1.2, nodes_append es fs has.1.0 ms has.1.1.3 more)))
 
-  finds_append : (es fs : List Entry) (found more : List KeyPlace) → FindsChildren s showed es found → FindsChildren s showed fs more → FindsChildren s showed (es ++ fs) (found ++ more)
+  finds_append : (es fs : List Entry) (found more : List KeyPlace) → FindsChildren s showed es found → FindsChildren s showed fs more →
+      FindsChildren s showed (es ++ fs) (found ++ more)
   finds_append es fs found more first then = record {
     nodes = first.nodes ++ then.nodes;
     nodes_are = nodes_append es fs first.nodes then.nodes first.nodes_are then.nodes_are;

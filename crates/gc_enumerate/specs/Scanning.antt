@@ -92,7 +92,8 @@ abbrev pub HaveNodes : Scan → (Place → List ℕ → Type 0) → List Entry �
 HaveNodes s showed [] nodes = nodes ≡ []
 HaveNodes s showed (e ∷ es) nodes =
     (IsPassedOver s e × HaveNodes s showed es nodes)
-    ⊎ ((n : Contents) × ((rest : List Contents) × ((nodes ≡ n ∷ rest) × IsToScan s e × IsNodeOf s.layer showed e n × HaveNodes s showed es rest)))
+    ⊎ ((n : Contents) × ((rest : List Contents)
+    × ((nodes ≡ n ∷ rest) × IsToScan s e × IsNodeOf s.layer showed e n × HaveNodes s showed es rest)))
 
 -- the index has this place for the key, and a segment of this level lies there
 abbrev pub IsPlacedAt : Option PlaceMap → ℕ → KeyPlace → Type 0

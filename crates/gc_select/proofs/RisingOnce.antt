@@ -45,7 +45,8 @@ rising_climbs (n ∷ ns) = climbs_among 0 n (rising ns) (omega arith) (rising_cl
 
 at_least : (low : ℕ) (ns : List ℕ) → Climbs low ns → All (λ n. low ≤ n) ns
 at_least low [] climbs = All-nil _
-at_least low (n ∷ ns) climbs = All-cons (λ m. low ≤ m) n ns climbs.0 (All-weaker (λ m. n ≤ m) (λ m. low ≤ m) (λ m above. omega (arith, above, climbs.0)) ns (at_least n ns climbs.1))
+at_least low (n ∷ ns) climbs = All-cons (λ m. low ≤ m) n ns climbs.0
+    (All-weaker (λ m. n ≤ m) (λ m. low ≤ m) (λ m above. omega (arith, above, climbs.0)) ns (at_least n ns climbs.1))
 
 climbs_order : (low : ℕ) (ns : List ℕ) → Climbs low ns → IsNonDecreasing ns
 climbs_order low [] climbs i j d le within = absurd (omega (arith, within))
@@ -99,4 +100,5 @@ climbs_once low (m ∷ ms) (n ∷ ns) one other same =
 pub rising_once : (ns ms : List ℕ) → IsPermutation ns ms → IsNonDecreasing ms → ms ≡ rising ns
 rising_once ns ms moved order =
     let moves = IsPermutation-trans ms ns (rising ns) (IsPermutation-sym ns ms moved) (rising_moves ns) in
-    climbs_once 0 ms (rising ns) (order_climbs 0 ms (λ k d lt. omega arith) order) (rising_climbs ns) (λ t. sym (sum_by-IsPermutation (λ n. cond (n == t) 1 0) ms (rising ns) moves))
+    climbs_once 0 ms (rising ns) (order_climbs 0 ms (λ k d lt. omega arith) order) (rising_climbs ns)
+    (λ t. sym (sum_by-IsPermutation (λ n. cond (n == t) 1 0) ms (rising ns) moves))

@@ -36,7 +36,8 @@ sources_moved containers ids are =
     let both : IsPermutation containers (of_kind Leaf containers ++ of_kind Tree containers) =
     IsPermutation-filter_both (λ c. kind_byte c.kind == kind_byte Leaf) (λ c. kind_byte c.kind == kind_byte Tree) (λ c. other_kind c.kind) containers in
     let split : IsPermutation (ids_of containers) (ids_of (of_kind Leaf containers) ++ ids_of (of_kind Tree containers)) =
-    subst (IsPermutation (ids_of containers)) (map-append (λ c. c.id) (of_kind Leaf containers) (of_kind Tree containers)) (IsPermutation-map (λ c. c.id) containers (of_kind Leaf containers ++ of_kind Tree containers) both) in
+    subst (IsPermutation (ids_of containers)) (map-append (λ c. c.id) (of_kind Leaf containers) (of_kind Tree containers))
+    (IsPermutation-map (λ c. c.id) containers (of_kind Leaf containers ++ of_kind Tree containers) both) in
     let moved = IsPermutation-append (ids_of (of_kind Leaf containers)) are.data_ids (ids_of (of_kind Tree containers)) are.tree_ids are.all_data are.all_trees in
     subst (IsPermutation (ids_of containers)) (sym are.data_first)
     (IsPermutation-trans (ids_of containers) (ids_of (of_kind Leaf containers) ++ ids_of (of_kind Tree containers)) (are.data_ids ++ are.tree_ids) split moved)
@@ -69,22 +70,27 @@ every_selected : (snapshot percent : ℕ) (cs : List ContainerLiveness) → All 
 every_selected snapshot percent [] = All-nil _
 every_selected snapshot percent (c ∷ cs) =
     let among = selected snapshot percent cs in
-    elim (is_selected snapshot percent c) as (λ b. is_selected snapshot percent c ≡ b → All (λ x. is_selected snapshot percent x ≡ true → Contains (ids_of (cond b (c ∷ among) among)) x.id) (c ∷ cs)) [
+    elim (is_selected snapshot percent c) as
+    (λ b. is_selected snapshot percent c ≡ b → All (λ x. is_selected snapshot percent x ≡ true → Contains (ids_of (cond b (c ∷ among) among)) x.id) (c ∷ cs)) [
       | true ↦ λ is.
           All-cons (λ x. is_selected snapshot percent x ≡ true → Contains (ids_of (c ∷ among)) x.id) c cs (λ same. (0, omega arith, refl))
           (All-weaker (λ x. is_selected snapshot percent x ≡ true → Contains (ids_of among) x.id) (λ x. is_selected snapshot percent x ≡ true → Contains (ids_of (c ∷ among)) x.id)
           (λ x there same. Contains-append_right (c.id ∷ []) (ids_of among) x.id (there same)) cs (every_selected snapshot percent cs))
       | false ↦ λ is_not.
-          All-cons (λ x. is_selected snapshot percent x ≡ true → Contains (ids_of among) x.id) c cs (λ is. absurd (both_ways (is_selected snapshot percent c) is is_not)) (every_selected snapshot percent cs)
+          All-cons (λ x. is_selected snapshot percent x ≡ true → Contains (ids_of among) x.id) c cs (λ is. absurd (both_ways (is_selected snapshot percent c) is is_not))
+          (every_selected snapshot percent cs)
     ] refl
 
-pub which_ids : (snapshot percent : ℕ) (cs : List ContainerLiveness) (ids : List ℕ) → IsPermutation (ids_of (selected snapshot percent cs)) ids → (id : ℕ) → Contains ids id ↔ IsSelectedId snapshot percent cs id
+pub which_ids : (snapshot percent : ℕ) (cs : List ContainerLiveness) (ids : List ℕ) → IsPermutation (ids_of (selected snapshot percent cs)) ids → (id : ℕ) →
+    Contains ids id ↔ IsSelectedId snapshot percent cs id
 which_ids snapshot percent cs ids moved id =
     let among = ids_of (selected snapshot percent cs) in (
-      λ there. All-contains (IsSelectedId snapshot percent cs) among id (each_selected snapshot percent cs) (Contains-permutation ids among id (IsPermutation-sym among ids moved) there),
+      λ there. All-contains (IsSelectedId snapshot percent cs) among id (each_selected snapshot percent cs)
+          (Contains-permutation ids among id (IsPermutation-sym among ids moved) there),
       λ any.
           Contains-permutation among ids id moved
-          (subst (Contains among) any.4.0 (subst (λ x. is_selected snapshot percent x ≡ true → Contains among x.id) any.3 (every_selected snapshot percent cs any.0 any.1 any.2) any.4.1)),
+          (subst (Contains among) any.4.0 (subst (λ x. is_selected snapshot percent x ≡ true → Contains among x.id) any.3 (every_selected snapshot percent cs any.0 any.1 any.2)
+          any.4.1)),
     )
 
 -- ---- each once
@@ -111,5 +117,6 @@ apart_among snapshot percent (c ∷ cs) apart =
 flips : (a b : ℕ) → nat_eq a b ≡ nat_eq b a
 flips a b = grind arith
 
-pub apart_ids : (snapshot percent : ℕ) (cs : List ContainerLiveness) (ids : List ℕ) → IsPermutation (ids_of (selected snapshot percent cs)) ids → IsDistinct nat_eq (ids_of cs) → IsDistinct nat_eq ids
+pub apart_ids : (snapshot percent : ℕ) (cs : List ContainerLiveness) (ids : List ℕ) → IsPermutation (ids_of (selected snapshot percent cs)) ids → IsDistinct nat_eq (ids_of cs) →
+    IsDistinct nat_eq ids
 apart_ids snapshot percent cs ids moved apart = IsDistinct-IsPermutation nat_eq flips (ids_of (selected snapshot percent cs)) ids moved (apart_among snapshot percent cs apart)

@@ -120,7 +120,8 @@ module _ (t : SlotTable) (index : PlaceMap) (held : List (Option HeaderValue)) (
           → TakesBy t copies.slot source found s s'
           → (has_key s.buffer key ≡ true) ⊎ LiesOld index held snapshot key
       by_found None other takes =
-          absurd (not_other t index held image live snapshot source entry s slots differ stand under stage holds copies.slot copies.kind copies.filling copies.is_source h shown other)
+          absurd (not_other t index held image live snapshot source entry s slots differ stand under stage holds copies.slot copies.kind copies.filling copies.is_source h shown
+          other)
       by_found (Some plan) (kind_is, is) takes = elim
           (filled_new index held image live snapshot source entry s copies.slot copies.kind copies.filling h partial read old new content plan is key is_live.0 was
           (sym (ap (λ (c : Contents). has_key c key) takes.0) ∙ has)) [
@@ -152,7 +153,8 @@ module _ (t : SlotTable) (index : PlaceMap) (held : List (Option HeaderValue)) (
       by_found : (found : Option Plan) → PlansBy (source_of (Some index) live copies.slot h.kind) (Shows old new) h entry copies.filling found
           → TakesBy t copies.slot source found s s' → IsCounted s'
       by_found None other takes =
-          absurd (not_other t index held image live snapshot source entry s slots differ stand under stage holds copies.slot copies.kind copies.filling copies.is_source h shown other)
+          absurd (not_other t index held image live snapshot source entry s slots differ stand under stage holds copies.slot copies.kind copies.filling copies.is_source h shown
+          other)
       by_found (Some plan) (kind_is, is) takes = by_ended plan plan.ended takes.2
 
 -- ---- copies are written, and a source is given back

@@ -218,7 +218,8 @@ module _ (index : PlaceMap) (store : Store) (headers : AreHeaders store.held) (p
             by_place : WasScanned (Mark level slot) place.level place.slot ⊎ ((place.level ≡ level) × (place.slot ≡ slot)) → HasChildren (IsLive index after.live) key
             by_place (inl earlier) = absurd (ahead.ahead (subst (λ (s : Stage). WasScanned s place.level place.slot) (sym was) earlier))
             by_place (inr here) =
-                let node = node_here index store headers partial old new level slot some scans.header before after was there scans.scanned key place has is_live ahead.node e here.0 here.1 in
+                let node = node_here index store headers partial old new level slot some scans.header before after was there scans.scanned key place has is_live ahead.node e
+                here.0 here.1 in
                 record {
                   node = node.node;
                   right = node.right;

@@ -267,16 +267,19 @@ module _ (index : PlaceMap) (held : List (Option HeaderValue)) (m : PlaceMap) (s
     module _ (source entry : ℕ) (next_is : c.sweep.next ≡ CopyNext source entry) (holds_sweep : HoldsSweep m store.held image c.live c.snapshot c.sweep)
         (copies : CopiesSource t.held c.live (Some m) known old new source entry c.sweep d.sweep) where
       leaves : LeavesHeld m store.held image c.live c.snapshot known d.sweep
-      leaves = copied_leaves t.held m store.held image c.live c.snapshot source entry c.sweep d.sweep known old new slots holds.right.different holds.right.slots_are partial content sweeping next_is holds_sweep copies
+      leaves = copied_leaves t.held m store.held image c.live c.snapshot source entry c.sweep d.sweep known old new slots holds.right.different holds.right.slots_are partial
+          content sweeping next_is holds_sweep copies
 
       read_here : IsReadOf m store.held c.snapshot source entry c.sweep copies.slot copies.kind copies.filling copies.plans.header
-      read_here = read t.held m store.held image c.live c.snapshot source entry c.sweep d.sweep known old new slots holds.right.different holds.right.slots_are partial content sweeping next_is holds_sweep copies
+      read_here = read t.held m store.held image c.live c.snapshot source entry c.sweep d.sweep known old new slots holds.right.different holds.right.slots_are partial content
+          sweeping next_is holds_sweep copies
 
       next_has : HasNext t.held c.sweep (CopyNext source entry)
       next_has = subst (HasNext t.held c.sweep) next_is sweeping.next_is
 
       filled_of : (key : List ℕ) → has_key d.sweep.buffer key ≡ true → IsOfSource index held c.live c.sweep.sources.items key
-      filled_of key has = elim (came t.held m store.held image c.live c.snapshot source entry c.sweep d.sweep known old new slots holds.right.different holds.right.slots_are partial content sweeping next_is holds_sweep copies
+      filled_of key has = elim (came t.held m store.held image c.live c.snapshot source entry c.sweep d.sweep known old new slots holds.right.different holds.right.slots_are
+          partial content sweeping next_is holds_sweep copies
           key is_live.0 place_was has) [
             | inl before ↦ sweeps.filled key before
             | inr here ↦ elim (sweeps.places key is_live.0 place_was) [

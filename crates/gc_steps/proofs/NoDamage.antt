@@ -257,7 +257,8 @@ module _ (index : PlaceMap) (store : Store) (files : Files) (image : List ℕ) (
     by_stage stages.Select next refusal at has closed is = subst IsClean (sym is) tt
     by_stage stages.Sweep (nexts.Copy source entry) refusal at has closed is =
         failure_clean refusal
-        (copying_fails index store.held image holds.right.slots_are holds.copies partial t.held represents.slots_hold old new content c.live c.snapshot source entry c.sweep has at refusal is)
+        (copying_fails index store.held image holds.right.slots_are holds.copies partial t.held represents.slots_hold old new content c.live c.snapshot source entry c.sweep has at
+        refusal is)
     by_stage stages.Sweep (nexts.Flush source entry) refusal at has closed is = flush_clean index t refusal is
     by_stage stages.Sweep (nexts.Release source entry) refusal at has closed is = subst IsClean (sym is) tt
     by_stage stages.Sweep nexts.End refusal at has closed is = absurd is

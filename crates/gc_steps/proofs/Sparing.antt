@@ -258,13 +258,16 @@ module _ (P : List ℕ → Type 0) (index : PlaceMap) (store : Store) (files : F
           subst (λ (x : PlaceMap). Spares P x store.held d) (some_same leaves.later m (sym leaves.known_is ∙ known_is))
           (swept_spares P leaves.later store.held c d was.within stage_is same
           (λ slot h there.
-          copied_swept t.held index store.held image c.live c.snapshot source entry c.sweep d.sweep known old new slots holds.right.different holds.right.slots_are partial content sweeping next_is held copies slot h there
+          copied_swept t.held index store.held image c.live c.snapshot source entry c.sweep d.sweep known old new slots holds.right.different holds.right.slots_are partial content
+          sweeping next_is held copies slot h there
           (swept_at stage_is slot h there))
-          (copied_alone t.held index store.held image c.live c.snapshot source entry c.sweep d.sweep known old new slots holds.right.different holds.right.slots_are partial content sweeping next_is held copies (alone_at stage_is)))
+          (copied_alone t.held index store.held image c.live c.snapshot source entry c.sweep d.sweep known old new slots holds.right.different holds.right.slots_are partial
+          content sweeping next_is held copies (alone_at stage_is)))
         where
           leaves : LeavesHeld index store.held image c.live c.snapshot known d.sweep
           leaves =
-              copied_leaves t.held index store.held image c.live c.snapshot source entry c.sweep d.sweep known old new slots holds.right.different holds.right.slots_are partial content sweeping next_is held copies
+              copied_leaves t.held index store.held image c.live c.snapshot source entry c.sweep d.sweep known old new slots holds.right.different holds.right.slots_are partial
+              content sweeping next_is held copies
 
       -- what was copied was written
       flushed_spares : (source entry : ℕ) → c.sweep.next ≡ Flush source entry → (f : Flushes source entry (moment t (Some index) old c) (moment tables_now known new d))

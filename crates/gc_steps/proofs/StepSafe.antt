@@ -385,7 +385,8 @@ module _ (index : PlaceMap) (store : Store) (files : Files) (parts : List Part) 
     copy_leaves_safe source entry next_is copies on same changes =
         let keeps : Newest = changed_keeps store files image now old new among content content_now stands Done changes in
         let held = leaves_on_disk index store.held image now c.live c.snapshot known d.sweep keeps
-        (holds_copied t.held index store.held image c.live c.snapshot source entry c.sweep d.sweep known old new represents.slots_hold valid.different holds.right.slots_are partial content sweeping next_is was_held.1 copies) in
+        (holds_copied t.held index store.held image c.live c.snapshot source entry c.sweep d.sweep known old new represents.slots_hold valid.different holds.right.slots_are
+        partial content sweeping next_is was_held.1 copies) in
         let left : Left held.later store =
         copy_leaves index store files parts image now among t u old new c.live core represents valid content content_now stands held.later same changes.later.size_is
         (changed_stands store files image now old new among content content_now stands Done changes) keeps held.stay held.were
@@ -425,7 +426,8 @@ module _ (index : PlaceMap) (store : Store) (files : Files) (parts : List Part) 
       holds_now : HoldsSweep more written.held now c.live c.snapshot d.sweep
       holds_now =
           subst (λ (n : ℕ). HoldsSweep (with_entries filled.kind n (entries_from 0 filled.segments) index) written.held now c.live c.snapshot d.sweep) (sym first)
-          (holds_flushed t.held index store.held image now c.live c.snapshot source entry id c.sweep d.sweep represents.slots_hold sweeping next_is flushes.flushed can.right under.began core.has_free was_held.1)
+          (holds_flushed t.held index store.held image now c.live c.snapshot source entry id c.sweep d.sweep represents.slots_hold sweeping next_is flushes.flushed can.right
+          under.began core.has_free was_held.1)
 
       after : Represents written (Some more) u
       after = flushes.writes.written.represents.store_has store represents valid core.has_free
@@ -489,7 +491,8 @@ module _ (index : PlaceMap) (store : Store) (files : Files) (parts : List Part) 
         let turn = in_turn t.held index store.held image c.live c.snapshot source entry c.sweep represents.slots_hold sweeping next_is was_held.1 in
         let fewer : Store = with_freed slot store in
         let left : Left index fewer =
-        release_leaves index store files parts image now among t u old new c.live core represents valid content content_now stands slot turn.stands.header turn.stands.there turn.none freed goes gives in
+        release_leaves index store files parts image now among t u old new c.live core represents valid content content_now stands slot turn.stands.header turn.stands.there
+        turn.none freed goes gives in
         left_safe index fewer left on refl known_is
         (at_stage_next (λ s n. IsStoreAfter s n c.snapshot c.sweep index store fewer image) Sweep (Release source entry) stage_is next_is
         (record {

@@ -323,7 +323,8 @@ module _ (P : List ℕ → Type 0) (index : PlaceMap) (store : Store) (files : F
         where
           leaves : LeavesHeld index store.held image c.live c.snapshot known d.sweep
           leaves =
-              holds_copied t.held index store.held image c.live c.snapshot source entry c.sweep d.sweep known old new slots holds.right.different holds.right.slots_are partial content sweeping next_is held copies
+              holds_copied t.held index store.held image c.live c.snapshot source entry c.sweep d.sweep known old new slots holds.right.different holds.right.slots_are partial
+              content sweeping next_is held copies
 
           each : (slot : ℕ) (h : HeaderValue) → slice_get store.held slot ≡ Some (Some h) → IsSourceId c.sweep.sources.items h.id ⊎ IsAllLive leaves.later c.live slot h
           each slot h there = elim (swept_at stage_is slot h there) [

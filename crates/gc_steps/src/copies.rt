@@ -81,8 +81,9 @@ impl<D: Disk, X: Index> Copies for LentCopies<'_, D, X> {
 
     ghost failures = { λ c. (D.view c.disk.now).faults };
 
-    ghost later = { λ old new. ReadsOn (X.places old.index.now (D.view old.disk.now).content) (X.places new.index.now (D.view new.disk.now).content)
-        (D.view old.disk.now) (D.view new.disk.now) × (new.disk.ghost_name ≡ old.disk.ghost_name) × (new.index.ghost_name ≡ old.index.ghost_name) };
+    ghost later = { λ old new. ReadsOn (X.places old.index.now (D.view old.disk.now).content)
+        (X.places new.index.now (D.view new.disk.now).content) (D.view old.disk.now) (D.view new.disk.now)
+        × (new.disk.ghost_name ≡ old.disk.ghost_name) × (new.index.ghost_name ≡ old.index.ghost_name) };
 
     ghost shows = { λ old new place bytes. ShowsAt (D.view old.disk.now) (D.view new.disk.now) place bytes };
 

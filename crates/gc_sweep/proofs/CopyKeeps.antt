@@ -285,10 +285,12 @@ copies_on t snapshot live known after_known old new source entry s s' under stag
         → (ended : Bool) → plan.ended ≡ ended → s'.buffer ≡ plan.buffer → s'.copied ≡ s.copied + plan.copied → EndsBy ended t copies.slot source plan s s'
         → IsSweeping t snapshot s'
     with_plan plan header right is true ended_is buffer_is copied_is ends =
-        has_ended t snapshot source entry s s' under stage copies.others copies.slot copies.is_source.within copies.is_source.id_is copies.kind filling copies.is_source.filling_is plan
+        has_ended t snapshot source entry s s' under stage copies.others copies.slot copies.is_source.within copies.is_source.id_is copies.kind filling copies.is_source.filling_is
+        plan
         (copied_few (source_of known live copies.slot header.kind) (Shows old new) header entry filling plan right is) is.copied_is ends buffer_is copied_is
     with_plan plan header right is false ended_is buffer_is copied_is ends =
-        has_stopped t snapshot source entry s s' under stage copies.others copies.slot copies.is_source.within copies.is_source.id_is copies.kind filling copies.is_source.filling_is plan
+        has_stopped t snapshot source entry s s' under stage copies.others copies.slot copies.is_source.within copies.is_source.id_is copies.kind filling
+        copies.is_source.filling_is plan
         (copied_few (source_of known live copies.slot header.kind) (Shows old new) header entry filling plan right is) is.copied_is
         is.passed is.next_is
         (omega (

@@ -202,7 +202,8 @@ module _ (t : SlotTable) (index : PlaceMap) (held : List (Option HeaderValue)) (
           → Forgets (Some index) known_now found
           → TakesBy t copies.slot source found s s' → LeavesHeld index held image live snapshot known_now s'
       by_found None other forgets takes =
-          absurd (not_other t index held image live snapshot source entry s slots differ stand under stage holds copies.slot copies.kind copies.filling copies.is_source h shown other)
+          absurd (not_other t index held image live snapshot source entry s slots differ stand under stage holds copies.slot copies.kind copies.filling copies.is_source h shown
+          other)
       by_found (Some plan) (kind_is, is) forgets takes =
           leaves copies.slot copies.kind copies.filling h read plan is copies.others takes.0
           (ends_by t index held snapshot source entry copies.slot copies.kind copies.filling h s s' at.0 read copies.others plan takes.0 least plan.ended most takes.2)

@@ -73,7 +73,8 @@ pub fn flush_copies<D: Disk, X: Index>(
     requires runs { Runs (D.view disk.old).size None tables.old }
     requires under_way { (snapshot : ℕ) × IsSweeping tables.old.held snapshot sweep.old }
     requires next { sweep.old.next ≡ FlushNext source entry }
-    ensures written { OnOk result ((slot : ℕ) × WritesCopies tables.old (D.view disk.old).size (X.places index.old (D.view disk.old).content)
+    ensures written { OnOk result ((slot : ℕ) × WritesCopies tables.old (D.view disk.old).size
+        (X.places index.old (D.view disk.old).content)
         slot sweep.old.buffer tables.new × HasPlacesOf sweep.old.buffer slot (X.places index.old) (X.places index.new)
         (D.view disk.old).content (D.view disk.new).content) }
     ensures sweep { OnOk result (HasFlushed source entry sweep.old sweep.new) }

@@ -416,7 +416,8 @@ told_knows : (s : SessionState) (answer : Answer) (h : History) → Knows s h �
 told_knows s Held h knows is settled due = held_knows s h knows is (settled.claim due) settled.closed (claims_off s due)
 told_knows s Absent h knows is settled due =
     absent_knows s h (answered Absent s h) knows (settled.claim due) is.ahead is.whole settled.closed (claims_off s due) (answer_grows Absent s h) refl
-    (λ n turn. children_grow h (answered Absent s h) (answer_grows Absent s h) (node_segment n).segment (children_are_kept s h knows is n (turn_is_first s.turn s.line n turn) (claimed_children s n (sym (claimed_turn s settled due) ∙ turn) due)))
+    (λ n turn. children_grow h (answered Absent s h) (answer_grows Absent s h) (node_segment n).segment
+    (children_are_kept s h knows is n (turn_is_first s.turn s.line n turn) (claimed_children s n (sym (claimed_turn s settled due) ∙ turn) due)))
     (fits s) refl
 told_knows s (Sealed id) h knows is settled due =
     subst (λ (d : Due). Knows (told.sealed_by d s) (answered (Sealed id) s h)) (sym due.1) (sealed_knows s h id knows is due.0 s.waits refl due.1)

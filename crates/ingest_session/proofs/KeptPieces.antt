@@ -80,7 +80,8 @@ module _ (s : SessionState) (h : History) (kind : Kind) (x : Segment) where
       same_lists a b = ap (λ (l : List Segment). l ++ (b ++ [])) (append-nil a) ∙ ap (λ (l : List Segment). a ++ l) (append-nil b)
 
   -- those of a container
-  pub kept_sealed : (id : ℕ) (mine : Kind) → due_in s ≡ Seal mine → IsKept (answered (answers.Sealed id) s h) kind x → IsKept h kind x ⊎ ((kind ≡ mine) × IsIn x (open_of s mine).segments)
+  pub kept_sealed : (id : ℕ) (mine : Kind) → due_in s ≡ Seal mine → IsKept (answered (answers.Sealed id) s h) kind x →
+      IsKept h kind x ⊎ ((kind ≡ mine) × IsIn x (open_of s mine).segments)
   kept_sealed id mine due one = elim (in_either (h.held kind ++ []) (h.sealed kind ++ sealed_for kind (due_in s) s) x one) [
     | inl first ↦ inl (in_left (h.held kind) (h.sealed kind) x (subst (IsIn x) (append-nil (h.held kind)) first))
     | inr second ↦ elim (in_either (h.sealed kind) (sealed_for kind (due_in s) s) x second) [
@@ -110,14 +111,16 @@ module _ (s : SessionState) (h : History) (kind : Kind) (x : Segment) where
 abbrev pub of_kind : Kind → Segment → KindSegment
 of_kind kind x = record { kind = kind; segment = x }
 
-pub item_piece : (file : List ℕ) (n : Option node.Contents) (queue : List (List ℕ)) → HasTurn n queue → AllByRecursion (IsPieceOf file) (turn_of n queue) → HasPieceOf file (of_kind (item_kind n) (item_of n queue))
+pub item_piece : (file : List ℕ) (n : Option node.Contents) (queue : List (List ℕ)) → HasTurn n queue → AllByRecursion (IsPieceOf file) (turn_of n queue) →
+    HasPieceOf file (of_kind (item_kind n) (item_of n queue))
 item_piece file (Some n) queue turn all = (Node n, all.0, refl)
 item_piece file None [] turn all = absurd turn
 item_piece file None (x ∷ xs) turn all = (Data x, all.0, refl)
 
 -- However the file goes on, what a history has as kept are pieces of it.
 module _ (kind : Kind) (x : Segment) where
-  by_answer : (s : SessionState) (answer : Answer) (h : History) (more : List ℕ) → HasHistory s h → MayFollow more s → IsSettled s → IsAnswerFor answer (due_in s) → (IsKept h kind x → HasPieceOf (h.given ++ more) (of_kind kind x))
+  by_answer : (s : SessionState) (answer : Answer) (h : History) (more : List ℕ) → HasHistory s h → MayFollow more s → IsSettled s → IsAnswerFor answer (due_in s) →
+      (IsKept h kind x → HasPieceOf (h.given ++ more) (of_kind kind x))
       → IsKept (answered answer s h) kind x → HasPieceOf (h.given ++ more) (of_kind kind x)
   by_answer s answers.Held h more has may settled due before is = elim (kept_held s h kind x is) [
     | inl was ↦ before was

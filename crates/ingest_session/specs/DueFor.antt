@@ -28,5 +28,6 @@ DueIsOne = (given : List ℕ) (ended : Bool) (answers : List Answer) (one other 
 -- However the bytes came in pieces between the answers, and whether the file has ended or not, the same segments of each kind are
 -- kept, in the same order.
 abbrev pub KeptIsOne : Type 0
-KeptIsOne = (s t : SessionState) (h g : History) → HasHistory s h → HasHistory t g → h.given ≡ g.given → h.answers ≡ g.answers → (kind : Kind)
+KeptIsOne = (s t : SessionState) (h g : History) → HasHistory s h → HasHistory t g → h.given ≡ g.given → h.answers ≡ g.answers →
+    (kind : Kind)
     → kept h kind ≡ kept g kind

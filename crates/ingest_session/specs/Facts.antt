@@ -45,7 +45,8 @@ pub record ComesFirst (file : List ℕ) (placed : List Piece) : Type 0 where
   pub nodes : (rest : List node.Contents) × (nodes_of_file file ≡ nodes_in placed ++ rest)
 
 abbrev pub PlacedComeFirst : Type 0
-PlacedComeFirst = (s : SessionState) (h : History) (more : List ℕ) → HasHistory s h → MayFollow more s → ComesFirst (h.given ++ more) h.placed
+PlacedComeFirst = (s : SessionState) (h : History) (more : List ℕ) → HasHistory s h → MayFollow more s →
+    ComesFirst (h.given ++ more) h.placed
 
 -- However the file goes on, the item whose turn it is is a piece of it, and so is all that lies in an open container.
 abbrev pub TurnsArePieces : Type 0

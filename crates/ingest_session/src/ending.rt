@@ -24,7 +24,8 @@ impl Session {
         }
     }
 
-    /// What is in hand becomes the last segment. Where the builder has all segments, the tree is whole. Where there is no memory, nothing changes.
+    /// What is in hand becomes the last segment. Where the builder has all segments, the tree is whole. Where there is no memory, nothing
+    /// changes.
     fn end(&mut self) -> Result<(), AllocError>
         requires ongoing { self.old.ended ≡ false }
         ensures ok { OnOk result (IsEnding self.old self.new) }

@@ -55,7 +55,8 @@ first_refused size known shown filled DiskWrite has = absurd has.unlike.refused.
 first_refused size known shown filled (Damaged at why) has = has
 first_refused size known shown filled refusal has = has
 
-pub change_refused : (k l : Option PlaceMap) (compared : Refusal → Type 0) → k ≡ l → compared DiskWrite → (refusal : Refusal) → IsChangeRefusal k refusal → IsSealRefusal l compared refusal
+pub change_refused : (k l : Option PlaceMap) (compared : Refusal → Type 0) → k ≡ l → compared DiskWrite → (refusal : Refusal) → IsChangeRefusal k refusal →
+    IsSealRefusal l compared refusal
 change_refused k l compared same fits Memory has = tt
 change_refused k l compared same fits DiskWrite has = fits
 change_refused k l compared same fits (Damaged at why) has = sym same ∙ has

@@ -67,7 +67,8 @@ pub keeps_sealed : (old new : DiskView) (known known_new : Option PlaceMap) (slo
     → parts_new ≡ with_part parts actor (Writing (with_pins filled.kind filled.segments may.pins)) → SealsCompared t known (t.held.last_id + 1) filled Done old new
     → ((before : List ℕ) (m : PlaceMap) → old.content ≡ Some before → known ≡ Some m → known_new ≡ places_with filled slot (Some m))
     → KeepsSealed old new known known_new t parts actor filled parts_new id
-keeps_sealed old new known known_new slot t parts parts_new actor filled id next there step may parts_are seals places = λ among store files map more_map given now known_is more_is is content content_now stands distinct sealable holds.
+keeps_sealed old new known known_new slot t parts parts_new actor filled id next there step may parts_are seals places =
+    λ among store files map more_map given now known_is more_is is content content_now stands distinct sealable holds.
     let kept = seals.holds among store files map given now known_is is content content_now stands distinct sealable in
     let last : ℕ = t.held.last_id + 1 in
     let after : Store = with_sealed last filled.kind filled.segments store in

@@ -87,7 +87,14 @@ counts_many size known t runs =
 
 pub slot_in_table : {spares : ℕ} (size : ℕ) (known : Option PlaceMap) (t : Tables) (slot : ℕ) → HasSlotBeside spares t slot → Runs size known t → slot < length t.held.ids.items
 slot_in_table size known t slot has runs =
-    omega (arith, ((has.slot_is size known).store_has runs.store runs.represents runs.valid runs.has_free).within, ap length runs.represents.slots_hold.ids_are, as_many runs.store.held, runs.valid.many)
+    omega (
+      arith,
+      ((has.slot_is size known).store_has runs.store runs.represents runs.valid runs.has_free).within,
+      ap length runs.represents.slots_hold.ids_are,
+      as_many
+          runs.store.held,
+      runs.valid.many,
+    )
 
 module _ {spares : ℕ} (t new : Tables) (slot id : ℕ) (filled : Contents) (has : HasSlotBeside spares t slot) (next : id ≡ t.held.last_id + 1)
     (right : IsHeader (header_of id filled.kind filled.segments))

@@ -34,7 +34,8 @@ module _ (part : Part) (t : Tables) (size : ℕ) (known : Option PlaceMap) (fill
 
 module _ (part : Part) (t : Tables) (size : ℕ) (known : Option PlaceMap) (filled : Contents) (shown : (List ℕ → Type 0) → Type 0) (may : MayKeep part filled)
     (at : (slot : ℕ) × HasSlot t slot) where
-  pub of_seal : (refusal : Refusal) → IsSealRefusal known (IsCompared size known shown filled) refusal → IsStepRefusal part t size known filled (IsCompared size known shown filled) refusal
+  pub of_seal : (refusal : Refusal) → IsSealRefusal known (IsCompared size known shown filled) refusal →
+      IsStepRefusal part t size known filled (IsCompared size known shown filled) refusal
   of_seal Memory has = tt
   of_seal (WrongPart kind) has = absurd has.unlike.refused.2
   of_seal (Unpinned key) has = absurd has.unlike.refused.2

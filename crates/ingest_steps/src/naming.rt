@@ -124,7 +124,8 @@ fn write_delete<D: Disk>(
     ensures tables { OnOk result (tables.new ≡ tables_with (record_value delete.now) tables.old) }
     ensures unchanged { OnErr result (tables.new ≡ tables.old) }
     ensures writes { Writes (Records tables.old.names tables.old.journal (record_value delete.now))
-        (IsRecorded tables.old.names tables.old.journal (record_value delete.now)) (ending blames result) (D.view disk.old) (D.view disk.new) }
+        (IsRecorded tables.old.names tables.old.journal (record_value delete.now)) (ending blames result)
+        (D.view disk.old) (D.view disk.new) }
     ensures refused { IfErr result (λ refusal. refusal ≡ DiskWrite) }
 {
     match write_prepared(disk, &mut tables.journal, fresh, delete, cell) {

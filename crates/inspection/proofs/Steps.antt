@@ -34,7 +34,8 @@ counts_on : (f g : Found) (old mid new : Tally) → Counts f old mid → Counts 
 counts_on f g old mid new first second = record {
   cells = rises_on f.cells g.cells old.cells mid.cells new.cells first.cells second.cells;
   copies = rises_on f.copies g.copies old.copies mid.copies new.copies first.copies second.copies;
-  bad = subst (λ n. Rises n old.bad new.bad) (sym (length-append f.damages g.damages)) (rises_on (length f.damages) (length g.damages) old.bad mid.bad new.bad first.bad second.bad);
+  bad = subst (λ n. Rises n old.bad new.bad) (sym (length-append f.damages g.damages))
+      (rises_on (length f.damages) (length g.damages) old.bad mid.bad new.bad first.bad second.bad);
 }
 
 -- ---- what was written
@@ -49,7 +50,10 @@ part_more : (before mid now : Option (List ℕ)) (front piece : List ℕ) → Ap
 part_more before mid now front piece first part = record {
   count = length front + part.count;
   fits = simp length-append (omega (arith, part.fits));
-  is = record { is = λ old told. part.is.is (old ++ front) (first.is old told) ∙ ap Some (append_assoc old front (take part.count piece) ∙ ap (λ (t : List ℕ). old ++ t) (sym (take-append-add front piece part.count))) };
+  is = record {
+    is = λ old told. part.is.is (old ++ front) (first.is old told)
+        ∙ ap Some (append_assoc old front (take part.count piece) ∙ ap (λ (t : List ℕ). old ++ t) (sym (take-append-add front piece part.count)));
+  };
 }
 
 module _ (line : Damage → List ℕ) where
@@ -59,13 +63,15 @@ module _ (line : Damage → List ℕ) where
   module _ (front ds : List Damage) (old mid new : SinkView) (first : Written line front old mid) where
     written_on : Written line ds mid new → Written line (front ++ ds) old new
     written_on second = record {
-      bytes = subst (Appended old.written new.written) (sym (flat_map-append line front ds)) (appended_more old.written mid.written new.written (flat_map line front) (flat_map line ds) first.bytes second.bytes);
+      bytes = subst (Appended old.written new.written) (sym (flat_map-append line front ds))
+          (appended_more old.written mid.written new.written (flat_map line front) (flat_map line ds) first.bytes second.bytes);
       no_fault = second.no_fault ∙ first.no_fault;
     }
 
     partly_on : PartlyWritten line ds mid new → PartlyWritten line (front ++ ds) old new
     partly_on second = record {
-      bytes = subst (AppendedPart old.written new.written) (sym (flat_map-append line front ds)) (part_more old.written mid.written new.written (flat_map line front) (flat_map line ds) first.bytes second.bytes);
+      bytes = subst (AppendedPart old.written new.written) (sym (flat_map-append line front ds))
+          (part_more old.written mid.written new.written (flat_map line front) (flat_map line ds) first.bytes second.bytes);
       fault = subst (λ n. Rose n new.faults) first.no_fault second.fault;
     }
 
@@ -103,7 +109,8 @@ one_line : (line : Damage → List ℕ) (d : Damage) → flat_map line (d ∷ []
 one_line line d = flat_map-cons line d [] ∙ append-nil (line d)
 
 -- one was not taken
-pub stops_one : (line : Damage → List ℕ) (given : Option Damage) (d : Damage) (old new : SinkView) (e : SinkFault) → given ≡ Some d → Sends {T = Unit {0}} {E = SinkFault} (line d) (Err e) old new → Stops line (only_damage given) old new Untaken
+pub stops_one : (line : Damage → List ℕ) (given : Option Damage) (d : Damage) (old new : SinkView) (e : SinkFault) → given ≡ Some d →
+    Sends {T = Unit {0}} {E = SinkFault} (line d) (Err e) old new → Stops line (only_damage given) old new Untaken
 stops_one line given d old new e is sends = record {
   damages = option_to_list given;
   first = ([], sym (append-nil (option_to_list given)));
@@ -125,10 +132,12 @@ module _ (line : Damage → List ℕ) where
   -- and then more
   module _ (all rest : List ℕ → Found) (old mid new : DiskView) (sink sink_mid sink_now : SinkView) (tally tally_mid : Tally)
       (first : Finds line all rest old mid sink sink_mid tally tally_mid) (before : OnlyReads old mid) (later : IsLater mid new) where
-    pub finds_on : (end : List ℕ → Found) (tally_now : Tally) → Finds line rest end mid new sink_mid sink_now tally_mid tally_now → Finds line all end old new sink sink_now tally tally_now
+    pub finds_on : (end : List ℕ → Found) (tally_now : Tally) → Finds line rest end mid new sink_mid sink_now tally_mid tally_now →
+        Finds line all end old new sink sink_now tally tally_now
     finds_on end tally_now second = record {
       found = and_then first.found second.found;
-      shown = weaker old new (λ image sized is. is.0 ∙ ap (and_then first.found) is.1 ∙ sym (then_then first.found second.found (end image))) (both old mid new first.shown before second.shown later);
+      shown = weaker old new (λ image sized is. is.0 ∙ ap (and_then first.found) is.1 ∙ sym (then_then first.found second.found (end image)))
+          (both old mid new first.shown before second.shown later);
       reports = record {
         counts = counts_on first.found second.found tally tally_mid tally_now first.reports.counts second.reports.counts;
         written = written_on line first.found.damages second.found.damages sink sink_mid sink_now first.reports.written second.reports.written;
@@ -138,13 +147,15 @@ module _ (line : Damage → List ℕ) where
     pub stops_on : (halt : Halt) → StopsAmong line rest mid new sink_mid sink_now halt → StopsAmong line all old new sink sink_now halt
     stops_on halt stops = record {
       damages = first.found.damages ++ stops.damages;
-      shown = weaker old new (λ image sized is. subst (λ (f : Found). Begins (first.found.damages ++ stops.damages) f.damages) (sym is.0) (begins_more first.found (rest image) stops.damages is.1)) (both old mid new first.shown before stops.shown later);
+      shown = weaker old new (λ image sized is. subst (λ (f : Found). Begins (first.found.damages ++ stops.damages) f.damages) (sym is.0)
+          (begins_more first.found (rest image) stops.damages is.1)) (both old mid new first.shown before stops.shown later);
       written = until_on line first.found.damages stops.damages sink sink_mid sink_now first.reports.written halt stops.written;
     }
 
   -- of what comes before more
   module _ (part rest : List ℕ → Found) (old new : DiskView) (sink sink_now : SinkView) where
-    pub finds_first : (tally tally_now : Tally) → Finds line part (λ image. nothing) old new sink sink_now tally tally_now → Finds line (λ image. and_then (part image) (rest image)) rest old new sink sink_now tally tally_now
+    pub finds_first : (tally tally_now : Tally) → Finds line part (λ image. nothing) old new sink sink_now tally tally_now →
+        Finds line (λ image. and_then (part image) (rest image)) rest old new sink sink_now tally tally_now
     finds_first tally tally_now finds = record {
       found = finds.found;
       shown = weaker old new (λ image sized is. ap (λ (f : Found). and_then f (rest image)) (is ∙ then_nothing finds.found)) finds.shown;
@@ -181,11 +192,13 @@ module _ (line : Damage → List ℕ) where
   reports_nothing sink tally = record { counts = counts_none tally; written = written_none line sink }
 
   -- what reads showed to come first was reported
-  pub finds_shown : (found : Found) (all rest : List ℕ → Found) (old new : DiskView) (sink sink_now : SinkView) (tally tally_now : Tally) → Shows old new (λ image. all image ≡ and_then found (rest image)) → Reports line found sink sink_now tally tally_now
+  pub finds_shown : (found : Found) (all rest : List ℕ → Found) (old new : DiskView) (sink sink_now : SinkView) (tally tally_now : Tally) →
+      Shows old new (λ image. all image ≡ and_then found (rest image)) → Reports line found sink sink_now tally tally_now
       → Finds line all rest old new sink sink_now tally tally_now
   finds_shown found all rest old new sink sink_now tally tally_now shown reports = record { found = found; shown = shown; reports = reports }
 
-  pub stops_shown : (found : Found) (all rest : List ℕ → Found) (old new : DiskView) (sink sink_now : SinkView) (halt : Halt) → Shows old new (λ image. all image ≡ and_then found (rest image)) → Stops line found sink sink_now halt
+  pub stops_shown : (found : Found) (all rest : List ℕ → Found) (old new : DiskView) (sink sink_now : SinkView) (halt : Halt) →
+      Shows old new (λ image. all image ≡ and_then found (rest image)) → Stops line found sink sink_now halt
       → StopsAmong line all old new sink sink_now halt
   stops_shown found all rest old new sink sink_now halt shown stops = record {
     damages = stops.damages;
@@ -201,7 +214,8 @@ module _ (line : Damage → List ℕ) where
   stops_without all old new sink = record { damages = []; shown = always old new _ (λ image sized. ((all image).damages, refl)); written = written_none line sink }
 
   -- what was found is the same by another name
-  pub finds_as : (all other rest last : List ℕ → Found) (old new : DiskView) (sink sink_now : SinkView) (tally tally_now : Tally) → Shows old new (λ image. all image ≡ other image) → Shows old new (λ image. rest image ≡ last image)
+  pub finds_as : (all other rest last : List ℕ → Found) (old new : DiskView) (sink sink_now : SinkView) (tally tally_now : Tally) →
+      Shows old new (λ image. all image ≡ other image) → Shows old new (λ image. rest image ≡ last image)
       → Finds line all rest old new sink sink_now tally tally_now → Finds line other last old new sink sink_now tally tally_now
   finds_as all other rest last old new sink sink_now tally tally_now same end finds = record {
     found = finds.found;
@@ -209,7 +223,8 @@ module _ (line : Damage → List ℕ) where
     reports = finds.reports;
   }
 
-  pub stops_as : (all other : List ℕ → Found) (old new : DiskView) (sink sink_now : SinkView) (halt : Halt) → Shows old new (λ image. all image ≡ other image) → StopsAmong line all old new sink sink_now halt
+  pub stops_as : (all other : List ℕ → Found) (old new : DiskView) (sink sink_now : SinkView) (halt : Halt) → Shows old new (λ image. all image ≡ other image) →
+      StopsAmong line all old new sink sink_now halt
       → StopsAmong line other old new sink sink_now halt
   stops_as all other old new sink sink_now halt same stops = record {
     damages = stops.damages;

@@ -66,7 +66,8 @@ pub record Stops (line : Damage → List ℕ) (found : Found) (old new : SinkVie
   pub written : WrittenUntil halt line damages old new
 
 -- It came to a halt: reads showed the first of the damages that there are, and these were written.
-pub record StopsAmong (line : Damage → List ℕ) (all : List ℕ → Found) (old new : DiskView) (sink sink_now : SinkView) (halt : Halt) : Type 0 where
+pub record StopsAmong (line : Damage → List ℕ) (all : List ℕ → Found) (old new : DiskView) (sink sink_now : SinkView) (halt : Halt) : Type
+    0 where
   pub damages : List Damage
   pub shown : Shows old new (λ image. Begins damages (all image).damages)
   pub written : WrittenUntil halt line damages sink sink_now

@@ -23,9 +23,14 @@ use Rattle.journal_cells.proofs.Outcomes.{IsOfBytes}
 unlike : (n : ℕ) → (n == VERSION) ≡ false → n ≢ VERSION
 unlike n other same = absurd (cc (other, eq-eqb n VERSION same))
 
-not_store : (cell : List ℕ) → (byte_at 0 cell == FORMAT_GATE && bytes_eq (range 1 7 cell) (codes "DDFSIMG")) ≡ false → byte_at 0 cell ≡ FORMAT_GATE → range 1 7 cell ≢ codes "DDFSIMG"
+not_store : (cell : List ℕ) → (byte_at 0 cell == FORMAT_GATE && bytes_eq (range 1 7 cell) (codes "DDFSIMG")) ≡ false → byte_at 0 cell ≡ FORMAT_GATE →
+    range 1 7 cell ≢ codes "DDFSIMG"
 not_store cell other gate magic =
-    absurd (cc (other, both_true (byte_at 0 cell == FORMAT_GATE) (bytes_eq (range 1 7 cell) (codes "DDFSIMG")) (eq-eqb (byte_at 0 cell) FORMAT_GATE gate) ((bytes_eq-Decides (range 1 7 cell) (codes "DDFSIMG")).1 magic)))
+    absurd (cc (
+      other,
+      both_true (byte_at 0 cell == FORMAT_GATE) (bytes_eq (range 1 7 cell) (codes "DDFSIMG")) (eq-eqb (byte_at 0 cell) FORMAT_GATE gate)
+          ((bytes_eq-Decides (range 1 7 cell) (codes "DDFSIMG")).1 magic),
+    ))
 
 pub format_break : (cell : List ℕ) (f : CellFault) → format_in cell ≡ Err f → IsFormatBreak f
 unfolding format_in
@@ -58,7 +63,8 @@ open_err : (b : Bool) (r : Result (Option SelectorValue) CellFault) (f : CellFau
 open_err true r f e = e
 open_err false r f e = absurd cc
 
-selector_break : (half : ℕ) (before : Option SelectorValue) (cell : List ℕ) (f : CellFault) → IsSelectorPlace (selector_at half) → selector_in half before cell ≡ Err f → IsSelectorBreak f
+selector_break : (half : ℕ) (before : Option SelectorValue) (cell : List ℕ) (f : CellFault) → IsSelectorPlace (selector_at half) → selector_in half before cell ≡ Err f →
+    IsSelectorBreak f
 unfolding selector_in
 selector_break half before cell f place e =
     checked_err IsSelectorBreak (selector_checks half before cell) (Some (selector_value cell)) f (each_selector half before cell place)
@@ -75,4 +81,5 @@ unfolding selectors_in
 selectors_break first second f e =
     step_err IsSelectorBreak (selector_in 0 None first) (λ (a : Option SelectorValue). selector_in 1 a second >>= (λ (b : Option SelectorValue). chosen (byte_at 0 first) a b)) f
     (selector_break 0 None first f (inl refl)) (λ a is rest.
-    step_err IsSelectorBreak (selector_in 1 a second) (λ (b : Option SelectorValue). chosen (byte_at 0 first) a b) f (selector_break 1 a second f (inr refl)) (λ b there last. chosen_break (byte_at 0 first) a b f last) rest) e
+    step_err IsSelectorBreak (selector_in 1 a second) (λ (b : Option SelectorValue). chosen (byte_at 0 first) a b) f (selector_break 1 a second f (inr refl))
+    (λ b there last. chosen_break (byte_at 0 first) a b f last) rest) e

@@ -81,7 +81,8 @@ module _ (half : ℕ) (low : half ≤ 1) (old new : List ℕ) (same : SameButHal
   own_records cell (r ∷ rs) few stands = (own_cell cell 512 (omega (arith, few)) (omega arith) ∙ stands.0, own_records (cell + 1) rs (omega (arith, few)) stands.1)
 
 -- the journal, where the other selector doesn't count
-journal_kept : (selector : SelectorValue) (records : List RecordValue) (old new : List ℕ) → SameButHalf (1 - selector.half) old new → HoldsJournal old selector records → IsOlder new selector → HoldsJournal new selector records
+journal_kept : (selector : SelectorValue) (records : List RecordValue) (old new : List ℕ) → SameButHalf (1 - selector.half) old new → HoldsJournal old selector records →
+    IsOlder new selector → HoldsJournal new selector records
 journal_kept selector records old new same holds older =
     let low = holds.selector_is.0.half in
     let is = holds.records_are in
@@ -107,7 +108,8 @@ older_torn selector old new fits low same opened (inr (t, half, holds, lower)) =
     elim (byte_at at new == SELECTOR_GATE) as (λ b. (byte_at at new == SELECTOR_GATE) ≡ b → IsOlder new selector) [
       | true ↦ λ still.
           let gate : range at 1 new ≡ range at 1 old =
-          range-one at new (omega (arith, same.size, fits)) ∙ ap (λ (n : ℕ). n ∷ []) (eqb-true (byte_at at new) SELECTOR_GATE still ∙ sym opened) ∙ sym (range-one at old (omega (arith, fits))) in
+          range-one at new (omega (arith, same.size, fits)) ∙ ap (λ (n : ℕ). n ∷ []) (eqb-true (byte_at at new) SELECTOR_GATE still ∙ sym opened)
+          ∙ sym (range-one at old (omega (arith, fits))) in
           let whole : range at 512 new ≡ range at 512 old =
           sym (range-join at 1 511 (at + 1) new refl) ∙ ap (λ (l : List ℕ). l ++ range (at + 1) 511 new) gate
           ∙ ap (λ (l : List ℕ). range at 1 old ++ l) (same.after (at + 1) 511 (omega arith)) ∙ range-join at 1 511 (at + 1) old refl in
@@ -122,10 +124,12 @@ module _ (journal : JournalValue) where
 
   -- the gate is closed wherever the journal is that of an image
   abbrev Shuts : List ℕ → List ℕ → Type 0
-  Shuts old new = (names : NameMap) (selector : SelectorValue) (records : List RecordValue) → IsFoundIn journal names selector records old → byte_at (selector_at other) new ≢ SELECTOR_GATE
+  Shuts old new = (names : NameMap) (selector : SelectorValue) (records : List RecordValue) → IsFoundIn journal names selector records old →
+      byte_at (selector_at other) new ≢ SELECTOR_GATE
 
   -- an image whose other selector is closed
-  stays_shut : (names : NameMap) (selector : SelectorValue) (records : List RecordValue) (old new : List ℕ) → SameButHalf other old new → byte_at (selector_at other) new ≢ SELECTOR_GATE
+  stays_shut : (names : NameMap) (selector : SelectorValue) (records : List RecordValue) (old new : List ℕ) → SameButHalf other old new →
+      byte_at (selector_at other) new ≢ SELECTOR_GATE
       → IsFoundIn journal names selector records old → HoldsStill journal selector records old new
   stays_shut names selector records old new same shut found = record {
     holds = journal_kept selector records old new (subst (λ (h : ℕ). SameButHalf (1 - h) old new) found.told.half same) found.holds
@@ -133,7 +137,8 @@ module _ (journal : JournalValue) where
     opens = λ opened. absurd (shut opened);
   }
 
-  gate_after : (p count : ℕ) (old new : List ℕ) → selector_at other + 1 ≤ p → SameOutside p count old new → byte_at (selector_at other) old ≢ SELECTOR_GATE → byte_at (selector_at other) new ≢ SELECTOR_GATE
+  gate_after : (p count : ℕ) (old new : List ℕ) → selector_at other + 1 ≤ p → SameOutside p count old new → byte_at (selector_at other) old ≢ SELECTOR_GATE →
+      byte_at (selector_at other) new ≢ SELECTOR_GATE
   gate_after p count old new above same shut opened = shut (sym (byte_of_range (selector_at other) old new (same.before (selector_at other) 1 above)) ∙ opened)
 
   torn_same : (at n : ℕ) (old new : List ℕ) → at + n ≤ length old → Torn at n old new → SameOutside at n old new
@@ -158,8 +163,10 @@ module _ (journal : JournalValue) where
       }
 
   -- the half is torn, whose selector is closed
-  half_stays : (names : NameMap) (selector : SelectorValue) (records : List RecordValue) (old shut new : List ℕ) → journal.half ≤ 1 → least_size ≤ length shut → SameButHalf other old shut
-      → byte_at (selector_at other) shut ≢ SELECTOR_GATE → Torn (cell_at other 0) HALF_BYTES shut new → IsFoundIn journal names selector records old → HoldsStill journal selector records old new
+  half_stays : (names : NameMap) (selector : SelectorValue) (records : List RecordValue) (old shut new : List ℕ) → journal.half ≤ 1 → least_size ≤ length shut →
+      SameButHalf other old shut
+      → byte_at (selector_at other) shut ≢ SELECTOR_GATE → Torn (cell_at other 0) HALF_BYTES shut new → IsFoundIn journal names selector records old →
+      HoldsStill journal selector records old new
   half_stays names selector records old shut new low fits same closed torn found =
       let half = torn_same (cell_at other 0) HALF_BYTES shut new (omega (arith, fits)) torn in
       stays_shut names selector records old new (same_on other old shut new same (from_half other HALF_BYTES shut new (omega arith) half))
@@ -168,14 +175,16 @@ module _ (journal : JournalValue) where
 -- ---- the records in the new half
 
 -- records that stand one after the other in a part of an image
-stand_cells : (half cell : ℕ) (front image : List ℕ) (rs : List RecordValue) → length front ≡ 512 * cell → AllByRecursion IsRecord rs → range (cell_at half 0) (length (front ++ cells_of rs)) image ≡ front ++ cells_of rs
+stand_cells : (half cell : ℕ) (front image : List ℕ) (rs : List RecordValue) → length front ≡ 512 * cell → AllByRecursion IsRecord rs →
+    range (cell_at half 0) (length (front ++ cells_of rs)) image ≡ front ++ cells_of rs
     → StandFrom half cell rs image
 stand_cells half cell front image [] long right is = tt
 stand_cells half cell front image (r ∷ rs) long right is =
     let one : length (record_cell r) ≡ 512 = length_record_cell r right.0 in
     let parted : front ++ cells_of (r ∷ rs) ≡ (front ++ record_cell r) ++ cells_of rs = sym (append_assoc front (record_cell r) (cells_of rs)) in
     let begun : length (front ++ record_cell r) ≡ 512 * (cell + 1) = omega (arith, length-append front (record_cell r), long, one) in
-    let whole : length (front ++ cells_of (r ∷ rs)) ≡ 512 * cell + (512 + length (cells_of rs)) = omega (arith, length-append front (cells_of (r ∷ rs)), length-append (record_cell r) (cells_of rs), long, one) in
+    let whole : length (front ++ cells_of (r ∷ rs)) ≡ 512 * cell + (512 + length (cells_of rs)) =
+    omega (arith, length-append front (cells_of (r ∷ rs)), length-append (record_cell r) (cells_of rs), long, one) in
     let place : cell_at half cell ≡ cell_at half 0 + 512 * cell = omega arith in (
       ap (λ (k : ℕ). range k 512 image) place
           ∙ sym (range-range (512 * cell) 512 (cell_at half 0) (length (front ++ cells_of (r ∷ rs))) image (omega (arith, whole)))
@@ -195,9 +204,11 @@ length-cells [] right = refl
 length-cells (r ∷ rs) right = omega (arith, length-append (record_cell r) (cells_of rs), length_record_cell r right.0, length-cells rs right.1)
 
 -- through the write of a cell before
-stand_after : (half cell at : ℕ) (rs : List RecordValue) (old new : List ℕ) → at + 512 ≤ cell_at half cell → SameOutside at 512 old new → StandFrom half cell rs old → StandFrom half cell rs new
+stand_after : (half cell at : ℕ) (rs : List RecordValue) (old new : List ℕ) → at + 512 ≤ cell_at half cell → SameOutside at 512 old new → StandFrom half cell rs old →
+    StandFrom half cell rs new
 stand_after half cell at [] old new after same stands = tt
-stand_after half cell at (r ∷ rs) old new after same stands = (same.after (cell_at half cell) 512 after ∙ stands.0, stand_after half (cell + 1) at rs old new (omega (arith, after)) same stands.1)
+stand_after half cell at (r ∷ rs) old new after same stands =
+    (same.after (cell_at half cell) 512 after ∙ stands.0, stand_after half (cell + 1) at rs old new (omega (arith, after)) same stands.1)
 
 -- ---- the new journal
 
@@ -228,13 +239,17 @@ module _ (journal : JournalValue) (names : NameMap) (new : FreshHalf) (is : IsFr
     filled_same : SameButHalf (other journal) shut filled
     filled_same =
         same_on (other journal) shut blank filled
-        (from_half (other journal) (length new.blanks.items) shut blank (omega (arith, is.fits.blanks)) (same_written (cell_at (other journal) 0) (length new.blanks.items) new.blanks.items shut refl blank_room))
-        (from_half (other journal) (length new.cells.items) blank filled is.fits.cells (same_written (cell_at (other journal) 0) (length new.cells.items) new.cells.items blank refl cells_room))
+        (from_half (other journal) (length new.blanks.items) shut blank (omega (arith, is.fits.blanks))
+        (same_written (cell_at (other journal) 0) (length new.blanks.items) new.blanks.items shut refl blank_room))
+        (from_half (other journal) (length new.cells.items) blank filled is.fits.cells
+        (same_written (cell_at (other journal) 0) (length new.cells.items) new.cells.items blank refl cells_room))
 
     gate_filled : byte_at (selector_at (other journal)) shut ≢ SELECTOR_GATE → byte_at (selector_at (other journal)) filled ≢ SELECTOR_GATE
     gate_filled closed =
-        gate_after journal (cell_at (other journal) 0) (length new.cells.items) blank filled (omega arith) (same_written (cell_at (other journal) 0) (length new.cells.items) new.cells.items blank refl cells_room)
-        (gate_after journal (cell_at (other journal) 0) (length new.blanks.items) shut blank (omega arith) (same_written (cell_at (other journal) 0) (length new.blanks.items) new.blanks.items shut refl blank_room) closed)
+        gate_after journal (cell_at (other journal) 0) (length new.cells.items) blank filled (omega arith)
+        (same_written (cell_at (other journal) 0) (length new.cells.items) new.cells.items blank refl cells_room)
+        (gate_after journal (cell_at (other journal) 0) (length new.blanks.items) shut blank (omega arith)
+        (same_written (cell_at (other journal) 0) (length new.blanks.items) new.blanks.items shut refl blank_room) closed)
 
     puts_stand : AllByRecursion IsRecord puts → StandFrom (other journal) 0 puts filled
     puts_stand right =
@@ -249,7 +264,8 @@ module _ (journal : JournalValue) (names : NameMap) (new : FreshHalf) (is : IsFr
         let zero : byte_at (512 * cell) new.blanks.items ≡ 0 = ap (byte_at (512 * cell)) is.blanks ∙ byte-zeros (512 * cell) HALF_BYTES (omega (arith, within)) in
         let gate : byte_at (cell_at (other journal) cell) filled ≡ 0 =
         byte-written-after (cell_at (other journal) cell) (cell_at (other journal) 0) new.cells.items blank (omega (arith, long, from)) cells_room
-        ∙ byte-written (cell_at (other journal) cell) (cell_at (other journal) 0) (512 * cell) new.blanks.items shut (omega arith) (omega (arith, is.fits.blanks, within)) blank_room ∙ zero in
+        ∙ byte-written (cell_at (other journal) cell) (cell_at (other journal) 0) (512 * cell) new.blanks.items shut (omega arith) (omega (arith, is.fits.blanks, within))
+        blank_room ∙ zero in
         absurd (omega (arith, gate, opened))
 
     selector_room : selector_at (other journal) + length new.selector.items ≤ length filled
@@ -265,7 +281,8 @@ module _ (journal : JournalValue) (names : NameMap) (new : FreshHalf) (is : IsFr
         (from_selector (other journal) 512 filled (half_filled (other journal) new shut) (omega arith) selector_same))
 
     -- an image with the half and its selector
-    module _ (given c : List ℕ) (same : SameButHalf (other journal) given shut) (put : c ≡ half_filled (other journal) new shut) (selector : SelectorValue) (records : List RecordValue) (found : IsFoundIn journal names selector records given) where
+    module _ (given c : List ℕ) (same : SameButHalf (other journal) given shut) (put : c ≡ half_filled (other journal) new shut) (selector : SelectorValue)
+        (records : List RecordValue) (found : IsFoundIn journal names selector records given) where
       told : IsTold journal.other_open selector records journal names journal.last
       told = found.told
 
@@ -364,9 +381,11 @@ module _ (journal : JournalValue) (names : NameMap) (new : FreshHalf) (is : IsFr
   -- ---- what the writes leave
 
   -- of the half
-  half_moves : (given shut c : List ℕ) → least_size ≤ length shut → SameButHalf (other journal) given shut → Shuts journal given shut → Torn (cell_at (other journal) 0) HALF_BYTES shut c → StaysOrMoves journal names given c
+  half_moves : (given shut c : List ℕ) → least_size ≤ length shut → SameButHalf (other journal) given shut → Shuts journal given shut →
+      Torn (cell_at (other journal) 0) HALF_BYTES shut c → StaysOrMoves journal names given c
   half_moves given shut c fits same closed torn = record {
-    same = same_on (other journal) given shut c same (from_half (other journal) HALF_BYTES shut c (omega arith) (torn_same journal (cell_at (other journal) 0) HALF_BYTES shut c (omega (arith, fits)) torn));
+    same = same_on (other journal) given shut c same
+        (from_half (other journal) HALF_BYTES shut c (omega arith) (torn_same journal (cell_at (other journal) 0) HALF_BYTES shut c (omega (arith, fits)) torn));
     stands = λ selector records found. inl (half_stays journal names selector records given shut c low fits same (closed names selector records found) torn found);
   }
 
@@ -380,11 +399,13 @@ module _ (journal : JournalValue) (names : NameMap) (new : FreshHalf) (is : IsFr
       let some : 1 ≤ length cell = omega (arith, is.fits.selector) in
       let torn_cell : SameOutside at 512 whole c = subst (λ (n : ℕ). SameOutside at n whole c) is.fits.selector (same_cell at cell whole c some (selector_room shut fits) torn) in
       let but : SameButHalf (other journal) given c =
-      same_on (other journal) given whole c (same_on (other journal) given shut whole same (filled_same shut fits)) (from_selector (other journal) 512 whole c (omega arith) torn_cell) in
+      same_on (other journal) given whole c (same_on (other journal) given shut whole same (filled_same shut fits))
+      (from_selector (other journal) 512 whole c (omega arith) torn_cell) in
       record {
         same = but;
         stands = λ selector records found.
-            elim (cell_cases at SELECTOR_GATE cell whole c some (selector_room shut fits) (ap (byte_at 0) is.selector_is ∙ gate_of_selector (next_selector journal)) (gate_filled shut fits (closed names selector records found)) torn) [
+            elim (cell_cases at SELECTOR_GATE cell whole c some (selector_room shut fits) (ap (byte_at 0) is.selector_is ∙ gate_of_selector (next_selector journal))
+            (gate_filled shut fits (closed names selector records found)) torn) [
               | inl stays ↦ inl (stays_shut journal names selector records given c but stays found)
               | inr put ↦ inr (moved shut fits given c same put selector records found)
             ];
@@ -393,7 +414,8 @@ module _ (journal : JournalValue) (names : NameMap) (new : FreshHalf) (is : IsFr
   -- an open gate is closed
   shut_same : (given : List ℕ) → least_size ≤ length given → SameButHalf (other journal) given (gate_closed true (other journal) given)
   shut_same given fits =
-      from_selector (other journal) 1 given (gate_closed true (other journal) given) (omega arith) (same_written (selector_at (other journal)) 1 (0 ∷ []) given refl (omega (arith, fits)))
+      from_selector (other journal) 1 given (gate_closed true (other journal) given) (omega arith)
+      (same_written (selector_at (other journal)) 1 (0 ∷ []) given refl (omega (arith, fits)))
 
   shut_closed : (given : List ℕ) → least_size ≤ length given → Shuts journal given (gate_closed true (other journal) given)
   shut_closed given fits some_names selector records found opened =
@@ -410,7 +432,8 @@ module _ (journal : JournalValue) (names : NameMap) (new : FreshHalf) (is : IsFr
   shut_long : (given : List ℕ) → least_size ≤ length given → least_size ≤ length (gate_closed true (other journal) given)
   shut_long given fits = omega (arith, fits, (shut_same given fits).size)
 
-  replaces : (open_gate : Bool) → journal.other_open ≡ open_gate → (given d c : List ℕ) → least_size ≤ length given → least_size ≤ length d → Replaces open_gate (other journal) new given d c → Checkpoints journal names given d c
+  replaces : (open_gate : Bool) → journal.other_open ≡ open_gate → (given d c : List ℕ) → least_size ≤ length given → least_size ≤ length d →
+      Replaces open_gate (other journal) new given d c → Checkpoints journal names given d c
   replaces true is_open given d c fits also (inl torn) = inl (gate_stays journal d c low also is_open torn)
   replaces true is_open given d c fits also (inr (inl torn)) =
       inr (half_moves given (gate_closed true (other journal) given) c (shut_long given fits) (shut_same given fits) (shut_closed given fits) torn)
@@ -418,11 +441,13 @@ module _ (journal : JournalValue) (names : NameMap) (new : FreshHalf) (is : IsFr
       inr (cell_moves given (gate_closed true (other journal) given) c (shut_long given fits) (shut_same given fits) (shut_closed given fits) torn)
   replaces false is_shut given d c fits also (inl torn) = inl (record {
     same = from_half (other journal) HALF_BYTES d c (omega arith) (torn_same journal (cell_at (other journal) 0) HALF_BYTES d c (omega (arith, also)) torn);
-    stands = λ some_names selector records found. half_stays journal some_names selector records d d c low also (same_here (other journal) d) (was_closed d is_shut some_names selector records found) torn found;
+    stands = λ some_names selector records found. half_stays journal some_names selector records d d c low also (same_here (other journal) d)
+        (was_closed d is_shut some_names selector records found) torn found;
   })
   replaces false is_shut given d c fits also (inr torn) = inr (cell_moves given given c fits (same_here (other journal) given) (was_closed given is_shut) torn)
 
-  replaced_moves : (given shut c : List ℕ) → least_size ≤ length shut → SameButHalf (other journal) given shut → c ≡ half_filled (other journal) new shut → IsCheckpointed journal names given c
+  replaced_moves : (given shut c : List ℕ) → least_size ≤ length shut → SameButHalf (other journal) given shut → c ≡ half_filled (other journal) new shut →
+      IsCheckpointed journal names given c
   replaced_moves given shut c fits same put = record {
     same = replaced_same shut fits given c same put;
     stands = λ selector records found. moved shut fits given c same put selector records found;
@@ -434,20 +459,26 @@ module _ (journal : JournalValue) (names : NameMap) (new : FreshHalf) (is : IsFr
 
   -- on a disk
   pub writes_checkpoint : (open_gate : Bool) (half : ℕ) (old after : DiskView) (e : Ending) → open_gate ≡ journal.other_open → half ≡ other journal → least_size ≤ old.size
-      → Writes (Replaces open_gate half new) (λ given c. c ≡ replaced open_gate half new given) e old after → Writes (Checkpoints journal names) (IsCheckpointed journal names) e old after
+      → Writes (Replaces open_gate half new) (λ given c. c ≡ replaced open_gate half new given) e old after →
+      Writes (Checkpoints journal names) (IsCheckpointed journal names) e old after
   writes_checkpoint open_gate half old after e is_open here size writes =
-      writes_weaker (Replaces open_gate (other journal) new) (Checkpoints journal names) (λ given c. c ≡ replaced open_gate (other journal) new given) (IsCheckpointed journal names) old after
+      writes_weaker (Replaces open_gate (other journal) new) (Checkpoints journal names) (λ given c. c ≡ replaced open_gate (other journal) new given)
+      (IsCheckpointed journal names) old after
       (λ given c known put. all_replaced open_gate given c (omega (arith, size, old.sized given known)) put) e
       (λ given d c known image torn. replaces open_gate (sym is_open) given d c (omega (arith, size, old.sized given known)) (omega (arith, size, old.image_sized d image)) torn)
       (subst (λ (h : ℕ). Writes (Replaces open_gate h new) (λ given c. c ≡ replaced open_gate h new given) e old after) here writes)
 
   -- the journal in memory, of the same half
-  pub renewed_is : (half generation count previous last : ℕ) → half ≡ new.next.half → generation ≡ new.next.generation → count ≡ new.count → previous ≡ new.previous → last ≡ max journal.last new.previous
-      → (let j : JournalValue = record { half = half; generation = generation; other_open = true; count = count; previous = previous; last = last } in j) ≡ checkpointed names journal
+  pub renewed_is : (half generation count previous last : ℕ) → half ≡ new.next.half → generation ≡ new.next.generation → count ≡ new.count → previous ≡ new.previous →
+      last ≡ max journal.last new.previous
+      → (let j : JournalValue = record { half = half; generation = generation; other_open = true; count = count; previous = previous; last = last } in j) ≡ checkpointed names
+      journal
   renewed_is half generation count previous last half_is generation_is count_is previous_is last_is =
-      of_fields half generation count previous last (half_is ∙ ap (λ (s : SelectorValue). s.half) is.next_is) (generation_is ∙ ap (λ (s : SelectorValue). s.generation) is.next_is) (count_is ∙ is.count)
+      of_fields half generation count previous last (half_is ∙ ap (λ (s : SelectorValue). s.half) is.next_is) (generation_is ∙ ap (λ (s : SelectorValue). s.generation) is.next_is)
+      (count_is ∙ is.count)
       (previous_is ∙ is.previous) (last_is ∙ ap (max journal.last) is.previous)
     where
-      of_fields : (h g c p l : ℕ) → h ≡ 1 - journal.half → g ≡ journal.generation + 1 → c ≡ length (puts_of names) → p ≡ last_of 0 (puts_of names) → l ≡ max journal.last (last_of 0 (puts_of names))
+      of_fields : (h g c p l : ℕ) → h ≡ 1 - journal.half → g ≡ journal.generation + 1 → c ≡ length (puts_of names) → p ≡ last_of 0 (puts_of names) →
+          l ≡ max journal.last (last_of 0 (puts_of names))
           → (let j : JournalValue = record { half = h; generation = g; other_open = true; count = c; previous = p; last = l } in j) ≡ checkpointed names journal
       of_fields h g c p l one two three four five = cc

@@ -110,13 +110,15 @@ module _ (half : ℕ) (new : FreshHalf) (at sel : ℕ) (blanks cells cell : List
   pub fills_half : (e : Ending) (old mid after : DiskView) → IsUnrefused e → Writes (λ _. Torn at (length blanks)) (λ given. Puts at cells (written at blanks given)) Done old mid
       → Writes (TornFrom sel cell) (Puts sel cell) e mid after → Writes (FillsHalf half new) (λ given c. c ≡ half_filled half new given) e old after
   fills_half e old mid after un first second =
-      writes_on (λ _. Torn at (length blanks)) (TornFrom sel cell) (FillsHalf half new) (λ given. Puts at cells (written at blanks given)) (Puts sel cell) (λ given c. c ≡ half_filled half new given) old mid after
+      writes_on (λ _. Torn at (length blanks)) (TornFrom sel cell) (FillsHalf half new) (λ given. Puts at cells (written at blanks given)) (Puts sel cell)
+      (λ given c. c ≡ half_filled half new given) old mid after
       first (λ given m c known is put. both_written given m c is put) e un second
       (λ given d c known torn. half_torn given d c torn) (λ given m c known is torn. selector_torn given m c is torn)
 
 -- ---- a gate that is open is closed before
 
-pub replaces_closed : (open_gate : Bool) (half : ℕ) (new : FreshHalf) (e : Ending) (old after : DiskView) → open_gate ≡ false → Writes (FillsHalf half new) (λ given c. c ≡ half_filled half new given) e old after
+pub replaces_closed : (open_gate : Bool) (half : ℕ) (new : FreshHalf) (e : Ending) (old after : DiskView) → open_gate ≡ false →
+    Writes (FillsHalf half new) (λ given c. c ≡ half_filled half new given) e old after
     → Writes (Replaces open_gate half new) (λ given c. c ≡ replaced open_gate half new given) e old after
 replaces_closed open_gate half new e old after is writes = subst (λ (b : Bool). Writes (Replaces b half new) (λ given c. c ≡ replaced b half new given) e old after) (sym is) writes
 
@@ -128,13 +130,16 @@ module _ (half : ℕ) (new : FreshHalf) (at : ℕ) (zero : List ℕ) (here : at 
   gate_torn given d c torn = inl (subst (λ (p : ℕ). Torn p 1 d c) here (subst (λ (l : List ℕ). Torn at (length l) d c) zero_is torn))
 
   pub opened_replaces : (e : Ending) (old mid after : DiskView) → IsUnrefused e → Writes (λ _. Torn at (length zero)) (Puts at zero) Done old mid
-      → Writes (FillsHalf half new) (λ given c. c ≡ half_filled half new given) e mid after → Writes (Replaces true half new) (λ given c. c ≡ replaced true half new given) e old after
+      → Writes (FillsHalf half new) (λ given c. c ≡ half_filled half new given) e mid after → Writes (Replaces true half new) (λ given c. c ≡ replaced true half new given) e old
+      after
   opened_replaces e old mid after un first second =
-      writes_on (λ _. Torn at (length zero)) (FillsHalf half new) (Replaces true half new) (Puts at zero) (λ given c. c ≡ half_filled half new given) (λ given c. c ≡ replaced true half new given) old mid after
+      writes_on (λ _. Torn at (length zero)) (FillsHalf half new) (Replaces true half new) (Puts at zero) (λ given c. c ≡ half_filled half new given)
+      (λ given c. c ≡ replaced true half new given) old mid after
       first (λ given m c known is filled. filled ∙ ap (half_filled half new) (shut_is given m is)) e un second
       (λ given d c known torn. gate_torn given d c torn)
       (λ given m c known is fills. inr (subst (λ (l : List ℕ). FillsHalf half new l l c) (shut_is given m is) fills))
 
-pub replaces_opened : (open_gate : Bool) (half : ℕ) (new : FreshHalf) (e : Ending) (old after : DiskView) → open_gate ≡ true → Writes (Replaces true half new) (λ given c. c ≡ replaced true half new given) e old after
+pub replaces_opened : (open_gate : Bool) (half : ℕ) (new : FreshHalf) (e : Ending) (old after : DiskView) → open_gate ≡ true →
+    Writes (Replaces true half new) (λ given c. c ≡ replaced true half new given) e old after
     → Writes (Replaces open_gate half new) (λ given c. c ≡ replaced open_gate half new given) e old after
 replaces_opened open_gate half new e old after is writes = subst (λ (b : Bool). Writes (Replaces b half new) (λ given c. c ≡ replaced b half new given) e old after) (sym is) writes

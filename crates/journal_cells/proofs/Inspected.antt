@@ -78,7 +78,8 @@ names_refuse names r fault_of.TooMany named refused = if_false (has_place names 
 names_refuse names r fault_of.NoFile named refused = if_false (has_place names r.name r.change) _ _ (no_place names r.name r.change fault_of.NoFile refused.1)
 names_refuse names r fault_of.Memory named refused = absurd (no_memory names r.name r.change refused.1)
 
-pub names_keep : (names : NameMap) (r : RecordValue) (fault : NameFault) → IsName r.name → (fault ≡ fault_of.Memory) ⊎ IsRefused names r fault → fault ≢ fault_of.Memory → names_taking names r ≡ names
+pub names_keep : (names : NameMap) (r : RecordValue) (fault : NameFault) → IsName r.name → (fault ≡ fault_of.Memory) ⊎ IsRefused names r fault → fault ≢ fault_of.Memory →
+    names_taking names r ≡ names
 names_keep names r fault named (inl is) other = absurd (other is)
 names_keep names r fault named (inr refused) other = names_refuse names r fault named refused
 
@@ -89,15 +90,18 @@ replay_is r s count previous names =
     ∙ ap (λ (n : NameMap). record { count = s.count; previous = s.previous; names = n }) names
 
 -- one that is left out
-pub passes_by : (at : ℕ) (replay next : Replay) (cell : List ℕ) (fault : CellFault) → passes (own_checks at cell) ≡ Err fault → next.count ≡ replay.count + 1 → next.previous ≡ replay.previous → next.names ≡ replay.names → next ≡ after_cell at replay cell
+pub passes_by : (at : ℕ) (replay next : Replay) (cell : List ℕ) (fault : CellFault) → passes (own_checks at cell) ≡ Err fault → next.count ≡ replay.count + 1 →
+    next.previous ≡ replay.previous → next.names ≡ replay.names → next ≡ after_cell at replay cell
 passes_by at replay next cell fault broken count previous names =
     replay_is next (record replay { count = suc replay.count }) (omega (arith, count)) previous names ∙ sym (after_broken at replay cell (ap is_ok broken))
 
 -- one that isn't
-pub takes_part : (at : ℕ) (replay next : Replay) (cell : List ℕ) → passes (own_checks at cell) ≡ Ok tt → next.count ≡ replay.count + 1 → next.previous ≡ (record_in_cell cell).sequence → next.names ≡ names_taking replay.names (record_in_cell cell)
+pub takes_part : (at : ℕ) (replay next : Replay) (cell : List ℕ) → passes (own_checks at cell) ≡ Ok tt → next.count ≡ replay.count + 1 →
+    next.previous ≡ (record_in_cell cell).sequence → next.names ≡ names_taking replay.names (record_in_cell cell)
     → next ≡ after_cell at replay cell
 takes_part at replay next cell right count previous names =
-    replay_is next (record { count = suc replay.count; previous = (record_in_cell cell).sequence; names = names_taking replay.names (record_in_cell cell) }) (omega (arith, count)) previous names ∙ sym (after_right at replay cell (ap is_ok right))
+    replay_is next (record { count = suc replay.count; previous = (record_in_cell cell).sequence; names = names_taking replay.names (record_in_cell cell) }) (omega (arith, count))
+    previous names ∙ sym (after_right at replay cell (ap is_ok right))
 
 count_of : (b : Bool) (r s : Replay) (n : ℕ) → r.count ≡ n → s.count ≡ n → (if b then r else s).count ≡ n
 count_of true r s n p q = p
@@ -129,7 +133,8 @@ left_after count room = omega (arith, room)
 module _ (half left : ℕ) (counts : Bool) (replay : Replay) (image : List ℕ) where
   open_next : byte_at (cell_at half replay.count) image ≡ RECORD_GATE → (let cell = range (cell_at half replay.count) 512 image in
       records_found half counts (suc left) replay image
-      ≡ and_then (cell_with (damage_in (cell_at half replay.count) (record_in (cell_at half replay.count) replay.previous replay.names cell))) (records_found half counts left (after_cell (cell_at half replay.count) replay cell) image))
+      ≡ and_then (cell_with (damage_in (cell_at half replay.count) (record_in (cell_at half replay.count) replay.previous replay.names cell)))
+      (records_found half counts left (after_cell (cell_at half replay.count) replay cell) image))
   unfolding records_found
   open_next gate = if_true (byte_at (cell_at half replay.count) image == RECORD_GATE) _ _ (eq-eqb (byte_at (cell_at half replay.count) image) RECORD_GATE gate)
 
@@ -137,27 +142,33 @@ module _ (half left : ℕ) (counts : Bool) (replay : Replay) (image : List ℕ) 
   unfolding records_found
   closed_next closed = if_false (byte_at (cell_at half replay.count) image == RECORD_GATE) _ _ (other_gate (byte_at (cell_at half replay.count) image) closed)
 
-module _ (half at : ℕ) (counts : Bool) (replay : Replay) (cell : List ℕ) (old new : DiskView) (place : at ≡ cell_at half replay.count) (room : replay.count < half_cells) (read : Shows old new (λ image. range at 512 image ≡ cell)) where
+module _ (half at : ℕ) (counts : Bool) (replay : Replay) (cell : List ℕ) (old new : DiskView) (place : at ≡ cell_at half replay.count) (room : replay.count < half_cells)
+    (read : Shows old new (λ image. range at 512 image ≡ cell)) where
   there : (image : List ℕ) → range at 512 image ≡ cell → range (cell_at half replay.count) 512 image ≡ cell
   there image same = ap (λ (p : ℕ). range p 512 image) (sym place) ∙ same
 
   gate_there : (image : List ℕ) → range at 512 image ≡ cell → byte_at (cell_at half replay.count) image ≡ byte_at 0 cell
   gate_there image same = gate_read (cell_at half replay.count) image cell (there image same)
 
-  pub shows_open : (damage : Option Damage) (next : Replay) → byte_at 0 cell ≡ RECORD_GATE → damage ≡ damage_in at (record_in at replay.previous replay.names cell) → next ≡ after_cell at replay cell
-      → Shows old new (λ image. records_found half counts (half_cells - replay.count) replay image ≡ and_then (cell_with damage) (records_found half counts (half_cells - next.count) next image))
+  pub shows_open : (damage : Option Damage) (next : Replay) → byte_at 0 cell ≡ RECORD_GATE → damage ≡ damage_in at (record_in at replay.previous replay.names cell) →
+      next ≡ after_cell at replay cell
+      → Shows old new (λ image. records_found half counts (half_cells - replay.count) replay image ≡ and_then (cell_with damage)
+      (records_found half counts (half_cells - next.count) next image))
   shows_open damage next gate damaged is =
       weaker old new (λ image sized same.
       let n : next.count ≡ suc replay.count = ap (λ (r : Replay). r.count) is ∙ after_count at replay cell in
       ap (λ (left : ℕ). records_found half counts left replay image) (left_after replay.count room)
       ∙ open_next half (half_cells - suc replay.count) counts replay image (gate_there image same ∙ gate)
-      ∙ ap (λ (bytes : List ℕ). and_then (cell_with (damage_in (cell_at half replay.count) (record_in (cell_at half replay.count) replay.previous replay.names bytes))) (records_found half counts (half_cells - suc replay.count) (after_cell (cell_at half replay.count) replay bytes) image)) (there image same)
-      ∙ ap (λ (p : ℕ). and_then (cell_with (damage_in p (record_in p replay.previous replay.names cell))) (records_found half counts (half_cells - suc replay.count) (after_cell p replay cell) image)) (sym place)
+      ∙ ap (λ (bytes : List ℕ). and_then (cell_with (damage_in (cell_at half replay.count) (record_in (cell_at half replay.count) replay.previous replay.names bytes)))
+      (records_found half counts (half_cells - suc replay.count) (after_cell (cell_at half replay.count) replay bytes) image)) (there image same)
+      ∙ ap (λ (p : ℕ). and_then (cell_with (damage_in p (record_in p replay.previous replay.names cell)))
+      (records_found half counts (half_cells - suc replay.count) (after_cell p replay cell) image)) (sym place)
       ∙ ap (λ (d : Option Damage). and_then (cell_with d) (records_found half counts (half_cells - suc replay.count) (after_cell at replay cell) image)) (sym damaged)
       ∙ ap (λ (r : Replay). and_then (cell_with damage) (records_found half counts (half_cells - suc replay.count) r image)) (sym is)
       ∙ ap (λ (m : ℕ). and_then (cell_with damage) (records_found half counts (half_cells - m) next image)) (sym n)) read
 
-  pub shows_closed : byte_at 0 cell ≢ RECORD_GATE → Shows old new (λ image. records_found half counts (half_cells - replay.count) replay image ≡ and_then nothing (past_found half counts replay.count image))
+  pub shows_closed : byte_at 0 cell ≢ RECORD_GATE →
+      Shows old new (λ image. records_found half counts (half_cells - replay.count) replay image ≡ and_then nothing (past_found half counts replay.count image))
   shows_closed closed =
       weaker old new (λ image sized same.
       ap (λ (left : ℕ). records_found half counts left replay image) (left_after replay.count room)
@@ -165,7 +176,8 @@ module _ (half at : ℕ) (counts : Bool) (replay : Replay) (cell : List ℕ) (ol
       ∙ sym (nothing_then (past_found half counts replay.count image))) read
 
 -- at the end of a half
-pub shows_full : (half : ℕ) (counts : Bool) (replay : Replay) (image : List ℕ) → replay.count ≡ half_cells → records_found half counts (half_cells - replay.count) replay image ≡ past_found half counts replay.count image
+pub shows_full : (half : ℕ) (counts : Bool) (replay : Replay) (image : List ℕ) → replay.count ≡ half_cells →
+    records_found half counts (half_cells - replay.count) replay image ≡ past_found half counts replay.count image
 shows_full half counts replay image full = ap (λ (left : ℕ). records_found half counts left replay image) (omega (arith, full)) ∙ none_left half counts replay image
 
 -- ---- past the records
@@ -183,7 +195,8 @@ module _ (half : ℕ) (counts : Bool) (from : ℕ) (old new : DiskView) where
   open_damage : (fault : CellFault) (cell : ℕ) → fault ≡ open_cell half cell → damage_of (cell_at half cell) (open_cell half cell) ≡ damage_of 0 fault
   open_damage fault cell is = ap (damage_of 0) (sym is)
 
-  past_one : (fault : CellFault) → counts ≡ true → from ≤ half_cells → IsOpenFault (Shows old new) half from fault → Shows old new (λ image. past_found half counts from image ≡ and_then (cell_with (damage_of 0 fault)) nothing)
+  past_one : (fault : CellFault) → counts ≡ true → from ≤ half_cells → IsOpenFault (Shows old new) half from fault →
+      Shows old new (λ image. past_found half counts from image ≡ and_then (cell_with (damage_of 0 fault)) nothing)
   past_one fault is few open_fault =
       weaker old new (λ image sized seen.
       ap (λ (b : Bool). past_found half b from image) is
@@ -201,7 +214,8 @@ module _ (half : ℕ) (counts : Bool) (from : ℕ) (old new : DiskView) where
   past_open (Version n) other is few found = absurd found.0
   past_open Numbers other is few found = absurd found
 
-  pub reads_past : (fault : CellFault) → fault ≢ DiskRead → IsReadFault (IsRecordBreak half) (IsOpenFault (Shows old new) half from) fault → Reads (ending_of (cell_blames fault)) old new → Reads Refused old new
+  pub reads_past : (fault : CellFault) → fault ≢ DiskRead → IsReadFault (IsRecordBreak half) (IsOpenFault (Shows old new) half from) fault →
+      Reads (ending_of (cell_blames fault)) old new → Reads Refused old new
   reads_past Memory other found reads = absurd found
   reads_past DiskRead other found reads = absurd (other refl)
   reads_past DiskWrite other found reads = absurd found
@@ -217,18 +231,22 @@ ok_map (Ok x) each holds = each holds
 ok_map (Err e) each holds = tt
 
 module _ (line : Damage → List ℕ) (first second : List ℕ) where
-  pub stops_one_selector : (sink sink_now : SinkView) (halt : Halt) → Stops line (selector_found 0 None first) sink sink_now halt → Stops line (selectors_found first second) sink sink_now halt
+  pub stops_one_selector : (sink sink_now : SinkView) (halt : Halt) → Stops line (selector_found 0 None first) sink sink_now halt →
+      Stops line (selectors_found first second) sink sink_now halt
   unfolding selectors_found
   stops_one_selector sink sink_now halt stops = stops_before line (selector_found 0 None first) _ sink sink_now halt stops
 
-  module _ (one : Option SelectorValue) (right : one ≡ right_one (selector_in 0 None first)) (sink sink_1 : SinkView) (tally tally_1 : Tally) (done : Reports line (selector_found 0 None first) sink sink_1 tally tally_1) where
+  module _ (one : Option SelectorValue) (right : one ≡ right_one (selector_in 0 None first)) (sink sink_1 : SinkView) (tally tally_1 : Tally)
+      (done : Reports line (selector_found 0 None first) sink sink_1 tally tally_1) where
     pub stops_other : (sink_2 : SinkView) (halt : Halt) → Stops line (selector_found 1 one second) sink_1 sink_2 halt → Stops line (selectors_found first second) sink sink_2 halt
     unfolding selectors_found
     stops_other sink_2 halt stops =
         stops_after line (selector_found 0 None first) _ sink sink_1 sink_2 tally tally_1 done halt
-        (stops_before line (selector_found 1 (right_one (selector_in 0 None first)) second) _ sink_1 sink_2 halt (subst (λ (o : Option SelectorValue). Stops line (selector_found 1 o second) sink_1 sink_2 halt) right stops))
+        (stops_before line (selector_found 1 (right_one (selector_in 0 None first)) second) _ sink_1 sink_2 halt
+        (subst (λ (o : Option SelectorValue). Stops line (selector_found 1 o second) sink_1 sink_2 halt) right stops))
 
-    module _ (sink_2 : SinkView) (tally_2 : Tally) (later : Reports line (selector_found 1 one second) sink_1 sink_2 tally_1 tally_2) (damage : Option Damage) (is : damage ≡ none_open first second) (sink_3 : SinkView) where
+    module _ (sink_2 : SinkView) (tally_2 : Tally) (later : Reports line (selector_found 1 one second) sink_1 sink_2 tally_1 tally_2) (damage : Option Damage)
+        (is : damage ≡ none_open first second) (sink_3 : SinkView) where
       other : Reports line (selector_found 1 (right_one (selector_in 0 None first)) second) sink_1 sink_2 tally_1 tally_2
       other = subst (λ (o : Option SelectorValue). Reports line (selector_found 1 o second) sink_1 sink_2 tally_1 tally_2) right later
 
@@ -236,22 +254,26 @@ module _ (line : Damage → List ℕ) (first second : List ℕ) where
       unfolding selectors_found
       reports_both tally_3 last =
           reports_on line (selector_found 0 None first) _ sink sink_1 sink_3 tally tally_1 done tally_3
-          (reports_on line (selector_found 1 (right_one (selector_in 0 None first)) second) _ sink_1 sink_2 sink_3 tally_1 tally_2 other tally_3 (subst (λ (d : Option Damage). Reports line (only_damage d) sink_2 sink_3 tally_2 tally_3) is last))
+          (reports_on line (selector_found 1 (right_one (selector_in 0 None first)) second) _ sink_1 sink_2 sink_3 tally_1 tally_2 other tally_3
+          (subst (λ (d : Option Damage). Reports line (only_damage d) sink_2 sink_3 tally_2 tally_3) is last))
 
       pub stops_last : (halt : Halt) → Stops line (only_damage damage) sink_2 sink_3 halt → Stops line (selectors_found first second) sink sink_3 halt
       unfolding selectors_found
       stops_last halt last =
           stops_after line (selector_found 0 None first) _ sink sink_1 sink_3 tally tally_1 done halt
-          (stops_after line (selector_found 1 (right_one (selector_in 0 None first)) second) _ sink_1 sink_2 sink_3 tally_1 tally_2 other halt (subst (λ (d : Option Damage). Stops line (only_damage d) sink_2 sink_3 halt) is last))
+          (stops_after line (selector_found 1 (right_one (selector_in 0 None first)) second) _ sink_1 sink_2 sink_3 tally_1 tally_2 other halt
+          (subst (λ (d : Option Damage). Stops line (only_damage d) sink_2 sink_3 halt) is last))
 
 -- ---- halts
 
 -- memory ran out before anything was found
-pub stops_by_memory : (line : Damage → List ℕ) (all : List ℕ → Found) (old new : DiskView) (sink : SinkView) (halt : Halt) → halt ≡ halts_of.Memory → StopsAmong line all old new sink sink halt
+pub stops_by_memory : (line : Damage → List ℕ) (all : List ℕ → Found) (old new : DiskView) (sink : SinkView) (halt : Halt) → halt ≡ halts_of.Memory →
+    StopsAmong line all old new sink sink halt
 stops_by_memory line all old new sink halt is = subst (λ (h : Halt). StopsAmong line all old new sink sink h) (sym is) (stops_without line all old new sink)
 
 -- what is not taken blames no call of the disk
-pub reads_taken : (result : Result (Unit {0}) Halt) (P : Halt → Type 0) (old new : DiskView) → IfErr result (λ h. (h ≡ halts_of.Untaken) × P h) → Reads Refused old new → Reads (ending halts result) old new
+pub reads_taken : (result : Result (Unit {0}) Halt) (P : Halt → Type 0) (old new : DiskView) → IfErr result (λ h. (h ≡ halts_of.Untaken) × P h) → Reads Refused old new →
+    Reads (ending halts result) old new
 reads_taken (Ok x) P old new untaken reads = record { only = reads.only; faults_are = reads.faults_are }
 reads_taken (Err h) P old new untaken reads = subst (λ (e : Halt). Reads (ending_of (halts e)) old new) (sym untaken.0) reads
 
@@ -266,7 +288,8 @@ module _ (half : ℕ) (selector : List ℕ) (counts : Bool) (image : List ℕ) w
   unfolding half_found
   half_opened opened = sym (if_true (is_open selector) _ _ opened)
 
-pub journal_of_cells : (first second image : List ℕ) → AreSelectorCells first second image → journal_found image ≡ and_then (selectors_found first second) (halves_found first second image)
+pub journal_of_cells : (first second image : List ℕ) → AreSelectorCells first second image →
+    journal_found image ≡ and_then (selectors_found first second) (halves_found first second image)
 unfolding journal_found
 journal_of_cells first second image are =
     ap (λ (bytes : List ℕ). and_then (selectors_found bytes (range (selector_at 1) 512 image)) (halves_found bytes (range (selector_at 1) 512 image) image)) are.0

@@ -5,7 +5,8 @@ use Rattle.base_model.specs.Checks.{Check, checked}
 use Rattle.journal_cells.specs.declared.fault.CellFault.{CellFault}
 use Rattle.journal_cells.specs.Checks.{faults_of, answer_of}
 
-one_more : {A : Type 0} (b : Bool) (f : CellFault) (value : A) (rest : Result A CellFault) (fs : List CellFault) → rest ≡ answer_of fs value → (if b then rest else Err f) ≡ answer_of (if b then fs else f ∷ fs) value
+one_more : {A : Type 0} (b : Bool) (f : CellFault) (value : A) (rest : Result A CellFault) (fs : List CellFault) → rest ≡ answer_of fs value →
+    (if b then rest else Err f) ≡ answer_of (if b then fs else f ∷ fs) value
 one_more true f value rest fs is = is
 one_more false f value rest fs is = refl
 

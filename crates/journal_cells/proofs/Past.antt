@@ -27,7 +27,8 @@ pub first_none : (half left cell : ℕ) (image : List ℕ) → AreClosed half ce
 unfolding first_open
 first_none half zero cell image closed = refl
 first_none half (suc left) cell image closed =
-    if_false (byte_at (cell_at half cell) image == RECORD_GATE) (Some cell) (first_open half left (suc cell) image) (other_gate (byte_at (cell_at half cell) image) (closed cell (omega arith) (omega arith)))
+    if_false (byte_at (cell_at half cell) image == RECORD_GATE) (Some cell) (first_open half left (suc cell) image)
+    (other_gate (byte_at (cell_at half cell) image) (closed cell (omega arith) (omega arith)))
     ∙ first_none half left (suc cell) image (λ c from within. closed c (omega (arith, from)) (omega (arith, within)))
 
 pub first_some : (half left cell found : ℕ) (image : List ℕ) → found < cell + left → IsFirstOpen half cell found image → first_open half left cell image ≡ Some found
@@ -57,16 +58,19 @@ module _ (half : ℕ) (image : List ℕ) where
   unfolding half_in after
   half_fault_of f read = ap (λ (r : Result Replay CellFault). r >>= after) read
 
-  half_then : (replay : Replay) (found : Option ℕ) → replayed half half_cells nothing_yet image ≡ Ok replay → first_open half (half_cells - replay.count) replay.count image ≡ found → half_in half image ≡ ended half found replay
+  half_then : (replay : Replay) (found : Option ℕ) → replayed half half_cells nothing_yet image ≡ Ok replay →
+      first_open half (half_cells - replay.count) replay.count image ≡ found → half_in half image ≡ ended half found replay
   unfolding half_in after
   half_then replay found read is =
       then_step (replayed half half_cells nothing_yet image) after replay (ended half found replay) read (ap (λ (o : Option ℕ). ended half o replay) is)
 
-  pub half_closed : (replay : Replay) → replay.count ≤ half_cells → replayed half half_cells nothing_yet image ≡ Ok replay → ClosedFrom half replay.count image → half_in half image ≡ Ok replay
+  pub half_closed : (replay : Replay) → replay.count ≤ half_cells → replayed half half_cells nothing_yet image ≡ Ok replay → ClosedFrom half replay.count image →
+      half_in half image ≡ Ok replay
   half_closed replay few read closed =
       half_then replay None read (first_none half (half_cells - replay.count) replay.count image (λ cell from within. closed cell from (omega (arith, few, within))))
 
-  pub half_opened : (replay : Replay) (cell : ℕ) → cell < half_cells → replayed half half_cells nothing_yet image ≡ Ok replay → IsFirstOpen half replay.count cell image → half_in half image ≡ Err (open_cell half cell)
+  pub half_opened : (replay : Replay) (cell : ℕ) → cell < half_cells → replayed half half_cells nothing_yet image ≡ Ok replay → IsFirstOpen half replay.count cell image →
+      half_in half image ≡ Err (open_cell half cell)
   half_opened replay cell within read first =
       half_then replay (Some cell) read (first_some half (half_cells - replay.count) replay.count cell image (omega (arith, within, first.from_there)) first)
 
@@ -96,9 +100,11 @@ module _ (half from count : ℕ) (image cells : List ℕ) (read : range (cell_at
 
 -- as the call says it
 pub read_so : (half from count : ℕ) (old new : DiskView) (at : ℕ) (buf cells : List ℕ) → at ≡ cell_at half from → CELL_BYTES * count ≤ length buf
-    → Shows old new (λ image. range at (length (take (CELL_BYTES * count) buf)) image ≡ cells) → Shows old new (λ image. range (cell_at half from) (CELL_BYTES * count) image ≡ cells)
+    → Shows old new (λ image. range at (length (take (CELL_BYTES * count) buf)) image ≡ cells) →
+    Shows old new (λ image. range (cell_at half from) (CELL_BYTES * count) image ≡ cells)
 read_so half from count old new at buf cells place room read =
-    weaker old new (λ image sized same. ap (λ (p : ℕ). range p (CELL_BYTES * count) image) (sym place) ∙ ap (λ (n : ℕ). range at n image) (sym (length-take-le (CELL_BYTES * count) buf room)) ∙ same) read
+    weaker old new (λ image sized same. ap (λ (p : ℕ). range p (CELL_BYTES * count) image) (sym place)
+    ∙ ap (λ (n : ℕ). range at n image) (sym (length-take-le (CELL_BYTES * count) buf room)) ∙ same) read
 
 module _ (half from count : ℕ) (old new : DiskView) (cells : List ℕ) (read : Shows old new (λ image. range (cell_at half from) (CELL_BYTES * count) image ≡ cells)) where
   pub none_among : IsFirstIn cells count None → IsFirstAmong (Shows old new) half from count None
@@ -119,7 +125,8 @@ closed_on half from cell to image lower_are higher_are c above below =
 pub none_looked_at : (half from : ℕ) (v : DiskView) → Shows v v (AreClosed half from from)
 none_looked_at half from v = always v v _ (λ image sized cell above below. absurd (omega (arith, above, below)))
 
-module _ (half from cell : ℕ) (old mid new : DiskView) (above : from ≤ cell) (so_far : Shows old mid (AreClosed half from cell)) (before : OnlyReads old mid) (next : OnlyReads mid new) where
+module _ (half from cell : ℕ) (old mid new : DiskView) (above : from ≤ cell) (so_far : Shows old mid (AreClosed half from cell)) (before : OnlyReads old mid)
+    (next : OnlyReads mid new) where
   pub more_closed : (count : ℕ) → IsFirstAmong (Shows mid new) half cell count None → Shows old new (AreClosed half from (cell + count))
   more_closed count here = weaker old new (λ image sized is. closed_on half from cell (cell + count) image is.0 is.1) (both old mid new so_far before here next.later)
 

@@ -45,7 +45,8 @@ module _ (names : NameMap) (puts : List Record) (good : AreNames names) (is : ma
   few = omega (arith, count_is, length-puts names, good.few)
 
   pub half_of : (selector : SelectorValue) (new : FreshHalf) → new.count ≡ length puts → new.previous ≡ last_of 0 (map record_value puts) → new.blanks.items ≡ zeros HALF_BYTES
-      → new.cells.items ≡ cells_of (map record_value puts) → length new.cells.items ≡ CELL_BYTES * length puts → new.selector.items ≡ selector_cell selector → length new.selector.items ≡ CELL_BYTES → new.next ≡ selector → selector.generation < 2 ^ 64
+      → new.cells.items ≡ cells_of (map record_value puts) → length new.cells.items ≡ CELL_BYTES * length puts → new.selector.items ≡ selector_cell selector →
+      length new.selector.items ≡ CELL_BYTES → new.next ≡ selector → selector.generation < 2 ^ 64
       → IsFreshHalf selector names new
   half_of selector new count previous blanks cells long selector_is whole next below = record {
     count = count ∙ count_is;

@@ -32,7 +32,8 @@ damage_break half at replay (NotAStore g m) place room damage = absurd damage
 damage_break half at replay (Version n) place room damage = absurd damage
 damage_break half at replay Numbers place room damage = absurd damage
 
-module _ (old new : DiskView) (half at : ℕ) (replay : Replay) (cell : List ℕ) (place : at ≡ cell_at half replay.count) (room : replay.count < half_cells) (gate : byte_at 0 cell ≡ RECORD_GATE) (read : Shows old new (λ image. range at 512 image ≡ cell)) where
+module _ (old new : DiskView) (half at : ℕ) (replay : Replay) (cell : List ℕ) (place : at ≡ cell_at half replay.count) (room : replay.count < half_cells)
+    (gate : byte_at 0 cell ≡ RECORD_GATE) (read : Shows old new (λ image. range at 512 image ≡ cell)) where
   fault_seen : (f : CellFault) → record_in at replay.previous replay.names cell ≡ Err f → IsRecordBreak half f × Shows old new (HasNextFault half replay f)
   fault_seen f is = (
     damage_break half at replay f place room (record_damage at replay.previous replay.names cell f is),
@@ -43,7 +44,8 @@ module _ (old new : DiskView) (half at : ℕ) (replay : Replay) (cell : List ℕ
   )
 
   -- the fault that a record has
-  pub next_fault : (e : CellFault) → IsFoundFault (record_in at replay.previous replay.names cell) e → IsCellFault (IsRecordBreak half) (λ f. Shows old new (HasNextFault half replay f)) e
+  pub next_fault : (e : CellFault) → IsFoundFault (record_in at replay.previous replay.names cell) e →
+      IsCellFault (IsRecordBreak half) (λ f. Shows old new (HasNextFault half replay f)) e
   next_fault Memory found = tt
   next_fault DiskRead found = absurd found
   next_fault DiskWrite found = absurd found
@@ -57,7 +59,8 @@ module _ (old new : DiskView) (half at : ℕ) (replay : Replay) (cell : List ℕ
 leave_none : Leave [] nothing_yet
 leave_none = record { right = tt; count = refl; previous = refl; names = refl }
 
-leave_more : (records : List RecordValue) (replay : Replay) (r : RecordValue) → Leave records replay → IsRecord r → replay.previous < r.sequence → IsTaken replay.names r → Leave (records ++ r ∷ []) (after_record replay r)
+leave_more : (records : List RecordValue) (replay : Replay) (r : RecordValue) → Leave records replay → IsRecord r → replay.previous < r.sequence → IsTaken replay.names r →
+    Leave (records ++ r ∷ []) (after_record replay r)
 leave_more records replay r leave right rises taken =
     record {
       right = follow_push 0 finite.empty records r leave.right right (subst (λ p. p < r.sequence) leave.previous rises) (subst (λ n. IsTaken n r) leave.names taken);
@@ -73,7 +76,8 @@ part_none half v = record { records = []; leave = leave_none; seen = always v v 
 left_after : (count : ℕ) → count < half_cells → half_cells - count ≡ suc (half_cells - suc count)
 left_after count room = omega (arith, room)
 
-more_stand : (half : ℕ) (records : List RecordValue) (replay : Replay) (r : RecordValue) (image : List ℕ) → replay.count < half_cells → Leave records replay → HasPart half records replay image → HasNext half replay r image
+more_stand : (half : ℕ) (records : List RecordValue) (replay : Replay) (r : RecordValue) (image : List ℕ) → replay.count < half_cells → Leave records replay →
+    HasPart half records replay image → HasNext half replay r image
     → HasPart half (records ++ r ∷ []) (after_record replay r) image
 more_stand half records replay r image room leave part next =
     let here : cell_at half replay.count ≡ cell_at half (0 + length records) = omega (arith, leave.count) in
@@ -85,26 +89,30 @@ more_stand half records replay r image room leave part next =
           ∙ replayed_open half (half_cells - suc replay.count) replay image r (gate_stands (cell_at half replay.count) r image next.spelled) next.read;
     }
 
-none_more : (half : ℕ) (records : List RecordValue) (replay : Replay) (image : List ℕ) → replay.count < half_cells → Leave records replay → HasPart half records replay image → byte_at (cell_at half replay.count) image ≢ RECORD_GATE
+none_more : (half : ℕ) (records : List RecordValue) (replay : Replay) (image : List ℕ) → replay.count < half_cells → Leave records replay → HasPart half records replay image →
+    byte_at (cell_at half replay.count) image ≢ RECORD_GATE
     → HasRead half records replay image
 none_more half records replay image room leave part closed = record {
   stand = part.stand;
   read = part.goes_on ∙ replayed_closed half (half_cells - replay.count) replay image closed;
 }
 
-all_stand : (half : ℕ) (records : List RecordValue) (replay : Replay) (image : List ℕ) → replay.count ≡ half_cells → HasPart half records replay image → HasRead half records replay image
+all_stand : (half : ℕ) (records : List RecordValue) (replay : Replay) (image : List ℕ) → replay.count ≡ half_cells → HasPart half records replay image →
+    HasRead half records replay image
 all_stand half records replay image full part = record {
   stand = part.stand;
   read = part.goes_on ∙ ap (λ n. replayed half n replay image) (omega (arith, full)) ∙ replayed_full half replay image;
 }
 
-module _ (half : ℕ) (old mid new : DiskView) (replay : Replay) (room : replay.count < half_cells) (part : IsPart (Shows old mid) half replay) (before : OnlyReads old mid) (after : OnlyReads mid new) where
+module _ (half : ℕ) (old mid new : DiskView) (replay : Replay) (room : replay.count < half_cells) (part : IsPart (Shows old mid) half replay) (before : OnlyReads old mid)
+    (after : OnlyReads mid new) where
   pub part_more : (r : RecordValue) → IsNext (Shows mid new) half replay (Some r) → IsPart (Shows old new) half (after_record replay r)
   part_more r next =
       record {
         records = part.records ++ r ∷ [];
         leave = leave_more part.records replay r part.leave next.0 next.1 next.2;
-        seen = weaker old new (λ image sized seen. more_stand half part.records replay r image room part.leave seen.0 seen.1) (both old mid new part.seen before next.3 after.later);
+        seen = weaker old new (λ image sized seen. more_stand half part.records replay r image room part.leave seen.0 seen.1)
+            (both old mid new part.seen before next.3 after.later);
       }
 
   pub part_read : IsNext (Shows mid new) half replay None → IsRead (Shows old new) half replay
@@ -118,7 +126,8 @@ module _ (half : ℕ) (old mid new : DiskView) (replay : Replay) (room : replay.
 
   fault_on : (f : CellFault) → Shows mid new (HasNextFault half replay f) → Shows old new (λ image. replayed half half_cells nothing_yet image ≡ Err f)
   fault_on f next =
-      weaker old new (λ image sized seen. seen.0.goes_on ∙ ap (λ n. replayed half n replay image) (left_after replay.count room) ∙ replayed_fault half (half_cells - suc replay.count) replay image f seen.1.open_gate seen.1.read)
+      weaker old new (λ image sized seen. seen.0.goes_on ∙ ap (λ n. replayed half n replay image) (left_after replay.count room)
+      ∙ replayed_fault half (half_cells - suc replay.count) replay image f seen.1.open_gate seen.1.read)
       (both old mid new part.seen before next after.later)
 
   pub part_fault : (e : CellFault) → IsCellFault (IsRecordBreak half) (λ f. Shows mid new (HasNextFault half replay f)) e

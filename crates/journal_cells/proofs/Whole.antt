@@ -34,7 +34,8 @@ not_both : (r : Replay) (f : CellFault) → (let read : Result Replay CellFault 
 not_both r f e = cc
 
 -- what was read, of a journal that stands there
-told_of : (s : Selection) (t : SelectorValue) (is_open : Bool) (records : List RecordValue) (replay : Replay) → s.selector ≡ t → s.other_open ≡ is_open → replay ≡ replay_of nothing_yet records
+told_of : (s : Selection) (t : SelectorValue) (is_open : Bool) (records : List RecordValue) (replay : Replay) → s.selector ≡ t → s.other_open ≡ is_open →
+    replay ≡ replay_of nothing_yet records
     → IsTold is_open t records (opened s replay) replay.names (opened s replay).last
 told_of s t is_open records replay same other is =
     let previous : replay.previous ≡ last_of 0 records = ap (λ (r : Replay). r.previous) is ∙ replay_previous nothing_yet records in
@@ -66,7 +67,8 @@ selector_fault old new (Version n) is = (is.0, weaker old new (λ image sized no
 selector_fault old new Numbers is = absurd is
 
 module _ (s : Selection) (old mid new : DiskView) (before : OnlyReads old mid) (after : OnlyReads mid new) where
-  pub half_fault : (e : CellFault) → s.selector.half ≤ 1 → Shows old mid (λ image. selection_of image ≡ Ok s) → IsCellFault (IsRecordBreak s.selector.half) (λ f. Shows mid new (λ image. half_in s.selector.half image ≡ Err f)) e
+  pub half_fault : (e : CellFault) → s.selector.half ≤ 1 → Shows old mid (λ image. selection_of image ≡ Ok s) →
+      IsCellFault (IsRecordBreak s.selector.half) (λ f. Shows mid new (λ image. half_in s.selector.half image ≡ Err f)) e
       → IsCellFault IsJournalBreak (λ f. Shows old new (λ image. journal_in image ≡ Err f)) e
   half_fault Memory small selector is = tt
   half_fault DiskRead small selector is = tt
@@ -87,7 +89,8 @@ module _ (s : Selection) (old mid new : DiskView) (before : OnlyReads old mid) (
         record {
           selector = s.selector;
           records = whole.records;
-          holds = weaker old new (λ image sized seen. record { selector_is = seen.0.selector_is; older = seen.0.older; records_are = seen.1.holds }) (both old mid new selector before whole.seen after.later);
+          holds = weaker old new (λ image sized seen. record { selector_is = seen.0.selector_is; older = seen.0.older; records_are = seen.1.holds })
+              (both old mid new selector before whole.seen after.later);
           other = weaker old new (λ image sized seen. seen.other) (until old mid new selector before.later.clock_is after.later);
           selector_right = right;
           few = whole.few;
@@ -117,14 +120,20 @@ module _ (s : Selection) (old mid new : DiskView) (before : OnlyReads old mid) (
         (both old mid new (also old mid held selector) before whole.seen after.later)
 
   -- where a record has a fault, no journal stands there
-  none_stands : (f : CellFault) → Shows old mid (λ image. (t : SelectorValue) → HoldsSelector image t → IsOlder image t → s.selector ≡ t) → Shows mid new (λ image. half_in s.selector.half image ≡ Err f)
-      → Shows old new (λ image. (t : SelectorValue) (records : List RecordValue) (is_open : Bool) → HoldsJournal image t records → KnowsOther is_open t.half image → IsTrue (fails f))
+  none_stands : (f : CellFault) → Shows old mid (λ image. (t : SelectorValue) → HoldsSelector image t → IsOlder image t → s.selector ≡ t) →
+      Shows mid new (λ image. half_in s.selector.half image ≡ Err f)
+      → Shows old new (λ image. (t : SelectorValue) (records : List RecordValue) (is_open : Bool) → HoldsJournal image t records → KnowsOther is_open t.half image →
+      IsTrue (fails f))
   none_stands f selector fault =
-      weaker old new (λ image sized seen t records is_open held knows. absurd (not_both (replay_of nothing_yet records) f (sym (found_there s.selector t records image (seen.0 t held.selector_is held.older) held) ∙ seen.1))) (both old mid new selector before fault after.later)
+      weaker old new (λ image sized seen t records is_open held knows. absurd
+      (not_both (replay_of nothing_yet records) f (sym (found_there s.selector t records image (seen.0 t held.selector_is held.older) held) ∙ seen.1)))
+      (both old mid new selector before fault after.later)
 
   -- where one stands, memory or the disk failed
-  pub fails_alone : (e : CellFault) → Shows old mid (λ image. (t : SelectorValue) → HoldsSelector image t → IsOlder image t → s.selector ≡ t) → IsCellFault (IsRecordBreak s.selector.half) (λ f. Shows mid new (λ image. half_in s.selector.half image ≡ Err f)) e
-      → Shows old new (λ image. (t : SelectorValue) (records : List RecordValue) (is_open : Bool) → HoldsJournal image t records → KnowsOther is_open t.half image → IsTrue (fails e))
+  pub fails_alone : (e : CellFault) → Shows old mid (λ image. (t : SelectorValue) → HoldsSelector image t → IsOlder image t → s.selector ≡ t) →
+      IsCellFault (IsRecordBreak s.selector.half) (λ f. Shows mid new (λ image. half_in s.selector.half image ≡ Err f)) e
+      → Shows old new (λ image. (t : SelectorValue) (records : List RecordValue) (is_open : Bool) → HoldsJournal image t records → KnowsOther is_open t.half image →
+      IsTrue (fails e))
   fails_alone Memory selector is = always old new _ (λ image sized t records is_open held knows. refl)
   fails_alone DiskRead selector is = always old new _ (λ image sized t records is_open held knows. refl)
   fails_alone DiskWrite selector is = absurd is

@@ -200,7 +200,8 @@ impl Journal {
         requires size { LEAST_SIZE ≤ (D.view disk.old).size }
         requires prepared { IsPreparedFor self.old fresh.now }
         ensures writes { (names : NameMap) → IsFreshHalf (next_selector self.old) names fresh.now
-            → Writes (Checkpoints self.old names) (IsCheckpointed self.old names) (ending blames result) (D.view disk.old) (D.view disk.new) }
+            → Writes (Checkpoints self.old names) (IsCheckpointed self.old names) (ending blames result)
+            (D.view disk.old) (D.view disk.new) }
         ensures journal { OnOk result ((names : NameMap) → IsFreshHalf (next_selector self.old) names fresh.now
             → self.new ≡ checkpointed names self.old) }
         ensures room { OnOk result (self.new.count < half_cells) }

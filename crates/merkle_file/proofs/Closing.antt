@@ -62,19 +62,25 @@ unfolding close
 close_none level carried row rows e none = rw (e, eq-eqb (length (row ++ carried)) 0 (ap length none)) refl
 
 pub close_some : (level : ℕ) (carried row : List Child) (rows : List (List Child)) → (are_empty rows && nat_le (length (row ++ carried)) 1) ≡ false → 1 ≤ length (row ++ carried)
-    → close level carried (row ∷ rows) ≡ record { top = (close (level + 1) (parent (node_of level (row ++ carried)) ∷ []) rows).top; nodes = node_of level (row ++ carried) ∷ (close (level + 1) (parent (node_of level (row ++ carried)) ∷ []) rows).nodes }
+    → close level carried (row ∷ rows) ≡ record {
+      top = (close (level + 1) (parent (node_of level (row ++ carried)) ∷ []) rows).top;
+      nodes =
+          node_of level (row ++ carried) ∷ (close (level + 1) (parent (node_of level (row ++ carried)) ∷ []) rows).nodes;
+    }
 unfolding close
 close_some level carried row rows e some = rw (e, ne_eqb (length (row ++ carried)) 0 (λ z. omega (arith, z))) refl
 
 -- divisible by the greatest number of children
-room_above : (n row count carried : ℕ) → 0 < n → MOST_CHILDREN * (row + MOST_CHILDREN * count + carried) ≤ MOST_CHILDREN ^ suc n → 1 ≤ row + carried → MOST_CHILDREN * (count + 1) ≤ MOST_CHILDREN ^ n
+room_above : (n row count carried : ℕ) → 0 < n → MOST_CHILDREN * (row + MOST_CHILDREN * count + carried) ≤ MOST_CHILDREN ^ suc n → 1 ≤ row + carried →
+    MOST_CHILDREN * (count + 1) ≤ MOST_CHILDREN ^ n
 room_above zero row count carried lt room some = absurd (omega arith)
 room_above (suc m) row count carried lt room some = omega (arith, room, pow-suc MOST_CHILDREN (suc m), pow-suc MOST_CHILDREN m)
 
 room_none : (n row count carried : ℕ) → MOST_CHILDREN * (row + MOST_CHILDREN * count + carried) ≤ MOST_CHILDREN ^ suc n → MOST_CHILDREN * count ≤ MOST_CHILDREN ^ n
 room_none n row count carried room = omega (arith, room, pow-suc MOST_CHILDREN n)
 
-pub can_close_some : (level : ℕ) (carried row : List Child) (rows : List (List Child)) → CanClose level carried (row ∷ rows) → (are_empty rows && nat_le (length (row ++ carried)) 1) ≡ false
+pub can_close_some : (level : ℕ) (carried row : List Child) (rows : List (List Child)) → CanClose level carried (row ∷ rows) →
+    (are_empty rows && nat_le (length (row ++ carried)) 1) ≡ false
     → 1 ≤ length (row ++ carried) → CanClose (level + 1) (parent (node_of level (row ++ carried)) ∷ []) rows
 unfolding count_of total_of
 can_close_some level carried row rows h e some =
@@ -99,7 +105,8 @@ can_close_some level carried row rows h e some =
       total = omega (arith, h.total, sum);
     }
 
-pub can_close_none : (level : ℕ) (carried row : List Child) (rows : List (List Child)) → CanClose level carried (row ∷ rows) → (are_empty rows && nat_le (length (row ++ carried)) 1) ≡ false
+pub can_close_none : (level : ℕ) (carried row : List Child) (rows : List (List Child)) → CanClose level carried (row ∷ rows) →
+    (are_empty rows && nat_le (length (row ++ carried)) 1) ≡ false
     → row ++ carried ≡ [] → CanClose (level + 1) [] rows
 unfolding count_of total_of
 can_close_none level carried row rows h e none = record {
@@ -131,7 +138,8 @@ closing_ends i carried now nodes all_top all_nodes row h front last le =
 
 -- the row at i is empty, and nothing was carried to it
 pub closing_skips : (i : ℕ) (carried : List Child) (now : List (List Child)) (nodes : List Contents) (all_top : Top) (all_nodes : List Contents) (row : List Child)
-    → IsClosing i carried now nodes all_top all_nodes → drop i now ≡ row ∷ drop (i + 1) now → (are_empty (drop (i + 1) now) && nat_le (length (row ++ carried)) 1) ≡ false → row ++ carried ≡ []
+    → IsClosing i carried now nodes all_top all_nodes → drop i now ≡ row ∷ drop (i + 1) now → (are_empty (drop (i + 1) now) && nat_le (length (row ++ carried)) 1) ≡ false →
+    row ++ carried ≡ []
     → IsClosing (i + 1) [] now nodes all_top all_nodes
 closing_skips i carried now nodes all_top all_nodes row h front last none =
     let closed = ap (close i carried) front ∙ close_none i carried row (drop (i + 1) now) last none in
@@ -143,7 +151,8 @@ closing_skips i carried now nodes all_top all_nodes row h front last none =
 
 -- the row at i becomes a node
 pub closing_goes_on : (i : ℕ) (carried : List Child) (now : List (List Child)) (nodes : List Contents) (all_top : Top) (all_nodes : List Contents) (row : List Child)
-    → IsClosing i carried now nodes all_top all_nodes → drop i now ≡ row ∷ drop (i + 1) now → (are_empty (drop (i + 1) now) && nat_le (length (row ++ carried)) 1) ≡ false → 1 ≤ length (row ++ carried)
+    → IsClosing i carried now nodes all_top all_nodes → drop i now ≡ row ∷ drop (i + 1) now → (are_empty (drop (i + 1) now) && nat_le (length (row ++ carried)) 1) ≡ false →
+    1 ≤ length (row ++ carried)
     → IsClosing (i + 1) (parent (node_of i (row ++ carried)) ∷ []) now (nodes ++ node_of i (row ++ carried) ∷ []) all_top all_nodes
 closing_goes_on i carried now nodes all_top all_nodes row h front last some =
     let node : Contents = node_of i (row ++ carried) in
@@ -176,20 +185,24 @@ root_test now i above children e =
     ∙ ap (λ (t : Bool). t && nat_le (length children) 1) (empty_items (drop (i + 1) now))
     ∙ ap (λ (rows : List (List Child)). are_empty rows && nat_le (length children) 1) (sym (drop-map (λ (row : Vec Child). row.items) (i + 1) now))
 
-pub loop_ends : (i : ℕ) (carried : List Child) (now : List (Vec Child)) (d : Vec Child) (above : List (Vec Child)) (children : List Child) (nodes : List Contents) (all_top : Top) (all_nodes : List Contents)
+pub loop_ends : (i : ℕ) (carried : List Child) (now : List (Vec Child)) (d : Vec Child) (above : List (Vec Child)) (children : List Child) (nodes : List Contents) (all_top : Top)
+    (all_nodes : List Contents)
     → IsClosing i carried (items_of now) nodes all_top all_nodes → i < length now → children ≡ (get_or now i d).items ++ carried → above ≡ drop (i + 1) now
     → test_of above children ≡ true → (top_of i children ≡ all_top) × (nodes ≡ all_nodes)
 loop_ends i carried now d above children nodes all_top all_nodes h lt is above_is test =
     let both = and_parts _ _ (sym (root_test now i above children above_is) ∙ test) in
     let le : length children ≤ 1 = leb-true (length children) 1 both.1 in
-    let ends = closing_ends i carried (items_of now) nodes all_top all_nodes (get_or now i d).items h (front_of now i d lt) both.0 (subst (λ (cs : List Child). length cs ≤ 1) is le) in
+    let ends = closing_ends i carried (items_of now) nodes all_top all_nodes (get_or now i d).items h (front_of now i d lt) both.0
+    (subst (λ (cs : List Child). length cs ≤ 1) is le) in
     (ap (top_of i) is ∙ ends.0, ends.1)
 
 -- what closing a row of these children gave
 abbrev pub GivesCarried : ℕ → List Child → List Contents → List Contents → Option Child → Type 0
-GivesCarried i children nodes nodes' next = MatchOption next ((children ≡ []) × (nodes' ≡ nodes)) (λ c. (1 ≤ length children) × (c ≡ parent (node_of i children)) × (nodes' ≡ nodes ++ node_of i children ∷ []))
+GivesCarried i children nodes nodes' next =
+    MatchOption next ((children ≡ []) × (nodes' ≡ nodes)) (λ c. (1 ≤ length children) × (c ≡ parent (node_of i children)) × (nodes' ≡ nodes ++ node_of i children ∷ []))
 
-pub loop_goes_on : (i : ℕ) (carried : List Child) (now : List (Vec Child)) (d : Vec Child) (above : List (Vec Child)) (children : List Child) (nodes nodes' : List Contents) (all_top : Top) (all_nodes : List Contents) (next : Option Child)
+pub loop_goes_on : (i : ℕ) (carried : List Child) (now : List (Vec Child)) (d : Vec Child) (above : List (Vec Child)) (children : List Child) (nodes nodes' : List Contents)
+    (all_top : Top) (all_nodes : List Contents) (next : Option Child)
     → IsClosing i carried (items_of now) nodes all_top all_nodes → i < length now → children ≡ (get_or now i d).items ++ carried → above ≡ drop (i + 1) now
     → test_of above children ≡ false → GivesCarried i children nodes nodes' next → IsClosing (i + 1) (option_to_list next) (items_of now) nodes' all_top all_nodes
 loop_goes_on i carried now d above children nodes nodes' all_top all_nodes None h lt is above_is test gave =
@@ -202,6 +215,7 @@ loop_goes_on i carried now d above children nodes nodes' all_top all_nodes (Some
     let some : 1 ≤ length (row ++ carried) = rw (← is) gave.0 in
     rw (gave.1, gave.2, is) (closing_goes_on i carried (items_of now) nodes all_top all_nodes row h (front_of now i d lt) last some)
 
-pub clear_step : (rows : List (Vec Child)) (i : ℕ) (v : Vec Child) → i < length rows → v.items ≡ [] → take i (items_of rows) ≡ replicate i [] → take (i + 1) (items_of (set rows i v)) ≡ replicate (i + 1) []
+pub clear_step : (rows : List (Vec Child)) (i : ℕ) (v : Vec Child) → i < length rows → v.items ≡ [] → take i (items_of rows) ≡ replicate i [] →
+    take (i + 1) (items_of (set rows i v)) ≡ replicate (i + 1) []
 clear_step rows i v lt none so_far =
     rw (items-set rows i v, none, take_more_set (items_of rows) i [] (omega (arith, length-items rows)), so_far) (replicate_more i [])

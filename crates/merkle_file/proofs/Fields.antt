@@ -115,7 +115,8 @@ entry_parts bytes len fits =
     let one : take 32 bytes ++ drop 32 bytes ≡ bytes = take-append-drop 32 bytes in
     let two : take 8 (drop 32 bytes) ++ drop 8 (drop 32 bytes) ≡ drop 32 bytes = take-append-drop 8 (drop 32 bytes) in
     let three : drop 8 (drop 32 bytes) ≡ drop 40 bytes = drop-drop 8 32 bytes in
-    rw back (sym one ∙ ap (λ (t : List ℕ). take 32 bytes ++ t) (sym two ∙ ap (λ (t : List ℕ). take 8 (drop 32 bytes) ++ t) three) ∙ sym (append_assoc (take 32 bytes) (take 8 (drop 32 bytes)) (drop 40 bytes)))
+    rw back (sym one ∙ ap (λ (t : List ℕ). take 32 bytes ++ t) (sym two ∙ ap (λ (t : List ℕ). take 8 (drop 32 bytes) ++ t) three)
+    ∙ sym (append_assoc (take 32 bytes) (take 8 (drop 32 bytes)) (drop 40 bytes)))
 
 -- a child's entry is forty bytes, and is read again
 pub length-entry : (c : Child) → length c.digest ≡ 32 → length (entry c) ≡ 40
@@ -133,7 +134,8 @@ pub child_again : (c : Child) (rest : List ℕ) → length c.digest ≡ 32 → c
 child_again c rest len lt =
     let d = digest_again c rest len in
     let n = length_again c rest len lt in
-    ap (λ (p : List ℕ × ℕ). let made : Child = record { digest = p.0; length = p.1 } in made) (ap (λ (x : List ℕ). (x, long_number (drop 32 (entry c ++ rest)))) d ∙ ap (λ (x : ℕ). (c.digest, x)) n)
+    ap (λ (p : List ℕ × ℕ). let made : Child = record { digest = p.0; length = p.1 } in made)
+    (ap (λ (x : List ℕ). (x, long_number (drop 32 (entry c ++ rest)))) d ∙ ap (λ (x : ℕ). (c.digest, x)) n)
 
 pub entry_again : (asked : Asked) (level more at before : ℕ) (c : Child) (rest : List ℕ) → length c.digest ≡ 32 → c.length < 2 ^ 64 → IsRight asked level more before c.length
     → entry_fault asked level more at before (entry c ++ rest) ≡ None

@@ -34,13 +34,15 @@ left_all form says begun (x ∷ xs) e =
     not_nil e = cc
 
 -- the groups of a list with one more, or none
-grouped_with : {X : Type 0} (form : Form) (says : X → Child) (xs carried : List X) → length carried ≤ 1 → grouped form says (xs ++ carried) ≡ whole form says xs ++ last_group (rest form says xs ++ carried)
+grouped_with : {X : Type 0} (form : Form) (says : X → Child) (xs carried : List X) → length carried ≤ 1 →
+    grouped form says (xs ++ carried) ≡ whole form says xs ++ last_group (rest form says xs ++ carried)
 grouped_with form says xs [] le =
     ap (grouped form says) (append-nil xs) ∙ grouped_is form says xs ∙ ap (λ left. whole form says xs ++ last_group left) (sym (append-nil (rest form says xs)))
 grouped_with form says xs (x ∷ []) le =
     grouped_is form says (xs ++ x ∷ [])
     ∙ elim (cases_Bool (is_whole form says (rest form says xs ++ x ∷ []))) [
-      | inl full ↦ (let g = whole_push form says [] xs x full in rw (g.0, g.1) (append-nil (whole form says xs ++ (rest form says xs ++ x ∷ []) ∷ []) ∙ ap (λ gs. whole form says xs ++ gs) (sym (last_some (rest form says xs) x))))
+      | inl full ↦ (let g = whole_push form says [] xs x full in rw (g.0, g.1)
+          (append-nil (whole form says xs ++ (rest form says xs ++ x ∷ []) ∷ []) ∙ ap (λ gs. whole form says xs ++ gs) (sym (last_some (rest form says xs) x))))
       | inr few ↦ (let g = rest_push form says [] xs x few in rw (g.0, g.1) refl)
     ]
   where
@@ -52,11 +54,13 @@ grouped_with form says xs (x ∷ y ∷ ys) le = absurd (omega arith)
 -- ---- empty rows
 
 -- Where all rows are empty, there is no tree.
-none_where_empty : {A : Type 0} (leaf : A → Child) (levels level : ℕ) (ts : List (Tree A)) → length ts < MOST_CHILDREN ^ levels → are_empty (child_rows leaf (open_trees ByCount leaf levels level ts)) ≡ true → ts ≡ []
+none_where_empty : {A : Type 0} (leaf : A → Child) (levels level : ℕ) (ts : List (Tree A)) → length ts < MOST_CHILDREN ^ levels →
+    are_empty (child_rows leaf (open_trees ByCount leaf levels level ts)) ≡ true → ts ≡ []
 unfolding open_trees
 none_where_empty leaf zero level ts room e = nil_from_length ts (omega arith)
 none_where_empty leaf (suc levels) level ts room e =
-    let both = and_parts (eqb (length (map (child_of leaf) (rest ByCount (child_of leaf) ts))) 0) (are_empty (child_rows leaf (open_trees ByCount leaf levels (level + 1) (map (joined (level + 1)) (whole ByCount (child_of leaf) ts))))) e in
+    let both = and_parts (eqb (length (map (child_of leaf) (rest ByCount (child_of leaf) ts))) 0)
+    (are_empty (child_rows leaf (open_trees ByCount leaf levels (level + 1) (map (joined (level + 1)) (whole ByCount (child_of leaf) ts))))) e in
     let count = counted (child_of leaf) [] ts (omega arith) in
     let none : length (map (child_of leaf) (rest ByCount (child_of leaf) ts)) ≡ 0 = eqb-true _ _ both.0 in
     let row : length (rest ByCount (child_of leaf) ts) ≡ 0 = omega (arith, length-children leaf (rest ByCount (child_of leaf) ts), none) in
@@ -65,7 +69,8 @@ none_where_empty leaf (suc levels) level ts room e =
     nil_from_length ts (omega (arith, count.sum, row, length-joined (level + 1) (whole ByCount (child_of leaf) ts), ap length above))
 
 -- where there is no tree, all rows are empty, and no node is in them
-pub empty_where_none : {A : Type 0} (leaf : A → Child) (levels level : ℕ) → (are_empty (child_rows leaf (open_trees {A = A} ByCount leaf levels level [])) ≡ true) × (nodes_in_rows leaf (open_trees {A = A} ByCount leaf levels level []) ≡ [])
+pub empty_where_none : {A : Type 0} (leaf : A → Child) (levels level : ℕ) → (are_empty (child_rows leaf (open_trees {A = A} ByCount leaf levels level [])) ≡ true)
+    × (nodes_in_rows leaf (open_trees {A = A} ByCount leaf levels level []) ≡ [])
 unfolding open_trees whole_from rest_from
 empty_where_none leaf zero level = (refl, refl)
 empty_where_none leaf (suc levels) level =
@@ -96,7 +101,8 @@ root_is leaf level t at = rw (← at) refl
 
 -- at most one tree is left
 only_tree : {A : Type 0} (leaf : A → Child) (levels level : ℕ) (ts : List (Tree A)) → length ts ≤ 1 → AtLevel level ts
-    → (top_of level (map (child_of leaf) ts) ≡ root_of leaf (tree_over ByCount leaf levels level ts)) × (flat_map (nodes_of leaf) ts ≡ nodes_of leaf (tree_over ByCount leaf levels level ts))
+    → (top_of level (map (child_of leaf) ts) ≡ root_of leaf (tree_over ByCount leaf levels level ts))
+    × (flat_map (nodes_of leaf) ts ≡ nodes_of leaf (tree_over ByCount leaf levels level ts))
 unfolding tree_over
 only_tree leaf zero level [] le at = (refl, refl)
 only_tree leaf (suc levels) level [] le at = (refl, refl)
@@ -146,8 +152,10 @@ finish_up leaf level r rows carried tree test some above =
     let later : Closed = close (level + 1) (parent (node_of level children) ∷ []) (child_rows leaf rows) in
     let top_up : later.top ≡ root_of leaf tree = rw (← child) above.top in
     let flat : flat_map (nodes_of leaf) (joined (level + 1) group ∷ []) ≡ ((flat_map (nodes_of leaf) r ++ flat_map (nodes_of leaf) carried) ++ node_of level children ∷ []) ++ [] =
-    flat_map-cons (nodes_of leaf) (joined (level + 1) group) [] ∙ ap (λ (ns : List Contents). ns ++ []) (nodes_of-joined leaf (level + 1) group ∙ rw (node, flat_map-append) refl) in
-    let nodes_up : nodes_in_rows leaf rows ++ ((((flat_map (nodes_of leaf) r ++ flat_map (nodes_of leaf) carried) ++ node_of level children ∷ []) ++ []) ++ later.nodes) ≡ nodes_of leaf tree =
+    flat_map-cons (nodes_of leaf) (joined (level + 1) group) [] ∙ ap (λ (ns : List Contents). ns ++ []) (nodes_of-joined leaf (level + 1) group ∙ rw (node, flat_map-append) refl)
+    in
+    let nodes_up : nodes_in_rows leaf rows ++ ((((flat_map (nodes_of leaf) r ++ flat_map (nodes_of leaf) carried) ++ node_of level children ∷ []) ++ []) ++ later.nodes) ≡ nodes_of
+    leaf tree =
     rw (← child, ← flat) above.nodes in
     record {
       top = ap (λ (c : Closed). c.top) closed ∙ top_up;
@@ -182,13 +190,15 @@ last_cases (x ∷ xs) = inr (omega arith, refl)
 -- the test for the root, over trees
 abbrev is_only : {A : Type 0} → (A → Child) → ℕ → ℕ → List (Tree A) → List (Tree A) → Bool
 is_only leaf levels level ts carried =
-    are_empty (child_rows leaf (open_trees ByCount leaf levels (level + 1) (map (joined (level + 1)) (whole ByCount (child_of leaf) ts)))) && nat_le (length (map (child_of leaf) (rest ByCount (child_of leaf) ts) ++ map (child_of leaf) carried)) 1
+    are_empty (child_rows leaf (open_trees ByCount leaf levels (level + 1) (map (joined (level + 1)) (whole ByCount (child_of leaf) ts)))) && nat_le
+    (length (map (child_of leaf) (rest ByCount (child_of leaf) ts) ++ map (child_of leaf) carried)) 1
 
 length-both : {A : Type 0} (leaf : A → Child) (xs ys : List (Tree A)) → length (map (child_of leaf) xs ++ map (child_of leaf) ys) ≡ length xs + length ys
 length-both leaf xs ys = omega (arith, length-append (map (child_of leaf) xs) (map (child_of leaf) ys), length-children leaf xs, length-children leaf ys)
 
 -- with no whole group, the test is on the length
-only_by_length : {A : Type 0} (leaf : A → Child) (levels level : ℕ) (ts carried : List (Tree A)) → whole ByCount (child_of leaf) ts ≡ [] → is_only leaf levels level ts carried ≡ false → 2 ≤ length (rest ByCount (child_of leaf) ts) + length carried
+only_by_length : {A : Type 0} (leaf : A → Child) (levels level : ℕ) (ts carried : List (Tree A)) → whole ByCount (child_of leaf) ts ≡ [] →
+    is_only leaf levels level ts carried ≡ false → 2 ≤ length (rest ByCount (child_of leaf) ts) + length carried
 only_by_length leaf levels level ts carried none test =
     let both = length-both leaf (rest ByCount (child_of leaf) ts) carried in
     let more : 1 < length (map (child_of leaf) (rest ByCount (child_of leaf) ts) ++ map (child_of leaf) carried) =
@@ -211,7 +221,8 @@ level_above leaf (suc levels) level ts carried test room = omega arith
 -- the last row
 finish_here : {A : Type 0} (leaf : A → Child) (levels level : ℕ) (ts carried : List (Tree A)) → AtLevel level ts → AtLevel level carried
     → MOST_CHILDREN * (length ts + length carried) ≤ MOST_CHILDREN ^ suc levels → is_only leaf levels level ts carried ≡ true
-    → IsFinished leaf level (rest ByCount (child_of leaf) ts ∷ open_trees ByCount leaf levels (level + 1) (map (joined (level + 1)) (whole ByCount (child_of leaf) ts))) carried (tree_over ByCount leaf (suc levels) level (ts ++ carried))
+    → IsFinished leaf level (rest ByCount (child_of leaf) ts ∷ open_trees ByCount leaf levels (level + 1) (map (joined (level + 1)) (whole ByCount (child_of leaf) ts))) carried
+    (tree_over ByCount leaf (suc levels) level (ts ++ carried))
 finish_here leaf levels level ts carried at ct room test =
     let r : List (Tree _) = rest ByCount (child_of leaf) ts in
     let ups : List (Tree _) = map (joined (level + 1)) (whole ByCount (child_of leaf) ts) in
@@ -221,9 +232,11 @@ finish_here leaf levels level ts carried at ct room test =
     let few : length (map (child_of leaf) r ++ map (child_of leaf) carried) ≤ 1 = leb-true _ 1 both.1 in
     let none : ups ≡ [] = none_where_empty leaf levels (level + 1) ups
     (omega (arith, room, count.sum, pow-suc MOST_CHILDREN levels, pow_positive levels, length-joined (level + 1) (whole ByCount (child_of leaf) ts))) both.0 in
-    let no_group : whole ByCount (child_of leaf) ts ≡ [] = nil_from_length (whole ByCount (child_of leaf) ts) (omega (arith, length-joined (level + 1) (whole ByCount (child_of leaf) ts), ap length none)) in
+    let no_group : whole ByCount (child_of leaf) ts ≡ [] =
+    nil_from_length (whole ByCount (child_of leaf) ts) (omega (arith, length-joined (level + 1) (whole ByCount (child_of leaf) ts), ap length none)) in
     let all : r ≡ ts = left_all ByCount (child_of leaf) [] ts no_group in
-    let no_node : nodes_in_rows leaf rows ≡ [] = ap (λ (us : List (Tree _)). nodes_in_rows leaf (open_trees ByCount leaf levels (level + 1) us)) none ∙ (empty_where_none leaf levels (level + 1)).1 in
+    let no_node : nodes_in_rows leaf rows ≡ [] = ap (λ (us : List (Tree _)). nodes_in_rows leaf (open_trees ByCount leaf levels (level + 1) us)) none
+    ∙ (empty_where_none leaf levels (level + 1)).1 in
     subst (λ (xs : List (Tree _)). IsFinished leaf level (r ∷ rows) carried (tree_over ByCount leaf (suc levels) level (xs ++ carried))) all
     (finish_last leaf (suc levels) level r rows carried both.0 no_node (omega (arith, few, length-both leaf r carried, length-append r carried))
     (subst (λ (xs : List (Tree _)). AtLevel level (xs ++ carried)) (sym all) (all_both level ts carried at ct)))
@@ -244,8 +257,11 @@ finish_law leaf (suc levels) level ts carried le lt at ct room =
       | inr more ↦
           (let above = level_above leaf levels level ts carried more room in
           let two : 2 ≤ length (ts ++ carried) = omega (arith, two_trees leaf levels level ts carried more, length-append ts carried) in
-          let tree : tree_over ByCount leaf (suc levels) level (ts ++ carried) ≡ tree_over ByCount leaf levels (level + 1) (ups ++ map (joined (level + 1)) (last_group (r ++ carried))) =
-          more_levels ByCount leaf levels level (ts ++ carried) two ∙ ap (tree_over ByCount leaf levels (level + 1)) (ap (map (joined (level + 1))) (grouped_with ByCount (child_of leaf) ts carried le) ∙ map-append (joined (level + 1)) (whole ByCount (child_of leaf) ts) (last_group (r ++ carried))) in
+          let tree : tree_over ByCount leaf (suc levels) level (ts ++ carried) ≡ tree_over ByCount leaf levels (level + 1)
+          (ups ++ map (joined (level + 1)) (last_group (r ++ carried))) =
+          more_levels ByCount leaf levels level (ts ++ carried) two ∙ ap (tree_over ByCount leaf levels (level + 1))
+          (ap (map (joined (level + 1))) (grouped_with ByCount (child_of leaf) ts carried le) ∙ map-append (joined (level + 1)) (whole ByCount (child_of leaf) ts)
+          (last_group (r ++ carried))) in
           elim (last_cases (r ++ carried)) [
             | inl none ↦
                 (let ih = finish_law leaf levels (level + 1) ups [] (omega arith) above (at_joined (level + 1) (whole ByCount (child_of leaf) ts)) tt
@@ -255,7 +271,12 @@ finish_law leaf (suc levels) level ts carried le lt at ct room =
             | inr some ↦
                 (let up : Tree _ = joined (level + 1) (r ++ carried) in
                 let ih = finish_law leaf levels (level + 1) ups (up ∷ []) (omega arith) above (at_joined (level + 1) (whole ByCount (child_of leaf) ts)) (refl, tt)
-                (omega (arith, room_some levels (length (whole ByCount (child_of leaf) ts)) (length r) (length carried) above (omega (arith, room, count.sum)) (omega (arith, some.0, length-append r carried)), counted_ups)) in
+                (omega (
+                  arith,
+                  room_some levels (length (whole ByCount (child_of leaf) ts)) (length r) (length carried) above (omega (arith, room, count.sum))
+                      (omega (arith, some.0, length-append r carried)),
+                  counted_ups,
+                )) in
                 let same : tree_over ByCount leaf (suc levels) level (ts ++ carried) ≡ tree_over ByCount leaf levels (level + 1) (ups ++ up ∷ []) = tree ∙ rw some.1 refl in
                 rw same (finish_up leaf level r rows carried _ more some.0 ih))
           ])

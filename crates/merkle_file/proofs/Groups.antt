@@ -40,7 +40,8 @@ some_left : {X : Type 0} (xs : List X) → 1 ≤ length xs → last_group xs ≡
 some_left [] some = absurd (omega arith)
 some_left (x ∷ xs) some = refl
 
-groups_taken : {X : Type 0} (says : X → Child) (begun xs : List X) → length begun < MOST_CHILDREN → 1 ≤ length begun + length xs → grouped_from ByCount says begun xs ≡ taken says (begun ++ xs)
+groups_taken : {X : Type 0} (says : X → Child) (begun xs : List X) → length begun < MOST_CHILDREN → 1 ≤ length begun + length xs →
+    grouped_from ByCount says begun xs ≡ taken says (begun ++ xs)
 unfolding grouped_from
 groups_taken says begun [] few some =
     some_left begun (omega (arith, some)) ∙ taken_all says begun few ∙ ap (taken says) (sym (append-nil begun))

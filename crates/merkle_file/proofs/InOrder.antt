@@ -56,7 +56,8 @@ flat_one leaf begun t =
     ∙ ap (λ (ns : List Contents). flat leaf begun ++ ns) (flat_map-cons (nodes_of leaf) t [] ∙ append-nil (nodes_of leaf t))
 
 -- The first of them has what was begun, and the next tree.
-first_group : {A : Type 0} (form : Form) (leaf : A → Child) (begun us : List (Tree A)) → Begins (flat leaf begun ++ of_first leaf us) (in_first leaf (groups_after form (child_of leaf) begun us))
+first_group : {A : Type 0} (form : Form) (leaf : A → Child) (begun us : List (Tree A)) →
+    Begins (flat leaf begun ++ of_first leaf us) (in_first leaf (groups_after form (child_of leaf) begun us))
 unfolding whole_from rest_from
 first_group form leaf [] [] = begins_all []
 first_group form leaf (b ∷ bs) [] = rw (append-nil (flat leaf (b ∷ bs))) (begins_all (flat leaf (b ∷ bs)))
@@ -71,7 +72,8 @@ first_joined : {A : Type 0} (leaf : A → Child) (level : ℕ) (gs : List (List 
 first_joined leaf level [] = begins_all []
 first_joined leaf level (g ∷ gs) = (said leaf level g ∷ [], nodes_of-joined leaf level g)
 
-whole_more : {X : Type 0} (form : Form) (says : X → Child) (begun xs ys : List X) → whole_from form says begun (xs ++ ys) ≡ whole_from form says begun xs ++ whole_from form says (rest_from form says begun xs) ys
+whole_more : {X : Type 0} (form : Form) (says : X → Child) (begun xs ys : List X) → whole_from form says begun (xs ++ ys) ≡ whole_from form says begun xs ++ whole_from form says
+    (rest_from form says begun xs) ys
 unfolding whole_from rest_from
 whole_more form says begun [] ys = refl
 whole_more form says begun (x ∷ xs) ys =
@@ -126,13 +128,16 @@ in_order leaf (suc levels) level ts us room =
           (let gs : List (List (Tree _)) = groups_after ByCount (child_of leaf) (rest ByCount (child_of leaf) ts) us in
           let ups : List (Tree _) = map (joined (level + 1)) (whole ByCount (child_of leaf) ts) in
           let rows : List Contents = nodes_in_rows leaf (open_trees ByCount leaf levels (level + 1) ups) in
-          let all : map (joined (level + 1)) (grouped ByCount (child_of leaf) (ts ++ us)) ≡ ups ++ map (joined (level + 1)) gs = ap (map (joined (level + 1))) (grouped_more ByCount (child_of leaf) ts us) ∙ map-append (joined (level + 1)) (whole ByCount (child_of leaf) ts) gs in
+          let all : map (joined (level + 1)) (grouped ByCount (child_of leaf) (ts ++ us)) ≡ ups ++ map (joined (level + 1)) gs =
+          ap (map (joined (level + 1))) (grouped_more ByCount (child_of leaf) ts us) ∙ map-append (joined (level + 1)) (whole ByCount (child_of leaf) ts) gs in
           let ih = in_order leaf levels (level + 1) ups (map (joined (level + 1)) gs) (omega (arith, ap length all, groups_few leaf levels (level + 1) (ts ++ us) room)) in
           let tree : tree_over ByCount leaf levels (level + 1) (ups ++ map (joined (level + 1)) gs) ≡ tree_over ByCount leaf (suc levels) level (ts ++ us) =
           ap (tree_over ByCount leaf levels (level + 1)) (sym all) ∙ sym (more_levels ByCount leaf levels level (ts ++ us) many) in
-          let next = begins_both (flat leaf (rest ByCount (child_of leaf) ts) ++ of_first leaf us) (in_first leaf gs) _ (first_group ByCount leaf (rest ByCount (child_of leaf) ts) us) (first_joined leaf (level + 1) gs) in
+          let next = begins_both (flat leaf (rest ByCount (child_of leaf) ts) ++ of_first leaf us) (in_first leaf gs) _
+          (first_group ByCount leaf (rest ByCount (child_of leaf) ts) us) (first_joined leaf (level + 1) gs) in
           rw (← tree, append_assoc rows (flat leaf (rest ByCount (child_of leaf) ts)) (of_first leaf us))
-          (begins_both (rows ++ (flat leaf (rest ByCount (child_of leaf) ts) ++ of_first leaf us)) (rows ++ of_first leaf (map (joined (level + 1)) gs)) _ (begins_after rows _ _ next) ih))
+          (begins_both (rows ++ (flat leaf (rest ByCount (child_of leaf) ts) ++ of_first leaf us)) (rows ++ of_first leaf (map (joined (level + 1)) gs)) _
+          (begins_after rows _ _ next) ih))
     ]
 
 pub nodes_come_in_order : NodesComeInOrder

@@ -62,5 +62,6 @@ child_found bytes i is lt =
 
 pub read_again : NodesAreReadAgain
 read_again n right =
-    let again = node_again any_node n (record { lowest = omega arith; greatest = omega arith; most = omega arith }) right (record { lowest = right.above; greatest = right.level; least = omega arith; most = right.total }) in
+    let again = node_again any_node n (record { lowest = omega arith; greatest = omega arith; most = omega arith }) right
+    (record { lowest = right.above; greatest = right.level; least = omega arith; most = right.total }) in
     (record { spelled = ap spelling (sym again.1); node = rw again.1 right }, again.1)

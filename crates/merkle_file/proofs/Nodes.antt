@@ -17,7 +17,8 @@ use Rattle.merkle_file.proofs.Fields.{IsBytes, IsBytes-drop, nothing_if, nothing
 
 -- ---- one entry after the other
 
-pub entries_step : (asked : Asked) (level count i at before len : ℕ) (rest : List ℕ) → i < count → entry_fault asked level (count - 1 - i) at before rest ≡ None → len ≡ long_number (drop 32 rest)
+pub entries_step : (asked : Asked) (level count i at before len : ℕ) (rest : List ℕ) → i < count → entry_fault asked level (count - 1 - i) at before rest ≡ None →
+    len ≡ long_number (drop 32 rest)
     → entries_fault asked level (count - i) at before rest ≡ entries_fault asked level (count - (i + 1)) (at + 40) (before + len) (drop 40 rest)
 unfolding entries_fault
 entries_step asked level count i at before len rest lt none is =
@@ -74,9 +75,11 @@ entries_take asked level (suc n) at before bytes fits long e =
     let there : 40 ≤ length bytes = omega (arith, long) in
     let len : ℕ = long_number (drop 32 bytes) in
     let others = entries_take asked level n (at + 40) (before + len) (drop 40 bytes) (IsBytes-drop 40 bytes fits) (omega (arith, long, length-drop 40 bytes)) both.1 in
-    let sum : total (children_in (suc n) bytes) ≡ len + total (children_in n (drop 40 bytes)) = sum_by-cons (λ (c : Child). c.length) (child_in bytes) (children_in n (drop 40 bytes)) in
+    let sum : total (children_in (suc n) bytes) ≡ len + total (children_in n (drop 40 bytes)) =
+    sum_by-cons (λ (c : Child). c.length) (child_in bytes) (children_in n (drop 40 bytes)) in
     record {
-      parts = entry_parts bytes there fits ∙ ap (λ (t : List ℕ). entry (child_in bytes) ++ t) others.parts ∙ sym (flat_map-cons entry (child_in bytes) (children_in n (drop 40 bytes)));
+      parts = entry_parts bytes there fits ∙ ap (λ (t : List ℕ). entry (child_in bytes) ++ t) others.parts
+          ∙ sym (flat_map-cons entry (child_in bytes) (children_in n (drop 40 bytes)));
       each = (record { digest = omega (arith, length-take 32 bytes, there); some = this.some; most = this.most }, others.each);
       count = ap suc others.count;
       most = λ h. rw sum (omega (arith, others.most this.below));

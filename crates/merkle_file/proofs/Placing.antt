@@ -54,7 +54,8 @@ parent_is_child level row c some most = record {
   most = rw (ne_eqb (level + 1 + 1) 1 (λ e. omega (arith, e))) (omega (arith, total_push row c, most));
 }
 
-pub can_next : (level : ℕ) (c : Child) (row : List Child) (rows : List (List Child)) → length row + 1 ≡ MOST_CHILDREN → CanPlace level c (row ∷ rows) → CanPlace (level + 1) (parent (node_over level row c)) rows
+pub can_next : (level : ℕ) (c : Child) (row : List Child) (rows : List (List Child)) → length row + 1 ≡ MOST_CHILDREN → CanPlace level c (row ∷ rows) →
+    CanPlace (level + 1) (parent (node_over level row c)) rows
 unfolding total_of count_of
 can_next level c row rows full h = record {
   levels = omega (arith, h.levels);
@@ -69,7 +70,11 @@ unfolding count_of
 can_not level c h = omega (arith, h.room)
 
 pub place_next : (level : ℕ) (c : Child) (row : List Child) (rows : List (List Child)) → length row + 1 ≡ MOST_CHILDREN
-    → place level c (row ∷ rows) ≡ record { rows = [] ∷ (place (level + 1) (parent (node_over level row c)) rows).rows; nodes = node_over level row c ∷ (place (level + 1) (parent (node_over level row c)) rows).nodes }
+    → place level c (row ∷ rows) ≡ record {
+      rows = [] ∷ (place (level + 1) (parent (node_over level row c)) rows).rows;
+      nodes =
+          node_over level row c ∷ (place (level + 1) (parent (node_over level row c)) rows).nodes;
+    }
 unfolding place
 place_next level c row rows full = rw (eq-eqb (length row + 1) MOST_CHILDREN full) refl
 

@@ -25,7 +25,8 @@ unfolding open_trees whole_from rest_from
 fresh_rows zero level = refl
 fresh_rows (suc levels) level = ap (λ (rows : List (List Child)). [] ∷ rows) (fresh_rows levels (level + 1))
 
-fresh_counts : (levels level : ℕ) → (count_of (replicate levels []) ≡ 0) × (total_of (replicate levels []) ≡ 0) × AreRows ByCount level (replicate levels []) × (length (replicate {A = List Child} levels []) ≡ levels)
+fresh_counts : (levels level : ℕ) → (count_of (replicate levels []) ≡ 0) × (total_of (replicate levels []) ≡ 0) × AreRows ByCount level (replicate levels [])
+    × (length (replicate {A = List Child} levels []) ≡ levels)
 unfolding count_of total_of
 fresh_counts zero level = (refl, refl, tt, refl)
 fresh_counts (suc levels) level =
@@ -89,7 +90,8 @@ placed_right level c (row ∷ rows) h =
     length_one [] x = refl
     length_one (y ∷ ys) x = omega (arith, length_one ys x)
 
-pub may_place : (rows : List (List Child)) (finished : List Contents) (leaves : ℕ) (c : Child) → IsProgress (progress rows finished leaves) → MayPush (progress rows finished leaves) c → length c.digest ≡ 32
+pub may_place : (rows : List (List Child)) (finished : List Contents) (leaves : ℕ) (c : Child) → IsProgress (progress rows finished leaves) →
+    MayPush (progress rows finished leaves) c → length c.digest ≡ 32
     → CanPlace 0 c rows
 may_place rows finished leaves c h may digest = record {
   levels = omega (arith, h.levels);
@@ -110,7 +112,8 @@ may_close rows finished leaves h = record {
   total = omega (arith, h.total);
 }
 
-pub pushed_progress : (rows rows' : List (List Child)) (finished finished' : List Contents) (leaves : ℕ) (c : Child) → IsProgress (progress rows finished leaves) → MayPush (progress rows finished leaves) c
+pub pushed_progress : (rows rows' : List (List Child)) (finished finished' : List Contents) (leaves : ℕ) (c : Child) → IsProgress (progress rows finished leaves) →
+    MayPush (progress rows finished leaves) c
     → length c.digest ≡ 32 → rows' ≡ (place 0 c rows).rows → IsProgress (progress rows' finished' (leaves + 1))
 pushed_progress rows rows' finished finished' leaves c h may digest e =
     let placed = placed_right 0 c rows (may_place rows finished leaves c h may digest) in
@@ -122,7 +125,8 @@ pushed_progress rows rows' finished finished' leaves c h may digest e =
       total = omega (arith, placed.total_is, may.total);
     })
 
-pub pushed_total : (rows rows' : List (List Child)) (finished : List Contents) (leaves : ℕ) (c : Child) → IsProgress (progress rows finished leaves) → MayPush (progress rows finished leaves) c → length c.digest ≡ 32
+pub pushed_total : (rows rows' : List (List Child)) (finished : List Contents) (leaves : ℕ) (c : Child) → IsProgress (progress rows finished leaves) →
+    MayPush (progress rows finished leaves) c → length c.digest ≡ 32
     → rows' ≡ (place 0 c rows).rows → total_of rows' ≡ total_of rows + c.length
 pushed_total rows rows' finished leaves c h may digest e = rw e (placed_right 0 c rows (may_place rows finished leaves c h may digest)).total_is
 
@@ -137,7 +141,8 @@ pub pushed_holds : (rows rows' : List (List Child)) (finished finished' : List C
 pushed_holds rows rows' finished finished' leaves c pushed taken h may digest e f holds =
     let placed = placed_right 0 c rows (may_place rows finished leaves c h may digest) in
     let law = push_law itself MOST_LEVEL 0 (map Leaf pushed) (Leaf c) (omega (arith, length-leaves pushed, holds.count, may.count)) in
-    let later : open_trees ByCount itself MOST_LEVEL 0 (map Leaf pushed ++ Leaf c ∷ []) ≡ open_over ByCount (pushed ++ c ∷ []) = ap (open_trees ByCount itself MOST_LEVEL 0) (sym (map-append Leaf pushed (c ∷ []))) in
+    let later : open_trees ByCount itself MOST_LEVEL 0 (map Leaf pushed ++ Leaf c ∷ []) ≡ open_over ByCount (pushed ++ c ∷ []) =
+    ap (open_trees ByCount itself MOST_LEVEL 0) (sym (map-append Leaf pushed (c ∷ []))) in
     record {
       rows = e ∙ ap (λ (rs : List (List Child)). (place 0 c rs).rows) holds.rows ∙ law.rows ∙ ap (child_rows itself) later;
       nodes = ap (λ (ns : List Contents). taken ++ ns) f ∙ sym (append_assoc taken finished (place 0 c rows).nodes)
@@ -163,7 +168,8 @@ pub finished_holds : (rows : List (List Child)) (finished : List Contents) (leav
     → ((close 0 [] rows).top ≡ root_of itself (tree_of ByCount itself pushed)) × (taken ++ (finished ++ (close 0 [] rows).nodes) ≡ nodes_of itself (tree_of ByCount itself pushed))
 finished_holds rows finished leaves pushed taken h holds =
     let law = finish_law itself MOST_LEVEL 0 (map Leaf pushed) [] (omega arith) (omega arith) (at_leaves pushed) tt (omega (arith, length-leaves pushed, holds.count, h.count)) in
-    let same : tree_over ByCount itself MOST_LEVEL 0 (map Leaf pushed ++ []) ≡ tree_of ByCount itself pushed = ap (tree_over ByCount itself MOST_LEVEL 0) (append-nil (map Leaf pushed)) in (
+    let same : tree_over ByCount itself MOST_LEVEL 0 (map Leaf pushed ++ []) ≡ tree_of ByCount itself pushed =
+    ap (tree_over ByCount itself MOST_LEVEL 0) (append-nil (map Leaf pushed)) in (
       ap (λ (rs : List (List Child)). (close 0 [] rs).top) holds.rows ∙ law.top ∙ ap (root_of itself) same,
       sym (append_assoc taken finished (close 0 [] rows).nodes)
           ∙ ap (λ (ns : List Contents). ns ++ (close 0 [] rows).nodes) holds.nodes

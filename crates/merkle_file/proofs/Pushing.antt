@@ -125,11 +125,14 @@ push_up leaf level r rows rows' t full up =
     let len = length-children leaf r in
     let group : List (Tree _) = r ++ t ∷ [] in
     let here = place_next level (child_of leaf t) (map (child_of leaf) r) (child_rows leaf rows) (omega (arith, len)) in
-    let node : said leaf (level + 1) group ≡ node_over level (map (child_of leaf) r) (child_of leaf t) = ap (λ (cs : List Child). record { level = level + 1; children = cs }) (map-append (child_of leaf) r (t ∷ [])) in
-    let child : child_of leaf (joined (level + 1) group) ≡ parent (node_over level (map (child_of leaf) r) (child_of leaf t)) = child_of-joined leaf (level + 1) group ∙ ap parent node in
+    let node : said leaf (level + 1) group ≡ node_over level (map (child_of leaf) r) (child_of leaf t) = ap (λ (cs : List Child). record { level = level + 1; children = cs })
+    (map-append (child_of leaf) r (t ∷ [])) in
+    let child : child_of leaf (joined (level + 1) group) ≡ parent (node_over level (map (child_of leaf) r) (child_of leaf t)) = child_of-joined leaf (level + 1) group
+    ∙ ap parent node in
     let above = place (level + 1) (parent (node_over level (map (child_of leaf) r) (child_of leaf t))) (child_rows leaf rows) in
     let rows_up : above.rows ≡ child_rows leaf rows' = rw (← child) up.rows in
-    let nodes_up : nodes_in_rows leaf rows ++ (((flat_map (nodes_of leaf) r ++ nodes_of leaf t) ++ node_over level (map (child_of leaf) r) (child_of leaf t) ∷ []) ++ above.nodes) ≡ nodes_in_rows leaf rows' =
+    let nodes_up : nodes_in_rows leaf rows ++ (((flat_map (nodes_of leaf) r ++ nodes_of leaf t) ++ node_over level (map (child_of leaf) r) (child_of leaf t) ∷ []) ++ above.nodes)
+    ≡ nodes_in_rows leaf rows' =
     rw (← child, ← node, ← flat_one leaf r t, ← nodes_of-joined leaf (level + 1) group) up.nodes in
     record {
       rows = ap (λ (p : Placed). p.rows) here ∙ ap (λ (rs : List (List Child)). [] ∷ rs) rows_up;
@@ -152,10 +155,12 @@ push_law leaf (suc levels) level ts t room =
           (let groups = whole_push ByCount (child_of leaf) [] ts t full in
           let is : length r + 1 ≡ MOST_CHILDREN = omega (arith, length-append r (t ∷ []), eqb-true _ _ full) in
           let up : Tree _ = joined (level + 1) (r ++ t ∷ []) in
-          let ih = push_law leaf levels (level + 1) above up (omega (arith, room, count.sum, pow-suc MOST_CHILDREN levels, length-joined (level + 1) (whole ByCount (child_of leaf) ts), is)) in
+          let ih = push_law leaf levels (level + 1) above up
+          (omega (arith, room, count.sum, pow-suc MOST_CHILDREN levels, length-joined (level + 1) (whole ByCount (child_of leaf) ts), is)) in
           let later : [] ∷ open_trees ByCount leaf levels (level + 1) (above ++ up ∷ []) ≡ open_trees ByCount leaf (suc levels) level (ts ++ t ∷ []) =
           rw (groups.0, groups.1, map-append) refl in
-          subst (λ (after : List (List (Tree _))). IsPushed leaf level (r ∷ rows) after t) later (push_up leaf level r rows (open_trees ByCount leaf levels (level + 1) (above ++ up ∷ [])) t is ih))
+          subst (λ (after : List (List (Tree _))). IsPushed leaf level (r ∷ rows) after t) later
+          (push_up leaf level r rows (open_trees ByCount leaf levels (level + 1) (above ++ up ∷ [])) t is ih))
       | inr few ↦
           (let groups = rest_push ByCount (child_of leaf) [] ts t few in
           let isnt : length r + 1 ≡ MOST_CHILDREN → ⊥ = λ e. eqb-false _ _ few (length-append r (t ∷ []) ∙ e) in

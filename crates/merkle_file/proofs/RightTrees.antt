@@ -31,8 +31,14 @@ pub record IsGroup (level : ℕ) (g : List Segments) : Type 0 where
   pub some : 1 ≤ length g
   pub few : length g ≤ MOST_CHILDREN
 
-push_group : (level : ℕ) (begun : List Segments) (t : Segments) → length begun < MOST_CHILDREN → AllByRecursion (IsRightAt level) begun → IsRightAt level t → IsGroup level (begun ++ t ∷ [])
-push_group level begun t lt all right = record { each = all_push (IsRightAt level) begun t all right; some = omega (arith, length-append begun (t ∷ [])); few = omega (arith, length-append begun (t ∷ [])) }
+push_group : (level : ℕ) (begun : List Segments) (t : Segments) → length begun < MOST_CHILDREN → AllByRecursion (IsRightAt level) begun → IsRightAt level t →
+    IsGroup level (begun ++ t ∷ [])
+push_group level begun t lt all right = record {
+  each = all_push (IsRightAt level) begun t all right;
+  some = omega (arith, length-append begun (t ∷ []));
+  few =
+      omega (arith, length-append begun (t ∷ []));
+}
 
 last_right : (level : ℕ) (ts : List Segments) → AllByRecursion (IsRightAt level) ts → length ts < MOST_CHILDREN → AllByRecursion (IsGroup level) (last_group ts)
 last_right level [] all lt = tt
@@ -82,7 +88,8 @@ group_total : (g : List Segments) → total (children_of of_segment (trees g)) �
 group_total [] = refl
 group_total (t ∷ ts) = omega (arith, sum_by-cons (λ (c : Child). c.length) (child_of of_segment t) (children_of of_segment (trees ts)), sum_by-cons size t ts, group_total ts)
 
-group_each : (level : ℕ) (g : List Segments) → AllByRecursion (IsRightAt level) g → AllByRecursion (IsChild (level + 1)) (children_of of_segment (trees g)) × AreBelow (level + 1) (trees g)
+group_each : (level : ℕ) (g : List Segments) → AllByRecursion (IsRightAt level) g → AllByRecursion (IsChild (level + 1)) (children_of of_segment (trees g))
+    × AreBelow (level + 1) (trees g)
 group_each level [] all = (tt, tt)
 group_each level (t ∷ ts) all =
     let others = group_each level ts all.1 in
@@ -133,7 +140,8 @@ one_tree level Empty right = tt
 one_tree level (Leaf segment) right = (right.tree, tt)
 one_tree level (Node l ts) right = (right.tree, tt)
 
-tree_right : (levels level : ℕ) (ts : List Segments) → level + levels ≡ MOST_LEVEL → AllByRecursion (IsRightAt level) ts → sizes ts ≤ MOST_FILE → AllByRecursion IsTree (trees_in (tree_over ByCount of_segment levels level ts))
+tree_right : (levels level : ℕ) (ts : List Segments) → level + levels ≡ MOST_LEVEL → AllByRecursion (IsRightAt level) ts → sizes ts ≤ MOST_FILE →
+    AllByRecursion IsTree (trees_in (tree_over ByCount of_segment levels level ts))
 unfolding tree_over
 tree_right zero level [] e all few = tt
 tree_right (suc levels) level [] e all few = tt

@@ -133,7 +133,8 @@ root_of_many segments two may =
     let count = length_map {Y = Segments} Leaf segments in
     let over = tree_over_right MOST_LEVEL 0 (map Leaf segments) refl (omega (arith, count, two)) right.0
     (omega (arith, right.1, may.most)) (omega (arith, count, may.few)) in
-    let node : 1 ≤ level_of (tree_of ByCount of_segment segments) = above_zero (level_of (tree_of ByCount of_segment segments)) (λ none. omega (arith, over.one none, count, two)) in
+    let node : 1 ≤ level_of (tree_of ByCount of_segment segments) = above_zero (level_of (tree_of ByCount of_segment segments)) (λ none. omega (arith, over.one none, count, two))
+    in
     record {
       size = over.all ∙ right.1;
       level = over.low;

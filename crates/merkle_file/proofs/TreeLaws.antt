@@ -36,7 +36,8 @@ mutual
 
   same_children : {A : Type 0} (leaf : A → Child) (ts : Trees A) → children_of itself (with_leaves_below leaf ts) ≡ children_of leaf ts
   same_children leaf NoTree = refl
-  same_children leaf (Then t ts) = ap (λ (c : Child). c ∷ children_of itself (with_leaves_below leaf ts)) (same_child leaf t) ∙ ap (λ (cs : List Child). child_of leaf t ∷ cs) (same_children leaf ts)
+  same_children leaf (Then t ts) = ap (λ (c : Child). c ∷ children_of itself (with_leaves_below leaf ts)) (same_child leaf t) ∙ ap (λ (cs : List Child). child_of leaf t ∷ cs)
+      (same_children leaf ts)
 
 mutual
   same_nodes : {A : Type 0} (leaf : A → Child) (t : Tree A) → nodes_of itself (with_leaves leaf t) ≡ nodes_of leaf t
@@ -48,7 +49,8 @@ mutual
 
   same_nodes_below : {A : Type 0} (leaf : A → Child) (ts : Trees A) → nodes_below itself (with_leaves_below leaf ts) ≡ nodes_below leaf ts
   same_nodes_below leaf NoTree = refl
-  same_nodes_below leaf (Then t ts) = ap (λ (ns : List Contents). ns ++ nodes_below itself (with_leaves_below leaf ts)) (same_nodes leaf t) ∙ ap (λ (ns : List Contents). nodes_of leaf t ++ ns) (same_nodes_below leaf ts)
+  same_nodes_below leaf (Then t ts) = ap (λ (ns : List Contents). ns ++ nodes_below itself (with_leaves_below leaf ts)) (same_nodes leaf t)
+      ∙ ap (λ (ns : List Contents). nodes_of leaf t ++ ns) (same_nodes_below leaf ts)
 
 same_level : {A : Type 0} (leaf : A → Child) (t : Tree A) → level_of (with_leaves leaf t) ≡ level_of t
 same_level leaf Empty = refl
@@ -70,7 +72,8 @@ length_map h (x ∷ xs) = ap suc (length_map h xs)
 abbrev pub SaysSame : {X Y : Type 0} → (X → Y) → (X → Child) → (Y → Child) → Type 0
 SaysSame {X} h says tells = (x : X) → tells (h x) ≡ says x
 
-same_whole : {X Y : Type 0} (form : Form) (h : X → Y) (says : X → Child) (tells : Y → Child) → SaysSame h says tells → (group : List X) → is_whole form tells (map h group) ≡ is_whole form says group
+same_whole : {X Y : Type 0} (form : Form) (h : X → Y) (says : X → Child) (tells : Y → Child) → SaysSame h says tells → (group : List X) →
+    is_whole form tells (map h group) ≡ is_whole form says group
 same_whole ByCount h says tells same group = ap (λ (n : ℕ). eqb n MOST_CHILDREN) (length_map h group)
 
 -- one element more
@@ -99,11 +102,14 @@ trees-map : {A B : Type 0} (f : A → B) (ts : List (Tree A)) → trees (map (wi
 trees-map f [] = refl
 trees-map f (t ∷ ts) = ap (λ (us : Trees _). Then (with_leaves f t) us) (trees-map f ts)
 
-joined-map : {A B : Type 0} (f : A → B) (level : ℕ) (groups : List (List (Tree A))) → map (joined level) (map (map (with_leaves f)) groups) ≡ map (with_leaves f) (map (joined level) groups)
+joined-map : {A B : Type 0} (f : A → B) (level : ℕ) (groups : List (List (Tree A))) → map (joined level) (map (map (with_leaves f)) groups) ≡ map (with_leaves f)
+    (map (joined level) groups)
 joined-map f level [] = refl
-joined-map f level (g ∷ gs) = ap (λ (ts : Trees _). Node level ts ∷ map (joined level) (map (map (with_leaves f)) gs)) (trees-map f g) ∙ ap (λ (us : List (Tree _)). Node level (with_leaves_below f (trees g)) ∷ us) (joined-map f level gs)
+joined-map f level (g ∷ gs) = ap (λ (ts : Trees _). Node level ts ∷ map (joined level) (map (map (with_leaves f)) gs)) (trees-map f g)
+    ∙ ap (λ (us : List (Tree _)). Node level (with_leaves_below f (trees g)) ∷ us) (joined-map f level gs)
 
-tree_over-map : {A : Type 0} (form : Form) (leaf : A → Child) (levels level : ℕ) (ts : List (Tree A)) → tree_over form itself levels level (map (with_leaves leaf) ts) ≡ with_leaves leaf (tree_over form leaf levels level ts)
+tree_over-map : {A : Type 0} (form : Form) (leaf : A → Child) (levels level : ℕ) (ts : List (Tree A)) →
+    tree_over form itself levels level (map (with_leaves leaf) ts) ≡ with_leaves leaf (tree_over form leaf levels level ts)
 unfolding tree_over
 tree_over-map form leaf zero level [] = refl
 tree_over-map form leaf (suc levels) level [] = refl
@@ -145,7 +151,8 @@ unfolding grouped_from
 grouped_join form says begun [] = last_join begun ∙ sym (append-nil (flat begun))
 grouped_join form says begun (x ∷ xs) =
     let apart : flat (begun ++ x ∷ []) ++ flat xs ≡ flat begun ++ flat (x ∷ xs) =
-    ap (λ (out : List _). out ++ flat xs) (flat_one begun x) ∙ append_assoc (flat begun) (leaves x) (flat xs) ∙ ap (λ (out : List _). flat begun ++ out) (sym (flat_map-cons leaves x xs)) in
+    ap (λ (out : List _). out ++ flat xs) (flat_one begun x) ∙ append_assoc (flat begun) (leaves x) (flat xs) ∙ ap (λ (out : List _). flat begun ++ out)
+    (sym (flat_map-cons leaves x xs)) in
     elim (cases_Bool (is_whole form says (begun ++ x ∷ []))) [
       | inl full ↦
           rw full (flat_map-cons flat (begun ++ x ∷ []) (grouped_from form says [] xs)
@@ -192,7 +199,8 @@ groups_few leaf levels level ts few =
       last_few left,
     )
 
-leaves_over : {A : Type 0} (leaf : A → Child) (levels level : ℕ) (ts : List (Tree A)) → length ts ≤ MOST_CHILDREN ^ levels → leaves (tree_over ByCount leaf levels level ts) ≡ flat ts
+leaves_over : {A : Type 0} (leaf : A → Child) (levels level : ℕ) (ts : List (Tree A)) → length ts ≤ MOST_CHILDREN ^ levels →
+    leaves (tree_over ByCount leaf levels level ts) ≡ flat ts
 unfolding tree_over
 leaves_over leaf zero level [] few = refl
 leaves_over leaf (suc levels) level [] few = refl

@@ -16,7 +16,8 @@ below_roots : (level : ℕ) (ts : Trees (List ℕ)) → AreBelow level ts → ma
 below_roots level NoTree h = refl
 below_roots level (Then t ts) h =
     let one : level - 1 ≡ level_of t = omega (arith, h.0) in
-    ap (λ (l : ℕ). let top : Top = record { length = (child_of of_segment t).length; level = l; digest = (child_of of_segment t).digest } in top ∷ map (below level) (children_of of_segment ts)) one
+    ap (λ (l : ℕ). let top : Top = record { length = (child_of of_segment t).length; level = l; digest = (child_of of_segment t).digest } in top ∷ map (below level)
+    (children_of of_segment ts)) one
     ∙ ap (λ (tops : List Top). root_of of_segment t ∷ tops) (below_roots level ts h.2)
 
 trees_below : (level : ℕ) (ts : Trees (List ℕ)) → AreBelow level ts → AllByRecursion IsTree (list_of ts)

@@ -36,7 +36,8 @@ pushed_child before level all i c e =
 
 -- ---- room
 
-room_below : (level : ℕ) (cs : List Child) (ts : List Top) → 1 ≤ level → length cs ≤ MOST_CHILDREN → length ts + (MOST_CHILDREN - 1) * level < STACK → HasRoom ts → HasRoom (map (below level) cs ++ ts)
+room_below : (level : ℕ) (cs : List Child) (ts : List Top) → 1 ≤ level → length cs ≤ MOST_CHILDREN → length ts + (MOST_CHILDREN - 1) * level < STACK → HasRoom ts →
+    HasRoom (map (below level) cs ++ ts)
 room_below level [] ts some few room rest = rest
 room_below level (c ∷ cs) ts some few room rest =
     (λ _. omega (arith, length-append (map (below level) cs) ts, length_map cs, room, few, some), room_below level cs ts some (omega arith) room rest)

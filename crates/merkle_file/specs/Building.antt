@@ -85,7 +85,8 @@ pub record Holds (b : Progress) (pushed : List Child) (taken : List Contents) : 
 -- rows from a level on: less than the most children in each, and right ones
 abbrev pub AreRows : Form → ℕ → List (List Child) → Type 0
 AreRows form level [] = Unit {0}
-AreRows form level (row ∷ rows) = (length row < most_children form) × AllByRecursion (IsChild (level + 1)) row × AreRows form (level + 1) rows
+AreRows form level (row ∷ rows) = (length row < most_children form) × AllByRecursion (IsChild (level + 1)) row
+    × AreRows form (level + 1) rows
 
 -- What rows tell of the number of leaves below them. Where nodes end by the number of their children, it is that number.
 abbrev pub AreCounted : Form → List (List Child) → ℕ → Type 0

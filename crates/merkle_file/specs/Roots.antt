@@ -28,8 +28,10 @@ pub record IsRootOf (form : Form) (segments : List (List ℕ)) (root : Top) : Ty
   pub empty : root.length ≡ 0 → root.digest ≡ sha256 []
 
 abbrev pub RootsAreRight : Type 0
-RootsAreRight = (form : Form) (segments : List (List ℕ)) → MayBeFile form segments → IsRootOf form segments (root_of of_segment (tree_of form of_segment segments))
+RootsAreRight = (form : Form) (segments : List (List ℕ)) → MayBeFile form segments →
+    IsRootOf form segments (root_of of_segment (tree_of form of_segment segments))
 
 -- Each node of the tree keeps the rules of nodes.
 abbrev pub NodesAreRight : Type 0
-NodesAreRight = (form : Form) (segments : List (List ℕ)) → MayBeFile form segments → AllByRecursion IsNode (nodes_of of_segment (tree_of form of_segment segments))
+NodesAreRight = (form : Form) (segments : List (List ℕ)) → MayBeFile form segments →
+    AllByRecursion IsNode (nodes_of of_segment (tree_of form of_segment segments))

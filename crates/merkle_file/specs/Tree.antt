@@ -131,11 +131,13 @@ SegmentsAlike = (form : Form) (segments : List (List ℕ)) →
 
 -- The leaves of the tree over a list are the list, in order, if it fits.
 abbrev pub LeavesAreSegments : Type 0
-LeavesAreSegments = (form : Form) (segments : List (List ℕ)) → Fits form of_segment segments → leaves (tree_of form of_segment segments) ≡ segments
+LeavesAreSegments = (form : Form) (segments : List (List ℕ)) → Fits form of_segment segments →
+    leaves (tree_of form of_segment segments) ≡ segments
 
 -- So its bytes are those of the segments, one after the other.
 abbrev pub BytesAreSegments : Type 0
-BytesAreSegments = (form : Form) (segments : List (List ℕ)) → Fits form of_segment segments → bytes_of (tree_of form of_segment segments) ≡ concat segments
+BytesAreSegments = (form : Form) (segments : List (List ℕ)) → Fits form of_segment segments →
+    bytes_of (tree_of form of_segment segments) ≡ concat segments
 
 -- Over no segment there is no tree, and over one there is no node.
 abbrev pub NoneIsEmpty : Type 0

@@ -113,5 +113,6 @@ segments_in ts = flat_map leaves ts
 
 -- The tree over segments of right lengths, no more of them than a file has bytes, has right nodes alone.
 abbrev pub TreesAreRight : Type 0
-TreesAreRight = (form : Form) (segments : List (List ℕ)) → AllByRecursion (λ segment. (1 ≤ length segment) × (length segment ≤ MOST_SEGMENT)) segments
+TreesAreRight = (form : Form) (segments : List (List ℕ)) →
+    AllByRecursion (λ segment. (1 ≤ length segment) × (length segment ≤ MOST_SEGMENT)) segments
     → sum_by length segments ≤ MOST_FILE → AllByRecursion IsTree (trees_in (tree_of form of_segment segments))

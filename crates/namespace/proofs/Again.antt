@@ -51,7 +51,8 @@ none_below q k (e ∷ es) same h =
     let less : slice_cmp nat_cmp q e.0 ≡ Less = nat_list_cmp_total.congr q k e.0 same ∙ is_less _ (first _ _ h) in
     ap (λ o. cond (is_eq o) (Some e.1) (finite.find (slice_cmp nat_cmp) q es)) less ∙ none_below q k es same (second _ _ h)
 
-found_later : (e x : List ℕ × Named) (es : List (List ℕ × Named)) → T (below_all (slice_cmp nat_cmp) e.0 es) → finite.find (slice_cmp nat_cmp) x.0 es ≡ Some x.1 → finite.find (slice_cmp nat_cmp) x.0 (e ∷ es) ≡ Some x.1
+found_later : (e x : List ℕ × Named) (es : List (List ℕ × Named)) → T (below_all (slice_cmp nat_cmp) e.0 es) → finite.find (slice_cmp nat_cmp) x.0 es ≡ Some x.1 →
+    finite.find (slice_cmp nat_cmp) x.0 (e ∷ es) ≡ Some x.1
 found_later e x es below found =
     elim (eq_by_cmp (slice_cmp nat_cmp) x.0 e.0) as (λ b. eq_by_cmp (slice_cmp nat_cmp) x.0 e.0 ≡ b → cond b (Some e.1) (finite.find (slice_cmp nat_cmp) x.0 es) ≡ Some x.1) [
       | true ↦ λ same. let none = none_below x.0 e.0 es (is_equal _ same) below in cc
@@ -63,15 +64,18 @@ found_each [] h = All-nil _
 found_each (e ∷ es) h =
     All-cons (λ x. finite.find (slice_cmp nat_cmp) x.0 (e ∷ es) ≡ Some x.1) e es
     (ap (λ o. cond (is_eq o) (Some e.1) (finite.find (slice_cmp nat_cmp) e.0 es)) (tied_itself nat_list_cmp_total e.0))
-    (All-weaker (λ x. finite.find (slice_cmp nat_cmp) x.0 es ≡ Some x.1) (λ x. finite.find (slice_cmp nat_cmp) x.0 (e ∷ es) ≡ Some x.1) (λ x. found_later e x es (first _ _ h)) es (found_each es (second _ _ h)))
+    (All-weaker (λ x. finite.find (slice_cmp nat_cmp) x.0 es ≡ Some x.1) (λ x. finite.find (slice_cmp nat_cmp) x.0 (e ∷ es) ≡ Some x.1) (λ x. found_later e x es (first _ _ h)) es
+    (found_each es (second _ _ h)))
 
 -- each entry is found
 pub entries_found : (names : NameMap) → All (λ e. finite.get names e.0 ≡ Some e.1) (finite.entries names)
-entries_found names = All-weaker (λ e. finite.find (slice_cmp nat_cmp) e.0 (finite.entries names) ≡ Some e.1) (λ e. finite.get names e.0 ≡ Some e.1) (λ e found. finite.get-entries names e.0 ∙ found) (finite.entries names) (found_each (finite.entries names) (finite.entries_sorted names))
+entries_found names = All-weaker (λ e. finite.find (slice_cmp nat_cmp) e.0 (finite.entries names) ≡ Some e.1) (λ e. finite.get names e.0 ≡ Some e.1)
+    (λ e found. finite.get-entries names e.0 ∙ found) (finite.entries names) (found_each (finite.entries names) (finite.entries_sorted names))
 
 -- each of the puts, in any order, is one of the names
 pub each_put : (names : NameMap) (puts : List RecordValue) → IsPermutation (map put_of (finite.entries names)) puts → All (IsPutOf names) puts
-each_put names puts same = All-permutation (IsPutOf names) (map put_of (finite.entries names)) puts same (All-map (IsPutOf names) put_of (finite.entries names) (entries_found names))
+each_put names puts same = All-permutation (IsPutOf names) (map put_of (finite.entries names)) puts same
+    (All-map (IsPutOf names) put_of (finite.entries names) (entries_found names))
 
 -- what holds of each key holds of each put's name, and the other way round
 over_puts : (P : List ℕ → Type 0) (es : List (List ℕ × Named)) → All P (map (λ e. e.0) es) → All (λ r. P r.name) (map put_of es)
@@ -80,7 +84,8 @@ over_puts P (e ∷ es) h = All-cons (λ r. P r.name) (put_of e) (map put_of es) 
 
 over_keys : (P : List ℕ → Type 0) (es : List (List ℕ × Named)) → All (λ r. P r.name) (map put_of es) → All P (map (λ e. e.0) es)
 over_keys P [] h = All-nil _
-over_keys P (e ∷ es) h = All-cons P e.0 (map (λ x. x.0) es) (All-head (λ r. P r.name) (put_of e) (map put_of es) h) (over_keys P es (All-tail (λ r. P r.name) (put_of e) (map put_of es) h))
+over_keys P (e ∷ es) h = All-cons P e.0 (map (λ x. x.0) es) (All-head (λ r. P r.name) (put_of e) (map put_of es) h)
+    (over_keys P es (All-tail (λ r. P r.name) (put_of e) (map put_of es) h))
 
 pub named_puts : (names : NameMap) (puts : List RecordValue) → AreNames names → IsPermutation (map put_of (finite.entries names)) puts → All (λ r. IsName r.name) puts
 named_puts names puts h same = All-permutation (λ r. IsName r.name) (map put_of (finite.entries names)) puts same (over_puts IsName (finite.entries names) h.named)
@@ -89,7 +94,8 @@ named_puts names puts h same = All-permutation (λ r. IsName r.name) (map put_of
 abbrev FindsIn : NameMap → NameMap → Type 0
 FindsIn part names = (q : List ℕ) (x : Named) → finite.get part q ≡ Some x → finite.get names q ≡ Some x
 
-change_finds : (names part : NameMap) (sequence : ℕ) (name : List ℕ) (change : Change) → IsOf names sequence name change → FindsIn part names → FindsIn (names_changed sequence name change part) names
+change_finds : (names part : NameMap) (sequence : ℕ) (name : List ℕ) (change : Change) → IsOf names sequence name change → FindsIn part names →
+    FindsIn (names_changed sequence name change part) names
 change_finds names part sequence name (Put root) of h = λ q x found.
     elim (found_put part name (record { sequence = sequence; root = root }) q x found) [
       | inl p ↦ ap (finite.get names) p.0 ∙ of ∙ ap Some (sym p.1)
@@ -106,21 +112,25 @@ still : (b : Bool) (new : Named) (o : Option Named) → is_some o ≡ true → i
 still true new o h = refl
 still false new o h = h
 
-change_keeps : (names part : NameMap) (sequence : ℕ) (name : List ℕ) (change : Change) (q : List ℕ) → IsOf names sequence name change → is_some (finite.get part q) ≡ true → is_some (finite.get (names_changed sequence name change part) q) ≡ true
+change_keeps : (names part : NameMap) (sequence : ℕ) (name : List ℕ) (change : Change) (q : List ℕ) → IsOf names sequence name change → is_some (finite.get part q) ≡ true →
+    is_some (finite.get (names_changed sequence name change part) q) ≡ true
 change_keeps names part sequence name (Put root) q of h =
     let new : Named = record { sequence = sequence; root = root } in
     ap is_some (finite.get-insert nat_list_cmp_total part name new q) ∙ still (eq_by_cmp (slice_cmp nat_cmp) q name) new (finite.get part q) h
 change_keeps names part sequence name Delete q of h = absurd of
 
-replay_keeps : (names : NameMap) (puts : List RecordValue) (part : NameMap) (q : List ℕ) → All (IsPutOf names) puts → is_some (finite.get part q) ≡ true → is_some (finite.get (names_after puts part) q) ≡ true
+replay_keeps : (names : NameMap) (puts : List RecordValue) (part : NameMap) (q : List ℕ) → All (IsPutOf names) puts → is_some (finite.get part q) ≡ true →
+    is_some (finite.get (names_after puts part) q) ≡ true
 replay_keeps names [] part q of h = h
 replay_keeps names (r ∷ rs) part q of h =
     replay_keeps names rs (names_with r part) q (All-tail (IsPutOf names) r rs of) (change_keeps names part r.sequence r.name r.change q (All-head (IsPutOf names) r rs of) h)
 
-change_adds : (names part : NameMap) (sequence : ℕ) (name : List ℕ) (change : Change) → IsOf names sequence name change → is_some (finite.get (names_changed sequence name change part) name) ≡ true
+change_adds : (names part : NameMap) (sequence : ℕ) (name : List ℕ) (change : Change) → IsOf names sequence name change →
+    is_some (finite.get (names_changed sequence name change part) name) ≡ true
 change_adds names part sequence name (Put root) of =
     let new : Named = record { sequence = sequence; root = root } in
-    ap is_some (finite.get-insert nat_list_cmp_total part name new name) ∙ ap (λ o. is_some (cond (is_eq o) (Some new) (finite.get part name))) (tied_itself nat_list_cmp_total name)
+    ap is_some (finite.get-insert nat_list_cmp_total part name new name) ∙ ap (λ o. is_some (cond (is_eq o) (Some new) (finite.get part name)))
+    (tied_itself nat_list_cmp_total name)
 change_adds names part sequence name Delete of = absurd of
 
 replay_adds : (names : NameMap) (puts : List RecordValue) (part : NameMap) → All (IsPutOf names) puts → All (λ r. is_some (finite.get (names_after puts part) r.name) ≡ true) puts
@@ -145,22 +155,26 @@ pub replays : (names : NameMap) (puts : List RecordValue) → IsPermutation (map
 replays names puts same =
     let of = each_put names puts same in
     let again = names_after puts finite.empty in
-    let there : All (λ r. is_some (finite.get again r.name) ≡ true) (map put_of (finite.entries names)) = All-permutation (λ r. is_some (finite.get again r.name) ≡ true) puts (map put_of (finite.entries names)) (IsPermutation-sym _ _ same) (replay_adds names puts finite.empty of) in
+    let there : All (λ r. is_some (finite.get again r.name) ≡ true) (map put_of (finite.entries names)) = All-permutation (λ r. is_some (finite.get again r.name) ≡ true) puts
+    (map put_of (finite.entries names)) (IsPermutation-sym _ _ same) (replay_adds names puts finite.empty of) in
     finite.same_map nat_list_cmp_total exact_bytes again names (λ q.
     agree (finite.get again q) (finite.get names q) (replay_finds names puts finite.empty of (nothing names) q) (λ found.
-    found_name (λ n. is_some (finite.get again n) ≡ true) q (finite.entries names) (over_keys (λ n. is_some (finite.get again n) ≡ true) (finite.entries names) there) (ap is_some (sym (finite.get-entries names q)) ∙ found)))
+    found_name (λ n. is_some (finite.get again n) ≡ true) q (finite.entries names) (over_keys (λ n. is_some (finite.get again n) ≡ true) (finite.entries names) there)
+    (ap is_some (sym (finite.get-entries names q)) ∙ found)))
 
 room_later : (b : Bool) (n m k : ℕ) → m ≡ cond b n (n + 1) → (n + (k + 1)) ≤ MOST_NAMES → (m + k) ≤ MOST_NAMES
 room_later true n m k e h = omega (arith, e, h)
 room_later false n m k e h = omega (arith, e, h)
 
-change_taken : (names part : NameMap) (sequence : ℕ) (name : List ℕ) (change : Change) (more : ℕ) → IsOf names sequence name change → (finite.len part + (more + 1)) ≤ MOST_NAMES → HasPlace part name change × ((finite.len (names_changed sequence name change part) + more) ≤ MOST_NAMES)
+change_taken : (names part : NameMap) (sequence : ℕ) (name : List ℕ) (change : Change) (more : ℕ) → IsOf names sequence name change → (finite.len part + (more + 1)) ≤ MOST_NAMES →
+    HasPlace part name change × ((finite.len (names_changed sequence name change part) + more) ≤ MOST_NAMES)
 change_taken names part sequence name (Put root) more of room =
     let new : Named = record { sequence = sequence; root = root } in
     (inr (omega (arith, room)), room_later (is_some (finite.get part name)) (finite.len part) _ more (finite.len-insert nat_list_cmp_total part name new) room)
 change_taken names part sequence name Delete more of room = absurd of
 
-taken_each : (names : NameMap) (puts : List RecordValue) (part : NameMap) → All (IsPutOf names) puts → All (λ r. IsName r.name) puts → (finite.len part + length puts) ≤ MOST_NAMES → AreTaken part puts
+taken_each : (names : NameMap) (puts : List RecordValue) (part : NameMap) → All (IsPutOf names) puts → All (λ r. IsName r.name) puts →
+    (finite.len part + length puts) ≤ MOST_NAMES → AreTaken part puts
 taken_each names [] part of named room = tt
 taken_each names (r ∷ rs) part of named room =
     let one = change_taken names part r.sequence r.name r.change (length rs) (All-head (IsPutOf names) r rs of) (omega (arith, room)) in

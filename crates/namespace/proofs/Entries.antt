@@ -58,7 +58,8 @@ module _ {X A : Type 0} where
   pub entries_seen : (es : List (Vec ℕ A × X)) → IsStrictlySortedBy vec_cmp (keys_of es) → finite.entries (seen es) ≡ by_bytes es
   entries_seen es h =
       let sorted = sorted_bytes es h in
-      ap finite.entries (finite.same_map nat_list_cmp_total exact_bytes (seen es) (finite.from_sorted (by_bytes es)) (λ q. finite.get-from_entries nat_list_cmp_total (by_bytes es) q ∙ sym (finite.get-from_sorted (slice_cmp nat_cmp) (by_bytes es) q sorted)))
+      ap finite.entries (finite.same_map nat_list_cmp_total exact_bytes (seen es) (finite.from_sorted (by_bytes es))
+      (λ q. finite.get-from_entries nat_list_cmp_total (by_bytes es) q ∙ sym (finite.get-from_sorted (slice_cmp nat_cmp) (by_bytes es) q sorted)))
       ∙ finite.entries-from_sorted (slice_cmp nat_cmp) (by_bytes es) sorted
 
   length_bytes : (es : List (Vec ℕ A × X)) → length (by_bytes es) ≡ length es
@@ -71,27 +72,34 @@ module _ {X A : Type 0} where
   put_bytes : (es : List (Vec ℕ A × X)) (k : Vec ℕ A) (v : X) → by_bytes (insert_entry vec_cmp es k v) ≡ put (slice_cmp nat_cmp) k.items v (by_bytes es)
   put_bytes [] k v = refl
   put_bytes (e ∷ es) k v =
-      elim (slice_cmp nat_cmp k.items e.0.items) as (λ o. by_bytes (match_ordering o ((k, v) ∷ e ∷ es) ((e.0, v) ∷ es) (e ∷ insert_entry vec_cmp es k v)) ≡ by_order o ((k.items, v) ∷ by_bytes (e ∷ es)) ((e.0.items, v) ∷ by_bytes es) ((e.0.items, e.1) ∷ put (slice_cmp nat_cmp) k.items v (by_bytes es))) [
+      elim (slice_cmp nat_cmp k.items e.0.items) as
+      (λ o. by_bytes (match_ordering o ((k, v) ∷ e ∷ es) ((e.0, v) ∷ es) (e ∷ insert_entry vec_cmp es k v)) ≡ by_order o ((k.items, v) ∷ by_bytes (e ∷ es))
+      ((e.0.items, v) ∷ by_bytes es) ((e.0.items, e.1) ∷ put (slice_cmp nat_cmp) k.items v (by_bytes es))) [
         | Less ↦ refl
         | Equal ↦ refl
         | Greater ↦ ap (λ rest. (e.0.items, e.1) ∷ rest) (put_bytes es k v)
       ]
 
   -- an insertion, where the keys ascend before it and after it
-  pub inserted_seen : (es fs : List (Vec ℕ A × X)) (k : Vec ℕ A) (v : X) → IsStrictlySortedBy vec_cmp (keys_of es) → IsStrictlySortedBy vec_cmp (keys_of fs) → fs ≡ insert_entry vec_cmp es k v → seen fs ≡ finite.insert (seen es) k.items v
+  pub inserted_seen : (es fs : List (Vec ℕ A × X)) (k : Vec ℕ A) (v : X) → IsStrictlySortedBy vec_cmp (keys_of es) → IsStrictlySortedBy vec_cmp (keys_of fs) →
+      fs ≡ insert_entry vec_cmp es k v → seen fs ≡ finite.insert (seen es) k.items v
   inserted_seen es fs k v h g e =
       finite.same_entries_map _ _
-      (entries_seen fs g ∙ ap by_bytes e ∙ put_bytes es k v ∙ ap (put (slice_cmp nat_cmp) k.items v) (sym (entries_seen es h)) ∙ sym (finite.entries-insert nat_list_cmp_total (seen es) k.items v))
+      (entries_seen fs g ∙ ap by_bytes e ∙ put_bytes es k v ∙ ap (put (slice_cmp nat_cmp) k.items v) (sym (entries_seen es h))
+      ∙ sym (finite.entries-insert nat_list_cmp_total (seen es) k.items v))
 
   -- a removal, where another name finds the same before it and after it
-  pub removed_seen : (es fs : List (Vec ℕ A × X)) (k : List ℕ) → KeepsOthers (eq_by_cmp vec_cmp) (is_at (λ y. slice_cmp nat_cmp k y.items)) es fs → lookup (is_at (λ y. slice_cmp nat_cmp k y.items)) fs ≡ None → seen fs ≡ finite.remove (seen es) k
+  pub removed_seen : (es fs : List (Vec ℕ A × X)) (k : List ℕ) → KeepsOthers (eq_by_cmp vec_cmp) (is_at (λ y. slice_cmp nat_cmp k y.items)) es fs →
+      lookup (is_at (λ y. slice_cmp nat_cmp k y.items)) fs ≡ None → seen fs ≡ finite.remove (seen es) k
   unfolding KeepsOthers
   removed_seen es fs k others gone =
       let laws = eq_by_cmp_equiv nat_list_cmp_total in
       finite.same_map nat_list_cmp_total exact_bytes (seen fs) (finite.remove (seen es) k) (λ q.
       get_seen fs q
-      ∙ elim (eq_by_cmp (slice_cmp nat_cmp) q k) as (λ b. eq_by_cmp (slice_cmp nat_cmp) q k ≡ b → lookup (is_at (λ y. slice_cmp nat_cmp q y.items)) fs ≡ cond b None (finite.get (seen es) q)) [
+      ∙ elim (eq_by_cmp (slice_cmp nat_cmp) q k) as
+      (λ b. eq_by_cmp (slice_cmp nat_cmp) q k ≡ b → lookup (is_at (λ y. slice_cmp nat_cmp q y.items)) fs ≡ cond b None (finite.get (seen es) q)) [
         | true ↦ λ same. ap (λ n. lookup (is_at (λ y. slice_cmp nat_cmp n y.items)) fs) (exact_bytes q k (is_equal _ same)) ∙ gone
-        | false ↦ λ apart. others (is_at (λ y. slice_cmp nat_cmp q y.items)) (λ x y h. laws.congr q x.items y.items h) (λ x h. laws.symm q x.items ∙ sym (laws.congr k x.items q h) ∙ laws.symm k q ∙ apart) ∙ sym (get_seen es q)
+        | false ↦ λ apart. others (is_at (λ y. slice_cmp nat_cmp q y.items)) (λ x y h. laws.congr q x.items y.items h)
+            (λ x h. laws.symm q x.items ∙ sym (laws.congr k x.items q h) ∙ laws.symm k q ∙ apart) ∙ sym (get_seen es q)
       ] refl
       ∙ sym (finite.get-remove nat_list_cmp_total (seen es) k q))

@@ -21,16 +21,19 @@ use Rattle.namespace.specs.Numbers.{Rise, last_of, AreNumbered, AreInOrder}
 use Rattle.namespace.proofs.Again.{first, second, is_less, IsOf, IsPutOf, entries_found, each_put, replays, taken}
 
 -- no later entry has this one's number
-others : (names : NameMap) (last : ℕ) → AreNumbered names last → (e : List ℕ × Named) (es : List (List ℕ × Named)) → T (below_all (slice_cmp nat_cmp) e.0 es) → finite.get names e.0 ≡ Some e.1 → All (λ x. finite.get names x.0 ≡ Some x.1) es
+others : (names : NameMap) (last : ℕ) → AreNumbered names last → (e : List ℕ × Named) (es : List (List ℕ × Named)) → T (below_all (slice_cmp nat_cmp) e.0 es) →
+    finite.get names e.0 ≡ Some e.1 → All (λ x. finite.get names x.0 ≡ Some x.1) es
     → AllByRecursion (λ n. nat_eq e.1.sequence n ≡ false) (map (λ r. r.sequence) (map put_of es))
 others names last h e [] below found also = tt
 others names last h e (x ∷ xs) below found also =
     let less : slice_cmp nat_cmp e.0 x.0 ≡ Less = is_less (slice_cmp nat_cmp e.0 x.0) (first _ _ below) in
     let tied : slice_cmp nat_cmp e.0 e.0 ≡ Equal = tied_itself nat_list_cmp_total e.0 in
-    let apart : e.1.sequence ≡ x.1.sequence → ⊥ = λ same. (let one : slice_cmp nat_cmp e.0 x.0 ≡ Equal = subst (λ k. slice_cmp nat_cmp e.0 k ≡ Equal) (h.apart e.0 x.0 e.1 x.1 found (All-head (λ y. finite.get names y.0 ≡ Some y.1) x xs also) same) tied in cc) in
+    let apart : e.1.sequence ≡ x.1.sequence → ⊥ = λ same. (let one : slice_cmp nat_cmp e.0 x.0 ≡ Equal =
+    subst (λ k. slice_cmp nat_cmp e.0 k ≡ Equal) (h.apart e.0 x.0 e.1 x.1 found (All-head (λ y. finite.get names y.0 ≡ Some y.1) x xs also) same) tied in cc) in
     (ne_eqb e.1.sequence x.1.sequence apart, others names last h e xs (second _ _ below) found (All-tail (λ y. finite.get names y.0 ≡ Some y.1) x xs also))
 
-apart_each : (names : NameMap) (last : ℕ) → AreNumbered names last → (es : List (List ℕ × Named)) → T (finite.is_sorted (slice_cmp nat_cmp) es) → All (λ x. finite.get names x.0 ≡ Some x.1) es → IsDistinct nat_eq (map (λ r. r.sequence) (map put_of es))
+apart_each : (names : NameMap) (last : ℕ) → AreNumbered names last → (es : List (List ℕ × Named)) → T (finite.is_sorted (slice_cmp nat_cmp) es) →
+    All (λ x. finite.get names x.0 ≡ Some x.1) es → IsDistinct nat_eq (map (λ r. r.sequence) (map put_of es))
 unfolding IsDistinct
 apart_each names last h [] sorted found = tt
 apart_each names last h (e ∷ es) sorted found =
@@ -58,19 +61,22 @@ last_within : (n last : ℕ) (rs : List RecordValue) → n ≤ last → All (λ 
 last_within n last [] h most = h
 last_within n last (r ∷ rs) h most = last_within r.sequence last rs (All-head (λ x. x.sequence ≤ last) r rs most) (All-tail (λ x. x.sequence ≤ last) r rs most)
 
-of_one : (names : NameMap) (last : ℕ) → AreNumbered names last → (sequence : ℕ) (name : List ℕ) (change : Change) → IsOf names sequence name change → (1 ≤ sequence) × (sequence ≤ last)
+of_one : (names : NameMap) (last : ℕ) → AreNumbered names last → (sequence : ℕ) (name : List ℕ) (change : Change) → IsOf names sequence name change →
+    (1 ≤ sequence) × (sequence ≤ last)
 of_one names last h sequence name (Put root) of = (h.from_one name _ of, h.most name _ of)
 of_one names last h sequence name Delete of = absurd of
 
 -- names whose numbers differ, listed by number: a replay of the puts in that order gives the names
-pub in_order : (names : NameMap) (puts : List RecordValue) (last : ℕ) → AreNames names → AreNumbered names last → IsPermutation (map put_of (finite.entries names)) puts → IsNonDecreasingBy (λ r. r.sequence) puts → AreInOrder puts names last
+pub in_order : (names : NameMap) (puts : List RecordValue) (last : ℕ) → AreNames names → AreNumbered names last → IsPermutation (map put_of (finite.entries names)) puts →
+    IsNonDecreasingBy (λ r. r.sequence) puts → AreInOrder puts names last
 in_order names puts last good h same order =
     let listed = map put_of (finite.entries names) in
     let of = each_put names puts same in
     let within : (r : RecordValue) → IsPutOf names r → (1 ≤ r.sequence) × (r.sequence ≤ last) = λ r o. of_one names last h r.sequence r.name r.change o in
     let apart = apart_each names last h (finite.entries names) (finite.entries_sorted names) (entries_found names) in
     record {
-      rise = rises 0 puts (λ k d lt. omega (arith, (within (get_or puts k d) (of k d lt)).0)) order (IsDistinct-IsPermutation nat_eq flips (map (λ r. r.sequence) listed) (map (λ r. r.sequence) puts) (IsPermutation-map (λ r. r.sequence) listed puts same) apart);
+      rise = rises 0 puts (λ k d lt. omega (arith, (within (get_or puts k d) (of k d lt)).0)) order
+          (IsDistinct-IsPermutation nat_eq flips (map (λ r. r.sequence) listed) (map (λ r. r.sequence) puts) (IsPermutation-map (λ r. r.sequence) listed puts same) apart);
       most = last_within 0 last puts (omega arith) (λ k d lt. (within (get_or puts k d) (of k d lt)).1);
       taken = taken names puts good same;
       replay = replays names puts same;

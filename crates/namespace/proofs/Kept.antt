@@ -45,7 +45,8 @@ pub with_put : (names : NameMap) (name : List ℕ) (named : Named) → AreNames 
 with_put names name named h good room =
     record {
       few = few_after (finite.get names name) (finite.len names) _ (finite.len-insert nat_list_cmp_total names name named) room h.few;
-      named = subst (λ es. All IsName (map (λ e. e.0) es)) (sym (finite.entries-insert nat_list_cmp_total names name named)) (keys_put (slice_cmp nat_cmp) IsName name named (finite.entries names) good h.named);
+      named = subst (λ es. All IsName (map (λ e. e.0) es)) (sym (finite.entries-insert nat_list_cmp_total names name named))
+          (keys_put (slice_cmp nat_cmp) IsName name named (finite.entries names) good h.named);
     }
 
 no_more : (b : Bool) (n m : ℕ) → m ≡ cond b (n - 1) n → n ≤ MOST_NAMES → m ≤ MOST_NAMES
@@ -82,7 +83,8 @@ keys_without names name h =
     all_found (finite.entries (finite.remove names name)) (λ q found.
     found_name IsName q (finite.entries names) h
     (ap is_some (sym (finite.get-entries names q))
-    ∙ earlier (eq_by_cmp (slice_cmp nat_cmp) q name) (finite.get names q) (ap is_some (sym (finite.get-remove nat_list_cmp_total names name q) ∙ finite.get-entries (finite.remove names name) q) ∙ found)))
+    ∙ earlier (eq_by_cmp (slice_cmp nat_cmp) q name) (finite.get names q)
+    (ap is_some (sym (finite.get-remove nat_list_cmp_total names name q) ∙ finite.get-entries (finite.remove names name) q) ∙ found)))
 
 -- the names without one of them
 pub without : (names : NameMap) (name : List ℕ) → AreNames names → AreNames (finite.remove names name)

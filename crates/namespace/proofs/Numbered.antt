@@ -12,9 +12,11 @@ use Rattle.namespace.specs.Numbers.{Rise, last_of, AreNumbered}
 use Rattle.namespace.proofs.Entries.{is_equal}
 
 -- what is found after a put is what it says, or was there before
-pub found_put : (names : NameMap) (name : List ℕ) (new : Named) (q : List ℕ) (x : Named) → finite.get (finite.insert names name new) q ≡ Some x → ((q ≡ name) × (x ≡ new)) ⊎ (finite.get names q ≡ Some x)
+pub found_put : (names : NameMap) (name : List ℕ) (new : Named) (q : List ℕ) (x : Named) → finite.get (finite.insert names name new) q ≡ Some x →
+    ((q ≡ name) × (x ≡ new)) ⊎ (finite.get names q ≡ Some x)
 found_put names name new q x h =
-    elim (eq_by_cmp (slice_cmp nat_cmp) q name) as (λ b. eq_by_cmp (slice_cmp nat_cmp) q name ≡ b → cond b (Some new) (finite.get names q) ≡ Some x → ((q ≡ name) × (x ≡ new)) ⊎ (finite.get names q ≡ Some x)) [
+    elim (eq_by_cmp (slice_cmp nat_cmp) q name) as (λ b. eq_by_cmp (slice_cmp nat_cmp) q name ≡ b → cond b (Some new) (finite.get names q) ≡ Some x →
+    ((q ≡ name) × (x ≡ new)) ⊎ (finite.get names q ≡ Some x)) [
       | true ↦ λ same e. inl (exact_bytes q name (is_equal _ same), cc)
       | false ↦ λ _ e. inr e
     ] refl (sym (finite.get-insert nat_list_cmp_total names name new q) ∙ h)
@@ -58,7 +60,8 @@ delete_numbered names name last sequence h above = record {
   most = λ a x found. omega (arith, above, h.most a x (found_kept names name a x found));
 }
 
-changed_numbered : (sequence : ℕ) (name : List ℕ) (change : Change) (names : NameMap) (last : ℕ) → AreNumbered names last → last < sequence → AreNumbered (names_changed sequence name change names) sequence
+changed_numbered : (sequence : ℕ) (name : List ℕ) (change : Change) (names : NameMap) (last : ℕ) → AreNumbered names last → last < sequence →
+    AreNumbered (names_changed sequence name change names) sequence
 changed_numbered sequence name (Put root) names last h above = put_numbered names name (record { sequence = sequence; root = root }) last h above
 changed_numbered sequence name Delete names last h above = delete_numbered names name last sequence h above
 

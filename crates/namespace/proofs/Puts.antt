@@ -23,7 +23,8 @@ puts_moved names = moved_sorted (λ r. r.sequence) (map put_of (finite.entries n
 
 puts_climb : (names : NameMap) → IsNonDecreasingBy (λ r. r.sequence) (puts_of names)
 unfolding puts_of
-puts_climb names = order_of (λ r. r.sequence) 0 (sorted_by (λ r. r.sequence) (map put_of (finite.entries names))) (sorted_climbs (λ r. r.sequence) (map put_of (finite.entries names)))
+puts_climb names = order_of (λ r. r.sequence) 0 (sorted_by (λ r. r.sequence) (map put_of (finite.entries names)))
+    (sorted_climbs (λ r. r.sequence) (map put_of (finite.entries names)))
 
 -- where each has a number of its own, the numbers rise
 pub puts_in_order : (names : NameMap) (last : ℕ) → AreNames names → AreNumbered names last → AreInOrder (puts_of names) names last
@@ -37,7 +38,8 @@ length-puts names =
     length_permutation (map put_of (finite.entries names)) (puts_of names) (puts_moved names) ∙ length-map (finite.entries names) put_of ∙ sym (finite.len-entries names)
 
 -- what a stable sort makes of a list of the puts
-pub puts_sorted : (names : NameMap) (listed sorted : List Record) → map record_value listed ≡ map put_of (finite.entries names) → IsNonDecreasingBy (λ r. r.sequence) sorted → IsStableByKey (λ r. r.sequence) nat_cmp listed sorted
+pub puts_sorted : (names : NameMap) (listed sorted : List Record) → map record_value listed ≡ map put_of (finite.entries names) → IsNonDecreasingBy (λ r. r.sequence) sorted →
+    IsStableByKey (λ r. r.sequence) nat_cmp listed sorted
     → map record_value sorted ≡ puts_of names
 unfolding puts_of
 puts_sorted names listed sorted is order stable =
@@ -90,7 +92,8 @@ rise_once n (r ∷ rs) (s ∷ ss) one other mine theirs =
         All-cons (λ y. IsIn y ss) x xs (not_first x s ss (omega (arith, level, rise.0)) (All-head (λ y. IsIn y (s ∷ ss)) x xs each))
         (left x s xs ss (omega (arith, level, rise.0)) rise.1 (All-tail (λ y. IsIn y (s ∷ ss)) x xs each))
 
-pub puts_once : (names : NameMap) (last : ℕ) (puts : List RecordValue) → AreNames names → AreNumbered names last → IsPermutation (map put_of (finite.entries names)) puts → Rise 0 puts → puts ≡ puts_of names
+pub puts_once : (names : NameMap) (last : ℕ) (puts : List RecordValue) → AreNames names → AreNumbered names last → IsPermutation (map put_of (finite.entries names)) puts →
+    Rise 0 puts → puts ≡ puts_of names
 puts_once names last puts good numbered same rise =
     let moved = IsPermutation-trans puts (map put_of (finite.entries names)) (puts_of names) (IsPermutation-sym (map put_of (finite.entries names)) puts same) (puts_moved names) in
     rise_once 0 puts (puts_of names) rise (puts_in_order names last good numbered).rise

@@ -88,7 +88,8 @@ module _ {X : Type 0} (number : X → ℕ) where
   tied_among : (t x : X) (ys : List X) → filter (tie t) (among_by number x ys) ≡ filter (tie t) (x ∷ ys)
   tied_among t x [] = refl
   tied_among t x (y ∷ ys) =
-      elim (nat_lt (number y) (number x)) as (λ b. nat_lt (number y) (number x) ≡ b → filter (tie t) (if b then y ∷ among_by number x ys else x ∷ y ∷ ys) ≡ filter (tie t) (x ∷ y ∷ ys)) [
+      elim (nat_lt (number y) (number x)) as (λ b. nat_lt (number y) (number x) ≡ b → filter (tie t) (if b then y ∷ among_by number x ys else x ∷ y ∷ ys) ≡ filter (tie t)
+      (x ∷ y ∷ ys)) [
         | true ↦ λ lower.
             ap (λ (l : List X). cond (tie t y) (y ∷ l) l) (tied_among t x ys)
             ∙ swapped (tie t x) (tie t y) x y (filter (tie t) ys) (λ one other. omega (arith, ltb-true (number y) (number x) lower, same_number t x one, same_number t y other))
@@ -170,7 +171,8 @@ module _ {X : Type 0} (number : X → ℕ) where
   at_least : (n : ℕ) (xs : List X) → Climbs n xs → All (λ x. n ≤ number x) xs
   at_least n [] climbs = All-nil _
   at_least n (x ∷ xs) climbs =
-      All-cons (λ y. n ≤ number y) x xs climbs.0 (All-weaker (λ y. number x ≤ number y) (λ y. n ≤ number y) (λ y above. omega (arith, above, climbs.0)) xs (at_least (number x) xs climbs.1))
+      All-cons (λ y. n ≤ number y) x xs climbs.0
+      (All-weaker (λ y. number x ≤ number y) (λ y. n ≤ number y) (λ y above. omega (arith, above, climbs.0)) xs (at_least (number x) xs climbs.1))
 
   pub order_of : (n : ℕ) (xs : List X) → Climbs n xs → IsNonDecreasingBy number xs
   order_of n [] climbs i j d le within = absurd (omega (arith, within))
@@ -185,7 +187,9 @@ module _ {X Y : Type 0} (view : X → Y) (number : Y → ℕ) where
   seen_among : (x : X) (ys : List X) → map view (among_by (λ y. number (view y)) x ys) ≡ among_by number (view x) (map view ys)
   seen_among x [] = refl
   seen_among x (y ∷ ys) =
-      elim (nat_lt (number (view y)) (number (view x))) as (λ b. map view (if b then y ∷ among_by (λ z. number (view z)) x ys else x ∷ y ∷ ys) ≡ (if b then view y ∷ among_by number (view x) (map view ys) else view x ∷ view y ∷ map view ys)) [
+      elim (nat_lt (number (view y)) (number (view x))) as
+      (λ b. map view (if b then y ∷ among_by (λ z. number (view z)) x ys else x ∷ y ∷ ys) ≡
+      (if b then view y ∷ among_by number (view x) (map view ys) else view x ∷ view y ∷ map view ys)) [
         | true ↦ ap (λ (l : List Y). view y ∷ l) (seen_among x ys)
         | false ↦ refl
       ]

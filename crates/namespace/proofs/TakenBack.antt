@@ -21,7 +21,8 @@ get_given name None names q = finite.get-remove nat_list_cmp_total names name q
 get_given name (Some named) names q = finite.get-insert nat_list_cmp_total names name named q
 
 -- the names are those of before
-pub given_back : (names : NameMap) (name : List ℕ) (named : Named) (before : Option Named) → finite.get names name ≡ before → names_given name before (finite.insert names name named) ≡ names
+pub given_back : (names : NameMap) (name : List ℕ) (named : Named) (before : Option Named) → finite.get names name ≡ before →
+    names_given name before (finite.insert names name named) ≡ names
 given_back names name named before had =
     finite.same_map nat_list_cmp_total exact_bytes (names_given name before (finite.insert names name named)) names (λ q.
     get_given name before (finite.insert names name named) q

@@ -33,7 +33,8 @@ use Rattle.store_model.proofs.FreedTrees.{in_head, in_tail}
 use Rattle.read_steps.specs.Walking.{IsPlaceOf, WasRead, IsNodeRead, Opened, Walked, Gives, IsAnswer, IsWrong, IsTopRefusal, IsNextRefusal, IsWalkRefusal, IsIndexed, HeldAhead, SegmentsAhead, GivesFirst, IsHeldAnswer, top_key}
 use Rattle.read_steps.proofs.Walks.{key_of_node}
 
-module _ (counts : ByteSet) (held : List (Option HeaderValue)) (known : Option PlaceMap) (old new : DiskView) (image : List ℕ) (indexed : IsIndexed counts held known old.content image) where
+module _ (counts : ByteSet) (held : List (Option HeaderValue)) (known : Option PlaceMap) (old new : DiskView) (image : List ℕ)
+    (indexed : IsIndexed counts held known old.content image) where
   -- ---- one key
 
   -- the place that the index has for a key is that of its newest copy
@@ -74,7 +75,8 @@ module _ (counts : ByteSet) (held : List (Option HeaderValue)) (known : Option P
       not_wrong (Field offset got) (inr leaf) = leaf.3 leaf.2
       not_wrong (Digest want got) wrong = absurd wrong
 
-  first_node : (level : ℕ) (ts : Trees (List ℕ)) → IsNode (contents_of level ts) → HoldsCounted (IsIn counts) held image (tree.Node level ts) → HasFirst (root_of of_segment (tree.Node level ts))
+  first_node : (level : ℕ) (ts : Trees (List ℕ)) → IsNode (contents_of level ts) → HoldsCounted (IsIn counts) held image (tree.Node level ts) →
+      HasFirst (root_of of_segment (tree.Node level ts))
   first_node level ts right holds =
       let key : List ℕ = node_key (contents_of level ts) in
       let key_is : top_key (root_of of_segment (tree.Node level ts)) ≡ key = key_of_node (root_of of_segment (tree.Node level ts)) right.above in
@@ -123,7 +125,8 @@ module _ (counts : ByteSet) (held : List (Option HeaderValue)) (known : Option P
         let is : place ≡ first.has.copy.place = place_newest (top_key t) first.level first.bytes first.has place cause.placed.place_is in
         let there : range (data_at slot + offset) count image ≡ cause.found.bytes =
         shown_content old new (λ (c : List ℕ). range (data_at slot + offset) count c ≡ cause.found.bytes) image cause.found.there indexed.told in
-        let at : data_at slot + offset ≡ data_at place.slot + place.offset = ap (λ (s : ℕ). data_at s + offset) cause.placed.slot_is ∙ ap (λ (o : ℕ). data_at place.slot + o) cause.placed.offset_is in
+        let at : data_at slot + offset ≡ data_at place.slot + place.offset = ap (λ (s : ℕ). data_at s + offset) cause.placed.slot_is ∙ ap (λ (o : ℕ). data_at place.slot + o)
+        cause.placed.offset_is in
         let same : range (data_at slot + offset) count image ≡ bytes_at place image =
         ap (λ (p : ℕ). range p count image) at ∙ ap (λ (n : ℕ). range (data_at place.slot + place.offset) n image) cause.placed.count_is in
         let found : cause.found.bytes ≡ first.bytes = sym there ∙ same ∙ ap (λ (p : Place). bytes_at p image) is ∙ first.has.bytes_are in
@@ -141,7 +144,8 @@ module _ (counts : ByteSet) (held : List (Option HeaderValue)) (known : Option P
     read_failed t first (Damaged at why) cause = absurd (never_damaged t first at why cause)
     read_failed t first refusal cause = absurd cause
 
-    pub next_failed : (ahead : List Top) (ts : List (Tree (List ℕ))) (refusal : Refusal) → HeldAhead counts held image ahead ts → IsNextRefusal known breaks old new ahead refusal → refusal ≡ DiskRead
+    pub next_failed : (ahead : List Top) (ts : List (Tree (List ℕ))) (refusal : Refusal) → HeldAhead counts held image ahead ts →
+        IsNextRefusal known breaks old new ahead refusal → refusal ≡ DiskRead
     next_failed [] ts refusal ahead cause = absurd cause
     next_failed (t ∷ tops) ts refusal ahead cause = read_failed t (first_of t tops ts ahead) refusal cause
 
@@ -166,7 +170,8 @@ module _ (counts : ByteSet) (held : List (Option HeaderValue)) (known : Option P
       flat_map-cons tree_keys t (list_of ts ++ us) ∙ ap (λ (keys : List (List ℕ)). tree_keys t ++ keys) (keys_opened ts us)
       ∙ sym (append_assoc (tree_keys t) (keys_below ts) (flat_map tree_keys us))
 
-  pub open_held : (t : Top) (tops : List Top) (bytes : List ℕ) (ts : List (Tree (List ℕ))) → IsNodeRead (WasRead known old new) (t ∷ tops) bytes → HeldAhead counts held image (t ∷ tops) ts
+  pub open_held : (t : Top) (tops : List Top) (bytes : List ℕ) (ts : List (Tree (List ℕ))) → IsNodeRead (WasRead known old new) (t ∷ tops) bytes →
+      HeldAhead counts held image (t ∷ tops) ts
       → (us : List (Tree (List ℕ))) × HeldAhead counts held image (opened (contents_in bytes) ++ drop 1 (t ∷ tops)) us × (segments_in us ≡ segments_in ts)
       × (flat_map tree_keys ts ≡ top_key t ∷ flat_map tree_keys us)
   open_held t tops bytes [] read ahead = absurd (let wrong : t ∷ tops ≡ [] = ahead.trees.tops in cc)
@@ -178,14 +183,24 @@ module _ (counts : ByteSet) (held : List (Option HeaderValue)) (known : Option P
       let digest : t.digest ≡ node_digest n = ap (λ (u : Top). u.digest) (first_same t _ tops _ ahead.trees.tops) in
       let was : WasRead known old new (node_key n) bytes = subst (λ (d : List ℕ). WasRead known old new (1 ∷ d) bytes) digest read.1 in
       let is : bytes ≡ spelling n = read_newest (node_key n) level (spelling n) bytes ahead.each.0.tree_is_held.0 was in
-      let law = walk_law (t ∷ tops) (opened (contents_in bytes) ++ drop 1 (t ∷ tops)) bytes level ts us (Ok tt) (λ m right named e. (refl, ap contents_in e ∙ right_any m right)) refl ahead.trees is in
+      let law = walk_law (t ∷ tops) (opened (contents_in bytes) ++ drop 1 (t ∷ tops)) bytes level ts us (Ok tt) (λ m right named e. (refl, ap contents_in e ∙ right_any m right))
+      refl ahead.trees is in
       let key : node_key n ≡ top_key t = ap (λ (d : List ℕ). 1 ∷ d) (sym digest) ∙ sym (key_of_node t read.0) in
       let keys : flat_map tree_keys (tree.Node level ts ∷ us) ≡ top_key t ∷ flat_map tree_keys (list_of ts ++ us) =
       flat_map-cons tree_keys (tree.Node level ts) us ∙ ap (λ (rest : List (List ℕ)). node_key n ∷ rest) (sym (keys_opened ts us))
-      ∙ ap (λ (k : List ℕ). k ∷ flat_map tree_keys (list_of ts ++ us)) key in
-      (list_of ts ++ us, record { trees = law.1; each = all_held ts us ahead.each.0.tree_is_held.1 (λ k there. ahead.each.0.count k (in_tail (node_key n) k (keys_below ts) there)) ahead.each.1 }, law.2, keys)
+      ∙ ap (λ (k : List ℕ). k ∷ flat_map tree_keys (list_of ts ++ us)) key in (
+        list_of ts ++ us,
+        record {
+          trees = law.1;
+          each = all_held ts us ahead.each.0.tree_is_held.1 (λ k there. ahead.each.0.count k (in_tail (node_key n) k (keys_below ts) there))
+              ahead.each.1;
+        },
+        law.2,
+        keys,
+      )
 
-  opened_held : (nodes : List (List ℕ)) (before after : List Top) (ts : List (Tree (List ℕ))) → Opened (WasRead known old new) nodes before after → HeldAhead counts held image before ts
+  opened_held : (nodes : List (List ℕ)) (before after : List Top) (ts : List (Tree (List ℕ))) → Opened (WasRead known old new) nodes before after →
+      HeldAhead counts held image before ts
       → (us : List (Tree (List ℕ))) × HeldAhead counts held image after us × (segments_in us ≡ segments_in ts)
   opened_held [] before after ts way ahead = (ts, subst (λ (tops : List Top). HeldAhead counts held image tops ts) (sym way) ahead, refl)
   opened_held (b ∷ bs) [] after ts way ahead = absurd way.0
@@ -195,7 +210,8 @@ module _ (counts : ByteSet) (held : List (Option HeaderValue)) (known : Option P
       (rest.0, rest.1, rest.2 ∙ one.2)
 
   -- the segments to come stay
-  pub walked_held : (before after : List Top) (segments : List (List ℕ)) → Walked (WasRead known old new) before after → SegmentsAhead counts held image before segments → SegmentsAhead counts held image after segments
+  pub walked_held : (before after : List Top) (segments : List (List ℕ)) → Walked (WasRead known old new) before after → SegmentsAhead counts held image before segments →
+      SegmentsAhead counts held image after segments
   walked_held before after segments walked ahead =
       let all = opened_held walked.nodes before after ahead.trees walked.way ahead.held_ahead in
       record { trees = all.0; held_ahead = all.1; segments_are = ahead.segments_are ∙ sym all.2 }
@@ -209,13 +225,15 @@ module _ (counts : ByteSet) (held : List (Option HeaderValue)) (known : Option P
   pub rest_same : (t u : Top) (ts us : List Top) → t ∷ ts ≡ u ∷ us → ts ≡ us
   rest_same t u ts us same = cc
 
-  leaf_given : (t : Top) (tops : List Top) (bytes : List ℕ) (ts : List (Tree (List ℕ))) → t.level ≡ 0 → WasRead known old new (key_of 0 t.digest) bytes → HeldAhead counts held image (t ∷ tops) ts
+  leaf_given : (t : Top) (tops : List Top) (bytes : List ℕ) (ts : List (Tree (List ℕ))) → t.level ≡ 0 → WasRead known old new (key_of 0 t.digest) bytes →
+      HeldAhead counts held image (t ∷ tops) ts
       → GivesFirst counts held image tops (segments_in ts) bytes
   leaf_given t tops bytes [] flat was ahead = absurd (let wrong : t ∷ tops ≡ [] = ahead.trees.tops in cc)
   leaf_given t tops bytes (tree.Empty ∷ us) flat was ahead = absurd ahead.trees.each.0
   leaf_given t tops bytes (tree.Leaf segment ∷ us) flat was ahead =
       let digest : t.digest ≡ sha256 segment = ap (λ (u : Top). u.digest) (first_same t _ tops _ ahead.trees.tops) in
-      let is : bytes ≡ segment = read_newest (leaf_key segment) 0 segment bytes ahead.each.0.tree_is_held (subst (λ (d : List ℕ). WasRead known old new (0 ∷ d) bytes) digest was) in
+      let is : bytes ≡ segment = read_newest (leaf_key segment) 0 segment bytes ahead.each.0.tree_is_held (subst (λ (d : List ℕ). WasRead known old new (0 ∷ d) bytes) digest was)
+      in
       record {
         others = segments_in us;
         segments_are = flat_map-cons leaves (tree.Leaf segment) us ∙ ap (λ (s : List ℕ). s ∷ segments_in us) (sym is);
@@ -228,7 +246,8 @@ module _ (counts : ByteSet) (held : List (Option HeaderValue)) (known : Option P
   leaf_given t tops bytes (tree.Node level ts ∷ us) flat was ahead =
       absurd (omega (arith, flat, ap (λ (u : Top). u.level) (first_same t _ tops _ ahead.trees.tops), ahead.trees.each.0.0.above))
 
-  pub given_held : (before after : List Top) (count : ℕ) (bytes : List ℕ) (segments : List (List ℕ)) → Gives (WasRead known old new) before after count bytes → SegmentsAhead counts held image before segments
+  pub given_held : (before after : List Top) (count : ℕ) (bytes : List ℕ) (segments : List (List ℕ)) → Gives (WasRead known old new) before after count bytes →
+      SegmentsAhead counts held image before segments
       → GivesFirst counts held image after segments bytes
   given_held before after count bytes segments gives ahead =
       let then = walked_held before (gives.next ∷ after) segments gives.walked ahead in
@@ -239,14 +258,16 @@ module _ (counts : ByteSet) (held : List (Option HeaderValue)) (known : Option P
   ended_held before after segments end ahead =
       ahead.segments_are ∙ none_ahead ahead.trees (subst (λ (tops : List Top). HeldAhead counts held image tops ahead.trees) end ahead.held_ahead)
 
-  pub refused_held : (breaks : ℕ → Why → List ℕ → Type 0) (before after : List Top) (segments : List (List ℕ)) (buf : List ℕ) (refusal : Refusal) → IsWalkRefusal known breaks old new before after refusal
+  pub refused_held : (breaks : ℕ → Why → List ℕ → Type 0) (before after : List Top) (segments : List (List ℕ)) (buf : List ℕ) (refusal : Refusal) →
+      IsWalkRefusal known breaks old new before after refusal
       → SegmentsAhead counts held image before segments → IsHeldAnswer counts held image after segments buf (Err refusal)
   refused_held breaks before after segments buf refusal refused ahead =
       let then = walked_held before after segments refused.walked ahead in
       subst (λ (e : Refusal). IsHeldAnswer counts held image after segments buf (Err e)) (sym (next_failed breaks after then.trees refusal then.held_ahead refused.cause)) then
 
   pub answer_held : (breaks : ℕ → Why → List ℕ → Type 0) (before after : List Top) (segments : List (List ℕ)) (buf : List ℕ) (result : Result (Option ℕ) Refusal)
-      → IfOk result (IsAnswer (WasRead known old new) before after buf) → IfErr result (IsWalkRefusal known breaks old new before after) → SegmentsAhead counts held image before segments
+      → IfOk result (IsAnswer (WasRead known old new) before after buf) → IfErr result (IsWalkRefusal known breaks old new before after) →
+      SegmentsAhead counts held image before segments
       → IsHeldAnswer counts held image after segments buf result
   answer_held breaks before after segments buf (Ok None) ok err ahead = ended_held before after segments ok.0 ahead
   answer_held breaks before after segments buf (Ok (Some count)) ok err ahead = given_held before after count (take count buf) segments ok ahead

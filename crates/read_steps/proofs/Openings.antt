@@ -27,7 +27,8 @@ use Rattle.read_steps.specs.Walking.{HeldAhead, SegmentsAhead}
 
 -- ---- a tree that is to come
 
-pub tree_held : (P : List ℕ → Type 0) (held : List (Option HeaderValue)) (image : List ℕ) (t : Tree (List ℕ)) → HoldsCounted P held image t → AllByRecursion (HoldsCounted P held image) (trees_in t)
+pub tree_held : (P : List ℕ → Type 0) (held : List (Option HeaderValue)) (image : List ℕ) (t : Tree (List ℕ)) → HoldsCounted P held image t →
+    AllByRecursion (HoldsCounted P held image) (trees_in t)
 tree_held P held image tree.Empty holds = tt
 tree_held P held image (tree.Leaf segment) holds = (holds, tt)
 tree_held P held image (tree.Node level ts) holds = (holds, tt)
@@ -43,7 +44,8 @@ segments_of_tree (tree.Node level ts) = flat_map-cons leaves (tree.Node level ts
 
 -- ---- a file
 
-pub file_ahead : (store : Store) (files : Files) (image name : List ℕ) (names : NameMap) (root : Root) (ahead : List Top) → HasRoot names name root → names ≡ names_of store → IsStoreOf store files image
+pub file_ahead : (store : Store) (files : Files) (image name : List ℕ) (names : NameMap) (root : Root) (ahead : List Top) → HasRoot names name root → names ≡ names_of store →
+    IsStoreOf store files image
     → ((t : Tree (List ℕ)) → AllByRecursion IsTree (trees_in t) → top_of root ≡ tree.root_of of_segment t → Ahead ahead (trees_in t))
     → IsFileAhead store files image name root ahead
 file_ahead store files image name names root ahead has same holds begins =

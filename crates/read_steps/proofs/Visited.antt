@@ -82,11 +82,13 @@ module _ (P P' : List ℕ → List ℕ → Type 0) (Q Q' : List ℕ → Type 0) 
   all_wider (n ∷ ns) visited way =
       (way.0, (way.1.0, (way.1.1.0, to_wider (start_of (top_of n.root)) way.0 [] way.1.1.1, all_wider ns way.1.0 way.1.1.2)))
 
-pub visits_wider : (P P' : List ℕ → List ℕ → Type 0) (Q Q' : List ℕ → Type 0) (before visited after : List Top) → VisitsTo P Q before visited after → ((key bytes : List ℕ) → P key bytes → P' key bytes)
+pub visits_wider : (P P' : List ℕ → List ℕ → Type 0) (Q Q' : List ℕ → Type 0) (before visited after : List Top) → VisitsTo P Q before visited after →
+    ((key bytes : List ℕ) → P key bytes → P' key bytes)
     → ((key : List ℕ) → Q key → Q' key) → VisitsTo P' Q' before visited after
 visits_wider P P' Q Q' before visited after way each placed = to_wider P P' Q Q' each placed before visited after way
 
-pub roots_wider : (P P' : List ℕ → List ℕ → Type 0) (Q Q' : List ℕ → Type 0) (roots : List NamedRoot) (visited : List Top) → VisitsRoots P Q roots visited → ((key bytes : List ℕ) → P key bytes → P' key bytes)
+pub roots_wider : (P P' : List ℕ → List ℕ → Type 0) (Q Q' : List ℕ → Type 0) (roots : List NamedRoot) (visited : List Top) → VisitsRoots P Q roots visited →
+    ((key bytes : List ℕ) → P key bytes → P' key bytes)
     → ((key : List ℕ) → Q key → Q' key) → VisitsRoots P' Q' roots visited
 roots_wider P P' Q Q' roots visited way each placed = all_wider P P' Q Q' each placed roots visited way
 
@@ -98,7 +100,8 @@ visits_more P Q before [] mid more after first second = subst (λ (tops : List T
 visits_more P Q before (t ∷ ts) mid more after first second = (first.0, (first.1.0, visits_more P Q first.0 ts mid more after first.1.1 second))
 
 -- one more tree
-pub roots_more : (P : List ℕ → List ℕ → Type 0) (Q : List ℕ → Type 0) (roots : List NamedRoot) (visited : List Top) (n : NamedRoot) (more : List Top) → VisitsRoots P Q roots visited
+pub roots_more : (P : List ℕ → List ℕ → Type 0) (Q : List ℕ → Type 0) (roots : List NamedRoot) (visited : List Top) (n : NamedRoot) (more : List Top) →
+    VisitsRoots P Q roots visited
     → VisitsTo P Q (start_of (top_of n.root)) more [] → VisitsRoots P Q (roots ++ n ∷ []) (visited ++ more)
 roots_more P Q [] visited n more first second = (more, ([], (ap (λ (tops : List Top). tops ++ more) first ∙ sym (append-nil more), second, refl)))
 roots_more P Q (m ∷ ms) visited n more first second = (
@@ -116,10 +119,12 @@ roots_more P Q (m ∷ ms) visited n more first second = (
 -- ---- the keys of held trees
 
 -- a walk to the end visits each key of the trees to come, in their order
-pub visited_keys : (counts : ByteSet) (held : List (Option HeaderValue)) (known : Option PlaceMap) (old new : DiskView) (image : List ℕ) (ahead visited : List Top) (ts : List (Tree (List ℕ))) → IsIndexed counts held known old.content image
+pub visited_keys : (counts : ByteSet) (held : List (Option HeaderValue)) (known : Option PlaceMap) (old new : DiskView) (image : List ℕ) (ahead visited : List Top)
+    (ts : List (Tree (List ℕ))) → IsIndexed counts held known old.content image
     → HeldAhead counts held image ahead ts → VisitsTo (WasRead known old new) (HasPlace known) ahead visited [] → map top_key visited ≡ flat_map tree_keys ts
 visited_keys counts held known old new image ahead [] [] indexed trees way = refl
-visited_keys counts held known old new image ahead [] (u ∷ us) indexed trees way = absurd (let wrong : [] ≡ tree.root_of of_segment u ∷ map (tree.root_of of_segment) us = way ∙ trees.trees.tops in cc)
+visited_keys counts held known old new image ahead [] (u ∷ us) indexed trees way =
+    absurd (let wrong : [] ≡ tree.root_of of_segment u ∷ map (tree.root_of of_segment) us = way ∙ trees.trees.tops in cc)
 visited_keys counts held known old new image ahead (t ∷ more) ts indexed trees way =
     let later = visit_held counts held known old new image indexed ahead way.0 t ts way.1.0 trees in
     ap (λ (keys : List (List ℕ)). top_key t ∷ keys) (visited_keys counts held known old new image way.0 more later.0 indexed later.1 way.1.1) ∙ sym later.2
@@ -131,7 +136,8 @@ keys_of_tree (tree.Node level ts) = flat_map-cons tree_keys (tree.Node level ts)
 
 -- ---- where a walk of a tree begins
 
-start_by : (t : Top) (no_bytes flat : Bool) → (t.length == 0) ≡ no_bytes → (t.level == 0) ≡ flat → 1 ≤ t.length + t.level → (if no_bytes then (if flat then [] else t ∷ []) else t ∷ []) ≡ t ∷ []
+start_by : (t : Top) (no_bytes flat : Bool) → (t.length == 0) ≡ no_bytes → (t.level == 0) ≡ flat → 1 ≤ t.length + t.level →
+    (if no_bytes then (if flat then [] else t ∷ []) else t ∷ []) ≡ t ∷ []
 start_by t true true none low some = absurd (omega (arith, eqb-true t.length 0 none, eqb-true t.level 0 low, some))
 start_by t true false none low some = refl
 start_by t false flat none low some = refl
@@ -153,7 +159,8 @@ record IsFileToCome (held : List (Option HeaderValue)) (image : List ℕ) (file 
   tree_is_held : HoldsTree held image (file_tree bytes)
   ahead : Ahead (start_of (top_of root)) (trees_in (file_tree bytes))
 
-file_by : (held : List (Option HeaderValue)) (image : List ℕ) (named : Named) (file : Option (List ℕ)) → IsRoot named.root → IsFileOf held image (Some named) file → IsFileToCome held image file named.root
+file_by : (held : List (Option HeaderValue)) (image : List ℕ) (named : Named) (file : Option (List ℕ)) → IsRoot named.root → IsFileOf held image (Some named) file →
+    IsFileToCome held image file named.root
 file_by held image named None right is = absurd is
 file_by held image named (Some bytes) right is =
     let few : length bytes ≤ MOST_FILE = right_fits bytes (subst IsRoot is.0 right) in
@@ -166,7 +173,8 @@ file_by held image named (Some bytes) right is =
       ahead = record { tops = ap start_of top ∙ start_of_tree (file_tree bytes) trees; each = trees };
     }
 
-name_by : (held : List (Option HeaderValue)) (image : List ℕ) (named : Option Named) (file : Option (List ℕ)) (bytes : List ℕ) → file ≡ Some bytes → IsFileOf held image named file → (n : Named) × (named ≡ Some n)
+name_by : (held : List (Option HeaderValue)) (image : List ℕ) (named : Option Named) (file : Option (List ℕ)) (bytes : List ℕ) → file ≡ Some bytes →
+    IsFileOf held image named file → (n : Named) × (named ≡ Some n)
 name_by held image (Some n) file bytes filed is = (n, refl)
 name_by held image None (Some other) bytes filed is = absurd is
 name_by held image None None bytes filed is = absurd (let wrong : None ≡ Some bytes = filed in cc)
@@ -180,14 +188,16 @@ module _ (store : Store) (files : Files) (image : List ℕ) (holds : IsStoreOf s
 
   -- where a set has the keys of what is held
   module _ (counts : ByteSet) (count : (key : List ℕ) (copy : Copy) → newest 0 store.held key ≡ Some copy → IsIn counts key) where
-    held_ahead : (root : Root) (file : Option (List ℕ)) (is : IsFileToCome store.held image file root) → HeldAhead counts store.held image (start_of (top_of root)) (trees_in (file_tree is.bytes))
+    held_ahead : (root : Root) (file : Option (List ℕ)) (is : IsFileToCome store.held image file root) →
+        HeldAhead counts store.held image (start_of (top_of root)) (trees_in (file_tree is.bytes))
     held_ahead root file is = record {
       trees = is.ahead;
       each = tree_held (IsIn counts) store.held image (file_tree is.bytes)
           (record { tree_is_held = is.tree_is_held; count = held_keys (IsIn counts) store.held image count (file_tree is.bytes) is.tree_is_held });
     }
 
-    pub held_start : (name : List ℕ) (named : Named) → finite.get (names_of store) name ≡ Some named → (ts : List (Tree (List ℕ))) × HeldAhead counts store.held image (start_of (top_of named.root)) ts
+    pub held_start : (name : List ℕ) (named : Named) → finite.get (names_of store) name ≡ Some named →
+        (ts : List (Tree (List ℕ))) × HeldAhead counts store.held image (start_of (top_of named.root)) ts
     held_start name named found = let file = file_to_come name named found in (trees_in (file_tree file.bytes), held_ahead named.root (finite.get files name) file)
 
   -- ---- all names
@@ -200,7 +210,8 @@ module _ (store : Store) (files : Files) (image : List ℕ) (holds : IsStoreOf s
     placed = HasPlace (Some index)
 
     -- the walk of a name visits the keys of its file
-    keys_of_file : (name : List ℕ) (named : Named) (visited : List Top) (found : finite.get (names_of store) name ≡ Some named) → VisitsTo read placed (start_of (top_of named.root)) visited []
+    keys_of_file : (name : List ℕ) (named : Named) (visited : List Top) (found : finite.get (names_of store) name ≡ Some named) →
+        VisitsTo read placed (start_of (top_of named.root)) visited []
         → map top_key visited ≡ tree_keys (file_tree (file_to_come name named found).bytes)
     keys_of_file name named visited found way =
         let file = file_to_come name named found in
@@ -210,14 +221,16 @@ module _ (store : Store) (files : Files) (image : List ℕ) (holds : IsStoreOf s
         (held_ahead counts (indexed_keys store.held index newest) named.root (finite.get files name) file) way
         ∙ keys_of_tree (file_tree file.bytes)
 
-    needed_in : (name : List ℕ) (named : Named) (first rest : List Top) (key : List ℕ) → finite.get (names_of store) name ≡ Some named → VisitsTo read placed (start_of (top_of named.root)) first []
+    needed_in : (name : List ℕ) (named : Named) (first rest : List Top) (key : List ℕ) → finite.get (names_of store) name ≡ Some named →
+        VisitsTo read placed (start_of (top_of named.root)) first []
         → (IsVisited rest key → IsReachable files key) → Contains (map top_key first) key ⊎ Contains (map top_key rest) key → IsReachable files key
     needed_in name named first rest key found way others (inl here) =
         let file = file_to_come name named found in
         (name, (file.bytes, (file.filed, subst (λ (keys : List (List ℕ)). Contains keys key) (keys_of_file name named first found way) here)))
     needed_in name named first rest key found way others (inr later) = others later
 
-    needed_by : (es : List (List ℕ × Named)) (visited : List Top) (key : List ℕ) → All (λ e. finite.get (names_of store) e.0 ≡ Some e.1) es → VisitsRoots read placed (map named_root es) visited → IsVisited visited key
+    needed_by : (es : List (List ℕ × Named)) (visited : List Top) (key : List ℕ) → All (λ e. finite.get (names_of store) e.0 ≡ Some e.1) es →
+        VisitsRoots read placed (map named_root es) visited → IsVisited visited key
         → IsReachable files key
     needed_by [] visited key all way is =
         let none : IsVisited [] key = subst (λ (tops : List Top). IsVisited tops key) way is in absurd (omega (arith, none.1))
@@ -228,7 +241,8 @@ module _ (store : Store) (files : Files) (image : List ℕ) (holds : IsStoreOf s
         (subst (λ (keys : List (List ℕ)). Contains keys key) (ap (map top_key) way.1.1.0 ∙ map-append top_key way.0 way.1.0) is))
 
     visited_in : (name bytes : List ℕ) (one named : Named) (first rest : List Top) (key : List ℕ) (same : Bool) (other : Option Named) → cond same (Some one) other ≡ Some named
-        → finite.get (names_of store) name ≡ Some named → finite.get files name ≡ Some bytes → Contains (tree_keys (file_tree bytes)) key → VisitsTo read placed (start_of (top_of one.root)) first []
+        → finite.get (names_of store) name ≡ Some named → finite.get files name ≡ Some bytes → Contains (tree_keys (file_tree bytes)) key →
+        VisitsTo read placed (start_of (top_of one.root)) first []
         → (other ≡ Some named → IsVisited rest key) → Contains (map top_key first ++ map top_key rest) key
     visited_in name bytes one named first rest key true other is found filed has way others =
         let file = file_to_come name named found in
@@ -240,7 +254,8 @@ module _ (store : Store) (files : Files) (image : List ℕ) (holds : IsStoreOf s
     visited_in name bytes one named first rest key false other is found filed has way others = Contains-append_right (map top_key first) (map top_key rest) key (others is)
 
     -- the first of some names that is found is visited
-    visited_by : (es : List (List ℕ × Named)) (visited : List Top) (name bytes key : List ℕ) (named : Named) → finite.find (slice_cmp nat_cmp) name es ≡ Some named → finite.get (names_of store) name ≡ Some named
+    visited_by : (es : List (List ℕ × Named)) (visited : List Top) (name bytes key : List ℕ) (named : Named) → finite.find (slice_cmp nat_cmp) name es ≡ Some named →
+        finite.get (names_of store) name ≡ Some named
         → finite.get files name ≡ Some bytes → Contains (tree_keys (file_tree bytes)) key → VisitsRoots read placed (map named_root es) visited → IsVisited visited key
     visited_by [] visited name bytes key named first found filed has way = absurd (let wrong : None ≡ Some named = first in cc)
     visited_by (e ∷ es) visited name bytes key named first found filed has way =
@@ -249,14 +264,19 @@ module _ (store : Store) (files : Files) (image : List ℕ) (holds : IsStoreOf s
         (λ later. visited_by es way.1.0 name bytes key named later found filed has way.1.1.2))
 
 -- what was visited is needed
-pub needed_visited : (store : Store) (files : Files) (image : List ℕ) (index : PlaceMap) (old new : DiskView) (visited : List Top) → old.content ≡ Some image → IsStoreOf store files image
-    → IsIndexOf store.held index → VisitsRoots (WasRead (Some index) old new) (HasPlace (Some index)) (listing_of (names_of store)) visited → (key : List ℕ) → IsVisited visited key → IsReachable files key
+pub needed_visited : (store : Store) (files : Files) (image : List ℕ) (index : PlaceMap) (old new : DiskView) (visited : List Top) → old.content ≡ Some image →
+    IsStoreOf store files image
+    → IsIndexOf store.held index → VisitsRoots (WasRead (Some index) old new) (HasPlace (Some index)) (listing_of (names_of store)) visited → (key : List ℕ) →
+    IsVisited visited key → IsReachable files key
 needed_visited store files image index old new visited told holds newest way key is =
     needed_by store files image holds index old new told newest (finite.entries (names_of store)) visited key (entries_found (names_of store)) way is
 
 -- what is needed was visited
-pub visited_needed : (store : Store) (files : Files) (image : List ℕ) (index : PlaceMap) (old new : DiskView) (visited : List Top) → old.content ≡ Some image → IsStoreOf store files image
-    → IsIndexOf store.held index → VisitsRoots (WasRead (Some index) old new) (HasPlace (Some index)) (listing_of (names_of store)) visited → (key : List ℕ) → IsReachable files key → IsVisited visited key
+pub visited_needed : (store : Store) (files : Files) (image : List ℕ) (index : PlaceMap) (old new : DiskView) (visited : List Top) → old.content ≡ Some image →
+    IsStoreOf store files image
+    → IsIndexOf store.held index → VisitsRoots (WasRead (Some index) old new) (HasPlace (Some index)) (listing_of (names_of store)) visited → (key : List ℕ) →
+    IsReachable files key → IsVisited visited key
 visited_needed store files image index old new visited told holds newest way key (name, (bytes, (filed, has))) =
     let named = name_by store.held image (finite.get (names_of store) name) (finite.get files name) bytes filed (holds.files_are name) in
-    visited_by store files image holds index old new told newest (finite.entries (names_of store)) visited name bytes key named.0 (sym (finite.get-entries (names_of store) name) ∙ named.1) named.1 filed has way
+    visited_by store files image holds index old new told newest (finite.entries (names_of store)) visited name bytes key named.0
+    (sym (finite.get-entries (names_of store) name) ∙ named.1) named.1 filed has way

@@ -34,7 +34,8 @@ use Rattle.read_steps.proofs.Walks.{key_of_node, leaf_wanted, copy_refused}
 -- ---- what was found
 
 pub node_visited : (known : Option PlaceMap) (old new : DiskView) (before after : List Top) (digest : List ℕ) (place : Place) (bytes : List ℕ) → IsNodeNamed before digest
-    → IsCopyAt known old new (1 ∷ digest) place bytes → sha256 bytes ≡ digest → SpellsNext before bytes → after ≡ opened (contents_in bytes) ++ drop 1 before → VisitsPlaced known old new before after place
+    → IsCopyAt known old new (1 ∷ digest) place bytes → sha256 bytes ≡ digest → SpellsNext before bytes → after ≡ opened (contents_in bytes) ++ drop 1 before →
+    VisitsPlaced known old new before after place
 node_visited known old new [] after digest place bytes named copy is spells e = absurd named
 node_visited known old new (t ∷ ts) after digest place bytes named copy is spells e =
     let here : IsCopyAt known old new (1 ∷ t.digest) place bytes = subst (λ (d : List ℕ). IsCopyAt known old new (1 ∷ d) place bytes) named.1 copy in (
@@ -46,39 +47,46 @@ node_visited known old new (t ∷ ts) after digest place bytes named copy is spe
       ),
     )
 
-pub leaf_visited : (known : Option PlaceMap) (old new : DiskView) (before after : List Top) (digest : List ℕ) (level count : ℕ) (place : Place) → wanted before ≡ wants.Leaf digest level count
+pub leaf_visited : (known : Option PlaceMap) (old new : DiskView) (before after : List Top) (digest : List ℕ) (level count : ℕ) (place : Place) →
+    wanted before ≡ wants.Leaf digest level count
     → after ≡ drop 1 before → IsPlaceOf known (0 ∷ digest) place → IsPlace old.size place → VisitsPlaced known old new before after place
 leaf_visited known old new before after digest level count place wants passed is right =
     let first = leaf_wanted before digest level count wants in
     (leaf_top count digest, ((first.0, (first.1, inl (refl, (place, is), passed ∙ ap (drop 1) first.1))), is, right))
 
-copy_not_found : (known : Option PlaceMap) (breaks : ℕ → Why → List ℕ → Type 0) (old new : DiskView) (key digest : List ℕ) (refusal : Refusal) → IsLookupRefusal known breaks old new key refusal
+copy_not_found : (known : Option PlaceMap) (breaks : ℕ → Why → List ℕ → Type 0) (old new : DiskView) (key digest : List ℕ) (refusal : Refusal) →
+    IsLookupRefusal known breaks old new key refusal
     → IsCopyRefusal known breaks old new key digest refusal
 copy_not_found known breaks old new key digest (Corrupt slot offset count want got) cause = absurd cause
 copy_not_found known breaks old new key digest refusal cause = cause
 
 -- a segment that has no place
-pub leaf_not_found : (known : Option PlaceMap) (breaks : ℕ → Why → List ℕ → Type 0) (old new : DiskView) (before : List Top) (digest : List ℕ) (level count : ℕ) → wanted before ≡ wants.Leaf digest level count
+pub leaf_not_found : (known : Option PlaceMap) (breaks : ℕ → Why → List ℕ → Type 0) (old new : DiskView) (before : List Top) (digest : List ℕ) (level count : ℕ) →
+    wanted before ≡ wants.Leaf digest level count
     → (refusal : Refusal) → IsLookupRefusal known breaks old new (0 ∷ digest) refusal → IsVisitRefusal known breaks old new before refusal
 leaf_not_found known breaks old new before digest level count wants refusal cause =
     let first = leaf_wanted before digest level count wants in
     subst (λ (tops : List Top). IsVisitRefusal known breaks old new tops refusal) (sym first.1) (inl (refl, cause))
 
 -- a node that isn't given
-pub node_not_opened : (known : Option PlaceMap) (breaks : ℕ → Why → List ℕ → Type 0) (old new : DiskView) (before : List Top) (digest : List ℕ) (level count : ℕ) → wanted before ≡ wants.Node digest level count
+pub node_not_opened : (known : Option PlaceMap) (breaks : ℕ → Why → List ℕ → Type 0) (old new : DiskView) (before : List Top) (digest : List ℕ) (level count : ℕ) →
+    wanted before ≡ wants.Node digest level count
     → (refusal : Refusal) → IsNextRefusal known breaks old new before refusal → IsVisitRefusal known breaks old new before refusal
 node_not_opened known breaks old new [] digest level count named refusal cause = absurd cause
 node_not_opened known breaks old new (t ∷ ts) digest level count named refusal cause = inr (by_level (t.level == 0) refl named, cause)
   where
-    by_level : (flat : Bool) → (t.level == 0) ≡ flat → (if flat then wants.Leaf t.digest t.level t.length else wants.Node t.digest t.level t.length) ≡ wants.Node digest level count → 1 ≤ t.level
+    by_level : (flat : Bool) → (t.level == 0) ≡ flat → (if flat then wants.Leaf t.digest t.level t.length else wants.Node t.digest t.level t.length) ≡ wants.Node digest level
+        count → 1 ≤ t.level
     by_level true is e = absurd cc
     by_level false is e = omega (arith, eqb-false t.level 0 is)
 
 -- each is a refusal of what comes first
-next_refused : (known : Option PlaceMap) (breaks : ℕ → Why → List ℕ → Type 0) (old new : DiskView) (ahead : List Top) (refusal : Refusal) → IsVisitRefusal known breaks old new ahead refusal
+next_refused : (known : Option PlaceMap) (breaks : ℕ → Why → List ℕ → Type 0) (old new : DiskView) (ahead : List Top) (refusal : Refusal) →
+    IsVisitRefusal known breaks old new ahead refusal
     → IsNextRefusal known breaks old new ahead refusal
 next_refused known breaks old new [] refusal cause = absurd cause
-next_refused known breaks old new (t ∷ ts) refusal (inl leaf) = copy_refused known breaks old new t refusal (copy_not_found known breaks old new (top_key t) t.digest refusal leaf.1)
+next_refused known breaks old new (t ∷ ts) refusal (inl leaf) =
+    copy_refused known breaks old new t refusal (copy_not_found known breaks old new (top_key t) t.digest refusal leaf.1)
 next_refused known breaks old new (t ∷ ts) refusal (inr node) = node.1
 
 -- ---- the measure falls
@@ -97,7 +105,8 @@ steps_below level bound [] rest above each = omega arith
 steps_below level bound (c ∷ cs) rest above each =
     let first = steps-cons (below level c) (map (below level) cs ++ rest) in
     let so_many : total (c ∷ cs) ≡ c.length + total cs = sum_by-cons (λ (d : Child). d.length) c cs in
-    let most = one_step c.length (total cs) (steps_ahead (map (below level) cs ++ rest)) level (level - 1) (steps_ahead rest) each.0.some (omega arith) (steps_below level bound cs rest above each.1) in
+    let most = one_step c.length (total cs) (steps_ahead (map (below level) cs ++ rest)) level (level - 1) (steps_ahead rest) each.0.some (omega arith)
+    (steps_below level bound cs rest above each.1) in
     subst (λ (n : ℕ). n ≤ total (c ∷ cs) * (level + 1) + steps_ahead rest) (sym first)
     (subst (λ (n : ℕ). (c.length * ((level - 1) + 1) + 1) + steps_ahead (map (below level) cs ++ rest) ≤ n * (level + 1) + steps_ahead rest) (sym so_many) most)
 
@@ -118,7 +127,8 @@ visit_falls P Q before after t visits =
 
 -- ---- held trees
 
-module _ (counts : ByteSet) (held : List (Option HeaderValue)) (known : Option PlaceMap) (old new : DiskView) (image : List ℕ) (indexed : IsIndexed counts held known old.content image) where
+module _ (counts : ByteSet) (held : List (Option HeaderValue)) (known : Option PlaceMap) (old new : DiskView) (image : List ℕ)
+    (indexed : IsIndexed counts held known old.content image) where
   leaf_passed : (t : Top) (others : List Top) (ts : List (Tree (List ℕ))) → t.level ≡ 0 → HeldAhead counts held image (t ∷ others) ts
       → (us : List (Tree (List ℕ))) × HeldAhead counts held image others us × (flat_map tree_keys ts ≡ top_key t ∷ flat_map tree_keys us)
   leaf_passed t others [] flat ahead = absurd (let wrong : t ∷ others ≡ [] = ahead.trees.tops in cc)
@@ -133,7 +143,8 @@ module _ (counts : ByteSet) (held : List (Option HeaderValue)) (known : Option P
   leaf_passed t others (tree.Node level ts ∷ us) flat ahead =
       absurd (omega (arith, flat, ap (λ (u : Top). u.level) (first_same counts held known old new image indexed t _ others _ ahead.trees.tops), ahead.trees.each.0.0.above))
 
-  top_visited : (t : Top) (others after : List Top) (ts : List (Tree (List ℕ))) → VisitsTop (WasRead known old new) (HasPlace known) t others after → HeldAhead counts held image (t ∷ others) ts
+  top_visited : (t : Top) (others after : List Top) (ts : List (Tree (List ℕ))) → VisitsTop (WasRead known old new) (HasPlace known) t others after →
+      HeldAhead counts held image (t ∷ others) ts
       → (us : List (Tree (List ℕ))) × HeldAhead counts held image after us × (flat_map tree_keys ts ≡ top_key t ∷ flat_map tree_keys us)
   top_visited t others after ts (inl leaf) ahead =
       let passed = leaf_passed t others ts leaf.0 ahead in
@@ -143,7 +154,8 @@ module _ (counts : ByteSet) (held : List (Option HeaderValue)) (known : Option P
       (one.0, subst (λ (tops : List Top). HeldAhead counts held image tops one.0) (sym node.1.1) one.1, one.3)
 
   -- the trees that are to come after a visit, and their keys
-  pub visit_held : (before after : List Top) (t : Top) (ts : List (Tree (List ℕ))) → Visits (WasRead known old new) (HasPlace known) before t after → HeldAhead counts held image before ts
+  pub visit_held : (before after : List Top) (t : Top) (ts : List (Tree (List ℕ))) → Visits (WasRead known old new) (HasPlace known) before t after →
+      HeldAhead counts held image before ts
       → (us : List (Tree (List ℕ))) × HeldAhead counts held image after us × (flat_map tree_keys ts ≡ top_key t ∷ flat_map tree_keys us)
   visit_held before after t ts visits ahead =
       top_visited t visits.0 after ts visits.1.1 (subst (λ (tops : List Top). HeldAhead counts held image tops ts) visits.1.0 ahead)
@@ -152,7 +164,9 @@ module _ (counts : ByteSet) (held : List (Option HeaderValue)) (known : Option P
       → (us : List (Tree (List ℕ))) × HeldAhead counts held image after us
   held_after before after place ts visits ahead = let next = visit_held before after visits.0 ts visits.1.0 ahead in (next.0, next.1)
 
-  pub held_unread : (breaks : ℕ → Why → List ℕ → Type 0) (before after : List Top) (ts : List (Tree (List ℕ))) (refusal : Refusal) (result : Result (Option Place) Refusal) → IsErrAnd result (λ e. e ≡ refusal)
+  pub held_unread : (breaks : ℕ → Why → List ℕ → Type 0) (before after : List Top) (ts : List (Tree (List ℕ))) (refusal : Refusal) (result : Result (Option Place) Refusal) →
+      IsErrAnd result (λ e. e ≡ refusal)
       → IsVisitRefusal known breaks old new before refusal → HeldAhead counts held image before ts → IsHeldVisit counts held image after result
   held_unread breaks before after ts refusal (Ok got) passed cause ahead = absurd passed
-  held_unread breaks before after ts refusal (Err e) passed cause ahead = passed ∙ next_failed counts held known old new image indexed breaks before ts refusal ahead (next_refused known breaks old new before refusal cause)
+  held_unread breaks before after ts refusal (Err e) passed cause ahead = passed ∙ next_failed counts held known old new image indexed breaks before ts refusal ahead
+      (next_refused known breaks old new before refusal cause)

@@ -40,7 +40,8 @@ opened_on : (P : List ℕ → List ℕ → Type 0) (nodes more : List (List ℕ)
 opened_on P [] more a b c first second = subst (λ (ts : List Top). Opened P more ts c) first second
 opened_on P (n ∷ ns) more a b c first second = (first.0, opened_on P ns more (opened (contents_in n) ++ drop 1 a) b c first.1 second)
 
-opened_map : (P Q : List ℕ → List ℕ → Type 0) → ((key bytes : List ℕ) → P key bytes → Q key bytes) → (nodes : List (List ℕ)) (a b : List Top) → Opened P nodes a b → Opened Q nodes a b
+opened_map : (P Q : List ℕ → List ℕ → Type 0) → ((key bytes : List ℕ) → P key bytes → Q key bytes) → (nodes : List (List ℕ)) (a b : List Top) → Opened P nodes a b →
+    Opened Q nodes a b
 opened_map P Q each [] a b way = way
 opened_map P Q each (n ∷ ns) [] b way = absurd way.0
 opened_map P Q each (n ∷ ns) (t ∷ ts) b way =
@@ -56,7 +57,8 @@ pub walked_none : (P : List ℕ → List ℕ → Type 0) (a : List Top) → Walk
 walked_none P a = record { nodes = []; way = refl }
 
 -- one node
-pub walked_one : (P : List ℕ → List ℕ → Type 0) (before after : List Top) (digest bytes : List ℕ) → IsNodeNamed before digest → P (1 ∷ digest) bytes → sha256 bytes ≡ digest → SpellsNext before bytes
+pub walked_one : (P : List ℕ → List ℕ → Type 0) (before after : List Top) (digest bytes : List ℕ) → IsNodeNamed before digest → P (1 ∷ digest) bytes → sha256 bytes ≡ digest →
+    SpellsNext before bytes
     → after ≡ opened (contents_in bytes) ++ drop 1 before → Walked P before after
 walked_one P [] after digest bytes named was is spells e = absurd named
 walked_one P (t ∷ ts) after digest bytes named was is spells e = record {
@@ -65,7 +67,8 @@ walked_one P (t ∷ ts) after digest bytes named was is spells e = record {
 }
 
 -- the children of a node are one level lower
-pub falls_one : (before after : List Top) (digest bytes : List ℕ) → IsNodeNamed before digest → SpellsNext before bytes → after ≡ opened (contents_in bytes) ++ drop 1 before → level_ahead after < level_ahead before
+pub falls_one : (before after : List Top) (digest bytes : List ℕ) → IsNodeNamed before digest → SpellsNext before bytes → after ≡ opened (contents_in bytes) ++ drop 1 before →
+    level_ahead after < level_ahead before
 falls_one [] after digest bytes named spells e = absurd named
 falls_one (t ∷ ts) after digest bytes named spells e = by_children (contents_in bytes) after spells.1.some spells.2.level e
   where
@@ -124,7 +127,13 @@ module _ (known : Option PlaceMap) (old mid new : DiskView) where
     damage_since : (at : ℕ) (why : Why) → IsDamage sooner broke mid new at why → IsDamage known breaks old new at why
     damage_since at why damage = record {
       unknown = sym same ∙ damage.unknown;
-      there = since old mid new first (record { parts = damage.there.parts; returned = damage.there.returned; known = damage.there.known; shows = λ image sized has. form at why image (damage.there.shows image sized has) });
+      there = since old mid new first (record {
+        parts = damage.there.parts;
+        returned = damage.there.returned;
+        known = damage.there.known;
+        shows =
+            λ image sized has. form at why image (damage.there.shows image sized has);
+      });
     }
 
     top_since : (t : Top) (refusal : Refusal) → IsTopRefusal sooner broke mid new t refusal → IsTopRefusal known breaks old new t refusal
@@ -219,14 +228,21 @@ opened_bytes P (n ∷ ns) (t ∷ ts) after way =
 pub walked_bytes : (P : List ℕ → List ℕ → Type 0) (before after : List Top) → Walked P before after → bytes_ahead before ≡ bytes_ahead after
 walked_bytes P before after walked = opened_bytes P walked.nodes before after walked.way
 
-pub given_bytes : (P : List ℕ → List ℕ → Type 0) (before after : List Top) (count : ℕ) (bytes : List ℕ) → Gives P before after count bytes → bytes_ahead before ≡ count + bytes_ahead after
+pub given_bytes : (P : List ℕ → List ℕ → Type 0) (before after : List Top) (count : ℕ) (bytes : List ℕ) → Gives P before after count bytes →
+    bytes_ahead before ≡ count + bytes_ahead after
 given_bytes P before after count bytes gives =
     omega (arith, walked_bytes P before (gives.next ∷ after) gives.walked, sum_by-cons (λ (t : Top). t.length) gives.next after, gives.read.named)
 
 pub all_bytes : (before after : List Top) (segments : List (List ℕ)) → GivesAll before segments after → bytes_ahead before ≡ sum_by length segments + bytes_ahead after
 all_bytes before after [] walked = omega (arith, walked_bytes AnyBytes before after walked)
 all_bytes before after (s ∷ ss) gives =
-    omega (arith, walked_bytes AnyBytes before gives.0 gives.1.1, given_bytes AnyBytes gives.0 gives.1.0 (length s) s gives.1.2, all_bytes gives.1.0 after ss gives.1.3, sum_by-cons length s ss)
+    omega (
+      arith,
+      walked_bytes AnyBytes before gives.0 gives.1.1,
+      given_bytes AnyBytes gives.0 gives.1.0 (length s) s gives.1.2,
+      all_bytes gives.1.0 after ss gives.1.3,
+      sum_by-cons length s ss,
+    )
 
 start_of_some : (top : Top) (tops : List Top) → tops ≡ top ∷ [] → bytes_ahead tops ≡ top.length
 start_of_some top tops is = ap bytes_ahead is ∙ omega (arith, sum_by-cons (λ (t : Top). t.length) top [])
@@ -248,7 +264,8 @@ length_taken : (count : ℕ) (buf : List ℕ) → count ≤ MOST_SEGMENT → MOS
 length_taken count buf few room = length-take-le count buf (omega (arith, few, room))
 
 -- bytes that were read at the place of a key
-pub copy_at : (known : Option PlaceMap) (old mid new : DiskView) (key : List ℕ) (place : Place) (buf : List ℕ) → IsPlaceOf known key place → IsPlace old.size place → MOST_SEGMENT ≤ length buf → OnlyReads old mid
+pub copy_at : (known : Option PlaceMap) (old mid new : DiskView) (key : List ℕ) (place : Place) (buf : List ℕ) → IsPlaceOf known key place → IsPlace old.size place →
+    MOST_SEGMENT ≤ length buf → OnlyReads old mid
     → Shows mid new (λ image. bytes_at place image ≡ take place.length buf) → IsCopyAt known old new key place (take place.length buf)
 copy_at known old mid new key place buf is right room reads there = record {
   place_is = is;
@@ -258,7 +275,8 @@ copy_at known old mid new key place buf is right room reads there = record {
 }
 
 -- why they could not be given
-pub copy_unread : (known : Option PlaceMap) (breaks : ℕ → Why → List ℕ → Type 0) (old mid new : DiskView) (key : List ℕ) (place : Place) (digest : List ℕ) → IsPlaceOf known key place → OnlyReads old mid
+pub copy_unread : (known : Option PlaceMap) (breaks : ℕ → Why → List ℕ → Type 0) (old mid new : DiskView) (key : List ℕ) (place : Place) (digest : List ℕ) →
+    IsPlaceOf known key place → OnlyReads old mid
     → (refusal : Refusal) → copies.IsCopyRefusal (Shows mid new) place digest refusal → IsCopyRefusal known breaks old new key digest refusal
 copy_unread known breaks old mid new key place digest is reads DiskRead why = tt
 copy_unread known breaks old mid new key place digest is reads (Corrupt slot offset count want got) why = record {
@@ -270,8 +288,10 @@ copy_unread known breaks old mid new key place digest is reads (Corrupt slot off
 copy_unread known breaks old mid new key place digest is reads refusal why = absurd why
 
 -- a node by its first wrong field
-pub misnamed_node : (known : Option PlaceMap) (breaks : ℕ → Why → List ℕ → Type 0) (old new : DiskView) (before after : List Top) (digest : List ℕ) (place : Place) (bytes : List ℕ) (offset got : ℕ)
-    → IsNodeNamed before digest → IsCopyAt known old new (1 ∷ digest) place bytes → sha256 bytes ≡ digest → Some (record { offset = offset; got = got }) ≡ fault_for before bytes → after ≡ before
+pub misnamed_node : (known : Option PlaceMap) (breaks : ℕ → Why → List ℕ → Type 0) (old new : DiskView) (before after : List Top) (digest : List ℕ) (place : Place)
+    (bytes : List ℕ) (offset got : ℕ)
+    → IsNodeNamed before digest → IsCopyAt known old new (1 ∷ digest) place bytes → sha256 bytes ≡ digest → Some (record { offset = offset; got = got }) ≡ fault_for before bytes →
+    after ≡ before
     → (refusal : Refusal) → refusal ≡ Damaged (data_at place.slot + place.offset) (Field offset got) → IsWalkRefusal known breaks old new before after refusal
 misnamed_node known breaks old new [] after digest place bytes offset got named copy is fault e refusal refused = absurd named
 misnamed_node known breaks old new (t ∷ ts) after digest place bytes offset got named copy is fault e refusal refused = record {
@@ -279,7 +299,11 @@ misnamed_node known breaks old new (t ∷ ts) after digest place bytes offset go
   cause = subst (λ (tops : List Top). IsNextRefusal known breaks old new tops refusal) (sym e)
       (subst (IsTopRefusal known breaks old new t) (sym refused) (inr (record {
         bytes = bytes;
-        was_read = record { place = place; copy = subst (λ (key : List ℕ). IsCopyAt known old new key place bytes) (ap (λ (d : List ℕ). 1 ∷ d) named.1 ∙ sym (key_of_node t named.0)) copy };
+        was_read = record {
+          place = place;
+          copy = subst (λ (key : List ℕ). IsCopyAt known old new key place bytes)
+              (ap (λ (d : List ℕ). 1 ∷ d) named.1 ∙ sym (key_of_node t named.0)) copy;
+        };
         at_is = refl;
         digest = is ∙ named.1;
         wrong = inl (named.0, sym fault);
@@ -300,18 +324,21 @@ misnamed_leaf known breaks old new count digest place bytes got copy is long dif
     }))
 
 -- a copy that could not be given is what comes first
-pub copy_refused : (known : Option PlaceMap) (breaks : ℕ → Why → List ℕ → Type 0) (old new : DiskView) (t : Top) (refusal : Refusal) → IsCopyRefusal known breaks old new (top_key t) t.digest refusal
+pub copy_refused : (known : Option PlaceMap) (breaks : ℕ → Why → List ℕ → Type 0) (old new : DiskView) (t : Top) (refusal : Refusal) →
+    IsCopyRefusal known breaks old new (top_key t) t.digest refusal
     → IsTopRefusal known breaks old new t refusal
 copy_refused known breaks old new t (Damaged at why) cause = inl cause
 copy_refused known breaks old new t refusal cause = cause
 
-pub node_refused : (known : Option PlaceMap) (breaks : ℕ → Why → List ℕ → Type 0) (old new : DiskView) (before : List Top) (digest : List ℕ) → IsNodeNamed before digest → (refusal : Refusal)
+pub node_refused : (known : Option PlaceMap) (breaks : ℕ → Why → List ℕ → Type 0) (old new : DiskView) (before : List Top) (digest : List ℕ) → IsNodeNamed before digest →
+    (refusal : Refusal)
     → IsCopyRefusal known breaks old new (1 ∷ digest) digest refusal → IsWalkRefusal known breaks old new before before refusal
 node_refused known breaks old new [] digest named refusal cause = absurd named
 node_refused known breaks old new (t ∷ ts) digest named refusal cause = record {
   walked = walked_none (WasRead known old new) (t ∷ ts);
   cause = copy_refused known breaks old new t refusal
-      (subst (λ (key : List ℕ). IsCopyRefusal known breaks old new key t.digest refusal) (sym (key_of_node t named.0)) (subst (λ (d : List ℕ). IsCopyRefusal known breaks old new (1 ∷ d) d refusal) named.1 cause));
+      (subst (λ (key : List ℕ). IsCopyRefusal known breaks old new key t.digest refusal) (sym (key_of_node t named.0))
+      (subst (λ (d : List ℕ). IsCopyRefusal known breaks old new (1 ∷ d) d refusal) named.1 cause));
 }
 
 -- ---- what a walk wants
@@ -324,7 +351,8 @@ pub leaf_wanted : (ahead : List Top) (digest : List ℕ) (level count : ℕ) →
 leaf_wanted [] digest level count e = absurd cc
 leaf_wanted (t ∷ ts) digest level count e = (ts, ap (λ (u : Top). u ∷ ts) (by_level (t.level == 0) refl e))
   where
-    by_level : (flat : Bool) → (t.level == 0) ≡ flat → (if flat then wants.Leaf t.digest t.level t.length else wants.Node t.digest t.level t.length) ≡ wants.Leaf digest level count → t ≡ leaf_top count digest
+    by_level : (flat : Bool) → (t.level == 0) ≡ flat → (if flat then wants.Leaf t.digest t.level t.length else wants.Node t.digest t.level t.length) ≡ wants.Leaf digest level
+        count → t ≡ leaf_top count digest
     by_level true is e =
         let long : t.length ≡ count = cc in
         let named : t.digest ≡ digest = cc in
@@ -332,8 +360,10 @@ leaf_wanted (t ∷ ts) digest level count e = (ts, ap (λ (u : Top). u ∷ ts) (
     by_level false is e = absurd cc
 
 -- it is given
-pub leaf_gives : (known sooner : Option PlaceMap) (old mid new : DiskView) (before ahead after : List Top) (digest : List ℕ) (level named count : ℕ) (bytes : List ℕ) → wanted ahead ≡ wants.Leaf digest level named
-    → after ≡ drop 1 ahead → sooner ≡ known → OnlyReads old mid → OnlyReads mid new → Walked (WasRead known old mid) before ahead → IsLeafRead (WasRead sooner mid new) (leaf_top named digest) count bytes
+pub leaf_gives : (known sooner : Option PlaceMap) (old mid new : DiskView) (before ahead after : List Top) (digest : List ℕ) (level named count : ℕ) (bytes : List ℕ) →
+    wanted ahead ≡ wants.Leaf digest level named
+    → after ≡ drop 1 ahead → sooner ≡ known → OnlyReads old mid → OnlyReads mid new → Walked (WasRead known old mid) before ahead →
+    IsLeafRead (WasRead sooner mid new) (leaf_top named digest) count bytes
     → Gives (WasRead known old new) before after count bytes
 leaf_gives known sooner old mid new before ahead after digest level named count bytes wants passed same first second walked leaf =
     let is = leaf_wanted ahead digest level named wants in
@@ -353,8 +383,10 @@ leaf_gives known sooner old mid new before ahead after digest level named count 
     }
 
 -- or it is refused
-pub leaf_refused : (known sooner : Option PlaceMap) (breaks broke : ℕ → Why → List ℕ → Type 0) (old mid new : DiskView) (before ahead : List Top) (digest : List ℕ) (level named : ℕ) → wanted ahead ≡ wants.Leaf digest level named
-    → sooner ≡ known → ((at : ℕ) (why : Why) (bytes : List ℕ) → broke at why bytes → breaks at why bytes) → OnlyReads old mid → OnlyReads mid new → Walked (WasRead known old mid) before ahead
+pub leaf_refused : (known sooner : Option PlaceMap) (breaks broke : ℕ → Why → List ℕ → Type 0) (old mid new : DiskView) (before ahead : List Top) (digest : List ℕ)
+    (level named : ℕ) → wanted ahead ≡ wants.Leaf digest level named
+    → sooner ≡ known → ((at : ℕ) (why : Why) (bytes : List ℕ) → broke at why bytes → breaks at why bytes) → OnlyReads old mid → OnlyReads mid new →
+    Walked (WasRead known old mid) before ahead
     → (refusal : Refusal) → IsNextRefusal sooner broke mid new (leaf_top named digest ∷ []) refusal → IsWalkRefusal known breaks old new before ahead refusal
 leaf_refused known sooner breaks broke old mid new before ahead digest level named wants same form first second walked refusal cause =
     let is = leaf_wanted ahead digest level named wants in
@@ -368,13 +400,15 @@ leaf_refused known sooner breaks broke old mid new before ahead digest level nam
 not_none : (before after : List Top) (buf : List ℕ) (P : List ℕ → List ℕ → Type 0) (count : ℕ) → IsAnswer P before after buf (Some count) → before ≢ []
 not_none before after buf P count gives begin = let wrong : gives.next ∷ after ≡ [] = walk_begins P before (gives.next ∷ after) gives.walked begin in cc
 
-refused_some : (known : Option PlaceMap) (breaks : ℕ → Why → List ℕ → Type 0) (old new : DiskView) (before after : List Top) (refusal : Refusal) → IsWalkRefusal known breaks old new before after refusal → before ≢ []
+refused_some : (known : Option PlaceMap) (breaks : ℕ → Why → List ℕ → Type 0) (old new : DiskView) (before after : List Top) (refusal : Refusal) →
+    IsWalkRefusal known breaks old new before after refusal → before ≢ []
 refused_some known breaks old new before after refusal refused begin =
     subst (λ (tops : List Top). IsNextRefusal known breaks old new tops refusal) (walk_begins (WasRead known old new) before after refused.walked begin) refused.cause
 
 -- nothing is answered exactly where nothing is to come
 pub answer_ends : (known : Option PlaceMap) (breaks : ℕ → Why → List ℕ → Type 0) (old new : DiskView) (before after : List Top) (buf : List ℕ) (result : Result (Option ℕ) Refusal)
-    → IfOk result (IsAnswer (WasRead known old new) before after buf) → IfErr result (IsWalkRefusal known breaks old new before after) → (result ≡ Ok None → before ≡ []) × (before ≡ [] → result ≡ Ok None)
+    → IfOk result (IsAnswer (WasRead known old new) before after buf) → IfErr result (IsWalkRefusal known breaks old new before after) →
+    (result ≡ Ok None → before ≡ []) × (before ≡ [] → result ≡ Ok None)
 answer_ends known breaks old new before after buf (Ok None) ok err = (λ is. ok.0, λ is. refl)
 answer_ends known breaks old new before after buf (Ok (Some count)) ok err = (λ is. absurd cc, λ begin. absurd (not_none before after buf (WasRead known old new) count ok begin))
 answer_ends known breaks old new before after buf (Err refusal) ok err = (λ is. absurd cc, λ begin. absurd (refused_some known breaks old new before after refusal err begin))
@@ -385,7 +419,8 @@ no_answer (Err y) P e passed = tt
 
 -- ---- reads one after the other, for those who make them
 
-pub gives_any : (P : List ℕ → List ℕ → Type 0) (before after : List Top) (count : ℕ) (bytes : List ℕ) → Gives P before after count bytes → Gives AnyBytes before after (length bytes) bytes
+pub gives_any : (P : List ℕ → List ℕ → Type 0) (before after : List Top) (count : ℕ) (bytes : List ℕ) → Gives P before after count bytes →
+    Gives AnyBytes before after (length bytes) bytes
 gives_any P before after count bytes gives = record {
   next = gives.next;
   walked = walked_map P AnyBytes (λ key read was. tt) before (gives.next ∷ after) gives.walked;
@@ -400,12 +435,14 @@ gives_any P before after count bytes gives = record {
 }
 
 -- a read that was refused after others
-pub all_walked : (P : List ℕ → List ℕ → Type 0) (start ahead after : List Top) (segments : List (List ℕ)) → GivesAll start segments ahead → Walked P ahead after → GivesAll start segments after
+pub all_walked : (P : List ℕ → List ℕ → Type 0) (start ahead after : List Top) (segments : List (List ℕ)) → GivesAll start segments ahead → Walked P ahead after →
+    GivesAll start segments after
 all_walked P start ahead after [] all walked = walked_on AnyBytes start ahead after all (walked_map P AnyBytes (λ key read was. tt) ahead after walked)
 all_walked P start ahead after (s ∷ ss) all walked = (all.0, (all.1.0, all.1.1, all.1.2, all_walked P all.1.0 ahead after ss all.1.3 walked))
 
 -- one that gave a segment
-pub all_given : (P : List ℕ → List ℕ → Type 0) (start ahead after : List Top) (segments : List (List ℕ)) (count : ℕ) (bytes : List ℕ) → GivesAll start segments ahead → Gives P ahead after count bytes
+pub all_given : (P : List ℕ → List ℕ → Type 0) (start ahead after : List Top) (segments : List (List ℕ)) (count : ℕ) (bytes : List ℕ) → GivesAll start segments ahead →
+    Gives P ahead after count bytes
     → GivesAll start (segments ++ bytes ∷ []) after
 all_given P start ahead after [] count bytes all gives = (ahead, (after, all, gives_any P ahead after count bytes gives, walked_none AnyBytes after))
 all_given P start ahead after (s ∷ ss) count bytes all gives = (all.0, (all.1.0, all.1.1, all.1.2, all_given P all.1.0 ahead after ss count bytes all.1.3 gives))

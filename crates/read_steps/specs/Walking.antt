@@ -133,7 +133,8 @@ pub record IsCorrupt (known : Option PlaceMap) (old new : DiskView) (key digest 
 
 -- why the bytes of a key are not given
 abbrev pub IsCopyRefusal : Option PlaceMap → (ℕ → Why → List ℕ → Type 0) → DiskView → DiskView → List ℕ → List ℕ → Refusal → Type 0
-IsCopyRefusal known breaks old new key digest (Corrupt slot offset count want got) = IsCorrupt known old new key digest slot offset count want got
+IsCopyRefusal known breaks old new key digest (Corrupt slot offset count want got) =
+    IsCorrupt known old new key digest slot offset count want got
 IsCopyRefusal known breaks old new key digest refusal = IsLookupRefusal known breaks old new key refusal
 
 -- bytes of the right digest aren't what was named: as a node by their first wrong field, as a segment by their length

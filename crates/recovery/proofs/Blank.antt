@@ -24,7 +24,8 @@ module _ (slots : ℕ) where
   stays_here v = record { later = later_here v; left = λ all. reads_leave (IsBlankOf slots) v v all (reads_here v) }
 
   -- one write, done or cut short
-  pub stays_write : (at n : ℕ) (old new : DiskView) → 1 ≤ at → at + n ≤ size_of slots → IsLater old new → CrashLeaves (SteppedFrom (Torn at n) old) old new → StaysBlank slots old new
+  pub stays_write : (at n : ℕ) (old new : DiskView) → 1 ≤ at → at + n ≤ size_of slots → IsLater old new → CrashLeaves (SteppedFrom (Torn at n) old) old new →
+      StaysBlank slots old new
   stays_write at n old new after fits later leaves = record {
     later = later;
     left = λ all. leaves_weaker (SteppedFrom (Torn at n) old) (IsBlankOf slots) old new (λ c from. elim from [

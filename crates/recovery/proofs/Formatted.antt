@@ -38,7 +38,8 @@ none_closed None = refl
 none_closed (Some old) = refl
 
 -- one more is
-pub more_closed : (slot : ℕ) (content mid : Option (List ℕ)) → mid ≡ option_map (with_closed slot) content → option_map (written (slot_at slot) (0 ∷ [])) mid ≡ option_map (with_closed (slot + 1)) content
+pub more_closed : (slot : ℕ) (content mid : Option (List ℕ)) → mid ≡ option_map (with_closed slot) content →
+    option_map (written (slot_at slot) (0 ∷ [])) mid ≡ option_map (with_closed (slot + 1)) content
 unfolding with_closed
 more_closed slot None mid is = ap (option_map (written (slot_at slot) (0 ∷ []))) is
 more_closed slot (Some old) mid is = rw (add-one, is) refl
@@ -156,7 +157,8 @@ module _ (slots : ℕ) (old : List ℕ) (count : IsSlotCount slots) (sized : len
   })
 
   -- what the write of the format cell may leave of an image that is blank
-  pub blank_or_formatted : (cell bytes before new : List ℕ) → cell ≡ format_cell slots → bytes ≡ laid_out slots old → IsBlankOf slots before → TornFrom 0 cell bytes before new → IsBlankOrFormatted slots new
+  pub blank_or_formatted : (cell bytes before new : List ℕ) → cell ≡ format_cell slots → bytes ≡ laid_out slots old → IsBlankOf slots before → TornFrom 0 cell bytes before new →
+      IsBlankOrFormatted slots new
   blank_or_formatted cell bytes before new spelled laid blank (inl torn) =
       inl (blank_torn slots 1 (length cell - 1) before new (omega arith) (omega (arith, ap length spelled, length-format_cell slots)) blank torn)
   blank_or_formatted cell bytes before new spelled laid blank (inr whole) =
@@ -164,10 +166,14 @@ module _ (slots : ℕ) (old : List ℕ) (count : IsSlotCount slots) (sized : len
       whole.1 ∙ ap (λ (l : List ℕ). written 0 (whole.0 ∷ drop 1 l) bytes) spelled ∙ ap (written 0 (whole.0 ∷ drop 1 (format_cell slots))) laid in
       let long : length (whole.0 ∷ drop 1 (format_cell slots)) ≡ 512 = ap length (gate_again FORMAT_GATE (format_fields slots)) ∙ length-format_cell slots in
       elim (eqb_tells whole.0 FORMAT_GATE) [
-        | inl same ↦ inr (subst (IsFormatted slots) (sym (stands ∙ ap (λ (gate : ℕ). written 0 (gate ∷ drop 1 (format_cell slots)) (laid_out slots old)) same.1 ∙ ap (λ (l : List ℕ). written 0 l (laid_out slots old)) (gate_again FORMAT_GATE (format_fields slots)))) is_formatted)
+        | inl same ↦ inr (subst (IsFormatted slots)
+            (sym (stands ∙ ap (λ (gate : ℕ). written 0 (gate ∷ drop 1 (format_cell slots)) (laid_out slots old)) same.1 ∙ ap (λ (l : List ℕ). written 0 l (laid_out slots old))
+            (gate_again FORMAT_GATE (format_fields slots)))) is_formatted)
         | inr other ↦ inl (record {
           count = count;
           size = ap length stands ∙ length-written 0 (whole.0 ∷ drop 1 (format_cell slots)) (laid_out slots old) (omega (arith, long, size_of_laid)) ∙ size_of_laid;
-          closed = λ opened. other.1 (sym (ap (byte_at 0) stands ∙ byte-written 0 0 0 (whole.0 ∷ drop 1 (format_cell slots)) (laid_out slots old) (omega arith) (omega (arith, long)) (omega (arith, long, size_of_laid))) ∙ opened);
+          closed = λ opened. other.1 (sym
+              (ap (byte_at 0) stands ∙ byte-written 0 0 0 (whole.0 ∷ drop 1 (format_cell slots)) (laid_out slots old) (omega arith) (omega (arith, long))
+              (omega (arith, long, size_of_laid))) ∙ opened);
         })
       ]

@@ -28,7 +28,8 @@ use Rattle.recovery.proofs.Spare.{least_given, none_given, enough_given, ready_a
 
 -- ---- one image
 
-slot_held : (from index : ℕ) (held : List (Option HeaderValue)) (c : Option HeaderValue) (image : List ℕ) → HoldSlots from held image → slice_get held index ≡ Some c → HoldsSlot image (from + index) c
+slot_held : (from index : ℕ) (held : List (Option HeaderValue)) (c : Option HeaderValue) (image : List ℕ) → HoldSlots from held image → slice_get held index ≡ Some c →
+    HoldsSlot image (from + index) c
 slot_held from index [] c image holds there = absurd cc
 slot_held from zero (d ∷ held) c image holds there =
     subst (λ (s : ℕ). HoldsSlot image s c) (omega arith) (subst (λ (x : Option HeaderValue). HoldsSlot image from x) (some_same d c there) holds.0)
@@ -80,7 +81,8 @@ still_clear at i old new same here before = elim place_of [
     place_of = grind (arith)
 
 -- one more
-clear_more : (freed : List ℕ) (slot : ℕ) (old new : List ℕ) → SameOutside (slot_at slot) 1 old new → byte_at (slot_at slot) new ≡ 0 → AreClear freed old → AreClear (freed ++ slot ∷ []) new
+clear_more : (freed : List ℕ) (slot : ℕ) (old new : List ℕ) → SameOutside (slot_at slot) 1 old new → byte_at (slot_at slot) new ≡ 0 → AreClear freed old →
+    AreClear (freed ++ slot ∷ []) new
 clear_more [] slot old new same here all = (here, tt)
 clear_more (first ∷ freed) slot old new same here all = (still_clear (slot_at slot) (slot_at first) old new same here all.0, clear_more freed slot old new same here all.1)
 
@@ -125,7 +127,8 @@ module _ (store : Store) (freed : List ℕ) (slot : ℕ) (h : HeaderValue) (give
   -- and what a crash leaves while it is
   freeing_one : (c : List ℕ) → Frees slot mid c → IsPartlyFreed store (freed ++ slot ∷ []) given c
   freeing_one c torn =
-      let had : HoldsSlot mid slot (Some h) = subst (λ (s : ℕ). HoldsSlot mid s (Some h)) (omega arith) (slot_held 0 slot (with_all_freed freed store).held (Some h) mid right.slots_are there) in
+      let had : HoldsSlot mid slot (Some h) =
+      subst (λ (s : ℕ). HoldsSlot mid s (Some h)) (omega arith) (slot_held 0 slot (with_all_freed freed store).held (Some h) mid right.slots_are there) in
       elim (torn.1 h had) [
         | inl closed ↦ let one = freed_one c (torn.0, closed) in part_all store (freed ++ slot ∷ []) given c one.0 one.1
         | inr has ↦
@@ -136,7 +139,8 @@ module _ (store : Store) (freed : List ℕ) (slot : ℕ) (h : HeaderValue) (give
 -- ---- the disk
 
 -- nothing yet
-pub stands_first : (size : ℕ) (store : Store) (visited : List Top) (ids : List ℕ) (used : List Bool) (free : ℕ) (v : DiskView) → IsReady size store visited ids used free → Stands size store visited ids used free v v
+pub stands_first : (size : ℕ) (store : Store) (visited : List Top) (ids : List ℕ) (used : List Bool) (free : ℕ) (v : DiskView) → IsReady size store visited ids used free →
+    Stands size store visited ids used free v v
 stands_first size store visited ids used free v ready = record {
   freed = [];
   are_freed = record {
@@ -158,33 +162,40 @@ module _ (size : ℕ) (store : Store) (visited : List Top) (ids : List ℕ) (use
   spare : IsLeastSpare (IsVisited visited) so_far slot
   spare = least_given size so_far visited ids used free stands.ready slot least
 
-  crash_leaves : ((given : List ℕ) → mid.content ≡ Some given → CrashLeaves (λ c. mid.images c ⊎ ((d : List ℕ) × mid.images d × Frees slot d c)) mid new) → LeavesFreed store after old new
+  crash_leaves : ((given : List ℕ) → mid.content ≡ Some given → CrashLeaves (λ c. mid.images c ⊎ ((d : List ℕ) × mid.images d × Frees slot d c)) mid new) →
+      LeavesFreed store after old new
   crash_leaves steps given known right =
       let now = stands.are_freed.content given known right in
       let torn = leaves_weaker _ (λ c. old.images c ⊎ IsPartlyFreed store after given c) mid new (λ c from. elim from [
         | inl same ↦
-            inr (part_more store stands.freed slot given c (subst (IsPartlyFreed store stands.freed given) (sym (durable now.0 now.1 c same)) (part_all store stands.freed given now.0 now.2.0 now.2.1)))
+            inr (part_more store stands.freed slot given c
+            (subst (IsPartlyFreed store stands.freed given) (sym (durable now.0 now.1 c same)) (part_all store stands.freed given now.0 now.2.0 now.2.1)))
         | inr stepped ↦
-            inr (freeing_one store stands.freed slot spare.header given now.0 spare.holds now.2.0 now.2.1 c (subst (λ (d : List ℕ). Frees slot d c) (durable now.0 now.1 stepped.0 stepped.1) stepped.2))
+            inr (freeing_one store stands.freed slot spare.header given now.0 spare.holds now.2.0 now.2.1 c
+            (subst (λ (d : List ℕ). Frees slot d c) (durable now.0 now.1 stepped.0 stepped.1) stepped.2))
       ]) (steps now.0 now.1) in
       leaves_on (λ c. old.images c ⊎ IsPartlyFreed store stands.freed given c) _ (λ c. old.images c ⊎ IsPartlyFreed store after given c) old mid new later.clock_is
       (stands.are_freed.crash given known right) torn (λ c is. elim is [ inl image ↦ inl image | inr part ↦ inr (part_more store stands.freed slot given c part) ]) (λ c is. is)
 
-  images_cut : ((given : List ℕ) → mid.content ≡ Some given → CrashLeaves (λ c. mid.images c ⊎ ((d : List ℕ) × mid.images d × Frees slot d c)) mid new) → ImagesFreed store after old new
+  images_cut : ((given : List ℕ) → mid.content ≡ Some given → CrashLeaves (λ c. mid.images c ⊎ ((d : List ℕ) × mid.images d × Frees slot d c)) mid new) →
+      ImagesFreed store after old new
   images_cut steps given known right c image =
       let now = stands.are_freed.content given known right in
       elim ((steps now.0 now.1).now c image) [
         | inl same ↦
-            part_more store stands.freed slot given c (subst (IsPartlyFreed store stands.freed given) (sym (durable now.0 now.1 c same)) (part_all store stands.freed given now.0 now.2.0 now.2.1))
+            part_more store stands.freed slot given c
+            (subst (IsPartlyFreed store stands.freed given) (sym (durable now.0 now.1 c same)) (part_all store stands.freed given now.0 now.2.0 now.2.1))
         | inr stepped ↦
-            freeing_one store stands.freed slot spare.header given now.0 spare.holds now.2.0 now.2.1 c (subst (λ (d : List ℕ). Frees slot d c) (durable now.0 now.1 stepped.0 stepped.1) stepped.2)
+            freeing_one store stands.freed slot spare.header given now.0 spare.holds now.2.0 now.2.1 c
+            (subst (λ (d : List ℕ). Frees slot d c) (durable now.0 now.1 stepped.0 stepped.1) stepped.2)
       ]
 
   frees_after : FreesSome (IsVisited visited) after store
   frees_after = frees_more (IsVisited visited) stands.freed slot store stands.are_freed.frees (subst (λ (n : ℕ). n < RESERVE) stands.ready.free_is few) spare
 
   -- one more is given back
-  pub stands_more : Writes (λ _. Frees slot) (IsFreed slot) Done mid new → Known mid.content (λ given. KnownWith new.content (Puts (slot_at slot) (0 ∷ []) given)) → Stands size store visited (slice_set ids slot 0) used (free + 1) old new
+  pub stands_more : Writes (λ _. Frees slot) (IsFreed slot) Done mid new → Known mid.content (λ given. KnownWith new.content (Puts (slot_at slot) (0 ∷ []) given)) →
+      Stands size store visited (slice_set ids slot 0) used (free + 1) old new
   stands_more writes closes = record {
     freed = after;
     are_freed = record {
@@ -218,12 +229,23 @@ module _ (size : ℕ) (store : Store) (visited : List Top) (ids : List ℕ) (use
     };
   }
 
-module _ (size : ℕ) (store : Store) (visited : List Top) (ids : List ℕ) (used : List Bool) (free : ℕ) (old new : DiskView) (stands : Stands size store visited ids used free old new) where
+module _ (size : ℕ) (store : Store) (visited : List Top) (ids : List ℕ) (used : List Bool) (free : ℕ) (old new : DiskView)
+    (stands : Stands size store visited ids used free old new) where
   pub given_enough : RESERVE ≤ free → GivesBack store visited old new
-  given_enough enough = record { freed = stands.freed; are_freed = stands.are_freed; enough = enough_given size (with_all_freed stands.freed store) visited ids used free stands.ready enough }
+  given_enough enough = record {
+    freed = stands.freed;
+    are_freed = stands.are_freed;
+    enough = enough_given size (with_all_freed stands.freed store) visited ids used free
+        stands.ready enough;
+  }
 
   pub given_none : IsLeastOf ids used (length ids) None → GivesBack store visited old new
-  given_none none = record { freed = stands.freed; are_freed = stands.are_freed; enough = none_given size (with_all_freed stands.freed store) visited ids used free stands.ready none }
+  given_none none = record {
+    freed = stands.freed;
+    are_freed = stands.are_freed;
+    enough = none_given size (with_all_freed stands.freed store) visited ids used free stands.ready
+        none;
+  }
 
 -- calls that were done
 pub steady_here : (v : DiskView) → IsDurable v → IsSteady v v
@@ -233,8 +255,10 @@ steady_here v durable = record { later = later_here v; faults_are = refl; durabl
 pub giving_first : (ids : List ℕ) (used : List Bool) (free : ℕ) (v : DiskView) → IsDurable v → IsGiving ids used free ids free v v
 giving_first ids used free v durable = record { steady = steady_here v durable; stands = λ store visited ready. stands_first v.size store visited ids used free v ready }
 
-pub giving_more : (first : List ℕ) (used : List Bool) (closed : ℕ) (ids : List ℕ) (free : ℕ) (old mid new : DiskView) → IsGiving first used closed ids free old mid → free < RESERVE → (slot : ℕ)
-    → IsLeastIn ids used (length ids) slot → Writes (λ _. Frees slot) (IsFreed slot) Done mid new → Known mid.content (λ given. KnownWith new.content (Puts (slot_at slot) (0 ∷ []) given))
+pub giving_more : (first : List ℕ) (used : List Bool) (closed : ℕ) (ids : List ℕ) (free : ℕ) (old mid new : DiskView) → IsGiving first used closed ids free old mid →
+    free < RESERVE → (slot : ℕ)
+    → IsLeastIn ids used (length ids) slot → Writes (λ _. Frees slot) (IsFreed slot) Done mid new →
+    Known mid.content (λ given. KnownWith new.content (Puts (slot_at slot) (0 ∷ []) given))
     → IsGiving first used closed (slice_set ids slot 0) (free + 1) old new
 giving_more first used closed ids free old mid new giving few slot least writes closes = record {
   steady = record {
@@ -247,7 +271,8 @@ giving_more first used closed ids free old mid new giving few slot least writes 
 }
 
 -- no slot was found
-pub no_least : (ids : List ℕ) (used : List Bool) (found : Option ℕ) → IsLeastOf ids used (length ids) found → ((slot : ℕ) → found ≡ Some slot → ⊥) → IsLeastOf ids used (length ids) None
+pub no_least : (ids : List ℕ) (used : List Bool) (found : Option ℕ) → IsLeastOf ids used (length ids) found → ((slot : ℕ) → found ≡ Some slot → ⊥) →
+    IsLeastOf ids used (length ids) None
 no_least ids used None least none = least
 no_least ids used (Some slot) least none = absurd (none slot refl)
 

@@ -33,7 +33,8 @@ module _ (line : Damage → List ℕ) (slots : ℕ) where
   after_format : List ℕ → Found
   after_format image = and_then (journal_found image) (slots_found slots 0 [] image)
 
-  pub stops_at_format : (v : DiskView) (sink sink_now : SinkView) (halt : Halt) → Stops line (cell_with None) sink sink_now halt → StopsAmong line (image_found slots) v v sink sink_now halt
+  pub stops_at_format : (v : DiskView) (sink sink_now : SinkView) (halt : Halt) → Stops line (cell_with None) sink sink_now halt →
+      StopsAmong line (image_found slots) v v sink sink_now halt
   unfolding after_format
   stops_at_format v sink sink_now halt stops = stops_shown line (cell_with None) (image_found slots) after_format v v sink sink_now halt (always v v _ (λ image sized. refl)) stops
 
@@ -57,33 +58,41 @@ module _ (line : Damage → List ℕ) (slots : ℕ) where
             (finds_first line journal_found (slots_found slots 0 []) old mid sink_1 sink_2 tally_1 tally_2 journal)
 
         module _ (new : DiskView) (sink_3 : SinkView) (later : IsLater mid new) where
-          pub finds_all : (tally_3 : Tally) → Finds line (slots_found slots 0 []) (λ image. nothing) mid new sink_2 sink_3 tally_2 tally_3 → Finds line (image_found slots) (λ image. nothing) old new sink sink_3 tally tally_3
-          finds_all tally_3 last = finds_on line (image_found slots) (slots_found slots 0 []) old mid new sink sink_2 sink_3 tally tally_2 finds_journal reads later (λ image. nothing) tally_3 last
+          pub finds_all : (tally_3 : Tally) → Finds line (slots_found slots 0 []) (λ image. nothing) mid new sink_2 sink_3 tally_2 tally_3 →
+              Finds line (image_found slots) (λ image. nothing) old new sink sink_3 tally tally_3
+          finds_all tally_3 last = finds_on line (image_found slots) (slots_found slots 0 []) old mid new sink sink_2 sink_3 tally tally_2 finds_journal reads later
+              (λ image. nothing) tally_3 last
 
           pub stops_in_slots : (halt : Halt) → StopsAmong line (slots_found slots 0 []) mid new sink_2 sink_3 halt → StopsAmong line (image_found slots) old new sink sink_3 halt
           stops_in_slots halt last = stops_on line (image_found slots) (slots_found slots 0 []) old mid new sink sink_2 sink_3 tally tally_2 finds_journal reads later halt last
 
 -- ---- the whole
 
-pub refused_so : (line : Damage → List ℕ) (old new : DiskView) (sink : SinkView) (refusal : Refusal) → IsFormatRefusal (Shows old new) old.size refusal → IsUninspected line old new sink sink (Refused refusal)
+pub refused_so : (line : Damage → List ℕ) (old new : DiskView) (sink : SinkView) (refusal : Refusal) → IsFormatRefusal (Shows old new) old.size refusal →
+    IsUninspected line old new sink sink (Refused refusal)
 refused_so line old new sink refusal cause = inl (record { refusal = refusal; ending_is = refl; cause = cause; written = (reports_nothing line sink nothing_counted).written })
 
-module _ (line : Damage → List ℕ) (slots : ℕ) (old mid new : DiskView) (sized : IsSized (Shows old mid) old.size slots) (before : OnlyReads old mid) (later : IsLater mid new) (sink sink_now : SinkView) where
+module _ (line : Damage → List ℕ) (slots : ℕ) (old mid new : DiskView) (sized : IsSized (Shows old mid) old.size slots) (before : OnlyReads old mid) (later : IsLater mid new)
+    (sink sink_now : SinkView) where
   sized_still : IsSized (Shows old new) old.size slots
   sized_still = record { count = sized.count; size_is = sized.size_is; format = until old mid new sized.format before.later.clock_is later }
 
-  exactly : (found : Found) (tally : Tally) → Shows old new (λ image. image_found slots image ≡ found) → Counts found nothing_counted tally → (image : List ℕ) → old.content ≡ Some image → AreCounted found tally
+  exactly : (found : Found) (tally : Tally) → Shows old new (λ image. image_found slots image ≡ found) → Counts found nothing_counted tally → (image : List ℕ) →
+      old.content ≡ Some image → AreCounted found tally
   exactly found tally shown counts image told =
       let is = shown_content old new _ image shown told in
       exact_counts found tally (subst (λ (f : Found). f.cells + f.copies + length f.damages < 2 ^ 64 - 1) is (image_small slots image sized.count.1)) counts
 
-  pub inspected : (tally tally_now : Tally) → tally ≡ nothing_counted → Finds line (image_found slots) (λ image. nothing) mid new sink sink_now tally tally_now → IsInspected line old new sink sink_now tally_now
+  pub inspected : (tally tally_now : Tally) → tally ≡ nothing_counted → Finds line (image_found slots) (λ image. nothing) mid new sink sink_now tally tally_now →
+      IsInspected line old new sink sink_now tally_now
   inspected tally tally_now none finds =
-      let shown : Shows old new (λ image. image_found slots image ≡ finds.found) = weaker old new (λ image sized is. is ∙ then_nothing finds.found) (since old mid new before finds.shown) in
+      let shown : Shows old new (λ image. image_found slots image ≡ finds.found) = weaker old new (λ image sized is. is ∙ then_nothing finds.found)
+      (since old mid new before finds.shown) in
       let reports = subst (λ (t : Tally). Reports line finds.found sink sink_now t tally_now) none finds.reports in
       record { slots = slots; sized = sized_still; found = finds.found; shown = shown; reports = reports; exact = exactly finds.found tally_now shown reports.counts }
 
-  pub cut_short : (halt : Halt) (ending : Uninspected) → ending ≡ ended_by halt → StopsAmong line (image_found slots) mid new sink sink_now halt → IsUninspected line old new sink sink_now ending
+  pub cut_short : (halt : Halt) (ending : Uninspected) → ending ≡ ended_by halt → StopsAmong line (image_found slots) mid new sink sink_now halt →
+      IsUninspected line old new sink sink_now ending
   cut_short halt ending is stops = inr (record {
     slots = slots;
     sized = sized_still;
@@ -97,6 +106,8 @@ blames_so halt_of.Memory = refl
 blames_so halt_of.DiskRead = refl
 blames_so halt_of.Untaken = refl
 
-pub reads_cut_short : (halt : Halt) (ending : Uninspected) (old mid new : DiskView) → ending ≡ ended_by halt → Reads Done old mid → Reads (ending_of (halts halt)) mid new → Reads (ending_of (blamed ending)) old new
+pub reads_cut_short : (halt : Halt) (ending : Uninspected) (old mid new : DiskView) → ending ≡ ended_by halt → Reads Done old mid → Reads (ending_of (halts halt)) mid new →
+    Reads (ending_of (blamed ending)) old new
 reads_cut_short halt ending old mid new is first second =
-    reads_on (ending_of (blamed ending)) old mid new first (subst (λ (u : Uninspected). Reads (ending_of (blamed u)) mid new) (sym is) (subst (λ b. Reads (ending_of b) mid new) (blames_so halt) second))
+    reads_on (ending_of (blamed ending)) old mid new first
+    (subst (λ (u : Uninspected). Reads (ending_of (blamed u)) mid new) (sym is) (subst (λ b. Reads (ending_of b) mid new) (blames_so halt) second))

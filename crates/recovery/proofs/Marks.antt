@@ -55,7 +55,8 @@ pushed : (visited : List Top) (t : Top) → map top_key (visited ++ t ∷ []) �
 pushed visited t = map-append top_key visited (t ∷ [])
 
 -- one key more
-marked_one : (index : PlaceMap) (visited : List Top) (used : List Bool) (t : Top) (place : Place) → finite.get index (top_key t) ≡ Some place → place.slot < length used → IsMarked index visited used
+marked_one : (index : PlaceMap) (visited : List Top) (used : List Bool) (t : Top) (place : Place) → finite.get index (top_key t) ≡ Some place → place.slot < length used →
+    IsMarked index visited used
     → IsMarked index (visited ++ t ∷ []) (slice_set used place.slot true)
 marked_one index visited used t place found within marked = record {
   all = λ key p is there. elim (Contains-push_cases (map top_key visited) (top_key t) key (subst (λ (keys : List (List ℕ)). Contains keys key) (pushed visited t) is)) [
@@ -91,7 +92,8 @@ adds_none index used before is = subst (λ (tops : List Top). IsMarked index top
 
 -- ---- the walk of a tree
 
-pub indexed_on : (first i : PlaceMap) (old mid : DiskView) (counts : ByteSet) (held : List (Option HeaderValue)) (image : List ℕ) → i ≡ first → OnlyReads old mid → IsIndexed counts held (Some first) old.content image
+pub indexed_on : (first i : PlaceMap) (old mid : DiskView) (counts : ByteSet) (held : List (Option HeaderValue)) (image : List ℕ) → i ≡ first → OnlyReads old mid →
+    IsIndexed counts held (Some first) old.content image
     → IsIndexed counts held (Some i) mid.content image
 indexed_on first i old mid counts held image is reads indexed = record {
   told = reads.content_is ∙ indexed.told;
@@ -105,20 +107,26 @@ module _ (first i : PlaceMap) (old mid new : DiskView) (is : i ≡ first) (befor
   abbrev placed : List ℕ → Type 0
   placed = HasPlace (Some first)
 
-  way_until : (start visited ahead : List Top) → VisitsTo (WasRead (Some first) old mid) placed start visited ahead → VisitsTo (WasRead (Some first) old new) placed start visited ahead
+  way_until : (start visited ahead : List Top) → VisitsTo (WasRead (Some first) old mid) placed start visited ahead →
+      VisitsTo (WasRead (Some first) old new) placed start visited ahead
   way_until start visited ahead way =
-      visits_wider (WasRead (Some first) old mid) (WasRead (Some first) old new) placed placed start visited ahead way (read_until (Some first) old mid new before after) (λ key has. has)
+      visits_wider (WasRead (Some first) old mid) (WasRead (Some first) old new) placed placed start visited ahead way (read_until (Some first) old mid new before after)
+      (λ key has. has)
 
-  way_since : (start visited ahead : List Top) → VisitsTo (WasRead (Some i) mid new) (HasPlace (Some i)) start visited ahead → VisitsTo (WasRead (Some first) old new) placed start visited ahead
+  way_since : (start visited ahead : List Top) → VisitsTo (WasRead (Some i) mid new) (HasPlace (Some i)) start visited ahead →
+      VisitsTo (WasRead (Some first) old new) placed start visited ahead
   way_since start visited ahead way =
-      visits_wider (WasRead (Some i) mid new) (WasRead (Some first) old new) (HasPlace (Some i)) placed start visited ahead way (read_since (Some first) old mid new (Some i) (ap Some is) before)
+      visits_wider (WasRead (Some i) mid new) (WasRead (Some first) old new) (HasPlace (Some i)) placed start visited ahead way
+      (read_since (Some first) old mid new (Some i) (ap Some is) before)
       (placed_since (Some first) old mid new (Some i) (ap Some is))
 
-  roots_until : (roots : List NamedRoot) (visited : List Top) → VisitsRoots (WasRead (Some first) old mid) placed roots visited → VisitsRoots (WasRead (Some first) old new) placed roots visited
+  roots_until : (roots : List NamedRoot) (visited : List Top) → VisitsRoots (WasRead (Some first) old mid) placed roots visited →
+      VisitsRoots (WasRead (Some first) old new) placed roots visited
   roots_until roots visited way =
       roots_wider (WasRead (Some first) old mid) (WasRead (Some first) old new) placed placed roots visited way (read_until (Some first) old mid new before after) (λ key has. has)
 
-  cause_since : (ahead : List Top) (refusal : Refusal) → IsVisitRefusal (Some i) (λ at why image. ⊥) mid new ahead refusal → IsVisitRefusal (Some first) (λ at why image. ⊥) old new ahead refusal
+  cause_since : (ahead : List Top) (refusal : Refusal) → IsVisitRefusal (Some i) (λ at why image. ⊥) mid new ahead refusal →
+      IsVisitRefusal (Some first) (λ at why image. ⊥) old new ahead refusal
   cause_since = visit_since (Some first) old mid new (Some i) (ap Some is) (λ at why image. ⊥) (λ at why image. ⊥) (λ at why bytes broken. broken) before
 
   -- ---- all trees
@@ -140,7 +148,8 @@ module _ (first i : PlaceMap) (old mid new : DiskView) (is : i ≡ first) (befor
     cause = cause_since stuck.ahead refusal stuck.cause;
   }
 
-  pub tree_refused : (roots rest all : List NamedRoot) (n : NamedRoot) (used marked : List Bool) (refusal : Refusal) → all ≡ roots ++ n ∷ rest → MarksAll first old mid roots used marked
+  pub tree_refused : (roots rest all : List NamedRoot) (n : NamedRoot) (used marked : List Bool) (refusal : Refusal) → all ≡ roots ++ n ∷ rest →
+      MarksAll first old mid roots used marked
       → IsTreeRefusal first old new (start_of (top_of n.root)) refusal → IsMarkRefusal first old new all refusal
   tree_refused roots rest all n used marked refusal are marks (inl memory) = inl memory
   tree_refused roots rest all n used marked refusal are marks (inr stuck) = inr (record {
@@ -174,7 +183,8 @@ slot_within slot count size right is = omega (arith, right, is)
 abbrev told : Bool → Result Bool Refusal
 told more = Ok more
 
-pub steps_push : (index : PlaceMap) (old new : DiskView) (n : ℕ) (a b c : WalkState) → TakesSteps index old new n a b → TakesStep index old new b c → TakesSteps index old new (suc n) a c
+pub steps_push : (index : PlaceMap) (old new : DiskView) (n : ℕ) (a b c : WalkState) → TakesSteps index old new n a b → TakesStep index old new b c →
+    TakesSteps index old new (suc n) a c
 steps_push index old new zero a b c same step = (c, (subst (λ (s : WalkState). TakesStep index old new s c) same step, refl))
 steps_push index old new (suc n) a b c (mid, (first, others)) step = (mid, (first, steps_push index old new n mid b c others step))
 
@@ -229,7 +239,8 @@ module _ (first i : PlaceMap) (old mid new : DiskView) (is : i ≡ first) (befor
   pub walks_until : (a b : WalkState) → Walks first old mid a b → Walks first old new a b
   walks_until a b walks = record { count = walks.count; steps = steps_until walks.count a b walks.steps }
 
-  pub walks_next : (more : Bool) (a : WalkState) (ahead ahead_now : List Top) (nodes nodes_now : NodeSet) (used used_now : List Bool) → Walks first old mid a (walk_state ahead nodes used)
+  pub walks_next : (more : Bool) (a : WalkState) (ahead ahead_now : List Top) (nodes nodes_now : NodeSet) (used used_now : List Bool) →
+      Walks first old mid a (walk_state ahead nodes used)
       → (told more ≡ told true → TakesStep i mid new (walk_state ahead nodes used) (walk_state ahead_now nodes_now used_now))
       → (told more ≡ told false → (ahead ≡ []) × (nodes_now ≡ nodes) × (used_now ≡ used)) → Walks first old new a (walk_state (ahead_of more ahead_now) nodes_now used_now)
   walks_next true a ahead ahead_now nodes nodes_now used used_now walks step end =
@@ -260,7 +271,8 @@ module _ (index : PlaceMap) (old new : DiskView) (start : List Top) (initial : L
   }
 
   -- what was walked stays so, as more slots are marked
-  walked_on : (used marked : List Bool) (t : Top) → ((slot : ℕ) → get_or used slot false ≡ true → get_or marked slot false ≡ true) → IsWalked index old new used t → IsWalked index old new marked t
+  walked_on : (used marked : List Bool) (t : Top) → ((slot : ℕ) → get_or used slot false ≡ true → get_or marked slot false ≡ true) → IsWalked index old new used t →
+      IsWalked index old new marked t
   walked_on used marked t stays walked = record {
     visited = walked.visited;
     way = walked.way;
@@ -268,7 +280,8 @@ module _ (index : PlaceMap) (old new : DiskView) (start : List Top) (initial : L
   }
 
   -- a visit
-  module _ (ahead then_ahead : List Top) (nodes nodes_now : NodeSet) (used : List Bool) (place : Place) (walking : IsWalking index old new start initial (walk_state ahead nodes used))
+  module _ (ahead then_ahead : List Top) (nodes nodes_now : NodeSet) (used : List Bool) (place : Place)
+      (walking : IsWalking index old new start initial (walk_state ahead nodes used))
       (notes : NotesNext ahead nodes nodes_now) (visits : VisitsPlaced (Some index) old new ahead then_ahead place) (within : place.slot < length used) where
     abbrev marked : List Bool
     marked = slice_set used place.slot true
@@ -327,12 +340,14 @@ module _ (index : PlaceMap) (old new : DiskView) (start : List Top) (initial : L
 
   -- a node that was come to before
   module _ (nodes : NodeSet) (used : List Bool) where
-    from_complete : (visited ahead : List Top) (t : Top) → To start visited ahead → AreMarked index visited used → Contains visited t → 1 ≤ t.level → NotBelow t.level ahead → IsWalked index old new used t
+    from_complete : (visited ahead : List Top) (t : Top) → To start visited ahead → AreMarked index visited used → Contains visited t → 1 ≤ t.level → NotBelow t.level ahead →
+        IsWalked index old new used t
     from_complete visited ahead t way are has some high =
         let whole = complete (WasRead (Some index) old new) (HasPlace (Some index)) visited start ahead t way has some high in
         record { visited = whole.inside; way = whole.way; marked = λ key place is. are key place (whole.among key is) }
 
-    walked_there : (u : Top) (us : List Top) → (walking : IsWalking index old new start initial (walk_state (u ∷ us) nodes used)) → WasNoted nodes (u ∷ us) → IsWalked index old new used u
+    walked_there : (u : Top) (us : List Top) → (walking : IsWalking index old new start initial (walk_state (u ∷ us) nodes used)) → WasNoted nodes (u ∷ us) →
+        IsWalked index old new used u
     walked_there u us walking was = elim (walking.noted u was.1 was.2) [
       | inl walked ↦ walked
       | inr came ↦ from_complete walking.marks.visited (u ∷ us) u walking.marks.way walking.are_marked came.1 came.0 (omega arith)
@@ -353,7 +368,8 @@ module _ (index : PlaceMap) (old new : DiskView) (start : List Top) (initial : L
           only = λ slot set. let needed = was.only slot set in (needed.0, (needed.1.0, (visited_left (before ++ visited) more needed.0 needed.1.1.0, needed.1.1.1, needed.1.1.2)));
         })
 
-    passed_by : (u : Top) (us : List Top) → IsWalking index old new start initial (walk_state (u ∷ us) nodes used) → WasNoted nodes (u ∷ us) → IsWalking index old new start initial (walk_state us nodes used)
+    passed_by : (u : Top) (us : List Top) → IsWalking index old new start initial (walk_state (u ∷ us) nodes used) → WasNoted nodes (u ∷ us) →
+        IsWalking index old new start initial (walk_state us nodes used)
     passed_by u us walking was =
         let walked = walked_there u us walking was in
         record {
@@ -370,7 +386,8 @@ module _ (index : PlaceMap) (old new : DiskView) (start : List Top) (initial : L
           ];
         }
 
-    walking_past : (ahead : List Top) → IsWalking index old new start initial (walk_state ahead nodes used) → WasNoted nodes ahead → IsWalking index old new start initial (walk_state (drop 1 ahead) nodes used)
+    walking_past : (ahead : List Top) → IsWalking index old new start initial (walk_state ahead nodes used) → WasNoted nodes ahead →
+        IsWalking index old new start initial (walk_state (drop 1 ahead) nodes used)
     walking_past [] walking was = absurd was
     walking_past (u ∷ us) walking was = passed_by u us walking was
 
@@ -382,7 +399,8 @@ module _ (index : PlaceMap) (old new : DiskView) (start : List Top) (initial : L
     ]
 
   -- step by step, where the disk has as many slots as there are marks
-  walking_step : (a b : WalkState) → old.size ≡ size_of (length a.used) → IsWalking index old new start initial a → TakesStep index old new a b → IsWalking index old new start initial b × (length b.used ≡ length a.used)
+  walking_step : (a b : WalkState) → old.size ≡ size_of (length a.used) → IsWalking index old new start initial a → TakesStep index old new a b →
+      IsWalking index old new start initial b × (length b.used ≡ length a.used)
   walking_step a b size walking (inl passed) =
       (subst (IsWalking index old new start initial) (sym passed.1) (walking_past a.nodes a.used a.ahead walking passed.0), ap (λ (s : WalkState). length s.used) passed.1)
   walking_step a b size walking (inr visited) =
@@ -393,7 +411,8 @@ module _ (index : PlaceMap) (old new : DiskView) (start : List Top) (initial : L
         ap length visited.1.1.1 ∙ length-set a.used place.slot true,
       )
 
-  pub walking_steps : (n : ℕ) (a b : WalkState) → old.size ≡ size_of (length a.used) → IsWalking index old new start initial a → TakesSteps index old new n a b → IsWalking index old new start initial b
+  pub walking_steps : (n : ℕ) (a b : WalkState) → old.size ≡ size_of (length a.used) → IsWalking index old new start initial a → TakesSteps index old new n a b →
+      IsWalking index old new start initial b
   walking_steps zero a b size walking same = subst (IsWalking index old new start initial) (sym same) walking
   walking_steps (suc n) a b size walking (c, (one, others)) =
       let next = walking_step a c size walking one in
@@ -402,7 +421,8 @@ module _ (index : PlaceMap) (old new : DiskView) (start : List Top) (initial : L
 -- ---- trees that are held
 
 -- they are to come beside one that is passed
-pub held_past : (counts : ByteSet) (held : List (Option HeaderValue)) (image : List ℕ) (nodes : NodeSet) (ahead : List Top) → WasNoted nodes ahead → IsHeld counts held image ahead → IsHeld counts held image (drop 1 ahead)
+pub held_past : (counts : ByteSet) (held : List (Option HeaderValue)) (image : List ℕ) (nodes : NodeSet) (ahead : List Top) → WasNoted nodes ahead →
+    IsHeld counts held image ahead → IsHeld counts held image (drop 1 ahead)
 held_past counts held image nodes [] was is = absurd was
 held_past counts held image nodes (u ∷ us) was ([], is) = absurd (let wrong : u ∷ us ≡ [] = is.trees.tops in cc)
 held_past counts held image nodes (u ∷ us) was (t ∷ ts, is) =
@@ -415,7 +435,8 @@ falls_past nodes (u ∷ us) was = omega (arith, sum_by-cons (λ (t : Top). t.len
 
 -- ---- all trees
 
-roots_push : (index : PlaceMap) (old new : DiskView) (roots : List NamedRoot) (n : NamedRoot) (a b c : WalkState) → WalksRoots index old new roots a b → Walks index old new (record b { ahead = start_of (top_of n.root) }) c
+roots_push : (index : PlaceMap) (old new : DiskView) (roots : List NamedRoot) (n : NamedRoot) (a b c : WalkState) → WalksRoots index old new roots a b →
+    Walks index old new (record b { ahead = start_of (top_of n.root) }) c
     → c.ahead ≡ [] → WalksRoots index old new (roots ++ n ∷ []) a c
 roots_push index old new [] n a b c same walks none =
     (c, (subst (λ (s : WalkState). Walks index old new (record s { ahead = start_of (top_of n.root) }) c) same walks, none, refl))
@@ -440,8 +461,10 @@ module _ (first i : PlaceMap) (old mid new : DiskView) (is : i ≡ first) (befor
   walks_roots_until (n ∷ ns) a b (c, (one, none, others)) =
       (c, (walks_until first i old mid new is before after (record a { ahead = start_of (top_of n.root) }) c one, none, walks_roots_until ns c b others))
 
-  pub walks_roots_more : (roots : List NamedRoot) (n : NamedRoot) (a : WalkState) (nodes then_nodes : NodeSet) (used then_used : List Bool) → WalksRoots first old mid roots a (walk_state [] nodes used)
-      → Walks i mid new (walk_state (start_of (top_of n.root)) nodes used) (walk_state [] then_nodes then_used) → WalksRoots first old new (roots ++ n ∷ []) a (walk_state [] then_nodes then_used)
+  pub walks_roots_more : (roots : List NamedRoot) (n : NamedRoot) (a : WalkState) (nodes then_nodes : NodeSet) (used then_used : List Bool) →
+      WalksRoots first old mid roots a (walk_state [] nodes used)
+      → Walks i mid new (walk_state (start_of (top_of n.root)) nodes used) (walk_state [] then_nodes then_used) →
+      WalksRoots first old new (roots ++ n ∷ []) a (walk_state [] then_nodes then_used)
   walks_roots_more roots n a nodes then_nodes used then_used walks tree =
       roots_push first old new roots n a (walk_state [] nodes used) (walk_state [] then_nodes then_used) (walks_roots_until roots a (walk_state [] nodes used) walks) (record {
         count = tree.count;
@@ -461,7 +484,8 @@ module _ (first i : PlaceMap) (old mid new : DiskView) (is : i ≡ first) (befor
       })
 
 -- none was walked yet
-pub marking_none : (index : PlaceMap) (v : DiskView) (roots : List NamedRoot) (nodes : NodeSet) (used : List Bool) → roots ≡ [] → nodes ≡ finite.empty → IsMarkingAll index index v v roots nodes used used
+pub marking_none : (index : PlaceMap) (v : DiskView) (roots : List NamedRoot) (nodes : NodeSet) (used : List Bool) → roots ≡ [] → nodes ≡ finite.empty →
+    IsMarkingAll index index v v roots nodes used used
 marking_none index v roots nodes used none empty = record {
   marks = record {
     visited = [];
@@ -481,7 +505,8 @@ marking_none index v roots nodes used none empty = record {
 -- one tree more
 pub marking_all_more : (first i j : PlaceMap) (old mid new : DiskView) (roots more : List NamedRoot) (n : NamedRoot) (nodes nodes_now : NodeSet) (used mid_marks marked : List Bool)
     → IsMarkingAll first i old mid roots nodes used mid_marks → more ≡ roots ++ n ∷ [] → old.size ≡ size_of (length mid_marks)
-    → Walks i mid new (walk_state (start_of (top_of n.root)) nodes mid_marks) (walk_state [] nodes_now marked) → j ≡ i → Reads Done mid new → IsMarkingAll first j old new more nodes_now used marked
+    → Walks i mid new (walk_state (start_of (top_of n.root)) nodes mid_marks) (walk_state [] nodes_now marked) → j ≡ i → Reads Done mid new →
+    IsMarkingAll first j old new more nodes_now used marked
 marking_all_more first i j old mid new roots more n nodes nodes_now used mid_marks marked marking are size walks same reads =
     let start = start_of (top_of n.root) in
     let walking = walking_to first i old mid new marking.index_is marking.reads.only reads.only start nodes mid_marks (walk_state [] nodes_now marked) size marking.walked walks in
@@ -490,7 +515,8 @@ marking_all_more first i j old mid new roots more n nodes nodes_now used mid_mar
           (tree_more first i old mid new marking.index_is marking.reads.only reads.only roots n used mid_marks marked marking.marks walking.marks);
       walked = all_walked first old new start mid_marks nodes_now marked walking;
       walks = subst (λ (all : List NamedRoot). WalksRoots first old new all (walk_state [] finite.empty used) (walk_state [] nodes_now marked)) (sym are)
-          (walks_roots_more first i old mid new marking.index_is marking.reads.only reads.only roots n (walk_state [] finite.empty used) nodes nodes_now mid_marks marked marking.walks walks);
+          (walks_roots_more first i old mid new marking.index_is marking.reads.only reads.only roots n (walk_state [] finite.empty used) nodes nodes_now mid_marks marked
+          marking.walks walks);
       index_is = same ∙ marking.index_is;
       reads = reads_on Done old mid new marking.reads reads;
     }
@@ -502,7 +528,8 @@ listed_at [] k d within = refl
 listed_at (f ∷ fs) zero d within = refl
 listed_at (f ∷ fs) (suc k) d within = listed_at fs k d (omega (arith, within))
 
-held_at : (counts : ByteSet) (held : List (Option HeaderValue)) (image : List ℕ) (roots : List NamedRoot) (k : ℕ) (d : NamedRoot) → k < length roots → AllHeld counts held image roots → IsHeld counts held image (start_of (top_of (get_or roots k d).root))
+held_at : (counts : ByteSet) (held : List (Option HeaderValue)) (image : List ℕ) (roots : List NamedRoot) (k : ℕ) (d : NamedRoot) → k < length roots →
+    AllHeld counts held image roots → IsHeld counts held image (start_of (top_of (get_or roots k d).root))
 held_at counts held image [] k d within all = absurd (omega (arith, within))
 held_at counts held image (n ∷ ns) zero d within all = all.0
 held_at counts held image (n ∷ ns) (suc k) d within all = held_at counts held image ns k d (omega (arith, within)) all.1
@@ -525,12 +552,14 @@ module _ (files : List ListedName) (k : ℕ) (file : ListedName) (within : k < l
       sym (take-append-drop k roots_in) ∙ ap (λ (rest : List NamedRoot). take k roots_in ++ rest) (drop_more roots_in k (listed_value file) within_roots)
       ∙ ap (λ (n : NamedRoot). take k roots_in ++ n ∷ drop (k + 1) roots_in) file_at
 
-  pub file_held : (counts : ByteSet) (held : List (Option HeaderValue)) (image : List ℕ) → AllHeld counts held image roots_in → IsHeld counts held image (start_of (top_of file.root))
+  pub file_held : (counts : ByteSet) (held : List (Option HeaderValue)) (image : List ℕ) → AllHeld counts held image roots_in →
+      IsHeld counts held image (start_of (top_of file.root))
   file_held counts held image all =
       subst (λ (n : NamedRoot). IsHeld counts held image (start_of (top_of n.root))) file_at (held_at counts held image roots_in k (listed_value file) within_roots all)
 
 -- a tree whose walk failed is one of all
-pub tree_failed : (first i : PlaceMap) (old mid : DiskView) (files : List ListedName) (k : ℕ) (file : ListedName) (refusal : Refusal) → k < length files → file ≡ get_or files k file → i ≡ first → OnlyReads old mid
+pub tree_failed : (first i : PlaceMap) (old mid : DiskView) (files : List ListedName) (k : ℕ) (file : ListedName) (refusal : Refusal) → k < length files →
+    file ≡ get_or files k file → i ≡ first → OnlyReads old mid
     → WhereHeld i mid.content (λ counts held image. IsHeld counts held image (start_of (top_of file.root))) (λ counts held image. IsTrue (fails refusal))
     → WhereHeld first old.content (λ counts held image. AllHeld counts held image (map listed_value files)) (λ counts held image. IsTrue (fails refusal))
 tree_failed first i old mid files k file refusal within is same reads failed counts held image indexed all =

@@ -42,7 +42,8 @@ among_more nodes x u one other has = by_test (eq_by_cmp (slice_cmp nat_cmp) (nod
   where
     by_test : (b : Bool) → eq_by_cmp (slice_cmp nat_cmp) (node_key u) (node_key x) ≡ b → (x ≡ u) ⊎ HasNode nodes u
     by_test true is = inl (one_node x u one other ((bytes_eq-Decides (node_key x) (node_key u)).0 (sym (tied (node_key u) (node_key x)) ∙ is)))
-    by_test false is = inr (sym (finite.get-insert nat_list_cmp_total nodes (node_key x) tt (node_key u) ∙ ap (λ (b : Bool). cond b (Some tt) (finite.get nodes (node_key u))) is) ∙ has)
+    by_test false is = inr (sym (finite.get-insert nat_list_cmp_total nodes (node_key x) tt (node_key u) ∙ ap (λ (b : Bool). cond b (Some tt) (finite.get nodes (node_key u))) is)
+        ∙ has)
 
 -- ---- what a walk asks for
 
@@ -59,7 +60,8 @@ pub node_first : (ahead : List Top) (digest : List ℕ) (level length : ℕ) →
 node_first [] digest level length is = absurd cc
 node_first (t ∷ ts) digest level length is = by_test (t.level == 0) refl is
   where
-    by_test : (b : Bool) → (t.level == 0) ≡ b → wants.Node digest level length ≡ cond b (wants.Leaf t.digest t.level t.length) (wants.Node t.digest t.level t.length) → IsFirst level length digest (t ∷ ts)
+    by_test : (b : Bool) → (t.level == 0) ≡ b → wants.Node digest level length ≡ cond b (wants.Leaf t.digest t.level t.length) (wants.Node t.digest t.level t.length) →
+        IsFirst level length digest (t ∷ ts)
     by_test true flat same = absurd cc
     by_test false above same =
         let parts = node_want digest t.digest level t.level length t.length same in
@@ -73,7 +75,8 @@ node_first (t ∷ ts) digest level length is = by_test (t.level == 0) refl is
         }
 
 -- none does
-pub no_node : (ahead : List Top) (nodes : NodeSet) (want : Want) → want ≡ wanted ahead → ((digest : List ℕ) (level length : ℕ) → want ≡ wants.Node digest level length → ⊥) → NotesNext ahead nodes nodes
+pub no_node : (ahead : List Top) (nodes : NodeSet) (want : Want) → want ≡ wanted ahead → ((digest : List ℕ) (level length : ℕ) → want ≡ wants.Node digest level length → ⊥) →
+    NotesNext ahead nodes nodes
 no_node [] nodes want is none = refl
 no_node (t ∷ ts) nodes want is none = by_test (t.level == 0) refl is
   where
@@ -81,11 +84,13 @@ no_node (t ∷ ts) nodes want is none = by_test (t.level == 0) refl is
     by_test true flat same = inl (eqb-true t.level 0 flat, refl)
     by_test false above same = absurd (none t.digest t.level t.length same)
 
-pub was_there : (ahead : List Top) (nodes : NodeSet) (digest : List ℕ) (level length : ℕ) → length < 2 ^ 64 → IsFirst level length digest ahead → finite.get nodes (named_key level length digest) ≡ Some tt
+pub was_there : (ahead : List Top) (nodes : NodeSet) (digest : List ℕ) (level length : ℕ) → length < 2 ^ 64 → IsFirst level length digest ahead →
+    finite.get nodes (named_key level length digest) ≡ Some tt
     → WasNoted nodes ahead
 was_there ahead nodes digest level length sized first has = subst (WasNoted nodes) (sym first.ahead_is) (first.some, sized, has)
 
-pub noted_now : (ahead : List Top) (old new : NodeSet) (digest : List ℕ) (level length : ℕ) → length < 2 ^ 64 → IsFirst level length digest ahead → finite.get old (named_key level length digest) ≡ None
+pub noted_now : (ahead : List Top) (old new : NodeSet) (digest : List ℕ) (level length : ℕ) → length < 2 ^ 64 → IsFirst level length digest ahead →
+    finite.get old (named_key level length digest) ≡ None
     → new ≡ finite.insert old (named_key level length digest) tt → NotesNext ahead old new
 noted_now ahead old new digest level length sized first none is =
     subst (λ (l : List Top). NotesNext l old new) (sym first.ahead_is) (inr (first.some, sized, none, is))

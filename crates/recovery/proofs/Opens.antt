@@ -49,7 +49,8 @@ use Rattle.recovery.proofs.Spare.{all_by, frees_all, some_by}
 
 -- the trees of all names are held
 all_held : (counts : ByteSet) (store : Store) (files : Files) (image : List ℕ) (holds : IsStoreOf store files image)
-    → ((key : List ℕ) (copy : Copy) → newest 0 store.held key ≡ Some copy → IsIn counts key) → (es : List (List ℕ × Named)) → All (λ e. finite.get (names_of store) e.0 ≡ Some e.1) es
+    → ((key : List ℕ) (copy : Copy) → newest 0 store.held key ≡ Some copy → IsIn counts key) → (es : List (List ℕ × Named)) →
+    All (λ e. finite.get (names_of store) e.0 ≡ Some e.1) es
     → AllHeld counts store.held image (map named_root es)
 all_held counts store files image holds count [] all = tt
 all_held counts store files image holds count (e ∷ es) all = (
@@ -62,7 +63,8 @@ module _ (store : Store) (among : ByteSet) (stored : Stored) (given : List ℕ) 
   of_store = subst (λ (s : Store). IsStoreOf s stored.files given) (store_once given opens.store store opens.stands.holds.right right) opens.stands.holds
 
   names_held : (index : PlaceMap) → IsIndexOf store.held index → AllHeld (key_set_of index) store.held given (listing_of (names_of store))
-  names_held index all = all_held (key_set_of index) store stored.files given of_store (indexed_keys store.held index all) (finite.entries (names_of store)) (entries_found (names_of store))
+  names_held index all = all_held (key_set_of index) store stored.files given of_store (indexed_keys store.held index all) (finite.entries (names_of store))
+      (entries_found (names_of store))
 
   opens_none : (c : List ℕ) → IsPartlyFreed store [] given c → OpensAs (IsIn among) stored c
   opens_none c part = partly_opens (IsIn among) (IsReachable stored.files) stored store [] given c (λ key is. is) (λ key is. is) opens right tt part
@@ -84,12 +86,14 @@ module _ (store : Store) (among : ByteSet) (stored : Stored) (given : List ℕ) 
     spares_some : (freed : List ℕ) → FreesSome (IsVisited visited) freed store → FreesSome (IsReachable stored.files) freed store
     spares_some freed frees = some_by (IsVisited visited) (IsReachable stored.files) fewer needed freed store frees
 
-    stands_all : (freed now : List ℕ) (after : Store) → FreesTo (IsVisited visited) freed store after → Encodes now after → SameButGates freed given now → IsOf (IsIn among) stored now
+    stands_all : (freed now : List ℕ) (after : Store) → FreesTo (IsVisited visited) freed store after → Encodes now after → SameButGates freed given now →
+        IsOf (IsIn among) stored now
     stands_all freed now after frees there same = freed_stands (IsIn among) (IsVisited visited) stored store after freed given now fewer needed opens right frees there same
 
 -- ---- from the start of an opening on
 
-module _ (old mid new : DiskView) (reads : Reads Done old mid) (o : OpenStore) (found : IsFound (Shows old mid) old.size o) (closed : ℕ) (few : closed < RESERVE) (closed_is : closed ≡ free_slots found.store.held)
+module _ (old mid new : DiskView) (reads : Reads Done old mid) (o : OpenStore) (found : IsFound (Shows old mid) old.size o) (closed : ℕ) (few : closed < RESERVE)
+    (closed_is : closed ≡ free_slots found.store.held)
     (later : IsLater mid new) where
   abbrev short : IsShort (Shows old new) old.size
   short = record {
@@ -107,9 +111,11 @@ module _ (old mid new : DiskView) (reads : Reads Done old mid) (o : OpenStore) (
   abbrev placed : List ℕ → Type 0
   placed = HasPlace (Some o.containers.index)
 
-  visits_earlier : (ns : List NamedRoot) (visited : List Top) → VisitsRoots (WasRead (Some o.containers.index) mid new) placed ns visited → VisitsRoots (WasRead (Some o.containers.index) old new) placed ns visited
+  visits_earlier : (ns : List NamedRoot) (visited : List Top) → VisitsRoots (WasRead (Some o.containers.index) mid new) placed ns visited →
+      VisitsRoots (WasRead (Some o.containers.index) old new) placed ns visited
   visits_earlier ns visited visits =
-      roots_wider (WasRead (Some o.containers.index) mid new) (WasRead (Some o.containers.index) old new) placed placed ns visited visits (read_earlier (Some o.containers.index) old mid new reads.only)
+      roots_wider (WasRead (Some o.containers.index) mid new) (WasRead (Some o.containers.index) old new) placed placed ns visited visits
+      (read_earlier (Some o.containers.index) old mid new reads.only)
       (λ key has. has)
 
   content_encodes : (given : List ℕ) → old.content ≡ Some given → Encodes given found.store
@@ -119,7 +125,8 @@ module _ (old mid new : DiskView) (reads : Reads Done old mid) (o : OpenStore) (
   room_made makes =
       let freed = makes.gives.freed in
       let visits : VisitsRoots (WasRead (Some o.containers.index) old new) placed roots makes.visited = visits_earlier roots makes.visited makes.visits in
-      let frees : FreesTo (IsVisited makes.visited) freed found.store (with_all_freed freed found.store) = frees_all (IsVisited makes.visited) freed found.store makes.gives.are_freed.frees makes.gives.enough in
+      let frees : FreesTo (IsVisited makes.visited) freed found.store (with_all_freed freed found.store) =
+      frees_all (IsVisited makes.visited) freed found.store makes.gives.are_freed.frees makes.gives.enough in
       record {
         later = later_on old mid new reads.only.later later;
         faults_are = makes.steady.faults_are ∙ reads.faults_are;
@@ -138,11 +145,14 @@ module _ (old mid new : DiskView) (reads : Reads Done old mid) (o : OpenStore) (
                 now.2.0,
                 now.2.1,
                 (record {
-                  stands = λ among stored opens. stands_all found.store among stored given right opens o.containers.index found.represents.containers.index old new known makes.visited visits freed now.0
+                  stands = λ among stored opens. stands_all found.store among stored given right opens o.containers.index found.represents.containers.index old new known
+                      makes.visited visits freed now.0
                       (with_all_freed freed found.store) frees now.2.0 now.2.1;
-                  on_the_way = λ among stored c opens part. opens_some found.store among stored given right opens o.containers.index found.represents.containers.index old new known makes.visited visits freed c
+                  on_the_way = λ among stored c opens part. opens_some found.store among stored given right opens o.containers.index found.represents.containers.index old new
+                      known makes.visited visits freed c
                       makes.gives.are_freed.frees part;
-                  spares = λ among stored opens. spares_all found.store among stored given right opens o.containers.index found.represents.containers.index old new known makes.visited visits freed
+                  spares = λ among stored opens. spares_all found.store among stored given right opens o.containers.index found.represents.containers.index old new known
+                      makes.visited visits freed
                       (with_all_freed freed found.store) frees;
                 }),
                 now.2.2,
@@ -190,18 +200,22 @@ module _ (old mid new : DiskView) (reads : Reads Done old mid) (o : OpenStore) (
   walked_earlier refusal freed (inl none) = inl none
   walked_earlier refusal freed (inr (is, walk)) = inr (is, (record { visited = walk.0; visits = visits_earlier roots walk.0 walk.1.0 }, walk.1.1))
 
-  opens_after : (refusal : Refusal) (among : ByteSet) (stored : Stored) (given freed c : List ℕ) → old.content ≡ Some given → OpensAs (IsIn among) stored given → IsWalkedFirst found.store o.containers.index refusal mid new freed
+  opens_after : (refusal : Refusal) (among : ByteSet) (stored : Stored) (given freed c : List ℕ) → old.content ≡ Some given → OpensAs (IsIn among) stored given →
+      IsWalkedFirst found.store o.containers.index refusal mid new freed
       → IsPartlyFreed found.store freed given c → OpensAs (IsIn among) stored c
   opens_after refusal among stored given freed c known opens (inl none) part =
       opens_none found.store among stored given (content_encodes given known) opens c (subst (λ (slots : List ℕ). IsPartlyFreed found.store slots given c) none part)
   opens_after refusal among stored given freed c known opens (inr (is, walk)) part =
-      opens_some found.store among stored given (content_encodes given known) opens o.containers.index found.represents.containers.index old new known walk.0 (visits_earlier roots walk.0 walk.1.0) freed c walk.1.1 part
+      opens_some found.store among stored given (content_encodes given known) opens o.containers.index found.represents.containers.index old new known walk.0
+      (visits_earlier roots walk.0 walk.1.0) freed c walk.1.1 part
 
-  spares_after : (refusal : Refusal) (among : ByteSet) (stored : Stored) (given freed : List ℕ) → old.content ≡ Some given → OpensAs (IsIn among) stored given → IsWalkedFirst found.store o.containers.index refusal mid new freed
+  spares_after : (refusal : Refusal) (among : ByteSet) (stored : Stored) (given freed : List ℕ) → old.content ≡ Some given → OpensAs (IsIn among) stored given →
+      IsWalkedFirst found.store o.containers.index refusal mid new freed
       → FreesSome (IsReachable stored.files) freed found.store
   spares_after refusal among stored given freed known opens (inl none) = subst (λ (slots : List ℕ). FreesSome (IsReachable stored.files) slots found.store) (sym none) tt
   spares_after refusal among stored given freed known opens (inr (is, walk)) =
-      spares_some found.store among stored given (content_encodes given known) opens o.containers.index found.represents.containers.index old new known walk.0 (visits_earlier roots walk.0 walk.1.0) freed walk.1.1
+      spares_some found.store among stored given (content_encodes given known) opens o.containers.index found.represents.containers.index old new known walk.0
+      (visits_earlier roots walk.0 walk.1.0) freed walk.1.1
 
   -- all was read before anything was written
   read_only : (refusal : Refusal) → IsMakeRefusal found.store o.containers.index mid new refusal → (refusal ≡ DiskWrite) ⊎ OnlyReads old new
@@ -245,7 +259,8 @@ only_read refusal old new other unmade = elim unmade.only [
 ]
 
 -- it was, and enough slots are closed
-pub reads_opened : (o : OpenStore) (old new : DiskView) (closed : ℕ) (found : IsFound (Shows old new) old.size o) → RESERVE ≤ closed → closed ≡ free_slots found.store.held → IsDurable new → Reads Done old new
+pub reads_opened : (o : OpenStore) (old new : DiskView) (closed : ℕ) (found : IsFound (Shows old new) old.size o) → RESERVE ≤ closed → closed ≡ free_slots found.store.held →
+    IsDurable new → Reads Done old new
     → ReadsStore (Ok o) old new
 reads_opened o old new closed found enough is durable reads = record {
   opened = record { found = found; reserve = subst (λ n. RESERVE ≤ n) is enough };

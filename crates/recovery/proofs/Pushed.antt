@@ -3,7 +3,8 @@ use Rattle.std.proofs.Common.{◌≢◌, ℕ, ◌+◌, List, [], ◌∷◌, ◌+
 use Rattle.container_meta.specs.Spelling.{HeaderValue}
 use Rattle.store_model.specs.Slots.{HoldsSlot, HoldSlots, IsUnusedId, DifferentIds}
 
-pub hold-push : (slot : ℕ) (held : List (Option HeaderValue)) (c : Option HeaderValue) (image : List ℕ) → HoldSlots slot held image → HoldsSlot image (slot + length held) c → HoldSlots slot (held ++ c ∷ []) image
+pub hold-push : (slot : ℕ) (held : List (Option HeaderValue)) (c : Option HeaderValue) (image : List ℕ) → HoldSlots slot held image → HoldsSlot image (slot + length held) c →
+    HoldSlots slot (held ++ c ∷ []) image
 hold-push slot [] c image before here = (subst (λ s. HoldsSlot image s c) (omega arith) here, tt)
 hold-push slot (h ∷ held) c image before here = (before.0, hold-push (slot + 1) held c image before.1 (subst (λ s. HoldsSlot image s c) (omega arith) here))
 

@@ -110,7 +110,8 @@ used_id shown before slot h right used read =
     }
 
 -- a header that breaks the format is damage, after whatever slots
-pub damage_of : (shown : (List ℕ → Type 0) → Type 0) (before : List (Option HeaderValue)) (slot : ℕ) (r : Refusal) → IsSlotRefusal shown BreaksHeader slot r → IsSlotRefusal shown (IsSlotDamage before) slot r
+pub damage_of : (shown : (List ℕ → Type 0) → Type 0) (before : List (Option HeaderValue)) (slot : ℕ) (r : Refusal) → IsSlotRefusal shown BreaksHeader slot r →
+    IsSlotRefusal shown (IsSlotDamage before) slot r
 damage_of shown before slot Memory is = tt
 damage_of shown before slot DiskRead is = tt
 damage_of shown before slot (Damaged at why) is = (is.0, record { bytes = is.1.bytes; gate = is.1.gate; damage_is = inl is.1.damage_is; read_as = is.1.read_as })
@@ -122,7 +123,8 @@ none_yet v tables are = record { held = []; many = refl; right = tt; different =
 
 module _ (old mid new : DiskView) (slot : ℕ) (tables : Containers) (part : AreSlots (Shows old mid) slot tables) (before : OnlyReads old mid) (reads : OnlyReads mid new) where
   -- one more slot
-  pub more : (after : Containers) (c : Option HeaderValue) → MayFollow part.held c → Shows mid new (λ image. HoldsSlot image slot c) → RepresentsContainers (part.held ++ c ∷ []) after
+  pub more : (after : Containers) (c : Option HeaderValue) → MayFollow part.held c → Shows mid new (λ image. HoldsSlot image slot c) →
+      RepresentsContainers (part.held ++ c ∷ []) after
       → AreSlots (Shows old new) (slot + 1) after
   more after c may seen are =
       let here : slot ≡ 0 + length part.held = omega (arith, part.many) in
@@ -132,11 +134,13 @@ module _ (old mid new : DiskView) (slot : ℕ) (tables : Containers) (part : Are
         right = headers_push part.held c part.right may;
         different = differ_push part.held c part.different may;
         represents = are;
-        holds = weaker old new (λ image sized seen. hold-push 0 part.held c image seen.0 (subst (λ s. HoldsSlot image s c) here seen.1)) (both old mid new part.holds before seen reads.later);
+        holds = weaker old new (λ image sized seen. hold-push 0 part.held c image seen.0 (subst (λ s. HoldsSlot image s c) here seen.1))
+            (both old mid new part.holds before seen reads.later);
       }
 
   -- a slot that isn't right
-  pub no_more : (slots : ℕ) (r : Refusal) → slot < slots → Shows mid new (λ image. (held : Option HeaderValue) → HoldsSlot image slot held → MayFollow part.held held → IsTrue (fails r))
+  pub no_more : (slots : ℕ) (r : Refusal) → slot < slots →
+      Shows mid new (λ image. (held : Option HeaderValue) → HoldsSlot image slot held → MayFollow part.held held → IsTrue (fails r))
       → Shows old new (λ image. (held : List (Option HeaderValue)) → length held ≡ slots → HoldSlots 0 held image → DifferentIds held → IsTrue (fails r))
   no_more slots r within seen =
       weaker old new (λ image sized seen held many holds differ. gives_up image held many holds differ seen.0 seen.1) (both old mid new part.holds before seen reads.later)
@@ -164,5 +168,6 @@ module _ (old mid new : DiskView) (slot : ℕ) (tables : Containers) (part : Are
   refused slots _ within is = absurd is
 
 -- a slot with a used id may not follow those before it
-pub not_used : (before : List (Option HeaderValue)) (held : Option HeaderValue) (h : HeaderValue) (P : Type 0) → held ≡ Some h → MayFollow before held → (IsUnusedId h.id before → ⊥) → P
+pub not_used : (before : List (Option HeaderValue)) (held : Option HeaderValue) (h : HeaderValue) (P : Type 0) → held ≡ Some h → MayFollow before held →
+    (IsUnusedId h.id before → ⊥) → P
 not_used before held h P is may used = absurd (used (subst (MayFollow before) is may).1)

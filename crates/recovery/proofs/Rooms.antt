@@ -41,7 +41,8 @@ none_marked index n = record {
   only = λ slot is. absurd (let wrong : false ≡ true = sym (none_replicated n slot) ∙ is in cc);
 }
 
-pub marks_for : (index : PlaceMap) (old new : DiskView) (roots all : List NamedRoot) (used marked taken : List Bool) (n : ℕ) → all ≡ roots → used ≡ replicate n false → MarksAll index old new all used marked
+pub marks_for : (index : PlaceMap) (old new : DiskView) (roots all : List NamedRoot) (used marked taken : List Bool) (n : ℕ) → all ≡ roots → used ≡ replicate n false →
+    MarksAll index old new all used marked
     → taken ≡ marked → MarksFor index old new roots taken
 marks_for index old new roots all used marked taken n same none marks is = record {
   visited = marks.visited;
@@ -50,7 +51,8 @@ marks_for index old new roots all used marked taken n same none marks is = recor
 }
 
 -- marks by the index are those by the newest copies
-are_marks : (store : Store) (index : PlaceMap) (visited : List Top) (used : List Bool) → IsIndexOf store.held index → IsMarked index visited used → AreMarks (IsVisited visited) store.held used
+are_marks : (store : Store) (index : PlaceMap) (visited : List Top) (used : List Bool) → IsIndexOf store.held index → IsMarked index visited used →
+    AreMarks (IsVisited visited) store.held used
 are_marks store index visited used newest marked = record {
   clear = λ slot unused key copy needed is here.
       let found : finite.get index key ≡ Some copy.place = newest key ∙ ap (option_map (λ (c : Copy). c.place)) is in
@@ -68,8 +70,10 @@ are_marks store index visited used newest marked = record {
 module _ (store : Store) (index : PlaceMap) (old mid new : DiskView) (reads : OnlyReads old mid) where
   pub leaves_since : (freed : List ℕ) → IsLater mid new → LeavesFreed store freed mid new → LeavesFreed store freed old new
   leaves_since freed later leaves given known right =
-      leaves_on (λ c. old.images c ⊎ IsPartlyFreed store freed given c) (λ c. mid.images c ⊎ IsPartlyFreed store freed given c) (λ c. old.images c ⊎ IsPartlyFreed store freed given c) old mid new
-      reads.later.clock_is (reads_leave (λ c. old.images c ⊎ IsPartlyFreed store freed given c) old mid (λ c image. inl image) reads) (leaves given (reads.content_is ∙ known) right) (λ c is. is)
+      leaves_on (λ c. old.images c ⊎ IsPartlyFreed store freed given c) (λ c. mid.images c ⊎ IsPartlyFreed store freed given c)
+      (λ c. old.images c ⊎ IsPartlyFreed store freed given c) old mid new
+      reads.later.clock_is (reads_leave (λ c. old.images c ⊎ IsPartlyFreed store freed given c) old mid (λ c image. inl image) reads)
+      (leaves given (reads.content_is ∙ known) right) (λ c is. is)
       (λ c is. elim is [ inl image ↦ inl (reads.images_are c image) | inr part ↦ inr part ])
 
   gives_since : (visited : List Top) → IsLater mid new → GivesBack store visited mid new → GivesBack store visited old new
@@ -89,7 +93,8 @@ module _ (store : Store) (index : PlaceMap) (old mid new : DiskView) (reads : On
       roots_wider (WasRead (Some index) old mid) (WasRead (Some index) old new) (HasPlace (Some index)) (HasPlace (Some index)) (listing_of (names_of store)) visited visits
       (read_wider (Some index) old mid new reads.later.clock_is later) (λ key has. has)
 
-  module _ (used : List Bool) (ids : List ℕ) (closed : ℕ) (valid : IsValidFor old.size store) (newest : IsIndexOf store.held index) (ids_are : ids ≡ ids_of store.held) (free : closed ≡ free_slots store.held)
+  module _ (used : List Bool) (ids : List ℕ) (closed : ℕ) (valid : IsValidFor old.size store) (newest : IsIndexOf store.held index) (ids_are : ids ≡ ids_of store.held)
+      (free : closed ≡ free_slots store.held)
       (marks : MarksFor index old mid (listing_of (names_of store)) used) (later : IsLater mid new) where
     ready : IsReady mid.size store marks.visited ids used closed
     ready = record {
@@ -110,7 +115,8 @@ module _ (store : Store) (index : PlaceMap) (old mid new : DiskView) (reads : On
       gives = gives_since marks.visited later (gives store marks.visited ready);
     }
 
-    pub stops_room : (refusal : Refusal) → Given StopsGiving → refusal ≡ DiskWrite → CountsFault (ending_of (blames refusal)) old.faults new.faults → MakesNoRoom store index refusal old new
+    pub stops_room : (refusal : Refusal) → Given StopsGiving → refusal ≡ DiskWrite → CountsFault (ending_of (blames refusal)) old.faults new.faults →
+        MakesNoRoom store index refusal old new
     stops_room refusal stops is faults =
         let stopped = stops store marks.visited ready in
         record {
@@ -126,8 +132,10 @@ module _ (store : Store) (index : PlaceMap) (old mid new : DiskView) (reads : On
         }
 
 -- the walk was not done
-pub walk_failed : (store : Store) (index : PlaceMap) (old new : DiskView) (refusal : Refusal) → IsDurable old → Reads (ending_of (blames refusal)) old new → IsMarkRefusal index old new (listing_of (names_of store)) refusal
-    → WhereHeld index old.content (λ counts held image. AllHeld counts held image (listing_of (names_of store))) (λ counts held image. IsTrue (fails refusal)) → MakesNoRoom store index refusal old new
+pub walk_failed : (store : Store) (index : PlaceMap) (old new : DiskView) (refusal : Refusal) → IsDurable old → Reads (ending_of (blames refusal)) old new →
+    IsMarkRefusal index old new (listing_of (names_of store)) refusal
+    → WhereHeld index old.content (λ counts held image. AllHeld counts held image (listing_of (names_of store))) (λ counts held image. IsTrue (fails refusal)) →
+    MakesNoRoom store index refusal old new
 walk_failed store index old new refusal durable reads cause failed = record {
   later = reads.only.later;
   faults_are = reads.faults_are;
@@ -141,18 +149,22 @@ walk_failed store index old new refusal durable reads cause failed = record {
 }
 
 -- what came of it, by what was answered
-pub by_given : (result : Result (Unit {0}) Refusal) (old mid new : DiskView) (P : Type 0) (Given : Type 0) → mid.faults ≡ old.faults → CountsFault (ending blames result) mid.faults new.faults
+pub by_given : (result : Result (Unit {0}) Refusal) (old mid new : DiskView) (P : Type 0) (Given : Type 0) → mid.faults ≡ old.faults →
+    CountsFault (ending blames result) mid.faults new.faults
     → OnOk result Given → OnOk result (IsDurable new) → (Given → IsDurable new → new.faults ≡ old.faults → P) → OnOk result P
 by_given (Ok x) old mid new P Given still faults given durable each = each given durable (faults ∙ still)
 by_given (Err e) old mid new P Given still faults given durable each = tt
 
-pub by_stopped : (result : Result (Unit {0}) Refusal) (old mid new : DiskView) (P : Refusal → Type 0) (Stopped : Type 0) → mid.faults ≡ old.faults → CountsFault (ending blames result) mid.faults new.faults
-    → OnErr result Stopped → IfErr result (λ r. r ≡ DiskWrite) → ((r : Refusal) → Stopped → r ≡ DiskWrite → CountsFault (ending_of (blames r)) old.faults new.faults → P r) → IfErr result P
+pub by_stopped : (result : Result (Unit {0}) Refusal) (old mid new : DiskView) (P : Refusal → Type 0) (Stopped : Type 0) → mid.faults ≡ old.faults →
+    CountsFault (ending blames result) mid.faults new.faults
+    → OnErr result Stopped → IfErr result (λ r. r ≡ DiskWrite) → ((r : Refusal) → Stopped → r ≡ DiskWrite → CountsFault (ending_of (blames r)) old.faults new.faults → P r) →
+    IfErr result P
 by_stopped (Ok x) old mid new P Stopped still faults stopped is each = tt
 by_stopped (Err r) old mid new P Stopped still faults stopped is each = each r stopped is (counts_on (ending_of (blames r)) old.faults mid.faults new.faults still faults)
 
 -- the same names
-pub marks_of : (store : Store) (index : PlaceMap) (old new : DiskView) (roots : List NamedRoot) (items used : List Bool) → roots ≡ listing_of (names_of store) → used ≡ items → MarksFor index old new roots items
+pub marks_of : (store : Store) (index : PlaceMap) (old new : DiskView) (roots : List NamedRoot) (items used : List Bool) → roots ≡ listing_of (names_of store) → used ≡ items →
+    MarksFor index old new roots items
     → MarksFor index old new (listing_of (names_of store)) used
 marks_of store index old new roots items used same is marks =
     subst (MarksFor index old new (listing_of (names_of store))) (sym is) (subst (λ (ns : List NamedRoot). MarksFor index old new ns items) same marks)

@@ -87,13 +87,15 @@ records_small half counts (suc left) replay image =
     let cell = range at 512 image in
     let damage = damage_in at (record_in at replay.previous replay.names cell) in
     let rest = records_small half counts left (after_cell at replay cell) image in
-    either (byte_at at image == RECORD_GATE) (and_then (cell_with damage) (records_found half counts left (after_cell at replay cell) image)) (past_found half counts replay.count image) (2 * suc left + 2)
+    either (byte_at at image == RECORD_GATE) (and_then (cell_with damage) (records_found half counts left (after_cell at replay cell) image))
+    (past_found half counts replay.count image) (2 * suc left + 2)
     (omega (arith, rest, one_cell damage, together (cell_with damage) (records_found half counts left (after_cell at replay cell) image)))
     (omega (arith, past_small half counts replay.count image))
 
 half_small : (half : ℕ) (selector : List ℕ) (counts : Bool) (image : List ℕ) → weight (half_found half selector counts image) ≤ 2050
 unfolding half_found
-half_small half selector counts image = either (is_open selector) (records_found half counts half_cells nothing_yet image) nothing 2050 (records_small half counts half_cells nothing_yet image) (omega arith)
+half_small half selector counts image = either (is_open selector) (records_found half counts half_cells nothing_yet image) nothing 2050
+    (records_small half counts half_cells nothing_yet image) (omega arith)
 
 journal_small : (image : List ℕ) → weight (journal_found image) ≤ 4105
 unfolding journal_found
@@ -103,7 +105,15 @@ journal_small image =
     let said = selectors_in first second in
     let one = half_found 0 first (says_half 0 said) image in
     let other = half_found 1 second (says_half 1 said) image in
-    omega (arith, selectors_small first second, half_small 0 first (says_half 0 said) image, half_small 1 second (says_half 1 said) image, together (selectors_found first second) (and_then one other), together one other)
+    omega (
+      arith,
+      selectors_small first second,
+      half_small 0 first (says_half 0 said) image,
+      half_small 1 second (says_half 1 said) image,
+      together (selectors_found first second)
+          (and_then one other),
+      together one other,
+    )
 
 -- ---- slots
 
@@ -149,9 +159,17 @@ copies_small slot (e ∷ es) bytes =
     let here : weight (copy_found slot e bytes) ≤ 2 = one_copy _ in
     omega (arith, here, copies_small slot es bytes, together (copy_found slot e bytes) (copies_found slot es bytes))
 
-header_small : (slot : ℕ) (ids bytes : List ℕ) (r : Result HeaderValue MetaFault) → ((h : HeaderValue) → r ≡ Ok h → length h.entries ≤ 1024) → weight (header_found slot ids bytes r) ≤ 2050
+header_small : (slot : ℕ) (ids bytes : List ℕ) (r : Result HeaderValue MetaFault) → ((h : HeaderValue) → r ≡ Ok h → length h.entries ≤ 1024) →
+    weight (header_found slot ids bytes r) ≤ 2050
 header_small slot ids bytes (Ok h) few =
-    omega (arith, few h refl, one_cell (id_damage slot ids h.id), copies_small slot h.entries bytes, together (cell_with (id_damage slot ids h.id)) (copies_found slot h.entries bytes))
+    omega (
+      arith,
+      few h refl,
+      one_cell (id_damage slot ids h.id),
+      copies_small slot h.entries bytes,
+      together (cell_with (id_damage slot ids h.id))
+          (copies_found slot h.entries bytes),
+    )
 header_small slot ids bytes (Err fault) few = omega (arith, one_cell (header_damage slot (range 0 49664 bytes) fault))
 
 slot_small : (slot : ℕ) (ids bytes : List ℕ) → weight (slot_found slot ids bytes) ≤ 2050
@@ -164,7 +182,8 @@ slots_small zero slot ids image = omega arith
 slots_small (suc left) slot ids image =
     let bytes = slot_bytes slot image in
     let rest = slots_small left (suc slot) (ids_with ids (header_in bytes)) image in
-    either (byte_at (slot_at slot) image == CONTAINER_GATE) (and_then (slot_found slot ids bytes) (slots_found left (suc slot) (ids_with ids (header_in bytes)) image)) (slots_found left (suc slot) ids image) (2050 * suc left)
+    either (byte_at (slot_at slot) image == CONTAINER_GATE) (and_then (slot_found slot ids bytes) (slots_found left (suc slot) (ids_with ids (header_in bytes)) image))
+    (slots_found left (suc slot) ids image) (2050 * suc left)
     (omega (arith, rest, slot_small slot ids bytes, together (slot_found slot ids bytes) (slots_found left (suc slot) (ids_with ids (header_in bytes)) image)))
     (omega (arith, slots_small left (suc slot) ids image))
 

@@ -109,7 +109,8 @@ pub all_freed_more : (freed : List ℕ) (slot : ℕ) (s : Store) → with_all_fr
 all_freed_more [] slot s = refl
 all_freed_more (first ∷ freed) slot s = all_freed_more freed slot (with_freed first s)
 
-pub frees_more : (P : List ℕ → Type 0) (freed : List ℕ) (slot : ℕ) (s : Store) → FreesSome P freed s → free_slots (with_all_freed freed s).held < RESERVE → IsLeastSpare P (with_all_freed freed s) slot
+pub frees_more : (P : List ℕ → Type 0) (freed : List ℕ) (slot : ℕ) (s : Store) → FreesSome P freed s → free_slots (with_all_freed freed s).held < RESERVE →
+    IsLeastSpare P (with_all_freed freed s) slot
     → FreesSome P (freed ++ slot ∷ []) s
 frees_more P [] slot s frees few spare = (few, spare, tt)
 frees_more P (first ∷ freed) slot s frees few spare = (frees.0, frees.1, frees_more P freed slot (with_freed first s) frees.2 few spare)

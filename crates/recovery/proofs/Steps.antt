@@ -86,18 +86,21 @@ begin_refusal shown size (WrongSize want got) is = (is.0, inl (is.1, is.2))
 begin_refusal shown size _ is = absurd is
 
 -- the journal with its own last sequence number
-pub own_last : (shown : (List ℕ → Type 0) → Type 0) (journal : JournalValue) (names : NameMap) (last : ℕ) → IsScanned shown journal names last → IsScanned shown journal names journal.last
+pub own_last : (shown : (List ℕ → Type 0) → Type 0) (journal : JournalValue) (names : NameMap) (last : ℕ) → IsScanned shown journal names last →
+    IsScanned shown journal names journal.last
 own_last shown journal names last is = subst (IsScanned shown journal names) (sym is.told.journal_last) is
 
 module _ (old mid new : DiskView) (before : OnlyReads old mid) where
   -- the format cell was not read
-  pub format_refusal : LEAST_SIZE ≤ old.size → (f : CellFault) → IsReadFault IsFormatBreak (λ f. Shows mid new (λ image. format_in (range 0 CELL_BYTES image) ≡ Err f)) f → IsOpenRefusal (Shows old new) old.size (cell_refusal f)
+  pub format_refusal : LEAST_SIZE ≤ old.size → (f : CellFault) → IsReadFault IsFormatBreak (λ f. Shows mid new (λ image. format_in (range 0 CELL_BYTES image) ≡ Err f)) f →
+      IsOpenRefusal (Shows old new) old.size (cell_refusal f)
   format_refusal least = by_fault
     where
       breaks : (f : CellFault) → IsFormatBreak f → Shows mid new (λ image. format_in (range 0 CELL_BYTES image) ≡ Err f) → BreaksFormat (Shows old new) old.size f
       breaks f kind seen = record { least = least; kind = kind; shows = since old mid new before seen }
 
-      by_fault : (f : CellFault) → IsReadFault IsFormatBreak (λ f. Shows mid new (λ image. format_in (range 0 CELL_BYTES image) ≡ Err f)) f → IsOpenRefusal (Shows old new) old.size (cell_refusal f)
+      by_fault : (f : CellFault) → IsReadFault IsFormatBreak (λ f. Shows mid new (λ image. format_in (range 0 CELL_BYTES image) ≡ Err f)) f →
+          IsOpenRefusal (Shows old new) old.size (cell_refusal f)
       by_fault cell.Memory is = tt
       by_fault cell.DiskRead is = tt
       by_fault cell.DiskWrite is = tt
@@ -106,13 +109,15 @@ module _ (old mid new : DiskView) (before : OnlyReads old mid) where
       by_fault (cell.Version n) is = inl (breaks (cell.Version n) is.0 is.1)
       by_fault cell.Numbers is = absurd is
 
-  pub format_alone : LEAST_SIZE ≤ old.size → (f : CellFault) → IsReadFault IsFormatBreak (λ f. Shows mid new (λ image. format_in (range 0 CELL_BYTES image) ≡ Err f)) f → IsFormatRefusal (Shows old new) old.size (cell_refusal f)
+  pub format_alone : LEAST_SIZE ≤ old.size → (f : CellFault) → IsReadFault IsFormatBreak (λ f. Shows mid new (λ image. format_in (range 0 CELL_BYTES image) ≡ Err f)) f →
+      IsFormatRefusal (Shows old new) old.size (cell_refusal f)
   format_alone least = by_fault
     where
       breaks : (f : CellFault) → IsFormatBreak f → Shows mid new (λ image. format_in (range 0 CELL_BYTES image) ≡ Err f) → BreaksFormat (Shows old new) old.size f
       breaks f kind seen = record { least = least; kind = kind; shows = since old mid new before seen }
 
-      by_fault : (f : CellFault) → IsReadFault IsFormatBreak (λ f. Shows mid new (λ image. format_in (range 0 CELL_BYTES image) ≡ Err f)) f → IsFormatRefusal (Shows old new) old.size (cell_refusal f)
+      by_fault : (f : CellFault) → IsReadFault IsFormatBreak (λ f. Shows mid new (λ image. format_in (range 0 CELL_BYTES image) ≡ Err f)) f →
+          IsFormatRefusal (Shows old new) old.size (cell_refusal f)
       by_fault cell.Memory is = absurd is
       by_fault cell.DiskRead is = tt
       by_fault cell.DiskWrite is = tt
@@ -139,7 +144,8 @@ module _ (old mid new : DiskView) (before : OnlyReads old mid) where
     sized_until slots sized = record { count = sized.count; size_is = sized.size_is; format = until old mid new sized.format before.later.clock_is after.later }
 
     -- the journal was not read
-    pub journal_refusal : (slots : ℕ) → IsSized (Shows old mid) old.size slots → (f : CellFault) → IsCellFault IsJournalBreak (λ f. Shows mid new (λ image. journal_in image ≡ Err f)) f → IsOpenRefusal (Shows old new) old.size (cell_refusal f)
+    pub journal_refusal : (slots : ℕ) → IsSized (Shows old mid) old.size slots → (f : CellFault) →
+        IsCellFault IsJournalBreak (λ f. Shows mid new (λ image. journal_in image ≡ Err f)) f → IsOpenRefusal (Shows old new) old.size (cell_refusal f)
     journal_refusal slots sized = by_fault
       where
         breaks : (f : CellFault) → IsJournalBreak f → Shows mid new (λ image. journal_in image ≡ Err f) → BreaksJournal (Shows old new) old.size f
@@ -184,7 +190,8 @@ module _ (old mid new : DiskView) (before : OnlyReads old mid) where
         by_refusal _ is = absurd is
 
     -- what was read, as one store
-    pub found_all : (o : OpenStore) → IsSized (Shows old mid) old.size o.slots → IsScanned (Shows old mid) o.journal o.names o.journal.last → AreSlots (Shows mid new) o.slots o.containers → IsFound (Shows old new) old.size o
+    pub found_all : (o : OpenStore) → IsSized (Shows old mid) old.size o.slots → IsScanned (Shows old mid) o.journal o.names o.journal.last →
+        AreSlots (Shows mid new) o.slots o.containers → IsFound (Shows old new) old.size o
     found_all o sized scanned slots = record {
       store = record { slots = o.slots; selector = scanned.selector; other_open = o.journal.other_open; records = scanned.records; held = slots.held };
       represents = record { slots_are = refl; journal = scanned.told; containers = slots.represents };

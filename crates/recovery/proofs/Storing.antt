@@ -32,15 +32,18 @@ module _ (slots : ℕ) where
   -- ---- the cells
 
   -- what was laid out when it broke
-  pub laid_broken : (old new : DiskView) → Known old.content (λ _. AreBlank slots old) → StaysBlank slots old new → CountsFault Broken old.faults new.faults → WritesStore slots Broken old new
+  pub laid_broken : (old new : DiskView) → Known old.content (λ _. AreBlank slots old) → StaysBlank slots old new → CountsFault Broken old.faults new.faults →
+      WritesStore slots Broken old new
   laid_broken old new blank stays counts = record {
     later = stays.later;
-    steps = λ given known. leaves_weaker (IsBlankOf slots) (SteppedFrom (λ _. IsBlankOrFormatted slots) old) old new (λ c left. inr (given, old.as_read given known, inl left)) (stays.left (blank given known));
+    steps = λ given known. leaves_weaker (IsBlankOf slots) (SteppedFrom (λ _. IsBlankOrFormatted slots) old) old new (λ c left. inr (given, old.as_read given known, inl left))
+        (stays.left (blank given known));
     written = tt;
     faults_are = counts;
   }
 
-  module _ (old mid new : DiskView) (cell : List ℕ) (count : IsSlotCount slots) (size : old.size ≡ size_of slots) (spelled : cell ≡ format_cell slots) (blank : Known old.content (λ _. AreBlank slots old))
+  module _ (old mid new : DiskView) (cell : List ℕ) (count : IsSlotCount slots) (size : old.size ≡ size_of slots) (spelled : cell ≡ format_cell slots)
+      (blank : Known old.content (λ _. AreBlank slots old))
       (laid : mid.content ≡ option_map (laid_out slots) old.content) (stays : StaysBlank slots old mid) where
     laid_there : (given : List ℕ) → old.content ≡ Some given → mid.content ≡ Some (laid_out slots given)
     laid_there given known = laid ∙ ap (option_map (laid_out slots)) known
@@ -48,8 +51,12 @@ module _ (slots : ℕ) where
     whole : (e : Ending) → IsUnrefused e → Written (Puts 0 cell) e mid new → Written (λ _. IsFormatted slots) e old new
     whole Done un puts = (
       λ given known.
-          let c = puts.0 (laid_out slots given) (laid_there given known) in
-          (c.0, c.1, subst (IsFormatted slots) (sym (c.2 ∙ ap (λ (l : List ℕ). written 0 l (laid_out slots given)) spelled)) (is_formatted slots given count (old.sized given known ∙ size))),
+          let c = puts.0 (laid_out slots given) (laid_there given known) in (
+            c.0,
+            c.1,
+            subst (IsFormatted slots) (sym (c.2 ∙ ap (λ (l : List ℕ). written 0 l (laid_out slots given)) spelled))
+                (is_formatted slots given count (old.sized given known ∙ size)),
+          ),
       puts.1,
     )
     whole Refused un puts = absurd un
@@ -63,11 +70,17 @@ module _ (slots : ℕ) where
       steps = λ given known.
           let left = stays.left (blank given known) in
           let step = SteppedFrom (λ _. IsBlankOrFormatted slots) old in
-          leaves_on (IsBlankOf slots) (SteppedFrom (TornFrom 0 cell (laid_out slots given)) mid) step old mid new stays.later.clock_is left (writes.steps (laid_out slots given) (laid_there given known))
+          leaves_on (IsBlankOf slots) (SteppedFrom (TornFrom 0 cell (laid_out slots given)) mid) step old mid new stays.later.clock_is left
+          (writes.steps (laid_out slots given) (laid_there given known))
           (λ c none. inr (given, old.as_read given known, inl none))
           (λ c from. elim from [
             | inl same ↦ inr (given, old.as_read given known, inl (left.now c same))
-            | inr stepped ↦ inr (given, old.as_read given known, blank_or_formatted slots given count (old.sized given known ∙ size) cell (laid_out slots given) stepped.0 c spelled refl (left.now stepped.0 stepped.1) stepped.2)
+            | inr stepped ↦ inr (
+              given,
+              old.as_read given known,
+              blank_or_formatted slots given count (old.sized given known ∙ size) cell (laid_out slots given) stepped.0 c
+                  spelled refl (left.now stepped.0 stepped.1) stepped.2,
+            )
           ]);
       written = whole e un writes.written;
       faults_are = counts_on e old.faults mid.faults new.faults counts writes.faults_are;
@@ -102,7 +115,8 @@ module _ (slots : ℕ) where
 
     pub store_on : (e : Ending) → IsUnrefused e → WritesStore slots e mid new → WritesStore slots e old new
     store_on e un writes =
-        writes_on (λ _ _ _. ⊥) (λ _ _. IsBlankOrFormatted slots) (λ _ _. IsBlankOrFormatted slots) (λ given c. c ≡ given) (λ _. IsFormatted slots) (λ _. IsFormatted slots) old mid new
+        writes_on (λ _ _ _. ⊥) (λ _ _. IsBlankOrFormatted slots) (λ _ _. IsBlankOrFormatted slots) (λ given c. c ≡ given) (λ _. IsFormatted slots) (λ _. IsFormatted slots) old mid
+        new
         synced (λ given m c known same there. there) e un writes (λ given d c known none. absurd none) (λ given m c known same step. step)
 
     pub store_left : (e : Ending) → WritesStore slots e mid new → Known old.content (λ _. KnownWith new.content (IsBlankOrFormatted slots))
@@ -119,7 +133,8 @@ module _ (slots : ℕ) where
 
   -- ---- on a disk that was looked at
 
-  pub blank_content : (old mid : DiskView) → IsSlotCount slots → old.size ≡ size_of slots → OnlyReads old mid → Shows old mid (λ image. byte_at 0 image ≢ FORMAT_GATE) → Known mid.content (IsBlankOf slots)
+  pub blank_content : (old mid : DiskView) → IsSlotCount slots → old.size ≡ size_of slots → OnlyReads old mid → Shows old mid (λ image. byte_at 0 image ≢ FORMAT_GATE) →
+      Known mid.content (IsBlankOf slots)
   blank_content old mid count size reads closed image known = record {
     count = count;
     size = mid.sized image known ∙ reads.later.size_is ∙ size;
@@ -127,7 +142,8 @@ module _ (slots : ℕ) where
   }
 
   -- what the content is at the end
-  pub format_left : (old mid new : DiskView) → old.size ≡ size_of slots → OnlyReads old mid → Shows old mid (λ image. byte_at 0 image ≢ FORMAT_GATE) → Known mid.content (λ _. KnownWith new.content (IsBlankOrFormatted slots))
+  pub format_left : (old mid new : DiskView) → old.size ≡ size_of slots → OnlyReads old mid → Shows old mid (λ image. byte_at 0 image ≢ FORMAT_GATE) →
+      Known mid.content (λ _. KnownWith new.content (IsBlankOrFormatted slots))
       → Known old.content (λ image. KnownWith new.content (IsLeftByFormat slots image))
   format_left old mid new size reads closed left image known =
       let there = left image (reads.content_is ∙ known) in

@@ -100,7 +100,14 @@ module _ (P : List ℕ → List ℕ → Type 0) (Q : List ℕ → Type 0) where
       elim (split ts step.inner ys after (subst (λ (l : List Top). To l ts after) step.mid_is way.1.1)) [
         | inl inside ↦ inl (record { left = inside.left; way = (step.inner, (one, inside.way)); after_is = inside.after_is })
         | inr past ↦
-            inr (record { first = t ∷ past.first; rest = past.rest; visited_are = ap (λ (l : List Top). t ∷ l) past.visited_are; way = (step.inner, (one, past.way)); on = past.on })
+            inr (record {
+              first = t ∷ past.first;
+              rest = past.rest;
+              visited_are = ap (λ (l : List Top). t ∷ l) past.visited_are;
+              way = (step.inner, (one, past.way));
+              on =
+                  past.on;
+            })
       ]
 
   -- ---- levels fall
@@ -110,7 +117,8 @@ module _ (P : List ℕ → List ℕ → Type 0) (Q : List ℕ → Type 0) where
   top_below level t others after lower those (inr node) =
       let read : IsNodeRead P (t ∷ others) node.0 = node.1.0 in
       subst (AreBelow level) (sym node.1.1)
-      (append_below level (opened (contents_in node.0)) others (children_below level (contents_in node.0).level (contents_in node.0).children (omega (arith, lower, read.3.2.level))) those)
+      (append_below level (opened (contents_in node.0)) others
+      (children_below level (contents_in node.0).level (contents_in node.0).children (omega (arith, lower, read.3.2.level))) those)
 
   below_on : (level : ℕ) (visited before after : List Top) → AreBelow level before → To before visited after → AreBelow level after
   below_on level [] before after those way = subst (AreBelow level) (sym way) those

@@ -65,7 +65,8 @@ abbrev pub TakesStep : PlaceMap → DiskView → DiskView → WalkState → Walk
 TakesStep index old new before after =
     (WasNoted before.nodes before.ahead × (after ≡ record before { ahead = drop 1 before.ahead }))
     ⊎ (NotesNext before.ahead before.nodes after.nodes
-    × ((place : Place) × (VisitsPlaced (Some index) old new before.ahead after.ahead place × (after.used ≡ slice_set before.used place.slot true))))
+    × ((place : Place) × (VisitsPlaced (Some index) old new before.ahead after.ahead place
+    × (after.used ≡ slice_set before.used place.slot true))))
 
 abbrev pub TakesSteps : PlaceMap → DiskView → DiskView → ℕ → WalkState → WalkState → Type 0
 TakesSteps index old new zero before after = after ≡ before
@@ -81,7 +82,8 @@ pub record Walks (index : PlaceMap) (old new : DiskView) (before after : WalkSta
 abbrev pub WalksRoots : PlaceMap → DiskView → DiskView → List NamedRoot → WalkState → WalkState → Type 0
 WalksRoots index old new [] before after = after ≡ before
 WalksRoots index old new (n ∷ ns) before after =
-    (mid : WalkState) × (Walks index old new (record before { ahead = start_of (top_of n.root) }) mid × (mid.ahead ≡ []) × WalksRoots index old new ns mid after)
+    (mid : WalkState) × (Walks index old new (record before { ahead = start_of (top_of n.root) }) mid × (mid.ahead ≡ [])
+    × WalksRoots index old new ns mid after)
 
 -- All of these were, and no node was come to before: so each is read once, by its level, its length and its digest.
 pub record WalksOnce (index : PlaceMap) (old new : DiskView) (roots : List NamedRoot) (used marked : List Bool) : Type 0 where

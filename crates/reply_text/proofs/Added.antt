@@ -11,13 +11,15 @@ use Rattle.namespace.specs.Listing.{listed_value}
 use Rattle.reply_text.specs.Text.{named_line, file_line}
 
 -- a word, a name and a root, added piece by piece
-pub named_added : (text word name length_text level_text digits : List ℕ) (root : Root) → length_text ≡ decimal root.length → level_text ≡ decimal root.level → digits ≡ encode_lower root.digest
+pub named_added : (text word name length_text level_text digits : List ℕ) (root : Root) → length_text ≡ decimal root.length → level_text ≡ decimal root.level →
+    digits ≡ encode_lower root.digest
     → ((((((((text ++ word) ++ name) ++ codes " ") ++ length_text) ++ codes " ") ++ level_text) ++ codes " ") ++ digits) ++ codes "\n" ≡ text ++ named_line word name root
 named_added text word name length_text level_text digits root is_length is_level is_digest = rw (is_length, is_level, is_digest) (simp append_assoc)
 
 -- the lines of one more name
 pub files_more : (text : List ℕ) (names : List ListedName) (i : ℕ) (d : ListedName) → i < length names
-    → (text ++ flat_map file_line (map listed_value (take i names))) ++ file_line (listed_value (get_or names i d)) ≡ text ++ flat_map file_line (map listed_value (take (i + 1) names))
+    → (text ++ flat_map file_line (map listed_value (take i names))) ++ file_line (listed_value (get_or names i d)) ≡ text ++ flat_map file_line
+    (map listed_value (take (i + 1) names))
 files_more text names i d below =
     append_assoc text _ _ ∙ ap (λ (t : List ℕ). text ++ t) (sym (
     ap (λ (l : List ListedName). flat_map file_line (map listed_value l)) (take_more names i d below)

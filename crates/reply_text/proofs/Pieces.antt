@@ -13,13 +13,15 @@ use Rattle.dd_io.specs.Flow.{SinkView, AppendedPart, Sends}
 pub pieces_more : {X : Type 0} (f : X → List ℕ) (pieces : List X) (i : ℕ) (d : X) → i < length pieces
     → flat_map f (take (i + 1) pieces) ≡ flat_map f (take i pieces) ++ f (get_or pieces i d)
 pieces_more f pieces i d below =
-    ap (flat_map f) (take_more pieces i d below) ∙ flat_map-append f (take i pieces) (get_or pieces i d ∷ []) ∙ ap (λ (t : List ℕ). flat_map f (take i pieces) ++ t) (flat_map-cons f (get_or pieces i d) [] ∙ append-nil _)
+    ap (flat_map f) (take_more pieces i d below) ∙ flat_map-append f (take i pieces) (get_or pieces i d ∷ []) ∙ ap (λ (t : List ℕ). flat_map f (take i pieces) ++ t)
+    (flat_map-cons f (get_or pieces i d) [] ∙ append-nil _)
 
 -- the pieces before one, it, and those after it
 pub pieces_split : {X : Type 0} (f : X → List ℕ) (pieces : List X) (i : ℕ) (d : X) → i < length pieces
     → flat_map f pieces ≡ flat_map f (take i pieces) ++ (f (get_or pieces i d) ++ flat_map f (drop (suc i) pieces))
 pieces_split f pieces i d below =
-    ap (flat_map f) (split_at pieces i d below) ∙ flat_map-append f (take i pieces) (get_or pieces i d ∷ drop (suc i) pieces) ∙ ap (λ (t : List ℕ). flat_map f (take i pieces) ++ t) (flat_map-cons f (get_or pieces i d) (drop (suc i) pieces))
+    ap (flat_map f) (split_at pieces i d below) ∙ flat_map-append f (take i pieces) (get_or pieces i d ∷ drop (suc i) pieces)
+    ∙ ap (λ (t : List ℕ). flat_map f (take i pieces) ++ t) (flat_map-cons f (get_or pieces i d) (drop (suc i) pieces))
 
 -- nothing was written
 appended_none : (before : Option (List ℕ)) → Appended before before []
@@ -30,14 +32,18 @@ appended_more : (before mid now : Option (List ℕ)) (front piece : List ℕ) �
 appended_more before mid now front piece first second = record { is = λ old told. second.is (old ++ front) (first.is old told) ∙ ap Some (append_assoc old front piece) }
 
 -- a first part of one more piece is one of the whole
-part_of_more : (before mid now : Option (List ℕ)) (front piece rest : List ℕ) → Appended before mid front → AppendedPart mid now piece → AppendedPart before now (front ++ (piece ++ rest))
+part_of_more : (before mid now : Option (List ℕ)) (front piece rest : List ℕ) → Appended before mid front → AppendedPart mid now piece →
+    AppendedPart before now (front ++ (piece ++ rest))
 part_of_more before mid now front piece rest first part =
     let taken : take (length front + part.count) (front ++ (piece ++ rest)) ≡ front ++ take part.count piece =
     take-append-add front (piece ++ rest) part.count ∙ ap (λ (t : List ℕ). front ++ t) (take-append-le part.count piece rest part.fits) in
     record {
       count = length front + part.count;
       fits = simp length-append (omega (arith, part.fits));
-      is = record { is = λ old told. part.is.is (old ++ front) (first.is old told) ∙ ap Some (append_assoc old front (take part.count piece) ∙ ap (λ (t : List ℕ). old ++ t) (sym taken)) };
+      is = record {
+        is = λ old told. part.is.is (old ++ front) (first.is old told)
+            ∙ ap Some (append_assoc old front (take part.count piece) ∙ ap (λ (t : List ℕ). old ++ t) (sym taken));
+      };
     }
 
 -- Pieces that were sent, one after another.
@@ -62,6 +68,7 @@ module _ {T E : Type 0} (x : T) where
     }
 
 -- a `?` passes the error on
-pub sends_passed : {T U E : Type 0} (result : Result T E) (P : E → Type 0) (text : List ℕ) (e : E) (old new : SinkView) → IsErrAnd result P → Sends {T = U} {E = E} text (Err e) old new → Sends text result old new
+pub sends_passed : {T U E : Type 0} (result : Result T E) (P : E → Type 0) (text : List ℕ) (e : E) (old new : SinkView) → IsErrAnd result P →
+    Sends {T = U} {E = E} text (Err e) old new → Sends text result old new
 sends_passed (Ok x) P text e old new is sends = absurd is
 sends_passed (Err f) P text e old new is sends = record { ok = tt; err = sends.err; cause = record { later = sends.cause.later; done = tt; failed = sends.cause.failed } }

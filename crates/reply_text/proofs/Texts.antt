@@ -18,12 +18,14 @@ byte_pieces : (front key space word place offered held end : List ℕ)
 byte_pieces front key space word place offered held end = simp (append_assoc, append-nil)
 
 -- the line of a `Clash` in a byte, of its pieces
-pub clash_byte_text : (key : List ℕ) (place offered held : ℕ) (key_digits place_text offered_digits held_digits : List ℕ) → key_digits ≡ encode_lower key → place_text ≡ decimal place → offered_digits ≡ encode_lower (offered ∷ []) → held_digits ≡ encode_lower (held ∷ [])
+pub clash_byte_text : (key : List ℕ) (place offered held : ℕ) (key_digits place_text offered_digits held_digits : List ℕ) → key_digits ≡ encode_lower key →
+    place_text ≡ decimal place → offered_digits ≡ encode_lower (offered ∷ []) → held_digits ≡ encode_lower (held ∷ [])
     → codes "fault 7 clash " ++ (key_digits ++ (codes " byte " ++ (place_text ++ (codes " " ++ (offered_digits ++ (codes " " ++ (held_digits ++ (codes "\n" ++ []))))))))
     ≡ fault_line (Refused (Clash key (Byte place offered held)))
 unfolding fault_line ending_text refusal_text difference_text
 clash_byte_text key place offered held key_digits place_text offered_digits held_digits is_key is_place is_offered is_held =
-    rw (is_key, is_place, is_offered, is_held) (byte_pieces (codes "fault 7 clash ") (encode_lower key) (codes " ") (codes "byte ") (decimal place) (encode_lower (offered ∷ [])) (encode_lower (held ∷ [])) (codes "\n"))
+    rw (is_key, is_place, is_offered, is_held) (byte_pieces (codes "fault 7 clash ") (encode_lower key) (codes " ") (codes "byte ") (decimal place) (encode_lower (offered ∷ []))
+    (encode_lower (held ∷ [])) (codes "\n"))
 
 -- the line of `WrongPart`, of its pieces
 pub wrong_part_text : (part : PartKind) (word : List ℕ) → word ≡ part_text part
@@ -33,11 +35,14 @@ unfolding fault_line ending_text refusal_text
 wrong_part_text part word is_word = rw is_word (simp append_assoc)
 
 -- the line of `Corrupt`, of its pieces
-pub corrupt_text : (slot offset length : ℕ) (want got slot_text offset_text length_text want_digits got_digits : List ℕ) → slot_text ≡ decimal slot → offset_text ≡ decimal offset → length_text ≡ decimal length → want_digits ≡ encode_lower want → got_digits ≡ encode_lower got
-    → codes "fault 13 corrupt " ++ (slot_text ++ (codes " " ++ (offset_text ++ (codes " " ++ (length_text ++ (codes " " ++ (want_digits ++ (codes " " ++ (got_digits ++ (codes "\n" ++ []))))))))))
+pub corrupt_text : (slot offset length : ℕ) (want got slot_text offset_text length_text want_digits got_digits : List ℕ) → slot_text ≡ decimal slot →
+    offset_text ≡ decimal offset → length_text ≡ decimal length → want_digits ≡ encode_lower want → got_digits ≡ encode_lower got
+    → codes "fault 13 corrupt " ++ (slot_text ++
+    (codes " " ++ (offset_text ++ (codes " " ++ (length_text ++ (codes " " ++ (want_digits ++ (codes " " ++ (got_digits ++ (codes "\n" ++ []))))))))))
     ≡ fault_line (Refused (Corrupt slot offset length want got))
 unfolding fault_line ending_text refusal_text
-corrupt_text slot offset length want got slot_text offset_text length_text want_digits got_digits is_slot is_offset is_length is_want is_got = rw (is_slot, is_offset, is_length, is_want, is_got) (simp append_assoc)
+corrupt_text slot offset length want got slot_text offset_text length_text want_digits got_digits is_slot is_offset is_length is_want is_got =
+    rw (is_slot, is_offset, is_length, is_want, is_got) (simp append_assoc)
 
 -- the line of `Missing`, of its pieces
 pub missing_text : (key key_digits : List ℕ) → key_digits ≡ encode_lower key
@@ -79,7 +84,8 @@ pub sends_as : {T E : Type 0} (result : Result T E) (old new : SinkView) (text s
 sends_as result old new text same is = subst (λ (t : List ℕ). Sends t result old new) is
 
 -- the note of a refusal that was written whole
-pub note_written : {T E : Type 0} (result : Result T E) (refusal : Refusal) (old new : SinkView) (bytes : List ℕ) → is_err result ≡ false → Sends (fault_line (Refused refusal)) result old new → old.written ≡ Some [] → new.written ≡ Some bytes → bytes ≡ fault_line (Refused refusal)
+pub note_written : {T E : Type 0} (result : Result T E) (refusal : Refusal) (old new : SinkView) (bytes : List ℕ) → is_err result ≡ false →
+    Sends (fault_line (Refused refusal)) result old new → old.written ≡ Some [] → new.written ≡ Some bytes → bytes ≡ fault_line (Refused refusal)
 note_written (Ok x) refusal old new bytes done sends before after = cc (sends.ok.is [] before)
 note_written (Err e) refusal old new bytes done sends before after = cc
 
@@ -94,11 +100,14 @@ unfolding fault_line ending_text refused_line
 note_tail refusal = refl
 
 -- the line of a copy, of its pieces
-pub copy_text : (slot offset length : ℕ) (want got slot_text offset_text length_text want_digits got_digits : List ℕ) → slot_text ≡ decimal slot → offset_text ≡ decimal offset → length_text ≡ decimal length → want_digits ≡ encode_lower want → got_digits ≡ encode_lower got
-    → codes "copy " ++ (slot_text ++ (codes " " ++ (offset_text ++ (codes " " ++ (length_text ++ (codes " " ++ (want_digits ++ (codes " " ++ (got_digits ++ (codes "\n" ++ []))))))))))
+pub copy_text : (slot offset length : ℕ) (want got slot_text offset_text length_text want_digits got_digits : List ℕ) → slot_text ≡ decimal slot → offset_text ≡ decimal offset →
+    length_text ≡ decimal length → want_digits ≡ encode_lower want → got_digits ≡ encode_lower got
+    → codes "copy " ++ (slot_text ++ (codes " " ++
+    (offset_text ++ (codes " " ++ (length_text ++ (codes " " ++ (want_digits ++ (codes " " ++ (got_digits ++ (codes "\n" ++ []))))))))))
     ≡ damage_line (Copy slot offset length want got)
 unfolding damage_line
-copy_text slot offset length want got slot_text offset_text length_text want_digits got_digits is_slot is_offset is_length is_want is_got = rw (is_slot, is_offset, is_length, is_want, is_got) (simp append_assoc)
+copy_text slot offset length want got slot_text offset_text length_text want_digits got_digits is_slot is_offset is_length is_want is_got =
+    rw (is_slot, is_offset, is_length, is_want, is_got) (simp append_assoc)
 
 -- the last line of `check`, of its pieces
 pub checked_text : (cells copies bad : ℕ) (cells_text copies_text bad_text : List ℕ) → cells_text ≡ decimal cells → copies_text ≡ decimal copies → bad_text ≡ decimal bad

@@ -35,9 +35,11 @@ name_has_none (byte ∷ name) each =
 two_have_none : (word line : List ℕ) (actor : ℕ) → HasNoLineEnd word → IsActor actor → line ≡ word ++ decimal actor → HasNoLineEnd line
 two_have_none word line actor none small is = subst HasNoLineEnd (sym is) (none_append word (decimal actor) none (number_has_no_line_end actor (omega (arith, small))))
 
-three_have_none : (word line argument : List ℕ) (actor : ℕ) → HasNoLineEnd word → IsActor actor → HasNoLineEnd argument → line ≡ word ++ decimal actor ++ codes " " ++ argument → HasNoLineEnd line
+three_have_none : (word line argument : List ℕ) (actor : ℕ) → HasNoLineEnd word → IsActor actor → HasNoLineEnd argument → line ≡ word ++ decimal actor ++ codes " " ++ argument →
+    HasNoLineEnd line
 three_have_none word line argument actor none small last is =
-    subst HasNoLineEnd (sym is) (none_append (word ++ decimal actor ++ codes " ") argument (none_append (word ++ decimal actor) (codes " ") (none_append word (decimal actor) none (number_has_no_line_end actor (omega (arith, small)))) refl) last)
+    subst HasNoLineEnd (sym is) (none_append (word ++ decimal actor ++ codes " ") argument
+    (none_append (word ++ decimal actor) (codes " ") (none_append word (decimal actor) none (number_has_no_line_end actor (omega (arith, small)))) refl) last)
 
 line_has_none : (value : LineValue) (line : List ℕ) → IsLine value line → HasNoLineEnd line
 line_has_none (Begin a) line is = two_have_none (codes "begin ") line a refl is.0 is.1

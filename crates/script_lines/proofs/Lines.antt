@@ -29,7 +29,8 @@ parts-rest (byte ∷ rest) none =
 pub first_line : (line lines rest : List ℕ) → ((line ++ (10 ∷ [])) ++ lines) ++ rest ≡ line ++ (10 ∷ (lines ++ rest))
 first_line line lines rest = simp append_assoc
 
-parts-lines : (lines : List (List ℕ)) (rest : List ℕ) → AllByRecursion HasNoLineEnd lines → HasNoLineEnd rest → slice_split is_line_end (flat_map ended lines ++ rest) ≡ lines ++ (rest ∷ [])
+parts-lines : (lines : List (List ℕ)) (rest : List ℕ) → AllByRecursion HasNoLineEnd lines → HasNoLineEnd rest →
+    slice_split is_line_end (flat_map ended lines ++ rest) ≡ lines ++ (rest ∷ [])
 parts-lines [] rest each last = parts-rest rest last
 parts-lines (line ∷ lines) rest each last =
     ap (slice_split is_line_end) (first_line line (flat_map ended lines) rest) ∙ parts-line line (flat_map ended lines ++ rest) each.0
@@ -62,7 +63,8 @@ none_at [] i none within = absurd (omega arith)
 none_at (byte ∷ bytes) zero none within = (or_parts (is_line_end byte) (list_any is_line_end bytes) none).0
 none_at (byte ∷ bytes) (suc i) none within = none_at bytes i ((or_parts (is_line_end byte) (list_any is_line_end bytes) none).1) (omega arith)
 
-last_is : (front rest : List ℕ) → ((front ≡ []) ⊎ ((start : List ℕ) × (front ≡ start ++ (10 ∷ [])))) → 0 < length front → not (is_line_end (get_or (front ++ rest) (length front - 1) 0)) ≡ false
+last_is : (front rest : List ℕ) → ((front ≡ []) ⊎ ((start : List ℕ) × (front ≡ start ++ (10 ∷ [])))) → 0 < length front →
+    not (is_line_end (get_or (front ++ rest) (length front - 1) 0)) ≡ false
 last_is front rest (inl none) some = absurd (omega (arith, ap length none))
 last_is front rest (inr (start, is)) some =
     let index : length front - 1 ≡ length start = omega (arith, ap length is, length_push start 10) in
@@ -98,8 +100,18 @@ cut_onto byte bytes (line ∷ lines) rest cut none =
 
 cut_more : (byte : ℕ) (bytes : List ℕ) (lines : List (List ℕ)) (rest : List ℕ) → Cut bytes lines rest → IsCut (byte ∷ bytes)
 cut_more byte bytes lines rest cut = elim (cases_Bool (is_line_end byte)) [
-  | inl end ↦
-      ([] ∷ lines, (rest, record { spelled = ap (λ (b : ℕ). b ∷ bytes) (eqb-true byte 10 end) ∙ ap (λ (b : List ℕ). 10 ∷ b) cut.spelled; each = (refl, cut.each); last = cut.last }))
+  | inl end ↦ (
+    [] ∷ lines,
+    (
+      rest,
+      record {
+        spelled = ap (λ (b : ℕ). b ∷ bytes) (eqb-true byte 10 end) ∙ ap (λ (b : List ℕ). 10 ∷ b) cut.spelled;
+        each = (refl, cut.each);
+        last =
+            cut.last;
+      },
+    ),
+  )
   | inr none ↦ cut_onto byte bytes lines rest cut none
 ]
 

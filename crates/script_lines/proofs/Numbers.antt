@@ -149,7 +149,8 @@ pub made_is : (test : Bool) (made : Option ℕ) (P : ℕ → Type 0) (n : ℕ) (
 made_is true made P n text is small spelled = rw is (small refl, spelled)
 made_is false made P n text is small spelled = rw is tt
 
-pub made_not : (test : Bool) (made : Option ℕ) (P : ℕ → Type 0) (n : ℕ) (text : List ℕ) → made ≡ cond test (Some n) None → (P n → test ≡ true) → ((m : ℕ) → P m → text ≡ decimal m → m ≡ n)
+pub made_not : (test : Bool) (made : Option ℕ) (P : ℕ → Type 0) (n : ℕ) (text : List ℕ) → made ≡ cond test (Some n) None → (P n → test ≡ true) →
+    ((m : ℕ) → P m → text ≡ decimal m → m ≡ n)
     → IfNone made ((m : ℕ) → P m → text ≡ decimal m → ⊥)
 made_not true made P n text is small same = rw is tt
 made_not false made P n text is small same =

@@ -129,12 +129,14 @@ no_other_line bytes found is never value line =
     never (subst (λ (v : LineValue). IsLine v bytes) same line)
 
 -- the first word is none that a number alone follows
-pub not_two : (word : List ℕ) (actor : ℕ) → false ≡ bytes_eq word (codes "begin") → false ≡ bytes_eq word (codes "finish") → false ≡ bytes_eq word (codes "turn") → false ≡ bytes_eq word (codes "abort") → false ≡ bytes_eq word (codes "next") → false ≡ bytes_eq word (codes "drop")
+pub not_two : (word : List ℕ) (actor : ℕ) → false ≡ bytes_eq word (codes "begin") → false ≡ bytes_eq word (codes "finish") → false ≡ bytes_eq word (codes "turn") →
+    false ≡ bytes_eq word (codes "abort") → false ≡ bytes_eq word (codes "next") → false ≡ bytes_eq word (codes "drop")
     → of_two word actor ≡ None
 not_two word actor begin finish turn abort next drop = rw (sym begin, sym finish, sym turn, sym abort, sym next, sym drop) refl
 
 -- the first word is none that a number and an argument follow
-pub not_three : (word : List ℕ) (actor : ℕ) (argument : List ℕ) → false ≡ bytes_eq word (codes "push") → false ≡ bytes_eq word (codes "commit") → false ≡ bytes_eq word (codes "read")
+pub not_three : (word : List ℕ) (actor : ℕ) (argument : List ℕ) → false ≡ bytes_eq word (codes "push") → false ≡ bytes_eq word (codes "commit") →
+    false ≡ bytes_eq word (codes "read")
     → of_three word actor argument ≡ None
 not_three word actor argument push commit read = rw (sym push, sym commit, sym read) refl
 
@@ -146,7 +148,8 @@ spelled_three word text actor argument same =
     rw is (simp append_assoc)
 
 -- it is no line, since its argument isn't one that the word takes
-pub no_three : (word text : List ℕ) (actor : ℕ) (argument : List ℕ) (found : LineValue) → HasNoSpace word → bytes_eq word (codes "delete") ≡ false → bytes_eq word (codes "gc") ≡ false → IsActor actor → true ≡ bytes_eq word text → of_three text actor argument ≡ Some found
+pub no_three : (word text : List ℕ) (actor : ℕ) (argument : List ℕ) (found : LineValue) → HasNoSpace word → bytes_eq word (codes "delete") ≡ false →
+    bytes_eq word (codes "gc") ≡ false → IsActor actor → true ≡ bytes_eq word text → of_three text actor argument ≡ Some found
     → (IsLine found (word ++ (32 ∷ (decimal actor ++ (32 ∷ argument)))) → ⊥) → (value : LineValue) → IsLine value (word ++ (32 ∷ (decimal actor ++ (32 ∷ argument)))) → ⊥
 no_three word text actor argument found none no_delete no_gc small same three =
     let is = (bytes_eq-Decides word text).0 (sym same) in

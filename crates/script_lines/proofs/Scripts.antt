@@ -49,7 +49,8 @@ length_ended line rest = omega (arith, length-append (ended line) rest, length-a
 
 bad_cut : (left : List ℕ) (lines : List (List ℕ)) (rest : List ℕ) → Cut left lines rest → IsBadFirst lines rest → IsBadLine left
 bad_cut left lines rest cut bad =
-    subst (λ (ls : List (List ℕ)). IsBadFirst ls (rest_in left)) (sym (lines_are left lines rest cut)) (subst (λ (r : List ℕ). IsBadFirst lines r) (sym (rest_is left lines rest cut)) bad)
+    subst (λ (ls : List (List ℕ)). IsBadFirst ls (rest_in left)) (sym (lines_are left lines rest cut))
+    (subst (λ (r : List ℕ). IsBadFirst lines r) (sym (rest_is left lines rest cut)) bad)
 
 wrong_first : (line rest : List ℕ) → HasNoLineEnd line → ((value : LineValue) → ¬ (IsRightLine value line)) → IsBadLine (ended line ++ rest)
 wrong_first line rest none bad = bad_cut (ended line ++ rest) (line ∷ lines_in rest) (rest_in rest) (cut_first line rest none) bad
@@ -66,7 +67,12 @@ long_bad front rest [] last cut none long =
     (omega (arith, length-append front last))
 long_bad front rest (line ∷ lines) last cut none long =
     bad_cut (front ++ rest) ((front ++ line) ∷ lines) last
-    (record { spelled = ap (λ (b : List ℕ). front ++ b) cut.spelled ∙ long_before front line (flat_map ended lines) last; each = (none_append front line none cut.each.0, cut.each.1); last = cut.last })
+    (record {
+      spelled = ap (λ (b : List ℕ). front ++ b) cut.spelled ∙ long_before front line (flat_map ended lines) last;
+      each =
+          (none_append front line none cut.each.0, cut.each.1);
+      last = cut.last;
+    })
     (λ value is. omega (arith, is.short, length-append front line))
 
 long_first : (front rest : List ℕ) → HasNoLineEnd front → MOST_LINE < length front → IsBadLine (front ++ rest)
@@ -77,7 +83,8 @@ long_first front rest none long = long_bad front rest (lines_in rest) (rest_in r
 first : (bytes : List ℕ) → Begins bytes [] bytes
 first bytes = record { lines = []; spelled = refl; short = omega arith; right = tt }
 
-next : (bytes : List ℕ) (values : List LineValue) (value : LineValue) (line rest : List ℕ) → Begins bytes values (ended line ++ rest) → IsRightLine value line → length bytes ≤ MOST_SCRIPT + length rest
+next : (bytes : List ℕ) (values : List LineValue) (value : LineValue) (line rest : List ℕ) → Begins bytes values (ended line ++ rest) → IsRightLine value line →
+    length bytes ≤ MOST_SCRIPT + length rest
     → Begins bytes (values ++ (value ∷ [])) rest
 next bytes values value line rest begins right room =
     let spelled : bytes ≡ flat_map ended (begins.lines ++ (line ∷ [])) ++ rest = begins.spelled ∙ more_joined begins.lines line rest in
@@ -119,19 +126,23 @@ end_in_part : (part more line rest : List ℕ) → HasNoLineEnd part → part ++
 end_in_part part more line rest none is low =
     let within : length line < length part = omega (arith, low, ap length is, length-append part more, length_ended line rest) in
     let end : get_or part (length line) 0 ≡ 10 =
-    sym (get_or_append_left part more 0 (length line) within) ∙ ap (λ (b : List ℕ). get_or b (length line) 0) (is ∙ append_assoc line (10 ∷ []) rest) ∙ get_or_at line 10 rest 0 (length line) refl in
+    sym (get_or_append_left part more 0 (length line) within) ∙ ap (λ (b : List ℕ). get_or b (length line) 0) (is ∙ append_assoc line (10 ∷ []) rest)
+    ∙ get_or_at line 10 rest 0 (length line) refl in
     both_ways (is_line_end (get_or part (length line) 0)) (none_at part (length line) none within) (ap is_line_end end)
 
-wrong : (bytes : List ℕ) (values : List LineValue) (line rest : List ℕ) → Begins bytes values (ended line ++ rest) → HasNoLineEnd line → ((value : LineValue) → ¬ (IsRightLine value line)) → length bytes ≤ MOST_SCRIPT + length rest
+wrong : (bytes : List ℕ) (values : List LineValue) (line rest : List ℕ) → Begins bytes values (ended line ++ rest) → HasNoLineEnd line →
+    ((value : LineValue) → ¬ (IsRightLine value line)) → length bytes ≤ MOST_SCRIPT + length rest
     → Breaks bytes values
 wrong bytes values line rest begins none bad room = record {
   left = ended line ++ rest;
   begins = begins;
   bad = wrong_first line rest none bad;
-  within = λ over. end_in_part over.part over.more line rest over.not_ended (same_left bytes values (over.part ++ over.more) (ended line ++ rest) over.begins begins) (omega (arith, room, over.full));
+  within = λ over. end_in_part over.part over.more line rest over.not_ended (same_left bytes values (over.part ++ over.more) (ended line ++ rest) over.begins begins)
+      (omega (arith, room, over.full));
 }
 
-too_long : (bytes : List ℕ) (values : List LineValue) (front rest : List ℕ) → Begins bytes values (front ++ rest) → HasNoLineEnd front → MOST_LINE < length front → length bytes ≤ MOST_SCRIPT + length rest → Breaks bytes values
+too_long : (bytes : List ℕ) (values : List LineValue) (front rest : List ℕ) → Begins bytes values (front ++ rest) → HasNoLineEnd front → MOST_LINE < length front →
+    length bytes ≤ MOST_SCRIPT + length rest → Breaks bytes values
 too_long bytes values front rest begins none long room = record {
   left = front ++ rest;
   begins = begins;
@@ -141,7 +152,8 @@ too_long bytes values front rest begins none long room = record {
       omega (arith, long, room, over.full, over.short, ap length same, length-append over.part over.more, length-append front rest);
 }
 
-not_ended : (bytes : List ℕ) (values : List LineValue) (left : List ℕ) → Begins bytes values left → HasNoLineEnd left → 1 ≤ length left → length bytes ≤ MOST_SCRIPT → Breaks bytes values
+not_ended : (bytes : List ℕ) (values : List LineValue) (left : List ℕ) → Begins bytes values left → HasNoLineEnd left → 1 ≤ length left → length bytes ≤ MOST_SCRIPT →
+    Breaks bytes values
 not_ended bytes values left begins none some short = record {
   left = left;
   begins = begins;
@@ -213,7 +225,8 @@ module _ (bytes : List ℕ) (short : length bytes ≤ MOST_SCRIPT) where
       cut.spelled ∙ ap (λ (ls : List (List ℕ)). flat_map ended ls ++ rest_in bytes) one.spelled ∙ sym (joined one.before (one.line ∷ one.after) (rest_in bytes))
       ∙ ap (λ (b : List ℕ). flat_map ended one.before ++ b) (append_assoc (ended one.line) (flat_map ended one.after) (rest_in bytes)) in
       let none = each_at HasNoLineEnd one.before one.line one.after (subst (λ (ls : List (List ℕ)). AllByRecursion HasNoLineEnd ls) one.spelled cut.each) in
-      let begins : Begins bytes one.values left = record { lines = one.before; spelled = spelled; short = front_short (flat_map ended one.before) left spelled; right = one.right } in
+      let begins : Begins bytes one.values left = record { lines = one.before; spelled = spelled; short = front_short (flat_map ended one.before) left spelled; right = one.right }
+      in
       inr (one.values, wrong bytes one.values one.line rest begins none one.bad (omega (arith, short)))
 
   few : EndsOrBreaks bytes
@@ -251,9 +264,16 @@ module _ (bytes within more : List ℕ) (whole : bytes ≡ within ++ more) (full
   whole_script values script =
       let cut = cut_of within in
       let spelled : within ≡ flat_map ended (lines_in within) ++ [] = cut.spelled ∙ ap (λ (r : List ℕ). flat_map ended (lines_in within) ++ r) script.to_end in
-      record { lines = lines_in within; spelled = spelled; short = omega (arith, full, ap length spelled, length-append (flat_map ended (lines_in within)) []); right = script.right }
+      record {
+        lines = lines_in within;
+        spelled = spelled;
+        short = omega (arith, full, ap length spelled, length-append (flat_map ended (lines_in within)) []);
+        right =
+            script.right;
+      }
 
-  goes_on : (values : List LineValue) (left : List ℕ) (lines : List (List ℕ)) (last : List ℕ) → Begins within values left → Cut left lines last → IsBadFirst lines last → BreaksOrOverruns bytes
+  goes_on : (values : List LineValue) (left : List ℕ) (lines : List (List ℕ)) (last : List ℕ) → Begins within values left → Cut left lines last → IsBadFirst lines last →
+      BreaksOrOverruns bytes
   goes_on values left [] last begins cut bad =
       let none : HasNoLineEnd left = subst HasNoLineEnd (sym cut.spelled) cut.last in
       elim (cases_lt MOST_LINE (length left)) [
@@ -275,7 +295,8 @@ module _ (bytes within more : List ℕ) (whole : bytes ≡ within ++ more) (full
 
 many : (bytes : List ℕ) → MOST_SCRIPT < length bytes → BreaksOrOverruns bytes
 many bytes long =
-    many_of bytes (take MOST_SCRIPT bytes) (drop MOST_SCRIPT bytes) (sym (take-append-drop MOST_SCRIPT bytes)) (length-take-le MOST_SCRIPT bytes (omega (arith, long))) (omega (arith, long, length-drop MOST_SCRIPT bytes))
+    many_of bytes (take MOST_SCRIPT bytes) (drop MOST_SCRIPT bytes) (sym (take-append-drop MOST_SCRIPT bytes)) (length-take-le MOST_SCRIPT bytes (omega (arith, long)))
+    (omega (arith, long, length-drop MOST_SCRIPT bytes))
 
 -- ---- not both
 
@@ -357,12 +378,15 @@ stops bytes values (inr (inr is)) = overruns_stops bytes values is
 
 module _ (floor : ℕ) where
   -- a line comes next after all, since it comes first in the other way to tell them
-  one_more : (values : List LineValue) (line : List ℕ) (lines : List (List ℕ)) (left rest : List ℕ) → AllZip IsRightLine values (line ∷ lines) → left ≡ flat_map ended (line ∷ lines) ++ rest → floor ≤ length rest → Never floor left → ⊥
+  one_more : (values : List LineValue) (line : List ℕ) (lines : List (List ℕ)) (left rest : List ℕ) → AllZip IsRightLine values (line ∷ lines) →
+      left ≡ flat_map ended (line ∷ lines) ++ rest → floor ≤ length rest → Never floor left → ⊥
   one_more [] line lines left rest right is low never = absurd right
   one_more (value ∷ values) line lines left rest right is low never =
-      never value line (flat_map ended lines ++ rest) right.0 (is ∙ append_assoc (ended line) (flat_map ended lines) rest) (omega (arith, low, length-append (flat_map ended lines) rest))
+      never value line (flat_map ended lines ++ rest) right.0 (is ∙ append_assoc (ended line) (flat_map ended lines) rest)
+      (omega (arith, low, length-append (flat_map ended lines) rest))
 
-  same_values : (lines others : List (List ℕ)) (values more : List LineValue) (left rest : List ℕ) → flat_map ended lines ++ left ≡ flat_map ended others ++ rest → AllZip IsRightLine values lines → AllZip IsRightLine more others
+  same_values : (lines others : List (List ℕ)) (values more : List LineValue) (left rest : List ℕ) → flat_map ended lines ++ left ≡ flat_map ended others ++ rest →
+      AllZip IsRightLine values lines → AllZip IsRightLine more others
       → floor ≤ length left → floor ≤ length rest → Never floor left → Never floor rest → values ≡ more
   same_values [] [] [] [] left rest is first second low other never no_other = refl
   same_values [] [] (value ∷ values) more left rest is first second low other never no_other = absurd first

@@ -29,14 +29,16 @@ first_ready piece at end some within =
 abbrev stepped : List ℕ → List ℕ → ℕ → ReaderState
 stepped ready line taken = record { ready = ready; line = line; taken = taken }
 
-pub passed : (old : ReaderState) (piece line : List ℕ) (at end taken : ℕ) → stepped (drop at (take end piece)) line taken ≡ old → stepped (drop (at + 1) (take end piece)) line (taken + 1) ≡ stepped (drop 1 old.ready) old.line (old.taken + 1)
+pub passed : (old : ReaderState) (piece line : List ℕ) (at end taken : ℕ) → stepped (drop at (take end piece)) line taken ≡ old →
+    stepped (drop (at + 1) (take end piece)) line (taken + 1) ≡ stepped (drop 1 old.ready) old.line (old.taken + 1)
 passed old piece line at end taken is =
     let Was : ReaderState → Type 0 = λ s. stepped (drop (at + 1) (take end piece)) line (taken + 1) ≡ stepped (drop 1 s.ready) s.line (s.taken + 1) in
     subst Was is (ap (λ (l : List ℕ). stepped l line (taken + 1)) (sym (drop-drop 1 at (take end piece))))
 
 -- ---- the source is read, where no byte is ready
 
-module _ (old new : ReaderState) (left now : Option (List ℕ)) (piece : List ℕ) (count : ℕ) (takes : Known left (λ bytes. Takes count bytes piece now)) (ready : new.ready ≡ take count piece) where
+module _ (old new : ReaderState) (left now : Option (List ℕ)) (piece : List ℕ) (count : ℕ) (takes : Known left (λ bytes. Takes count bytes piece now))
+    (ready : new.ready ≡ take count piece) where
   pub refilled : old.ready ≡ [] → new.taken ≡ old.taken → old.taken ≤ MOST_SCRIPT → TakesOff [] old new left now
   refilled none same within = record {
     rest = λ all told.
@@ -53,7 +55,8 @@ module _ (old new : ReaderState) (left now : Option (List ℕ)) (piece : List �
       record { none_ready = none; none_left = λ all told. (takes all told).rest ∙ ap (λ (n : ℕ). Some (drop n all)) zero ∙ ap (λ (l : List ℕ). Some l) (end zero some all told) }
 
 -- where a byte was ready before, it isn't read
-pub some_left : (s : ReaderState) (left now : Option (List ℕ)) (piece : List ℕ) (at end : ℕ) → drop at (take end piece) ≡ s.ready → at < end → end ≤ length piece → s.ready ≡ [] → IsOut s left now
+pub some_left : (s : ReaderState) (left now : Option (List ℕ)) (piece : List ℕ) (at end : ℕ) → drop at (take end piece) ≡ s.ready → at < end → end ≤ length piece → s.ready ≡ [] →
+    IsOut s left now
 some_left s left now piece at end is some within none =
     let one = sym (first_ready piece at end some within) ∙ is ∙ none in
     absurd cc
@@ -78,13 +81,15 @@ at_start s left within = record {
 }
 
 -- the source was read, where no byte was ready
-pub read_on : (first old mid : ReaderState) (begun left now : Option (List ℕ)) → IsInLine first old begun left → TakesOff [] old mid left now → mid.line ≡ old.line → IsInLine first mid begun now
+pub read_on : (first old mid : ReaderState) (begun left now : Option (List ℕ)) → IsInLine first old begun left → TakesOff [] old mid left now → mid.line ≡ old.line →
+    IsInLine first mid begun now
 read_on first old mid begun left now in_line takes same = record {
   takes = subst (λ (l : List ℕ). TakesOff l first mid begun now) (append-nil old.line ∙ sym same) (take_both old.line [] first old mid begun left now in_line.takes takes);
   part = subst IsPart (sym same) in_line.part;
 }
 
-pub same_told : (first new : ReaderState) (begun now : Option (List ℕ)) (told other : Option NextLine) → told ≡ other → IsTold told first new begun now → IsTold other first new begun now
+pub same_told : (first new : ReaderState) (begun now : Option (List ℕ)) (told other : Option NextLine) → told ≡ other → IsTold told first new begun now →
+    IsTold other first new begun now
 same_told first new begun now told other same is = subst (λ (t : Option NextLine). IsTold t first new begun now) same is
 
 pub out_since : (first old mid : ReaderState) (begun left now : Option (List ℕ)) → IsInLine first old begun left → IsOut mid left now → IsOut mid begun now
@@ -113,7 +118,8 @@ module _ (first mid : ReaderState) (begun now : Option (List ℕ)) (in_line : Is
   pub too_many : (byte : ℕ) (more : List ℕ) → mid.ready ≡ byte ∷ more → mid.taken ≡ MOST_SCRIPT → IsTooMany first mid begun now
   too_many byte more some full = record { takes = in_line.takes; full = full; more = omega (arith, ap length some) }
 
-  module _ (new : ReaderState) (byte : ℕ) (more : List ℕ) (some : mid.ready ≡ byte ∷ more) (room : mid.taken < MOST_SCRIPT) (passed : new ≡ record mid { ready = drop 1 mid.ready; taken = mid.taken + 1 }) where
+  module _ (new : ReaderState) (byte : ℕ) (more : List ℕ) (some : mid.ready ≡ byte ∷ more) (room : mid.taken < MOST_SCRIPT)
+      (passed : new ≡ record mid { ready = drop 1 mid.ready; taken = mid.taken + 1 }) where
     counted : new.taken ≡ mid.taken + 1
     counted = ap (λ (s : ReaderState). s.taken) passed
 

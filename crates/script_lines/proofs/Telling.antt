@@ -24,7 +24,8 @@ record Gives (first left now : Option (List ℕ)) (lines : List (List ℕ)) (par
   some : length new.ready ≤ length rest
   out : IsOut new left now → rest ≡ []
 
-gives : (first left now : Option (List ℕ)) (lines : List (List ℕ)) (part : List ℕ) (old new : ReaderState) → Known first (λ all. (rest : List ℕ) × (left ≡ Some rest) × (all ≡ flat_map ended lines ++ to_come old rest)) → TakesOff part old new left now
+gives : (first left now : Option (List ℕ)) (lines : List (List ℕ)) (part : List ℕ) (old new : ReaderState) →
+    Known first (λ all. (rest : List ℕ) × (left ≡ Some rest) × (all ≡ flat_map ended lines ++ to_come old rest)) → TakesOff part old new left now
     → Gives first left now lines part new
 gives None left now lines part old new has takes = record {
   bytes = flat_map ended lines ++ (part ++ new.ready);
@@ -49,7 +50,8 @@ gives (Some all) left now lines part old new has takes =
           ap (λ (l : List ℕ). l ++ two.0) none.none_ready ∙ same;
     }
 
-module _ (first left now : Option (List ℕ)) (values : List LineValue) (part : List ℕ) (old new : ReaderState) (has : HasRead first values old left) (takes : TakesOff part old new left now) where
+module _ (first left now : Option (List ℕ)) (values : List LineValue) (part : List ℕ) (old new : ReaderState) (has : HasRead first values old left)
+    (takes : TakesOff part old new left now) where
   given : Gives first left now has.lines part new
   given = gives first left now has.lines part old new has.rest takes
 
@@ -89,7 +91,8 @@ module _ (first left now : Option (List ℕ)) (values : List LineValue) (part : 
       record {
         bytes = given.bytes;
         told = given.told;
-        is = read_by_line.not_ended given.bytes values part (subst (λ (l : List ℕ). Begins given.bytes values l) all begun) none some (omega (arith, length_given, ap length (given.out out), takes.within));
+        is = read_by_line.not_ended given.bytes values part (subst (λ (l : List ℕ). Begins given.bytes values l) all begun) none some
+            (omega (arith, length_given, ap length (given.out out), takes.within));
       }
 
 -- ---- what the reader says
@@ -104,11 +107,13 @@ begins first left values reader has bytes told =
       omega (arith, ap length rest.2, length-append (flat_map ended has.lines) (to_come reader rest.0), has.counted),
     )
 
-so_far : (first left : Option (List ℕ)) (values : List LineValue) (reader : ReaderState) → HasRead first values reader left → Given first (λ bytes. (rest : List ℕ) × Begins bytes values rest)
+so_far : (first left : Option (List ℕ)) (values : List LineValue) (reader : ReaderState) → HasRead first values reader left →
+    Given first (λ bytes. (rest : List ℕ) × Begins bytes values rest)
 so_far first left values reader has =
     stopped first left left values [] reader reader has (record { rest = λ all told. (all, told, refl); counted = omega arith; within = has.within })
 
-line : (first left now : Option (List ℕ)) (values : List LineValue) (value : LineValue) (old new : ReaderState) → HasRead first values old left → IsNext Line old new left now → IsPart new.line → IsLine value new.line
+line : (first left now : Option (List ℕ)) (values : List LineValue) (value : LineValue) (old new : ReaderState) → HasRead first values old left → IsNext Line old new left now →
+    IsPart new.line → IsLine value new.line
     → HasRead first (values ++ (value ∷ [])) new now
 line first left now values value old new has takes part is = record {
   lines = has.lines ++ (new.line ∷ []);
@@ -129,7 +134,8 @@ line first left now values value old new has takes part is = record {
   within = takes.within;
 }
 
-last : (first left now : Option (List ℕ)) (values : List LineValue) (old new : ReaderState) → HasRead first values old left → IsNext End old new left now → Given first (λ bytes. IsScript bytes values)
+last : (first left now : Option (List ℕ)) (values : List LineValue) (old new : ReaderState) → HasRead first values old left → IsNext End old new left now →
+    Given first (λ bytes. IsScript bytes values)
 last first left now values old new has end =
     let gave = given first left now values [] old new has end.takes in
     record {
@@ -138,24 +144,28 @@ last first left now values old new has end =
       is = read_by_line.last gave.bytes values (subst (λ (l : List ℕ). Begins gave.bytes values l) (gave.out end.out) (begun first left now values [] old new has end.takes));
     }
 
-no_line : (first left now : Option (List ℕ)) (values : List LineValue) (old new : ReaderState) → HasRead first values old left → IsNext Line old new left now → IsPart new.line → ((value : LineValue) → ¬ (IsLine value new.line))
+no_line : (first left now : Option (List ℕ)) (values : List LineValue) (old new : ReaderState) → HasRead first values old left → IsNext Line old new left now → IsPart new.line →
+    ((value : LineValue) → ¬ (IsLine value new.line))
     → Given first (λ bytes. Breaks bytes values)
 no_line first left now values old new has takes part never =
     let gave = given first left now values (ended new.line) old new has takes in
     record {
       bytes = gave.bytes;
       told = gave.told;
-      is = read_by_line.wrong gave.bytes values new.line gave.rest (begun first left now values (ended new.line) old new has takes) part.not_ended (λ value right. never value right.is_line)
+      is = read_by_line.wrong gave.bytes values new.line gave.rest (begun first left now values (ended new.line) old new has takes) part.not_ended
+          (λ value right. never value right.is_line)
           (room first left now values (ended new.line) old new has takes);
     }
 
-wrong : (first left now : Option (List ℕ)) (values : List LineValue) (old new : ReaderState) → HasRead first values old left → IsNext Wrong old new left now → Given first (λ bytes. Breaks bytes values)
+wrong : (first left now : Option (List ℕ)) (values : List LineValue) (old new : ReaderState) → HasRead first values old left → IsNext Wrong old new left now →
+    Given first (λ bytes. Breaks bytes values)
 wrong first left now values old new has bad = elim bad.bad [
   | inl long ↦ broken_long first left now values bad.front old new has bad.takes bad.not_ended long
   | inr some ↦ broken_end first left now values bad.front old new has bad.takes bad.not_ended some.0 some.1
 ]
 
-too_many : (first left now : Option (List ℕ)) (values : List LineValue) (old new : ReaderState) → HasRead first values old left → IsNext TooMany old new left now → IsPart new.line → Given first (λ bytes. Overruns bytes values)
+too_many : (first left now : Option (List ℕ)) (values : List LineValue) (old new : ReaderState) → HasRead first values old left → IsNext TooMany old new left now →
+    IsPart new.line → Given first (λ bytes. Overruns bytes values)
 too_many first left now values old new has many part = over first left now values new.line old new has many.takes part.not_ended part.short many.full many.more
 
 pub reads : ReadsTellScripts

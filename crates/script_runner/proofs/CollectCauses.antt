@@ -71,7 +71,8 @@ copy_cause source entry t (refusals.Corrupt slot offset count want got) cause ha
 copy_cause source entry t (refusals.Damaged at why) cause harmless = absurd harmless
 copy_cause source entry t refusal cause harmless = absurd cause
 
-flush_cause : (source entry : ℕ) (t : Tables) (known : Option PlaceMap) (refusal : Refusal) → IsFlushStepRefusal t known refusal → IsHarmless ⊥ refusal → IsCauseAt Sweep (Flush source entry) t refusal
+flush_cause : (source entry : ℕ) (t : Tables) (known : Option PlaceMap) (refusal : Refusal) → IsFlushStepRefusal t known refusal → IsHarmless ⊥ refusal →
+    IsCauseAt Sweep (Flush source entry) t refusal
 flush_cause source entry t known refusals.Memory cause harmless = tt
 flush_cause source entry t known refusals.Numbers cause harmless = cause
 flush_cause source entry t known refusals.DiskRead cause harmless = tt

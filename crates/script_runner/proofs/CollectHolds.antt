@@ -53,7 +53,8 @@ module _ (S : List ℕ → Type 0) (s : Store) (stored : Stored) (c : CoreState)
           known = at.stands.known;
           each = λ left leaves.
               let same = subst (λ (n : ℕ). SameBefore (slot_at n) image left) at.represents.slots_are (settled image here left leaves) in
-              same_copies s t at.index left (at.represents.index_is_newest at.index at.index_known) (represents.index_is_newest at.index at.index_known) seg_key (pin_of seg).level seg.segment.bytes has
+              same_copies s t at.index left (at.represents.index_is_newest at.index at.index_known) (represents.index_is_newest at.index at.index_known) seg_key (pin_of seg).level
+              seg.segment.bytes has
               (newest_framed s image left right same.before seg_key (pin_of seg).level seg.segment.bytes newest);
         };
       }
@@ -63,7 +64,8 @@ module _ (S : List ℕ → Type 0) (s : Store) (stored : Stored) (c : CoreState)
 abbrev pub gc_event : ℕ → Result Answer Refusal → List ℕ → FileEvent
 gc_event actor answer buf = record { event = record { actor = actor; step = asked.GcStep; answer = answer; buf = buf }; bytes = [] }
 
-module _ (S : List ℕ → Type 0) (s : Store) (stored : Stored) (old new : CoreState) (asker : ℕ) (answer : Result Answer Refusal) (buf : List ℕ) (at : IsAt S s stored old) (leads : Leads S s (gc_event asker answer buf) stored old new)
+module _ (S : List ℕ → Type 0) (s : Store) (stored : Stored) (old new : CoreState) (asker : ℕ) (answer : Result Answer Refusal) (buf : List ℕ) (at : IsAt S s stored old)
+    (leads : Leads S s (gc_event asker answer buf) stored old new)
     (settled : IsSettled new.tables.slots new.disk) where
   abbrev image : List ℕ
   image = at.stands.known.0
@@ -89,7 +91,8 @@ module _ (S : List ℕ → Type 0) (s : Store) (stored : Stored) (old new : Core
       let key : List ℕ = segment_key seg.kind seg.segment in
       let has : HasKey at.index key = held.indexed at.index at.index_known in
       held_in S leads.next.store stored new then settled seg (leads.keys key image here needed at.index then.index at.index_known then.index_known has)
-      (leads.copies key image after here told needed at.index at.index_known has (pin_of seg).level seg.segment.bytes ((held.newest s at.represents).each image (old.disk.as_read image here)))
+      (leads.copies key image after here told needed at.index at.index_known has (pin_of seg).level seg.segment.bytes
+      ((held.newest s at.represents).each image (old.disk.as_read image here)))
 
   module _ (actor : ℕ) (below : actor < ACTORS) where
     part_held : HoldsPart (HasKey at.index) s.held image (part_of old.parts actor)
@@ -100,7 +103,8 @@ module _ (S : List ℕ → Type 0) (s : Store) (stored : Stored) (old new : Core
 
     -- ---- a file that is given
 
-    pub pin_needed : (pins : PinMap) (key : List ℕ) (pin : Pin) → part_of old.parts actor ≡ core_parts.Writing pins → finite.get pins key ≡ Some pin → IsNeeded s old.parts image key
+    pub pin_needed : (pins : PinMap) (key : List ℕ) (pin : Pin) → part_of old.parts actor ≡ core_parts.Writing pins → finite.get pins key ≡ Some pin →
+        IsNeeded s old.parts image key
     pin_needed pins key pin is found =
         let whole = pinned_whole at.index s stored.files image holds pins (held_as (core_parts.Writing pins) is) key pin found in
         record {

@@ -56,7 +56,8 @@ module _ (t : SlotTable) (known : Option PlaceMap) (old new : DiskView) where
 
   source_cause : (live : LiveKeys) (slot from : ℕ) (buffer : Contents) (refusal : Refusal) → IsSourceRefusal t known live slot from buffer old new refusal → IsCopyCause refusal
   source_cause live slot from buffer refusal (inl header) = header_cause slot refusal header
-  source_cause live slot from buffer refusal (inr (h, tabled, shown, kind, few, plan)) = plan_cause (source_of known live slot h.kind) (drop from h.entries) (planned buffer []) refusal plan
+  source_cause live slot from buffer refusal (inr (h, tabled, shown, kind, few, plan)) = plan_cause (source_of known live slot h.kind) (drop from h.entries) (planned buffer [])
+      refusal plan
 
   any_cause : (live : LiveKeys) (slot from : ℕ) (buffer : Contents) (refusal : Refusal) → IsCopyRefusal t known live slot from buffer old new refusal → IsCopyCause refusal
   any_cause live slot from buffer refusal (inl cause) = source_cause live slot from buffer refusal cause

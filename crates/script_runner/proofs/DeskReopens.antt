@@ -105,7 +105,8 @@ module _ (F : Fitted) (r : RunnerState F.C) (d : Desk F.V F.R) (at : AtDesk F d 
     told_opened = Ok (done.Reopened (finite.len (state acts.mid).tables.names))
 
     counting_reads : (state s.core).disk.content ≡ (state acts.mid).disk.content
-    counting_reads = (running_step (state acts.mid) (state s.core) counting (opened_stop C view (state r.core).disk (state acts.mid) acts.opened) acts.counts.1).made.effect.disk.only.content_is
+    counting_reads = (running_step (state acts.mid) (state s.core) counting (opened_stop C view (state r.core).disk (state acts.mid) acts.opened)
+        acts.counts.1).made.effect.disk.only.content_is
 
     -- the number that is told is that of the names
     module _ (next : Machine V R)
@@ -178,7 +179,8 @@ module _ (F : Fitted) (r : RunnerState F.C) (d : Desk F.V F.R) (at : AtDesk F d 
     unopened_line refuses = elim refuses.why [
       | inl memory ↦ unopened_at d.machine
           (ran_still F (step_of v 0 asked.Reopen told) d.machine r.core s.core (subst (λ (e : Refusal). opening.MayRefuseOpening v e) (sym memory.0) tt, inl refl) at.fits
-          (subst (λ (e : Refusal). Changes (step_of v 0 asked.Reopen (Err e)) d.machine d.machine (state r.core).disk.content (state r.core).disk.content) (sym memory.0) (fitting.unmade 0 asked.Reopen d.machine (state r.core) at.fits tt)) memory.1)
+          (subst (λ (e : Refusal). Changes (step_of v 0 asked.Reopen (Err e)) d.machine d.machine (state r.core).disk.content (state r.core).disk.content) (sym memory.0)
+          (fitting.unmade 0 asked.Reopen d.machine (state r.core) at.fits tt)) memory.1)
           (subst (λ (c : C). Fits d.machine (state c)) (sym memory.1) at.fits)
           (subst (λ (c : C). IsRunning (state c)) (sym memory.1) at.runs) (ap (λ (c : C). (state c).parts) memory.1)
           (λ b k owns. subst (λ (c : C). Owns b k d.machine (state c)) (sym memory.1) owns)
@@ -188,7 +190,8 @@ module _ (F : Fitted) (r : RunnerState F.C) (d : Desk F.V F.R) (at : AtDesk F d 
       where
         by : (n : Machine V R) × (Legal v (step_of v 0 asked.Reopen told) d.machine n × Fits n (state s.core) × ((b : ℕ) (k : Kept) → Owns b k d.machine (state r.core)
             → Owns b k n (state s.core)) × LeavesEither Left d.machine n (state r.core).disk (state s.core).disk
-            × Changes (step_of v 0 asked.Reopen told) d.machine n (state r.core).disk.content (state s.core).disk.content) → StaysOrStops C view refusal (state r.core) (state s.core)
+            × Changes (step_of v 0 asked.Reopen told) d.machine n (state r.core).disk.content (state s.core).disk.content) →
+            StaysOrStops C view refusal (state r.core) (state s.core)
             → (state r.core).disk.clock ≤ (state s.core).disk.clock → Reopened (replies.Refused refusal)
         by went leaves later = unopened_at went.0
             (ran_step F (step_of v 0 asked.Reopen told) d.machine went.0 r.core s.core went.1.0 went.1.3 went.1.4 later) went.1.1

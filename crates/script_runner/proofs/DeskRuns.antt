@@ -104,7 +104,8 @@ module _ (F : Fitted) where
   }
 
   -- one that leaves the machine as it was, and nothing was done
-  pub ran_still : (s : Stepped V) (m : Machine V R) (old new : C) → Legal v s m m → Fits m (state old) → Changes s m m (state old).disk.content (state old).disk.content → new ≡ old → Ran (s ∷ []) m m old new
+  pub ran_still : (s : Stepped V) (m : Machine V R) (old new : C) → Legal v s m m → Fits m (state old) → Changes s m m (state old).disk.content (state old).disk.content →
+      new ≡ old → Ran (s ∷ []) m m old new
   ran_still s m old new legal fits changes same =
       let none = ran_none m old new fits same in
       ran_step s m m old new legal (leaves_weaker (Left m) (λ image. Left m image ⊎ Left m image) (state old).disk (state new).disk (λ image left. inl left) none.did.leaves)

@@ -128,7 +128,8 @@ module _ (F : Fitted) (r : RunnerState F.C) (d : Desk F.V F.R) (at : AtDesk F d 
         no_memory is same = record {
           ss = step_of v 0 (asked.Delete name) (Err refusals.Memory) ∷ [];
           next = record { machine = d.machine; sessions = d.sessions };
-          ran = ran_still F (step_of v 0 (asked.Delete name) (Err refusals.Memory)) d.machine r.core s.core legal at.fits (fitting.unmade 0 (asked.Delete name) d.machine (state r.core) at.fits tt) same;
+          ran = ran_still F (step_of v 0 (asked.Delete name) (Err refusals.Memory)) d.machine r.core s.core legal at.fits
+              (fitting.unmade 0 (asked.Delete name) d.machine (state r.core) at.fits tt) same;
           acts = (0, asked.Delete name, refl, (Err refusals.Memory, refl, ap replies.Refused is), refl);
           stays = desk_after F r d at s acts.1 d.machine (subst (λ (c : C). Fits d.machine (state c)) (sym same) at.fits)
               (subst (λ (c : C). IsRunning (state c)) (sym same) at.runs)

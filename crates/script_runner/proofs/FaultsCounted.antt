@@ -105,7 +105,8 @@ module _ (C : Type 0) (state : C → CoreState) where
   no_memory refusal old new is same = none_failed refusal old new (by_memory refusal is) (done_here old new same)
 
   -- a step was refused, or before it there was no memory
-  refuses_went : (actor : ℕ) (step : StepValue) (refusal : Refusal) (old new : C) → ((refusal ≡ refusals.Memory) × (new ≡ old)) ⊎ RefusesStep actor step refusal (state old) (state new) → GoesBy (ending_of (blames refusal)) old new
+  refuses_went : (actor : ℕ) (step : StepValue) (refusal : Refusal) (old new : C) → ((refusal ≡ refusals.Memory) × (new ≡ old)) ⊎ RefusesStep actor step refusal (state old)
+      (state new) → GoesBy (ending_of (blames refusal)) old new
   refuses_went actor step refusal old new (inl memory) = no_memory refusal old new memory.0 memory.1
   refuses_went actor step refusal old new (inr refuses) = step_went (state old) (state new) _ refuses.1
 
@@ -113,16 +114,19 @@ module _ (C : Type 0) (state : C → CoreState) where
     turns_went : (answers : List Answer) (s t : SessionState) (old new : C) → TurnRun C state actor answers s t old new → GoesBy Done old new
     turns_went [] s t old new run = done_here old new run.1
     turns_went (answer ∷ answers) s t old new run =
-        went_on Done (state old).disk (state run.1).disk (state new).disk (asks_went (state old) (state run.1) actor (due_in run.2.before) run.2.before (Ok answer) run.2.asks) (turns_went answers run.0 t run.1 new run.3)
+        went_on Done (state old).disk (state run.1).disk (state new).disk (asks_went (state old) (state run.1) actor (due_in run.2.before) run.2.before (Ok answer) run.2.asks)
+        (turns_went answers run.0 t run.1 new run.3)
 
-    refused_went : (refusal : Refusal) (s t : SessionState) (old new : C) → ((refusal ≡ refusals.Memory) × IsPaused s t × (new ≡ old)) ⊎ IsRefusedTurn actor refusal s t (state old) (state new)
+    refused_went : (refusal : Refusal) (s t : SessionState) (old new : C) → ((refusal ≡ refusals.Memory) × IsPaused s t × (new ≡ old))
+        ⊎ IsRefusedTurn actor refusal s t (state old) (state new)
         → GoesBy (ending_of (blames refusal)) old new
     refused_went refusal s t old new (inl memory) = no_memory refusal old new memory.0 memory.2
     refused_went refusal s t old new (inr refused) = asks_went (state old) (state new) actor (due_in t) t (Err refusal) refused.2
 
     stopped_went : (refusal : Refusal) (s t : SessionState) (old new : C) → TurnsStopped C state actor refusal s t old new → GoesBy (ending_of (blames refusal)) old new
     stopped_went refusal s t old new stopped =
-        went_on (ending_of (blames refusal)) (state old).disk (state stopped.2).disk (state new).disk (turns_went stopped.0 s stopped.1 old stopped.2 stopped.3) (refused_went refusal stopped.1 t stopped.2 new stopped.4)
+        went_on (ending_of (blames refusal)) (state old).disk (state stopped.2).disk (state new).disk (turns_went stopped.0 s stopped.1 old stopped.2 stopped.3)
+        (refused_went refusal stopped.1 t stopped.2 new stopped.4)
 
     one_went : (answer : Option Answer) (s t : SessionState) (old new : C) → TakesTurn C state actor (Ok answer) s t old new → GoesBy Done old new
     one_went None s t old new turn = done_here old new turn.3
@@ -135,19 +139,23 @@ module _ (C : Type 0) (state : C → CoreState) where
         same : (a : Refusal) → ending_of (blames a) ≡ Refused → Some a ≡ Some refusal → ending_of (blames refusal) ≡ Refused
         same a blame is = let both : a ≡ refusal = cc in subst (λ (x : Refusal). ending_of (blames x) ≡ Refused) both blame
 
-        by_push : (ended long : Bool) → (if ended then Some (refusals.WrongPart kinds.Finished) else if long then Some refusals.TooLong else None) ≡ Some refusal → ending_of (blames refusal) ≡ Refused
+        by_push : (ended long : Bool) → (if ended then Some (refusals.WrongPart kinds.Finished) else if long then Some refusals.TooLong else None) ≡ Some refusal →
+            ending_of (blames refusal) ≡ Refused
         by_push true long is = same (refusals.WrongPart kinds.Finished) refl is
         by_push false true is = same refusals.TooLong refl is
         by_push false false is = absurd cc
 
-    fed_went : (refusal : Refusal) (bytes : List ℕ) (s t : SessionState) (old new : C) → Feeds C state actor (Err refusal) bytes s t old new → GoesBy (ending_of (blames refusal)) old new
+    fed_went : (refusal : Refusal) (bytes : List ℕ) (s t : SessionState) (old new : C) → Feeds C state actor (Err refusal) bytes s t old new →
+        GoesBy (ending_of (blames refusal)) old new
     fed_went refusal bytes s t old new (inl stopped) = stopped_went refusal s t old new stopped.0
     fed_went refusal bytes s t old new (inr long) = none_failed refusal old new (not_failed t _ refusal long.2) (turns_went long.0 s t old new long.1)
 
-    put_went : (name : List ℕ) (refusal : Refusal) (s t : SessionState) (old new : C) → RefusesPut C state actor name refusal s t old new → GoesBy (ending_of (blames refusal)) old new
+    put_went : (name : List ℕ) (refusal : Refusal) (s t : SessionState) (old new : C) → RefusesPut C state actor name refusal s t old new →
+        GoesBy (ending_of (blames refusal)) old new
     put_went name refusal s t old new (inl stopped) = stopped_went refusal s t old new stopped
     put_went name refusal s t old new (inr done) =
-        went_on (ending_of (blames refusal)) (state old).disk (state done.1).disk (state new).disk (turns_went done.0 s t old done.1 done.2) (refuses_went actor (asked.Commit name done.3.0) refusal done.1 new done.3.2)
+        went_on (ending_of (blames refusal)) (state old).disk (state done.1).disk (state new).disk (turns_went done.0 s t old done.1 done.2)
+        (refuses_went actor (asked.Commit name done.3.0) refusal done.1 new done.3.2)
 
   collected_went : (phases : List Phase) (old mid : C) → CollectionRun C state phases old mid → GoesBy Done old mid
   collected_went [] old mid run = done_here old mid run
@@ -156,7 +164,8 @@ module _ (C : Type 0) (state : C → CoreState) where
 
   swept_went : (answer : Result Answer Refusal) (old new : C) → Sweeps C state answer old new → GoesBy (ending blames answer) old new
   swept_went answer old new sweeps =
-      went_on (ending blames answer) (state old).disk (state sweeps.1.0).disk (state new).disk (collected_went sweeps.0 old sweeps.1.0 sweeps.1.1.0) (step_went (state sweeps.1.0) (state new) _ sweeps.1.1.1.1)
+      went_on (ending blames answer) (state old).disk (state sweeps.1.0).disk (state new).disk (collected_went sweeps.0 old sweeps.1.0 sweeps.1.1.0)
+      (step_went (state sweeps.1.0) (state new) _ sweeps.1.1.1.1)
 
   acts_went : (line : LineValue) (reply : ReplyValue) (r s : RunnerState C) → Acts C state line reply r s → GoesBy (ending_in reply) r.core s.core
   acts_went (lines.Begin a) (replies.Begun b) r s acts = step_went (state r.core) (state s.core) _ acts.1.2.1
@@ -173,7 +182,8 @@ module _ (C : Type 0) (state : C → CoreState) where
   acts_went (lines.Turn a) (replies.Refused refusal) r s acts = refused_went a refusal acts.0 acts.1 r.core s.core acts.3
   acts_went (lines.Commit a name) (replies.Committed b sequence) r s acts =
       let puts = acts.1.2 in
-      went_on Done (state r.core).disk (state puts.mid).disk (state s.core).disk (turns_went a puts.answers_are acts.1.0 puts.ready r.core puts.mid puts.turns) (step_went (state puts.mid) (state s.core) _ puts.put.1)
+      went_on Done (state r.core).disk (state puts.mid).disk (state s.core).disk (turns_went a puts.answers_are acts.1.0 puts.ready r.core puts.mid puts.turns)
+      (step_went (state puts.mid) (state s.core) _ puts.put.1)
   acts_went (lines.Commit a name) (replies.Refused refusal) r s acts = put_went a name refusal acts.0 acts.1 r.core s.core acts.3
   acts_went (lines.Abort a) (replies.Aborted b) r s acts = step_went (state r.core) (state s.core) _ acts.1.0.1.1
   acts_went (lines.Abort a) (replies.Refused refusal) r s acts = step_went (state r.core) (state s.core) _ acts.0.1
@@ -207,7 +217,8 @@ module _ (C : Type 0) (state : C → CoreState) where
 
   pub opened_went : (old : DiskView) (c : CoreState) → OpensCore C disk_of old c → Went Done old c.disk
   opened_went old c (inl read) = record { later = read.reads.only.later; faults = read.reads.faults_are }
-  opened_went old c (inr (x, (room, read))) = went_on Done old (disk_of x) c.disk (room_went old (disk_of x) room) (record { later = read.reads.only.later; faults = read.reads.faults_are })
+  opened_went old c (inr (x, (room, read))) = went_on Done old (disk_of x) c.disk (room_went old (disk_of x) room)
+      (record { later = read.reads.only.later; faults = read.reads.faults_are })
 
   pub unopened_went : (refusal : Refusal) (old new : DiskView) → OpensNone C disk_of refusal old new → Went (ending_of (blames refusal)) old new
   unopened_went refusal old new (inl (unread, not)) = record { later = unread.reads.only.later; faults = unread.reads.faults_are }
@@ -217,14 +228,16 @@ module _ (C : Type 0) (state : C → CoreState) where
 
   reopen_went : (reply : ReplyValue) (r s : RunnerState C) → ActsReopen C state reply r s → GoesBy (ending_in reply) r.core s.core
   reopen_went (replies.Opened files) r s acts =
-      went_on Done (state r.core).disk (state acts.mid).disk (state s.core).disk (opened_went (state r.core).disk (state acts.mid) acts.opened) (step_went (state acts.mid) (state s.core) _ acts.counts.1)
+      went_on Done (state r.core).disk (state acts.mid).disk (state s.core).disk (opened_went (state r.core).disk (state acts.mid) acts.opened)
+      (step_went (state acts.mid) (state s.core) _ acts.counts.1)
   reopen_went (replies.Refused refusal) r s acts = elim acts.0.why [
     | inl memory ↦ no_memory refusal r.core s.core memory.0 memory.1
     | inr given_up ↦ unopened_went refusal (state r.core).disk (state s.core).disk given_up.0
   ]
   reopen_went reply r s acts = absurd acts
 
-  barred : (stop : Option Stop) (line : LineValue) (sessions : Sessions) (c : CoreState) (refusal : Refusal) → BarsBy stop line sessions c refusal → ending_of (blames refusal) ≡ Refused
+  barred : (stop : Option Stop) (line : LineValue) (sessions : Sessions) (c : CoreState) (refusal : Refusal) → BarsBy stop line sessions c refusal →
+      ending_of (blames refusal) ≡ Refused
   barred (Some stop) line sessions c refusal is = ap (λ (x : Refusal). ending_of (blames x)) is
   barred None line sessions c refusal is = ap (λ (x : Refusal). ending_of (blames x)) is.3
 
@@ -232,7 +245,8 @@ module _ (C : Type 0) (state : C → CoreState) where
   taken_went line reply r s (inl taken) = acts_went line reply r s taken.1
   taken_went line reply r s (inr bars) =
       subst (λ (x : ReplyValue). GoesBy (ending_in x) r.core s.core) (sym bars.1)
-      (none_failed bars.0 r.core s.core (barred (state r.core).stop line r.sessions (state r.core) bars.0 bars.2) (done_here r.core s.core (ap (λ (x : RunnerState C). x.core) bars.3)))
+      (none_failed bars.0 r.core s.core (barred (state r.core).stop line r.sessions (state r.core) bars.0 bars.2)
+      (done_here r.core s.core (ap (λ (x : RunnerState C). x.core) bars.3)))
 
   pub line_went : (line : LineValue) (reply : ReplyValue) (r s : RunnerState C) → RunsLine C state line reply r s → GoesBy (ending_in reply) r.core s.core
   line_went lines.Reopen reply r s runs = reopen_went reply r s runs

@@ -75,7 +75,8 @@ use Rattle.ingest_session.proofs.KeptPieces.{data_piece, of_kind}
 use Rattle.script_runner.proofs.RightRoot.{right_root}
 
 -- what is offered is a piece of the file
-offered_piece : (file : List ℕ) (n : Option node.Contents) (queue : List (List ℕ)) (seg : KindSegment) → IsItem n queue seg → AllByRecursion (IsPieceOf file) (turn_of n queue) → HasPieceOf file seg
+offered_piece : (file : List ℕ) (n : Option node.Contents) (queue : List (List ℕ)) (seg : KindSegment) → IsItem n queue seg → AllByRecursion (IsPieceOf file) (turn_of n queue) →
+    HasPieceOf file seg
 offered_piece file (Some n) queue seg is all = (Node n, all.0, is)
 offered_piece file None [] seg is all = absurd is
 offered_piece file None (x ∷ xs) seg is all = (Data x, all.0, is)
@@ -313,7 +314,8 @@ module _ (C : Type 0) (state : C → CoreState) (among : ByteSet) (distinct : Ha
   content_stands m c fits = (disk_stands S m c fits).content
 
   -- want of memory before a step is made changes nothing
-  unmade_still : (a : ℕ) (step : Asked (List ℕ)) (m : FileMachine) (told : Option (List ℕ)) → IsUnmade step → ChangesBytes (step_of of_files a step (Err refusals.Memory)) m m told told
+  unmade_still : (a : ℕ) (step : Asked (List ℕ)) (m : FileMachine) (told : Option (List ℕ)) → IsUnmade step →
+      ChangesBytes (step_of of_files a step (Err refusals.Memory)) m m told told
   unmade_still a (asked_of.Delete name) m told is = λ old known. (old, known, refl)
   unmade_still a asked_of.Reopen m told is = λ old known. (old, known, inl (refl, refl))
   unmade_still a step m told is = absurd is
@@ -398,5 +400,12 @@ module _ (C : Type 0) (state : C → CoreState) where
 pub opened_is_at_desk : (D : Type 0) (view : D → DiskView) (C : Type 0) (state : C → CoreState) → OpenedIsAtDesk D view C state
 opened_is_at_desk D view C state among actor before m r distinct stands opens sessions =
     let runs = opened_runs D view (view before) (state r.core) opens in
-    let one = files_opened D view C state among actor before r.core m distinct stands opens runs in
-    (one.0, (one.1.0, begins_at_file_desk C state among one.0 r runs one.1.1 (opened_parts D view (view before) (state r.core) opens) sessions, one.1.2, (one.1.3, (disk_stands (IsIn among) one.0 (state r.core) one.1.1).content)))
+    let one = files_opened D view C state among actor before r.core m distinct stands opens runs in (
+      one.0,
+      (
+        one.1.0,
+        begins_at_file_desk C state among one.0 r runs one.1.1 (opened_parts D view (view before) (state r.core) opens) sessions,
+        one.1.2,
+        (one.1.3, (disk_stands (IsIn among) one.0 (state r.core) one.1.1).content),
+      ),
+    )

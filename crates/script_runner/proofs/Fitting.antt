@@ -104,7 +104,8 @@ pub record Fitting {V R : Type 0} (v : Values V R) (C : Type 0) (state : C → C
       × b.Changes (step_of v a asked.Reopen (Ok (done.Reopened (finite.len (state new).tables.names)))) m n (state old).disk.content (state new).disk.content)
   pub unopened : (a : ℕ) (refusal : Refusal) (old new : C) (m : Machine V R) → b.Fits m (state old) → OpensNone C (λ c. (state c).disk) refusal (state old).disk (state new).disk
       → StaysOrStops C (λ c. (state c).disk) refusal (state old) (state new)
-      → (n : Machine V R) × (Legal v (step_of v a asked.Reopen (Err refusal)) m n × b.Fits n (state new) × ((c : ℕ) (k : Kept) → b.Owns c k m (state old) → b.Owns c k n (state new))
+      → (n : Machine V R) × (Legal v (step_of v a asked.Reopen (Err refusal)) m n × b.Fits n (state new)
+      × ((c : ℕ) (k : Kept) → b.Owns c k m (state old) → b.Owns c k n (state new))
       × LeavesEither b.Left m n (state old).disk (state new).disk
       × b.Changes (step_of v a asked.Reopen (Err refusal)) m n (state old).disk.content (state new).disk.content)
   -- want of memory before a step is made changes nothing

@@ -29,7 +29,8 @@ some_same : (a b : Option HeaderValue) → Some a ≡ Some b → a ≡ b
 some_same a b is = cc
 
 -- what a slot holds
-slot_of : (from slot : ℕ) (held : List (Option HeaderValue)) (c : Option HeaderValue) (image : List ℕ) → HoldSlots from held image → slice_get held slot ≡ Some c → HoldsSlot image (from + slot) c
+slot_of : (from slot : ℕ) (held : List (Option HeaderValue)) (c : Option HeaderValue) (image : List ℕ) → HoldSlots from held image → slice_get held slot ≡ Some c →
+    HoldsSlot image (from + slot) c
 slot_of from slot [] c image holds is = absurd cc
 slot_of from zero (d ∷ ds) c image holds is =
     let place : from ≡ from + zero = omega arith in

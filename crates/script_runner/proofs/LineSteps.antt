@@ -48,17 +48,27 @@ module _ (C : Type 0) (state : C → CoreState) where
   single n old new e other few step = (e ∷ [], ((new, (step, refl)), omega (arith, few), (other, tt)))
 
   both : (n m most : ℕ) (old mid new : C) → n + m ≤ most → Makes n old mid → Makes m mid new → Makes most old new
-  both n m most old mid new few one other =
-      (one.0 ++ other.0, (run_on one.0 other.0 old mid new one.1.0 other.1.0, omega (arith, few, commands-append one.0 other.0, one.1.1, other.1.1), all_on (λ e. IsNoGcStep e.step) one.0 other.0 one.1.2 other.1.2))
+  both n m most old mid new few one other = (
+    one.0 ++ other.0,
+    (
+      run_on one.0 other.0 old mid new one.1.0 other.1.0,
+      omega (arith, few, commands-append one.0 other.0, one.1.1, other.1.1),
+      all_on
+          (λ e. IsNoGcStep e.step) one.0 other.0 one.1.2 other.1.2,
+    ),
+  )
 
-  pub does : (n actor : ℕ) (step : StepValue) (answer : Answer) (old new : C) → IsNoGcStep step → commands_of step ≤ n → DoesStep actor step answer (state old) (state new) → Makes n old new
+  pub does : (n actor : ℕ) (step : StepValue) (answer : Answer) (old new : C) → IsNoGcStep step → commands_of step ≤ n → DoesStep actor step answer (state old) (state new) →
+      Makes n old new
   does n actor step answer old new other few is = single n old new (record { actor = actor; step = step; answer = Ok answer; buf = is.0 }) other few is.1
 
-  refuses : (n actor : ℕ) (step : StepValue) (refusal : Refusal) (old new : C) → IsNoGcStep step → commands_of step ≤ n → RefusesStep actor step refusal (state old) (state new) → Makes n old new
+  refuses : (n actor : ℕ) (step : StepValue) (refusal : Refusal) (old new : C) → IsNoGcStep step → commands_of step ≤ n → RefusesStep actor step refusal (state old) (state new) →
+      Makes n old new
   refuses n actor step refusal old new other few is = single n old new (record { actor = actor; step = step; answer = Err refusal; buf = is.0 }) other few is.1
 
   -- a step that was refused, or before it there was no memory
-  refuses_or : (n actor : ℕ) (step : StepValue) (refusal : Refusal) (old new : C) → IsNoGcStep step → commands_of step ≤ n → ((refusal ≡ Memory) × (new ≡ old)) ⊎ RefusesStep actor step refusal (state old) (state new) → Makes n old new
+  refuses_or : (n actor : ℕ) (step : StepValue) (refusal : Refusal) (old new : C) → IsNoGcStep step → commands_of step ≤ n →
+      ((refusal ≡ Memory) × (new ≡ old)) ⊎ RefusesStep actor step refusal (state old) (state new) → Makes n old new
   refuses_or n actor step refusal old new other few (inl memory) = none n old new memory.1
   refuses_or n actor step refusal old new other few (inr is) = refuses n actor step refusal old new other few is
 
@@ -74,7 +84,8 @@ module _ (C : Type 0) (state : C → CoreState) where
   turns actor (answer ∷ more) s t old new run =
       both 0 0 0 old run.1 new (omega arith) (asks actor (due_in run.2.before) run.2.before (Ok answer) old run.1 run.2.asks) (turns actor more run.0 t run.1 new run.3)
 
-  not_made : (actor : ℕ) (refusal : Refusal) (s t : SessionState) (old new : C) → ((refusal ≡ Memory) × IsPaused s t × (new ≡ old)) ⊎ IsRefusedTurn actor refusal s t (state old) (state new) → Makes 0 old new
+  not_made : (actor : ℕ) (refusal : Refusal) (s t : SessionState) (old new : C) → ((refusal ≡ Memory) × IsPaused s t × (new ≡ old)) ⊎ IsRefusedTurn actor refusal s t (state old)
+      (state new) → Makes 0 old new
   not_made actor refusal s t old new (inl memory) = none 0 old new memory.2
   not_made actor refusal s t old new (inr refused) = asks actor (due_in t) t (Err refusal) old new refused.2
 
@@ -96,7 +107,8 @@ module _ (C : Type 0) (state : C → CoreState) where
   put_refused : (actor : ℕ) (name : List ℕ) (refusal : Refusal) (s t : SessionState) (old new : C) → RefusesPut C state actor name refusal s t old new → Makes 1 old new
   put_refused actor name refusal s t old new (inl stops) = let made = stopped actor refusal s t old new stops in (made.0, (made.1.0, omega (arith, made.1.1), made.1.2))
   put_refused actor name refusal s t old new (inr tried) =
-      both 0 1 1 old tried.1 new (omega arith) (turns actor tried.0 s t old tried.1 tried.2) (refuses_or 1 actor (asked.Commit name tried.3.0) refusal tried.1 new tt (omega arith) tried.3.2)
+      both 0 1 1 old tried.1 new (omega arith) (turns actor tried.0 s t old tried.1 tried.2)
+      (refuses_or 1 actor (asked.Commit name tried.3.0) refusal tried.1 new tt (omega arith) tried.3.2)
 
   acts : (line : lines.LineValue) (reply : ReplyValue) (r s : RunnerState C) → IsNoSweep line → Acts C state line reply r s → Makes (commands_of_line line) r.core s.core
   acts (lines.Begin a) (replies.Begun b) r s unswept is = let begins = is.1 in does 0 a asked.Begin begins.0 r.core s.core tt (omega arith) begins.2
@@ -110,17 +122,21 @@ module _ (C : Type 0) (state : C → CoreState) where
   acts (lines.Commit a name) (replies.Committed b sequence) r s unswept is =
       let commits = is.1 in
       let puts = commits.2 in
-      both 0 1 1 r.core puts.mid s.core (omega arith) (turns a puts.answers_are commits.0 puts.ready r.core puts.mid puts.turns) (does 1 a (asked.Commit name puts.root) puts.answer puts.mid s.core tt (omega arith) puts.put)
+      both 0 1 1 r.core puts.mid s.core (omega arith) (turns a puts.answers_are commits.0 puts.ready r.core puts.mid puts.turns)
+      (does 1 a (asked.Commit name puts.root) puts.answer puts.mid s.core tt (omega arith) puts.put)
   acts (lines.Commit a name) (replies.Refused refusal) r s unswept is = let refused = is in put_refused a name refusal refused.0 refused.1 r.core s.core refused.3
   acts (lines.Abort a) (replies.Aborted b) r s unswept is = let aborts = is.1 in does 0 a asked.Abort aborts.0.0 r.core s.core tt (omega arith) aborts.0.1
   acts (lines.Abort a) (replies.Refused refusal) r s unswept is = let aborts = is in refuses 0 a asked.Abort refusal r.core s.core tt (omega arith) aborts.0
-  acts (lines.Read a name) (replies.Reading b count) r s unswept is = let opens = is.1 in does 0 a (asked.OpenRead name) (answers.Opened count) r.core s.core tt (omega arith) opens.0
+  acts (lines.Read a name) (replies.Reading b count) r s unswept is = let opens = is.1 in does 0 a (asked.OpenRead name) (answers.Opened count) r.core s.core tt (omega arith)
+      opens.0
   acts (lines.Read a name) (replies.Refused refusal) r s unswept is = refuses 0 a (asked.OpenRead name) refusal r.core s.core tt (omega arith) is.0
   acts (lines.Next a) (replies.Bytes b bytes) r s unswept is =
       let given = is.1.1.1.1 in
       single 0 r.core s.core (record { actor = a; step = asked.ReadNext; answer = Ok (answers.Bytes is.1.0); buf = is.1.1.0 }) tt (omega arith) given.0
-  acts (lines.Next a) (replies.End b) r s unswept is = let ends = is.1.1 in single 0 r.core s.core (record { actor = a; step = asked.ReadNext; answer = Ok answers.End; buf = is.1.0 }) tt (omega arith) ends.0
-  acts (lines.Next a) (replies.Refused refusal) r s unswept is = let refused = is.1 in single 0 r.core s.core (record { actor = a; step = asked.ReadNext; answer = Err refusal; buf = is.0 }) tt (omega arith) refused.0
+  acts (lines.Next a) (replies.End b) r s unswept is =
+      let ends = is.1.1 in single 0 r.core s.core (record { actor = a; step = asked.ReadNext; answer = Ok answers.End; buf = is.1.0 }) tt (omega arith) ends.0
+  acts (lines.Next a) (replies.Refused refusal) r s unswept is =
+      let refused = is.1 in single 0 r.core s.core (record { actor = a; step = asked.ReadNext; answer = Err refusal; buf = is.0 }) tt (omega arith) refused.0
   acts (lines.Drop a) (replies.Dropped b) r s unswept is = let drops = is.1.0 in does 0 a asked.EndRead drops.0 r.core s.core tt (omega arith) drops.1
   acts (lines.Drop a) (replies.Refused refusal) r s unswept is = refuses 0 a asked.EndRead refusal r.core s.core tt (omega arith) is.0
   acts (lines.Delete name) (replies.Deleted sequence) r s unswept is = does 1 0 (asked.Delete name) is.0.answer r.core s.core tt (omega arith) is.0.deleted
@@ -138,6 +154,7 @@ module _ (C : Type 0) (state : C → CoreState) where
   or_not line reply r s unswept (inl taken) = acts line reply r s unswept taken.1
   or_not line reply r s unswept (inr barred) = none (commands_of_line line) r.core s.core (ap (λ (t : RunnerState C). t.core) barred.3)
 
-  pub line_steps : (line : lines.LineValue) (reply : ReplyValue) (r s : RunnerState C) → line ≢ lines.Reopen → IsNoSweep line → RunsLine C state line reply r s → Makes (commands_of_line line) r.core s.core
+  pub line_steps : (line : lines.LineValue) (reply : ReplyValue) (r s : RunnerState C) → line ≢ lines.Reopen → IsNoSweep line → RunsLine C state line reply r s →
+      Makes (commands_of_line line) r.core s.core
   line_steps lines.Reopen reply r s differs unswept runs = absurd (differs refl)
   line_steps line reply r s differs unswept runs = or_not line reply r s unswept runs

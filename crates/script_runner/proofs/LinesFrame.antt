@@ -36,7 +36,8 @@ use Rattle.script_runner.proofs.LineSteps.{MakesSteps, commands-append, does, li
 
 -- ---- a core that was opened
 
-opened_by : (content : List ℕ) (v : DiskView) (c : CoreState) → IsNew (Shows v c.disk) v.size c → IsDurable c.disk → Reads Done v c.disk → v.content ≡ Some content → IsOnContent content c
+opened_by : (content : List ℕ) (v : DiskView) (c : CoreState) → IsNew (Shows v c.disk) v.size c → IsDurable c.disk → Reads Done v c.disk → v.content ≡ Some content →
+    IsOnContent content c
 opened_by content v c new durable reads told = record {
   store = new.store;
   encodes = shown_content v c.disk (λ image. Encodes image new.store) content new.right told;
@@ -80,21 +81,25 @@ module _ (C : Type 0) (state : C → CoreState) where
 
   -- Wherever steps have led to this core from, what was written there stays in that one, to which these lines lead.
   abbrev KeepsFrom : List Replied → C → C → Type 0
-  KeepsFrom rs here new = (events : List Event) (s : Store) (base : List ℕ) (old : C) → IsOn s (state old) → (state old).disk.content ≡ Some base → Encodes base s → RESERVE ≤ free_slots s.held → CoreRun C state events old here → AreNoGcSteps events
+  KeepsFrom rs here new = (events : List Event) (s : Store) (base : List ℕ) (old : C) → IsOn s (state old) → (state old).disk.content ≡ Some base → Encodes base s →
+      RESERVE ≤ free_slots s.held → CoreRun C state events old here → AreNoGcSteps events
       → Keeps s (Needs events rs s) base old new
 
   -- no lines
   steps_keep : (here : C) → KeepsFrom [] here here
   steps_keep here events s base old on told encodes enough run others =
-      keeps_where s (HasCellsFor s (commands_in events)) (Needs events [] s) base old here (λ needs. omega (arith, needs.1)) (written_stays C state events s base old here on told run others)
+      keeps_where s (HasCellsFor s (commands_in events)) (Needs events [] s) base old here (λ needs. omega (arith, needs.1))
+      (written_stays C state events s base old here on told run others)
 
   -- steps, and what follows
-  after_steps : (n : ℕ) (rs more : List Replied) (here next new : C) → n + commands_among more ≤ commands_among rs → (NeverReopens rs → NeverReopens more) → MakesSteps C state n here next → KeepsFrom more next new
+  after_steps : (n : ℕ) (rs more : List Replied) (here next new : C) → n + commands_among more ≤ commands_among rs → (NeverReopens rs → NeverReopens more) →
+      MakesSteps C state n here next → KeepsFrom more next new
       → KeepsFrom rs here new
   after_steps n rs more here next new few fewer makes rest events s base old on told encodes enough run others =
       keeps_where s (Needs (events ++ makes.0) more s) (Needs events rs s) base old new
       (λ needs. (fewer needs.0, omega (arith, needs.1, few, makes.1.1, commands-append events makes.0)))
-      (rest (events ++ makes.0) s base old on told encodes enough (run_on C state events makes.0 old here next run makes.1.0) (all_on (λ e. IsNoGcStep e.step) events makes.0 others makes.1.2))
+      (rest (events ++ makes.0) s base old on told encodes enough (run_on C state events makes.0 old here next run makes.1.0)
+      (all_on (λ e. IsNoGcStep e.step) events makes.0 others makes.1.2))
 
   -- where nothing but reads follows
   after_reads : (rs : List Replied) (here new : C) → OnlyReads (state here).disk (state new).disk → KeepsFrom rs here new
@@ -109,18 +114,21 @@ module _ (C : Type 0) (state : C → CoreState) where
       )
 
   -- an opening, and what follows: of the journal nothing is said
-  after_opening : (rs more : List Replied) (here mid new : C) → (NeverReopens rs → ⊥) → IsNew (Shows (state here).disk (state mid).disk) (state here).disk.size (state mid) → IsDurable (state mid).disk
+  after_opening : (rs more : List Replied) (here mid new : C) → (NeverReopens rs → ⊥) → IsNew (Shows (state here).disk (state mid).disk) (state here).disk.size (state mid) →
+      IsDurable (state mid).disk
       → Reads Done (state here).disk (state mid).disk → KeepsFrom more mid new → KeepsFrom rs here new
   after_opening rs more here mid new again opened durable reads rest events s base old on told encodes enough run others =
       let first = keeps_where s (HasCellsFor s (commands_in events)) ⊥ base old here (λ none. absurd none) (written_stays C state events s base old here on told run others) in
       let later = run_later C state events old here run in
       let image : List ℕ = first.0.0 in
       let there = opened_by image (state here).disk (state mid) opened durable reads first.0.1 in
-      let last = keeps_where there.store (Needs [] more there.store) ⊥ image mid new (λ none. absurd none) (rest [] there.store image mid there.on there.told there.encodes there.reserve refl tt) in
+      let last = keeps_where there.store (Needs [] more there.store) ⊥ image mid new (λ none. absurd none)
+      (rest [] there.store image mid there.on there.told there.encodes there.reserve refl tt) in
       let weaker = keeps_on s there.store base image first.0.2 encodes there.encodes in
       let after = leaves_weaker (KeepsContainers there.store image) (KeepsContainers s base) (state mid).disk (state new).disk weaker last.1 in
       let between = reads_leave (KeepsContainers s base) (state here).disk (state mid).disk first.1.now reads.only in
-      let on_from = leaves_on (KeepsContainers s base) (KeepsContainers s base) (KeepsContainers s base) (state here).disk (state mid).disk (state new).disk reads.only.later.clock_is between after
+      let on_from = leaves_on (KeepsContainers s base) (KeepsContainers s base) (KeepsContainers s base) (state here).disk (state mid).disk (state new).disk
+      reads.only.later.clock_is between after
       (λ c keeps. keeps) (λ c keeps. keeps) in
       keeps_where s ⊥ (Needs events rs s) base old new (λ needs. again needs.0) (
         (last.0.0, last.0.1, weaker last.0.0 last.0.2),
@@ -132,7 +140,8 @@ module _ (C : Type 0) (state : C → CoreState) where
 
   -- two slots are closed, so no room is made
   no_room : (image : List ℕ) (v w : DiskView) → v.content ≡ Some image → HasReserveIn image → IsShort (Shows v w) v.size → ⊥
-  no_room image v w told has short = let enough = has short.store (shown_content v w (λ bytes. Encodes bytes short.store) image short.right told) in omega (arith, enough, short.few)
+  no_room image v w told has short = let enough = has short.store (shown_content v w (λ bytes. Encodes bytes short.store) image short.right told) in omega
+      (arith, enough, short.few)
 
   abbrev disk_of : C → DiskView
   disk_of c = (state c).disk
@@ -143,7 +152,8 @@ module _ (C : Type 0) (state : C → CoreState) where
   was_read image v c told has (inr (x, (room, read))) = absurd (no_room image v (disk_of x) told has room.short)
 
   -- or only that
-  refused_reads : (refusal : Refusal) (image : List ℕ) (old new : C) → (state old).disk.content ≡ Some image → HasReserveIn image → RefusesReopen C state refusal old new → OnlyReads (state old).disk (state new).disk
+  refused_reads : (refusal : Refusal) (image : List ℕ) (old new : C) → (state old).disk.content ≡ Some image → HasReserveIn image → RefusesReopen C state refusal old new →
+      OnlyReads (state old).disk (state new).disk
   refused_reads refusal image old new told has refuses = elim refuses.why [
     | inl memory ↦ subst (λ (c : C). OnlyReads (state old).disk (state c).disk) (sym memory.1) (reads_here (state old).disk)
     | inr (none, inl (kept, reads)) ↦ reads.only
@@ -153,7 +163,8 @@ module _ (C : Type 0) (state : C → CoreState) where
     ]
   ]
 
-  after_reopen : (reply : ReplyValue) (rs more : List Replied) (r mid t : RunnerState C) → (NeverReopens rs → ⊥) → (ends lines.Reopen reply ≡ true → more ≡ []) → ActsReopen C state reply r mid
+  after_reopen : (reply : ReplyValue) (rs more : List Replied) (r mid t : RunnerState C) → (NeverReopens rs → ⊥) → (ends lines.Reopen reply ≡ true → more ≡ []) →
+      ActsReopen C state reply r mid
       → RunsLines C state more mid t → KeepsFrom more mid.core t.core → KeepsFrom rs r.core t.core
   after_reopen (replies.Opened files) rs more r mid t again last acts runs rest events s base old on told encodes enough run others =
       let here = reserve_stays C state events s base old r.core on told encodes enough run others in
@@ -170,7 +181,8 @@ module _ (C : Type 0) (state : C → CoreState) where
   after_reopen reply rs more r mid t again last acts runs rest events s base old on told encodes enough run others = absurd acts
 
   after_line : (line : LineValue) (reply : ReplyValue) (rs more : List Replied) (r mid t : RunnerState C) → (NeverReopens rs → (line ≢ lines.Reopen) × NeverReopens more)
-      → commands_of_line line + commands_among more ≤ commands_among rs → (ends line reply ≡ true → more ≡ []) → IsNoSweep line → RunsLine C state line reply r mid → RunsLines C state more mid t
+      → commands_of_line line + commands_among more ≤ commands_among rs → (ends line reply ≡ true → more ≡ []) → IsNoSweep line → RunsLine C state line reply r mid →
+      RunsLines C state more mid t
       → KeepsFrom more mid.core t.core → KeepsFrom rs r.core t.core
   after_line lines.Reopen reply rs more r mid t never few last unswept line runs rest = after_reopen reply rs more r mid t (λ none. (never none).0 refl) last line runs rest
   after_line line reply rs more r mid t never few last unswept made runs rest =
@@ -184,4 +196,5 @@ module _ (C : Type 0) (state : C → CoreState) where
 
   pub lines_keep : LinesKeepWritten C state
   lines_keep rs s base r t unswept on told encodes enough runs =
-      keeps_where s (Needs [] rs s) (NeedNoCheckpoint rs s) base r.core t.core (λ needs. (needs.0, omega (arith, needs.1))) (all rs r t unswept runs [] s base r.core on told encodes enough refl tt)
+      keeps_where s (Needs [] rs s) (NeedNoCheckpoint rs s) base r.core t.core (λ needs. (needs.0, omega (arith, needs.1)))
+      (all rs r t unswept runs [] s base r.core on told encodes enough refl tt)

@@ -47,7 +47,8 @@ AtPart (Finished file) session part = (core_kinds.kind_of part ≡ kinds.Writing
 AtPart (Reading root segments) session part = (session ≡ None) × ((ahead : List Top) × ((part ≡ reading root ahead) × AreNamed root segments ahead))
 
 pub part_kind : (d : Doing) (session : Option SessionState) (part : core_part.Part) → AtPart d session part → kind_by (has_ended session) (core_kinds.kind_of part) ≡ kind_of d
-part_kind Idle session part is = ap (λ (o : Option SessionState). kind_by (has_ended o) (core_kinds.kind_of part)) is.0 ∙ ap (λ (p : core_part.Part). kind_by None (core_kinds.kind_of p)) is.1
+part_kind Idle session part is = ap (λ (o : Option SessionState). kind_by (has_ended o) (core_kinds.kind_of part)) is.0
+    ∙ ap (λ (p : core_part.Part). kind_by None (core_kinds.kind_of p)) is.1
 part_kind (Writing given) session part is =
     ap (λ (o : Option SessionState). kind_by (has_ended o) (core_kinds.kind_of part)) is.1.1.0 ∙ ap (λ (b : Bool). kind_by (Some b) (core_kinds.kind_of part)) is.1.1.1.ended_is
 part_kind (Finished file) session part is =
@@ -71,11 +72,13 @@ given_on given ended s t is keeps =
     let now = keeps.history is.history is.has in
     record { history = now.0; has = now.1.0; given_is = now.1.1 ∙ is.given_is; ended_is = keeps.ended ∙ is.ended_is }
 
-pub given_in : (given : List ℕ) (ended : Bool) (session : Option SessionState) (s : SessionState) → session ≡ Some s → (t : SessionState) × ((session ≡ Some t) × IsGivenBy given ended t) → IsGivenBy given ended s
+pub given_in : (given : List ℕ) (ended : Bool) (session : Option SessionState) (s : SessionState) → session ≡ Some s →
+    (t : SessionState) × ((session ≡ Some t) × IsGivenBy given ended t) → IsGivenBy given ended s
 given_in given ended session s is has = subst (IsGivenBy given ended) (same_session has.0 s (sym has.1.0 ∙ is)) has.1.1
 
 -- it stays so where its session keeps what was given, and the core's part is one that gives a file
-pub session_kept : (d : Doing) (session : Option SessionState) (s t : SessionState) (x y : core_part.Part) → session ≡ Some s → Keeps s t → core_kinds.kind_of y ≡ kinds.Writing → AtPart d session x → AtPart d (Some t) y
+pub session_kept : (d : Doing) (session : Option SessionState) (s t : SessionState) (x y : core_part.Part) → session ≡ Some s → Keeps s t → core_kinds.kind_of y ≡ kinds.Writing →
+    AtPart d session x → AtPart d (Some t) y
 session_kept Idle session s t x y is keeps writing at = absurd (let both = sym at.0 ∙ is in cc)
 session_kept (Writing given) session s t x y is keeps writing at = (writing, (t, (refl, given_on given false s t (given_in given false session s is at.1) keeps)))
 session_kept (Finished file) session s t x y is keeps writing at = (writing, (t, (refl, given_on file true s t (given_in file true session s is at.1) keeps)))
@@ -118,7 +121,8 @@ pub record At (t : Account) (sessions : Sessions) (c : CoreState) : Type 0 where
   pub each : (actor : ℕ) → actor < ACTORS → AtPart (doing_of t actor) (session_of sessions actor) (part_of c.parts actor)
 
 -- no actor is at anything
-pub at_opened : (store : Store) (sessions : Sessions) (c : CoreState) → IsRunning c → Counts (opened store) c → sessions ≡ replicate ACTORS None → c.parts ≡ replicate ACTORS core_parts.Idle
+pub at_opened : (store : Store) (sessions : Sessions) (c : CoreState) → IsRunning c → Counts (opened store) c → sessions ≡ replicate ACTORS None →
+    c.parts ≡ replicate ACTORS core_parts.Idle
     → At (opened store) sessions c
 at_opened store sessions c running counts none idle = record {
   running = running;
@@ -153,7 +157,8 @@ module _ (t : Account) (sessions : Sessions) (old : CoreState) (at : At t sessio
   }
 
   -- or none is
-  pub at_still : (u : Account) (sessions_now : Sessions) (new : CoreState) → IsRunning new → Counts u new → u.doing ≡ t.doing → sessions_now ≡ sessions → new.parts ≡ old.parts → At u sessions_now new
+  pub at_still : (u : Account) (sessions_now : Sessions) (new : CoreState) → IsRunning new → Counts u new → u.doing ≡ t.doing → sessions_now ≡ sessions → new.parts ≡ old.parts →
+      At u sessions_now new
   at_still u sessions_now new running counts doing same parts = record {
     running = running;
     counts = counts;
@@ -162,7 +167,8 @@ module _ (t : Account) (sessions : Sessions) (old : CoreState) (at : At t sessio
     doing_are = ap (λ (x : List Doing). length x) doing ∙ at.doing_are;
     each = λ actor below.
         at_by (doing_of u actor) (doing_of t actor) (session_of sessions_now actor) (session_of sessions actor) (part_of new.parts actor) (part_of old.parts actor)
-        (ap (λ (x : List Doing). slice_index_or x actor Idle) doing) (ap (λ (x : Sessions). session_of x actor) same) (ap (λ (x : List core_part.Part). part_of x actor) parts) (at.each actor below);
+        (ap (λ (x : List Doing). slice_index_or x actor Idle) doing) (ap (λ (x : Sessions). session_of x actor) same) (ap (λ (x : List core_part.Part). part_of x actor) parts)
+        (at.each actor below);
   }
 
   module _ (runs : old.stop ≡ None) where
@@ -238,10 +244,12 @@ pub record Told (C : Type 0) (state : C → CoreState) (line : LineValue) (reply
   pub tells : TellsRunning line reply t next
   pub at : At next s.sessions (state s.core)
 
-module _ (C : Type 0) (state : C → CoreState) (line : LineValue) (reply : ReplyValue) (t : Account) (r s : RunnerState C) (at : At t r.sessions (state r.core)) (a : ℕ) (below : a < ACTORS)
+module _ (C : Type 0) (state : C → CoreState) (line : LineValue) (reply : ReplyValue) (t : Account) (r s : RunnerState C) (at : At t r.sessions (state r.core)) (a : ℕ)
+    (below : a < ACTORS)
     (quiet : Quiet a (state r.core) (state s.core)) where
   -- one actor is at something else
-  pub changes : (d : Doing) → Stands t.stopped (state s.core) → TellsRunning line reply t (with_doing t a d) → OneSet a None r.sessions s.sessions → AtPart d (session_of s.sessions a) (part_of (state s.core).parts a)
+  pub changes : (d : Doing) → Stands t.stopped (state s.core) → TellsRunning line reply t (with_doing t a d) → OneSet a None r.sessions s.sessions →
+      AtPart d (session_of s.sessions a) (part_of (state s.core).parts a)
       → Told C state line reply t s
   changes d stands tells one own = record {
     next = with_doing t a d;
@@ -260,7 +268,8 @@ module _ (C : Type 0) (state : C → CoreState) (line : LineValue) (reply : Repl
 
   module _ (stopped : Bool) (stands : Stands stopped (state s.core)) where
     -- or none is
-    pub stays : TellsRunning line reply t (record t { stopped = stopped }) → OneSet a None r.sessions s.sessions → AtPart (doing_of t a) (session_of s.sessions a) (part_of (state s.core).parts a) → Told C state line reply t s
+    pub stays : TellsRunning line reply t (record t { stopped = stopped }) → OneSet a None r.sessions s.sessions →
+        AtPart (doing_of t a) (session_of s.sessions a) (part_of (state s.core).parts a) → Told C state line reply t s
     stays tells one own = record {
       next = record t { stopped = stopped };
       tells = tells;
@@ -276,14 +285,16 @@ module _ (C : Type 0) (state : C → CoreState) (line : LineValue) (reply : Repl
     }
 
     -- its session is the same, and so is its part
-    pub still : TellsRunning line reply t (record t { stopped = stopped }) → s.sessions ≡ r.sessions → part_of (state s.core).parts a ≡ part_of (state r.core).parts a → Told C state line reply t s
+    pub still : TellsRunning line reply t (record t { stopped = stopped }) → s.sessions ≡ r.sessions → part_of (state s.core).parts a ≡ part_of (state r.core).parts a →
+        Told C state line reply t s
     still tells sessions part =
         stays tells (same_sessions t r.sessions (state r.core) at a below s.sessions sessions)
         (at_by (doing_of t a) (doing_of t a) (session_of s.sessions a) (session_of r.sessions a) (part_of (state s.core).parts a) (part_of (state r.core).parts a)
         refl (ap (λ (x : Sessions). session_of x a) sessions) part (at.each a below))
 
     -- its session keeps what was given
-    pub keeps : (was now : SessionState) → TellsRunning line reply t (record t { stopped = stopped }) → session_of r.sessions a ≡ Some was → s.sessions ≡ with_session r.sessions a (Some now) → Keeps was now → IsWriting a (state s.core)
+    pub keeps : (was now : SessionState) → TellsRunning line reply t (record t { stopped = stopped }) → session_of r.sessions a ≡ Some was →
+        s.sessions ≡ with_session r.sessions a (Some now) → Keeps was now → IsWriting a (state s.core)
         → Told C state line reply t s
     keeps was now tells session_is sessions kept writing =
         stays tells (one_session t r.sessions (state r.core) at a below s.sessions (Some now) sessions)
@@ -292,11 +303,14 @@ module _ (C : Type 0) (state : C → CoreState) (line : LineValue) (reply : Repl
         (session_kept (doing_of t a) (session_of r.sessions a) was now (part_of (state r.core).parts a) (part_of (state s.core).parts a) session_is kept writing (at.each a below)))
 
 -- there was no memory, where that is free
-pub no_memory : (C : Type 0) (state : C → CoreState) (line : LineValue) (refusal : Refusal) (t : Account) (r s : RunnerState C) → At t r.sessions (state r.core) → (state r.core).stop ≡ None → IsAtRightPart line t
+pub no_memory : (C : Type 0) (state : C → CoreState) (line : LineValue) (refusal : Refusal) (t : Account) (r s : RunnerState C) → At t r.sessions (state r.core) →
+    (state r.core).stop ≡ None → IsAtRightPart line t
     → RefusesOn line refusals.Memory t → refusal ≡ refusals.Memory → s.core ≡ r.core → s.sessions ≡ r.sessions → Told C state line (replies.Refused refusal) t s
 no_memory C state line refusal t r s at runs right free memory same sessions =
     let here : (c : C) → c ≡ r.core → Quiet 0 (state r.core) (state c) × Stands false (state c) = λ c is.
-    subst (λ (x : C). Quiet 0 (state r.core) (state x) × Stands false (state x)) (sym is) (quiet_here 0 (state r.core) at.running, (runs, told t r.sessions (state r.core) at runs)) in
+    subst (λ (x : C). Quiet 0 (state r.core) (state x) × Stands false (state x)) (sym is)
+    (quiet_here 0 (state r.core) at.running, (runs, told t r.sessions (state r.core) at runs)) in
     let ends = here s.core same in
     subst (λ (x : Refusal). Told C state line (replies.Refused x) t s) (sym memory)
-    (still C state line (replies.Refused refusals.Memory) t r s at 0 (omega arith) ends.0 false ends.1 (refuses line refusals.Memory t right free, refl) sessions (ap (λ (c : C). part_of (state c).parts 0) same))
+    (still C state line (replies.Refused refusals.Memory) t r s at 0 (omega arith) ends.0 false ends.1 (refuses line refusals.Memory t right free, refl) sessions
+    (ap (λ (c : C). part_of (state c).parts 0) same))

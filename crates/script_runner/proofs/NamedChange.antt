@@ -21,21 +21,23 @@ use Rattle.script_runner.specs.Named.{Account, HasNumbers, IsNumber, LacksNumber
 
 -- ---- numbers
 
-module _ (tables : Tables) (t : Account) (records : tables.journal.count ≡ t.records) (generation : tables.journal.generation ≡ t.generation) (last : tables.journal.last ≡ t.last) where
-  pub numbers_so : naming.HasNumbers tables → HasNumbers t
-  numbers_so has = record {
-    sequence = subst (λ (n : ℕ). n < 2 ^ 64 - 1) last has.sequence;
-    generation = λ full. subst (λ (n : ℕ). n < 2 ^ 64 - 1) generation (has.generation (omega (arith, full, records)));
-  }
+module _ (tables : Tables) (t : Account) (records : tables.journal.count ≡ t.records) (generation : tables.journal.generation ≡ t.generation) (last : tables.journal.last ≡ t.last)
+  where
+    pub numbers_so : naming.HasNumbers tables → HasNumbers t
+    numbers_so has = record {
+      sequence = subst (λ (n : ℕ). n < 2 ^ 64 - 1) last has.sequence;
+      generation = λ full. subst (λ (n : ℕ). n < 2 ^ 64 - 1) generation (has.generation (omega (arith, full, records)));
+    }
 
-  pub no_numbers_so : naming.LacksNumbers tables → LacksNumbers t
-  no_numbers_so (inl most) = inl (sym last ∙ most)
-  no_numbers_so (inr full) = inr (subst (λ (n : ℕ). half_cells ≤ n) records full.0, sym generation ∙ full.1)
+    pub no_numbers_so : naming.LacksNumbers tables → LacksNumbers t
+    no_numbers_so (inl most) = inl (sym last ∙ most)
+    no_numbers_so (inr full) = inr (subst (λ (n : ℕ). half_cells ≤ n) records full.0, sym generation ∙ full.1)
 
 -- ---- tables
 
 module _ (name : List ℕ) (change : Change) (answer : Answer) (between new : CoreState) (effect : NamesOne name change (Ok answer) between new) (up : IsUp between) (t : Account)
-    (names : between.tables.names ≡ t.names) (records : between.tables.journal.count ≡ t.records) (generation : between.tables.journal.generation ≡ t.generation) (last : between.tables.journal.last ≡ t.last) where
+    (names : between.tables.names ≡ t.names) (records : between.tables.journal.count ≡ t.records) (generation : between.tables.journal.generation ≡ t.generation)
+    (last : between.tables.journal.last ≡ t.last) where
   -- the store that the tables are of
   abbrev was : Runs between.disk.size None between.tables
   was = up.runs

@@ -170,7 +170,8 @@ record Swept (old mid : CoreState) : Type 0 where
   pub parts : mid.parts ≡ old.parts
 
 module _ (C : Type 0) (state : C → CoreState) where
-  swept : (phases : List Phase) (old mid : C) → CollectionRun C state phases old mid → IsRunning (state old) → (state old).stop ≡ None → IsTold (state old) → Swept (state old) (state mid)
+  swept : (phases : List Phase) (old mid : C) → CollectionRun C state phases old mid → IsRunning (state old) → (state old).stop ≡ None → IsTold (state old) →
+      Swept (state old) (state mid)
   swept [] old mid run running runs known =
       subst (λ (c : C). Swept (state old) (state c)) (sym run) (record { quiet = quiet_here 0 (state old) running; runs = runs; known = known; parts = refl })
   swept (phase ∷ phases) old mid run running runs known =
@@ -214,7 +215,8 @@ module _ (C : Type 0) (state : C → CoreState) (t : Account) (r s : RunnerState
   start_goes refusals.DiskWrite is = absurd is
   start_goes refusal is = refl
 
-  not_started : (percent : ℕ) (refusal : Refusal) → Admits (lines.Gc percent) r.sessions (state r.core) → Starts C state percent (Err refusal) r.core s.core → s.sessions ≡ r.sessions
+  not_started : (percent : ℕ) (refusal : Refusal) → Admits (lines.Gc percent) r.sessions (state r.core) → Starts C state percent (Err refusal) r.core s.core →
+      s.sessions ≡ r.sessions
       → Told C state (lines.Gc percent) (replies.Refused refusal) t s
   not_started percent refusal admits starts sessions =
       let e : Event = record { actor = 0; step = asked.GcStart percent; answer = Err refusal; buf = starts.0 } in
@@ -224,12 +226,14 @@ module _ (C : Type 0) (state : C → CoreState) (t : Account) (r s : RunnerState
       (refused_stands old new (asked.GcStart percent) 0 refusal starts.0 tt steps (told t r.sessions old at admits.runs))
       (refuses (lines.Gc percent) refusal t (no_actor (lines.Gc percent) t refl) is, refl) sessions (first_part (start_still percent old new (Err refusal) steps.made.row))
 
-  pub gc_told : (percent : ℕ) (reply : ReplyValue) → Admits (lines.Gc percent) r.sessions (state r.core) → Acts C state (lines.Gc percent) reply r s → Told C state (lines.Gc percent) reply t s
+  pub gc_told : (percent : ℕ) (reply : ReplyValue) → Admits (lines.Gc percent) r.sessions (state r.core) → Acts C state (lines.Gc percent) reply r s →
+      Told C state (lines.Gc percent) reply t s
   gc_told percent (replies.Collecting snapshot) admits acts =
       let e : Event = record { actor = 0; step = asked.GcStart percent; answer = Ok (answers.Started snapshot); buf = acts.0.0 } in
       let steps = running_step old new e admits.runs acts.0.1 in
       still C state (lines.Gc percent) (replies.Collecting snapshot) t r s at 0 (omega arith) (quiet_step old new e acts.0.1 tt at.running) t.stopped
-      (still_runs t r.sessions old at admits.runs new (done_stands old new (asked.GcStart percent) tt 0 (answers.Started snapshot) acts.0.0 steps (told t r.sessions old at admits.runs)))
+      (still_runs t r.sessions old at admits.runs new
+      (done_stands old new (asked.GcStart percent) tt 0 (answers.Started snapshot) acts.0.0 steps (told t r.sessions old at admits.runs)))
       refl acts.1 (first_part steps.made.row.1)
   gc_told percent (replies.Refused refusal) admits acts = not_started percent refusal admits acts.0 acts.1
   gc_told percent reply admits acts = absurd acts
@@ -254,7 +258,8 @@ module _ (C : Type 0) (state : C → CoreState) (t : Account) (r s : RunnerState
       let steps = running_step old new (gc_event answer acts.0.0) admits.runs acts.0.1 in
       still C state lines.GcStep (replies.Refused refusal) t r s at 0 (omega arith) (gc_quiet old new answer acts.0.0 steps acts.0.1 at.running) (stops refusal)
       (gc_stands old new refusal steps.stops steps.counted_is (gc_tells old new answer acts.0.0 steps (told t r.sessions old at admits.runs)))
-      (refuses lines.GcStep refusal t (no_actor lines.GcStep t refl) (of_collection old new refusal steps.made.row), refl) acts.1 (first_part (parts_still old new answer steps.made.row))
+      (refuses lines.GcStep refusal t (no_actor lines.GcStep t refl) (of_collection old new refusal steps.made.row), refl) acts.1
+      (first_part (parts_still old new answer steps.made.row))
   step_told reply admits acts = absurd acts
 
   -- ---- sweep
@@ -292,5 +297,6 @@ module _ (C : Type 0) (state : C → CoreState) (t : Account) (r s : RunnerState
       let steps = last_steps answer admits acts.0 in
       still C state lines.Sweep (replies.Refused refusal) t r s at 0 (omega arith) (all_quiet answer admits acts.0) (stops refusal)
       (gc_stands (state (mid answer admits acts.0)) new refusal steps.stops steps.counted_is (still_known answer admits acts.0))
-      (refuses lines.Sweep refusal t (no_actor lines.Sweep t refl) (of_collection (state (mid answer admits acts.0)) new refusal steps.made.row), refl) acts.1 (same_parts answer admits acts.0)
+      (refuses lines.Sweep refusal t (no_actor lines.Sweep t refl) (of_collection (state (mid answer admits acts.0)) new refusal steps.made.row), refl) acts.1
+      (same_parts answer admits acts.0)
   sweep_told reply admits acts = absurd acts

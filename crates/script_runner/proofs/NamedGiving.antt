@@ -77,7 +77,8 @@ commit_taken : (a : ℕ) (name : List ℕ) (d : Doing) → takes (lines.Commit a
 commit_taken a name (Finished file) is = (file, refl)
 commit_taken a name d is = absurd cc
 
-commit_idle : (name : List ℕ) (root : Root) (a : ℕ) (answer : Answer) (old new : CoreState) → CommitRow name root a (Ok answer) old new → new.parts ≡ with_part old.parts a core_parts.Idle
+commit_idle : (name : List ℕ) (root : Root) (a : ℕ) (answer : Answer) (old new : CoreState) → CommitRow name root a (Ok answer) old new →
+    new.parts ≡ with_part old.parts a core_parts.Idle
 commit_idle name root a (answers.Committed number) old new row = row.2
 commit_idle name root a answer old new row = absurd row
 
@@ -132,7 +133,8 @@ module _ (C : Type 0) (state : C → CoreState) (t : Account) (r s : RunnerState
         → Steps (record { actor = a; step = step; answer = answer; buf = buf }) old new
     stepped step answer buf made = running_step old new (record { actor = a; step = step; answer = answer; buf = buf }) runs made
 
-    done : (step : StepValue) → IsNoGcStep step → (answer : Answer) (buf : List ℕ) → StepsOr old.stop (record { actor = a; step = step; answer = Ok answer; buf = buf }) old new → Stands t.stopped new
+    done : (step : StepValue) → IsNoGcStep step → (answer : Answer) (buf : List ℕ) → StepsOr old.stop (record { actor = a; step = step; answer = Ok answer; buf = buf }) old new →
+        Stands t.stopped new
     done step no_gc answer buf made = runs_on (done_stands old new step no_gc a answer buf (stepped step (Ok answer) buf made) here.1)
 
     -- it gives a file
@@ -153,7 +155,19 @@ module _ (C : Type 0) (state : C → CoreState) (t : Account) (r s : RunnerState
       (acts.0, idle_taken a (doing_of t a) (taken t r.sessions old at (lines.Begin a) a below refl admits), refl)
       (one_session t r.sessions old at a below s.sessions (Some begins.1) begins.5) (
         begun_part begins.0 (stepped admits.runs asked.Begin (Ok begins.0) begins.2.0 begins.2.1).made.row,
-        (begins.1, (session_now t r.sessions old at a below s.sessions (Some begins.1) begins.5, record { history = no_history; has = begins.4; given_is = refl; ended_is = begins.3.ongoing })),
+        (
+          begins.1,
+          (
+            session_now t r.sessions old at a below s.sessions (Some begins.1) begins.5,
+            record {
+              history = no_history;
+              has = begins.4;
+              given_is = refl;
+              ended_is =
+                  begins.3.ongoing;
+            },
+          ),
+        ),
       )
   begin_told (replies.Refused refusal) admits acts =
       let right = taken t r.sessions old at (lines.Begin a) a below refl admits in
@@ -172,8 +186,10 @@ module _ (C : Type 0) (state : C → CoreState) (t : Account) (r s : RunnerState
     abbrev bytes : List ℕ
     bytes = pushed_bytes digits
 
-    not_pushed : (refusal : Refusal) (was now : SessionState) (given : List ℕ) → doing_of t a ≡ Writing given → Admits (lines.Push a digits) r.sessions (state r.core) → session_of r.sessions a ≡ Some was
-        → s.sessions ≡ with_session r.sessions a (Some now) → Feeds C state a (Err refusal) (pushed_bytes digits) was now r.core s.core → Told C state (lines.Push a digits) (replies.Refused refusal) t s
+    not_pushed : (refusal : Refusal) (was now : SessionState) (given : List ℕ) → doing_of t a ≡ Writing given → Admits (lines.Push a digits) r.sessions (state r.core) →
+        session_of r.sessions a ≡ Some was
+        → s.sessions ≡ with_session r.sessions a (Some now) → Feeds C state a (Err refusal) (pushed_bytes digits) was now r.core s.core →
+        Told C state (lines.Push a digits) (replies.Refused refusal) t s
     not_pushed refusal was now given is admits session_is sessions (inl stopped) =
         let turned = stopped_turned C state a refusal was now r.core s.core stopped.0 (gives admits.runs (Writing given) is tt) in
         let right = right_part (lines.Push a digits) a t refl (taken t r.sessions old at (lines.Push a digits) a below refl admits) in
@@ -190,7 +206,8 @@ module _ (C : Type 0) (state : C → CoreState) (t : Account) (r s : RunnerState
         (keeps C state (lines.Push a digits) (replies.Refused refusals.TooLong) t r s at a below turned.quiet false (turned.gives.runs, turned.gives.told) was now
         ((right, (given, (is, omega (arith, why.1, count, more)))), refl) session_is sessions turned.keeps turned.gives.writing)
 
-    pub push_told : (reply : ReplyValue) → Admits (lines.Push a digits) r.sessions (state r.core) → Acts C state (lines.Push a digits) reply r s → Told C state (lines.Push a digits) reply t s
+    pub push_told : (reply : ReplyValue) → Admits (lines.Push a digits) r.sessions (state r.core) → Acts C state (lines.Push a digits) reply r s →
+        Told C state (lines.Push a digits) reply t s
     push_told (replies.Pushed b count) admits acts =
         let does = acts.1 in
         let was : SessionState = does.0 in
@@ -206,7 +223,8 @@ module _ (C : Type 0) (state : C → CoreState) (t : Account) (r s : RunnerState
         let given_is : h.given ≡ given ++ bytes = ap (λ (l : List ℕ). l ++ bytes) gave.given_is in
         let counted = bytes_are_counted now h has in
         let few : count ≤ MOST_FILE = omega (arith, does.4, counted.0, counted.1) in
-        changes C state (lines.Push a digits) (replies.Pushed b count) t r s at a below turned.quiet (Writing (given ++ bytes)) (runs_on admits.runs (turned.gives.runs, turned.gives.told))
+        changes C state (lines.Push a digits) (replies.Pushed b count) t r s at a below turned.quiet (Writing (given ++ bytes))
+        (runs_on admits.runs (turned.gives.runs, turned.gives.told))
         (acts.0, (given, (writes.1, does.4 ∙ counted.0 ∙ ap length given_is, few, refl)))
         (one_session t r.sessions old at a below s.sessions (Some now) does.2.1) (
           turned.gives.writing,
@@ -255,7 +273,8 @@ module _ (C : Type 0) (state : C → CoreState) (t : Account) (r s : RunnerState
 
   -- ---- turn
 
-  one_turned : (answer : Option Answer) (was now : SessionState) → TakesTurn C state a (Ok answer) was now r.core s.core → Gives a old → Turned a was now (state r.core) (state s.core)
+  one_turned : (answer : Option Answer) (was now : SessionState) → TakesTurn C state a (Ok answer) was now r.core s.core → Gives a old →
+      Turned a was now (state r.core) (state s.core)
   one_turned None was now turn gives_so =
       record { quiet = idle_core turn.3; keeps = keeps_paused was now turn.0; gives = subst (λ (c : C). Gives a (state c)) (sym turn.3) gives_so }
   one_turned (Some answer) was now turn gives_so = turns_turned C state a (answer ∷ []) was now r.core s.core (now, s.core, turn, no_turns C state a now s.core) gives_so
@@ -277,13 +296,16 @@ module _ (C : Type 0) (state : C → CoreState) (t : Account) (r s : RunnerState
 
   -- ---- abort
 
-  aborted : (b : ℕ) (answer : Answer) → Admits (lines.Abort a) r.sessions (state r.core) → b ≡ a → DoesStep a asked.Abort answer (state r.core) (state s.core) → s.sessions ≡ with_session r.sessions a None
+  aborted : (b : ℕ) (answer : Answer) → Admits (lines.Abort a) r.sessions (state r.core) → b ≡ a → DoesStep a asked.Abort answer (state r.core) (state s.core) →
+      s.sessions ≡ with_session r.sessions a None
       → Told C state (lines.Abort a) (replies.Aborted b) t s
   aborted b answers.Aborted admits same does sessions =
       let row = (stepped admits.runs asked.Abort (Ok answers.Aborted) does.0 does.1).made.row in
-      changes C state (lines.Abort a) (replies.Aborted b) t r s at a below (quiet_step old new (event asked.Abort (Ok answers.Aborted) does.0) does.1 tt at.running) Idle (done admits.runs asked.Abort tt answers.Aborted does.0 does.1)
+      changes C state (lines.Abort a) (replies.Aborted b) t r s at a below (quiet_step old new (event asked.Abort (Ok answers.Aborted) does.0) does.1 tt at.running) Idle
+      (done admits.runs asked.Abort tt answers.Aborted does.0 does.1)
       (same, abort_taken a (doing_of t a) (taken t r.sessions old at (lines.Abort a) a below refl admits), refl)
-      (one_session t r.sessions old at a below s.sessions None sessions) (session_now t r.sessions old at a below s.sessions None sessions, part_now t r.sessions old at a below new core_parts.Idle row.1)
+      (one_session t r.sessions old at a below s.sessions None sessions)
+      (session_now t r.sessions old at a below s.sessions None sessions, part_now t r.sessions old at a below new core_parts.Idle row.1)
   aborted b answer admits same does sessions = absurd (stepped admits.runs asked.Abort (Ok answer) does.0 does.1).made.row
 
   -- none is refused
@@ -322,7 +344,8 @@ module _ (C : Type 0) (state : C → CoreState) (t : Account) (r s : RunnerState
       unnamed root refusal cause = absurd cause.1
 
     -- why it is refused: a turn is, or the name
-    put_refused : (refusal : Refusal) (was now : SessionState) → Admits (lines.Commit a name) r.sessions (state r.core) → Gives a (state r.core) → session_of r.sessions a ≡ Some was → s.sessions ≡ with_session r.sessions a (Some now)
+    put_refused : (refusal : Refusal) (was now : SessionState) → Admits (lines.Commit a name) r.sessions (state r.core) → Gives a (state r.core) →
+        session_of r.sessions a ≡ Some was → s.sessions ≡ with_session r.sessions a (Some now)
         → RefusesPut C state a name refusal was now r.core s.core → Told C state (lines.Commit a name) (replies.Refused refusal) t s
     put_refused refusal was now admits giving_now session_is sessions (inl stopped) =
         let turned = stopped_turned C state a refusal was now r.core s.core stopped giving_now in
@@ -337,14 +360,17 @@ module _ (C : Type 0) (state : C → CoreState) (t : Account) (r s : RunnerState
               let same_core : C → Type 0 = λ (c : C). Quiet a old (state c) × (Stands false (state c) × IsWriting a (state c)) in
               let ends : same_core s.core = subst same_core (sym memory.1) (first.quiet, ((first.gives.runs, first.gives.told), first.gives.writing)) in
               subst (λ (x : Refusal). Told C state (lines.Commit a name) (replies.Refused x) t s) (sym memory.0)
-              (keeps C state (lines.Commit a name) (replies.Refused refusals.Memory) t r s at a below ends.0 false ends.1.0 was now ((right, tt), refl) session_is sessions first.keeps ends.1.1)
+              (keeps C state (lines.Commit a name) (replies.Refused refusals.Memory) t r s at a below ends.0 false ends.1.0 was now ((right, tt), refl) session_is sessions
+              first.keeps ends.1.1)
           | inr refused ↦
               let e : Event = event (asked.Commit name made.3.0) (Err refusal) refused.0 in
               let steps = running_step (state made.1) new e first.gives.runs refused.1 in
               let quiet = quiet_on a old (state made.1) new first.quiet (quiet_step (state made.1) new e refused.1 tt first.gives.running) in
               let writing : IsWriting a new = ap (λ (parts : List core_part.Part). core_kinds.kind_of (part_of parts a)) steps.made.row.1 ∙ first.gives.writing in
-              keeps C state (lines.Commit a name) (replies.Refused refusal) t r s at a below quiet (stops refusal) (refused_stands (state made.1) new (asked.Commit name made.3.0) a refusal refused.0 tt steps first.gives.told)
-              was now (refuses (lines.Commit a name) refusal t right (unnamed made.1 first.quiet first.gives made.3.0 refusal steps.made.row.0), refl) session_is sessions first.keeps writing
+              keeps C state (lines.Commit a name) (replies.Refused refusal) t r s at a below quiet (stops refusal)
+              (refused_stands (state made.1) new (asked.Commit name made.3.0) a refusal refused.0 tt steps first.gives.told)
+              was now (refuses (lines.Commit a name) refusal t right (unnamed made.1 first.quiet first.gives made.3.0 refusal steps.made.row.0), refl) session_is sessions
+              first.keeps writing
         ]
 
     -- the name has the root of what was given
@@ -377,16 +403,21 @@ module _ (C : Type 0) (state : C → CoreState) (t : Account) (r s : RunnerState
       up = up_of between gives_mid.runs gives_mid.running
 
       number : (sequence : ℕ) → sequence ≡ min (between.tables.journal.last + 1) (2 ^ 64 - 1) → IsNumber sequence t
-      number = number_so name (Put root) answer between new effect up t (then_names mid first gives_mid) (then_records mid first gives_mid) (then_generation mid first gives_mid) last_here
+      number = number_so name (Put root) answer between new effect up t (then_names mid first gives_mid) (then_records mid first gives_mid) (then_generation mid first gives_mid)
+          last_here
 
       counts : Stands t.stopped new → Counts named new
       counts stands = record {
         stands = stands;
         acknowledged = steps.counted_is ∙ one_counted answer between.acknowledged steps.made.row ∙ ap one_more (first.acknowledged ∙ at.counts.acknowledged);
-        names = names_now name (Put root) answer between new effect up t (then_names mid first gives_mid) (then_records mid first gives_mid) (then_generation mid first gives_mid) last_here;
-        generation = generation_now name (Put root) answer between new effect up t (then_names mid first gives_mid) (then_records mid first gives_mid) (then_generation mid first gives_mid) last_here;
-        records = records_now name (Put root) answer between new effect up t (then_names mid first gives_mid) (then_records mid first gives_mid) (then_generation mid first gives_mid) last_here;
-        last = last_now name (Put root) answer between new effect up t (then_names mid first gives_mid) (then_records mid first gives_mid) (then_generation mid first gives_mid) last_here;
+        names = names_now name (Put root) answer between new effect up t (then_names mid first gives_mid) (then_records mid first gives_mid) (then_generation mid first gives_mid)
+            last_here;
+        generation = generation_now name (Put root) answer between new effect up t (then_names mid first gives_mid) (then_records mid first gives_mid)
+            (then_generation mid first gives_mid) last_here;
+        records = records_now name (Put root) answer between new effect up t (then_names mid first gives_mid) (then_records mid first gives_mid)
+            (then_generation mid first gives_mid) last_here;
+        last = last_now name (Put root) answer between new effect up t (then_names mid first gives_mid) (then_records mid first gives_mid) (then_generation mid first gives_mid)
+            last_here;
       }
 
       changed : ChangesOne a between.parts new.parts
@@ -405,9 +436,12 @@ module _ (C : Type 0) (state : C → CoreState) (t : Account) (r s : RunnerState
           (at_by (doing_of named a) Idle (session_of s.sessions a) None (part_of new.parts a) core_parts.Idle
           (doing_now t r.sessions old at a below Idle) (session_now t r.sessions old at a below s.sessions None sessions) idle (refl, refl))
 
-    committed : (b sequence : ℕ) (mid : C) (was ready : SessionState) (told : List Answer) (root : Root) (answer : Answer) → Admits (lines.Commit a name) r.sessions (state r.core) → b ≡ a
-        → session_of r.sessions a ≡ Some was → TurnRun C state a told was ready r.core mid → IsReady root ready → DoesStep a (asked.Commit name root) answer (state mid) (state s.core)
-        → sequence ≡ min ((state mid).tables.journal.last + 1) (2 ^ 64 - 1) → s.sessions ≡ with_session r.sessions a None → Told C state (lines.Commit a name) (replies.Committed b sequence) t s
+    committed : (b sequence : ℕ) (mid : C) (was ready : SessionState) (told : List Answer) (root : Root) (answer : Answer) →
+        Admits (lines.Commit a name) r.sessions (state r.core) → b ≡ a
+        → session_of r.sessions a ≡ Some was → TurnRun C state a told was ready r.core mid → IsReady root ready →
+        DoesStep a (asked.Commit name root) answer (state mid) (state s.core)
+        → sequence ≡ min ((state mid).tables.journal.last + 1) (2 ^ 64 - 1) → s.sessions ≡ with_session r.sessions a None →
+        Told C state (lines.Commit a name) (replies.Committed b sequence) t s
     committed b sequence mid was ready told root answer admits same session_is run is_ready does sequence_is sessions =
         let has = commit_taken a name (doing_of t a) (taken t r.sessions old at (lines.Commit a name) a below refl admits) in
         let file : List ℕ = has.0 in
@@ -431,11 +465,13 @@ module _ (C : Type 0) (state : C → CoreState) (t : Account) (r s : RunnerState
           at = named_at mid answer root does.0 turned.quiet turned.gives steps stands (step_runs (state mid) new e does.1 turned.gives.running) sessions;
         }
 
-    pub commit_told : (reply : ReplyValue) → Admits (lines.Commit a name) r.sessions (state r.core) → Acts C state (lines.Commit a name) reply r s → Told C state (lines.Commit a name) reply t s
+    pub commit_told : (reply : ReplyValue) → Admits (lines.Commit a name) r.sessions (state r.core) → Acts C state (lines.Commit a name) reply r s →
+        Told C state (lines.Commit a name) reply t s
     commit_told (replies.Committed b sequence) admits acts =
         let commits = acts.1 in
         let puts = commits.2 in
-        committed b sequence puts.mid commits.0 puts.ready puts.answers_are puts.root puts.answer admits acts.0 commits.1 puts.turns puts.is_ready puts.put puts.sequence_is commits.3
+        committed b sequence puts.mid commits.0 puts.ready puts.answers_are puts.root puts.answer admits acts.0 commits.1 puts.turns puts.is_ready puts.put puts.sequence_is
+        commits.3
     commit_told (replies.Refused refusal) admits acts =
         let refused = acts in
         let has = commit_taken a name (doing_of t a) (taken t r.sessions old at (lines.Commit a name) a below refl admits) in

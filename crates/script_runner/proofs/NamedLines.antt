@@ -54,7 +54,8 @@ shown_in v old mid w store before between after shown = record {
   shows = λ image sized has. shown.shows image (sized ∙ sym before.size_is) has;
 }
 
-tells_on : (Shown More : Store → Type 0) → ((store : Store) → Shown store → More store) → (line : LineValue) (reply : ReplyValue) (t u : Account) → Tells Shown line reply t u → Tells More line reply t u
+tells_on : (Shown More : Store → Type 0) → ((store : Store) → Shown store → More store) → (line : LineValue) (reply : ReplyValue) (t u : Account) → Tells Shown line reply t u →
+    Tells More line reply t u
 tells_on Shown More each lines.Reopen (replies.Opened files) t u tells = (tells.0, (each tells.0 tells.1.0, tells.1.1, tells.1.2))
 tells_on Shown More each line reply t u tells = tells
 
@@ -194,7 +195,8 @@ module _ (C : Type 0) (state : C → CoreState) (v : DiskView) (t : Account) (r 
     | inr (none, inr stops) ↦ (record t { stopped = true }, (inr refl, stopped refusal stops))
   ]
 
-  not_reopened : (refusal : Refusal) → RefusesReopen C state refusal r.core s.core → s.sessions ≡ r.sessions → LineTold C state (WasShown v (state s.core).disk) lines.Reopen (replies.Refused refusal) t s
+  not_reopened : (refusal : Refusal) → RefusesReopen C state refusal r.core s.core → s.sessions ≡ r.sessions →
+      LineTold C state (WasShown v (state s.core).disk) lines.Reopen (replies.Refused refusal) t s
   not_reopened refusal acts sessions =
       let left = unopened refusal acts in
       record {
@@ -233,18 +235,22 @@ module _ (C : Type 0) (state : C → CoreState) (v : DiskView) (t : Account) (r 
   acts_told lines.Reopen reply of admits acts = absurd acts
 
   -- the actor is at something that the line does not take
-  wrong_part : (line : LineValue) (refusal : Refusal) → IsOfActor line → (state r.core).stop ≡ None → BarsBy None line r.sessions (state r.core) refusal → Refuses line refusal t × (t ≡ record t { stopped = stops refusal })
+  wrong_part : (line : LineValue) (refusal : Refusal) → IsOfActor line → (state r.core).stop ≡ None → BarsBy None line r.sessions (state r.core) refusal →
+      Refuses line refusal t × (t ≡ record t { stopped = stops refusal })
   wrong_part line refusal of runs bars =
       let actor : ℕ = bars.0 in
       let old = state r.core in
-      let kind_is : kind_in r.sessions old.parts actor ≡ kind_of (doing_of t actor) = part_kind (doing_of t actor) (session_of r.sessions actor) (part_of old.parts actor) (at.each actor (of actor bars.1)) in
+      let kind_is : kind_in r.sessions old.parts actor ≡ kind_of (doing_of t actor) = part_kind (doing_of t actor) (session_of r.sessions actor) (part_of old.parts actor)
+      (at.each actor (of actor bars.1)) in
       let running : t.stopped ≡ false = going t r.sessions old at runs in
       subst (λ (x : Refusal). Refuses line x t × (t ≡ record t { stopped = stops x })) (sym bars.3)
       (record { actor = actor; actor_is = bars.1; kind_is = kind_is; wrong = bars.2 }, ap (λ (b : Bool). let u : Account = record t { stopped = b } in u) running)
 
   -- why a line is not taken
-  barred : (stop : Option Stop) (line : LineValue) (refusal : Refusal) → IsOfActor line → (state r.core).stop ≡ stop → BarsBy stop line r.sessions (state r.core) refusal → TellsBy t.stopped line (replies.Refused refusal) t t
-  barred None line refusal of is bars = subst (λ (b : Bool). TellsBy b line (replies.Refused refusal) t t) (sym (going t r.sessions (state r.core) at is)) (wrong_part line refusal of is bars)
+  barred : (stop : Option Stop) (line : LineValue) (refusal : Refusal) → IsOfActor line → (state r.core).stop ≡ stop → BarsBy stop line r.sessions (state r.core) refusal →
+      TellsBy t.stopped line (replies.Refused refusal) t t
+  barred None line refusal of is bars = subst (λ (b : Bool). TellsBy b line (replies.Refused refusal) t t) (sym (going t r.sessions (state r.core) at is))
+      (wrong_part line refusal of is bars)
   barred (Some stop) line refusal of is bars =
       let so = stopped_so t.stopped stop (state r.core) at.counts.stands is in
       subst (λ (b : Bool). TellsBy b line (replies.Refused refusal) t t) (sym so.0)
@@ -281,7 +287,8 @@ module _ (C : Type 0) (state : C → CoreState) (v : DiskView) where
       let mid : RunnerState C = runs.1.0 in
       later_on (state r.core).disk (state mid.core).disk (state s.core).disk (line_went C state one.line one.reply r mid runs.1.1.0).later (lines_later more mid s runs.1.1.1)
 
-  all_tell : (rs : List Replied) (t : Account) (r s : RunnerState C) → IsLater v (state r.core).disk → At t r.sessions (state r.core) → AreOfActors rs → RunsLines C state rs r s → AllTell (WasShown v (state s.core).disk) rs t
+  all_tell : (rs : List Replied) (t : Account) (r s : RunnerState C) → IsLater v (state r.core).disk → At t r.sessions (state r.core) → AreOfActors rs → RunsLines C state rs r s →
+      AllTell (WasShown v (state s.core).disk) rs t
   all_tell [] t r s later at actors runs = tt
   all_tell (one ∷ more) t r s later at actors runs =
       let mid : RunnerState C = runs.1.0 in
@@ -289,7 +296,8 @@ module _ (C : Type 0) (state : C → CoreState) (v : DiskView) where
       let later_mid = later_on v (state r.core).disk (state mid.core).disk later (line_went C state one.line one.reply r mid runs.1.1.0).later in (
         told.next,
         (
-          tells_on (WasShown v (state mid.core).disk) (WasShown v (state s.core).disk) (shown_on (state mid.core).disk (state s.core).disk later_mid (lines_later more mid s runs.1.1.1)) one.line one.reply t told.next told.tells,
+          tells_on (WasShown v (state mid.core).disk) (WasShown v (state s.core).disk)
+              (shown_on (state mid.core).disk (state s.core).disk later_mid (lines_later more mid s runs.1.1.1)) one.line one.reply t told.next told.tells,
           all_tell more told.next mid s later_mid told.at actors.1 runs.1.1.1,
         ),
       )

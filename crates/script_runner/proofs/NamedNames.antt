@@ -72,10 +72,12 @@ module _ (C : Type 0) (state : C → CoreState) (t : Account) (r s : RunnerState
         let steps = running_step old new e admits.runs refused.1 in
         still C state (lines.Delete name) (replies.Refused refusal) t r s at 0 first_below (quiet_step old new e refused.1 tt at.running) (stops refusal)
         (refused_stands old new (asked.Delete name) 0 refusal refused.0 tt steps (told t r.sessions old at admits.runs))
-        (refuses (lines.Delete name) refusal t (no_actor (lines.Delete name) t refl) (undeleted refusal steps.made.row.0), refl) sessions (ap (λ (parts : List core_part.Part). part_of parts 0) steps.made.row.1)
+        (refuses (lines.Delete name) refusal t (no_actor (lines.Delete name) t refl) (undeleted refusal steps.made.row.0), refl) sessions
+        (ap (λ (parts : List core_part.Part). part_of parts 0) steps.made.row.1)
 
     -- it is gone
-    deleted : (number sequence : ℕ) (buf : List ℕ) → Admits (lines.Delete name) r.sessions (state r.core) → CoreStep (state r.core) (event (Ok (answers.Deleted number)) buf) (state s.core) → s.sessions ≡ r.sessions
+    deleted : (number sequence : ℕ) (buf : List ℕ) → Admits (lines.Delete name) r.sessions (state r.core) →
+        CoreStep (state r.core) (event (Ok (answers.Deleted number)) buf) (state s.core) → s.sessions ≡ r.sessions
         → sequence ≡ min ((state r.core).tables.journal.last + 1) (2 ^ 64 - 1) → Told C state (lines.Delete name) (replies.Deleted sequence) t s
     deleted number sequence buf admits made sessions sequence_is =
         let e = event (Ok (answers.Deleted number)) buf in
@@ -91,7 +93,8 @@ module _ (C : Type 0) (state : C → CoreState) (t : Account) (r s : RunnerState
           );
           at = at_still t r.sessions old at (without_name name t) s.sessions new (step_runs old new e made at.running)
               (record {
-                stands = still_runs t r.sessions old at admits.runs new (done_stands old new (asked.Delete name) tt 0 (answers.Deleted number) buf steps (told t r.sessions old at admits.runs));
+                stands = still_runs t r.sessions old at admits.runs new
+                    (done_stands old new (asked.Delete name) tt 0 (answers.Deleted number) buf steps (told t r.sessions old at admits.runs));
                 acknowledged = steps.counted_is ∙ ap one_more at.counts.acknowledged;
                 names = names_now name Delete (answers.Deleted number) old new effect up t at.counts.names at.counts.records at.counts.generation at.counts.last;
                 generation = generation_now name Delete (answers.Deleted number) old new effect up t at.counts.names at.counts.records at.counts.generation at.counts.last;
@@ -100,12 +103,14 @@ module _ (C : Type 0) (state : C → CoreState) (t : Account) (r s : RunnerState
               }) refl sessions steps.made.row.2;
         }
 
-    by_answer : (answer : Answer) (sequence : ℕ) → Admits (lines.Delete name) r.sessions (state r.core) → DoesStep 0 (asked.Delete name) answer (state r.core) (state s.core) → s.sessions ≡ r.sessions
+    by_answer : (answer : Answer) (sequence : ℕ) → Admits (lines.Delete name) r.sessions (state r.core) → DoesStep 0 (asked.Delete name) answer (state r.core) (state s.core) →
+        s.sessions ≡ r.sessions
         → sequence ≡ min ((state r.core).tables.journal.last + 1) (2 ^ 64 - 1) → Told C state (lines.Delete name) (replies.Deleted sequence) t s
     by_answer (answers.Deleted number) sequence admits does sessions is = deleted number sequence does.0 admits does.1 sessions is
     by_answer answer sequence admits does sessions is = absurd (running_step old new (event (Ok answer) does.0) admits.runs does.1).made.row
 
-    pub delete_told : (reply : ReplyValue) → Admits (lines.Delete name) r.sessions (state r.core) → Acts C state (lines.Delete name) reply r s → Told C state (lines.Delete name) reply t s
+    pub delete_told : (reply : ReplyValue) → Admits (lines.Delete name) r.sessions (state r.core) → Acts C state (lines.Delete name) reply r s →
+        Told C state (lines.Delete name) reply t s
     delete_told (replies.Deleted sequence) admits acts = by_answer acts.0.answer sequence admits acts.0.deleted acts.1 acts.0.sequence_is
     delete_told (replies.Refused refusal) admits acts = not_deleted refusal admits acts.0 acts.1
     delete_told reply admits acts = absurd acts
@@ -115,7 +120,8 @@ module _ (C : Type 0) (state : C → CoreState) (t : Account) (r s : RunnerState
   abbrev asks_list : Result Answer Refusal → List ℕ → Event
   asks_list answer buf = record { actor = 0; step = asked.ListNames; answer = answer; buf = buf }
 
-  listed : (files : List NamedRoot) → Admits lines.ListNames r.sessions (state r.core) → Lists C state (Ok files) r.core s.core → s.sessions ≡ r.sessions → Told C state lines.ListNames (replies.Listed files) t s
+  listed : (files : List NamedRoot) → Admits lines.ListNames r.sessions (state r.core) → Lists C state (Ok files) r.core s.core → s.sessions ≡ r.sessions →
+      Told C state lines.ListNames (replies.Listed files) t s
   listed files admits does sessions =
       let e = asks_list (Ok (answers.Listed files)) does.0 in
       let steps = running_step old new e admits.runs does.1 in
@@ -123,7 +129,8 @@ module _ (C : Type 0) (state : C → CoreState) (t : Account) (r s : RunnerState
       (still_runs t r.sessions old at admits.runs new (done_stands old new asked.ListNames tt 0 (answers.Listed files) does.0 steps (told t r.sessions old at admits.runs)))
       (steps.made.row.0 ∙ ap (λ (names : NameMap). listing_of names) at.counts.names, refl) sessions (ap (λ (parts : List core_part.Part). part_of parts 0) steps.made.row.1)
 
-  not_listed : (refusal : Refusal) → Admits lines.ListNames r.sessions (state r.core) → Lists C state (Err refusal) r.core s.core → s.sessions ≡ r.sessions → Told C state lines.ListNames (replies.Refused refusal) t s
+  not_listed : (refusal : Refusal) → Admits lines.ListNames r.sessions (state r.core) → Lists C state (Err refusal) r.core s.core → s.sessions ≡ r.sessions →
+      Told C state lines.ListNames (replies.Refused refusal) t s
   not_listed refusals.Memory admits does sessions =
       let e = asks_list (Err refusals.Memory) does.0 in
       let steps = running_step old new e admits.runs does.1 in

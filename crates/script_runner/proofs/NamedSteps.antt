@@ -149,7 +149,8 @@ module _ (old new : CoreState) where
       let was = up.runs in
       ap (λ (a : Answer). counted (Ok a) count) (is.store_has was.store was.represents was.valid was.has_free)
 
-  counted_on : (step : StepValue) (answer : Result Answer Refusal) (actor : ℕ) (buf : List ℕ) (count : ℕ) → PutsNone step answer → Row step actor answer buf old new → IsUp old → counted answer count ≡ count
+  counted_on : (step : StepValue) (answer : Result Answer Refusal) (actor : ℕ) (buf : List ℕ) (count : ℕ) → PutsNone step answer → Row step actor answer buf old new → IsUp old →
+      counted answer count ≡ count
   counted_on (asked.Commit name root) (Ok answer) actor buf count none row up = absurd none
   counted_on (asked.Delete name) (Ok answer) actor buf count none row up = absurd none
   counted_on asked.Stat (Ok answer) actor buf count none row up = counts_none answer count up row.0
@@ -200,10 +201,12 @@ module _ (old new : CoreState) where
   told_done asked.Stat answer no_gc effect told = same_told effect.tables.index_is told
 
   -- a step that is done stops nothing
-  pub done_stands : (step : StepValue) → IsNoGcStep step → (actor : ℕ) (answer : Answer) (buf : List ℕ) → Steps (record { actor = actor; step = step; answer = Ok answer; buf = buf }) old new → IsTold old → Stands false new
+  pub done_stands : (step : StepValue) → IsNoGcStep step → (actor : ℕ) (answer : Answer) (buf : List ℕ) →
+      Steps (record { actor = actor; step = step; answer = Ok answer; buf = buf }) old new → IsTold old → Stands false new
   done_stands step no_gc actor answer buf steps told = (steps.stops, told_done step answer no_gc steps.made.effect told)
 
-  told_refused : (step : StepValue) (refusal : Refusal) → MeetsNone step refusal → new.stop ≡ None → StopsAfter step (Err refusal) old.acknowledged new.stop → Effect step (Err refusal) old new → IsTold old → IsTold new
+  told_refused : (step : StepValue) (refusal : Refusal) → MeetsNone step refusal → new.stop ≡ None → StopsAfter step (Err refusal) old.acknowledged new.stop →
+      Effect step (Err refusal) old new → IsTold old → IsTold new
   told_refused asked.Begin refusal meets stays stops effect told = same_told effect.tables.index_is told
   told_refused (asked.Claim seg) refusal meets stays stops effect told = same_told effect.tables.index_is told
   told_refused (asked.Seal filled) refusal meets stays stops effect told = same_told (seal_kept old new stays filled refusal old.acknowledged stops effect.kept).index_is told
@@ -219,14 +222,17 @@ module _ (old new : CoreState) where
   told_refused asked.Stat refusal meets stays stops effect told = same_told effect.tables.index_is told
 
   -- and one that is refused only where a write or a sync failed
-  stands_by : (step : StepValue) (refusal : Refusal) → MeetsNone step refusal → StopsAfter step (Err refusal) old.acknowledged new.stop → new.acknowledged ≡ old.acknowledged → (new.stop ≡ None → IsTold new) → Stands (stops refusal) new
+  stands_by : (step : StepValue) (refusal : Refusal) → MeetsNone step refusal → StopsAfter step (Err refusal) old.acknowledged new.stop → new.acknowledged ≡ old.acknowledged →
+      (new.stop ≡ None → IsTold new) → Stands (stops refusal) new
   stands_by step refusals.DiskWrite meets after counted_is told = (record { refusal = refusals.DiskWrite; at = old.acknowledged }, (after, sym counted_is))
   stands_by (asked.Seal filled) (refusals.Damaged at_byte why) meets after counted_is told = absurd meets
   stands_by step refusal meets after counted_is told = (after, told after)
 
-  pub refused_stands : (step : StepValue) (actor : ℕ) (refusal : Refusal) (buf : List ℕ) → MeetsNone step refusal → Steps (record { actor = actor; step = step; answer = Err refusal; buf = buf }) old new → IsTold old
+  pub refused_stands : (step : StepValue) (actor : ℕ) (refusal : Refusal) (buf : List ℕ) → MeetsNone step refusal →
+      Steps (record { actor = actor; step = step; answer = Err refusal; buf = buf }) old new → IsTold old
       → Stands (stops refusal) new
-  refused_stands step actor refusal buf meets steps told = stands_by step refusal meets steps.stops steps.counted_is (λ stays. told_refused step refusal meets stays steps.stops steps.made.effect told)
+  refused_stands step actor refusal buf meets steps told =
+      stands_by step refusal meets steps.stops steps.counted_is (λ stays. told_refused step refusal meets stays steps.stops steps.made.effect told)
 
   asks_quiet : (actor : ℕ) (due : Due) (s : SessionState) (answer : Result Answer Refusal) → Asks actor due s answer old new → IsRunning old → Quiet actor old new
   asks_quiet actor Claim s answer asks running = quiet_step (record { actor = actor; step = asked.Claim asks.0; answer = answer; buf = asks.1 }) asks.3 tt running
@@ -320,7 +326,14 @@ module _ (actor : ℕ) (old new : CoreState) (gives : Gives actor old) where
   -- ---- a step that is due
 
   goes_on : Quiet actor old new → Stands false new → IsWriting actor new → Gives actor new
-  goes_on quiet stands writing = record { running = quiet.running; runs = stands.0; told = stands.1; within = subst (λ (n : ℕ). actor < n) (sym quiet.many) gives.within; writing = writing }
+  goes_on quiet stands writing = record {
+    running = quiet.running;
+    runs = stands.0;
+    told = stands.1;
+    within = subst (λ (n : ℕ). actor < n) (sym quiet.many) gives.within;
+    writing =
+        writing;
+  }
 
   asks_done : (due : Due) (s : SessionState) (answer : Answer) → Asks actor due s (Ok answer) old new → Quiet actor old new → Gives actor new
   asks_done Claim s answer asks quiet =
@@ -356,21 +369,25 @@ pub record Unturned (actor : ℕ) (refusal : Refusal) (s t : SessionState) (old 
   pub writing : IsWriting actor new
 
 module _ (C : Type 0) (state : C → CoreState) (actor : ℕ) where
-  turns_given : (answers : List Answer) (s t : SessionState) (old new : C) → TurnRun C state actor answers s t old new → (h : History) → HasHistory s h → (k : History) × (HasHistory t k × (k.given ≡ h.given))
+  turns_given : (answers : List Answer) (s t : SessionState) (old new : C) → TurnRun C state actor answers s t old new → (h : History) → HasHistory s h →
+      (k : History) × (HasHistory t k × (k.given ≡ h.given))
   turns_given [] s t old new run h has = (keeps_paused s t run.0).history h has
   turns_given (answer ∷ answers) s t old new run h has =
       let before = run.2.paused.places h has in
       let now = turns_given answers run.0 t run.1 new run.3 _ (run.2.history _ before.1) in
       (now.0, (now.1.0, now.1.1))
 
-  turns_quiet : (answers : List Answer) (s t : SessionState) (old new : C) → TurnRun C state actor answers s t old new → Gives actor (state old) → Quiet actor (state old) (state new) × Gives actor (state new)
-  turns_quiet [] s t old new run gives = subst (λ (c : C). Quiet actor (state old) (state c) × Gives actor (state c)) (sym run.1) (quiet_here actor (state old) gives.running, gives)
+  turns_quiet : (answers : List Answer) (s t : SessionState) (old new : C) → TurnRun C state actor answers s t old new → Gives actor (state old) →
+      Quiet actor (state old) (state new) × Gives actor (state new)
+  turns_quiet [] s t old new run gives = subst (λ (c : C). Quiet actor (state old) (state c) × Gives actor (state c)) (sym run.1)
+      (quiet_here actor (state old) gives.running, gives)
   turns_quiet (answer ∷ answers) s t old new run gives =
       let one = asks_quiet (state old) (state run.1) actor (due_in run.2.before) run.2.before (Ok answer) run.2.asks gives.running in
       let more = turns_quiet answers run.0 t run.1 new run.3 (asks_done actor (state old) (state run.1) gives (due_in run.2.before) run.2.before answer run.2.asks one) in
       (quiet_on actor (state old) (state run.1) (state new) one more.0, more.1)
 
-  pub turns_turned : (answers : List Answer) (s t : SessionState) (old new : C) → TurnRun C state actor answers s t old new → Gives actor (state old) → Turned actor s t (state old) (state new)
+  pub turns_turned : (answers : List Answer) (s t : SessionState) (old new : C) → TurnRun C state actor answers s t old new → Gives actor (state old) →
+      Turned actor s t (state old) (state new)
   turns_turned answers s t old new run gives =
       let all = turns_quiet answers s t old new run gives in
       record {
@@ -401,7 +418,8 @@ module _ (C : Type 0) (state : C → CoreState) (actor : ℕ) where
         writing = is.1.1;
       }
 
-  pub stopped_turned : (refusal : Refusal) (s t : SessionState) (old new : C) → TurnsStopped C state actor refusal s t old new → Gives actor (state old) → Unturned actor refusal s t (state old) (state new)
+  pub stopped_turned : (refusal : Refusal) (s t : SessionState) (old new : C) → TurnsStopped C state actor refusal s t old new → Gives actor (state old) →
+      Unturned actor refusal s t (state old) (state new)
   stopped_turned refusal s t old new stopped gives =
       let first = turns_turned stopped.0 s stopped.1 old stopped.2 stopped.3 gives in
       let last = refused_turned refusal stopped.1 t stopped.2 new stopped.4 first.gives in

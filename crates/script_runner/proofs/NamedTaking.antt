@@ -83,13 +83,15 @@ module _ (C : Type 0) (state : C → CoreState) (t : Account) (r s : RunnerState
   event step answer buf = record { actor = a; step = step; answer = answer; buf = buf }
 
   -- a step that is done stops nothing
-  done : (step : StepValue) → IsNoGcStep step → (answer : Answer) (buf : List ℕ) → (state r.core).stop ≡ None → CoreStep (state r.core) (event step (Ok answer) buf) (state s.core) → Stands t.stopped new
+  done : (step : StepValue) → IsNoGcStep step → (answer : Answer) (buf : List ℕ) → (state r.core).stop ≡ None →
+      CoreStep (state r.core) (event step (Ok answer) buf) (state s.core) → Stands t.stopped new
   done step no_gc answer buf runs made =
       still_runs t r.sessions old at runs new
       (done_stands old new step no_gc a answer buf (running_step old new (event step (Ok answer) buf) runs made) (told t r.sessions old at runs))
 
   -- and one that is refused only where a write failed
-  not_done : (step : StepValue) (refusal : Refusal) (buf : List ℕ) → MeetsNone step refusal → (state r.core).stop ≡ None → CoreStep (state r.core) (event step (Err refusal) buf) (state s.core) → Stands (stops refusal) new
+  not_done : (step : StepValue) (refusal : Refusal) (buf : List ℕ) → MeetsNone step refusal → (state r.core).stop ≡ None →
+      CoreStep (state r.core) (event step (Err refusal) buf) (state s.core) → Stands (stops refusal) new
   not_done step refusal buf meets runs made =
       refused_stands old new step a refusal buf meets (running_step old new (event step (Err refusal) buf) runs made) (told t r.sessions old at runs)
 
@@ -99,13 +101,15 @@ module _ (C : Type 0) (state : C → CoreState) (t : Account) (r s : RunnerState
   -- ---- read
 
   module _ (name : List ℕ) where
-    opened : (b count : ℕ) → Admits (lines.Read a name) r.sessions (state r.core) → b ≡ a → DoesStep a (asked.OpenRead name) (answers.Opened count) (state r.core) (state s.core) → s.sessions ≡ r.sessions
+    opened : (b count : ℕ) → Admits (lines.Read a name) r.sessions (state r.core) → b ≡ a → DoesStep a (asked.OpenRead name) (answers.Opened count) (state r.core) (state s.core) →
+        s.sessions ≡ r.sessions
         → Told C state (lines.Read a name) (replies.Reading b count) t s
     opened b count admits same does sessions =
         let e = event (asked.OpenRead name) (Ok (answers.Opened count)) does.0 in
         let is = (running_step old new e admits.runs does.1).made.row.opens in
         let idle = idle_taken a name (doing_of t a) (taken t r.sessions old at (lines.Read a name) a below refl admits) in
-        let all : AreNamed is.root [] is.ahead = subst (λ (tops : List Top). Walked AnyBytes (start_of (top_of is.root)) tops) (sym is.begins.all) (walked_none AnyBytes (start_of (top_of is.root))) in
+        let all : AreNamed is.root [] is.ahead = subst (λ (tops : List Top). Walked AnyBytes (start_of (top_of is.root)) tops) (sym is.begins.all)
+        (walked_none AnyBytes (start_of (top_of is.root))) in
         changes C state (lines.Read a name) (replies.Reading b count) t r s at a below (quiet_step old new e does.1 tt at.running) (Reading is.root [])
         (done (asked.OpenRead name) tt (answers.Opened count) does.0 admits.runs does.1)
         (same, (idle, (is.root, (subst (λ (names : NameMap). HasRoot names name is.root) at.counts.names is.begins.has_root, is.count_is, refl))))
@@ -113,21 +117,24 @@ module _ (C : Type 0) (state : C → CoreState) (t : Account) (r s : RunnerState
         (no_session Idle idle sessions (own Idle idle).0, (is.ahead, (part_now t r.sessions old at a below new (reading is.root is.ahead) is.parts_are, all)))
 
     -- why it is not
-    unopened : (refusal : Refusal) → part_of (state r.core).parts a ≡ core_parts.Idle → IsOpenRefusal (state r.core).tables.names name (part_of (state r.core).parts a) refusal → RefusesOn (lines.Read a name) refusal t
+    unopened : (refusal : Refusal) → part_of (state r.core).parts a ≡ core_parts.Idle → IsOpenRefusal (state r.core).tables.names name (part_of (state r.core).parts a) refusal →
+        RefusesOn (lines.Read a name) refusal t
     unopened refusals.Memory idle cause = tt
     unopened (refusals.WrongPart kind) idle cause = absurd (cause.0 idle)
     unopened refusals.BadName idle cause = cause.1
     unopened refusals.NoFile idle cause = subst (λ (names : NameMap). IsName name × (finite.get names name ≡ None)) at.counts.names cause.1
     unopened refusal idle cause = absurd cause.1
 
-    pub read_told : (reply : ReplyValue) → Admits (lines.Read a name) r.sessions (state r.core) → Acts C state (lines.Read a name) reply r s → Told C state (lines.Read a name) reply t s
+    pub read_told : (reply : ReplyValue) → Admits (lines.Read a name) r.sessions (state r.core) → Acts C state (lines.Read a name) reply r s →
+        Told C state (lines.Read a name) reply t s
     read_told (replies.Reading b count) admits acts = opened b count admits acts.0 acts.1.0 acts.1.1
     read_told (replies.Refused refusal) admits acts =
         let e = event (asked.OpenRead name) (Err refusal) acts.0.0 in
         let row = (running_step old new e admits.runs acts.0.1).made.row in
         let right = taken t r.sessions old at (lines.Read a name) a below refl admits in
         let why = unopened refusal (own Idle (idle_taken a name (doing_of t a) right)).1 row.0 in
-        still C state (lines.Read a name) (replies.Refused refusal) t r s at a below (quiet_step old new e acts.0.1 tt at.running) (stops refusal) (not_done (asked.OpenRead name) refusal acts.0.0 tt admits.runs acts.0.1)
+        still C state (lines.Read a name) (replies.Refused refusal) t r s at a below (quiet_step old new e acts.0.1 tt at.running) (stops refusal)
+        (not_done (asked.OpenRead name) refusal acts.0.0 tt admits.runs acts.0.1)
         (refuses (lines.Read a name) refusal t (right_part (lines.Read a name) a t refl right) why, refl) acts.1 (ap (λ (parts : List core_part.Part). part_of parts a) row.1)
     read_told reply admits acts = absurd acts
 
@@ -154,7 +161,8 @@ module _ (C : Type 0) (state : C → CoreState) (t : Account) (r s : RunnerState
     is_reading = subst IsReading (sym here.1.1.0) tt
 
     -- what was to come of it
-    module _ (other : Root) (was rest : List Top) (part_is : part_of (state r.core).parts a ≡ reading other was) (parts_are : (state s.core).parts ≡ with_part (state r.core).parts a (reading other rest)) where
+    module _ (other : Root) (was rest : List Top) (part_is : part_of (state r.core).parts a ≡ reading other was)
+        (parts_are : (state s.core).parts ≡ with_part (state r.core).parts a (reading other rest)) where
       same_file : (other ≡ root) × (was ≡ here.1.0)
       same_file = same_reader other root was here.1.0 (sym part_is ∙ here.1.1.0)
 
@@ -167,14 +175,16 @@ module _ (C : Type 0) (state : C → CoreState) (t : Account) (r s : RunnerState
         (rest, (part_now t r.sessions old at a below new (reading other rest) parts_are ∙ ap (λ (x : Root). reading x rest) same_file.0, gives)),
       )
 
-    given : (b count : ℕ) (bytes buf : List ℕ) → Admits (lines.Next a) r.sessions (state r.core) → b ≡ a → bytes ≡ take count buf → CoreStep (state r.core) (event asked.ReadNext (Ok (answers.Bytes count)) buf) (state s.core)
+    given : (b count : ℕ) (bytes buf : List ℕ) → Admits (lines.Next a) r.sessions (state r.core) → b ≡ a → bytes ≡ take count buf →
+        CoreStep (state r.core) (event asked.ReadNext (Ok (answers.Bytes count)) buf) (state s.core)
         → Told C state (lines.Next a) (replies.Bytes b bytes) t s
     given b count bytes buf admits same bytes_are made =
         let e = event asked.ReadNext (Ok (answers.Bytes count)) buf in
         let row = (running_step old new e admits.runs made).made.row.next in
         let on = row.goes_on in
         let gives : GivesAll start (segments ++ bytes ∷ []) row.rest = subst (λ (x : List ℕ). GivesAll start (segments ++ x ∷ []) row.rest) (sym bytes_are)
-        (all_given (WasRead old.known old.disk new.disk) start row.was row.rest segments count (take count buf) (named on.root row.was row.rest on.part_is on.parts_are) row.given) in
+        (all_given (WasRead old.known old.disk new.disk) start row.was row.rest segments count (take count buf) (named on.root row.was row.rest on.part_is on.parts_are) row.given)
+        in
         changes C state (lines.Next a) (replies.Bytes b bytes) t r s at a below (quiet_step old new e made tt at.running) (Reading root (segments ++ bytes ∷ []))
         (done asked.ReadNext tt (answers.Bytes count) buf admits.runs made)
         (same, (root, (segments, (reads.is, (row.rest, gives), refl)))) (same_sessions t r.sessions old at a below s.sessions sessions)
@@ -193,7 +203,8 @@ module _ (C : Type 0) (state : C → CoreState) (t : Account) (r s : RunnerState
         (goes_on on.root row.was row.rest on.part_is on.parts_are segments (subst (λ (tops : List Top). GivesAll start segments tops) (sym row.given.1) all)))
 
     -- some nodes may have been opened
-    stuck : (refusal : Refusal) (buf : List ℕ) → ReadRow a (Err refusal) buf (state r.core) (state s.core) → AtPart (Reading root segments) (session_of s.sessions a) (part_of new.parts a)
+    stuck : (refusal : Refusal) (buf : List ℕ) → ReadRow a (Err refusal) buf (state r.core) (state s.core) →
+        AtPart (Reading root segments) (session_of s.sessions a) (part_of new.parts a)
     stuck (refusals.WrongPart kind) buf row = absurd (row.cause.differs is_reading)
     stuck refusal buf row =
         let cause = row.cause in
@@ -209,7 +220,8 @@ module _ (C : Type 0) (state : C → CoreState) (t : Account) (r s : RunnerState
     ungiven (refusals.Damaged at_byte why) next cause = tt
     ungiven refusal next cause = absurd cause
 
-    first_ahead : (refusal : Refusal) (ahead : List Top) → AreNamed root segments ahead → IsNextRefusal old.known old.breaks old.disk new.disk ahead refusal → RefusesOn (lines.Next a) refusal t
+    first_ahead : (refusal : Refusal) (ahead : List Top) → AreNamed root segments ahead → IsNextRefusal old.known old.breaks old.disk new.disk ahead refusal →
+        RefusesOn (lines.Next a) refusal t
     first_ahead refusal [] all cause = absurd cause
     first_ahead refusal (next ∷ more) all cause = (next, ((root, (segments, (reads.is, (more, all)))), ungiven refusal next cause))
 
@@ -219,15 +231,18 @@ module _ (C : Type 0) (state : C → CoreState) (t : Account) (r s : RunnerState
         let cause = row.cause in
         let on = cause.goes_on in
         first_ahead refusal cause.rest
-        (all_walked (WasRead old.known old.disk new.disk) start cause.was cause.rest segments (named on.root cause.was cause.rest on.part_is on.parts_are) cause.refused.walked) cause.refused.cause
+        (all_walked (WasRead old.known old.disk new.disk) start cause.was cause.rest segments (named on.root cause.was cause.rest on.part_is on.parts_are) cause.refused.walked)
+        cause.refused.cause
 
-    not_given : (refusal : Refusal) (buf : List ℕ) → Admits (lines.Next a) r.sessions (state r.core) → CoreStep (state r.core) (event asked.ReadNext (Err refusal) buf) (state s.core)
+    not_given : (refusal : Refusal) (buf : List ℕ) → Admits (lines.Next a) r.sessions (state r.core) →
+        CoreStep (state r.core) (event asked.ReadNext (Err refusal) buf) (state s.core)
         → Told C state (lines.Next a) (replies.Refused refusal) t s
     not_given refusal buf admits made =
         let e = event asked.ReadNext (Err refusal) buf in
         let row = (running_step old new e admits.runs made).made.row in
         let right = right_part (lines.Next a) a t refl (taken t r.sessions old at (lines.Next a) a below refl admits) in
-        stays C state (lines.Next a) (replies.Refused refusal) t r s at a below (quiet_step old new e made tt at.running) (stops refusal) (not_done asked.ReadNext refusal buf tt admits.runs made)
+        stays C state (lines.Next a) (replies.Refused refusal) t r s at a below (quiet_step old new e made tt at.running) (stops refusal)
+        (not_done asked.ReadNext refusal buf tt admits.runs made)
         (refuses (lines.Next a) refusal t right (why_stuck refusal buf row), refl) (same_sessions t r.sessions old at a below s.sessions sessions)
         (subst (λ (d : Doing). AtPart d (session_of s.sessions a) (part_of new.parts a)) (sym reads.is) (stuck refusal buf row))
 
@@ -245,13 +260,15 @@ module _ (C : Type 0) (state : C → CoreState) (t : Account) (r s : RunnerState
 
   -- ---- drop
 
-  dropped : (b : ℕ) (answer : Answer) → Admits (lines.Drop a) r.sessions (state r.core) → b ≡ a → DoesStep a asked.EndRead answer (state r.core) (state s.core) → s.sessions ≡ r.sessions
+  dropped : (b : ℕ) (answer : Answer) → Admits (lines.Drop a) r.sessions (state r.core) → b ≡ a → DoesStep a asked.EndRead answer (state r.core) (state s.core) →
+      s.sessions ≡ r.sessions
       → Told C state (lines.Drop a) (replies.Dropped b) t s
   dropped b answers.Dropped admits same does sessions =
       let e = event asked.EndRead (Ok answers.Dropped) does.0 in
       let reads = drop_taken a (doing_of t a) (taken t r.sessions old at (lines.Drop a) a below refl admits) in
       let row = (running_step old new e admits.runs does.1).made.row in
-      changes C state (lines.Drop a) (replies.Dropped b) t r s at a below (quiet_step old new e does.1 tt at.running) Idle (done asked.EndRead tt answers.Dropped does.0 admits.runs does.1)
+      changes C state (lines.Drop a) (replies.Dropped b) t r s at a below (quiet_step old new e does.1 tt at.running) Idle
+      (done asked.EndRead tt answers.Dropped does.0 admits.runs does.1)
       (same, (reads.root, (reads.segments, reads.is)), refl) (same_sessions t r.sessions old at a below s.sessions sessions)
       (none_now reads sessions, part_now t r.sessions old at a below new core_parts.Idle row.parts_are)
   dropped b answer admits same does sessions = absurd (running_step old new (event asked.EndRead (Ok answer) does.0) admits.runs does.1).made.row
@@ -279,7 +296,8 @@ module _ (C : Type 0) (state : C → CoreState) (t : Account) (r s : RunnerState
       let row = steps.made.row in
       still C state lines.Stat (replies.Stat h) t r s at a below (subst (λ (n : ℕ). Quiet n old new) (sym first) (quiet_step old new e does.1 tt at.running)) t.stopped
       (still_runs t r.sessions old at admits.runs new (done_stands old new asked.Stat tt 0 (counted h) does.0 steps (told t r.sessions old at admits.runs)))
-      (count_names h old (up_of old admits.runs at.running) row.0 ∙ ap (λ (names : NameMap). finite.len names) at.counts.names, refl) sessions (ap (λ (parts : List core_part.Part). part_of parts a) row.1)
+      (count_names h old (up_of old admits.runs at.running) row.0 ∙ ap (λ (names : NameMap). finite.len names) at.counts.names, refl) sessions
+      (ap (λ (parts : List core_part.Part). part_of parts a) row.1)
 
 module _ (C : Type 0) (state : C → CoreState) (t : Account) (r s : RunnerState C) (at : At t r.sessions (state r.core)) where
   pub stat_told : (reply : ReplyValue) → Admits lines.Stat r.sessions (state r.core) → Acts C state lines.Stat reply r s → Told C state lines.Stat reply t s

@@ -30,7 +30,8 @@ IsOfName files key name = (bytes : List ℕ) × ((finite.get files name ≡ Some
 name_tells : (files : Files) (key name : List ℕ) → IsOfName files key name ⊎ (IsOfName files key name → ⊥)
 name_tells files key name = by_file (finite.get files name) refl
   where
-    by_keys : (bytes : List ℕ) → finite.get files name ≡ Some bytes → (b : Bool) → key_set (tree_keys (file_tree bytes)) key ≡ b → IsOfName files key name ⊎ (IsOfName files key name → ⊥)
+    by_keys : (bytes : List ℕ) → finite.get files name ≡ Some bytes → (b : Bool) → key_set (tree_keys (file_tree bytes)) key ≡ b →
+        IsOfName files key name ⊎ (IsOfName files key name → ⊥)
     by_keys bytes found true has = inl (bytes, (found, contained key (tree_keys (file_tree bytes)) has))
     by_keys bytes found false lacks = inr (λ of.
         let same : of.0 ≡ bytes = some_same of.0 bytes (sym of.1.0 ∙ found) in
@@ -89,7 +90,8 @@ module _ (files : Files) (index : PlaceMap) (held : List (Option HeaderValue)) (
       by_copy needed false lacks = inr (λ is. let wrong : true ≡ false = sym (needs_live kind slot e is).0 ∙ lacks in cc)
 
   -- so many bytes are, no more than count as live
-  pub needs_some : (kind : Kind) (slot : ℕ) (es : List Entry) (sum : ℕ) → SumsLive index live kind slot es sum → (needed : ℕ) × (SumsNeeded P held kind slot es needed × (needed ≤ sum))
+  pub needs_some : (kind : Kind) (slot : ℕ) (es : List Entry) (sum : ℕ) → SumsLive index live kind slot es sum →
+      (needed : ℕ) × (SumsNeeded P held kind slot es needed × (needed ≤ sum))
   needs_some kind slot [] sum sums = (0, (refl, omega arith))
   needs_some kind slot (e ∷ es) sum (inl (here, (rest, sum_is, sums))) =
       let more = needs_some kind slot es rest sums in

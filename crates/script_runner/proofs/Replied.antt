@@ -11,7 +11,8 @@ use Rattle.script_runner.specs.Acts.{Acts, ActsOrNot, Admits, Bars, RunnerState,
 use Rattle.script_runner.specs.Runner.{ActsWith, IsAcknowledged, IsPlain, MakesReply, Prints}
 
 -- what was printed of a reply that acknowledges nothing
-pub printed : {T E : Type 0} (items : T → List ℕ) (result : Result T E) (reply : ReplyValue) → ¬ (IsAcknowledged reply) → IfOk result (λ t. items t ≡ reply_line reply) → Prints items result reply
+pub printed : {T E : Type 0} (items : T → List ℕ) (result : Result T E) (reply : ReplyValue) → ¬ (IsAcknowledged reply) → IfOk result (λ t. items t ≡ reply_line reply) →
+    Prints items result reply
 printed items (Ok t) reply none is = is
 printed items (Err e) reply none is = none
 
@@ -77,10 +78,12 @@ module _ (C : Type 0) (state : C → CoreState) where
   runs_so lines.Reopen reply r s other so = absurd (other refl)
 
   -- it was taken
-  pub taken : (line : LineValue) (told : ReplyValue → Type 0) (r s : RunnerState C) → line ≢ lines.Reopen → Admits line r.sessions (state r.core) → ActsWith C state line told r s → MakesReply C state line told r s
+  pub taken : (line : LineValue) (told : ReplyValue → Type 0) (r s : RunnerState C) → line ≢ lines.Reopen → Admits line r.sessions (state r.core) →
+      ActsWith C state line told r s → MakesReply C state line told r s
   taken line told r s other admits acts = (acts.0, (runs_so line acts.0 r s other (inl (admits, acts.1.0)), acts.1.1))
 
   -- or barred
-  pub barred : (line : LineValue) (told : ReplyValue → Type 0) (r : RunnerState C) → line ≢ lines.Reopen → (refusal : Refusal) → Bars line r.sessions (state r.core) refusal → told (replies.Refused refusal)
+  pub barred : (line : LineValue) (told : ReplyValue → Type 0) (r : RunnerState C) → line ≢ lines.Reopen → (refusal : Refusal) → Bars line r.sessions (state r.core) refusal →
+      told (replies.Refused refusal)
       → MakesReply C state line told r r
   barred line told r other refusal bars is = (replies.Refused refusal, (runs_so line (replies.Refused refusal) r r other (inr (refusal, refl, bars, refl)), is))

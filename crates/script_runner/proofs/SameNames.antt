@@ -49,7 +49,8 @@ module _ (K X : Type 0) (R : K → K → Ordering) where
 
   keys_len : (m : finite.FinMap R X) → finite.len (keys_of m) ≡ finite.len m
   keys_len m =
-      finite.len-entries (keys_of m) ∙ ap length (finite.entries-from_sorted R (bare (finite.entries m)) (keys_right m)) ∙ bare_length (finite.entries m) ∙ sym (finite.len-entries m)
+      finite.len-entries (keys_of m) ∙ ap length (finite.entries-from_sorted R (bare (finite.entries m)) (keys_right m)) ∙ bare_length (finite.entries m)
+      ∙ sym (finite.len-entries m)
 
 same_some : {X Y : Type 0} (a : Option X) (b : Option Y) → is_some a ≡ is_some b → ◌≡◌ {A = Option (Unit {0})} (option_map (λ _. tt) a) (option_map (λ _. tt) b)
 same_some None None is = refl
@@ -58,7 +59,8 @@ same_some (Some x) None is = absurd cc
 same_some (Some x) (Some y) is = refl
 
 -- maps that have the same keys have as many
-same_len : (K X Y : Type 0) (R : K → K → Ordering) → IsTotalOrder R → finite.IsAntisymmetric R → (m : finite.FinMap R X) (n : finite.FinMap R Y) → ((q : K) → is_some (finite.get m q) ≡ is_some (finite.get n q))
+same_len : (K X Y : Type 0) (R : K → K → Ordering) → IsTotalOrder R → finite.IsAntisymmetric R → (m : finite.FinMap R X) (n : finite.FinMap R Y) →
+    ((q : K) → is_some (finite.get m q) ≡ is_some (finite.get n q))
     → finite.len m ≡ finite.len n
 same_len K X Y R total same m n each =
     let keys : keys_of K X R m ≡ keys_of K Y R n =
@@ -79,4 +81,5 @@ module _ (store : Store) (files : Files) (image : List ℕ) (holds : IsStoreOf s
   same_keys name = same_file store.held image (finite.get (names_of store) name) (finite.get files name) (holds.files_are name)
 
   pub same_count : finite.len (names_of store) ≡ finite.len files
-  same_count = same_len (List ℕ) Named (List ℕ) (slice_cmp nat_cmp) nat_list_cmp_total (finite.slice_cmp-IsAntisymmetric finite.nat_cmp-IsAntisymmetric) (names_of store) files same_keys
+  same_count = same_len (List ℕ) Named (List ℕ) (slice_cmp nat_cmp) nat_list_cmp_total (finite.slice_cmp-IsAntisymmetric finite.nat_cmp-IsAntisymmetric) (names_of store) files
+      same_keys

@@ -11,20 +11,23 @@ use Rattle.store_machine.specs.Commands.{ends}
 use Rattle.script_runner.specs.Runner.{IsAcknowledged, SendsReply, Sent, Tells}
 
 -- of a line that doesn't end the script
-pub sent_so : (line : LineValue) (reply : ReplyValue) (text : List ℕ) (result : Result (Unit {0}) Ending) (sink sink_now : SinkView) → ends line reply ≡ false → text ≡ reply_line reply → Sent text result sink sink_now
+pub sent_so : (line : LineValue) (reply : ReplyValue) (text : List ℕ) (result : Result (Unit {0}) Ending) (sink sink_now : SinkView) → ends line reply ≡ false →
+    text ≡ reply_line reply → Sent text result sink sink_now
     → SendsReply line reply result sink sink_now
 sent_so line reply text (Ok u) sink sink_now on is sent = (on, subst (λ (t : List ℕ). Sent t (Ok tt) sink sink_now) is sent)
 sent_so line reply text (Err endings.Sink) sink sink_now on is sent = subst (λ (t : List ℕ). Sent t (Err endings.Sink) sink sink_now) is sent
 sent_so line reply text (Err e) sink sink_now on is sent = absurd sent
 
-pub told_so : (line : LineValue) (reply : ReplyValue) (result : Result (Unit {0}) Ending) (sink sink_now : SinkView) → ends line reply ≡ false → ¬ (IsAcknowledged reply) → Tells reply result sink sink_now → SendsReply line reply result sink sink_now
+pub told_so : (line : LineValue) (reply : ReplyValue) (result : Result (Unit {0}) Ending) (sink sink_now : SinkView) → ends line reply ≡ false → ¬ (IsAcknowledged reply) →
+    Tells reply result sink sink_now → SendsReply line reply result sink sink_now
 told_so line reply (Ok u) sink sink_now on none tells = (on, tells)
 told_so line reply (Err endings.Sink) sink sink_now on none tells = tells
 told_so line reply (Err (endings.Refused Memory)) sink sink_now on none tells = inl (refl, none, tells)
 told_so line reply (Err e) sink sink_now on none tells = absurd tells
 
 -- a reply that could not be sent ends the script, whatever the line
-pub untold_so : (line : LineValue) (reply : ReplyValue) (e : Ending) (sink sink_now : SinkView) → ¬ (IsAcknowledged reply) → Tells reply (Err e) sink sink_now → SendsReply line reply (Err e) sink sink_now
+pub untold_so : (line : LineValue) (reply : ReplyValue) (e : Ending) (sink sink_now : SinkView) → ¬ (IsAcknowledged reply) → Tells reply (Err e) sink sink_now →
+    SendsReply line reply (Err e) sink sink_now
 untold_so line reply endings.Sink sink sink_now none tells = tells
 untold_so line reply (endings.Refused Memory) sink sink_now none tells = inl (refl, none, tells)
 untold_so line reply e sink sink_now none tells = absurd tells

@@ -11,7 +11,8 @@ use Rattle.store_core.specs.State.{CoreState}
 
 module _ (old new : CoreState) (reads : OnlyReads old.disk new.disk) (tables_are : new.tables ≡ old.tables) (index_is : new.known ≡ old.known) where
   as_before : (store : Store) → Represents store new.known new.tables → Represents store old.known old.tables
-  as_before store is = subst (λ (known : Option PlaceMap). Represents store known old.tables) index_is (subst (λ (tables : Tables). Represents store new.known tables) tables_are is)
+  as_before store is = subst (λ (known : Option PlaceMap). Represents store known old.tables) index_is
+      (subst (λ (tables : Tables). Represents store new.known tables) tables_are is)
 
   pub still_held : (seg : KindSegment) → IsHeldIn seg old → IsHeldIn seg new
   still_held seg held = record {

@@ -57,7 +57,8 @@ few_after most phase old new under few goes =
 pub few_on : (most : ℕ) (phase : Phase) (old new : CoreState) → IsUnderWayIn old.tables.held old.collection → IsFewIn most old → GoesOn phase old new → IsFewIn most new
 few_on most phase old new under few goes = subst (few_by most new.tables.held) (sym goes.runs) (few_after most phase old new under few goes)
 
-pub left_on : (most : ℕ) (phase : Phase) (old new : CoreState) → IsUnderWayIn old.tables.held old.collection → IsFewIn most old → GoesOn phase old new → left_in most new < left_in most old
+pub left_on : (most : ℕ) (phase : Phase) (old new : CoreState) → IsUnderWayIn old.tables.held old.collection → IsFewIn most old → GoesOn phase old new →
+    left_in most new < left_in most old
 left_on most phase old new under few goes =
     let fewer = goes.nearer most (few_after most phase old new under few goes).chosen in
     omega (arith, fewer, ap (left_by most old.tables.held) goes.ran, ap (left_by most new.tables.held) goes.runs)
@@ -73,7 +74,8 @@ pub record SweptOn (most : ℕ) (old new : CoreState) : Type 0 where
   pub fewer : left_in most new < left_in most old
 
 module _ (C : Type 0) (state : C → CoreState) where
-  pub swept_on : (most : ℕ) (phase : Phase) (old new : C) → IsRunning (state old) → (state old).stop ≡ None → IsFewIn most (state old) → Collects C state (Ok (answers.Did phase)) old new
+  pub swept_on : (most : ℕ) (phase : Phase) (old new : C) → IsRunning (state old) → (state old).stop ≡ None → IsFewIn most (state old) →
+      Collects C state (Ok (answers.Did phase)) old new
       → SweptOn most (state old) (state new)
   swept_on most phase old new running runs few collects =
       let e : Event = record { actor = 0; step = asked.GcStep; answer = Ok (answers.Did phase); buf = collects.0 } in
@@ -86,6 +88,7 @@ module _ (C : Type 0) (state : C → CoreState) where
       }
 
   -- one more
-  pub run_then : (phases : List Phase) (phase : Phase) (old mid new : C) → CollectionRun C state phases old mid → Collects C state (Ok (answers.Did phase)) mid new → CollectionRun C state (phases ++ phase ∷ []) old new
+  pub run_then : (phases : List Phase) (phase : Phase) (old mid new : C) → CollectionRun C state phases old mid → Collects C state (Ok (answers.Did phase)) mid new →
+      CollectionRun C state (phases ++ phase ∷ []) old new
   run_then [] phase old mid new run one = (new, (subst (λ (c : C). Collects C state (Ok (answers.Did phase)) c new) run one, refl))
   run_then (first ∷ more) phase old mid new run one = (run.0, (run.1.0, run_then more phase run.0 mid new run.1.1 one))

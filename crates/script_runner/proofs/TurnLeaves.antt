@@ -31,7 +31,8 @@ module _ (S : List ℕ → Type 0) (stored : Stored) where
   }
 
   -- a step that leaves these files or, after it, the same
-  pub keeps_step : (then : Stored) (old new : CoreState) (e : Event) → CoreStep old e new → then ≡ stored → CrashLeaves (λ image. OpensAs S stored image ⊎ OpensAs S then image) old.disk new.disk → KeepsStored S stored old.disk new.disk
+  pub keeps_step : (then : Stored) (old new : CoreState) (e : Event) → CoreStep old e new → then ≡ stored →
+      CrashLeaves (λ image. OpensAs S stored image ⊎ OpensAs S then image) old.disk new.disk → KeepsStored S stored old.disk new.disk
   keeps_step then old new e step same leaves = record {
     later = (step_later old new e old.stop step).clock_is;
     leaves = leaves_weaker (λ image. OpensAs S stored image ⊎ OpensAs S then image) (OpensAs S stored) old.disk new.disk

@@ -86,7 +86,8 @@ Replaces actor s t sessions sessions_now = (session_of sessions actor ≡ Some s
 -- bytes were given; the count is that of all that were given
 abbrev pub Pushes : (C : Type 0) → (C → CoreState) → ℕ → List ℕ → Result ℕ Refusal → Sessions → Sessions → C → C → Type 0
 Pushes C state actor bytes (Ok count) sessions sessions_now old new =
-    (s : SessionState) × (t : SessionState) × Replaces actor s t sessions sessions_now × Feeds C state actor (Ok tt) bytes s t old new × (count ≡ t.count)
+    (s : SessionState) × (t : SessionState) × Replaces actor s t sessions sessions_now × Feeds C state actor (Ok tt) bytes s t old new
+    × (count ≡ t.count)
 Pushes C state actor bytes (Err refusal) sessions sessions_now old new =
     (s : SessionState) × (t : SessionState) × Replaces actor s t sessions sessions_now × Feeds C state actor (Err refusal) bytes s t old new
 

@@ -86,8 +86,8 @@ abbrev pub Traced : {V R : Type 0} (v : Values V R) (P : Stepped V → Machine V
 Traced v P [] m n run was now = now ≡ was
 Traced v P (s ∷ ss) m n run was now = (mid : Option (List ℕ)) × (P s m run.0 was mid × Traced v P ss run.0 n run.1.1 mid now)
 
--- What was done of steps of a run, over a disk: at any moment, also inside a write, a crash leaves an image that some machine of the run may
--- leave, or one that the disk might have left before; and what each step does to the content is so.
+-- What was done of steps of a run, over a disk: at any moment, also inside a write, a crash leaves an image that some machine of the run
+-- may leave, or one that the disk might have left before; and what each step does to the content is so.
 pub record IsDone {V R : Type 0} (v : Values V R) (b : Beside V R) (ss : List (Stepped V)) (m n : Machine V R) (run : Run v ss m n)
     (old new : DiskView) : Type 0 where
   pub leaves : CrashLeaves (λ image. Passes v (λ k. b.Left k image) ss m n run) old new

@@ -60,7 +60,8 @@ SendsReply line reply (Err ending) sink sink_now =
     ((ending ≡ Refused Memory) × ¬ (IsAcknowledged reply) × (sink_now ≡ sink)) ⊎ (EndsBy line reply ending × Wrote reply sink sink_now)
 
 -- A line of the grammar was run, and its reply sent.
-pub record Replies (C : Type 0) (state : C → CoreState) (line : LineValue) (result : Result Unit Ending) (r s : RunnerState C) (sink sink_now : SinkView)
+pub record Replies (C : Type 0) (state : C → CoreState) (line : LineValue) (result : Result Unit Ending) (r s : RunnerState C)
+    (sink sink_now : SinkView)
     : Type 0 where
   pub reply : ReplyValue
   pub runs : RunsLine C state line reply r s
@@ -118,14 +119,16 @@ pub record IsNoLine {C : Type 0} (bytes : List ℕ) (r s : RunnerState C) (sink 
   pub sink_is : sink_now ≡ sink
 
 -- Bytes that are a line were run as that line.
-pub record IsRun (C : Type 0) (state : C → CoreState) (bytes : List ℕ) (result : Result Unit Ending) (r s : RunnerState C) (sink sink_now : SinkView)
+pub record IsRun (C : Type 0) (state : C → CoreState) (bytes : List ℕ) (result : Result Unit Ending) (r s : RunnerState C)
+    (sink sink_now : SinkView)
     : Type 0 where
   pub line : LineValue
   pub right : IsRightLine line bytes
   pub replies : Replies C state line result r s sink sink_now
 
 -- What a runner does with bytes.
-abbrev pub RunsBytes : (C : Type 0) → (C → CoreState) → List ℕ → Result Unit Halt → RunnerState C → RunnerState C → SinkView → SinkView → Type 0
+abbrev pub RunsBytes : (C : Type 0) → (C → CoreState) → List ℕ → Result Unit Halt → RunnerState C → RunnerState C → SinkView → SinkView →
+    Type 0
 RunsBytes C state bytes (Ok u) r s sink sink_now = IsRun C state bytes (Ok u) r s sink sink_now
 RunsBytes C state bytes (Err NoLine) r s sink sink_now = IsNoLine bytes r s sink sink_now
 RunsBytes C state bytes (Err (Ended ending)) r s sink sink_now = IsRun C state bytes (Err ending) r s sink sink_now

@@ -143,20 +143,23 @@ module _ (C : Type 0) (state : C → CoreState) (actor : ℕ) where
 
   -- ---- one more, for room
 
-  pause_for_room : (answers : List Answer) (s t u : SessionState) (old new : C) (run : TurnRun C state actor answers s t old new) (pause : IsPaused t u) → AreForRoom C state actor answers s t old new run
+  pause_for_room : (answers : List Answer) (s t u : SessionState) (old new : C) (run : TurnRun C state actor answers s t old new) (pause : IsPaused t u) →
+      AreForRoom C state actor answers s t old new run
       → AreForRoom C state actor answers s u old new (turns_then_pause answers s t u old new run pause)
   unfolding turns_then_pause
   pause_for_room [] s t u old new run pause room = tt
   pause_for_room (answer ∷ answers) s t u old new run pause room = (room.0, pause_for_room answers run.0 t u run.1 new run.3 pause room.1)
 
-  one_for_room : (answers : List Answer) (answer : Answer) (s t u : SessionState) (old mid new : C) (run : TurnRun C state actor answers s t old mid) (turn : IsTurn actor answer t u (state mid) (state new))
+  one_for_room : (answers : List Answer) (answer : Answer) (s t u : SessionState) (old mid new : C) (run : TurnRun C state actor answers s t old mid)
+      (turn : IsTurn actor answer t u (state mid) (state new))
       → AreForRoom C state actor answers s t old mid run → IsCrowded t
       → AreForRoom C state actor (answers ++ answer ∷ []) s u old new (turns_then_one answers answer s t u old mid new run turn)
   unfolding turns_then_one
   one_for_room [] answer s t u old mid new run turn room crowded = ((crowded.0, paused_on s t crowded.0 run.0 crowded.1, crowded.2), tt)
   one_for_room (first ∷ answers) answer s t u old mid new run turn room crowded = (room.0, one_for_room answers answer run.0 t u run.1 mid new run.3 turn room.1 crowded)
 
-  pub room_then_any : (T U : Type 0) (x : T) (y : U) (s t u : SessionState) (old mid new : C) → MakesRoom C state actor (Ok x) s t old mid → MOST_WAITING < seen t → (made : Option Answer)
+  pub room_then_any : (T U : Type 0) (x : T) (y : U) (s t u : SessionState) (old mid new : C) → MakesRoom C state actor (Ok x) s t old mid → MOST_WAITING < seen t →
+      (made : Option Answer)
       → TakesTurn C state actor (Ok made) t u mid new
       → MakesRoom C state actor (Ok y) s u old new
   room_then_any T U x y s t u old mid new room many None none =

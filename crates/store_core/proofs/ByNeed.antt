@@ -315,13 +315,16 @@ module _ (C : Type 0) (state : C → CoreState) where
     weigh : (slot : ℕ) (h : HeaderValue) → slice_get s.held slot ≡ Some (Some h)
         → IsWeighed P index s.held c.live invariant.index_is_newest alone.spares.within indexed marked snapshot percent c.liveness alone.lone.told
         holds.right.different low recorded slot h
-    weigh = weighed P index s.held c.live invariant.index_is_newest alone.spares.within indexed marked snapshot percent c.liveness alone.lone.told holds.right.different low recorded
+    weigh = weighed P index s.held c.live invariant.index_is_newest alone.spares.within indexed marked snapshot percent c.liveness alone.lone.told holds.right.different low
+        recorded
 
     chosen_in : (slot : ℕ) (h : HeaderValue) → slice_get s.held slot ≡ Some (Some h) → IsSelectedId snapshot percent c.liveness h.id → IsChosen P percent s.held slot
-    chosen_in = chosen_of P index s.held c.live invariant.index_is_newest alone.spares.within indexed marked snapshot percent c.liveness alone.lone.told holds.right.different low recorded
+    chosen_in = chosen_of P index s.held c.live invariant.index_is_newest alone.spares.within indexed marked snapshot percent c.liveness alone.lone.told holds.right.different low
+        recorded
 
     selected_in : (slot : ℕ) (chosen : IsChosen P percent s.held slot) → IsSelectedId snapshot percent c.liveness chosen.header.id
-    selected_in = selected_of P index s.held c.live invariant.index_is_newest alone.spares.within indexed marked snapshot percent c.liveness alone.lone.told holds.right.different low recorded
+    selected_in = selected_of P index s.held c.live invariant.index_is_newest alone.spares.within indexed marked snapshot percent c.liveness alone.lone.told holds.right.different
+        low recorded
 
     swept : SweepsAlone index alone.is_at.index s.held did.store.held c.live c.snapshot c.sweep (copied_keys did.changes)
     swept = subst (λ (st : Stage). IsLoneAt st index alone.is_at.index s.held did.store.held c (copied_keys did.changes)) stage alone.lone.at

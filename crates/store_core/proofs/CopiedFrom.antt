@@ -171,12 +171,14 @@ module _ (among : ByteSet) (s : Store) (stored : Stored) (old new : CoreState) (
         (copies : CopiesSource old.tables.held b.live (Some index) new.known old.disk new.disk source entry b.sweep a.sweep) where
       leaves : LeavesHeld index s.held image b.live b.snapshot new.known a.sweep
       leaves =
-          copied_leaves old.tables.held index s.held image b.live b.snapshot source entry b.sweep a.sweep new.known old.disk new.disk core.shows.slots_hold core.stands.right.different core.stands.right.slots_are core.partial told
+          copied_leaves old.tables.held index s.held image b.live b.snapshot source entry b.sweep a.sweep new.known old.disk new.disk core.shows.slots_hold
+          core.stands.right.different core.stands.right.slots_are core.partial told
           sweeping next_is holds.1 copies
 
       read_here : IsReadOf index s.held b.snapshot source entry b.sweep copies.slot copies.kind copies.filling copies.plans.header
       read_here =
-          read old.tables.held index s.held image b.live b.snapshot source entry b.sweep a.sweep new.known old.disk new.disk core.shows.slots_hold core.stands.right.different core.stands.right.slots_are core.partial told sweeping
+          read old.tables.held index s.held image b.live b.snapshot source entry b.sweep a.sweep new.known old.disk new.disk core.shows.slots_hold core.stands.right.different
+          core.stands.right.slots_are core.partial told sweeping
           next_is holds.1 copies
 
       within : HasNext old.tables.held b.sweep (Copy source entry)
@@ -184,7 +186,8 @@ module _ (among : ByteSet) (s : Store) (stored : Stored) (old new : CoreState) (
 
       filled_from : (key : List ℕ) → has_key a.sweep.buffer key ≡ true → (has_key b.sweep.buffer key ≡ true)
           ⊎ ((b.stage ≡ SweepStage) × IsFromSource index s.held b.snapshot b.sweep.sources.items key)
-      filled_from key has = elim (came old.tables.held index s.held image b.live b.snapshot source entry b.sweep a.sweep new.known old.disk new.disk core.shows.slots_hold core.stands.right.different core.stands.right.slots_are core.partial told
+      filled_from key has = elim (came old.tables.held index s.held image b.live b.snapshot source entry b.sweep a.sweep new.known old.disk new.disk core.shows.slots_hold
+          core.stands.right.different core.stands.right.slots_are core.partial told
           sweeping next_is holds.1 copies key is_live.0 place_was has) [
             | inl before ↦ inl before
             | inr here ↦ inr (

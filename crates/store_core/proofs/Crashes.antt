@@ -128,7 +128,8 @@ module _ (among : ByteSet) (s : Store) (stored : Stored) (old new : CoreState) (
       free_reserve (IsReachable stored.files) (with_sealed (next_id old) filled.kind filled.segments s).held
       (omega (arith, spare, free_less (header_of (next_id old) filled.kind filled.segments) s.held (omega (arith, spare))))
 
-  pub seal_leaves : (filled : Contents) (answer : Result Answer Refusal) → SealsOne filled answer old new → IsStep (asked.Seal filled) → IsGivenRight S (asked.Seal filled) answer bytes old
+  pub seal_leaves : (filled : Contents) (answer : Result Answer Refusal) → SealsOne filled answer old new → IsStep (asked.Seal filled) →
+      IsGivenRight S (asked.Seal filled) answer bytes old
       → CrashLeaves (λ c. Stands S s stored.files c ⊎ StandsSealed S (next_id old) filled s stored.files c) old.disk new.disk
   seal_leaves filled answer effect right given =
       (effect.moves.moves among s stored.files at.index at.index_known at.represents core.files_are_indexed distinct
@@ -270,7 +271,8 @@ module _ (among : ByteSet) (s : Store) (stored : Stored) (old new : CoreState) (
     pub opens_copied : c.sweep.next ≡ Flush source entry → (image : List ℕ) → Stands S (with_sealed id copied.kind copied.segments s) stored.files image
         → CanBeOpened (with_sealed id copied.kind copied.segments s) stored.files
     opens_copied stage image is =
-        opens_flushed old.tables.held at.index s stored.files at.stands.known.0 image c.live c.snapshot source entry id c.sweep at.represents.slots_hold at.valid.headers under stage holds core.index_is_newest
+        opens_flushed old.tables.held at.index s stored.files at.stands.known.0 image c.live c.snapshot source entry id c.sweep at.represents.slots_hold at.valid.headers under
+        stage holds core.index_is_newest
         (omega (arith, at.represents.slots_hold.last_id_is)) new_id core.files_are_indexed
         (headers_of_right image (with_sealed id copied.kind copied.segments s) is.holds.right)
 

@@ -404,13 +404,15 @@ module _ (first : List (Option HeaderValue)) (roots : RootKeys) where
 
         scanned : (gone : HasGoneOn old new m.c m.runs early) → FindsAfter gone.after
         scanned gone =
-            scan_finds m.index m.store m.valid.headers partial old.tables.held m.represents.slots_hold first old.tables.names old.parts roots old.disk new.disk level slot has.0 m.c gone.after was m.finds apart came_before
+            scan_finds m.index m.store m.valid.headers partial old.tables.held m.represents.slots_hold first old.tables.names old.parts roots old.disk new.disk level slot has.0
+            m.c gone.after was m.finds apart came_before
             (subst (λ (k : Option PlaceMap). Scans old.tables.held k old.disk new.disk level slot m.c gone.after) m.known_is
             (has_scanned old new m.c m.runs early level slot was gone))
 
         not_scanned : (refusal : Refusal) (refused : HasNotGoneOn old new m.c m.runs early refusal) → FindsAfter refused.after
         not_scanned refusal refused =
-            refusal_finds m.index m.store m.valid.headers partial old.tables.held m.represents.slots_hold first old.tables.names old.parts roots old.disk new.disk level slot has.0 m.c refused.after was m.finds refusal
+            refusal_finds m.index m.store m.valid.headers partial old.tables.held m.represents.slots_hold first old.tables.names old.parts roots old.disk new.disk level slot has.0
+            m.c refused.after was m.finds refusal
             (subst (λ (k : Option PlaceMap). KeepsMarks k old.disk new.disk level slot m.c refused.after refusal) m.known_is
             (has_not_scanned old new m.c m.runs early level slot was refusal refused))
 

@@ -325,7 +325,8 @@ module _ (among : ByteSet) (distinct : HasNoCollisions (IsIn among)) (f : FileEv
       (subst (λ (changes : List StoreChange). ChangesTo changes s t) same leads.next.chain)))
       on
       (subst (λ (changes : List StoreChange). KeepsKeys changes b on.0 old new) (sym same)
-      (keys_other old new b on.0 ran on.1 stays f.event.actor old.acknowledged f.event.buf f.event.step f.event.answer other steps.made.row steps.made.effect steps.collects steps.stops))
+      (keys_other old new b on.0 ran on.1 stays f.event.actor old.acknowledged f.event.buf f.event.step f.event.answer other steps.made.row steps.made.effect steps.collects
+      steps.stops))
       (λ is. absurd (let wrong : ⊥ = subst IsNoGcStep is other in wrong)) (λ did. let wrong : ⊥ = subst IsNoGcStep did.0 other in wrong)
 
   -- ---- of a collection

@@ -181,7 +181,8 @@ module _ (among : ByteSet) (s : Store) (stored : Stored) (old new : CoreState) (
 
   read : IsReadOf index s.held b.snapshot source entry b.sweep copies.slot copies.kind copies.filling h
   read =
-      read_of old.tables.held index s.held image b.live b.snapshot source entry b.sweep core.shows.slots_hold core.stands.right.different core.stands.right.slots_are sweeping next_is holds.1 copies.slot copies.kind copies.filling
+      read_of old.tables.held index s.held image b.live b.snapshot source entry b.sweep core.shows.slots_hold core.stands.right.different core.stands.right.slots_are sweeping
+      next_is holds.1 copies.slot copies.kind copies.filling
       copies.is_source h shown
 
   record HasPlan : Type 0 where
@@ -195,7 +196,8 @@ module _ (among : ByteSet) (s : Store) (stored : Stored) (old new : CoreState) (
     where
       by_found : (o : Option Plan) → PlansBy src (Shows old.disk new.disk) h entry copies.filling o → TakesBy old.tables.held copies.slot source o b.sweep a.sweep → HasPlan
       by_found None other takes =
-          absurd (not_other old.tables.held index s.held image b.live b.snapshot source entry b.sweep core.shows.slots_hold core.stands.right.different core.stands.right.slots_are sweeping next_is holds.1 copies.slot copies.kind
+          absurd (not_other old.tables.held index s.held image b.live b.snapshot source entry b.sweep core.shows.slots_hold core.stands.right.different core.stands.right.slots_are
+          sweeping next_is holds.1 copies.slot copies.kind
           copies.filling copies.is_source h shown other)
       by_found (Some plan) (kind_is, is) takes = record { plan = plan; is_plan = is; buffer_is = takes.0; ends = takes.2 }
 
@@ -398,7 +400,8 @@ finds_filled among old new b a ran runs steps key finds =
     let copied : StepsTo SweepStage (Copy finds.source finds.entry) (at_moment old finds.before) (at_moment new finds.after) =
     subst (λ (n : Next). StepsTo SweepStage n (at_moment old finds.before) (at_moment new finds.after)) finds.next_is
     (subst (λ (st : Stage). StepsTo st finds.before.sweep.next (at_moment old finds.before) (at_moment new finds.after)) finds.sweeps here) in
-    let filled = found_filled among finds.store finds.stored old new finds.is_at finds.before finds.after finds.runs finds.runs_then finds.sweeps finds.source finds.entry finds.next_is copied.0 finds.slot finds.number
+    let filled = found_filled among finds.store finds.stored old new finds.is_at finds.before finds.after finds.runs finds.runs_then finds.sweeps finds.source finds.entry
+    finds.next_is copied.0 finds.slot finds.number
     finds.header finds.found finds.there finds.source_is finds.found_is finds.passed finds.copy
     (subst (λ (k : List ℕ). IsLiveAt finds.before.live k (place_of finds.slot finds.found)) (sym finds.key_is) finds.live) in
     ap (λ (c : Collection). has_key c.sweep.buffer key) after_is ∙ ap (has_key finds.after.sweep.buffer) (sym finds.key_is) ∙ filled

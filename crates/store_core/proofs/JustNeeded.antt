@@ -136,8 +136,11 @@ module _ (among : ByteSet) (distinct : HasNoCollisions (IsIn among)) (f : FileEv
       let index_is : at.index ≡ then.index = one_map_at at.index then.index (sym (refused_known among s stored old new at refusal row (whole refusal stops)) ∙ then.index_known) in
       subst (TakesIn Needs then.index t) (sym row.runs)
       (subst (λ (x : Store). TakesIn Needs then.index x (Some row.after)) (sym (same_store none))
-      (subst (λ (m : PlaceMap). TakesIn Needs m s (Some row.after)) index_is
-      (refused_spares among s stored old new at refusal row before.0, kept_takes old new at.index s.held row.before row.after before.1 row.before.stage row.before.sweep.next refusal refl row.kept)))
+      (subst (λ (m : PlaceMap). TakesIn Needs m s (Some row.after)) index_is (
+        refused_spares among s stored old new at refusal row before.0,
+        kept_takes old new at.index s.held row.before row.after before.1 row.before.stage row.before.sweep.next
+            refusal refl row.kept,
+      )))
 
   takes_by : (a : Result Answer Refusal) → AreChangesBy asked.GcStep a (leads among distinct f s stored old new is step at stays).changes → GcRow a old new → GcEffect a old new
       → StopsAfter asked.GcStep a old.acknowledged new.stop → TakesIn Needs at.index s old.collection → TakesIn Needs then.index t new.collection

@@ -306,46 +306,54 @@ module _ (among : ByteSet) (s : Store) (stored : Stored) (old new : CoreState) (
   begin_next answer row effect collects stops right given =
       part_rests asked.Begin answer row effect (goes_under_way asked.Begin answer row effect collects) collects
       (none_rested among s stored old new actor buf at (begin_none (names_of s) old new actor buf at.represents.names_are.names_are at.many answer row))
-      (own_begin among s stored.files image at.index actor buf old new here at.index_known newest_index invariant_here.files_are_indexed at.represents.names_are.names_are stands_here distinct holds answer row)
+      (own_begin among s stored.files image at.index actor buf old new here at.index_known newest_index invariant_here.files_are_indexed at.represents.names_are.names_are
+      stands_here distinct holds answer row)
 
   claim_next : (seg : KindSegment) (answer : Result Answer Refusal) → Goes (asked.Claim seg) answer
   claim_next seg answer row effect collects stops right given =
       rests_by (asked.Claim seg) answer row effect (goes_under_way (asked.Claim seg) answer row effect collects)
       (claim_safe among s stored old new actor buf at seg answer row effect collects)
-      (own_claim among s stored.files image at.index actor buf old new here at.index_known newest_index invariant_here.files_are_indexed at.represents.names_are.names_are stands_here distinct holds seg answer given row)
+      (own_claim among s stored.files image at.index actor buf old new here at.index_known newest_index invariant_here.files_are_indexed at.represents.names_are.names_are
+      stands_here distinct holds seg answer given row)
 
   abort_next : (answer : Result Answer Refusal) → Goes asked.Abort answer
   abort_next answer row effect collects stops right given =
       part_rests asked.Abort answer row effect (goes_under_way asked.Abort answer row effect collects) collects
       (none_rested among s stored old new actor buf at (abort_none (names_of s) old new actor buf at.represents.names_are.names_are at.many answer row))
-      (own_abort among s stored.files image at.index actor buf old new here at.index_known newest_index invariant_here.files_are_indexed at.represents.names_are.names_are stands_here distinct holds answer row)
+      (own_abort among s stored.files image at.index actor buf old new here at.index_known newest_index invariant_here.files_are_indexed at.represents.names_are.names_are
+      stands_here distinct holds answer row)
 
   open_next : (name : List ℕ) (answer : Result Answer Refusal) → Goes (asked.OpenRead name) answer
   open_next name answer row effect collects stops right given =
       part_rests (asked.OpenRead name) answer row effect (goes_under_way (asked.OpenRead name) answer row effect collects) collects
       (none_rested among s stored old new actor buf at (open_none (names_of s) old new actor buf at.represents.names_are.names_are at.many name answer row))
-      (own_open among s stored.files image at.index actor buf old new here at.index_known newest_index invariant_here.files_are_indexed at.represents.names_are.names_are stands_here distinct holds name answer row)
+      (own_open among s stored.files image at.index actor buf old new here at.index_known newest_index invariant_here.files_are_indexed at.represents.names_are.names_are
+      stands_here distinct holds name answer row)
 
   read_next : (answer : Result Answer Refusal) → Goes asked.ReadNext answer
   read_next answer row effect collects stops right given =
       part_rests asked.ReadNext answer row effect (goes_under_way asked.ReadNext answer row effect collects) collects
       (none_rested among s stored old new actor buf at (read_none (names_of s) old new actor buf at.represents.names_are.names_are at.many answer row))
-      (own_read among s stored.files image at.index actor buf old new here at.index_known newest_index invariant_here.files_are_indexed at.represents.names_are.names_are stands_here distinct holds answer row)
+      (own_read among s stored.files image at.index actor buf old new here at.index_known newest_index invariant_here.files_are_indexed at.represents.names_are.names_are
+      stands_here distinct holds answer row)
 
   drop_next : (answer : Result Answer Refusal) → Goes asked.EndRead answer
   drop_next answer row effect collects stops right given =
       part_rests asked.EndRead answer row effect (goes_under_way asked.EndRead answer row effect collects) collects
       (none_rested among s stored old new actor buf at (end_none (names_of s) old new actor buf at.represents.names_are.names_are at.many answer row))
-      (own_drop among s stored.files image at.index actor buf old new here at.index_known newest_index invariant_here.files_are_indexed at.represents.names_are.names_are stands_here distinct holds answer row)
+      (own_drop among s stored.files image at.index actor buf old new here at.index_known newest_index invariant_here.files_are_indexed at.represents.names_are.names_are
+      stands_here distinct holds answer row)
 
   stat_next : (answer : Result Answer Refusal) → Goes asked.Stat answer
   stat_next answer row effect collects stops right given =
       part_rests asked.Stat answer row effect (goes_under_way asked.Stat answer row effect collects) collects
       (none_rested among s stored old new actor buf at (stat_none (names_of s) old new actor buf at.represents.names_are.names_are at.many answer row))
-      (own_stat among s stored.files image at.index actor buf old new here at.index_known newest_index invariant_here.files_are_indexed at.represents.names_are.names_are stands_here distinct holds answer row)
+      (own_stat among s stored.files image at.index actor buf old new here at.index_known newest_index invariant_here.files_are_indexed at.represents.names_are.names_are
+      stands_here distinct holds answer row)
 
   own_still : new.parts ≡ old.parts → Own
-  own_still = own_refused among s stored.files image at.index actor buf old new here at.index_known newest_index invariant_here.files_are_indexed at.represents.names_are.names_are stands_here distinct holds
+  own_still = own_refused among s stored.files image at.index actor buf old new here at.index_known newest_index invariant_here.files_are_indexed at.represents.names_are.names_are
+      stands_here distinct holds
 
   -- a container
   seal_moves : (filled : Contents) (answer : Result Answer Refusal) → SealsOne filled answer old new → IsStep (asked.Seal filled)
@@ -486,7 +494,8 @@ module _ (among : ByteSet) (s : Store) (stored : Stored) (old new : CoreState) (
   list_next answer row effect collects stops right given =
       part_rests asked.ListNames answer row effect (goes_under_way asked.ListNames answer row effect collects) collects
       (none_rested among s stored old new actor buf at (list_none (names_of s) old new actor buf at.represents.names_are.names_are at.many answer row))
-      (own_list among s stored.files image at.index actor buf old new here at.index_known newest_index invariant_here.files_are_indexed at.represents.names_are.names_are stands_here distinct holds answer row)
+      (own_list among s stored.files image at.index actor buf old new here at.index_known newest_index invariant_here.files_are_indexed at.represents.names_are.names_are
+      stands_here distinct holds answer row)
 
   -- a collection begins
   start_next : (percent : ℕ) (answer : Result Answer Refusal) → Goes (asked.GcStart percent) answer
@@ -517,7 +526,8 @@ module _ (among : ByteSet) (distinct : HasNoCollisions (IsIn among)) where
       → IsGivenRight (IsIn among) f.event.step f.event.answer f.bytes old → IsAt (IsIn among) s stored old → new.stop ≡ None
       → NextOn (IsIn among) s (changes_by f.event.step f.event.answer) (stored_by f stored) old new
   by_stop None f s stored old new is steps right other given at stays =
-      step_next among s stored old new f.event.actor f.event.buf f.bytes distinct at stays f.event.step f.event.answer other steps.made.row steps.made.effect steps.collects steps.stops right given
+      step_next among s stored old new f.event.actor f.event.buf f.bytes distinct at stays f.event.step f.event.answer other steps.made.row steps.made.effect steps.collects
+      steps.stops right given
   by_stop (Some stop) f s stored old new is steps right other given at stays = absurd (let both = sym stays ∙ steps.same.stop_is ∙ is in cc)
 
   -- a step that no collection makes

@@ -330,7 +330,8 @@ module _ (among : ByteSet) (distinct : HasNoCollisions (IsIn among)) where
                     (pin_of seg).level seg.segment.bytes has.0 has.1,
               ))
               (keeps.held at.index at.index_known at.stands.known.0 at.stands.known.1))
-              (step_kept among s stored (stored_by f stored) old new f.event.actor f.event.buf f.bytes distinct at stays f.event.step f.event.answer steps.made.row next then then_is after is steps.made.effect step.asked step.given);
+              (step_kept among s stored (stored_by f stored) old new f.event.actor f.event.buf f.bytes distinct at stays f.event.step f.event.answer steps.made.row next then
+              then_is after is steps.made.effect step.asked step.given);
         },
       )
 

@@ -238,7 +238,8 @@ module _ (among : ByteSet) (s : Store) (stored : Stored) (old new : CoreState) (
         (copies : CopiesSource old.tables.held b.live (Some index) new.known old.disk new.disk source entry b.sweep a.sweep) (store_is : t ≡ s) where
       leaves : LeavesHeld index s.held image b.live b.snapshot new.known a.sweep
       leaves =
-          copied_leaves old.tables.held index s.held image b.live b.snapshot source entry b.sweep a.sweep new.known old.disk new.disk core.shows.slots_hold core.stands.right.different core.stands.right.slots_are core.partial told
+          copied_leaves old.tables.held index s.held image b.live b.snapshot source entry b.sweep a.sweep new.known old.disk new.disk core.shows.slots_hold
+          core.stands.right.different core.stands.right.slots_are core.partial told
           sweeping next_is holds.1 copies
 
       still_in : (key : List ℕ) (place : Place) (h : HeaderValue) (got : Option Place) → finite.get leaves.later key ≡ got → finite.get index key ≡ Some place

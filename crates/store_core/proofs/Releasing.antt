@@ -227,7 +227,8 @@ module _ (C : Type 0) (state : C → CoreState) where
       (spares_on among distinct f s stored (state mid) (state run.0) all.0 run.1.0 at on spares) run.1.1 all.1 stays
 
   pub leaves_none_spare : LeavesNoneSpare C state
-  leaves_none_spare among actor last_actor percent snapshot freed copied buf last_buf steps s t stored old mid new last distinct at idle runs began run all stays ended there slot spare =
+  leaves_none_spare among actor last_actor percent snapshot freed copied buf last_buf steps s t stored old mid new last distinct at idle runs began run all stays ended there slot
+      spare =
       let first : FileEvent = record { event = starts actor percent snapshot buf; bytes = [] } in
       let begins : Steps first.event (state old) (state mid) = running_step (state old) (state mid) first.event runs began in
       let on : (state mid).stop ≡ None = run_running C state among steps mid new run stays in

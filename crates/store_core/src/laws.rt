@@ -33,9 +33,9 @@ pub fn a_core_bounds_collections<C: HasState>()
 
 /// Whatever the disk of a core holds, of one whose tables and index are those of a store: a collection that has marked, with no steps of
 /// others between, found each key of the trees of all names, readers and pins in the index as it began; and whatever steps others make
-/// between, once it has marked, and until it begins to sweep, the index has each key of the trees of all that there are at that moment, too.
-/// No header but the store's was shown in a slot with its digest. A step of one that has not begun to sweep only reads, and so frees and
-/// copies nothing. The function does nothing.
+/// between, once it has marked, and until it begins to sweep, the index has each key of the trees of all that there are at that moment,
+/// too. No header but the store's was shown in a slot with its digest. A step of one that has not begun to sweep only reads, and so frees
+/// and copies nothing. The function does nothing.
 pub fn a_core_finds_all_keys<C: HasState>()
     ensures alone { FindsKeys C C.state }
     ensures meanwhile { FindsKeysMeanwhile C C.state }

@@ -127,7 +127,8 @@ module _ (s : SessionState) (h : History) (has : HasHistory s h) (pins : PinMap)
           (held_kept s h (item_kind (turn_node s)) (item_of (turn_node s) s.queue) (item_in s))
 
       each : (more : List ℕ) → MayFollow more s → (kind : Kind) (x : Segment) → KeptBy (segments_of (h.given ++ more)) (h.answers ++ answers.Held ∷ []) kind x
-          → HasPinOf (KeptBy (segments_of (h.given ++ more)) (h.answers ++ answers.Held ∷ [])) (finite.insert pins (segment_key seg.kind seg.segment) (pin_of seg)) (segment_key kind x)
+          → HasPinOf (KeptBy (segments_of (h.given ++ more)) (h.answers ++ answers.Held ∷ [])) (finite.insert pins (segment_key seg.kind seg.segment) (pin_of seg))
+          (segment_key kind x)
       each more follow kind x is =
           let K = KeptNow answers.Held settled right more follow in
           let mine = now answers.Held settled right more follow seg.kind seg.segment own in
@@ -145,7 +146,8 @@ module _ (s : SessionState) (h : History) (has : HasHistory s h) (pins : PinMap)
   sealed_pinned id mine settled right due = record { each = each }
     where
       each : (more : List ℕ) → MayFollow more s → (kind : Kind) (x : Segment) → KeptBy (segments_of (h.given ++ more)) (h.answers ++ answers.Sealed id ∷ []) kind x
-          → HasPinOf (KeptBy (segments_of (h.given ++ more)) (h.answers ++ answers.Sealed id ∷ [])) (with_pins (open_of s mine).kind (open_of s mine).segments pins) (segment_key kind x)
+          → HasPinOf (KeptBy (segments_of (h.given ++ more)) (h.answers ++ answers.Sealed id ∷ [])) (with_pins (open_of s mine).kind (open_of s mine).segments pins)
+          (segment_key kind x)
       each more follow kind x is =
           let K = KeptNow (answers.Sealed id) settled right more follow in
           let all : (y : Segment) → IsIn y (open_of s mine).segments → K mine y =

@@ -61,7 +61,8 @@ module _ (K : Kind → Segment → Type 0) (kind : Kind) where
   pins_still (x ∷ xs) pins key kept has =
       pins_still xs (with_pin x (kept x (0, refl)) pins) key (λ y is. kept y (in_rest y x xs is)) (next_pin x (kept x (0, refl)) pins key has)
 
-  pub pins_more : (xs : List Segment) (pins : PinMap) → ((x : Segment) → IsIn x xs → K kind x) → (x : Segment) → IsIn x xs → HasPinOf K (with_pins kind xs pins) (segment_key kind x)
+  pub pins_more : (xs : List Segment) (pins : PinMap) → ((x : Segment) → IsIn x xs → K kind x) → (x : Segment) → IsIn x xs →
+      HasPinOf K (with_pins kind xs pins) (segment_key kind x)
   pins_more [] pins kept x is = absurd (in_none x is)
   pins_more (y ∷ ys) pins kept x (zero, is) =
       pins_still ys (with_pin y (kept y (0, refl)) pins) (segment_key kind x) (λ z there. kept z (in_rest z y ys there))

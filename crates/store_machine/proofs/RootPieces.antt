@@ -73,7 +73,8 @@ module _ (file : List ℕ) (few : length file ≤ MOST_FILE) where
   -- of more: its last node
   module _ (level : ℕ) (ts : Trees (List ℕ)) (is : tree_of ByCount of_segment segments ≡ Node level ts) where
     last : IsIn (node level ts) (nodes_of of_segment (tree_of ByCount of_segment segments))
-    last = subst (λ (t : Tree (List ℕ)). IsIn (node level ts) (nodes_of of_segment t)) (sym is) (in_right (nodes_below of_segment ts) (node level ts ∷ []) (node level ts) (0, refl))
+    last = subst (λ (t : Tree (List ℕ)). IsIn (node level ts) (nodes_of of_segment t)) (sym is)
+        (in_right (nodes_below of_segment ts) (node level ts ∷ []) (node level ts) (0, refl))
 
     right : IsNode (node level ts)
     right = one_of IsNode (nodes_of of_segment (tree_of ByCount of_segment segments)) (node level ts) (nodes_are_right ByCount segments may) last

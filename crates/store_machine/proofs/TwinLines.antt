@@ -206,7 +206,8 @@ module _ {V R : Type 0} (v : Values V R) where
     pushed bytes t off sessions (inl (turns, inr long)) =
         let went = turns_made ss t e.machine turns run in
         record {
-          holds = put_holds d e a (Some t) holds (sessions ∙ ap (λ (r : ReplyValue). slice_set d.sessions a (Some (unless_refused r (record t { given = t.given ++ bytes }) t))) long)
+          holds = put_holds d e a (Some t) holds (sessions ∙ ap (λ (r : ReplyValue). slice_set d.sessions a (Some (unless_refused r (record t { given = t.given ++ bytes }) t)))
+              long)
               went.beside (λ x is. subst (Writes e.machine a) (same_some t x is) went.writes);
           lacks = no_lack d reply (replies.Refused refusals.TooLong) long long_not;
         }
@@ -227,7 +228,8 @@ module _ {V R : Type 0} (v : Values V R) where
         let same : e.machine ≡ d.machine = run_as [] none in
         record {
           holds = put_holds d e a (Some s) holds (sessions ∙ ap (λ (r : ReplyValue). slice_set d.sessions a (Some (unless_refused r (record s { ended = true }) s))) memory)
-              (beside_here a d.machine e.machine same) (λ x is. subst (Writes e.machine a) (same_some s x is) (writes_on d.machine e.machine a s (writers_here d.machine e.machine same) w));
+              (beside_here a d.machine e.machine same)
+              (λ x is. subst (Writes e.machine a) (same_some s x is) (writes_on d.machine e.machine a s (writers_here d.machine e.machine same) w));
           lacks = no_lack d reply (replies.Refused refusals.Memory) memory memory_not;
         }
     finished off sessions none (inl (count, is)) =
@@ -310,7 +312,8 @@ module _ {V R : Type 0} (v : Values V R) where
     abort_line sessions (Err refusal, is, by) =
         let here : WentOn a s s d.machine d.machine = turns_made [] s d.machine refl refl in
         kept_stopped s (unless_refused reply None (Some s))
-        (refused_after s d.machine asked.Abort refusal here (one_of (step_of v a asked.Abort (Err refusal)) d.machine e.machine (run_as (step_of v a asked.Abort (Err refusal) ∷ []) is)) tt by (λ key on. absurd on))
+        (refused_after s d.machine asked.Abort refusal here
+        (one_of (step_of v a asked.Abort (Err refusal)) d.machine e.machine (run_as (step_of v a asked.Abort (Err refusal) ∷ []) is)) tt by (λ key on. absurd on))
         (λ other same. ap (λ (r : ReplyValue). unless_refused r None (Some s)) same) sessions
     abort_line sessions (Ok answer, is, by) = by_answer answer by (does_of v a asked.Abort answer d.machine e.machine tt
         (one_of (step_of v a asked.Abort (Ok answer)) d.machine e.machine (run_as (step_of v a asked.Abort (Ok answer) ∷ []) is)))
@@ -508,7 +511,8 @@ module _ {V R : Type 0} (v : Values V R) where
       acts : (line : LineValue) (reply : ReplyValue) (ss : List (Stepped V)) (d e : Desk V R) → Holds d → Run v ss d.machine e.machine → Admits v line d
           → Acts v line reply ss d e → Kept d e reply
       acts (lines.Begin a) reply ss d e holds run admits (sessions, inl (told, is, by)) =
-          begin_told d e holds reply ss run a told by (one_of (step_of v a asked.Begin told) d.machine e.machine (ran_as d e holds reply ss run (step_of v a asked.Begin told ∷ []) is)) sessions
+          begin_told d e holds reply ss run a told by
+          (one_of (step_of v a asked.Begin told) d.machine e.machine (ran_as d e holds reply ss run (step_of v a asked.Begin told ∷ []) is)) sessions
       acts (lines.Begin a) reply ss d e holds run admits (sessions, inr (memory, none)) =
           nothing d e holds reply ss run none
           (sessions ∙ ap (λ (r : ReplyValue). slice_set d.sessions a (unless_refused r (Some new_session) (session_of v d a))) memory ∙ set-get_or d.sessions a None)

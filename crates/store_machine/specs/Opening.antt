@@ -75,8 +75,8 @@ module _ {V R : Type 0} (v : Values V R) where
   MayRefuseOpening (Missing key) = ¬ v.Known
   MayRefuseOpening refusal = ⊥
 
-  -- A store that stands had too few closed slots, and some of its containers were given back, one at least, the one of the least id first, none of which
-  -- the names need that may be found.
+  -- A store that stands had too few closed slots, and some of its containers were given back, one at least, the one of the least id first,
+  -- none of which the names need that may be found.
   pub record IsGivenBack (m : Machine V R) (t : Store) : Type 0 where
     pub found : Found V
     pub may : MayBeFound m.state m.now found

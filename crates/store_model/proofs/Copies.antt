@@ -87,14 +87,18 @@ ends_within : (kind : Kind) (test : Entry → Bool) (before entries : List Entry
 ends_within kind test before [] entry follow e = absurd cc
 ends_within kind test before (x ∷ xs) entry follow e =
     elim (test x)
-    as (λ b. cond b (Some x) (find test xs) ≡ Some entry → (entry.offset + entry.length ≤ bytes_of before + bytes_of (x ∷ xs)) × (is_length kind entry.length ≡ true) × (is_level kind entry.level ≡ true)) [
+    as (λ b. cond b (Some x) (find test xs) ≡ Some entry → (entry.offset + entry.length ≤ bytes_of before + bytes_of (x ∷ xs)) × (is_length kind entry.length ≡ true)
+    × (is_level kind entry.level ≡ true)) [
       | true ↦ λ is.
           let same = some_same x entry is in
           subst (λ (y : Entry). (y.offset + y.length ≤ bytes_of before + bytes_of (x ∷ xs)) × (is_length kind y.length ≡ true) × (is_level kind y.level ≡ true)) same
           (omega (arith, follow.0.offset, sum_by-cons (λ (y : Entry). y.length) x xs), follow.0.length, follow.0.level)
       | false ↦ λ is.
-          let rest = ends_within kind test (before ++ x ∷ []) xs entry follow.1 is in
-          (omega (arith, rest.0, sum_by-cons (λ (y : Entry). y.length) x xs, sum_by-append (λ (y : Entry). y.length) before (x ∷ []), sum_by-cons (λ (y : Entry). y.length) x []), rest.1, rest.2)
+          let rest = ends_within kind test (before ++ x ∷ []) xs entry follow.1 is in (
+            omega (arith, rest.0, sum_by-cons (λ (y : Entry). y.length) x xs, sum_by-append (λ (y : Entry). y.length) before (x ∷ []), sum_by-cons (λ (y : Entry). y.length) x []),
+            rest.1,
+            rest.2,
+          )
     ] e
 
 both_true : (a b : Bool) → a && b ≡ true → (a ≡ true) × (b ≡ true)
@@ -175,7 +179,8 @@ copy_within store key copy headers e =
 -- ---- the digest of a copy
 
 -- each is so, and one of them is found
-found_so : (P : Entry → Type 0) (test : Entry → Bool) (entries : List Entry) (entry : Entry) → AllByRecursion P entries → find test entries ≡ Some entry → P entry × (test entry ≡ true)
+found_so : (P : Entry → Type 0) (test : Entry → Bool) (entries : List Entry) (entry : Entry) → AllByRecursion P entries → find test entries ≡ Some entry →
+    P entry × (test entry ≡ true)
 found_so P test [] entry all e = absurd cc
 found_so P test (x ∷ xs) entry all e =
     elim (test x) as (λ b. test x ≡ b → cond b (Some x) (find test xs) ≡ Some entry → P entry × (test entry ≡ true)) [
@@ -202,9 +207,11 @@ tail_same : (a b : ℕ) (first second : List ℕ) → a ∷ first ≡ b ∷ seco
 tail_same a b first second e = cc
 
 -- the bytes of a copy have the digest that its key says
-pub copy_digest : (held : List (Option HeaderValue)) (kind : ℕ) (digest image : List ℕ) (copy : Copy) → AreCopies 0 held image → newest 0 held (key_of kind digest) ≡ Some copy → sha256 (bytes_at copy.place image) ≡ digest
+pub copy_digest : (held : List (Option HeaderValue)) (kind : ℕ) (digest image : List ℕ) (copy : Copy) → AreCopies 0 held image → newest 0 held (key_of kind digest) ≡ Some copy →
+    sha256 (bytes_at copy.place image) ≡ digest
 copy_digest held kind digest image copy copies e =
     let l = lies 0 held (key_of kind digest) copy e in
-    let so = found_so (λ x. sha256 (range (data_at (0 + l.index) + x.offset) x.length image) ≡ x.digest) _ l.header.entries l.entry (copies_there 0 held l.index l.header image copies l.there) l.found in
+    let so = found_so (λ x. sha256 (range (data_at (0 + l.index) + x.offset) x.length image) ≡ x.digest) _ l.header.entries l.entry
+    (copies_there 0 held l.index l.header image copies l.there) l.found in
     let key : key_of (kind_byte l.header.kind) l.entry.digest ≡ key_of kind digest = (bytes_eq-Decides _ _).0 so.1 in
     ap (λ (c : Copy). sha256 (bytes_at c.place image)) l.copy_is ∙ so.0 ∙ tail_same (kind_byte l.header.kind) kind l.entry.digest digest key

@@ -61,7 +61,8 @@ pub in_index : (index : PlaceMap) (key : List ℕ) → HasKey index key → IsIn
 in_index index key has = ap is_some has.1
 
 -- where it has all, each that is held
-pub indexed_keys : (held : List (Option HeaderValue)) (index : PlaceMap) → IsIndexOf held index → (key : List ℕ) (copy : Copy) → newest 0 held key ≡ Some copy → IsIn (key_set_of index) key
+pub indexed_keys : (held : List (Option HeaderValue)) (index : PlaceMap) → IsIndexOf held index → (key : List ℕ) (copy : Copy) → newest 0 held key ≡ Some copy →
+    IsIn (key_set_of index) key
 indexed_keys held index all key copy is = in_index index key (indexed_by held index all key copy is)
 
 -- ---- what is held

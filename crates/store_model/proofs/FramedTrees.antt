@@ -58,7 +58,8 @@ encodes_on store image new front size held right many slots_are different = reco
   different = different;
 }
 
-pub stands_on : (S : List ℕ → Type 0) (store : Store) (files : Files) (image new : List ℕ) → SameTo FIRST_SLOT image new → (held : List (Option HeaderValue)) → Stands S store files image
+pub stands_on : (S : List ℕ → Type 0) (store : Store) (files : Files) (image new : List ℕ) → SameTo FIRST_SLOT image new → (held : List (Option HeaderValue)) →
+    Stands S store files image
     → Encodes new (record store { held = held }) → AreCopies 0 held new → AreNodes 0 held new → AreAmong S 0 held new → AreFilesOf held (names_of store) new files
     → Stands S (record store { held = held }) files new
 stands_on S store files image new front held stands right copies nodes among files_are = record {
@@ -92,7 +93,8 @@ pub before_slots : (slot : ℕ) (image new : List ℕ) → SameOutside (slot_at 
 before_slots slot image new same p n within = same.before p n (omega (arith, within))
 
 -- the same store, of the same files
-pub unsealed : (S : List ℕ → Type 0) (store : Store) (files : Files) (image new : List ℕ) → Stands S store files image → SameOutside (slot_at (first_free store.held)) SLOT_BYTES image new
+pub unsealed : (S : List ℕ → Type 0) (store : Store) (files : Files) (image new : List ℕ) → Stands S store files image →
+    SameOutside (slot_at (first_free store.held)) SLOT_BYTES image new
     → HoldsSlot new (first_free store.held) None → Stands S store files new
 unsealed S store files image new stands same closed =
     let slot : ℕ = first_free store.held in
@@ -137,7 +139,8 @@ module _ (store : Store) (image new : List ℕ) (right : Encodes image store) (s
   tree_framed = tree_on store.held store.held image new newest_framed
 
 -- the same store, of the same files
-pub stands_framed : (S : List ℕ → Type 0) (store : Store) (files : Files) (image new : List ℕ) → Stands S store files image → SameTo (slot_at store.slots) image new → length new ≡ length image
+pub stands_framed : (S : List ℕ → Type 0) (store : Store) (files : Files) (image new : List ℕ) → Stands S store files image → SameTo (slot_at store.slots) image new →
+    length new ≡ length image
     → Stands S store files new
 stands_framed S store files image new stands same size =
     let right = stands.holds.right in

@@ -47,7 +47,8 @@ module _ (old new : List ℕ) (same : SameTo FIRST_HALF old new) where
   -- and its gate
   pub other_kept : (is_open : Bool) (half : ℕ) → KnowsOther is_open half old → KnowsOther is_open half new
   other_kept is_open half knows =
-      let here : byte_at (selector_at (1 - half)) new ≡ byte_at (selector_at (1 - half)) old = byte_of_range (selector_at (1 - half)) old new (same (selector_at (1 - half)) 1 (omega arith)) in
+      let here : byte_at (selector_at (1 - half)) new ≡ byte_at (selector_at (1 - half)) old =
+      byte_of_range (selector_at (1 - half)) old new (same (selector_at (1 - half)) 1 (omega arith)) in
       (λ is. here ∙ knows.0 is, λ is. knows.1 (sym here ∙ is))
 
 -- ---- all before the slots
@@ -97,7 +98,8 @@ module _ (slot : ℕ) (old new : List ℕ) (same : SameSlot slot old new) where
   pub place_kept : (offset n : ℕ) → offset + n ≤ 212480 → range (data_at slot + offset) n new ≡ range (data_at slot + offset) n old
   place_kept offset n within = same (data_at slot + offset) n (omega arith) (omega (arith, within))
 
-  entries_kept : (kind : Kind) (before entries : List Entry) → Follow kind before entries → bytes_of before + bytes_of entries ≤ 212480 → HaveDigests slot entries old → HaveDigests slot entries new
+  entries_kept : (kind : Kind) (before entries : List Entry) → Follow kind before entries → bytes_of before + bytes_of entries ≤ 212480 → HaveDigests slot entries old →
+      HaveDigests slot entries new
   entries_kept kind before [] follow few all = tt
   entries_kept kind before (e ∷ es) follow few all =
       let here = place_kept e.offset e.length (omega (arith, follow.0.offset, few, sum_by-cons (λ (y : Entry). y.length) e es)) in

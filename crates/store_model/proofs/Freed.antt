@@ -150,14 +150,16 @@ encodes_unfreed slot h s old new right there same has =
     (holds_again slot old new outside 0 slot (Some h) s.held (omega arith) there has right.slots_are) right.different
 
 -- what a slot holds
-pub slot_from : (from index : ℕ) (held : List (Option HeaderValue)) (c : Option HeaderValue) (image : List ℕ) → HoldSlots from held image → slice_get held index ≡ Some c → HoldsSlot image (from + index) c
+pub slot_from : (from index : ℕ) (held : List (Option HeaderValue)) (c : Option HeaderValue) (image : List ℕ) → HoldSlots from held image → slice_get held index ≡ Some c →
+    HoldsSlot image (from + index) c
 slot_from from index [] c image holds there = absurd cc
 slot_from from zero (d ∷ held) c image holds there =
     subst (λ (s : ℕ). HoldsSlot image s c) (omega arith) (subst (λ (x : Option HeaderValue). HoldsSlot image from x) (some_same d c there) holds.0)
 slot_from from (suc index) (d ∷ held) c image holds there =
     subst (λ (s : ℕ). HoldsSlot image s c) (omega arith) (slot_from (from + 1) index held c image holds.1 there)
 
-pub slot_held : (slot : ℕ) (held : List (Option HeaderValue)) (c : Option HeaderValue) (image : List ℕ) → HoldSlots 0 held image → slice_get held slot ≡ Some c → HoldsSlot image slot c
+pub slot_held : (slot : ℕ) (held : List (Option HeaderValue)) (c : Option HeaderValue) (image : List ℕ) → HoldSlots 0 held image → slice_get held slot ≡ Some c →
+    HoldsSlot image slot c
 slot_held slot held c image holds there = subst (λ (s : ℕ). HoldsSlot image s c) (omega arith) (slot_from 0 slot held c image holds there)
 
 -- the first byte of a part

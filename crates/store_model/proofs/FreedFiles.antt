@@ -79,7 +79,8 @@ one_closed (suc slot) (None ∷ cs) closed = omega arith
 one_closed (suc slot) (Some h ∷ cs) closed = one_closed slot cs closed
 
 -- two different slots that are closed
-pub both_closed : (first second : ℕ) (held : List (Option HeaderValue)) → first < second → slice_get held first ≡ Some None → slice_get held second ≡ Some None → 2 ≤ free_slots held
+pub both_closed : (first second : ℕ) (held : List (Option HeaderValue)) → first < second → slice_get held first ≡ Some None → slice_get held second ≡ Some None →
+    2 ≤ free_slots held
 both_closed first second [] differ one other = absurd cc
 both_closed first zero (c ∷ cs) differ one other = absurd (omega (arith, differ))
 both_closed zero (suc second) (None ∷ cs) differ one other = omega (arith, one_closed second cs other)
@@ -99,14 +100,16 @@ closed_of_givable : (P : List ℕ → Type 0) (held : List (Option HeaderValue))
 closed_of_givable P held slot left (inl closed) = closed
 closed_of_givable P held slot left (inr spare) = absurd (left spare)
 
-pub reserve_free : (P : List ℕ → Type 0) (held : List (Option HeaderValue)) → HasReserve P held → (RESERVE ≤ free_slots held) ⊎ ((slot : ℕ) → ¬ (IsSpare P held slot)) → 2 ≤ free_slots held
+pub reserve_free : (P : List ℕ → Type 0) (held : List (Option HeaderValue)) → HasReserve P held → (RESERVE ≤ free_slots held) ⊎ ((slot : ℕ) → ¬ (IsSpare P held slot)) →
+    2 ≤ free_slots held
 reserve_free P held reserve (inl enough) = omega (arith, enough)
 reserve_free P held reserve (inr left) =
     both_closed reserve.first reserve.second held reserve.differ (closed_of_givable P held reserve.first (left reserve.first) reserve.first_is)
     (closed_of_givable P held reserve.second (left reserve.second) reserve.second_is)
 
 -- A slot that may be given back may be still, once one is closed that has nothing that is needed.
-givable_freed : (P : List ℕ → Type 0) (slot other : ℕ) (held : List (Option HeaderValue)) → HoldsNone P held slot → IsGivable P held other → IsGivable P (without_slot slot held) other
+givable_freed : (P : List ℕ → Type 0) (slot other : ℕ) (held : List (Option HeaderValue)) → HoldsNone P held slot → IsGivable P held other →
+    IsGivable P (without_slot slot held) other
 givable_freed P slot other held none givable = elim (eqb_tells slot other) [
   | inl same ↦ by_same same.1 givable
   | inr differ ↦ by_other differ.1 givable
@@ -159,12 +162,14 @@ same_but_held [] s = refl
 same_but_held (slot ∷ rest) s = same_but_held rest (with_freed slot s)
 
 -- the newest copy of each key that is needed
-pub newest_after : (P : List ℕ → Type 0) (freed : List ℕ) (s : Store) (key : List ℕ) → FreesSome P freed s → P key → newest 0 (with_all_freed freed s).held key ≡ newest 0 s.held key
+pub newest_after : (P : List ℕ → Type 0) (freed : List ℕ) (s : Store) (key : List ℕ) → FreesSome P freed s → P key →
+    newest 0 (with_all_freed freed s).held key ≡ newest 0 s.held key
 newest_after P [] s key frees needed = refl
 newest_after P (slot ∷ rest) s key frees needed = newest_after P rest (with_freed slot s) key frees.2 needed ∙ newest_freed P slot s.held frees.1.none key needed
 
 -- a rule for each entry
-so_without : (P : Kind → Entry → List ℕ → Type 0) (from slot : ℕ) (held : List (Option HeaderValue)) (image : List ℕ) → AreSo P from held image → AreSo P from (without_slot slot held) image
+so_without : (P : Kind → Entry → List ℕ → Type 0) (from slot : ℕ) (held : List (Option HeaderValue)) (image : List ℕ) → AreSo P from held image →
+    AreSo P from (without_slot slot held) image
 so_without P from slot [] image so = tt
 so_without P from zero (None ∷ cs) image so = so
 so_without P from zero (Some h ∷ cs) image so = so.1
@@ -230,7 +235,8 @@ still_held freed s old new same =
 
 -- The containers that are given back are needed by no file; the bytes of all others are as they were.
 module _ (S P : List ℕ → Type 0) (files : Files) (s : Store) (freed given now : List ℕ) (needed : (key : List ℕ) → IsReachable files key → P key)
-    (stays : (key : List ℕ) → P key → newest 0 (with_all_freed freed s).held key ≡ newest 0 s.held key) (same : SameButGates freed given now) (after : Encodes now (record s { held = (with_all_freed freed s).held })) where
+    (stays : (key : List ℕ) → P key → newest 0 (with_all_freed freed s).held key ≡ newest 0 s.held key) (same : SameButGates freed given now)
+    (after : Encodes now (record s { held = (with_all_freed freed s).held })) where
   abbrev more : List (Option HeaderValue)
   more = (with_all_freed freed s).held
 
@@ -382,7 +388,8 @@ pub stands_of : (S : List ℕ → Type 0) (stored : Stored) (image : List ℕ) �
 stands_of S stored image opens = record { store = opens.store; holds = opens.stands.holds; opens = opens.opens; last_is = sym opens.last_is }
 
 same_stored : (m n : Stored) → m.files ≡ n.files → m.last ≡ n.last → m ≡ n
-same_stored m n files last = ap (λ (x : Files). (let one : Stored = record { files = x; last = m.last } in one)) files ∙ ap (λ (x : ℕ). (let one : Stored = record { files = n.files; last = x } in one)) last
+same_stored m n files last = ap (λ (x : Files). (let one : Stored = record { files = x; last = m.last } in one)) files
+    ∙ ap (λ (x : ℕ). (let one : Stored = record { files = n.files; last = x } in one)) last
 
 -- An image is opened as one map of files at most.
 pub opens_once : (S : List ℕ → Type 0) (m n : Stored) (image : List ℕ) → OpensAs S m image → OpensAs S n image → m ≡ n

@@ -75,7 +75,13 @@ rank_without : (from slot : ℕ) (held : List (Option HeaderValue)) (key : List 
 rank_without from slot [] key = omega arith
 rank_without from zero (c ∷ cs) key = omega (arith, rank_newer (copy_in from c key) (newest (from + 1) cs key))
 rank_without from (suc slot) (c ∷ cs) key =
-    omega (arith, rank_newer (copy_in from c key) (newest (from + 1) (without_slot slot cs) key), rank_newer (copy_in from c key) (newest (from + 1) cs key), rank_without (from + 1) slot cs key)
+    omega (
+      arith,
+      rank_newer (copy_in from c key) (newest (from + 1) (without_slot slot cs) key),
+      rank_newer (copy_in from c key) (newest (from + 1) cs key),
+      rank_without
+          (from + 1) slot cs key,
+    )
 
 -- a copy lies in its slot
 slot_of_copy : (slot : ℕ) (c : Option HeaderValue) (key : List ℕ) (copy : Copy) → copy_in slot c key ≡ Some copy → copy.place.slot ≡ slot
@@ -87,7 +93,8 @@ slot_of_copy slot (Some h) key copy e = by_entry (find (λ x. bytes_eq (key_of (
     by_entry (Some x) e = sym (ap (λ (c : Copy). c.place.slot) (some_same _ copy e))
 
 -- where it isn't in the slot that is closed, it stays
-newest_from : (slot from index : ℕ) (held : List (Option HeaderValue)) (key : List ℕ) → slot ≡ from + index → ((copy : Copy) → newest from held key ≡ Some copy → copy.place.slot ≢ slot)
+newest_from : (slot from index : ℕ) (held : List (Option HeaderValue)) (key : List ℕ) → slot ≡ from + index →
+    ((copy : Copy) → newest from held key ≡ Some copy → copy.place.slot ≢ slot)
     → newest from (without_slot index held) key ≡ newest from held key
 newest_from slot from index [] key place others = refl
 newest_from slot from zero (c ∷ cs) key place others =
@@ -102,10 +109,12 @@ pub newest_freed : (P : List ℕ → Type 0) (slot : ℕ) (held : List (Option H
 newest_freed P slot held none key needed = newest_from slot 0 slot held key (omega arith) (λ copy is. none key copy needed is)
 
 -- so a slot that has none of them has none after, and the other way round
-pub none_after : (P : List ℕ → Type 0) (slot other : ℕ) (held : List (Option HeaderValue)) → HoldsNone P held slot → HoldsNone P held other → HoldsNone P (without_slot slot held) other
+pub none_after : (P : List ℕ → Type 0) (slot other : ℕ) (held : List (Option HeaderValue)) → HoldsNone P held slot → HoldsNone P held other →
+    HoldsNone P (without_slot slot held) other
 none_after P slot other held none also key copy needed is = also key copy needed (sym (newest_freed P slot held none key needed) ∙ is)
 
-pub none_before : (P : List ℕ → Type 0) (slot other : ℕ) (held : List (Option HeaderValue)) → HoldsNone P held slot → HoldsNone P (without_slot slot held) other → HoldsNone P held other
+pub none_before : (P : List ℕ → Type 0) (slot other : ℕ) (held : List (Option HeaderValue)) → HoldsNone P held slot → HoldsNone P (without_slot slot held) other →
+    HoldsNone P held other
 none_before P slot other held none also key copy needed is = also key copy needed (newest_freed P slot held none key needed ∙ is)
 
 -- what holds none of some keys holds none of fewer

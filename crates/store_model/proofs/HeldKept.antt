@@ -48,7 +48,8 @@ module _ (old new : List ℕ) where
   )
 
   -- the data is among some byte lists
-  pub among_kept : (S : List ℕ → Type 0) (from : ℕ) (held : List (Option HeaderValue)) → SameSlots from (length held) old new → AreHeaders held → AreAmong S from held old → AreAmong S from held new
+  pub among_kept : (S : List ℕ → Type 0) (from : ℕ) (held : List (Option HeaderValue)) → SameSlots from (length held) old new → AreHeaders held → AreAmong S from held old →
+      AreAmong S from held new
   among_kept S from [] same headers among = tt
   among_kept S from (None ∷ cs) same headers among = among_kept S (from + 1) cs (λ slot above below. same slot (omega (arith, above)) (omega (arith, below))) headers among
   among_kept S from (Some h ∷ cs) same headers among = (

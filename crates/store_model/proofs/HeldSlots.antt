@@ -41,7 +41,8 @@ module _ (old new : List ℕ) where
   others_held slot from (Some h ∷ cs) same place =
       (other_same slot from old new same (omega (arith, place)), others_held slot (from + 1) cs same (omega (arith, place)))
 
-  same_there : (from : ℕ) (held : List (Option HeaderValue)) (index : ℕ) (h : HeaderValue) → get_or held index None ≡ Some h → SameHeld from held old new → SameSlot (from + index) old new
+  same_there : (from : ℕ) (held : List (Option HeaderValue)) (index : ℕ) (h : HeaderValue) → get_or held index None ≡ Some h → SameHeld from held old new →
+      SameSlot (from + index) old new
   same_there from [] index h e same = absurd cc
   same_there from (None ∷ cs) zero h e same = absurd cc
   same_there from (None ∷ cs) (suc index) h e same = subst (λ (slot : ℕ). SameSlot slot old new) (omega arith) (same_there (from + 1) cs index h e same)
@@ -95,7 +96,8 @@ module _ (P : Kind → Entry → List ℕ → Type 0) (old new : List ℕ) where
   so_still from (Some h ∷ cs) headers same so = (slot_still from h same.0 headers.0 so.0, so_still (from + 1) cs headers.1 same.1 so.1)
 
   -- and with a container more, whose entries keep it
-  pub so_with : (slot from : ℕ) (h : HeaderValue) (held : List (Option HeaderValue)) → slot ≡ from + first_free held → AllByRecursion (λ e. P h.kind e (entry_bytes slot e new)) h.entries
+  pub so_with : (slot from : ℕ) (h : HeaderValue) (held : List (Option HeaderValue)) → slot ≡ from + first_free held →
+      AllByRecursion (λ e. P h.kind e (entry_bytes slot e new)) h.entries
       → AreHeaders held → SameHeld from held old new → AreSo P from held old → AreSo P from (with_slot (first_free held) h held) new
   so_with slot from h [] place here headers same so = tt
   so_with slot from h (None ∷ cs) place here headers same so =
@@ -106,7 +108,8 @@ module _ (P : Kind → Entry → List ℕ → Type 0) (old new : List ℕ) where
 -- ---- an entry that is found
 
 -- each is so, and one of them is found
-pub found_so : (P : Entry → Type 0) (test : Entry → Bool) (entries : List Entry) (entry : Entry) → AllByRecursion P entries → find test entries ≡ Some entry → P entry × (test entry ≡ true)
+pub found_so : (P : Entry → Type 0) (test : Entry → Bool) (entries : List Entry) (entry : Entry) → AllByRecursion P entries → find test entries ≡ Some entry →
+    P entry × (test entry ≡ true)
 found_so P test [] entry all e = absurd cc
 found_so P test (x ∷ xs) entry all e =
     elim (test x) as (λ b. test x ≡ b → cond b (Some x) (find test xs) ≡ Some entry → P entry × (test entry ≡ true)) [

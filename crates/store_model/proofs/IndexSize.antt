@@ -48,14 +48,16 @@ module _ {X : Type 0} where
       by_test false has there = has there
 
   -- it has no more keys than those
-  pub len_among : (keys : List (List ℕ)) (m : finite.FinMap (slice_cmp nat_cmp) X) → ((q : List ℕ) → is_some (finite.get m q) ≡ true → is_among keys q ≡ true) → finite.len m ≤ length keys
+  pub len_among : (keys : List (List ℕ)) (m : finite.FinMap (slice_cmp nat_cmp) X) → ((q : List ℕ) → is_some (finite.get m q) ≡ true → is_among keys q ≡ true) →
+      finite.len m ≤ length keys
   len_among [] m among =
       let none : finite.len m ≡ 0 = ap finite.len (none_there m among) ∙ finite.len-empty (slice_cmp nat_cmp) X in
       omega (arith, none)
   len_among (key ∷ keys) m among =
       by_test (finite.contains_key m key) (finite.len-remove nat_list_cmp_total m key) (len_among keys (finite.remove m key) (among_rest key keys m among))
     where
-      by_test : (b : Bool) → finite.len (finite.remove m key) ≡ cond b (finite.len m - 1) (finite.len m) → finite.len (finite.remove m key) ≤ length keys → finite.len m ≤ length (key ∷ keys)
+      by_test : (b : Bool) → finite.len (finite.remove m key) ≡ cond b (finite.len m - 1) (finite.len m) → finite.len (finite.remove m key) ≤ length keys →
+          finite.len m ≤ length (key ∷ keys)
       by_test true less few = omega (arith, less, few)
       by_test false less few = omega (arith, less, few)
 
@@ -70,7 +72,8 @@ copy_among slot h key there = by_entries h.entries there
     by_entries [] there = absurd cc
     by_entries (e ∷ es) there =
         elim (bytes_eq (entry_key h.kind e) key)
-        as (λ b. bytes_eq (entry_key h.kind e) key ≡ b → is_some (option_map (λ x. (let c : Copy = record { id = h.id; place = place_of slot x } in c)) (cond b (Some e) (entry_of h.kind es key))) ≡ true
+        as (λ b. bytes_eq (entry_key h.kind e) key ≡ b →
+        is_some (option_map (λ x. (let c : Copy = record { id = h.id; place = place_of slot x } in c)) (cond b (Some e) (entry_of h.kind es key))) ≡ true
         → is_among (map (entry_key h.kind) (e ∷ es)) key ≡ true) [
           | true ↦ λ same some. ap (λ (b : Bool). b || is_among (map (entry_key h.kind) es) key) (tied key (entry_key h.kind e) ∙ same)
           | false ↦ λ other some.
@@ -155,7 +158,8 @@ len_with kind slot (e ∷ es) places =
 
 -- Where a slot is closed, any number of entries of a container may be put into the index: it has no more keys than all
 -- slots have entries.
-pub len_index_with : (held : List (Option HeaderValue)) (places : PlaceMap) (h : HeaderValue) (slot k : ℕ) → IsPartialIndexOf held places → AreHeaders held → IsHeader h → 1 ≤ free_slots held
+pub len_index_with : (held : List (Option HeaderValue)) (places : PlaceMap) (h : HeaderValue) (slot k : ℕ) → IsPartialIndexOf held places → AreHeaders held → IsHeader h →
+    1 ≤ free_slots held
     → finite.len (with_entries h.kind slot (take k h.entries) places) ≤ MOST_ENTRIES * length held
 len_index_with held places h slot k index headers right some =
     omega (arith, len_with h.kind slot (take k h.entries) places, length-take k h.entries, entries_within h right, len_index held places index, with_free held headers, some)
@@ -167,7 +171,8 @@ entries_with h [] some = absurd (omega (arith, some))
 entries_with h (None ∷ cs) some = omega arith
 entries_with h (Some g ∷ cs) some = omega (arith, entries_with h cs some)
 
-pub bytes_with : (h : HeaderValue) (held : List (Option HeaderValue)) → 1 ≤ free_slots held → bytes_in_slots (with_slot (first_free held) h held) ≡ bytes_in_slots held + h.data_length
+pub bytes_with : (h : HeaderValue) (held : List (Option HeaderValue)) → 1 ≤ free_slots held → bytes_in_slots (with_slot (first_free held) h held) ≡ bytes_in_slots held +
+    h.data_length
 bytes_with h [] some = absurd (omega (arith, some))
 bytes_with h (None ∷ cs) some = omega arith
 bytes_with h (Some g ∷ cs) some = omega (arith, bytes_with h cs some)

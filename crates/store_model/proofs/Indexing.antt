@@ -49,7 +49,8 @@ differs_later kind before [] one follow has = refl
 differs_later kind before (e ∷ es) one follow has =
     let other : bytes_eq (entry_key kind e) (entry_key kind one) ≡ false = by_test (bytes_eq (entry_key kind e) (entry_key kind one)) refl in
     ap (λ (b : Bool). cond b (Some e) (entry_of kind es (entry_key kind one))) other
-    ∙ differs_later kind (before ++ e ∷ []) es one follow.1 (list_any-append (λ x. bytes_eq x.digest one.digest) before (e ∷ []) ∙ ap (λ (b : Bool). b || has_digest (e ∷ []) one.digest) has)
+    ∙ differs_later kind (before ++ e ∷ []) es one follow.1
+    (list_any-append (λ x. bytes_eq x.digest one.digest) before (e ∷ []) ∙ ap (λ (b : Bool). b || has_digest (e ∷ []) one.digest) has)
   where
     by_test : (b : Bool) → bytes_eq (entry_key kind e) (entry_key kind one) ≡ b → bytes_eq (entry_key kind e) (entry_key kind one) ≡ false
     by_test false other = other
@@ -59,7 +60,8 @@ differs_later kind before (e ∷ es) one follow has =
 
 module _ (kind : Kind) (slot : ℕ) where
   -- what one entry more gives a key
-  put_one : (e : Entry) (places : PlaceMap) (key : List ℕ) → finite.get (finite.insert places (entry_key kind e) (place_of slot e)) key ≡ (if bytes_eq (entry_key kind e) key then Some (place_of slot e) else finite.get places key)
+  put_one : (e : Entry) (places : PlaceMap) (key : List ℕ) → finite.get (finite.insert places (entry_key kind e) (place_of slot e)) key ≡
+      (if bytes_eq (entry_key kind e) key then Some (place_of slot e) else finite.get places key)
   put_one e places key =
       finite.get-insert nat_list_cmp_total places (entry_key kind e) (place_of slot e) key
       ∙ ap (λ (b : Bool). cond b (Some (place_of slot e)) (finite.get places key)) (tied key (entry_key kind e))
@@ -73,7 +75,8 @@ module _ (kind : Kind) (slot : ℕ) where
       ∙ put_one e places key
       ∙ ap (λ (b : Bool). if b then Some (place_of slot e) else finite.get places key) others.0
     where
-      by_test : (b : Bool) → bytes_eq (entry_key kind e) key ≡ b → cond b (Some e) (entry_of kind es key) ≡ None → (bytes_eq (entry_key kind e) key ≡ false) × (entry_of kind es key ≡ None)
+      by_test : (b : Bool) → bytes_eq (entry_key kind e) key ≡ b → cond b (Some e) (entry_of kind es key) ≡ None → (bytes_eq (entry_key kind e) key ≡ false)
+          × (entry_of kind es key ≡ None)
       by_test true is none = absurd cc
       by_test false is none = (is, none)
 
@@ -82,7 +85,8 @@ module _ (kind : Kind) (slot : ℕ) where
       → finite.get (with_entries kind slot es places) key ≡ Some (place_of slot found)
   put_some before [] places key found follow is = absurd cc
   put_some before (e ∷ es) places key found follow is =
-      by_test (bytes_eq (entry_key kind e) key) refl is (λ later. put_some (before ++ e ∷ []) es (finite.insert places (entry_key kind e) (place_of slot e)) key found follow.1 later)
+      by_test (bytes_eq (entry_key kind e) key) refl is (λ later. put_some (before ++ e ∷ []) es (finite.insert places (entry_key kind e) (place_of slot e)) key found follow.1
+      later)
     where
       after : PlaceMap
       after = finite.insert places (entry_key kind e) (place_of slot e)
@@ -94,7 +98,8 @@ module _ (kind : Kind) (slot : ℕ) where
           ∙ or-true (has_digest before e.digest)
 
       by_test : (b : Bool) → bytes_eq (entry_key kind e) key ≡ b → cond b (Some e) (entry_of kind es key) ≡ Some found
-          → (entry_of kind es key ≡ Some found → finite.get (with_entries kind slot es after) key ≡ Some (place_of slot found)) → finite.get (with_entries kind slot es after) key ≡ Some (place_of slot found)
+          → (entry_of kind es key ≡ Some found → finite.get (with_entries kind slot es after) key ≡ Some (place_of slot found)) →
+          finite.get (with_entries kind slot es after) key ≡ Some (place_of slot found)
       by_test false other is later = later is
       by_test true same is later =
           let here : e ≡ found = some_same e found is in
@@ -143,7 +148,8 @@ module _ (h : HeaderValue) (key : List ℕ) where
   newest_before from (Some g ∷ cs) none some = ap (newer (copy_in from (Some g) key)) (newest_before (from + 1) cs none some)
 
   -- else, under an id above all, its own
-  pub newest_found : (from slot : ℕ) (held : List (Option HeaderValue)) (found : Entry) → slot ≡ from + first_free held → entry_of h.kind h.entries key ≡ Some found → 1 ≤ free_slots held
+  pub newest_found : (from slot : ℕ) (held : List (Option HeaderValue)) (found : Entry) → slot ≡ from + first_free held → entry_of h.kind h.entries key ≡ Some found →
+      1 ≤ free_slots held
       → last_id held < h.id → newest from (with_slot (first_free held) h held) key ≡ Some (record { id = h.id; place = place_of slot found })
   newest_found from slot [] found place is some above = absurd (omega (arith, some))
   newest_found from slot (None ∷ cs) found place is some above =

@@ -50,14 +50,23 @@ module _ (slot : ℕ) (old new : List ℕ) (same : SameOutside (slot_at slot) SL
   pub copies_with : (from : ℕ) (h : HeaderValue) (held : List (Option HeaderValue)) → slot ≡ from + first_free held → HaveDigests slot h.entries new → AreHeaders held
       → AreCopies from held old → AreCopies from (with_slot (first_free held) h held) new
   copies_with from h [] place here headers copies = tt
-  copies_with from h (None ∷ cs) place here headers copies =
-      (subst (λ (s : ℕ). HaveDigests s h.entries new) (place ∙ omega arith) here, copies_kept old new (from + 1) cs (rest_same (from + 1) (length cs) (omega (arith, place))) headers copies)
-  copies_with from h (Some g ∷ cs) place here headers copies =
-      (digests_kept from old new (other_same slot from old new same (omega (arith, place))) g headers.0 copies.0, copies_with (from + 1) h cs (omega (arith, place)) here headers.1 copies.1)
+  copies_with from h (None ∷ cs) place here headers copies = (
+    subst (λ (s : ℕ). HaveDigests s h.entries new) (place ∙ omega arith) here,
+    copies_kept old new (from + 1) cs (rest_same (from + 1) (length cs) (omega (arith, place)))
+        headers copies,
+  )
+  copies_with from h (Some g ∷ cs) place here headers copies = (
+    digests_kept from old new (other_same slot from old new same (omega (arith, place))) g headers.0 copies.0,
+    copies_with (from + 1) h cs (omega (arith, place)) here headers.1
+        copies.1,
+  )
 
   -- no container more
   pub copies_still : (from : ℕ) (held : List (Option HeaderValue)) → slot ≡ from + first_free held → AreHeaders held → AreCopies from held old → AreCopies from held new
   copies_still from [] place headers copies = tt
   copies_still from (None ∷ cs) place headers copies = copies_kept old new (from + 1) cs (rest_same (from + 1) (length cs) (omega (arith, place))) headers copies
-  copies_still from (Some g ∷ cs) place headers copies =
-      (digests_kept from old new (other_same slot from old new same (omega (arith, place))) g headers.0 copies.0, copies_still (from + 1) cs (omega (arith, place)) headers.1 copies.1)
+  copies_still from (Some g ∷ cs) place headers copies = (
+    digests_kept from old new (other_same slot from old new same (omega (arith, place))) g headers.0 copies.0,
+    copies_still (from + 1) cs (omega (arith, place)) headers.1
+        copies.1,
+  )

@@ -51,7 +51,8 @@ newer_first b (Some c) below = by_test (nat_lt b.id c.id) refl
 -- ---- one container more
 
 -- under an id above all, the newest copy of a key that an entry of it has is that entry
-pub newest_with : (from slot : ℕ) (h : HeaderValue) (held : List (Option HeaderValue)) (key : List ℕ) (e : Entry) → slot ≡ from + first_free held → 1 ≤ free_slots held → last_id held < h.id
+pub newest_with : (from slot : ℕ) (h : HeaderValue) (held : List (Option HeaderValue)) (key : List ℕ) (e : Entry) → slot ≡ from + first_free held → 1 ≤ free_slots held →
+    last_id held < h.id
     → find (entry_has h.kind key) h.entries ≡ Some e → newest from (with_slot (first_free held) h held) key ≡ Some (entry_copy slot h.id e)
 newest_with from slot h [] key e place some above found = absurd (omega (arith, some))
 newest_with from slot h (None ∷ cs) key e place some above found =
@@ -77,13 +78,15 @@ past : (kind : Kind) (digest : List ℕ) (before rest : List Entry) → has_dige
 past kind digest [] rest none = refl
 past kind digest (x ∷ xs) rest none =
     let parts = or_parts (bytes_eq x.digest digest) (has_digest xs digest) none in
-    ap (λ (b : Bool). cond b (Some x) (find (entry_has kind (key_of (kind_byte kind) digest)) (xs ++ rest))) (by_test (entry_has kind (key_of (kind_byte kind) digest) x) refl parts.0)
+    ap (λ (b : Bool). cond b (Some x) (find (entry_has kind (key_of (kind_byte kind) digest)) (xs ++ rest)))
+    (by_test (entry_has kind (key_of (kind_byte kind) digest) x) refl parts.0)
     ∙ past kind digest xs rest parts.1
   where
     tail_same : (a b : ℕ) (first second : List ℕ) → a ∷ first ≡ b ∷ second → first ≡ second
     tail_same a b first second e = cc
 
-    by_test : (same : Bool) → entry_has kind (key_of (kind_byte kind) digest) x ≡ same → bytes_eq x.digest digest ≡ false → entry_has kind (key_of (kind_byte kind) digest) x ≡ false
+    by_test : (same : Bool) → entry_has kind (key_of (kind_byte kind) digest) x ≡ same → bytes_eq x.digest digest ≡ false →
+        entry_has kind (key_of (kind_byte kind) digest) x ≡ false
     by_test false is other = is
     by_test true is other =
         let equal = tail_same (kind_byte kind) (kind_byte kind) x.digest digest ((bytes_eq-Decides _ _).0 is) in
@@ -106,7 +109,8 @@ pub entries_found : (h : HeaderValue) → IsHeader h → AllByRecursion (λ e. f
 entries_found h right = each_found h.kind [] h.entries right.entries
 
 -- no entry has the key
-pub none_found : (kind : Kind) (key : List ℕ) (entries : List Entry) → AllByRecursion (λ e. key_of (kind_byte kind) e.digest ≢ key) entries → find (entry_has kind key) entries ≡ None
+pub none_found : (kind : Kind) (key : List ℕ) (entries : List Entry) → AllByRecursion (λ e. key_of (kind_byte kind) e.digest ≢ key) entries →
+    find (entry_has kind key) entries ≡ None
 none_found kind key [] others = refl
 none_found kind key (x ∷ xs) others =
     ap (λ (b : Bool). cond b (Some x) (find (entry_has kind key) xs)) (by_test (entry_has kind key x) refl) ∙ none_found kind key xs others.1
@@ -128,6 +132,7 @@ newest_of_entries h held right some above =
     all_so _ _ h.entries (λ e found. newest_with 0 (first_free held) h held (key_of (kind_byte h.kind) e.digest) e (omega arith) some above found) (entries_found h right)
 
 -- and that of a key that none of them has is the one from before
-pub newest_of_others : (h : HeaderValue) (held : List (Option HeaderValue)) (key : List ℕ) → 1 ≤ free_slots held → AllByRecursion (λ e. key_of (kind_byte h.kind) e.digest ≢ key) h.entries
+pub newest_of_others : (h : HeaderValue) (held : List (Option HeaderValue)) (key : List ℕ) → 1 ≤ free_slots held →
+    AllByRecursion (λ e. key_of (kind_byte h.kind) e.digest ≢ key) h.entries
     → newest 0 (with_slot (first_free held) h held) key ≡ newest 0 held key
 newest_of_others h held key some others = newest_without 0 h held key some (none_found h.kind key h.entries others)

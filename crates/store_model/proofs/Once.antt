@@ -70,7 +70,8 @@ opened half cell r image stands =
 
 records_once : (half cell previous : ℕ) (names : NameMap) (rs ss : List RecordValue) (image : List ℕ) → Follow previous names rs → Follow previous names ss
     → StandFrom half cell rs image → StandFrom half cell ss image → cell + length rs ≤ half_cells → cell + length ss ≤ half_cells
-    → (cell + length rs < half_cells → byte_at (cell_at half (cell + length rs)) image ≢ RECORD_GATE) → (cell + length ss < half_cells → byte_at (cell_at half (cell + length ss)) image ≢ RECORD_GATE)
+    → (cell + length rs < half_cells → byte_at (cell_at half (cell + length rs)) image ≢ RECORD_GATE) →
+    (cell + length ss < half_cells → byte_at (cell_at half (cell + length ss)) image ≢ RECORD_GATE)
     → rs ≡ ss
 records_once half cell previous names [] [] image one other stand also few less ends closed = refl
 records_once half cell previous names [] (s ∷ ss) image one other stand also few less ends closed = absurd (ends (omega (arith, less)) (opened half cell s image (also.0, tt)))
@@ -80,7 +81,8 @@ records_once half cell previous names (r ∷ rs) (s ∷ ss) image one other stan
     let next : Follow r.sequence (names_with r names) ss = subst (λ (x : RecordValue). Follow x.sequence (names_with x names) ss) (sym same) other.3 in
     let place : (n : ℕ) → cell + 1 + n ≡ cell + suc n = λ n. omega arith in
     ap (λ (x : RecordValue). x ∷ rs) same
-    ∙ ap (λ (xs : List RecordValue). s ∷ xs) (records_once half (cell + 1) r.sequence (names_with r names) rs ss image one.3 next stand.1 also.1 (omega (arith, few)) (omega (arith, less))
+    ∙ ap (λ (xs : List RecordValue). s ∷ xs) (records_once half (cell + 1) r.sequence (names_with r names) rs ss image one.3 next stand.1 also.1 (omega (arith, few))
+    (omega (arith, less))
     (λ below shut. ends (omega (arith, below)) (ap (λ (k : ℕ). byte_at (cell_at half k) image) (sym (place (length rs))) ∙ shut))
     (λ below shut. closed (omega (arith, below)) (ap (λ (k : ℕ). byte_at (cell_at half k) image) (sym (place (length ss))) ∙ shut)))
 
@@ -118,8 +120,10 @@ store_once image s t one other =
     let zero_before : (n : ℕ) → 0 + n ≡ n = λ n. omega arith in
     let records : s.records ≡ t.records =
     records_once s.selector.half 0 0 finite.empty s.records t.records image mine.right theirs.right mine.stand theirs.stand (omega (arith, mine.few)) (omega (arith, theirs.few))
-    (λ below shut. mine.closed (length s.records) (omega arith) (omega (arith, below)) (ap (λ (k : ℕ). byte_at (cell_at s.selector.half k) image) (sym (zero_before (length s.records))) ∙ shut))
-    (λ below shut. theirs.closed (length t.records) (omega arith) (omega (arith, below)) (ap (λ (k : ℕ). byte_at (cell_at s.selector.half k) image) (sym (zero_before (length t.records))) ∙ shut)) in
+    (λ below shut. mine.closed (length s.records) (omega arith) (omega (arith, below))
+    (ap (λ (k : ℕ). byte_at (cell_at s.selector.half k) image) (sym (zero_before (length s.records))) ∙ shut))
+    (λ below shut. theirs.closed (length t.records) (omega arith) (omega (arith, below))
+    (ap (λ (k : ℕ). byte_at (cell_at s.selector.half k) image) (sym (zero_before (length t.records))) ∙ shut)) in
     let held : s.held ≡ t.held = slots_once 0 s.held t.held image (one.many ∙ slots ∙ sym other.many) one.slots_are other.slots_are in
     let gate : s.other_open ≡ t.other_open =
     other_once s.other_open t.other_open s.selector.half image one.other (subst (λ (x : SelectorValue). KnowsOther t.other_open x.half image) (sym selector) other.other) in

@@ -31,7 +31,8 @@ pub last_below : (previous : ℕ) (names : NameMap) (rs : List RecordValue) → 
 last_below previous names [] below follow = below
 last_below previous names (r ∷ rs) below follow = last_below r.sequence (names_with r names) rs follow.0.sequence follow.3
 
-names_changed_right : (sequence : ℕ) (name : List ℕ) (change : Change) (names : NameMap) → IsName name → HasPlace names name change → AreNames names → AreNames (names_changed sequence name change names)
+names_changed_right : (sequence : ℕ) (name : List ℕ) (change : Change) (names : NameMap) → IsName name → HasPlace names name change → AreNames names →
+    AreNames (names_changed sequence name change names)
 names_changed_right sequence name (Put root) names named place good = with_put names name (record { sequence = sequence; root = root }) good named place
 names_changed_right sequence name Delete names named place good = without names name good
 
@@ -53,7 +54,8 @@ module _ (rs : List RecordValue) (follow : Follow 0 finite.empty rs) where
   ordered : AreInOrder (puts_of left) left (last_of 0 rs)
   ordered = puts_in_order left (last_of 0 rs) good numbered
 
-  change_right : (sequence : ℕ) (name : List ℕ) (change : Change) → IsOf left sequence name change → IsName name → IsRecord (record { sequence = sequence; name = name; change = change })
+  change_right : (sequence : ℕ) (name : List ℕ) (change : Change) → IsOf left sequence name change → IsName name →
+      IsRecord (record { sequence = sequence; name = name; change = change })
   change_right sequence name (Put root) of named = record {
     from_one = numbered.from_one name _ of;
     sequence = omega (arith, numbered.most name _ of, last_below 0 finite.empty rs (omega arith) follow);

@@ -21,7 +21,8 @@ use Rattle.store_model.proofs.Copies.{some_same, headers_of_right, copy_within}
 abbrev pub HaveRoots : NameMap → Type 0
 HaveRoots names = (name : List ℕ) (named : Named) → finite.get names name ≡ Some named → IsRoot named.root
 
-put_root : (same : Bool) (new : Named) (old : Option Named) (named : Named) → IsRoot new.root → ((n : Named) → old ≡ Some n → IsRoot n.root) → cond same (Some new) old ≡ Some named → IsRoot named.root
+put_root : (same : Bool) (new : Named) (old : Option Named) (named : Named) → IsRoot new.root → ((n : Named) → old ≡ Some n → IsRoot n.root) →
+    cond same (Some new) old ≡ Some named → IsRoot named.root
 put_root true new old named root others is = subst (λ (n : Named). IsRoot n.root) (some_same new named is) root
 put_root false new old named root others is = others named is
 
@@ -33,7 +34,8 @@ less_root false old named others is = others named is
 roots_changed : (sequence : ℕ) (name : List ℕ) (change : Change) (names : NameMap) → IsChange change → HaveRoots names → HaveRoots (names_changed sequence name change names)
 roots_changed sequence name (Put root) names right roots q named found =
     let new : Named = record { sequence = sequence; root = root } in
-    put_root (eq_by_cmp (slice_cmp nat_cmp) q name) new (finite.get names q) named right (λ n is. roots q n is) (sym (finite.get-insert nat_list_cmp_total names name new q) ∙ found)
+    put_root (eq_by_cmp (slice_cmp nat_cmp) q name) new (finite.get names q) named right (λ n is. roots q n is)
+    (sym (finite.get-insert nat_list_cmp_total names name new q) ∙ found)
 roots_changed sequence name Delete names right roots q named found =
     less_root (eq_by_cmp (slice_cmp nat_cmp) q name) (finite.get names q) named (λ n is. roots q n is) (sym (finite.get-remove nat_list_cmp_total names name q) ∙ found)
 
@@ -54,7 +56,8 @@ root_of_name size store name root sound has = roots_after 0 finite.empty store.r
 -- ---- how long a copy is
 
 -- a copy is as long as its place says
-pub length_of_copy : (store : Store) (image key : List ℕ) (copy : Copy) → Encodes image store → newest 0 store.held key ≡ Some copy → length (bytes_at copy.place image) ≡ copy.place.length
+pub length_of_copy : (store : Store) (image key : List ℕ) (copy : Copy) → Encodes image store → newest 0 store.held key ≡ Some copy →
+    length (bytes_at copy.place image) ≡ copy.place.length
 length_of_copy store image key copy right is =
     let within = copy_within store key copy (headers_of_right image store right) is in
     length-range (data_at copy.place.slot + copy.place.offset) copy.place.length image (omega (arith, within.0, within.1, right.size, right.many))

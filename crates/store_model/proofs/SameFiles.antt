@@ -109,10 +109,12 @@ some_file held image named None is = absurd is
 some_file held image named (Some bytes) is = (bytes, refl, is.0, is.1)
 
 -- in a store of some files a root is that of a file
-pub file_of_root : (name : List ℕ) (root : Root) (store : Store) (files : Files) (image : List ℕ) → IsStoreOf store files image → HasRoot name root store → HasFile name root store files image
+pub file_of_root : (name : List ℕ) (root : Root) (store : Store) (files : Files) (image : List ℕ) → IsStoreOf store files image → HasRoot name root store →
+    HasFile name root store files image
 file_of_root name root store files image holds has =
     let named : Named = record { sequence = has.0; root = root } in
-    let some = some_file store.held image named (finite.get files name) (subst (λ (o : Option Named). IsFileOf store.held image o (finite.get files name)) has.1 (holds.files_are name)) in
+    let some = some_file store.held image named (finite.get files name)
+    (subst (λ (o : Option Named). IsFileOf store.held image o (finite.get files name)) has.1 (holds.files_are name)) in
     record { bytes = some.0; filed = some.1; root_is = some.2; held = some.3 }
 
 none_filed : (held : List (Option HeaderValue)) (image : List ℕ) (named : Option Named) (file : Option (List ℕ)) → named ≡ None → IsFileOf held image named file → file ≡ None
@@ -121,7 +123,8 @@ none_filed held image None (Some bytes) none is = absurd is
 none_filed held image (Some named) file none is = absurd (let wrong : Some named ≡ None = none in cc)
 
 -- a name that has no root has no file
-pub not_filed : (name : List ℕ) (s t : Store) (files : Files) (image : List ℕ) → Encodes image s → finite.get (names_of s) name ≡ None → IsStoreOf t files image → finite.get files name ≡ None
+pub not_filed : (name : List ℕ) (s t : Store) (files : Files) (image : List ℕ) → Encodes image s → finite.get (names_of s) name ≡ None → IsStoreOf t files image →
+    finite.get files name ≡ None
 not_filed name s t files image right none holds =
     none_filed t.held image (finite.get (names_of t) name) (finite.get files name)
     (ap (λ (x : Store). finite.get (names_of x) name) (store_once image t s holds.right right) ∙ none) (holds.files_are name)
@@ -139,7 +142,8 @@ tree_of_none = ap (tree_of ByCount of_segment) segments_of-none ∙ none_is_empt
 
 root_by : (bytes : List ℕ) (t : Tree (List ℕ)) → file_tree bytes ≡ t
     → root_of bytes ≡ (let top = tree.root_of of_segment t in record { length = length bytes; level = top.level; digest = top.digest })
-root_by bytes t is = ap (λ (u : Tree (List ℕ)). let top = tree.root_of of_segment u in let r : Root = record { length = length bytes; level = top.level; digest = top.digest } in r) is
+root_by bytes t is = ap (λ (u : Tree (List ℕ)). let top = tree.root_of of_segment u in let r : Root = record { length = length bytes; level = top.level; digest = top.digest } in
+    r) is
 
 pub root_of_short : (bytes : List ℕ) → 0 < length bytes → length bytes ≤ LEAST_SEGMENT → root_of bytes ≡ record { length = length bytes; level = 0; digest = sha256 bytes }
 root_of_short bytes some few = root_by bytes (Leaf bytes) (tree_of_short bytes some few)

@@ -100,7 +100,8 @@ module _ (S P : List ℕ → Type 0) (kind : Kind) (store : Store) (files : File
           (sym (copy_digest store.held 0 (sha256 s.bytes) image copy stands.holds.copies e)))
       by_kind Tree may fits = λ copy counts e. fits copy counts e
 
-  pub all_by_fit : HasNoCollisions S → Stands S store files image → (segments : List Segment) → AllByRecursion (MaySeal S kind) segments → AllByRecursion (FitsHeld P kind store given) segments
+  pub all_by_fit : HasNoCollisions S → Stands S store files image → (segments : List Segment) → AllByRecursion (MaySeal S kind) segments →
+      AllByRecursion (FitsHeld P kind store given) segments
       → AllByRecursion (IsNewestOf P kind store given image) segments
   all_by_fit distinct stands [] may fits = tt
   all_by_fit distinct stands (s ∷ ss) may fits = (newest_by_fit distinct stands s may.0 fits.0, all_by_fit distinct stands ss may.1 fits.1)
@@ -116,7 +117,8 @@ pub newest_of_copy : (P : List ℕ → Type 0) (kind : Kind) (store : Store) (im
     → IsNewestOf P kind store image image s
 newest_of_copy P kind store image s has = by_kind kind has
   where
-    same : (k : Kind) (n : HasNewest store.held (segment_key k s) s.level s.bytes image) (copy : Copy) → newest 0 store.held (segment_key k s) ≡ Some copy → bytes_at copy.place image ≡ s.bytes
+    same : (k : Kind) (n : HasNewest store.held (segment_key k s) s.level s.bytes image) (copy : Copy) → newest 0 store.held (segment_key k s) ≡ Some copy →
+        bytes_at copy.place image ≡ s.bytes
     same k n copy e = ap (λ (c : Copy). bytes_at c.place image) (some_same copy n.copy (sym e ∙ n.copy_is)) ∙ n.bytes_are
 
     by_kind : (k : Kind) → HasNewest store.held (segment_key k s) s.level s.bytes image → IsNewestOf P k store image image s
@@ -150,12 +152,14 @@ newest_sealed id kind segments store new some above container =
     (newest_of_entries header store.held container.header.0 some above)
 
 -- That of a key of none of them is the one from before.
-pub newest_beside : (id : ℕ) (kind : Kind) (segments : List Segment) (store : Store) (key : List ℕ) → 1 ≤ free_slots store.held → AllByRecursion (λ s. segment_key kind s ≢ key) segments
+pub newest_beside : (id : ℕ) (kind : Kind) (segments : List Segment) (store : Store) (key : List ℕ) → 1 ≤ free_slots store.held →
+    AllByRecursion (λ s. segment_key kind s ≢ key) segments
     → newest 0 (with_sealed id kind segments store).held key ≡ newest 0 store.held key
 newest_beside id kind segments store key some others =
     newest_of_others (header_of id kind segments) store.held key some (other_entries 0 segments others)
   where
-    other_entries : (offset : ℕ) (ss : List Segment) → AllByRecursion (λ s. segment_key kind s ≢ key) ss → AllByRecursion (λ e. key_of (kind_byte kind) e.digest ≢ key) (entries_from offset ss)
+    other_entries : (offset : ℕ) (ss : List Segment) → AllByRecursion (λ s. segment_key kind s ≢ key) ss →
+        AllByRecursion (λ e. key_of (kind_byte kind) e.digest ≢ key) (entries_from offset ss)
     other_entries offset [] others = tt
     other_entries offset (s ∷ ss) others = (others.0, other_entries (offset + length s.bytes) ss others.1)
 
@@ -219,7 +223,8 @@ module _ {spare : ℕ} (S P : List ℕ → Type 0) (id : ℕ) (kind : Kind) (seg
           let alike : bytes_at has.copy.place given ≡ bytes_at has.copy.place image =
           ap (λ (c : Copy). bytes_at c.place given) (sym one_copy) ∙ old.bytes_are ∙ sym has.bytes_are in
           let bytes_same = same_bytes P kind store given image segment has.copy there.0.newest_is (subst P (sym same_key) counts) copy_is alike in
-          let right = subst (λ (l : ℕ). is_level kind l ≡ true) there.0.is.level (found_so (λ x. is_level kind x.level ≡ true) (entry_has kind key) header.entries e all_levels found).0 in
+          let right = subst (λ (l : ℕ). is_level kind l ≡ true) there.0.is.level
+          (found_so (λ x. is_level kind x.level ≡ true) (entry_has kind key) header.entries e all_levels found).0 in
           record {
             copy = entry_copy (first_free store.held) header.id e;
             copy_is = newest_with 0 (first_free store.held) header store.held key e place some can.new_id found;
@@ -273,7 +278,8 @@ module _ {spare : ℕ} (S P : List ℕ → Type 0) (id : ℕ) (kind : Kind) (seg
       so_nodes 0 (with_sealed id kind segments store).held new
       (so_with IsNodeEntry image new (first_free store.held) 0 header store.held place
       (entries_of (first_free store.held) new (MaySeal S kind) _ 0 segments
-      (λ s e is so. subst (λ (l : ℕ). IsOfKind kind l (entry_bytes (first_free store.held) e new)) (sym is.level) (subst (IsOfKind kind s.level) (sym is.bytes) so.of_kind)) stand may)
+      (λ s e is so. subst (λ (l : ℕ). IsOfKind kind l (entry_bytes (first_free store.held) e new)) (sym is.level) (subst (IsOfKind kind s.level) (sym is.bytes) so.of_kind)) stand
+      may)
       headers still (nodes_so 0 store.held image stands.holds.nodes))
 
   are_among : AreAmong S 0 (with_sealed id kind segments store).held new
@@ -295,5 +301,6 @@ module _ {spare : ℕ} (S P : List ℕ → Type 0) (id : ℕ) (kind : Kind) (seg
     (container : HoldsContainer new (first_free store.held) id kind segments) (can : CanHold spare id kind segments store)
     (may : AllByRecursion (MaySeal S kind) segments) (newests : AllByRecursion (IsNewestOf P kind store image image) segments) where
   -- the newest copy of a key that counts
-  pub newest_kept : (key : List ℕ) (level : ℕ) (bytes : List ℕ) → P key → HasNewest store.held key level bytes image → HasNewest (with_sealed id kind segments store).held key level bytes new
+  pub newest_kept : (key : List ℕ) (level : ℕ) (bytes : List ℕ) → P key → HasNewest store.held key level bytes image →
+      HasNewest (with_sealed id kind segments store).held key level bytes new
   newest_kept key level bytes counts has = newest_alike S P id kind segments store files image image new stands stands same container can may newests key level bytes counts has has

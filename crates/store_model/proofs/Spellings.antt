@@ -144,10 +144,12 @@ length_record r right = omega (
   right.name.not_long,
 )
 
-same_change : (a b : Change) → operation_of a ≡ operation_of b → (root_in a).length ≡ (root_in b).length → (root_in a).level ≡ (root_in b).level → (root_in a).digest ≡ (root_in b).digest → a ≡ b
+same_change : (a b : Change) → operation_of a ≡ operation_of b → (root_in a).length ≡ (root_in b).length → (root_in a).level ≡ (root_in b).level →
+    (root_in a).digest ≡ (root_in b).digest → a ≡ b
 same_change (Put a) (Put b) operation count level digest = ap Put (by_fields a.length b.length a.level b.level a.digest b.digest count level digest)
   where
-    by_fields : (k l m n : ℕ) (d e : List ℕ) → k ≡ l → m ≡ n → d ≡ e → (let x : Root = record { length = k; level = m; digest = d } in x) ≡ record { length = l; level = n; digest = e }
+    by_fields : (k l m n : ℕ) (d e : List ℕ) → k ≡ l → m ≡ n → d ≡ e → (let x : Root = record { length = k; level = m; digest = d } in x) ≡ record
+        { length = l; level = n; digest = e }
     by_fields k l m n d e p q r = cc
 same_change (Put a) Delete operation count level digest = absurd (omega (arith, operation))
 same_change Delete (Put b) operation count level digest = absurd (omega (arith, operation))
@@ -168,7 +170,8 @@ same_record a b right also same =
     let name = same_parts a.name b.name (zeros (428 - length a.name)) (zeros (428 - length b.name)) size digest.1 in
     by_fields a.sequence b.sequence a.name b.name a.change b.change sequence name.0 (same_change a.change b.change operation count level digest.0)
   where
-    by_fields : (k l : ℕ) (m n : List ℕ) (c d : Change) → k ≡ l → m ≡ n → c ≡ d → (let x : RecordValue = record { sequence = k; name = m; change = c } in x) ≡ record { sequence = l; name = n; change = d }
+    by_fields : (k l : ℕ) (m n : List ℕ) (c d : Change) → k ≡ l → m ≡ n → c ≡ d → (let x : RecordValue = record { sequence = k; name = m; change = c } in x) ≡ record
+        { sequence = l; name = n; change = d }
     by_fields k l m n c d p q r = cc
 
 -- an open record's gate
@@ -189,9 +192,11 @@ length_entry e long =
 
 same_entry : (kind : Kind) (before : List Entry) (a b : Entry) → IsNext kind before a → IsNext kind before b → entry_spelling a ≡ entry_spelling b → a ≡ b
 same_entry kind before a b next also same =
-    let parts = same_parts a.digest b.digest (to_be_bytes w32 a.offset ++ (to_be_bytes w32 a.length ++ (a.level ∷ zeros 7))) (to_be_bytes w32 b.offset ++ (to_be_bytes w32 b.length ++ (b.level ∷ zeros 7)))
+    let parts = same_parts a.digest b.digest (to_be_bytes w32 a.offset ++ (to_be_bytes w32 a.length ++ (a.level ∷ zeros 7)))
+    (to_be_bytes w32 b.offset ++ (to_be_bytes w32 b.length ++ (b.level ∷ zeros 7)))
     (next.digest ∙ sym also.digest) (sym (entry_parts a) ∙ same ∙ entry_parts b) in
-    let count = same_4 a.length b.length (omega (arith, (length_within kind a.length next.length).1)) (omega (arith, (length_within kind b.length also.length).1)) (ap (λ (l : List ℕ). take 4 (drop 4 l)) parts.1) in
+    let count = same_4 a.length b.length (omega (arith, (length_within kind a.length next.length).1)) (omega (arith, (length_within kind b.length also.length).1))
+    (ap (λ (l : List ℕ). take 4 (drop 4 l)) parts.1) in
     by_fields a.digest b.digest a.offset b.offset a.length b.length a.level b.level parts.0 (next.offset ∙ sym also.offset) count (ap (λ (l : List ℕ). get_or l 8 0) parts.1)
   where
     by_fields : (d e : List ℕ) (k l m n i j : ℕ) → d ≡ e → k ≡ l → m ≡ n → i ≡ j
@@ -202,7 +207,8 @@ entries_first : (e : Entry) (es : List Entry) (rest : List ℕ) → entries_spel
 unfolding entries_spelling
 entries_first e es rest = ap (λ (l : List ℕ). l ++ rest) (flat_map-cons entry_spelling e es) ∙ append_assoc (entry_spelling e) (entries_spelling es) rest
 
-same_entries : (kind : Kind) (before es fs : List Entry) (rest end : List ℕ) → length es ≡ length fs → Follow kind before es → Follow kind before fs → entries_spelling es ++ rest ≡ entries_spelling fs ++ end → es ≡ fs
+same_entries : (kind : Kind) (before es fs : List Entry) (rest end : List ℕ) → length es ≡ length fs → Follow kind before es → Follow kind before fs →
+    entries_spelling es ++ rest ≡ entries_spelling fs ++ end → es ≡ fs
 same_entries kind before [] [] rest end many follow also same = refl
 same_entries kind before [] (b ∷ fs) rest end many follow also same = absurd (omega (arith, many))
 same_entries kind before (a ∷ es) [] rest end many follow also same = absurd (omega (arith, many))
@@ -267,7 +273,8 @@ same_header a b right also same =
     (sym (entries_spelled a) ∙ ap (λ (l : List ℕ). take 2 (drop 18 l)) same ∙ entries_spelled b) in
     let size = same_4 a.data_length b.data_length (data_few a.data_length right.data_length) (data_few b.data_length also.data_length)
     (sym (data_spelled a) ∙ ap (λ (l : List ℕ). take 4 (drop 20 l)) same ∙ data_spelled b) in
-    let parts = same_parts (front a) (front b) (entries_spelling a.entries ++ zeros (49152 - 48 * length a.entries)) (entries_spelling b.entries ++ zeros (49152 - 48 * length b.entries))
+    let parts = same_parts (front a) (front b) (entries_spelling a.entries ++ zeros (49152 - 48 * length a.entries))
+    (entries_spelling b.entries ++ zeros (49152 - 48 * length b.entries))
     (length_front a ∙ sym (length_front b)) (sym (front_first a) ∙ same ∙ front_first b) in
     let theirs : Follow a.kind [] b.entries = subst (λ (k : Kind). Follow k [] b.entries) (sym kind) also.entries in
     let entries = same_entries a.kind [] a.entries b.entries (zeros (49152 - 48 * length a.entries)) (zeros (49152 - 48 * length b.entries)) many right.entries theirs parts.1 in

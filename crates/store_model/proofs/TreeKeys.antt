@@ -34,9 +34,12 @@ module _ (P : List ℕ → Type 0) where
         at_head (node_key (contents_of level ts)) key (keys_below ts) (all_second (λ n. P (node_key n)) (nodes_below of_segment ts) _ nodes).0
         (keys_of_trees ts each (all_first (λ n. P (node_key n)) (nodes_below of_segment ts) _ nodes) key) there
 
-    keys_of_trees : (ts : Trees (List ℕ)) → AllByRecursion (λ s. P (leaf_key s)) (leaves_below ts) → AllByRecursion (λ n. P (node_key n)) (nodes_below of_segment ts) → (key : List ℕ) → Contains (keys_below ts) key → P key
+    keys_of_trees : (ts : Trees (List ℕ)) → AllByRecursion (λ s. P (leaf_key s)) (leaves_below ts) → AllByRecursion (λ n. P (node_key n)) (nodes_below of_segment ts) →
+        (key : List ℕ) → Contains (keys_below ts) key → P key
     keys_of_trees NoTree each nodes key there = none_there key there
     keys_of_trees (Then t ts) each nodes key there =
-        either_part (keys_of_tree t (all_first (λ s. P (leaf_key s)) (leaves t) (leaves_below ts) each) (all_first (λ n. P (node_key n)) (nodes_of of_segment t) (nodes_below of_segment ts) nodes) key)
-        (keys_of_trees ts (all_second (λ s. P (leaf_key s)) (leaves t) (leaves_below ts) each) (all_second (λ n. P (node_key n)) (nodes_of of_segment t) (nodes_below of_segment ts) nodes) key)
+        either_part (keys_of_tree t (all_first (λ s. P (leaf_key s)) (leaves t) (leaves_below ts) each)
+        (all_first (λ n. P (node_key n)) (nodes_of of_segment t) (nodes_below of_segment ts) nodes) key)
+        (keys_of_trees ts (all_second (λ s. P (leaf_key s)) (leaves t) (leaves_below ts) each)
+        (all_second (λ n. P (node_key n)) (nodes_of of_segment t) (nodes_below of_segment ts) nodes) key)
         (Contains-append_cases (tree_keys t) (keys_below ts) key there)

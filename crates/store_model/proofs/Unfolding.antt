@@ -111,7 +111,14 @@ mutual
   told_total : (ts : Trees (List ℕ)) → total (children_of of_segment ts) ≡ sum_by length (leaves_below ts)
   told_total NoTree = refl
   told_total (Then t ts) =
-      omega (arith, sum_by-cons (λ (c : Child). c.length) (child_of of_segment t) (children_of of_segment ts), told_length t, told_total ts, sum_by-append length (leaves t) (leaves_below ts))
+      omega (
+        arith,
+        sum_by-cons (λ (c : Child). c.length) (child_of of_segment t) (children_of of_segment ts),
+        told_length t,
+        told_total ts,
+        sum_by-append length (leaves t)
+            (leaves_below ts),
+      )
 
 -- ---- files
 

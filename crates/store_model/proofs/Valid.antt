@@ -28,7 +28,8 @@ follow_push previous names [] r follow right rises taken = (right, rises, taken,
 follow_push previous names (s ∷ rs) r follow right rises taken = (follow.0, follow.1, follow.2, follow_push s.sequence (names_with s names) rs r follow.3 right rises taken)
 
 -- a store with one record more
-pub valid_change : (size : ℕ) (name : List ℕ) (change : Change) (store : Store) → IsValidFor size store → CanChangeName name change store → IsChange change → IsValidFor size (with_change name change store)
+pub valid_change : (size : ℕ) (name : List ℕ) (change : Change) (store : Store) → IsValidFor size store → CanChangeName name change store → IsChange change →
+    IsValidFor size (with_change name change store)
 valid_change size name change store sound can right =
     let base : Store = with_cell store in
     let valid : IsValidFor size base = valid_with_cell store size sound can.rise in

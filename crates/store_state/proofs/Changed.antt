@@ -50,11 +50,13 @@ changes_none place e v counts = record {
 }
 
 -- a change after one at which no call failed
-pub changes_on : (place : ℕ) (e : Ending) (old mid new : DiskView) → (one : Ending) → mid.faults ≡ old.faults → Changes place one old mid → Changes place e mid new → Changes place e old new
+pub changes_on : (place : ℕ) (e : Ending) (old mid new : DiskView) → (one : Ending) → mid.faults ≡ old.faults → Changes place one old mid → Changes place e mid new →
+    Changes place e old new
 changes_on place e old mid new one still first second = record {
   later = later_on old mid new first.later second.later;
   content_is = both_on place old.content mid.content new.content first.content_is second.content_is;
-  leaves = leaves_on (SteppedFrom (SameBefore place) old) (SteppedFrom (SameBefore place) mid) (SteppedFrom (SameBefore place) old) old mid new first.later.clock_is first.leaves second.leaves
+  leaves = leaves_on (SteppedFrom (SameBefore place) old) (SteppedFrom (SameBefore place) mid) (SteppedFrom (SameBefore place) old) old mid new first.later.clock_is first.leaves
+      second.leaves
       (λ c from. from)
       (λ c from. elim from [
         | inl image ↦ first.leaves.now c image

@@ -40,7 +40,8 @@ same_since old mid new reads kind digest offered place DiskRead has = has
 same_since old mid new reads kind digest offered place refusal has = absurd has.2
 
 pub of_one : (damaged : ℕ → Why → Type 0) (size : ℕ) (known : Option PlaceMap) (shown : (List ℕ → Type 0) → Type 0) (kind : Kind) (digest offered : List ℕ) (place : Place)
-    → KnownMap known (λ m. finite.get m (key_of (kind_byte kind) digest) ≡ Some place) → IsPlace size place → (refusal : Refusal) → IsSameRefusal shown kind digest offered place refusal
+    → KnownMap known (λ m. finite.get m (key_of (kind_byte kind) digest) ≡ Some place) → IsPlace size place → (refusal : Refusal) →
+    IsSameRefusal shown kind digest offered place refusal
     → IsOneRefusal damaged (IsUnlike size known shown kind digest offered) refusal
 of_one damaged size known shown kind digest offered place there lies DiskRead has = tt
 of_one damaged size known shown kind digest offered place there lies (Damaged at why) has = absurd has.2
@@ -49,23 +50,28 @@ of_one damaged size known shown kind digest offered place there lies refusal has
 -- ---- one segment more
 
 -- what was found for the digest of a segment is what the map has of its key
-pub found_by_key : (m : PlaceMap) (had : Option Place) (asked kind : Kind) (digest : List ℕ) (s : Segment) → asked ≡ kind → digest ≡ sha256 s.bytes → had ≡ finite.get m (key_of (kind_byte asked) digest)
+pub found_by_key : (m : PlaceMap) (had : Option Place) (asked kind : Kind) (digest : List ℕ) (s : Segment) → asked ≡ kind → digest ≡ sha256 s.bytes →
+    had ≡ finite.get m (key_of (kind_byte asked) digest)
     → had ≡ finite.get m (segment_key kind s)
-found_by_key m had asked kind digest s same is found = found ∙ ap (λ (k : Kind). finite.get m (key_of (kind_byte k) digest)) same ∙ ap (λ (d : List ℕ). finite.get m (key_of (kind_byte kind) d)) is
+found_by_key m had asked kind digest s same is found = found ∙ ap (λ (k : Kind). finite.get m (key_of (kind_byte k) digest)) same
+    ∙ ap (λ (d : List ℕ). finite.get m (key_of (kind_byte kind) d)) is
 
 -- and what fits what was offered fits the bytes of the segment
 pub fits_bytes : (old new : DiskView) (had : Option Place) (asked kind : Kind) (offered bytes : List ℕ) → asked ≡ kind → offered ≡ bytes → Shows old new (FitsHad asked offered had)
     → Shows old new (FitsHad kind bytes had)
-fits_bytes old new had asked kind offered bytes same is fits = subst (λ (k : Kind). Shows old new (FitsHad k bytes had)) same (subst (λ (l : List ℕ). Shows old new (FitsHad asked l had)) is fits)
+fits_bytes old new had asked kind offered bytes same is fits = subst (λ (k : Kind). Shows old new (FitsHad k bytes had)) same
+    (subst (λ (l : List ℕ). Shows old new (FitsHad asked l had)) is fits)
 
-fit_more : (kind : Kind) (ss : List Segment) (hads : List (Option Place)) (s : Segment) (had : Option Place) (image : List ℕ) → length hads ≡ length ss → AllFit kind ss hads image → FitsHad kind s.bytes had image
+fit_more : (kind : Kind) (ss : List Segment) (hads : List (Option Place)) (s : Segment) (had : Option Place) (image : List ℕ) → length hads ≡ length ss →
+    AllFit kind ss hads image → FitsHad kind s.bytes had image
     → AllFit kind (ss ++ s ∷ []) (hads ++ had ∷ []) image
 fit_more kind [] [] s had image many all one = (one, tt)
 fit_more kind [] (h ∷ hads) s had image many all one = absurd (omega (arith, many))
 fit_more kind (x ∷ ss) [] s had image many all one = absurd all
 fit_more kind (x ∷ ss) (h ∷ hads) s had image many all one = (all.0, fit_more kind ss hads s had image (omega (arith, many)) all.1 one)
 
-had_more : (m : PlaceMap) (kind : Kind) (es : List Entry) (hads : List (Option Place)) (e : Entry) (had : Option Place) → length hads ≡ length es → HaveHad m kind es hads → had ≡ finite.get m (entry_key kind e)
+had_more : (m : PlaceMap) (kind : Kind) (es : List Entry) (hads : List (Option Place)) (e : Entry) (had : Option Place) → length hads ≡ length es → HaveHad m kind es hads →
+    had ≡ finite.get m (entry_key kind e)
     → HaveHad m kind (es ++ e ∷ []) (hads ++ had ∷ [])
 had_more m kind [] [] e had many all one = (one, tt)
 had_more m kind [] (h ∷ hads) e had many all one = absurd (omega (arith, many))
@@ -80,7 +86,8 @@ pub length-entries : (offset : ℕ) (segments : List Segment) → length (entrie
 length-entries offset [] = refl
 length-entries offset (s ∷ ss) = ap suc (length-entries (offset + length s.bytes) ss)
 
-pub more : (size : ℕ) (known : Option PlaceMap) (old mid new : DiskView) (kind : Kind) (ss next : List Segment) (s : Segment) (hads after : List (Option Place)) (had : Option Place)
+pub more : (size : ℕ) (known : Option PlaceMap) (old mid new : DiskView) (kind : Kind) (ss next : List Segment) (s : Segment) (hads after : List (Option Place))
+    (had : Option Place)
     → next ≡ ss ++ s ∷ [] → after ≡ hads ++ had ∷ [] → OnlyReads old mid → IsLater mid new → FitSoFar size known (Shows old mid) kind ss hads
     → IfSome had (IsPlace size) → KnownMap known (λ m. had ≡ finite.get m (segment_key kind s)) → Shows mid new (FitsHad kind s.bytes had)
     → FitSoFar size known (Shows old new) kind next after
@@ -106,14 +113,21 @@ none_yet size known v kind hads none = subst (FitSoFar size known (Shows v v) ki
 })
 
 -- the next is refused
-pub of_all : (damaged : ℕ → Why → Type 0) (size mid_size : ℕ) (known mid_known : Option PlaceMap) (old mid new : DiskView) → mid_size ≡ size → mid_known ≡ known → OnlyReads old mid → IsLater mid new
-    → (kind same_kind : Kind) (segments : List Segment) (i : ℕ) → i < length segments → (hads : List (Option Place)) → FitSoFar size known (Shows old mid) kind (take i segments) hads → same_kind ≡ kind
+pub of_all : (damaged : ℕ → Why → Type 0) (size mid_size : ℕ) (known mid_known : Option PlaceMap) (old mid new : DiskView) → mid_size ≡ size → mid_known ≡ known →
+    OnlyReads old mid → IsLater mid new
+    → (kind same_kind : Kind) (segments : List Segment) (i : ℕ) → i < length segments → (hads : List (Option Place)) →
+    FitSoFar size known (Shows old mid) kind (take i segments) hads → same_kind ≡ kind
     → (digest offered : List ℕ) → digest ≡ sha256 (segment_at segments i).bytes → offered ≡ (segment_at segments i).bytes → ((at : ℕ) (why : Why) → damaged at why → known ≡ None)
-    → (refusal : Refusal) → IsOneRefusal damaged (IsUnlike mid_size mid_known (Shows mid new) same_kind digest offered) refusal → IsAllRefusal known (IsFirstUnlike size known (Shows old new) kind segments) refusal
-of_all damaged size mid_size known mid_known old mid new same_size same_known reads later kind same_kind segments i within hads so_far kind_is digest offered digest_is offered_is unknown Memory has = tt
-of_all damaged size mid_size known mid_known old mid new same_size same_known reads later kind same_kind segments i within hads so_far kind_is digest offered digest_is offered_is unknown DiskRead has = tt
-of_all damaged size mid_size known mid_known old mid new same_size same_known reads later kind same_kind segments i within hads so_far kind_is digest offered digest_is offered_is unknown (Damaged at why) has = unknown at why has
-of_all damaged size mid_size known mid_known old mid new same_size same_known reads later kind same_kind segments i within hads so_far kind_is digest offered digest_is offered_is unknown refusal has =
+    → (refusal : Refusal) → IsOneRefusal damaged (IsUnlike mid_size mid_known (Shows mid new) same_kind digest offered) refusal →
+    IsAllRefusal known (IsFirstUnlike size known (Shows old new) kind segments) refusal
+of_all damaged size mid_size known mid_known old mid new same_size same_known reads later kind same_kind segments i within hads so_far kind_is digest offered digest_is offered_is
+    unknown Memory has = tt
+of_all damaged size mid_size known mid_known old mid new same_size same_known reads later kind same_kind segments i within hads so_far kind_is digest offered digest_is offered_is
+    unknown DiskRead has = tt
+of_all damaged size mid_size known mid_known old mid new same_size same_known reads later kind same_kind segments i within hads so_far kind_is digest offered digest_is offered_is
+    unknown (Damaged at why) has = unknown at why has
+of_all damaged size mid_size known mid_known old mid new same_size same_known reads later kind same_kind segments i within hads so_far kind_is digest offered digest_is offered_is
+    unknown refusal has =
     let one : IsUnlike size known (Shows old new) same_kind digest offered refusal = record {
       place = has.place;
       there = λ m is. has.there m (same_known ∙ is);
@@ -132,7 +146,8 @@ of_all damaged size mid_size known mid_known old mid new same_size same_known re
 
 -- ---- what is so of the store of an index
 
-pub held_fit : (kind : Kind) (store : Store) (m : PlaceMap) (image : List ℕ) (offset : ℕ) (ss : List Segment) (hads : List (Option Place)) → IsPartialIndexOf store.held m → HaveHad m kind (entries_from offset ss) hads → AllFit kind ss hads image
+pub held_fit : (kind : Kind) (store : Store) (m : PlaceMap) (image : List ℕ) (offset : ℕ) (ss : List Segment) (hads : List (Option Place)) → IsPartialIndexOf store.held m →
+    HaveHad m kind (entries_from offset ss) hads → AllFit kind ss hads image
     → AllByRecursion (FitsHeld (HasKey m) kind store image) ss
 held_fit kind store m image offset [] hads index had fit = tt
 held_fit kind store m image offset (s ∷ ss) [] index had fit = absurd fit
@@ -152,6 +167,8 @@ held_fit kind store m image offset (s ∷ ss) (h ∷ hads) index had fit = (
     by_kind kinds.Leaf place fits = fits
     by_kind kinds.Tree place fits = fits
 
-pub held_all : (size : ℕ) (known : Option PlaceMap) (old new : DiskView) (kind : Kind) (ss : List Segment) (hads : List (Option Place)) → FitSoFar size known (Shows old new) kind ss hads
+pub held_all : (size : ℕ) (known : Option PlaceMap) (old new : DiskView) (kind : Kind) (ss : List Segment) (hads : List (Option Place)) →
+    FitSoFar size known (Shows old new) kind ss hads
     → Shows old new (λ image. (store : Store) (m : PlaceMap) → known ≡ Some m → IsPartialIndexOf store.held m → AllByRecursion (FitsHeld (HasKey m) kind store image) ss)
-held_all size known old new kind ss hads so_far = weaker old new (λ image sized fit store m is index. held_fit kind store m image 0 ss hads index (so_far.had.had m is) fit) so_far.fit
+held_all size known old new kind ss hads so_far = weaker old new (λ image sized fit store m is index. held_fit kind store m image 0 ss hads index (so_far.had.had m is) fit)
+    so_far.fit

@@ -54,7 +54,8 @@ given_back m key place had is =
     finite.same_map nat_list_cmp_total (finite.slice_cmp-IsAntisymmetric finite.nat_cmp-IsAntisymmetric) (with_had had key (finite.insert m key place)) m
     (λ q. seen had q ∙ by_test q (eq_by_cmp (slice_cmp nat_cmp) q key) refl)
   where
-    seen : (o : Option Place) (q : List ℕ) → finite.get (with_had o key (finite.insert m key place)) q ≡ cond (eq_by_cmp (slice_cmp nat_cmp) q key) o (cond (eq_by_cmp (slice_cmp nat_cmp) q key) (Some place) (finite.get m q))
+    seen : (o : Option Place) (q : List ℕ) → finite.get (with_had o key (finite.insert m key place)) q ≡ cond (eq_by_cmp (slice_cmp nat_cmp) q key) o
+        (cond (eq_by_cmp (slice_cmp nat_cmp) q key) (Some place) (finite.get m q))
     seen (Some p) q =
         finite.get-insert nat_list_cmp_total (finite.insert m key place) key p q
         ∙ ap (λ (o : Option Place). cond (eq_by_cmp (slice_cmp nat_cmp) q key) (Some p) o) (finite.get-insert nat_list_cmp_total m key place q)
@@ -74,10 +75,14 @@ digest_of_key kind a b same = tails _ _ a.digest b.digest (same_bytes (entry_key
     tails : (x y : ℕ) (first second : List ℕ) → x ∷ first ≡ y ∷ second → first ≡ second
     tails x y first second e = cc
 
-others : (kind : Kind) (before es : List Entry) (one : Entry) → Follow kind before es → has_digest before one.digest ≡ true → AllByRecursion (λ e. bytes_eq (entry_key kind one) (entry_key kind e) ≡ false) es
+others : (kind : Kind) (before es : List Entry) (one : Entry) → Follow kind before es → has_digest before one.digest ≡ true →
+    AllByRecursion (λ e. bytes_eq (entry_key kind one) (entry_key kind e) ≡ false) es
 others kind before [] one follow has = tt
-others kind before (e ∷ es) one follow has =
-    (by_test (bytes_eq (entry_key kind one) (entry_key kind e)) refl, others kind (before ++ e ∷ []) es one follow.1 (list_any-append (λ x. bytes_eq x.digest one.digest) before (e ∷ []) ∙ ap (λ (b : Bool). b || has_digest (e ∷ []) one.digest) has))
+others kind before (e ∷ es) one follow has = (
+  by_test (bytes_eq (entry_key kind one) (entry_key kind e)) refl,
+  others kind (before ++ e ∷ []) es one follow.1
+      (list_any-append (λ x. bytes_eq x.digest one.digest) before (e ∷ []) ∙ ap (λ (b : Bool). b || has_digest (e ∷ []) one.digest) has),
+)
   where
     by_test : (b : Bool) → bytes_eq (entry_key kind one) (entry_key kind e) ≡ b → bytes_eq (entry_key kind one) (entry_key kind e) ≡ false
     by_test false other = other
@@ -85,7 +90,8 @@ others kind before (e ∷ es) one follow has =
         let both : has_digest before one.digest ≡ false = ap (has_digest before) (digest_of_key kind one e same) ∙ follow.0.new in
         absurd cc
 
-pub later_differ : (kind : Kind) (before : List Entry) (e : Entry) (es : List Entry) → Follow kind before (e ∷ es) → AllByRecursion (λ x. bytes_eq (entry_key kind e) (entry_key kind x) ≡ false) es
+pub later_differ : (kind : Kind) (before : List Entry) (e : Entry) (es : List Entry) → Follow kind before (e ∷ es) →
+    AllByRecursion (λ x. bytes_eq (entry_key kind e) (entry_key kind x) ≡ false) es
 later_differ kind before e es follow =
     others kind (before ++ e ∷ []) es e follow.1
     (list_any-append (λ x. bytes_eq x.digest e.digest) before (e ∷ [])
@@ -130,7 +136,8 @@ level_within : (kind : Kind) (level : ℕ) → is_level kind level ≡ true → 
 level_within kinds.Leaf level e = let none : level ≡ 0 = eqb-true level 0 e in omega (arith, none)
 level_within kinds.Tree level e = leb-true level MOST_LEVEL (both (nat_le 1 level) (nat_le level MOST_LEVEL) e).1
 
-places_from : (size slot : ℕ) (kind : Kind) (before es : List Entry) → Follow kind before es → bytes_of before + bytes_of es ≤ DATA_BYTES → size_of (slot + 1) ≤ size → AllByRecursion (λ e. IsPlace size (place_of slot e)) es
+places_from : (size slot : ℕ) (kind : Kind) (before es : List Entry) → Follow kind before es → bytes_of before + bytes_of es ≤ DATA_BYTES → size_of (slot + 1) ≤ size →
+    AllByRecursion (λ e. IsPlace size (place_of slot e)) es
 places_from size slot kind before [] follow within there = tt
 places_from size slot kind before (e ∷ es) follow within there =
     let long = length_within kind e.length follow.0.length in (
@@ -148,7 +155,8 @@ pub part_of : (size slot : ℕ) (h : HeaderValue) → IsHeader h → size_of (sl
 part_of size slot h right there = record {
   before = [];
   follow = right.entries;
-  places = places_from size slot h.kind [] h.entries right.entries (let few = leb-true h.data_length DATA_BYTES (both (nat_le 1 h.data_length) (nat_le h.data_length DATA_BYTES) right.data_length).1 in omega (arith, few, right.whole)) there;
+  places = places_from size slot h.kind [] h.entries right.entries
+      (let few = leb-true h.data_length DATA_BYTES (both (nat_le 1 h.data_length) (nat_le h.data_length DATA_BYTES) right.data_length).1 in omega (arith, few, right.whole)) there;
 }
 
 pub length-entries_from : (offset : ℕ) (segments : List Segment) → length (entries_from offset segments) ≡ length segments

@@ -16,7 +16,8 @@ newer-none (Some a) = refl
 three : (a b c : Copy) → newer (newer (Some a) (Some b)) (Some c) ≡ newer (Some a) (newer (Some b) (Some c))
 three a b c = by_first (nat_lt a.id b.id) (nat_lt b.id c.id) (nat_lt a.id c.id) refl refl refl
   where
-    by_first : (ab bc ac : Bool) → nat_lt a.id b.id ≡ ab → nat_lt b.id c.id ≡ bc → nat_lt a.id c.id ≡ ac → newer (newer (Some a) (Some b)) (Some c) ≡ newer (Some a) (newer (Some b) (Some c))
+    by_first : (ab bc ac : Bool) → nat_lt a.id b.id ≡ ab → nat_lt b.id c.id ≡ bc → nat_lt a.id c.id ≡ ac →
+        newer (newer (Some a) (Some b)) (Some c) ≡ newer (Some a) (newer (Some b) (Some c))
     by_first true true true ab bc ac = cc
     by_first true false ac ab bc e = cc
     by_first false true ac ab bc e = cc
@@ -30,7 +31,8 @@ newer-assoc (Some a) None c = refl
 newer-assoc (Some a) (Some b) None = newer-none (newer (Some a) (Some b))
 newer-assoc (Some a) (Some b) (Some c) = three a b c
 
-pub newest-push : (slot : ℕ) (held : List (Option HeaderValue)) (c : Option HeaderValue) (key : List ℕ) → newest slot (held ++ c ∷ []) key ≡ newer (newest slot held key) (copy_in (slot + length held) c key)
+pub newest-push : (slot : ℕ) (held : List (Option HeaderValue)) (c : Option HeaderValue) (key : List ℕ) →
+    newest slot (held ++ c ∷ []) key ≡ newer (newest slot held key) (copy_in (slot + length held) c key)
 newest-push slot [] c key = newer-none (copy_in slot c key) ∙ ap (λ (s : ℕ). copy_in s c key) (omega arith)
 newest-push slot (h ∷ held) c key =
     ap (newer (copy_in slot h key)) (newest-push (slot + 1) held c key)

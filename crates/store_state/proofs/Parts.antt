@@ -35,7 +35,8 @@ module _ (P Q : List ℕ → Type 0) (s t : Store) (old new : List ℕ) (keeps :
         is_held = tree_on P Q s t old new keeps count holds.whole holds.is_held;
         trees = holds.trees;
         ahead = holds.ahead;
-        are_held = trees_on R R s t old new (λ key level bytes there. keeps key level bytes (holds.is_held.count key (contained key (tree_keys holds.whole) there))) (λ key there. there) holds.trees holds.are_held;
+        are_held = trees_on R R s t old new (λ key level bytes there. keeps key level bytes (holds.is_held.count key (contained key (tree_keys holds.whole) there)))
+            (λ key there. there) holds.trees holds.are_held;
       }
 
   -- what all are at

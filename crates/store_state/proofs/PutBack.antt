@@ -33,12 +33,14 @@ one_taken es i d within = ap (take 1) (drop-cons es i d within)
 
 -- ---- one entry more
 
-with_push : (kind : Kind) (slot : ℕ) (es : List Entry) (e : Entry) (m : PlaceMap) → with_entries kind slot (es ++ e ∷ []) m ≡ finite.insert (with_entries kind slot es m) (entry_key kind e) (place_of slot e)
+with_push : (kind : Kind) (slot : ℕ) (es : List Entry) (e : Entry) (m : PlaceMap) → with_entries kind slot (es ++ e ∷ []) m ≡ finite.insert (with_entries kind slot es m)
+    (entry_key kind e) (place_of slot e)
 with_push kind slot [] e m = refl
 with_push kind slot (x ∷ xs) e m = with_push kind slot xs e (finite.insert m (entry_key kind x) (place_of slot x))
 
 module _ (kind : Kind) (slot : ℕ) (es : List Entry) (i : ℕ) (d : Entry) (within : i < length es) where
-  pub with_more : (m : PlaceMap) → with_entries kind slot (take (i + 1) es) m ≡ finite.insert (with_entries kind slot (take i es) m) (entry_key kind (get_or es i d)) (place_of slot (get_or es i d))
+  pub with_more : (m : PlaceMap) → with_entries kind slot (take (i + 1) es) m ≡ finite.insert (with_entries kind slot (take i es) m) (entry_key kind (get_or es i d))
+      (place_of slot (get_or es i d))
   with_more m = ap (λ (xs : List Entry). with_entries kind slot xs m) (take_more es i d within) ∙ with_push kind slot (take i es) (get_or es i d) m
 
   -- as the call says it
@@ -58,7 +60,8 @@ got_before kind slot first (e ∷ es) (suc i) d within follow m =
     ∙ got_other m (entry_key kind e) (entry_key kind (get_or es i d)) (place_of slot e)
     (all_got (λ (x : Entry). bytes_eq (entry_key kind e) (entry_key kind x) ≡ false) d es i (omega (arith, within)) (later_differ kind first e es follow))
 
-had_at : (m : PlaceMap) (kind : Kind) (es : List Entry) (hads : List (Option Place)) (i : ℕ) (d : Entry) (o : Option Place) → i < length es → HaveHad m kind es hads → get_or hads i o ≡ finite.get m (entry_key kind (get_or es i d))
+had_at : (m : PlaceMap) (kind : Kind) (es : List Entry) (hads : List (Option Place)) (i : ℕ) (d : Entry) (o : Option Place) → i < length es → HaveHad m kind es hads →
+    get_or hads i o ≡ finite.get m (entry_key kind (get_or es i d))
 had_at m kind [] hads i d o within had = absurd (omega (arith, within))
 had_at m kind (e ∷ es) [] i d o within had = absurd had
 had_at m kind (e ∷ es) (p ∷ ps) zero d o within had = had.0
@@ -66,7 +69,8 @@ had_at m kind (e ∷ es) (p ∷ ps) (suc i) d o within had = had_at m kind es ps
 
 -- ---- one entry is taken back
 
-module _ (kind : Kind) (es : List Entry) (hads : List (Option Place)) (i : ℕ) (d : Entry) (o : Option Place) (within : i < length es) (key : List ℕ) (key_is : key ≡ entry_key kind (get_or es i d)) where
+module _ (kind : Kind) (es : List Entry) (hads : List (Option Place)) (i : ℕ) (d : Entry) (o : Option Place) (within : i < length es) (key : List ℕ)
+    (key_is : key ≡ entry_key kind (get_or es i d)) where
   -- it has a place
   pub there_now : (after : PlaceMap) → IsPutOver kind es hads (i + 1) after → IsSome (finite.get after key)
   there_now after (before, put) =
@@ -83,7 +87,8 @@ module _ (kind : Kind) (es : List Entry) (hads : List (Option Place)) (i : ℕ) 
       let m = with_entries kind put.slot (take i es) before in
       ap (λ (k : List ℕ). with_had (get_or hads i o) k after) key_is
       ∙ ap (λ (n : PlaceMap). with_had (get_or hads i o) (entry_key kind e) n) (put.is ∙ with_more kind put.slot es i d within before)
-      ∙ given_back m (entry_key kind e) (place_of put.slot e) (get_or hads i o) (had_at before kind es hads i d o within put.had ∙ sym (got_before kind put.slot put.first es i d within put.follow before))
+      ∙ given_back m (entry_key kind e) (place_of put.slot e) (get_or hads i o)
+      (had_at before kind es hads i d o within put.had ∙ sym (got_before kind put.slot put.first es i d within put.follow before))
 
   pub one_back : (before after last : PlaceMap) → PutOver kind es hads (i + 1) before after → last ≡ with_had (get_or hads i o) key after → PutOver kind es hads i before last
   one_back before after last put is = record {
@@ -103,10 +108,12 @@ pub record AreBack (kind : Kind) (es : List Entry) (hads : List (Option Place)) 
   pub stays : Stays old now
   pub unknown : now ≡ None → old ≡ None
 
-pub none_back : (kind : Kind) (es : List Entry) (hads : List (Option Place)) (count : ℕ) (old : Option PlaceMap) → KnownMap old (IsPutOver kind es hads count) → AreBack kind es hads count count old old
+pub none_back : (kind : Kind) (es : List Entry) (hads : List (Option Place)) (count : ℕ) (old : Option PlaceMap) → KnownMap old (IsPutOver kind es hads count) →
+    AreBack kind es hads count count old old
 none_back kind es hads count old over = record { over = over; back = λ before after put is. (after, (put, is)); stays = λ none. none; unknown = λ none. none }
 
-module _ (kind : Kind) (es : List Entry) (hads : List (Option Place)) (count left i : ℕ) (d : Entry) (o : Option Place) (within : i < length es) (left_is : left ≡ i + 1) (key : List ℕ) (key_is : key ≡ entry_key kind (get_or es i d))
+module _ (kind : Kind) (es : List Entry) (hads : List (Option Place)) (count left i : ℕ) (d : Entry) (o : Option Place) (within : i < length es) (left_is : left ≡ i + 1)
+    (key : List ℕ) (key_is : key ≡ entry_key kind (get_or es i d))
     (old mid : Option PlaceMap) (so_far : AreBack kind es hads count left old mid) where
   over_now : KnownMap mid (IsPutOver kind es hads (i + 1))
   over_now n is = subst (λ (k : ℕ). IsPutOver kind es hads k n) left_is (so_far.over n is)
@@ -120,8 +127,14 @@ module _ (kind : Kind) (es : List Entry) (hads : List (Option Place)) (count lef
       over = by_mid mid refl;
       back = λ before after put is.
           let had = so_far.back before after put is in
-          let over : PutOver kind es hads (i + 1) before had.0 = subst (λ (k : ℕ). PutOver kind es hads k before had.0) left_is had.1.0 in
-          (with_had (get_or hads i o) key had.0, (one_back kind es hads i d o within key key_is before had.0 (with_had (get_or hads i o) key had.0) over refl, given had.0 had.1.1));
+          let over : PutOver kind es hads (i + 1) before had.0 = subst (λ (k : ℕ). PutOver kind es hads k before had.0) left_is had.1.0 in (
+            with_had (get_or hads i o) key had.0,
+            (
+              one_back kind es hads i d o within key key_is before had.0 (with_had (get_or hads i o) key had.0) over refl,
+              given had.0
+                  had.1.1,
+            ),
+          );
       stays = λ none. given_stays (so_far.stays none);
       unknown = λ none. so_far.unknown (before_none mid refl none);
     }
@@ -139,7 +152,8 @@ module _ (kind : Kind) (es : List Entry) (hads : List (Option Place)) (count lef
             (over.0, one_back kind es hads i d o within key key_is over.0 x n over.1 same)
 
 -- all of them
-pub all_back : (kind : Kind) (es : List Entry) (hads : List (Option Place)) (count left : ℕ) (old now : Option PlaceMap) → left ≡ 0 → AreBack kind es hads count left old now → TakesBack kind es hads count old now
+pub all_back : (kind : Kind) (es : List Entry) (hads : List (Option Place)) (count left : ℕ) (old now : Option PlaceMap) → left ≡ 0 → AreBack kind es hads count left old now →
+    TakesBack kind es hads count old now
 all_back kind es hads count left old now none are before after put is =
     let had = are.back before after put is in
     let over : PutOver kind es hads 0 before had.0 = subst (λ (k : ℕ). PutOver kind es hads k before had.0) none had.1.0 in
@@ -151,11 +165,13 @@ all_back kind es hads count left old now none are before after put is =
 abbrev pub AreIn : Kind → ℕ → List Entry → ℕ → Option PlaceMap → Option PlaceMap → Type 0
 AreIn kind slot es count old now = KnownMap old (λ m. now ≡ Some (with_entries kind slot (take count es) m))
 
-pub in_more : (kind : Kind) (slot : ℕ) (es : List Entry) (i : ℕ) (d : Entry) → i < length es → (old mid now : Option PlaceMap) → AreIn kind slot es i old mid → KnownMap mid (λ m. now ≡ Some (with_entry kind slot es i m))
+pub in_more : (kind : Kind) (slot : ℕ) (es : List Entry) (i : ℕ) (d : Entry) → i < length es → (old mid now : Option PlaceMap) → AreIn kind slot es i old mid →
+    KnownMap mid (λ m. now ≡ Some (with_entry kind slot es i m))
     → AreIn kind slot es (i + 1) old now
 in_more kind slot es i d within old mid now are one m is = one (with_entries kind slot (take i es) m) (are m is) ∙ ap Some (with_next kind slot es i d within m)
 
-module _ (size : ℕ) (kind : Kind) (slot : ℕ) (es : List Entry) (hads : List (Option Place)) (count : ℕ) (old mid : Option PlaceMap) (part : ArePart size slot kind es) (had : AreHad size old kind es hads)
+module _ (size : ℕ) (kind : Kind) (slot : ℕ) (es : List Entry) (hads : List (Option Place)) (count : ℕ) (old mid : Option PlaceMap) (part : ArePart size slot kind es)
+    (had : AreHad size old kind es hads)
     (are : AreIn kind slot es count old mid) (stays : Stays old mid) where
   put_over : (m : PlaceMap) → old ≡ Some m → PutOver kind es hads count m (with_entries kind slot (take count es) m)
   put_over m is = record { slot = slot; first = part.before; follow = part.follow; had = had.had m is; is = refl }

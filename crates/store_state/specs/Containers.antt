@@ -26,13 +26,14 @@ copy_from slot id kind entries key =
     option_map (λ e. record { id = id; place = place_of slot e }) (find (λ e. bytes_eq (key_of (kind_byte kind) e.digest) key) entries)
 
 -- and of the first entries of one container more
-pub record ArePart (held : List (Option HeaderValue)) (slot id : ℕ) (kind : Kind) (entries : List Entry) (tables : Containers) : Type 0 where
-  pub slot_is : slot ≡ length held
-  pub index : (key : List ℕ)
-      → finite.get tables.index key ≡ option_map (λ c. c.place) (newer (newest 0 held key) (copy_from slot id kind entries key))
-  pub ids : tables.ids.items ≡ ids_of held
-  pub counts : tables.counts.items ≡ map count_of held
-  pub last : tables.last_id ≡ last_id held
+pub record ArePart (held : List (Option HeaderValue)) (slot id : ℕ) (kind : Kind) (entries : List Entry) (tables : Containers) : Type 0
+  where
+    pub slot_is : slot ≡ length held
+    pub index : (key : List ℕ)
+        → finite.get tables.index key ≡ option_map (λ c. c.place) (newer (newest 0 held key) (copy_from slot id kind entries key))
+    pub ids : tables.ids.items ≡ ids_of held
+    pub counts : tables.counts.items ≡ map count_of held
+    pub last : tables.last_id ≡ last_id held
 
 -- a container of this id is newer than the one in the slot of a place, if there is one
 abbrev pub is_older_place : List ℕ → ℕ → Option Place → Bool

@@ -79,4 +79,5 @@ IsPutOver kind entries hads count after = (before : PlaceMap) × PutOver kind en
 
 -- they are taken back
 abbrev pub TakesBack : Kind → List Entry → List (Option Place) → ℕ → Option PlaceMap → Option PlaceMap → Type 0
-TakesBack kind entries hads count old new = (before after : PlaceMap) → PutOver kind entries hads count before after → old ≡ Some after → new ≡ Some before
+TakesBack kind entries hads count old new = (before after : PlaceMap) → PutOver kind entries hads count before after → old ≡ Some after →
+    new ≡ Some before

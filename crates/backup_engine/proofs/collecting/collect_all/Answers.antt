@@ -13,7 +13,8 @@ use Rattle.backup_engine.proofs.collecting.collect_all.Goals as goal
 pub returns-in_err-begin_collection-clause-ran : goal.returns-in_err-begin_collection-clause-ran
 returns-in_err-begin_collection-clause-ran g c =
     let sink = g.K.Sink.view c.args.sink.now in
-    by_error (λ (r : Result (Unit {0}) Ending). CollectRun _ g.C.HasState.state c.args.percent r c.args.core.now c.begin_collection.new.core sink sink) c.from_residual.result (Refused c.in_err-begin_collection.field-0.0) c.from_residual.ensures.1
+    by_error (λ (r : Result (Unit {0}) Ending). CollectRun _ g.C.HasState.state c.args.percent r c.args.core.now c.begin_collection.new.core sink sink) c.from_residual.result
+    (Refused c.in_err-begin_collection.field-0.0) c.from_residual.ensures.1
     (inl (c.in_err-begin_collection.field-0.0, (c.in_err-begin_collection.ensures.starts, (refl, refl))))
 
 -- there was no memory for the reply
@@ -24,7 +25,8 @@ returns-in_err-text-in-Ok-clause-ran g c =
     let mid = c.begin_collection.new.core in
     let new = c.sweep-swept.new.core in
     let swept = swept_ok _ state mid new c.sweep-swept.result c.in-Ok.reply c.in-Ok.is c.sweep-swept.ensures.tells (c.sweep-swept.ensures.sweeps no_sessions) in
-    by_error (λ (r : Result (Unit {0}) Ending). CollectRun _ state c.args.percent r c.args.core.now new sink sink) c.from_residual-in_err-text-in-Ok.result (Refused Memory) c.from_residual-in_err-text-in-Ok.ensures.1
+    by_error (λ (r : Result (Unit {0}) Ending). CollectRun _ state c.args.percent r c.args.core.now new sink sink) c.from_residual-in_err-text-in-Ok.result (Refused Memory)
+    c.from_residual-in_err-text-in-Ok.ensures.1
     (inr (c.in_ok-begin_collection.field-0, (mid, (c.in_ok-begin_collection.ensures.starts, inr (swept.freed, swept.copied, (swept.sweeps, inr (refl, refl)))))))
 
 pub returns-in_ok-text-in-Ok-clause-ran : goal.returns-in_ok-text-in-Ok-clause-ran

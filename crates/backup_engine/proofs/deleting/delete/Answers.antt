@@ -28,7 +28,8 @@ returns-in_err-reply-clause-does g c = λ source.
     let disk = g.D.Disk.view c.args.disk.now in
     let sink = g.K.Sink.view c.args.sink.now in (
       [],
-      by_error (λ (x : Result (Unit {0}) Ending). DoesCommand _ g.D.Disk.view (Delete c.args.name.now) [] [] (ending_in x) disk disk source source sink sink) c.from_residual.result (Refused Memory) c.from_residual.ensures.1
+      by_error (λ (x : Result (Unit {0}) Ending). DoesCommand _ g.D.Disk.view (Delete c.args.name.now) [] [] (ending_in x) disk disk source source sink sink)
+          c.from_residual.result (Refused Memory) c.from_residual.ensures.1
           (does_without_memory _ g.D.Disk.view disk source sink (Delete c.args.name.now) [] (not_begun (Delete c.args.name.now) [] disk source sink (refl, refl))
           (unbegun_speaks (IsDelete c.args.name.now (Some (Refused Memory)) sink sink) disk sink (inl (refl, refl), refl))),
     )
@@ -38,7 +39,8 @@ returns-in_err-buf-clause-does g c = λ source.
     let disk = g.D.Disk.view c.args.disk.now in
     let sink = g.K.Sink.view c.args.sink.now in (
       [],
-      by_error (λ (x : Result (Unit {0}) Ending). DoesCommand _ g.D.Disk.view (Delete c.args.name.now) [] [] (ending_in x) disk disk source source sink sink) c.from_residual-in_err-buf.result (Refused Memory) c.from_residual-in_err-buf.ensures.1
+      by_error (λ (x : Result (Unit {0}) Ending). DoesCommand _ g.D.Disk.view (Delete c.args.name.now) [] [] (ending_in x) disk disk source source sink sink)
+          c.from_residual-in_err-buf.result (Refused Memory) c.from_residual-in_err-buf.ensures.1
           (does_without_memory _ g.D.Disk.view disk source sink (Delete c.args.name.now) [] (not_begun (Delete c.args.name.now) [] disk source sink (refl, refl))
           (unbegun_speaks (IsDelete c.args.name.now (Some (Refused Memory)) sink sink) disk sink (inl (refl, refl), refl))),
     )
@@ -54,16 +56,18 @@ returns-in-Err g c =
     let first : MutBor g.row.D.Denot = record { ref_ptr = c.args.disk.ref_ptr; ghost_name = _; now = c.args.disk.now } in
     let later = none_later _ view first _ w refusal c.in-Err.ensures.refused in
     record {
-      does = λ source. by_same (λ d. (rs : List Replied) × DoesCommand _ view (Delete c.args.name.now) [] rs (Some (Refused refusal)) (view c.args.disk.now) (view d) source source sink sink) _ c.in-Err.refused.0.now (search rules) (
-        [],
-        does_none _ view refusal (view c.args.disk.now) w source sink (Delete c.args.name.now) [] (refl, refl)
-            (λ before is. record {
-              keeps = unopened_delete before w refusal is c.args.name.now source sink;
-              speaks = unopened_speaks are before w refusal is sink;
-            })
-            (refused_by_files _ view refusal c.args.disk.now c.in-Err.refused.0.now c.an_opening_finds_its_files.ensures.unopened (none_back _ view first _ w refusal c.in-Err.ensures.refused))
-            (none_back _ view first _ w refusal c.in-Err.ensures.refused),
-      );
+      does = λ source. by_same (λ d. (rs : List Replied) × DoesCommand _ view (Delete c.args.name.now) [] rs (Some (Refused refusal)) (view c.args.disk.now) (view d) source source
+          sink sink) _ c.in-Err.refused.0.now (search rules) (
+            [],
+            does_none _ view refusal (view c.args.disk.now) w source sink (Delete c.args.name.now) [] (refl, refl)
+                (λ before is. record {
+                  keeps = unopened_delete before w refusal is c.args.name.now source sink;
+                  speaks = unopened_speaks are before w refusal is sink;
+                })
+                (refused_by_files _ view refusal c.args.disk.now c.in-Err.refused.0.now c.an_opening_finds_its_files.ensures.unopened
+                (none_back _ view first _ w refusal c.in-Err.ensures.refused))
+                (none_back _ view first _ w refusal c.in-Err.ensures.refused),
+          );
       later = by_same (λ d. IsLater (view c.args.disk.now) (view d)) _ c.in-Err.refused.0.now (search rules)
           (later_back _ _ (view c.args.disk.now) w (sym (rest_same _ _ _ _ later.loans_are)) later);
     }
@@ -87,23 +91,29 @@ returns g c =
     let stop_is = (opened_fresh _ _ _ _ is.opened is.running).runs in
     let name = c.args.name.now in
     let ran =
-    subst (λ (reply : List ℕ). DeleteRun _ _ name reply result core core_now sink sink_now) (c.deref.ensures.value ∙ c.in_ok-reply.ensures ∙ ap deleted_line c.as_bytes.ensures.value) c.delete_name-deleted.ensures.ran in
+    subst (λ (reply : List ℕ). DeleteRun _ _ name reply result core core_now sink sink_now)
+    (c.deref.ensures.value ∙ c.in_ok-reply.ensures ∙ ap deleted_line c.as_bytes.ensures.value) c.delete_name-deleted.ensures.ran in
     let are = IsDelete c.args.name.now (ending_in result) sink sink_now in
     let first : MutBor g.row.D.Denot = record { ref_ptr = c.args.disk.ref_ptr; ghost_name = _; now = c.args.disk.now } in
-    let later = opened_later _ view _ _ first _ w core core_now opens is.running closed.disk closed.moment (delete_later _ _ core core_now name _ result sink sink_now ran) is.opened in
+    let later = opened_later _ view _ _ first _ w core core_now opens is.running closed.disk closed.moment (delete_later _ _ core core_now name _ result sink sink_now ran)
+    is.opened in
     let named = first_same c.close-disk.result.ghost_name _ _ _ later.loans_are in
     let run = delete_lines _ _ core core_now stop_is name result sink sink_now ran in
     let between = delete_later _ _ core core_now name _ result sink sink_now ran in
-    let by_files = single_back _ view _ _ first _ w core core_now opens is.running closed.disk closed.moment between is.opened are (ending_in result) run (delete_actors name (ending_in result) sink sink_now) in
+    let by_files = single_back _ view _ _ first _ w core core_now opens is.running closed.disk closed.moment between is.opened are (ending_in result) run
+    (delete_actors name (ending_in result) sink sink_now) in
     record {
-      does = λ source. by_same (λ d. (rs : List Replied) × DoesCommand _ view (Delete c.args.name.now) [] rs (ending_in result) (view c.args.disk.now) (view d) source source sink sink_now) _ c.close-disk.result.now (search (rules, named)) (
-        run.0,
-        does_opened _ view _ _ first _ w core core_now opens is.running closed.disk closed.moment between (Delete c.args.name.now) [] (ending_in result) source source sink sink_now run.0 by_files is.opened
-            (λ before called. (
-              delete_kept _ _ (view before.now) w source source sink sink_now [] name (ending_in result) (delete_keeps _ _ _ _ before _ _ _ called opens name source sink result sink_now ran),
-              inl run.1.0,
-            )),
-      );
+      does = λ source. by_same (λ d. (rs : List Replied) × DoesCommand _ view (Delete c.args.name.now) [] rs (ending_in result) (view c.args.disk.now) (view d) source source sink
+          sink_now) _ c.close-disk.result.now (search (rules, named)) (
+            run.0,
+            does_opened _ view _ _ first _ w core core_now opens is.running closed.disk closed.moment between (Delete c.args.name.now) [] (ending_in result) source source sink
+                sink_now run.0 by_files is.opened
+                (λ before called. (
+                  delete_kept _ _ (view before.now) w source source sink sink_now [] name (ending_in result)
+                      (delete_keeps _ _ _ _ before _ _ _ called opens name source sink result sink_now ran),
+                  inl run.1.0,
+                )),
+          );
       later = by_same (λ d. IsLater (view c.args.disk.now) (view d)) _ c.close-disk.result.now (search (rules, named))
           (later_back _ _ (view c.args.disk.now) w (sym (rest_same _ _ _ _ later.loans_are)) later);
     }

@@ -24,4 +24,5 @@ returns-in-Ok-clause-keeps g c = λ source.
     let sent : Sent (formatted_line c.args.slots) c.send.result sink sink_now =
     subst (λ (reply : List ℕ). Sent reply c.send.result sink sink_now) (c.deref.ensures.value ∙ c.in_ok-reply.ensures) c.send.ensures in
     done_keeps c.args.slots old new is.left is.crash is.store source (ending_in c.send.result) sink sink_now (replied_sent _ c.send.result sink sink_now sent)
-    (record { count = c.requires; size_is = is.done.0; closed = is.done.1; stands = is.stands }) is.durable is.disk (wrote_sent (formatted_line c.args.slots) c.send.result sink sink_now sent)
+    (record { count = c.requires; size_is = is.done.0; closed = is.done.1; stands = is.stands }) is.durable is.disk
+    (wrote_sent (formatted_line c.args.slots) c.send.result sink sink_now sent)

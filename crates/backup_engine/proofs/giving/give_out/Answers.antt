@@ -5,7 +5,8 @@ use Rattle.backup_engine.proofs.giving.give_out.Goals as goal
 
 pub loop-count-init : goal.loop-count-init
 loop-count-init g c =
-    begin_giving _ g.C.HasState.state _ _ _ _ _ _ _ _ c.requires.fresh c.first.ensures (ap asked.OpenRead c.as_bytes.ensures.value) c.in_ok-make_step.ensures.step c.make_step.ensures.running
+    begin_giving _ g.C.HasState.state _ _ _ _ _ _ _ _ c.requires.fresh c.first.ensures (ap asked.OpenRead c.as_bytes.ensures.value) c.in_ok-make_step.ensures.step
+    c.make_step.ensures.running
 
 pub returns-in_err-count-clause-ran : goal.returns-in_err-count-clause-ran
 returns-in_err-count-clause-ran g c =
@@ -19,12 +20,14 @@ returns-in_default g c = record {
 
 pub returns-then-is_err-clause-ran : goal.returns-then-is_err-clause-ran
 returns-then-is_err-clause-ran g c =
-    unwritten _ g.C.HasState.state _ _ _ _ _ _ c.loop-count.invariant _ _ c.first-in-loop-count.ensures _ _ c.in-Bytes.is c.in_ok-count.ensures.step _ _ _ c.bytes.ensures.value c.write_all.ensures c.if-is_err.ensures.value
+    unwritten _ g.C.HasState.state _ _ _ _ _ _ c.loop-count.invariant _ _ c.first-in-loop-count.ensures _ _ c.in-Bytes.is c.in_ok-count.ensures.step _ _ _ c.bytes.ensures.value
+    c.write_all.ensures c.if-is_err.ensures.value
 
 pub loop-count-smaller : goal.loop-count-smaller
 loop-count-smaller g c = fewer _ g.C.HasState.state _ _ _ _ _ _ c.loop-count.invariant _ _ c.first-in-loop-count.ensures _ _ c.in-Bytes.is c.in_ok-count.ensures.step
 
 pub loop-count-preserved : goal.loop-count-preserved
 loop-count-preserved g c =
-    written _ g.C.HasState.state _ _ _ _ _ _ c.loop-count.invariant _ _ c.first-in-loop-count.ensures _ _ c.in-Bytes.is c.in_ok-count.ensures.step _ _ _ c.bytes.ensures.value c.write_all.ensures
+    written _ g.C.HasState.state _ _ _ _ _ _ c.loop-count.invariant _ _ c.first-in-loop-count.ensures _ _ c.in-Bytes.is c.in_ok-count.ensures.step _ _ _ c.bytes.ensures.value
+    c.write_all.ensures
     c.make_step-in-loop-count.ensures.running c.if-is_err.ensures.value

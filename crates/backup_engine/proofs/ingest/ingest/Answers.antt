@@ -48,7 +48,8 @@ returns-in-Err g c =
                 keeps = unopened_ingest before w refusal is name given source sink (given_told source.left);
                 speaks = unopened_speaks are before w refusal is sink;
               })
-              (refused_by_files _ view refusal c.args.disk.now c.in-Err.refused.0.now c.an_opening_finds_its_files.ensures.unopened (none_back _ view first _ w refusal c.in-Err.ensures.refused))
+              (refused_by_files _ view refusal c.args.disk.now c.in-Err.refused.0.now c.an_opening_finds_its_files.ensures.unopened
+              (none_back _ view first _ w refusal c.in-Err.ensures.refused))
               (none_back _ view first _ w refusal c.in-Err.ensures.refused),
         ),
       );
@@ -83,14 +84,18 @@ returns g c =
     let opens = c.calls_run_by_files.ensures in
     let between = ingest_later _ _ name result core core_now source source_now sink sink_now ran in
     let run = ran.lines_are in
-    let by_files = single_back _ view _ _ first _ w core core_now opens is.running closed.disk closed.moment between is.opened are (ending_in result) run (ingest_actors name ran.given (ending_in result) source source_now) in
-    let done = does_opened _ view _ _ first _ w core core_now opens is.running closed.disk closed.moment between (Ingest name) ran.given (ending_in result) source source_now sink sink_now run.0 by_files is.opened
+    let by_files = single_back _ view _ _ first _ w core core_now opens is.running closed.disk closed.moment between is.opened are (ending_in result) run
+    (ingest_actors name ran.given (ending_in result) source source_now) in
+    let done = does_opened _ view _ _ first _ w core core_now opens is.running closed.disk closed.moment between (Ingest name) ran.given (ending_in result) source source_now sink
+    sink_now run.0 by_files is.opened
     (λ before called. (
-      ingest_kept _ _ (view before.now) w source source_now sink sink_now ran.given name (ending_in result) (ingest_keeps _ _ _ _ _ _ called name result source source_now sink sink_now ran),
+      ingest_kept _ _ (view before.now) w source source_now sink sink_now ran.given name (ending_in result)
+          (ingest_keeps _ _ _ _ _ _ called name result source source_now sink sink_now ran),
       inl run.1.0,
     )) in
     record {
-      does = by_same (λ d. Ingested _ view (view c.args.disk.now) (view d) name (ending_in result) source source_now sink sink_now) _ c.close-disk.result.now (search (rules, named)) (ran.given, (run.0, done));
+      does = by_same (λ d. Ingested _ view (view c.args.disk.now) (view d) name (ending_in result) source source_now sink sink_now) _ c.close-disk.result.now
+          (search (rules, named)) (ran.given, (run.0, done));
       later = by_same (λ d. IsLater (view c.args.disk.now) (view d)) _ c.close-disk.result.now (search (rules, named))
           (later_back _ _ (view c.args.disk.now) w (sym (rest_same _ _ _ _ later.loans_are)) later);
     }

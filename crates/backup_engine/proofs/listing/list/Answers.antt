@@ -26,7 +26,8 @@ returns-in_err-buf-clause-does g c = λ source.
     let disk = g.D.Disk.view c.args.disk.now in
     let sink = g.K.Sink.view c.args.sink.now in (
       [],
-      by_error (λ (x : Result (Unit {0}) Ending). DoesCommand _ g.D.Disk.view table.List [] [] (ending_in x) disk disk source source sink sink) c.from_residual.result (Refused Memory) c.from_residual.ensures.1
+      by_error (λ (x : Result (Unit {0}) Ending). DoesCommand _ g.D.Disk.view table.List [] [] (ending_in x) disk disk source source sink sink) c.from_residual.result
+          (Refused Memory) c.from_residual.ensures.1
           (does_without_memory _ g.D.Disk.view disk source sink table.List [] (not_begun table.List [] disk source sink (refl, refl))
           (unbegun_speaks (IsListing (Some (Refused Memory)) sink sink) disk sink (inl (refl, inl refl), refl))),
     )
@@ -42,16 +43,18 @@ returns-in-Err g c =
     let first : MutBor g.row.D.Denot = record { ref_ptr = c.args.disk.ref_ptr; ghost_name = _; now = c.args.disk.now } in
     let later = none_later _ view first _ w refusal c.in-Err.ensures.refused in
     record {
-      does = λ source. by_same (λ d. (rs : List Replied) × DoesCommand _ view table.List [] rs (Some (Refused refusal)) (view c.args.disk.now) (view d) source source sink sink) _ c.in-Err.refused.0.now (search rules) (
-        [],
-        does_none _ view refusal (view c.args.disk.now) w source sink table.List [] (refl, refl)
-            (λ before is. record {
-              keeps = unopened_list before w refusal is source sink;
-              speaks = unopened_speaks are before w refusal is sink;
-            })
-            (refused_by_files _ view refusal c.args.disk.now c.in-Err.refused.0.now c.an_opening_finds_its_files.ensures.unopened (none_back _ view first _ w refusal c.in-Err.ensures.refused))
-            (none_back _ view first _ w refusal c.in-Err.ensures.refused),
-      );
+      does = λ source. by_same (λ d. (rs : List Replied) × DoesCommand _ view table.List [] rs (Some (Refused refusal)) (view c.args.disk.now) (view d) source source sink sink) _
+          c.in-Err.refused.0.now (search rules) (
+            [],
+            does_none _ view refusal (view c.args.disk.now) w source sink table.List [] (refl, refl)
+                (λ before is. record {
+                  keeps = unopened_list before w refusal is source sink;
+                  speaks = unopened_speaks are before w refusal is sink;
+                })
+                (refused_by_files _ view refusal c.args.disk.now c.in-Err.refused.0.now c.an_opening_finds_its_files.ensures.unopened
+                (none_back _ view first _ w refusal c.in-Err.ensures.refused))
+                (none_back _ view first _ w refusal c.in-Err.ensures.refused),
+          );
       later = by_same (λ d. IsLater (view c.args.disk.now) (view d)) _ c.in-Err.refused.0.now (search rules)
           (later_back _ _ (view c.args.disk.now) w (sym (rest_same _ _ _ _ later.loans_are)) later);
     }
@@ -80,16 +83,20 @@ returns g c =
     let named = first_same c.close-disk.result.ghost_name _ _ _ later.loans_are in
     let run = list_lines _ _ core core_now stop_is result sink sink_now ran in
     let between = list_later _ _ core core_now result sink sink_now ran in
-    let by_files = single_back _ view _ _ first _ w core core_now opens is.running closed.disk closed.moment between is.opened are (ending_in result) run (list_actors (ending_in result) sink sink_now) in
+    let by_files = single_back _ view _ _ first _ w core core_now opens is.running closed.disk closed.moment between is.opened are (ending_in result) run
+    (list_actors (ending_in result) sink sink_now) in
     record {
-      does = λ source. by_same (λ d. (rs : List Replied) × DoesCommand _ view table.List [] rs (ending_in result) (view c.args.disk.now) (view d) source source sink sink_now) _ c.close-disk.result.now (search (rules, named)) (
-        run.0,
-        does_opened _ view _ _ first _ w core core_now opens is.running closed.disk closed.moment between table.List [] (ending_in result) source source sink sink_now run.0 by_files is.opened
-            (λ before called. (
-              list_kept _ _ (view before.now) w source source sink sink_now [] [] (ending_in result) (list_keeps _ _ _ _ before _ _ _ called opens result source sink sink_now ran),
-              inl run.1.0,
-            )),
-      );
+      does = λ source. by_same (λ d. (rs : List Replied) × DoesCommand _ view table.List [] rs (ending_in result) (view c.args.disk.now) (view d) source source sink sink_now) _
+          c.close-disk.result.now (search (rules, named)) (
+            run.0,
+            does_opened _ view _ _ first _ w core core_now opens is.running closed.disk closed.moment between table.List [] (ending_in result) source source sink sink_now run.0
+                by_files is.opened
+                (λ before called. (
+                  list_kept _ _ (view before.now) w source source sink sink_now [] [] (ending_in result)
+                      (list_keeps _ _ _ _ before _ _ _ called opens result source sink sink_now ran),
+                  inl run.1.0,
+                )),
+          );
       later = by_same (λ d. IsLater (view c.args.disk.now) (view d)) _ c.close-disk.result.now (search (rules, named))
           (later_back _ _ (view c.args.disk.now) w (sym (rest_same _ _ _ _ later.loans_are)) later);
     }

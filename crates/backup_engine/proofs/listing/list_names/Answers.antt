@@ -21,7 +21,8 @@ returns-in_err-files-clause-ran g c =
     let e = c.in_err-files.field-0.0 in
     let sink = g.K.Sink.view c.args.sink.now in
     let step = as_first (state old) (state new) _ _ asked.ListNames (Err e) c.make_step.new.buf c.first.ensures refl c.in_err-files.ensures.step in
-    by_error (λ (r : Result (Unit {0}) Ending). ListRun _ state r old new sink sink) c.from_residual.result (Refused e) c.from_residual.ensures.1 (Err e, ((c.make_step.new.buf, step), (refl, refl)))
+    by_error (λ (r : Result (Unit {0}) Ending). ListRun _ state r old new sink sink) c.from_residual.result (Refused e) c.from_residual.ensures.1
+    (Err e, ((c.make_step.new.buf, step), (refl, refl)))
 
 -- or for its text
 pub returns-in_err-text-clause-ran : goal.returns-in_err-text-clause-ran

@@ -42,16 +42,18 @@ returns-in-Err g c =
     let first : MutBor g.row.D.Denot = record { ref_ptr = c.args.disk.ref_ptr; ghost_name = _; now = c.args.disk.now } in
     let later = none_later _ view first _ w refusal c.in-Err.ensures.refused in
     record {
-      does = λ source. by_same (λ d. (rs : List Replied) × DoesCommand _ view (Restore name) [] rs (Some (Refused refusal)) (view c.args.disk.now) (view d) source source sink sink) _ c.in-Err.refused.0.now (search rules) (
-        [],
-        does_none _ view refusal (view c.args.disk.now) w source sink (Restore name) [] (refl, refl)
-            (λ before is. record {
-              keeps = unopened_restore before w refusal is name source sink;
-              speaks = unopened_speaks are before w refusal is sink;
-            })
-            (refused_by_files _ view refusal c.args.disk.now c.in-Err.refused.0.now c.an_opening_finds_its_files.ensures.unopened (none_back _ view first _ w refusal c.in-Err.ensures.refused))
-            (none_back _ view first _ w refusal c.in-Err.ensures.refused),
-      );
+      does = λ source. by_same (λ d. (rs : List Replied) × DoesCommand _ view (Restore name) [] rs (Some (Refused refusal)) (view c.args.disk.now) (view d) source source sink
+          sink) _ c.in-Err.refused.0.now (search rules) (
+            [],
+            does_none _ view refusal (view c.args.disk.now) w source sink (Restore name) [] (refl, refl)
+                (λ before is. record {
+                  keeps = unopened_restore before w refusal is name source sink;
+                  speaks = unopened_speaks are before w refusal is sink;
+                })
+                (refused_by_files _ view refusal c.args.disk.now c.in-Err.refused.0.now c.an_opening_finds_its_files.ensures.unopened
+                (none_back _ view first _ w refusal c.in-Err.ensures.refused))
+                (none_back _ view first _ w refusal c.in-Err.ensures.refused),
+          );
       later = by_same (λ d. IsLater (view c.args.disk.now) (view d)) _ c.in-Err.refused.0.now (search rules)
           (later_back _ _ (view c.args.disk.now) w (sym (rest_same _ _ _ _ later.loans_are)) later);
     }
@@ -81,16 +83,19 @@ returns g c =
     let named = first_same c.close-disk.result.ghost_name _ _ _ later.loans_are in
     let run = given_lines _ _ name core (opened_fresh _ _ _ _ is.opened is.running) core_now sink sink_now result ran in
     let between = give_later _ _ name result core core_now sink sink_now ran in
-    let by_files = single_back _ view _ _ first _ w core core_now opens is.running closed.disk closed.moment between is.opened are (ending_in result) run (restore_actors name (ending_in result) sink sink_now) in
+    let by_files = single_back _ view _ _ first _ w core core_now opens is.running closed.disk closed.moment between is.opened are (ending_in result) run
+    (restore_actors name (ending_in result) sink sink_now) in
     record {
-      does = λ source. by_same (λ d. (rs : List Replied) × DoesCommand _ view (Restore name) [] rs (ending_in result) (view c.args.disk.now) (view d) source source sink sink_now) _ c.close-disk.result.now (search (rules, named)) (
-        run.0,
-        does_opened _ view _ _ first _ w core core_now opens is.running closed.disk closed.moment between (Restore name) [] (ending_in result) source source sink sink_now run.0 by_files is.opened
-            (λ before called. (
-              restore_kept _ _ (view before.now) w source source sink sink_now [] name (ending_in result) (gives _ _ _ _ _ _ called name result sink sink_now ran source),
-              inl run.1.0,
-            )),
-      );
+      does = λ source. by_same (λ d. (rs : List Replied) × DoesCommand _ view (Restore name) [] rs (ending_in result) (view c.args.disk.now) (view d) source source sink sink_now)
+          _ c.close-disk.result.now (search (rules, named)) (
+            run.0,
+            does_opened _ view _ _ first _ w core core_now opens is.running closed.disk closed.moment between (Restore name) [] (ending_in result) source source sink sink_now run.0
+                by_files is.opened
+                (λ before called. (
+                  restore_kept _ _ (view before.now) w source source sink sink_now [] name (ending_in result) (gives _ _ _ _ _ _ called name result sink sink_now ran source),
+                  inl run.1.0,
+                )),
+          );
       later = by_same (λ d. IsLater (view c.args.disk.now) (view d)) _ c.close-disk.result.now (search (rules, named))
           (later_back _ _ (view c.args.disk.now) w (sym (rest_same _ _ _ _ later.loans_are)) later);
     }

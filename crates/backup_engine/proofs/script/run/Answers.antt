@@ -22,7 +22,8 @@ returns-in_err-sessions-clause-runs g c =
     let source = g.S.Source.view c.args.source.now in
     let sink = g.K.Sink.view c.args.sink.now in (
       [],
-      by_error (λ (x : Result (Unit {0}) Ending). RunsScript _ g.D.Disk.view [] (ending_in x) disk disk source source sink sink) c.from_residual.result (Refused Memory) c.from_residual.ensures.1
+      by_error (λ (x : Result (Unit {0}) Ending). RunsScript _ g.D.Disk.view [] (ending_in x) disk disk source source sink sink) c.from_residual.result (Refused Memory)
+          c.from_residual.ensures.1
           (runs_without_memory _ g.D.Disk.view disk source sink (no_memory_kept disk source sink c.reads_tell_scripts.ensures)),
     )
 
@@ -32,7 +33,8 @@ returns-in_err-buf-clause-runs g c =
     let source = g.S.Source.view c.args.source.now in
     let sink = g.K.Sink.view c.args.sink.now in (
       [],
-      by_error (λ (x : Result (Unit {0}) Ending). RunsScript _ g.D.Disk.view [] (ending_in x) disk disk source source sink sink) c.from_residual-in_err-buf.result (Refused Memory) c.from_residual-in_err-buf.ensures.1
+      by_error (λ (x : Result (Unit {0}) Ending). RunsScript _ g.D.Disk.view [] (ending_in x) disk disk source source sink sink) c.from_residual-in_err-buf.result (Refused Memory)
+          c.from_residual-in_err-buf.ensures.1
           (runs_without_memory _ g.D.Disk.view disk source sink (no_memory_kept disk source sink c.reads_tell_scripts.ensures)),
     )
 
@@ -47,13 +49,16 @@ returns-in-Err g c =
     let first : MutBor g.row.D.Denot = record { ref_ptr = c.args.disk.ref_ptr; ghost_name = _; now = c.args.disk.now } in
     let later = none_later _ view first _ w refusal c.in-Err.ensures.refused in
     record {
-      runs = by_same (λ d. (rs : List Replied) × RunsScript _ view rs (Some (Refused refusal)) (view c.args.disk.now) (view d) source source sink sink) _ c.in-Err.refused.0.now (search rules) (
-        [],
-        runs_none _ view refusal (view c.args.disk.now) w source sink (λ before is. unopened_kept before w refusal is source sink c.reads_tell_scripts.ensures)
-            (refused_by_files _ view refusal c.args.disk.now c.in-Err.refused.0.now c.an_opening_finds_its_files.ensures.unopened (none_back _ view first _ w refusal c.in-Err.ensures.refused))
-            (fails_unopened _ view refusal c.args.disk.now c.in-Err.refused.0.now c.an_opening_finds_its_files.ensures.unopened (none_back _ view first _ w refusal c.in-Err.ensures.refused))
-            (none_back _ view first _ w refusal c.in-Err.ensures.refused),
-      );
+      runs = by_same (λ d. (rs : List Replied) × RunsScript _ view rs (Some (Refused refusal)) (view c.args.disk.now) (view d) source source sink sink) _ c.in-Err.refused.0.now
+          (search rules) (
+            [],
+            runs_none _ view refusal (view c.args.disk.now) w source sink (λ before is. unopened_kept before w refusal is source sink c.reads_tell_scripts.ensures)
+                (refused_by_files _ view refusal c.args.disk.now c.in-Err.refused.0.now c.an_opening_finds_its_files.ensures.unopened
+                (none_back _ view first _ w refusal c.in-Err.ensures.refused))
+                (fails_unopened _ view refusal c.args.disk.now c.in-Err.refused.0.now c.an_opening_finds_its_files.ensures.unopened
+                (none_back _ view first _ w refusal c.in-Err.ensures.refused))
+                (none_back _ view first _ w refusal c.in-Err.ensures.refused),
+          );
       later = by_same (λ d. IsLater (view c.args.disk.now) (view d)) _ c.in-Err.refused.0.now (search rules)
           (later_back _ _ (view c.args.disk.now) w (sym (rest_same _ _ _ _ later.loans_are)) later);
     }
@@ -83,17 +88,18 @@ returns g c =
     let by_files = runs_back _ view _ _ first _ w core core_now opens is.running closed.disk closed.moment between is.opened (ending_in result) run.rs r s c.new-runner.ensures.core
     (c.new-runner.ensures.sessions ∙ c.in_ok-sessions.ensures) c.into_core.ensures.core run.actors run.runs in
     record {
-      runs = by_same (λ d. (rs : List Replied) × RunsScript _ view rs (ending_in result) (view c.args.disk.now) (view d) source source_now sink sink_now) _ c.close-disk.result.now (search (rules, named)) (
-        run.rs,
-        runs_opened _ view _ _ first _ w core core_now opens is.running closed.disk closed.moment between run.rs (ending_in result) source source_now sink sink_now is.opened
-            by_files (fails_by (ending_in result) run.rs (view c.args.disk.now) w (ends_alone run.rs (ending_in result) source source_now sink sink_now run.caused) by_files)
-            (λ before whole.
-            let called = called_by _ _ _ _ core core_now r.core s.core whole c.new-runner.ensures.core c.into_core.ensures.core in
-            let kept =
-            run_kept _ _ _ _ before _ r s called c.lines_go_on.ensures c.lines_give_what_is_named.ensures c.lines_keep_what_is_written.ensures.opened
-            c.lines_keep_what_is_written.ensures.lines (c.new-runner.ensures.sessions ∙ c.in_ok-sessions.ensures) result source source_now sink sink_now run in
-            script_back _ _ (view before.now) w run.rs (ending_in result) source source_now sink sink_now kept.1),
-      );
+      runs = by_same (λ d. (rs : List Replied) × RunsScript _ view rs (ending_in result) (view c.args.disk.now) (view d) source source_now sink sink_now) _ c.close-disk.result.now
+          (search (rules, named)) (
+            run.rs,
+            runs_opened _ view _ _ first _ w core core_now opens is.running closed.disk closed.moment between run.rs (ending_in result) source source_now sink sink_now is.opened
+                by_files (fails_by (ending_in result) run.rs (view c.args.disk.now) w (ends_alone run.rs (ending_in result) source source_now sink sink_now run.caused) by_files)
+                (λ before whole.
+                let called = called_by _ _ _ _ core core_now r.core s.core whole c.new-runner.ensures.core c.into_core.ensures.core in
+                let kept =
+                run_kept _ _ _ _ before _ r s called c.lines_go_on.ensures c.lines_give_what_is_named.ensures c.lines_keep_what_is_written.ensures.opened
+                c.lines_keep_what_is_written.ensures.lines (c.new-runner.ensures.sessions ∙ c.in_ok-sessions.ensures) result source source_now sink sink_now run in
+                script_back _ _ (view before.now) w run.rs (ending_in result) source source_now sink sink_now kept.1),
+          );
       later = by_same (λ d. IsLater (view c.args.disk.now) (view d)) _ c.close-disk.result.now (search (rules, named))
           (later_back _ _ (view c.args.disk.now) w (sym (rest_same _ _ _ _ later.loans_are)) later);
     }

@@ -5,7 +5,8 @@ use Rattle.backup_engine.proofs.TopCall.{does_as}
 use Rattle.backup_engine.proofs.top_call.run_command.Goals as goal
 
 pub returns-in-Format-clause-does : goal.returns-in-Format-clause-does
-returns-in-Format-clause-does g c = does_as _ g.D.Disk.view (Single (command_value c.args.command.now)) _ (ap (λ x. Single (command_value x)) c.in-Format.is) [] [] _ _ _ _ _ _ _ (c.format.ensures.keeps (g.S.Source.view c.args.source.now), refl)
+returns-in-Format-clause-does g c = does_as _ g.D.Disk.view (Single (command_value c.args.command.now)) _ (ap (λ x. Single (command_value x)) c.in-Format.is) [] [] _ _ _ _ _ _ _
+    (c.format.ensures.keeps (g.S.Source.view c.args.source.now), refl)
 
 pub returns-in-Ingest-clause-does : goal.returns-in-Ingest-clause-does
 returns-in-Ingest-clause-does g c =

@@ -18,7 +18,8 @@ returns-in_err-add_copy-clause-halt g c =
     passed_on c.from_residual.result _ c.in_err-add_copy.field-0.0 c.from_residual.ensures.1 (
       c.in_err-add_copy.ensures.halt.0,
       stops_copy c.args.slot c.args.bytes.now c.args.entries.now c.loop-entry.entry-index _ c.loop-entry-test.true line _ _ _ _ _ c.loop-entry.invariant c.in_err-add_copy.field-0.0
-          (subst (λ (d : Option Damage). Stops line (copy_with d) (take c.loop-entry.takes) (take c.add_copy.new.takes) c.in_err-add_copy.field-0.0) c.copy_damage.ensures c.in_err-add_copy.ensures.halt.1),
+          (subst (λ (d : Option Damage). Stops line (copy_with d) (take c.loop-entry.takes) (take c.add_copy.new.takes) c.in_err-add_copy.field-0.0) c.copy_damage.ensures
+          c.in_err-add_copy.ensures.halt.1),
     )
 
 pub loop-entry-preserved : goal.loop-entry-preserved
@@ -26,7 +27,8 @@ loop-entry-preserved g c =
     let line = g.T.TakesDamage.line in
     let take = g.T.TakesDamage.view in
     reports_copy c.args.slot c.args.bytes.now c.args.entries.now c.loop-entry.entry-index _ c.loop-entry-test.true line _ _ _ _ _ c.loop-entry.invariant _
-    (subst (λ (d : Option Damage). Reports line (copy_with d) (take c.loop-entry.takes) (take c.add_copy.new.takes) c.loop-entry.tally c.add_copy.new.tally) c.copy_damage.ensures c.in_ok-add_copy.ensures.done)
+    (subst (λ (d : Option Damage). Reports line (copy_with d) (take c.loop-entry.takes) (take c.add_copy.new.takes) c.loop-entry.tally c.add_copy.new.tally) c.copy_damage.ensures
+    c.in_ok-add_copy.ensures.done)
 
 pub returns-clause-done : goal.returns-clause-done
 returns-clause-done g c = rw (take_all _ _ c.loop-entry-test.false) at c.loop-entry.invariant

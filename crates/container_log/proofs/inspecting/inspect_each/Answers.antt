@@ -23,7 +23,8 @@ loop-slot-init g c =
       room = c.requires.room;
       reads = reads_none v;
       found = subst (λ (n : ℕ). Finds line (slots_found c.args.slots 0 []) (slots_found n 0 c.args.ids.items) v v k k t t) all
-          (subst (λ (l : List ℕ). Finds line (slots_found c.args.slots 0 []) (slots_found c.args.slots 0 l) v v k k t t) (sym c.requires.none) (finds_none line (slots_found c.args.slots 0 []) v k t));
+          (subst (λ (l : List ℕ). Finds line (slots_found c.args.slots 0 []) (slots_found c.args.slots 0 l) v v k k t t) (sym c.requires.none)
+          (finds_none line (slots_found c.args.slots 0 []) v k t));
     }
 
 pub returns-in_err-inspect_slot-clause-stopped : goal.returns-in_err-inspect_slot-clause-stopped
@@ -34,7 +35,8 @@ returns-in_err-inspect_slot-clause-stopped g c =
     let left : suc (c.args.slots - suc c.loop-slot.slot) ≡ c.args.slots - c.loop-slot.slot = omega (arith, c.loop-slot-test.true) in
     passed_on c.from_residual.result _ c.in_err-inspect_slot.field-0.0 c.from_residual.ensures.1
     (stops_on line _ _ _ _ _ _ _ _ _ _ c.loop-slot.invariant.found c.loop-slot.invariant.reads.only c.in_err-inspect_slot.ensures.reads.only.later c.in_err-inspect_slot.field-0.0
-    (subst (λ (n : ℕ). StopsAmong line (slots_found n c.loop-slot.slot c.loop-slot.ids.items) (view c.loop-slot.disk) (view c.inspect_slot.new.disk) (take c.loop-slot.takes) (take c.inspect_slot.new.takes) c.in_err-inspect_slot.field-0.0) left
+    (subst (λ (n : ℕ). StopsAmong line (slots_found n c.loop-slot.slot c.loop-slot.ids.items) (view c.loop-slot.disk) (view c.inspect_slot.new.disk) (take c.loop-slot.takes)
+    (take c.inspect_slot.new.takes) c.in_err-inspect_slot.field-0.0) left
     (c.in_err-inspect_slot.ensures.stopped (c.args.slots - suc c.loop-slot.slot))))
 
 pub returns-in_err-inspect_slot-clause-reads : goal.returns-in_err-inspect_slot-clause-reads
@@ -56,9 +58,11 @@ loop-slot-preserved g c =
       reads = reads_on Done _ _ _ c.loop-slot.invariant.reads c.in_ok-inspect_slot.ensures.reads;
       found = finds_on line _ _ _ _ _ _ _ _ _ _ c.loop-slot.invariant.found c.loop-slot.invariant.reads.only c.in_ok-inspect_slot.ensures.reads.only.later
           (slots_found (c.args.slots - (c.loop-slot.slot + 1)) (c.loop-slot.slot + 1) c.inspect_slot.new.ids.items) c.inspect_slot.new.tally
-          (subst (λ (m : ℕ). Finds line (slots_found (c.args.slots - c.loop-slot.slot) c.loop-slot.slot c.loop-slot.ids.items) (slots_found (c.args.slots - m) m c.inspect_slot.new.ids.items)
+          (subst (λ (m : ℕ). Finds line (slots_found (c.args.slots - c.loop-slot.slot) c.loop-slot.slot c.loop-slot.ids.items)
+          (slots_found (c.args.slots - m) m c.inspect_slot.new.ids.items)
           (view c.loop-slot.disk) (view c.inspect_slot.new.disk) (take c.loop-slot.takes) (take c.inspect_slot.new.takes) c.loop-slot.tally c.inspect_slot.new.tally) next
-          (subst (λ (n : ℕ). Finds line (slots_found n c.loop-slot.slot c.loop-slot.ids.items) (slots_found (c.args.slots - suc c.loop-slot.slot) (suc c.loop-slot.slot) c.inspect_slot.new.ids.items)
+          (subst (λ (n : ℕ). Finds line (slots_found n c.loop-slot.slot c.loop-slot.ids.items)
+          (slots_found (c.args.slots - suc c.loop-slot.slot) (suc c.loop-slot.slot) c.inspect_slot.new.ids.items)
           (view c.loop-slot.disk) (view c.inspect_slot.new.disk) (take c.loop-slot.takes) (take c.inspect_slot.new.takes) c.loop-slot.tally c.inspect_slot.new.tally) left
           (c.in_ok-inspect_slot.ensures.found (c.args.slots - suc c.loop-slot.slot))));
     }
@@ -67,7 +71,8 @@ pub returns-clause-found : goal.returns-clause-found
 returns-clause-found g c =
     let line = g.T.TakesDamage.line in
     let none : c.args.slots - c.loop-slot.slot ≡ 0 = omega (arith, c.loop-slot-test.false) in
-    finds_as line (slots_found c.args.slots 0 []) (slots_found c.args.slots 0 []) (slots_found (c.args.slots - c.loop-slot.slot) c.loop-slot.slot c.loop-slot.ids.items) (λ image. nothing) _ _ _ _ _ _
+    finds_as line (slots_found c.args.slots 0 []) (slots_found c.args.slots 0 []) (slots_found (c.args.slots - c.loop-slot.slot) c.loop-slot.slot c.loop-slot.ids.items)
+    (λ image. nothing) _ _ _ _ _ _
     (always _ _ _ (λ image sized. refl))
     (always _ _ _ (λ image sized. ap (λ (n : ℕ). slots_found n c.loop-slot.slot c.loop-slot.ids.items image) none ∙ no_slots c.loop-slot.slot c.loop-slot.ids.items image))
     c.loop-slot.invariant.found

@@ -15,7 +15,8 @@ pub returns-clause-shown : goal.returns-clause-shown
 returns-clause-shown g c =
     let same : c.deref.result.now ≡ c.read_rest.new.bytes =
     c.deref.ensures.value ∙ take_at c.read_rest.new.bytes _ c.in_ok-bytes.bytes.len (omega (arith, c.read_rest.auto.bytes, c.as_mut_slice.ensures.len)) in
-    map_ok c.header_in.result _ _ (λ m found. weaker _ _ (λ image sized read gate. (found.0, read gate ∙ sym same ∙ found.1)) c.in_ok-read_rest.ensures.shown) c.header_in.ensures.found
+    map_ok c.header_in.result _ _ (λ m found. weaker _ _ (λ image sized read gate. (found.0, read gate ∙ sym same ∙ found.1)) c.in_ok-read_rest.ensures.shown)
+    c.header_in.ensures.found
 
 pub returns-clause-reads : goal.returns-clause-reads
 returns-clause-reads g c = decode_reads c.header_in.result _ _ _ _ c.header_in.ensures.fault c.in_ok-read_rest.ensures.reads

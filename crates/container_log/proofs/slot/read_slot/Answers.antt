@@ -14,7 +14,8 @@ returns-then-gate-clause-only g c =
 
 pub returns-in_err-meta-clause-only : goal.returns-in_err-meta-clause-only
 returns-in_err-meta-clause-only g c =
-    weaker _ _ (λ image sized has held. unless_open image c.args.slot c.from_residual-in_err-meta.result c.in_err-meta.field-0.0 c.from_residual-in_err-meta.ensures.1 (has.0 ∙ c.if-gate.false) (has.1 (has.0 ∙ c.if-gate.false)) held)
+    weaker _ _ (λ image sized has held. unless_open image c.args.slot c.from_residual-in_err-meta.result c.in_err-meta.field-0.0 c.from_residual-in_err-meta.ensures.1
+    (has.0 ∙ c.if-gate.false) (has.1 (has.0 ∙ c.if-gate.false)) held)
     (both _ _ _ c.in_ok-gate.ensures.shown c.in_ok-gate.ensures.reads.only c.in_err-meta.ensures.only c.in_err-meta.ensures.reads.only.later)
 
 pub returns-in_err-meta-clause-fault : goal.returns-in_err-meta-clause-fault
@@ -33,5 +34,6 @@ returns-clause-shown g c =
 
 pub returns-clause-only : goal.returns-clause-only
 returns-clause-only g c =
-    weaker _ _ (λ image sized has held holds. let h = open_holds image c.args.slot held (has.0 ∙ c.if-gate.false) holds in h.1 ∙ ap (λ x. Some x) (sym (has.1 (has.0 ∙ c.if-gate.false) h.0 h.2)))
+    weaker _ _ (λ image sized has held holds. let h = open_holds image c.args.slot held (has.0 ∙ c.if-gate.false) holds in h.1
+    ∙ ap (λ x. Some x) (sym (has.1 (has.0 ∙ c.if-gate.false) h.0 h.2)))
     (both _ _ _ c.in_ok-gate.ensures.shown c.in_ok-gate.ensures.reads.only c.in_ok-meta.ensures.only c.in_ok-meta.ensures.reads.only.later)

@@ -12,4 +12,5 @@ returns-in-Err-clause-writes g c = writes_freed c.args.slot _ _ _ _ c.slot_at.en
 
 pub returns-in-Ok-clause-whole : goal.returns-in-Ok-clause-whole
 returns-in-Ok-clause-whole g c =
-    subst (λ (at : ℕ). Known (g.D.Disk.view c.args.disk.now).content (λ given. KnownWith (g.D.Disk.view c.write_synced.new.disk).content (Puts at (0 ∷ []) given))) c.slot_at.ensures c.in-Ok.ensures.written.0
+    subst (λ (at : ℕ). Known (g.D.Disk.view c.args.disk.now).content (λ given. KnownWith (g.D.Disk.view c.write_synced.new.disk).content (Puts at (0 ∷ []) given)))
+    c.slot_at.ensures c.in-Ok.ensures.written.0

@@ -15,5 +15,6 @@ loop-i-preserved c =
     let es : List Entry = c.args.entries.now in
     let none : Entry = record { digest = []; offset = 0; length = 0; level = 0 } in
     let more : take (i + 1) es ≡ take i es ++ get_or es i none ∷ [] = take_more es i none c.loop-i-test.true in
-    let h = written_to (48 * i) 48 (48 * (i + 1)) (entries_spelling (take i es)) (entry_spelling (get_or es i none)) c.loop-i.out c.put_entry.new.out (omega arith) c.loop-i.invariant.written c.put_entry.ensures in
+    let h = written_to (48 * i) 48 (48 * (i + 1)) (entries_spelling (take i es)) (entry_spelling (get_or es i none)) c.loop-i.out c.put_entry.new.out (omega arith)
+    c.loop-i.invariant.written c.put_entry.ensures in
     record { written = h ∙ sym (ap entries_spelling more ∙ entries_spelling-push (take i es) (get_or es i none)) }

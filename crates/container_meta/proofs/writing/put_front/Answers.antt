@@ -13,7 +13,8 @@ returns-clause-front c =
     let digested = c.finalize-digest.ensures _ (c.update-2.ensures _ (c.update.ensures _ c.new-hasher.ensures)) in
     let a = part_written 24 56 _ digest digest out c.put.new.out refl (omega arith) refl c.put.ensures in
     let b = written_to 56 456 512 _ (zeros 456) c.put.new.out c.put_zeros.new.out refl a c.put_zeros.ensures in
-    front_written (fields_spelling f.id f.kind f.count f.data_length) c.args.entries.now digest out _ digested c.put_fields.ensures (whole_written 512 _ c.put_zeros.new.out (omega arith) b)
+    front_written (fields_spelling f.id f.kind f.count f.data_length) c.args.entries.now digest out _ digested c.put_fields.ensures
+    (whole_written 512 _ c.put_zeros.new.out (omega arith) b)
 
 pub returns-clause-digest : goal.returns-clause-digest
 returns-clause-digest c =

@@ -28,7 +28,8 @@ returns-clause-ok g c =
     let slots = c.requires.slots in
     let changed = c.in_ok-remove_keys.ensures.changes slots.slots (size_on old mid slots.slots reads.later slots.size_is) in
     subst (PlansSource c.args.held.now (g.X.Index.places c.args.index.now old.content) c.args.live.now c.args.slot c.args.from c.args.buffer.now old new) c.in-Some.is
-    (plans_until c.args.held.now (g.X.Index.places c.args.index.now old.content) c.args.live.now c.args.slot c.args.from c.args.buffer.now old mid new c.in_ok-plan.field-0 reads changed.later c.in_ok-plan.ensures.ok)
+    (plans_until c.args.held.now (g.X.Index.places c.args.index.now old.content) c.args.live.now c.args.slot c.args.from c.args.buffer.now old mid new c.in_ok-plan.field-0 reads
+    changed.later c.in_ok-plan.ensures.ok)
 
 pub returns-clause-changes : goal.returns-clause-changes
 returns-clause-changes g c = λ slots size_is.

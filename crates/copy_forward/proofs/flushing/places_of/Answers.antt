@@ -8,5 +8,6 @@ returns-clause-had g c =
     record {
       many = omega (arith, added.many, ap length c.new-places.ensures.items, ap length c.entries.ensures.entries);
       lie = added.lie;
-      had = λ m known. have_had m c.args.filled.now.kind c.kind.result c.entries.result.now _ c.add_places.new.places.items c.new-places.result.items c.kind.ensures c.entries.ensures.entries c.new-places.ensures.items (added.had m known);
+      had = λ m known. have_had m c.args.filled.now.kind c.kind.result c.entries.result.now _ c.add_places.new.places.items c.new-places.result.items c.kind.ensures
+          c.entries.ensures.entries c.new-places.ensures.items (added.had m known);
     }

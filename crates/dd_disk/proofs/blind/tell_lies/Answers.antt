@@ -7,7 +7,8 @@ lied-push : (lies : List (ℕ × ℕ)) (lie : ℕ × ℕ) (place byte : ℕ) →
 lied-push [] lie place byte = refl
 lied-push (next ∷ lies) lie place byte = lied-push lies lie place (if next.0 == place then next.1 else byte)
 
-one_more : (lies : List (ℕ × ℕ)) (lie : ℕ × ℕ) (at : ℕ) (held given now : List ℕ) → TellsLies lies at held given → TellsLies (lie ∷ []) at given now → TellsLies (lies ++ lie ∷ []) at held now
+one_more : (lies : List (ℕ × ℕ)) (lie : ℕ × ℕ) (at : ℕ) (held given now : List ℕ) → TellsLies lies at held given → TellsLies (lie ∷ []) at given now →
+    TellsLies (lies ++ lie ∷ []) at held now
 one_more lies lie at held given now before after = record {
   long = after.long ∙ before.long;
   each = λ k in_range.

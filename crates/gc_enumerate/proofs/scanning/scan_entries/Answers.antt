@@ -21,12 +21,17 @@ returns-in_err-children-clause-refused g c =
     let s = scan_of (copies.places old) c.args.live.now c.args.layer.now in
     let same : copies.places mid ≡ copies.places old = laws.places_stay old mid so_far.1 in
     let cause : IsEntryFault s (copies.shows mid new) (copies.damaged mid new) entry fault =
-    subst (λ (k : Option PlaceMap). IsEntryFault (scan_of k c.args.live.now c.args.layer.now) (copies.shows mid new) (copies.damaged mid new) entry fault) same c.in_err-children.ensures.refused in
+    subst (λ (k : Option PlaceMap). IsEntryFault (scan_of k c.args.live.now c.args.layer.now) (copies.shows mid new) (copies.damaged mid new) entry fault) same
+    c.in_err-children.ensures.refused in
     passed_on c.from_residual.result (IsScanFault s (copies.shows old new) (copies.damaged old new) c.args.entries.now) fault c.from_residual.ensures.1
     (stuck_at s (copies.shows old new) (copies.damaged old new) c.args.entries.now i blank c.loop-entry.found.items fault c.loop-entry-test.true
-    (finds_wider s (copies.shows old mid) (copies.shows old new) (λ place bytes shown. laws.shows_wider old old mid new place bytes (laws.later_at_once old) so_far.1 c.in_err-children.ensures.later shown) (take i c.args.entries.now) c.loop-entry.found.items so_far.0)
-    (entry_fault_wider s (copies.shows mid new) (copies.shows old new) (λ place bytes shown. laws.shows_wider old mid new new place bytes so_far.1 c.in_err-children.ensures.later (laws.later_at_once new) shown)
-    (copies.damaged mid new) (copies.damaged old new) (λ at why is. laws.damaged_wider old mid new new at why so_far.1 c.in_err-children.ensures.later (laws.later_at_once new) is) entry fault cause))
+    (finds_wider s (copies.shows old mid) (copies.shows old new)
+    (λ place bytes shown. laws.shows_wider old old mid new place bytes (laws.later_at_once old) so_far.1 c.in_err-children.ensures.later shown) (take i c.args.entries.now)
+    c.loop-entry.found.items so_far.0)
+    (entry_fault_wider s (copies.shows mid new) (copies.shows old new)
+    (λ place bytes shown. laws.shows_wider old mid new new place bytes so_far.1 c.in_err-children.ensures.later (laws.later_at_once new) shown)
+    (copies.damaged mid new) (copies.damaged old new) (λ at why is. laws.damaged_wider old mid new new at why so_far.1 c.in_err-children.ensures.later (laws.later_at_once new) is)
+    entry fault cause))
 
 pub loop-entry-preserved : goal.loop-entry-preserved
 loop-entry-preserved g c =
@@ -43,10 +48,14 @@ loop-entry-preserved g c =
     let s = scan_of (copies.places old) c.args.live.now c.args.layer.now in
     let same : copies.places mid ≡ copies.places old = laws.places_stay old mid so_far.1 in
     let here : FindsChildren s (copies.shows mid new) (entry ∷ []) children =
-    subst (λ (k : Option PlaceMap). FindsChildren (scan_of k c.args.live.now c.args.layer.now) (copies.shows mid new) (entry ∷ []) children) same c.in_ok-children.ensures.found in (
+    subst (λ (k : Option PlaceMap). FindsChildren (scan_of k c.args.live.now c.args.layer.now) (copies.shows mid new) (entry ∷ []) children)
+    same c.in_ok-children.ensures.found in (
       finds_more s (copies.shows old new) c.args.entries.now i blank c.loop-entry.found.items children c.deref.result.now c.extend_from_slice.new.self.items c.loop-entry-test.true
-          (finds_wider s (copies.shows old mid) (copies.shows old new) (λ place bytes shown. laws.shows_wider old old mid new place bytes (laws.later_at_once old) so_far.1 c.in_ok-children.ensures.later shown) (take i c.args.entries.now) c.loop-entry.found.items so_far.0)
-          (finds_wider s (copies.shows mid new) (copies.shows old new) (λ place bytes shown. laws.shows_wider old mid new new place bytes so_far.1 c.in_ok-children.ensures.later (laws.later_at_once new) shown) (entry ∷ []) children here)
+          (finds_wider s (copies.shows old mid) (copies.shows old new)
+          (λ place bytes shown. laws.shows_wider old old mid new place bytes (laws.later_at_once old) so_far.1 c.in_ok-children.ensures.later shown)
+          (take i c.args.entries.now) c.loop-entry.found.items so_far.0)
+          (finds_wider s (copies.shows mid new) (copies.shows old new)
+          (λ place bytes shown. laws.shows_wider old mid new new place bytes so_far.1 c.in_ok-children.ensures.later (laws.later_at_once new) shown) (entry ∷ []) children here)
           c.deref.ensures.value c.in_ok-extend_from_slice.ensures.items,
       laws.later_on old mid new so_far.1 c.in_ok-children.ensures.later,
       c.in_ok-children.ensures.counts ∙ so_far.2,

@@ -57,7 +57,8 @@ returns-clause-ok g c =
       live_is = λ m known.
           subst (λ (es : List Entry). SumsLive m c.args.collection.now.live meta.kind c.args.slot es c.in_ok-live.live) c.deref.ensures.value
           (c.in_ok-live.ensures.sum m (ap (g.X.Index.places c.args.index.now) first.only.content_is ∙ known));
-      collection_is = recorded_as c.args.collection.now c.args.tables.now.held c.args.slot c.in_ok-live.live c.recorded.result c.push.new.self c.filter_from-collection.result c.recorded.ensures c.in_ok-push.ensures.ok c.filter_from-collection.ensures;
+      collection_is = recorded_as c.args.collection.now c.args.tables.now.held c.args.slot c.in_ok-live.live c.recorded.result c.push.new.self c.filter_from-collection.result
+          c.recorded.ensures c.in_ok-push.ensures.ok c.filter_from-collection.ensures;
     }
 
 pub returns-clause-under_way : goal.returns-clause-under_way

@@ -8,7 +8,8 @@ returns-in_ok-mark_container-in-Mark-clause-step g c =
     record {
       made = mark_made c.args.tables.now (g.X.Index.places c.args.index.now (view c.args.disk.now).content)
           (g.X.Index.places c.mark_container.new.index (view c.mark_container.new.disk).content)
-          (view c.args.disk.now) (view c.mark_container.new.disk) c.args.collection.now c.mark_container.new.collection c.requires.under_way did.reads.only.later.size_is did.map c.in-Mark.level c.in-Mark.slot c.in-Mark.is did.ok;
+          (view c.args.disk.now) (view c.mark_container.new.disk) c.args.collection.now c.mark_container.new.collection c.requires.under_way did.reads.only.later.size_is did.map
+          c.in-Mark.level c.in-Mark.slot c.in-Mark.is did.ok;
       refused = tt;
     }
 
@@ -19,6 +20,7 @@ returns-in_ok-record_container-in-Filter-clause-step g c =
     record {
       made = record_made c.args.tables.now (g.X.Index.places c.args.index.now (view c.args.disk.now).content)
           (g.X.Index.places c.record_container.new.index (view c.record_container.new.disk).content)
-          (view c.args.disk.now) (view c.record_container.new.disk) c.args.collection.now c.record_container.new.collection c.requires.under_way did.reads.only.later.size_is did.map c.in-Filter.slot c.in-Filter.is did.ok;
+          (view c.args.disk.now) (view c.record_container.new.disk) c.args.collection.now c.record_container.new.collection c.requires.under_way did.reads.only.later.size_is
+          did.map c.in-Filter.slot c.in-Filter.is did.ok;
       refused = tt;
     }

@@ -31,7 +31,8 @@ pub returns-clause-under_way : goal.returns-clause-under_way
 returns-clause-under_way g c = λ snapshot under.
     let old = g.D.Disk.view c.args.disk.now in
     let known = g.X.Index.places c.args.index.now old.content in
-    flushed_on old.size c.args.source c.args.entry snapshot known c.args.tables.now c.flush.new.tables c.in_ok-slot.slot c.args.sweep.now c.take_flushed.new.sweep c.requires.runs c.requires.next
+    flushed_on old.size c.args.source c.args.entry snapshot known c.args.tables.now c.flush.new.tables c.in_ok-slot.slot c.args.sweep.now c.take_flushed.new.sweep c.requires.runs
+    c.requires.next
     (writes_copies c.args.tables.now old.size known c.in_ok-slot.slot c.args.sweep.now.buffer c.flush.new.tables c.in_ok-flush.field-0 c.in_ok-slot.ensures.slot
     (c.in_ok-flush.ensures.ok spared c.in_ok-slot.ensures.slot))
     c.take_flushed.ensures under

@@ -31,7 +31,8 @@ returns-in_err-give_back-clause-moves g c =
     let new = g.D.Disk.view c.give_back.new.disk in
     let turn = turn_is c.args.source c.args.entry under.0 t s c.requires.next under.1 c.index-slot.result.now c.index-slot.ensures in
     subst (λ (n : ℕ). GivesBack t n (ending blames c.from_residual.result) old new) turn
-    (passed (λ x. GivesBack t c.index-slot.result.now x old new) blames c.from_residual.result c.in_err-give_back.field-0.0 c.from_residual.ensures.1 c.in_err-give_back.ensures.moves)
+    (passed (λ x. GivesBack t c.index-slot.result.now x old new) blames c.from_residual.result c.in_err-give_back.field-0.0 c.from_residual.ensures.1
+    c.in_err-give_back.ensures.moves)
 
 pub take_released-requires-clause-there : goal.take_released-requires-clause-there
 take_released-requires-clause-there g c = λ below.

@@ -29,13 +29,15 @@ add_pin-requires-clause-pin g c =
 pub returns-in_ok-add_pin-in-Held-clause-ok : goal.returns-in_ok-add_pin-in-Held-clause-ok
 returns-in_ok-add_pin-in-Held-clause-ok g c =
     let old = g.D.Disk.view c.args.disk.now in
-    is_claimed c.args.parts.now c.add_pin.new.parts c.args.actor c.args.seg.now c.key.result c.pin_of.result c.key.ensures c.pin_of.ensures.pin c.in_ok-add_pin-in-Held.ensures.parts
+    is_claimed c.args.parts.now c.add_pin.new.parts c.args.actor c.args.seg.now c.key.result c.pin_of.result c.key.ensures c.pin_of.ensures.pin
+    c.in_ok-add_pin-in-Held.ensures.parts
     old.size (g.X.Index.places c.args.index.now old.content) (Shows old (g.D.Disk.view c.look_up.new.disk)) c.in_ok-claim.claim c.in-Held.is
     (subst (λ (p : Part). MayClaim p c.args.seg.now) c.part.ensures.part c.in_ok-may_claim.ensures.may) c.in_ok-claim.ensures.found
 
 pub returns-in_ok-add_pin-in-Held-clause-kept : goal.returns-in_ok-add_pin-in-Held-clause-kept
 returns-in_ok-add_pin-in-Held-clause-kept g c =
     let old = g.D.Disk.view c.args.disk.now in
-    keeps_claimed c.args.parts.now c.add_pin.new.parts c.args.actor c.args.seg.now c.key.result c.pin_of.result c.key.ensures c.pin_of.ensures.pin c.in_ok-add_pin-in-Held.ensures.parts
+    keeps_claimed c.args.parts.now c.add_pin.new.parts c.args.actor c.args.seg.now c.key.result c.pin_of.result c.key.ensures c.pin_of.ensures.pin
+    c.in_ok-add_pin-in-Held.ensures.parts
     old.size (g.X.Index.places c.args.index.now old.content) old (g.D.Disk.view c.look_up.new.disk) c.in_ok-claim.claim c.in-Held.is c.part.ensures.there c.requires.step
     (subst (λ (p : Part). MayClaim p c.args.seg.now) c.part.ensures.part c.in_ok-may_claim.ensures.may) c.in_ok-claim.ensures.found

@@ -24,7 +24,8 @@ returns-in_err-write_record-clause-moves g c =
     let is = record_is t c.args.name.now (change_value c.args.change) r c.in_ok-number.number c.in_ok-made.ensures c.in_ok-number.ensures.next in
     passed (λ e. ChangesName t c.args.name.now (change_value c.args.change) e (g.D.Disk.view c.args.disk.now) (g.D.Disk.view c.write_record.new.disk)) blames
     c.from_residual-in_err-write_record.result c.in_err-write_record.field-0.0 c.from_residual-in_err-write_record.ensures.1
-    (unwritten_name t _ _ c.args.name.now (change_value c.args.change) r c.in_err-write_record.field-0.0 is c.requires.may c.in_ok-number.ensures.below c.in_err-write_record.ensures.refused c.in_err-write_record.ensures.writes)
+    (unwritten_name t _ _ c.args.name.now (change_value c.args.change) r c.in_err-write_record.field-0.0 is c.requires.may c.in_ok-number.ensures.below
+    c.in_err-write_record.ensures.refused c.in_err-write_record.ensures.writes)
 
 pub returns-in_err-write_record-clause-frame : goal.returns-in_err-write_record-clause-frame
 returns-in_err-write_record-clause-frame g c =

@@ -14,11 +14,13 @@ overflow_cast-result c =
 
 pub cells_of-requires : goal.cells_of-requires
 cells_of-requires c =
-    subst (All (λ r. length r.name.items ≤ MOST_NAME)) (sym c.deref-2.ensures.value) (short c.args.names.now c.in_ok-puts.puts.items c.puts_in_order.ensures.names c.in_ok-puts.ensures.puts)
+    subst (All (λ r. length r.name.items ≤ MOST_NAME)) (sym c.deref-2.ensures.value)
+    (short c.args.names.now c.in_ok-puts.puts.items c.puts_in_order.ensures.names c.in_ok-puts.ensures.puts)
 
 pub returns : goal.returns
 returns c =
     half_of c.args.names.now c.in_ok-puts.puts.items c.puts_in_order.ensures.names c.in_ok-puts.ensures.puts c.args.selector.now _
     (omega (arith, c.len.ensures)) (c.last_number.ensures ∙ ap (λ rs. last_of 0 (map record_value rs)) c.deref.ensures.value) c.in_ok-zeros.ensures
-    (c.in_ok-cells_of.ensures.cells ∙ ap (λ rs. cells_of (map record_value rs)) c.deref-2.ensures.value) (c.in_ok-cells_of.ensures.length ∙ ap (λ rs. 512 * length rs) c.deref-2.ensures.value)
+    (c.in_ok-cells_of.ensures.cells ∙ ap (λ rs. cells_of (map record_value rs)) c.deref-2.ensures.value)
+    (c.in_ok-cells_of.ensures.length ∙ ap (λ rs. 512 * length rs) c.deref-2.ensures.value)
     c.in_ok-encode_selector.ensures.cell c.in_ok-encode_selector.ensures.length refl c.requires

@@ -14,4 +14,5 @@ returns g c =
     let view = g.D.Disk.view in
     let opened : c.args.open_gate ≡ true = search rules in
     replaces_opened c.args.open_gate c.args.half c.args.fresh.now _ (view c.args.disk.now) (view c.fill_half-2.new.disk) opened
-    (opened_replaces c.args.half c.args.fresh.now _ _ c.selector_at.ensures refl _ (view c.args.disk.now) (view c.write_synced.new.disk) (view c.fill_half-2.new.disk) (never_refused c.fill_half-2.result) c.in_ok-write_synced.ensures c.fill_half-2.ensures)
+    (opened_replaces c.args.half c.args.fresh.now _ _ c.selector_at.ensures refl _ (view c.args.disk.now) (view c.write_synced.new.disk) (view c.fill_half-2.new.disk)
+    (never_refused c.fill_half-2.result) c.in_ok-write_synced.ensures c.fill_half-2.ensures)

@@ -24,7 +24,8 @@ returns-clause-found g c =
     let second = c.in-Ok.cells.1 in
     let before = finds_shown line (selectors_found first second) journal_found (halves_found first second) _ _ _ _ _ _
     (weaker _ _ (λ image sized are. journal_of_cells first second image are) c.in-Ok.ensures.shown) c.in_ok-inspect_selectors.ensures.done in
-    ok_map c.inspect_halves.result (finds_on line _ _ _ _ _ _ _ _ _ _ before c.in-Ok.ensures.reads.only c.inspect_halves.ensures.reads.only.later (λ image. nothing) _) c.inspect_halves.ensures.found
+    ok_map c.inspect_halves.result (finds_on line _ _ _ _ _ _ _ _ _ _ before c.in-Ok.ensures.reads.only c.inspect_halves.ensures.reads.only.later (λ image. nothing) _)
+    c.inspect_halves.ensures.found
 
 pub returns-clause-stopped : goal.returns-clause-stopped
 returns-clause-stopped g c =
@@ -33,4 +34,5 @@ returns-clause-stopped g c =
     let second = c.in-Ok.cells.1 in
     let before = finds_shown line (selectors_found first second) journal_found (halves_found first second) _ _ _ _ _ _
     (weaker _ _ (λ image sized are. journal_of_cells first second image are) c.in-Ok.ensures.shown) c.in_ok-inspect_selectors.ensures.done in
-    map_err c.inspect_halves.result _ _ (λ halt is. stops_on line _ _ _ _ _ _ _ _ _ _ before c.in-Ok.ensures.reads.only c.inspect_halves.ensures.reads.only.later halt is) c.inspect_halves.ensures.stopped
+    map_err c.inspect_halves.result _ _ (λ halt is. stops_on line _ _ _ _ _ _ _ _ _ _ before c.in-Ok.ensures.reads.only c.inspect_halves.ensures.reads.only.later halt is)
+    c.inspect_halves.ensures.stopped

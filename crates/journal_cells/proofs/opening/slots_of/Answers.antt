@@ -8,7 +8,8 @@ use Rattle.journal_cells.proofs.opening.slots_of.Goals as goal
 
 pub returns-in_err-read_at-clause-only : goal.returns-in_err-read_at-clause-only
 returns-in_err-read_at-clause-only g c =
-    always _ _ _ (λ image sized slots count spelled. read_failed (λ (n : ℕ). n ≡ slots) c.from_residual.result c.in_err-read_at.field-0.0 c.from_residual.ensures.1 c.in_err-read_at.ensures.cause)
+    always _ _ _ (λ image sized slots count spelled. read_failed (λ (n : ℕ). n ≡ slots) c.from_residual.result c.in_err-read_at.field-0.0 c.from_residual.ensures.1
+    c.in_err-read_at.ensures.cause)
 
 pub returns-clause-cause : goal.returns-clause-cause
 returns-clause-cause g c =

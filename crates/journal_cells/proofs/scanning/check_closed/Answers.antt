@@ -17,7 +17,8 @@ returns-in-Some-clause-cause g c =
     let view = g.D.Disk.view in
     let so_far = c.loop-cell.invariant in
     let few : c.loop-cell.cell + c.min-count.result ≤ half_cells = omega (arith, c.min-count.ensures, c.loop-cell-test.true) in
-    open_there c.args.half c.args.from c.loop-cell.cell (view c.args.disk.now) (view c.loop-cell.disk) (view c.look_at.new.disk) so_far.above so_far.closed so_far.reads.only c.in_ok-open.ensures.reads.only
+    open_there c.args.half c.args.from c.loop-cell.cell (view c.args.disk.now) (view c.loop-cell.disk) (view c.look_at.new.disk) so_far.above so_far.closed so_far.reads.only
+    c.in_ok-open.ensures.reads.only
     c.min-count.result c.in-Some.open c.open_cell.result few c.open_cell.ensures
     (subst (IsFirstAmong (Shows (view c.loop-cell.disk) (view c.look_at.new.disk)) c.args.half c.loop-cell.cell c.min-count.result) c.in-Some.is c.in_ok-open.ensures.found)
 

@@ -23,23 +23,27 @@ pub returns-in_err-next-clause-cause : goal.returns-in_err-next-clause-cause
 returns-in_err-next-clause-cause g c =
     let room : c.loop.before.count < half_cells = omega (arith, c.loop.invariant.count, c.loop-test.true) in
     passed_on c.from_residual.result _ c.in_err-next.field-0.0 c.from_residual.ensures.1
-    (part_fault c.args.half _ _ _ (replay c.loop.before) room c.loop.invariant.part c.loop.invariant.reads.only c.in_err-next.ensures.reads.only c.in_err-next.field-0.0 c.in_err-next.ensures.cause)
+    (part_fault c.args.half _ _ _ (replay c.loop.before) room c.loop.invariant.part c.loop.invariant.reads.only c.in_err-next.ensures.reads.only c.in_err-next.field-0.0
+    c.in_err-next.ensures.cause)
 
 pub returns-in-None-clause-read : goal.returns-in-None-clause-read
 returns-in-None-clause-read g c =
     let room : c.loop.before.count < half_cells = omega (arith, c.loop.invariant.count, c.loop-test.true) in
-    let next = subst (λ n. IsNext (Shows (g.D.Disk.view c.loop.disk) (g.D.Disk.view c.read_next.new.disk)) c.args.half (replay c.loop.before) (option_map record_value n)) c.in-None.is c.in_ok-next.ensures.next in
+    let next = subst (λ n. IsNext (Shows (g.D.Disk.view c.loop.disk) (g.D.Disk.view c.read_next.new.disk)) c.args.half (replay c.loop.before) (option_map record_value n))
+    c.in-None.is c.in_ok-next.ensures.next in
     part_read c.args.half _ _ _ (replay c.loop.before) room c.loop.invariant.part c.loop.invariant.reads.only c.in_ok-next.ensures.reads.only next
 
 pub loop-preserved : goal.loop-preserved
 loop-preserved g c =
     let room : c.loop.before.count < half_cells = omega (arith, c.loop.invariant.count, c.loop-test.true) in
-    let next = subst (λ n. IsNext (Shows (g.D.Disk.view c.loop.disk) (g.D.Disk.view c.read_next.new.disk)) c.args.half (replay c.loop.before) (option_map record_value n)) c.in-Some.is c.in_ok-next.ensures.next in
+    let next = subst (λ n. IsNext (Shows (g.D.Disk.view c.loop.disk) (g.D.Disk.view c.read_next.new.disk)) c.args.half (replay c.loop.before) (option_map record_value n))
+    c.in-Some.is c.in_ok-next.ensures.next in
     record {
       count = omega (arith, c.loop.invariant.count, ap (λ r. r.count) c.in_ok-add-in-Some.ensures.ok);
       reads = reads_on Done _ _ _ c.loop.invariant.reads c.in_ok-next.ensures.reads;
       part = subst (IsPart (Shows (g.D.Disk.view c.args.disk.now) (g.D.Disk.view c.read_next.new.disk)) c.args.half) (sym c.in_ok-add-in-Some.ensures.ok)
-          (part_more c.args.half _ _ _ (replay c.loop.before) room c.loop.invariant.part c.loop.invariant.reads.only c.in_ok-next.ensures.reads.only (record_value c.in-Some.next) next);
+          (part_more c.args.half _ _ _ (replay c.loop.before) room c.loop.invariant.part c.loop.invariant.reads.only c.in_ok-next.ensures.reads.only (record_value c.in-Some.next)
+          next);
     }
 
 pub returns-clause-read : goal.returns-clause-read

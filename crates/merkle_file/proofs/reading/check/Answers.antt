@@ -26,5 +26,8 @@ returns-clause-long c =
 
 pub returns-clause-only : goal.returns-clause-only
 returns-clause-only c = λ n right within e.
-    let again = node_again c.args.asked.now n c.requires right within in
-    (ok_since c.check_fields.result (first_fault c.args.asked.now c.args.bytes.now) c.check_fields.ensures.fault (ap (first_fault c.args.asked.now) e ∙ again.0), ap contents_in e ∙ again.1)
+    let again = node_again c.args.asked.now n c.requires right within in (
+      ok_since c.check_fields.result (first_fault c.args.asked.now c.args.bytes.now) c.check_fields.ensures.fault (ap (first_fault c.args.asked.now) e ∙ again.0),
+      ap contents_in e
+          ∙ again.1,
+    )

@@ -27,7 +27,8 @@ loop-level-preserved c =
     let row = c.as_slice-row.result.now in
     let front = row_at c.args.rows.now c.loop-level.level c.index-rows-level.result row c.loop-level-test.true c.index-rows-level.is c.as_slice-row.ensures.value in
     let can = subst (λ (rows : List (List Child)). CanPlace c.loop-level.level c.loop-level.child rows) front c.loop-level.invariant.can in
-    let goes = way_goes_on c.loop-level.level c.loop-level.child (items_of c.args.rows.now) c.loop-level.nodes.items _ row c.loop-level.invariant front (omega (arith, can.right.0, c.if-row-lt-MOST_CHILDREN.false)) in
+    let goes = way_goes_on c.loop-level.level c.loop-level.child (items_of c.args.rows.now) c.loop-level.nodes.items _ row c.loop-level.invariant front
+    (omega (arith, can.right.0, c.if-row-lt-MOST_CHILDREN.false)) in
     rw (c.in_ok-child.ensures, c.in_ok-push_back.ensures.items, c.in_ok-node.ensures) goes
 
 pub unreachable-requires : goal.unreachable-requires

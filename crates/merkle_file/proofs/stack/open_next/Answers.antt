@@ -28,18 +28,30 @@ stacked left t n count entries bytes after is count_is entries_is level e =
 pub push_children-requires-clause-room : goal.push_children-requires-clause-room
 push_children-requires-clause-room c =
     let n = contents_in c.args.bytes.now in
-    let e = split c.args.stack.now.items c.deref.result.now c.pop.new.self.items c.next_of-top.result (vec_len c.args.stack.now) c.deref.ensures.value c.deref.ensures.len c.next_of-top.ensures c.pop.ensures.rest in
+    let e = split c.args.stack.now.items c.deref.result.now c.pop.new.self.items c.next_of-top.result (vec_len c.args.stack.now) c.deref.ensures.value c.deref.ensures.len
+    c.next_of-top.ensures c.pop.ensures.rest in
     let found = c.in_ok-check.ensures.found in
     let within = subst (λ (a : Asked). IsWithin a n) c.asked_for.ensures found.2 in
     let opened_is = opened_next c.args.stack.now.items c.pop.new.self.items c.next_of-top.result n e c.requires.room found.1 (is_named c.next_of-top.result n found.1 within) in
-    omega (arith, opened_is.few, length-reverse c.pop.new.self.items, c.count_of.ensures, length-children_in (short_number (drop 2 c.args.bytes.now)) (drop 4 c.args.bytes.now), found.1.most, c.pop.ensures.capacity, c.requires.capacity)
+    omega (
+      arith,
+      opened_is.few,
+      length-reverse c.pop.new.self.items,
+      c.count_of.ensures,
+      length-children_in (short_number (drop 2 c.args.bytes.now)) (drop 4 c.args.bytes.now),
+      found.1.most,
+      c.pop.ensures.capacity,
+      c.requires.capacity,
+    )
 
 pub returns-clause-room : goal.returns-clause-room
 returns-clause-room c =
     let n = contents_in c.args.bytes.now in
-    let e = split c.args.stack.now.items c.deref.result.now c.pop.new.self.items c.next_of-top.result (vec_len c.args.stack.now) c.deref.ensures.value c.deref.ensures.len c.next_of-top.ensures c.pop.ensures.rest in
+    let e = split c.args.stack.now.items c.deref.result.now c.pop.new.self.items c.next_of-top.result (vec_len c.args.stack.now) c.deref.ensures.value c.deref.ensures.len
+    c.next_of-top.ensures c.pop.ensures.rest in
     let found = c.in_ok-check.ensures.found in
     let within = subst (λ (a : Asked). IsWithin a n) c.asked_for.ensures found.2 in
     let named = is_named c.next_of-top.result n found.1 within in
     let opened_is = opened_next c.args.stack.now.items c.pop.new.self.items c.next_of-top.result n e c.requires.room found.1 named in
-    subst HasRoom (sym (stacked c.pop.new.self.items c.next_of-top.result n c.count_of.result c.split_at.result.1.now c.args.bytes.now c.push_children.new.stack.items refl c.count_of.ensures c.split_at.ensures.back named.level c.push_children.ensures.items)) opened_is.room
+    subst HasRoom (sym (stacked c.pop.new.self.items c.next_of-top.result n c.count_of.result c.split_at.result.1.now c.args.bytes.now c.push_children.new.stack.items refl
+    c.count_of.ensures c.split_at.ensures.back named.level c.push_children.ensures.items)) opened_is.room

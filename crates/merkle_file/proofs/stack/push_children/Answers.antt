@@ -29,7 +29,8 @@ loop-index-preserved c =
     let pushed = pushed_child c.args.stack.now.items c.args.level all i (child_in (drop (40 * i) c.args.entries.now)) front in
     record {
       items = rw (c.push_reserved.ensures.items, c.loop-index.invariant.items, c.tree_below.ensures, c.read_child.ensures, c.split_at.ensures.back)
-          (subst (λ (k : ℕ). (c.args.stack.now.items ++ reverse (map (below c.args.level) (drop k all))) ++ below c.args.level (child_in (drop (40 * i) c.args.entries.now)) ∷ [] ≡ c.args.stack.now.items ++ reverse (map (below c.args.level) (drop i all))) next pushed);
+          (subst (λ (k : ℕ). (c.args.stack.now.items ++ reverse (map (below c.args.level) (drop k all))) ++ below c.args.level (child_in (drop (40 * i) c.args.entries.now)) ∷ [] ≡
+          c.args.stack.now.items ++ reverse (map (below c.args.level) (drop i all))) next pushed);
       room = omega (arith, c.push_reserved.ensures.len, c.push_reserved.ensures.capacity, c.loop-index.invariant.room, next);
       within = omega (arith, c.loop-index.invariant.within);
       capacity = c.push_reserved.ensures.capacity ∙ c.loop-index.invariant.capacity;

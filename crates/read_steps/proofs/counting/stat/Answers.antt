@@ -10,4 +10,5 @@ overflow_sub-tables c = free_few c.args.tables.now c.requires c.free-free.result
 pub returns : goal.returns
 returns c = λ size known store represents valid.
     counted c.args.tables.now size known store represents valid c.count.result c.entries_of.result c.bytes_of.result c.from.result c.from-2.result c.free-free.result
-    c.count.ensures (summed_on (λ n. n.entries) _ _ _ c.entries_of.ensures c.deref.ensures.value) (summed_on (λ n. n.bytes) _ _ _ c.bytes_of.ensures c.deref-2.ensures.value) c.free-free.ensures c.from.ensures c.from-2.ensures
+    c.count.ensures (summed_on (λ n. n.entries) _ _ _ c.entries_of.ensures c.deref.ensures.value) (summed_on (λ n. n.bytes) _ _ _ c.bytes_of.ensures c.deref-2.ensures.value)
+    c.free-free.ensures c.from.ensures c.from-2.ensures

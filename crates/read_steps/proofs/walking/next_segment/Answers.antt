@@ -44,9 +44,11 @@ returns-in_err-count-in-Leaf-clause-refused g c =
     let breaks = g.X.Index.breaks c.args.index.now in
     let e = c.in_err-count-in-Leaf.field-0.0 in
     let opened = c.in_ok-open_nodes.ensures in
-    passed_on c.from_residual-in_err-count-in-Leaf.result (IsWalkRefusal known breaks old new c.args.cursor.now c.open_nodes.new.cursor) e c.from_residual-in_err-count-in-Leaf.ensures.1
+    passed_on c.from_residual-in_err-count-in-Leaf.result (IsWalkRefusal known breaks old new c.args.cursor.now c.open_nodes.new.cursor) e
+    c.from_residual-in_err-count-in-Leaf.ensures.1
     (leaf_refused known (g.X.Index.places c.open_nodes.new.index mid.content) breaks (g.X.Index.breaks c.open_nodes.new.index) old mid new c.args.cursor.now c.open_nodes.new.cursor
-    c.in-Leaf.digest c.in-Leaf.level c.in-Leaf.length (sym c.in-Leaf.ensures.wanted) opened.map opened.form opened.reads.only c.in_err-count-in-Leaf.ensures.reads.only opened.walked e
+    c.in-Leaf.digest c.in-Leaf.level c.in-Leaf.length (sym c.in-Leaf.ensures.wanted) opened.map opened.form opened.reads.only c.in_err-count-in-Leaf.ensures.reads.only
+    opened.walked e
     c.in_err-count-in-Leaf.ensures.refused)
 
 pub returns-in_err-count-in-Leaf-clause-end : goal.returns-in_err-count-in-Leaf-clause-end
@@ -64,7 +66,8 @@ returns-in_err-count-in-Leaf-clause-end g c =
     (no_answer result (IsAnswer (WasRead known old new) c.args.cursor.now c.open_nodes.new.cursor c.read_leaf.new.buf) e passed)
     (passed_on result (IsWalkRefusal known breaks old new c.args.cursor.now c.open_nodes.new.cursor) e passed
     (leaf_refused known (g.X.Index.places c.open_nodes.new.index mid.content) breaks (g.X.Index.breaks c.open_nodes.new.index) old mid new c.args.cursor.now c.open_nodes.new.cursor
-    c.in-Leaf.digest c.in-Leaf.level c.in-Leaf.length (sym c.in-Leaf.ensures.wanted) opened.map opened.form opened.reads.only c.in_err-count-in-Leaf.ensures.reads.only opened.walked e
+    c.in-Leaf.digest c.in-Leaf.level c.in-Leaf.length (sym c.in-Leaf.ensures.wanted) opened.map opened.form opened.reads.only c.in_err-count-in-Leaf.ensures.reads.only
+    opened.walked e
     c.in_err-count-in-Leaf.ensures.refused))
 
 pub returns-in_err-count-in-Leaf-clause-held : goal.returns-in_err-count-in-Leaf-clause-held
@@ -82,7 +85,8 @@ returns-in_err-count-in-Leaf-clause-held g c = λ counts held image segments ind
     (no_answer result (IsAnswer (WasRead known old new) c.args.cursor.now c.open_nodes.new.cursor c.read_leaf.new.buf) e passed)
     (passed_on result (IsWalkRefusal known breaks old new c.args.cursor.now c.open_nodes.new.cursor) e passed
     (leaf_refused known (g.X.Index.places c.open_nodes.new.index mid.content) breaks (g.X.Index.breaks c.open_nodes.new.index) old mid new c.args.cursor.now c.open_nodes.new.cursor
-    c.in-Leaf.digest c.in-Leaf.level c.in-Leaf.length (sym c.in-Leaf.ensures.wanted) opened.map opened.form opened.reads.only c.in_err-count-in-Leaf.ensures.reads.only opened.walked e
+    c.in-Leaf.digest c.in-Leaf.level c.in-Leaf.length (sym c.in-Leaf.ensures.wanted) opened.map opened.form opened.reads.only c.in_err-count-in-Leaf.ensures.reads.only
+    opened.walked e
     c.in_err-count-in-Leaf.ensures.refused)) ahead
 
 -- ---- a segment
@@ -93,8 +97,10 @@ returns-in_ok-count-in-Leaf-clause-bytes g c =
     let mid = g.D.Disk.view c.open_nodes.new.disk in
     let new = g.D.Disk.view c.read_leaf.new.disk in
     let opened = c.in_ok-open_nodes.ensures in
-    leaf_gives (g.X.Index.places c.args.index.now old.content) (g.X.Index.places c.open_nodes.new.index mid.content) old mid new c.args.cursor.now c.open_nodes.new.cursor c.pass.new.self
-    c.in-Leaf.digest c.in-Leaf.level c.in-Leaf.length c.in_ok-count-in-Leaf.count _ (sym c.in-Leaf.ensures.wanted) c.pass.ensures.rest opened.map opened.reads.only c.in_ok-count-in-Leaf.ensures.reads.only opened.walked
+    leaf_gives (g.X.Index.places c.args.index.now old.content) (g.X.Index.places c.open_nodes.new.index mid.content) old mid new c.args.cursor.now c.open_nodes.new.cursor
+    c.pass.new.self
+    c.in-Leaf.digest c.in-Leaf.level c.in-Leaf.length c.in_ok-count-in-Leaf.count _ (sym c.in-Leaf.ensures.wanted) c.pass.ensures.rest opened.map opened.reads.only
+    c.in_ok-count-in-Leaf.ensures.reads.only opened.walked
     c.in_ok-count-in-Leaf.ensures.bytes
 
 pub returns-in_ok-count-in-Leaf-clause-end : goal.returns-in_ok-count-in-Leaf-clause-end
@@ -103,9 +109,12 @@ returns-in_ok-count-in-Leaf-clause-end g c =
     let mid = g.D.Disk.view c.open_nodes.new.disk in
     let new = g.D.Disk.view c.read_leaf.new.disk in
     let opened = c.in_ok-open_nodes.ensures in
-    answer_ends (g.X.Index.places c.args.index.now old.content) (g.X.Index.breaks c.args.index.now) old new c.args.cursor.now c.pass.new.self c.read_leaf.new.buf (Ok (Some c.in_ok-count-in-Leaf.count))
-    (leaf_gives (g.X.Index.places c.args.index.now old.content) (g.X.Index.places c.open_nodes.new.index mid.content) old mid new c.args.cursor.now c.open_nodes.new.cursor c.pass.new.self
-    c.in-Leaf.digest c.in-Leaf.level c.in-Leaf.length c.in_ok-count-in-Leaf.count _ (sym c.in-Leaf.ensures.wanted) c.pass.ensures.rest opened.map opened.reads.only c.in_ok-count-in-Leaf.ensures.reads.only
+    answer_ends (g.X.Index.places c.args.index.now old.content) (g.X.Index.breaks c.args.index.now) old new c.args.cursor.now c.pass.new.self c.read_leaf.new.buf
+    (Ok (Some c.in_ok-count-in-Leaf.count))
+    (leaf_gives (g.X.Index.places c.args.index.now old.content) (g.X.Index.places c.open_nodes.new.index mid.content) old mid new c.args.cursor.now c.open_nodes.new.cursor
+    c.pass.new.self
+    c.in-Leaf.digest c.in-Leaf.level c.in-Leaf.length c.in_ok-count-in-Leaf.count _ (sym c.in-Leaf.ensures.wanted) c.pass.ensures.rest opened.map opened.reads.only
+    c.in_ok-count-in-Leaf.ensures.reads.only
     opened.walked c.in_ok-count-in-Leaf.ensures.bytes) tt
 
 pub returns-in_ok-count-in-Leaf-clause-held : goal.returns-in_ok-count-in-Leaf-clause-held
@@ -114,28 +123,42 @@ returns-in_ok-count-in-Leaf-clause-held g c = λ counts held image segments inde
     let mid = g.D.Disk.view c.open_nodes.new.disk in
     let new = g.D.Disk.view c.read_leaf.new.disk in
     let opened = c.in_ok-open_nodes.ensures in
-    answer_held counts held (g.X.Index.places c.args.index.now old.content) old new image indexed (g.X.Index.breaks c.args.index.now) c.args.cursor.now c.pass.new.self segments c.read_leaf.new.buf
+    answer_held counts held (g.X.Index.places c.args.index.now old.content) old new image indexed (g.X.Index.breaks c.args.index.now) c.args.cursor.now c.pass.new.self segments
+    c.read_leaf.new.buf
     (Ok (Some c.in_ok-count-in-Leaf.count))
-    (leaf_gives (g.X.Index.places c.args.index.now old.content) (g.X.Index.places c.open_nodes.new.index mid.content) old mid new c.args.cursor.now c.open_nodes.new.cursor c.pass.new.self
-    c.in-Leaf.digest c.in-Leaf.level c.in-Leaf.length c.in_ok-count-in-Leaf.count _ (sym c.in-Leaf.ensures.wanted) c.pass.ensures.rest opened.map opened.reads.only c.in_ok-count-in-Leaf.ensures.reads.only
+    (leaf_gives (g.X.Index.places c.args.index.now old.content) (g.X.Index.places c.open_nodes.new.index mid.content) old mid new c.args.cursor.now c.open_nodes.new.cursor
+    c.pass.new.self
+    c.in-Leaf.digest c.in-Leaf.level c.in-Leaf.length c.in_ok-count-in-Leaf.count _ (sym c.in-Leaf.ensures.wanted) c.pass.ensures.rest opened.map opened.reads.only
+    c.in_ok-count-in-Leaf.ensures.reads.only
     opened.walked c.in_ok-count-in-Leaf.ensures.bytes) tt ahead
 
 -- ---- the end
 
 pub returns-in-End-clause-bytes : goal.returns-in-End-clause-bytes
-returns-in-End-clause-bytes g c =
-    (walk_ends (WasRead (g.X.Index.places c.args.index.now (g.D.Disk.view c.args.disk.now).content) (g.D.Disk.view c.args.disk.now) (g.D.Disk.view c.open_nodes.new.disk)) c.args.cursor.now c.open_nodes.new.cursor c.in_ok-open_nodes.ensures.walked c.in-End.ensures.next, c.in-End.ensures.next)
+returns-in-End-clause-bytes g c = (
+  walk_ends (WasRead (g.X.Index.places c.args.index.now (g.D.Disk.view c.args.disk.now).content) (g.D.Disk.view c.args.disk.now) (g.D.Disk.view c.open_nodes.new.disk))
+      c.args.cursor.now c.open_nodes.new.cursor c.in_ok-open_nodes.ensures.walked c.in-End.ensures.next,
+  c.in-End.ensures.next,
+)
 
 pub returns-in-End-clause-end : goal.returns-in-End-clause-end
 returns-in-End-clause-end g c =
     let old = g.D.Disk.view c.args.disk.now in
     let new = g.D.Disk.view c.open_nodes.new.disk in
-    answer_ends (g.X.Index.places c.args.index.now old.content) (g.X.Index.breaks c.args.index.now) old new c.args.cursor.now c.open_nodes.new.cursor c.open_nodes.new.buf (Ok None)
-    (walk_ends (WasRead (g.X.Index.places c.args.index.now (g.D.Disk.view c.args.disk.now).content) (g.D.Disk.view c.args.disk.now) (g.D.Disk.view c.open_nodes.new.disk)) c.args.cursor.now c.open_nodes.new.cursor c.in_ok-open_nodes.ensures.walked c.in-End.ensures.next, c.in-End.ensures.next) tt
+    answer_ends (g.X.Index.places c.args.index.now old.content) (g.X.Index.breaks c.args.index.now) old new c.args.cursor.now c.open_nodes.new.cursor c.open_nodes.new.buf
+    (Ok None) (
+      walk_ends (WasRead (g.X.Index.places c.args.index.now (g.D.Disk.view c.args.disk.now).content) (g.D.Disk.view c.args.disk.now) (g.D.Disk.view c.open_nodes.new.disk))
+          c.args.cursor.now c.open_nodes.new.cursor c.in_ok-open_nodes.ensures.walked c.in-End.ensures.next,
+      c.in-End.ensures.next,
+    ) tt
 
 pub returns-in-End-clause-held : goal.returns-in-End-clause-held
 returns-in-End-clause-held g c = λ counts held image segments indexed ahead.
     let old = g.D.Disk.view c.args.disk.now in
     let new = g.D.Disk.view c.open_nodes.new.disk in
-    answer_held counts held (g.X.Index.places c.args.index.now old.content) old new image indexed (g.X.Index.breaks c.args.index.now) c.args.cursor.now c.open_nodes.new.cursor segments c.open_nodes.new.buf (Ok None)
-    (walk_ends (WasRead (g.X.Index.places c.args.index.now (g.D.Disk.view c.args.disk.now).content) (g.D.Disk.view c.args.disk.now) (g.D.Disk.view c.open_nodes.new.disk)) c.args.cursor.now c.open_nodes.new.cursor c.in_ok-open_nodes.ensures.walked c.in-End.ensures.next, c.in-End.ensures.next) tt ahead
+    answer_held counts held (g.X.Index.places c.args.index.now old.content) old new image indexed (g.X.Index.breaks c.args.index.now) c.args.cursor.now c.open_nodes.new.cursor
+    segments c.open_nodes.new.buf (Ok None) (
+      walk_ends (WasRead (g.X.Index.places c.args.index.now (g.D.Disk.view c.args.disk.now).content) (g.D.Disk.view c.args.disk.now) (g.D.Disk.view c.open_nodes.new.disk))
+          c.args.cursor.now c.open_nodes.new.cursor c.in_ok-open_nodes.ensures.walked c.in-End.ensures.next,
+      c.in-End.ensures.next,
+    ) tt ahead

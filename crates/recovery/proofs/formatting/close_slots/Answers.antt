@@ -17,14 +17,17 @@ write-requires g c =
 pub returns-in_err-write-clause-stays : goal.returns-in_err-write-clause-stays
 returns-in_err-write-clause-stays g c =
     stays_on c.args.slots _ _ _ c.loop-slot.invariant.1
-    (stays_write c.args.slots _ 1 _ _ (omega (arith, c.slot_at.ensures)) (omega (arith, c.slot_at.ensures, c.loop-slot-test.true)) c.in_err-write.ensures.later c.in_err-write.ensures.leaves)
+    (stays_write c.args.slots _ 1 _ _ (omega (arith, c.slot_at.ensures)) (omega (arith, c.slot_at.ensures, c.loop-slot-test.true)) c.in_err-write.ensures.later
+    c.in_err-write.ensures.leaves)
 
 pub loop-slot-preserved : goal.loop-slot-preserved
 loop-slot-preserved g c =
     let old = g.D.Disk.view c.args.disk.now in
     let mid = g.D.Disk.view c.loop-slot.disk in (
-      c.in_ok-write.ensures.ok ∙ ap (λ (n : ℕ). option_map (written n (0 ∷ [])) mid.content) c.slot_at.ensures ∙ more_closed c.loop-slot.slot old.content mid.content c.loop-slot.invariant.0,
+      c.in_ok-write.ensures.ok ∙ ap (λ (n : ℕ). option_map (written n (0 ∷ [])) mid.content) c.slot_at.ensures ∙ more_closed c.loop-slot.slot old.content mid.content
+          c.loop-slot.invariant.0,
       stays_on c.args.slots _ _ _ c.loop-slot.invariant.1
-          (stays_write c.args.slots _ 1 _ _ (omega (arith, c.slot_at.ensures)) (omega (arith, c.slot_at.ensures, c.loop-slot-test.true)) c.in_ok-write.ensures.later c.in_ok-write.ensures.leaves),
+          (stays_write c.args.slots _ 1 _ _ (omega (arith, c.slot_at.ensures)) (omega (arith, c.slot_at.ensures, c.loop-slot-test.true)) c.in_ok-write.ensures.later
+          c.in_ok-write.ensures.leaves),
       c.in_ok-write.ensures.count ∙ c.loop-slot.invariant.2,
     )

@@ -13,12 +13,14 @@ write-requires g c = omega (arith, c.requires.size, ap length c.requires.blanks 
 
 pub returns-in_err-write-clause-stays : goal.returns-in_err-write-clause-stays
 returns-in_err-write-clause-stays g c =
-    stays_write c.args.slots FIRST_SELECTOR _ _ _ (omega arith) (omega (arith, ap length c.requires.blanks ∙ length-zeros BLANKS)) c.in_err-write.ensures.later c.in_err-write.ensures.leaves
+    stays_write c.args.slots FIRST_SELECTOR _ _ _ (omega arith) (omega (arith, ap length c.requires.blanks ∙ length-zeros BLANKS)) c.in_err-write.ensures.later
+    c.in_err-write.ensures.leaves
 
 pub returns-in_err-close_slots-clause-stays : goal.returns-in_err-close_slots-clause-stays
 returns-in_err-close_slots-clause-stays g c =
     stays_on c.args.slots _ _ _
-    (stays_write c.args.slots FIRST_SELECTOR _ _ _ (omega arith) (omega (arith, ap length c.requires.blanks ∙ length-zeros BLANKS)) c.in_ok-write.ensures.later c.in_ok-write.ensures.leaves)
+    (stays_write c.args.slots FIRST_SELECTOR _ _ _ (omega arith) (omega (arith, ap length c.requires.blanks ∙ length-zeros BLANKS)) c.in_ok-write.ensures.later
+    c.in_ok-write.ensures.leaves)
     c.in_err-close_slots.ensures.stays
 
 pub write-requires-2 : goal.write-requires-2
@@ -38,6 +40,8 @@ pub returns-clause-stays : goal.returns-clause-stays
 returns-clause-stays g c =
     stays_on c.args.slots _ _ _
     (stays_on c.args.slots _ _ _
-    (stays_write c.args.slots FIRST_SELECTOR _ _ _ (omega arith) (omega (arith, ap length c.requires.blanks ∙ length-zeros BLANKS)) c.in_ok-write.ensures.later c.in_ok-write.ensures.leaves)
+    (stays_write c.args.slots FIRST_SELECTOR _ _ _ (omega arith) (omega (arith, ap length c.requires.blanks ∙ length-zeros BLANKS)) c.in_ok-write.ensures.later
+    c.in_ok-write.ensures.leaves)
     c.in_ok-close_slots.ensures.stays)
-    (stays_write c.args.slots FIRST_SELECTOR _ _ _ (omega arith) (omega (arith, ap length c.requires.selector ∙ length-first_selector)) c.write-2.ensures.later c.write-2.ensures.leaves)
+    (stays_write c.args.slots FIRST_SELECTOR _ _ _ (omega arith) (omega (arith, ap length c.requires.selector ∙ length-first_selector)) c.write-2.ensures.later
+    c.write-2.ensures.leaves)

@@ -9,7 +9,8 @@ use Rattle.recovery.proofs.formatting.write_cells.Goals as goal
 pub returns-in_err-lay_out : goal.returns-in_err-lay_out
 returns-in_err-lay_out g c =
     let view = g.D.Disk.view in
-    passed (λ e. WritesStore c.args.slots e (view c.args.disk.now) (view c.lay_out.new.disk)) (λ _. WriteCall) c.from_residual.result c.in_err-lay_out.field-0.0 c.from_residual.ensures.1
+    passed (λ e. WritesStore c.args.slots e (view c.args.disk.now) (view c.lay_out.new.disk)) (λ _. WriteCall) c.from_residual.result c.in_err-lay_out.field-0.0
+    c.from_residual.ensures.1
     (laid_broken c.args.slots _ _ c.requires.blank c.in_err-lay_out.ensures.stays c.in_err-lay_out.ensures.faults)
 
 pub write_gated-requires-clause-room : goal.write_gated-requires-clause-room

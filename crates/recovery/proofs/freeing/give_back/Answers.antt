@@ -19,9 +19,11 @@ pub returns-in_err-close-clause-cut : goal.returns-in_err-close-clause-cut
 returns-in_err-close-clause-cut g c =
     let view = g.D.Disk.view in
     on_err c.from_residual.result _ (λ store visited ready.
-    stands_cut (view c.args.disk.now).size store visited c.loop-free.ids c.args.used.now c.loop-free.free _ _ _ c.loop-free.invariant.steady.later c.loop-free.invariant.steady.durable
+    stands_cut (view c.args.disk.now).size store visited c.loop-free.ids c.args.used.now c.loop-free.free _ _ _ c.loop-free.invariant.steady.later
+    c.loop-free.invariant.steady.durable
     (c.loop-free.invariant.stands store visited ready) c.loop-free-test.true c.in-Some.slot c.in-Some.ensures
-    (subst (λ (refusal : Refusal). Writes (λ _. Frees c.in-Some.slot) (IsFreed c.in-Some.slot) (ending_of (blames refusal)) (view c.loop-free.disk) (view c.close.new.disk)) c.in_err-close.ensures.refused
+    (subst (λ (refusal : Refusal). Writes (λ _. Frees c.in-Some.slot) (IsFreed c.in-Some.slot) (ending_of (blames refusal)) (view c.loop-free.disk) (view c.close.new.disk))
+    c.in_err-close.ensures.refused
     c.in_err-close.ensures.writes))
 
 pub loop-free-preserved : goal.loop-free-preserved

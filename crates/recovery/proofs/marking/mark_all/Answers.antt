@@ -19,18 +19,23 @@ returns-in_err-mark_tree-clause-refused g c =
     let file : ListedName = c.file-item.result in
     let k = c.loop-file.file-index in
     passed_on c.from_residual.result _ c.in_err-mark_tree.field-0.0 c.from_residual.ensures.1
-    (tree_refused c.args.index.now c.loop-file.index (view c.args.disk.now) (view c.loop-file.disk) (view c.mark_tree.new.disk) so_far.index_is so_far.reads.only c.in_err-mark_tree.ensures.reads.only
-    (take k (map listed_value files)) (drop (k + 1) (map listed_value files)) (map listed_value files) (listed_value file) c.args.used.now c.loop-file.used c.in_err-mark_tree.field-0.0
+    (tree_refused c.args.index.now c.loop-file.index (view c.args.disk.now) (view c.loop-file.disk) (view c.mark_tree.new.disk) so_far.index_is so_far.reads.only
+    c.in_err-mark_tree.ensures.reads.only
+    (take k (map listed_value files)) (drop (k + 1) (map listed_value files)) (map listed_value files) (listed_value file) c.args.used.now c.loop-file.used
+    c.in_err-mark_tree.field-0.0
     (file_among files k file c.loop-file-test.true c.file-item.is) so_far.marks
-    (tree_stuck c.args.index.now c.loop-file.index (view c.args.disk.now) (view c.loop-file.disk) (view c.mark_tree.new.disk) so_far.index_is so_far.reads.only c.in_err-mark_tree.ensures.reads.only
-    (start_of (top_of file.root)) c.loop-file.passed c.loop-file.used c.in_err-mark_tree.field-0.0 (c.requires.slots ∙ ap size_of (sym c.loop-file.auto.used)) so_far.walked c.in_err-mark_tree.ensures.refused))
+    (tree_stuck c.args.index.now c.loop-file.index (view c.args.disk.now) (view c.loop-file.disk) (view c.mark_tree.new.disk) so_far.index_is so_far.reads.only
+    c.in_err-mark_tree.ensures.reads.only
+    (start_of (top_of file.root)) c.loop-file.passed c.loop-file.used c.in_err-mark_tree.field-0.0 (c.requires.slots ∙ ap size_of (sym c.loop-file.auto.used)) so_far.walked
+    c.in_err-mark_tree.ensures.refused))
 
 pub returns-in_err-mark_tree-clause-failed : goal.returns-in_err-mark_tree-clause-failed
 returns-in_err-mark_tree-clause-failed g c =
     let view = g.D.Disk.view in
     let so_far = c.loop-file.invariant in
     passed_on c.from_residual.result _ c.in_err-mark_tree.field-0.0 c.from_residual.ensures.1
-    (tree_failed c.args.index.now c.loop-file.index (view c.args.disk.now) (view c.loop-file.disk) c.args.files.now c.loop-file.file-index c.file-item.result c.in_err-mark_tree.field-0.0
+    (tree_failed c.args.index.now c.loop-file.index (view c.args.disk.now) (view c.loop-file.disk) c.args.files.now c.loop-file.file-index c.file-item.result
+    c.in_err-mark_tree.field-0.0
     c.loop-file-test.true c.file-item.is so_far.index_is so_far.reads.only c.in_err-mark_tree.ensures.failed)
 
 pub loop-file-preserved : goal.loop-file-preserved
@@ -39,9 +44,11 @@ loop-file-preserved g c =
     let so_far = c.loop-file.invariant in
     let files = c.args.files.now in
     let k = c.loop-file.file-index in
-    marking_all_more c.args.index.now c.loop-file.index c.mark_tree.new.index (view c.args.disk.now) (view c.loop-file.disk) (view c.mark_tree.new.disk) (take k (map listed_value files))
+    marking_all_more c.args.index.now c.loop-file.index c.mark_tree.new.index (view c.args.disk.now) (view c.loop-file.disk) (view c.mark_tree.new.disk)
+    (take k (map listed_value files))
     (take (k + 1) (map listed_value files)) (listed_value c.file-item.result) c.loop-file.passed c.mark_tree.new.passed c.args.used.now c.loop-file.used c.mark_tree.new.used so_far
-    (file_taken files k c.file-item.result c.loop-file-test.true c.file-item.is) (c.requires.slots ∙ ap size_of (sym c.loop-file.auto.used)) c.in_ok-mark_tree.ensures.walks c.mark_tree.ensures.index c.in_ok-mark_tree.ensures.reads
+    (file_taken files k c.file-item.result c.loop-file-test.true c.file-item.is) (c.requires.slots ∙ ap size_of (sym c.loop-file.auto.used)) c.in_ok-mark_tree.ensures.walks
+    c.mark_tree.ensures.index c.in_ok-mark_tree.ensures.reads
 
 pub loop-file-init : goal.loop-file-init
 loop-file-init g c =
@@ -53,6 +60,7 @@ returns-clause-once g c =
     let files = c.args.files.now in
     record {
       nodes = c.loop-file.passed;
-      walks = subst (λ (roots : List NamedRoot). WalksRoots c.args.index.now (view c.args.disk.now) (view c.loop-file.disk) roots (walk_state [] finite.empty c.args.used.now) (walk_state [] c.loop-file.passed c.loop-file.used))
+      walks = subst (λ (roots : List NamedRoot). WalksRoots c.args.index.now (view c.args.disk.now) (view c.loop-file.disk) roots (walk_state [] finite.empty c.args.used.now)
+          (walk_state [] c.loop-file.passed c.loop-file.used))
           (take_all c.loop-file.file-index (map listed_value files) (omega (arith, c.loop-file-test.false, length-map files listed_value))) c.loop-file.invariant.walks;
     }

@@ -12,9 +12,11 @@ returns-in_err-more-clause-refused g c =
     let so_far = c.loop-more.invariant in
     let start = walk_state c.args.cursor.now c.args.passed.now c.args.used.now in
     passed_on c.from_residual.result _ c.in_err-more.field-0.0 c.from_residual.ensures.1
-    (walk_stops c.args.index.now c.loop-more.index (view c.args.disk.now) (view c.loop-more.disk) (view c.mark_next.new.disk) so_far.index_is so_far.reads.only c.in_err-more.ensures.reads.only
+    (walk_stops c.args.index.now c.loop-more.index (view c.args.disk.now) (view c.loop-more.disk) (view c.mark_next.new.disk) so_far.index_is so_far.reads.only
+    c.in_err-more.ensures.reads.only
     start (walk_state c.loop-more.cursor c.loop-more.passed c.loop-more.used) c.in_err-more.field-0.0
-    (subst (λ (more : Bool). Walks c.args.index.now (view c.args.disk.now) (view c.loop-more.disk) start (walk_state (ahead_of more c.loop-more.cursor) c.loop-more.passed c.loop-more.used)) c.loop-more-test.true so_far.walks)
+    (subst (λ (more : Bool). Walks c.args.index.now (view c.args.disk.now) (view c.loop-more.disk) start
+    (walk_state (ahead_of more c.loop-more.cursor) c.loop-more.passed c.loop-more.used)) c.loop-more-test.true so_far.walks)
     c.in_err-more.ensures.refused)
 
 pub returns-in_err-more-clause-failed : goal.returns-in_err-more-clause-failed
@@ -23,7 +25,8 @@ returns-in_err-more-clause-failed g c =
     let so_far = c.loop-more.invariant in
     passed_on c.from_residual.result _ c.in_err-more.field-0.0 c.from_residual.ensures.1 (λ counts held image indexed is.
     c.in_err-more.ensures.held counts held image
-    (indexed_on c.args.index.now c.loop-more.index (view c.args.disk.now) (view c.loop-more.disk) counts held image so_far.index_is so_far.reads.only indexed) (so_far.held counts held image indexed is))
+    (indexed_on c.args.index.now c.loop-more.index (view c.args.disk.now) (view c.loop-more.disk) counts held image so_far.index_is so_far.reads.only indexed)
+    (so_far.held counts held image indexed is))
 
 pub loop-more-preserved : goal.loop-more-preserved
 loop-more-preserved g c =
@@ -31,9 +34,11 @@ loop-more-preserved g c =
     let so_far = c.loop-more.invariant in
     let start = walk_state c.args.cursor.now c.args.passed.now c.args.used.now in
     record {
-      walks = walks_next c.args.index.now c.loop-more.index (view c.args.disk.now) (view c.loop-more.disk) (view c.mark_next.new.disk) so_far.index_is so_far.reads.only c.in_ok-more.ensures.reads.only
+      walks = walks_next c.args.index.now c.loop-more.index (view c.args.disk.now) (view c.loop-more.disk) (view c.mark_next.new.disk) so_far.index_is so_far.reads.only
+          c.in_ok-more.ensures.reads.only
           c.in_ok-more.more start c.loop-more.cursor c.mark_next.new.cursor c.loop-more.passed c.mark_next.new.passed c.loop-more.used c.mark_next.new.used
-          (subst (λ (more : Bool). Walks c.args.index.now (view c.args.disk.now) (view c.loop-more.disk) start (walk_state (ahead_of more c.loop-more.cursor) c.loop-more.passed c.loop-more.used)) c.loop-more-test.true so_far.walks)
+          (subst (λ (more : Bool). Walks c.args.index.now (view c.args.disk.now) (view c.loop-more.disk) start
+          (walk_state (ahead_of more c.loop-more.cursor) c.loop-more.passed c.loop-more.used)) c.loop-more-test.true so_far.walks)
           c.in_ok-more.ensures.step c.in_ok-more.ensures.end;
       index_is = c.mark_next.ensures.index ∙ so_far.index_is;
       reads = reads_on Done (view c.args.disk.now) (view c.loop-more.disk) (view c.mark_next.new.disk) so_far.reads c.in_ok-more.ensures.reads;

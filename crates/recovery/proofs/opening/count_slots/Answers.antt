@@ -25,7 +25,8 @@ returns-in-Err-clause-only g c =
 
 pub returns-in-Err-clause-reads : goal.returns-in-Err-clause-reads
 returns-in-Err-clause-reads g c =
-    reads_on (ending_of (blames c.refused_by.result)) _ _ _ c.in_ok-begin.ensures.reads (cell_reads c.in-Err.fault c.refused_by.result _ _ c.refused_by.ensures c.in-Err.ensures.reads)
+    reads_on (ending_of (blames c.refused_by.result)) _ _ _ c.in_ok-begin.ensures.reads
+    (cell_reads c.in-Err.fault c.refused_by.result _ _ c.refused_by.ensures c.in-Err.ensures.reads)
 
 pub returns-in-Err-clause-refused : goal.returns-in-Err-clause-refused
 returns-in-Err-clause-refused g c =

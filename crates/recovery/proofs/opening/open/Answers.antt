@@ -25,7 +25,12 @@ pub make_room-requires : goal.make_room-requires
 make_room-requires g c =
     let read = c.in-Ok.ensures in
     record {
-      read = record { store = read.found.store; represents = read.found.represents; valid = subst (λ (n : ℕ). IsValidFor n read.found.store) (sym read.reads.only.later.size_is) read.found.valid };
+      read = record {
+        store = read.found.store;
+        represents = read.found.represents;
+        valid = subst (λ (n : ℕ). IsValidFor n read.found.store) (sym read.reads.only.later.size_is)
+            read.found.valid;
+      };
       durable = read.durable;
     }
 
@@ -35,8 +40,10 @@ unmade g c =
     let view = g.D.Disk.view in
     let read = c.in-Ok.ensures in
     let closed_is = c.free-closed.ensures read.found.store.held read.found.represents.containers read.found.valid.headers in
-    let makes = c.in-Err-make_room.ensures.unmade read.found.store read.found.represents (subst (λ (n : ℕ). IsValidFor n read.found.store) (sym read.reads.only.later.size_is) read.found.valid) closed_is in
-    room_unmade (view c.args.disk.now) (view c.open_all.new.disk) (view c.make_room.new.disk) read.reads c.in-Ok.opened read.found c.free-closed.result c.if-closed-ge-RESERVE.false closed_is makes.later
+    let makes = c.in-Err-make_room.ensures.unmade read.found.store read.found.represents
+    (subst (λ (n : ℕ). IsValidFor n read.found.store) (sym read.reads.only.later.size_is) read.found.valid) closed_is in
+    room_unmade (view c.args.disk.now) (view c.open_all.new.disk) (view c.make_room.new.disk) read.reads c.in-Ok.opened read.found c.free-closed.result
+    c.if-closed-ge-RESERVE.false closed_is makes.later
     c.in-Err-make_room.refusal makes
 
 pub returns-in-Err-make_room-clause-opening : goal.returns-in-Err-make_room-clause-opening
@@ -47,7 +54,8 @@ returns-in-Err-make_room-clause-wrote g c =
     let view = g.D.Disk.view in
     elim c.match-matches.branch [
       | in-DiskWrite w ↦ rw (w.matches-is) (inr (w.in-DiskWrite.is, unmade g c))
-      | in_default-matches w ↦ rw (w.matches-is) (only_read c.in-Err-make_room.refusal (view c.args.disk.now) (view c.make_room.new.disk) w.in_default-matches.not-DiskWrite (unmade g c))
+      | in_default-matches w ↦ rw (w.matches-is) (only_read c.in-Err-make_room.refusal (view c.args.disk.now) (view c.make_room.new.disk) w.in_default-matches.not-DiskWrite
+          (unmade g c))
     ]
 
 -- it was made, and the store was read
@@ -56,8 +64,10 @@ made g c =
     let view = g.D.Disk.view in
     let first = c.in-Ok.ensures in
     let closed_is = c.free-closed.ensures first.found.store.held first.found.represents.containers first.found.valid.headers in
-    let makes = c.in_default.ensures.made first.found.store first.found.represents (subst (λ (n : ℕ). IsValidFor n first.found.store) (sym first.reads.only.later.size_is) first.found.valid) closed_is in
-    room_made (view c.args.disk.now) (view c.open_all.new.disk) (view c.make_room.new.disk) first.reads c.in-Ok.opened first.found c.free-closed.result c.if-closed-ge-RESERVE.false closed_is
+    let makes = c.in_default.ensures.made first.found.store first.found.represents
+    (subst (λ (n : ℕ). IsValidFor n first.found.store) (sym first.reads.only.later.size_is) first.found.valid) closed_is in
+    room_made (view c.args.disk.now) (view c.open_all.new.disk) (view c.make_room.new.disk) first.reads c.in-Ok.opened first.found c.free-closed.result
+    c.if-closed-ge-RESERVE.false closed_is
     makes.steady.later makes
 
 -- and here it was not
@@ -66,8 +76,10 @@ made_in_vain g c =
     let view = g.D.Disk.view in
     let first = c.in-Ok.ensures in
     let closed_is = c.free-closed.ensures first.found.store.held first.found.represents.containers first.found.valid.headers in
-    let makes = c.in_default.ensures.made first.found.store first.found.represents (subst (λ (n : ℕ). IsValidFor n first.found.store) (sym first.reads.only.later.size_is) first.found.valid) closed_is in
-    room_made (view c.args.disk.now) (view c.open_all.new.disk) (view c.make_room.new.disk) first.reads c.in-Ok.opened first.found c.free-closed.result c.if-closed-ge-RESERVE.false closed_is
+    let makes = c.in_default.ensures.made first.found.store first.found.represents
+    (subst (λ (n : ℕ). IsValidFor n first.found.store) (sym first.reads.only.later.size_is) first.found.valid) closed_is in
+    room_made (view c.args.disk.now) (view c.open_all.new.disk) (view c.make_room.new.disk) first.reads c.in-Ok.opened first.found c.free-closed.result
+    c.if-closed-ge-RESERVE.false closed_is
     makes.steady.later makes
 
 pub returns-in-Ok-read_with_room-clause-opening : goal.returns-in-Ok-read_with_room-clause-opening

@@ -14,12 +14,14 @@ returns-in-Ok-clause-scanned g c = own_last _ _ _ _ (scanned_since _ _ _ c.in_ok
 
 pub returns-in-Err-clause-only : goal.returns-in-Err-clause-only
 returns-in-Err-clause-only g c =
-    weaker _ _ (λ image sized gives store right. cell_fails c.in-Err.fault c.refused_by.result c.refused_by.ensures (gives store.selector store.records store.other_open right.journal right.other))
+    weaker _ _ (λ image sized gives store right. cell_fails c.in-Err.fault c.refused_by.result c.refused_by.ensures
+    (gives store.selector store.records store.other_open right.journal right.other))
     (since _ _ _ c.in_ok-slots.ensures.reads.only c.in-Err.ensures.only)
 
 pub returns-in-Err-clause-reads : goal.returns-in-Err-clause-reads
 returns-in-Err-clause-reads g c =
-    reads_on (ending_of (blames c.refused_by.result)) _ _ _ c.in_ok-slots.ensures.reads (cell_reads c.in-Err.fault c.refused_by.result _ _ c.refused_by.ensures c.in-Err.ensures.reads)
+    reads_on (ending_of (blames c.refused_by.result)) _ _ _ c.in_ok-slots.ensures.reads
+    (cell_reads c.in-Err.fault c.refused_by.result _ _ c.refused_by.ensures c.in-Err.ensures.reads)
 
 pub returns-in-Err-clause-refused : goal.returns-in-Err-clause-refused
 returns-in-Err-clause-refused g c =

@@ -10,7 +10,8 @@ use Rattle.recovery.proofs.opening.read_with_room.Goals as goal
 
 pub returns-in_err-opened-clause-only : goal.returns-in_err-opened-clause-only
 returns-in_err-opened-clause-only g c =
-    weaker _ _ (λ image sized none store right. opens_passed store c.from_residual.result c.in_err-opened.field-0.0 c.from_residual.ensures.1 (none store right)) c.in_err-opened.ensures.only
+    weaker _ _ (λ image sized none store right. opens_passed store c.from_residual.result c.in_err-opened.field-0.0 c.from_residual.ensures.1 (none store right))
+    c.in_err-opened.ensures.only
 
 pub free-free-requires : goal.free-free-requires
 free-free-requires g c =
@@ -44,4 +45,5 @@ returns-clause-opened g c =
 pub returns-clause-only : goal.returns-clause-only
 returns-clause-only g c =
     let found = c.in_ok-opened.ensures.found in
-    weaker _ _ (λ image sized right store other. subst (λ (s : Store). Represents s c.in_ok-opened.opened) (store_once image found.store store right other) found.represents) found.right
+    weaker _ _ (λ image sized right store other. subst (λ (s : Store). Represents s c.in_ok-opened.opened) (store_once image found.store store right other) found.represents)
+    found.right

@@ -8,7 +8,8 @@ use Rattle.recovery.proofs.room.mark_needed.Goals as goal
 pub returns-in_err-mark_all-clause-failed : goal.returns-in_err-mark_all-clause-failed
 returns-in_err-mark_all-clause-failed g c =
     passed_on c.from_residual-in_err-mark_all.result _ c.in_err-mark_all.field-0.0 c.from_residual-in_err-mark_all.ensures.1
-    (λ counts held image indexed all. c.in_err-mark_all.ensures.failed counts held image indexed (subst (AllHeld counts held image) (sym (c.names.ensures ∙ c.in_ok-files.ensures)) all))
+    (λ counts held image indexed all. c.in_err-mark_all.ensures.failed counts held image indexed
+    (subst (AllHeld counts held image) (sym (c.names.ensures ∙ c.in_ok-files.ensures)) all))
 
 pub returns-clause-marks : goal.returns-clause-marks
 returns-clause-marks g c =

@@ -21,7 +21,8 @@ returns-in_err-held-clause-only g c =
     let part = c.loop-slot.invariant.1 in
     let reads = c.in_err-held.ensures.reads in
     passed_on c.from_residual.result _ c.in_err-held.field-0.0 c.from_residual.ensures.1
-    (no_more _ _ _ c.loop-slot.slot c.loop-slot.tables part c.loop-slot.invariant.0.only reads.only c.args.slots c.in_err-held.field-0.0 c.loop-slot-test.true (c.in_err-held.ensures.only part.held part.represents))
+    (no_more _ _ _ c.loop-slot.slot c.loop-slot.tables part c.loop-slot.invariant.0.only reads.only c.args.slots c.in_err-held.field-0.0 c.loop-slot-test.true
+    (c.in_err-held.ensures.only part.held part.represents))
 
 pub returns-in_err-held-clause-reads : goal.returns-in_err-held-clause-reads
 returns-in_err-held-clause-reads g c =
@@ -34,7 +35,8 @@ returns-in_err-held-clause-refused g c =
     let part = c.loop-slot.invariant.1 in
     let reads = c.in_err-held.ensures.reads in
     passed_on c.from_residual.result _ c.in_err-held.field-0.0 c.from_residual.ensures.1
-    (refused _ _ _ c.loop-slot.slot c.loop-slot.tables part c.loop-slot.invariant.0.only reads.only c.args.slots c.in_err-held.field-0.0 c.loop-slot-test.true (c.in_err-held.ensures.refused part.held part.represents))
+    (refused _ _ _ c.loop-slot.slot c.loop-slot.tables part c.loop-slot.invariant.0.only reads.only c.args.slots c.in_err-held.field-0.0 c.loop-slot-test.true
+    (c.in_err-held.ensures.refused part.held part.represents))
 
 pub returns-in_err-take-clause-only : goal.returns-in_err-take-clause-only
 returns-in_err-take-clause-only g c =
@@ -53,11 +55,13 @@ loop-slot-preserved g c =
     let reads = c.in_ok-held.ensures.reads in
     let seen = g.D.Disk.view in (
       reads_on Done (seen c.args.disk.now) (seen c.loop-slot.disk) (seen c.read_next.new.disk) c.loop-slot.invariant.0 reads,
-      more _ _ _ c.loop-slot.slot c.loop-slot.tables part c.loop-slot.invariant.0.only reads.only c.take.new.self (option_map view c.in_ok-held.held) (c.in_ok-held.ensures.follows part.held part.represents)
+      more _ _ _ c.loop-slot.slot c.loop-slot.tables part c.loop-slot.invariant.0.only reads.only c.take.new.self (option_map view c.in_ok-held.held)
+          (c.in_ok-held.ensures.follows part.held part.represents)
           c.in_ok-held.ensures.shown (c.in_ok-take.ensures part.held (sym part.many) part.represents),
     )
 
 pub returns-clause-found : goal.returns-clause-found
 returns-clause-found g c =
     let view = g.D.Disk.view in
-    subst (λ (n : ℕ). AreSlots (Shows (view c.args.disk.now) (view c.loop-slot.disk)) n c.loop-slot.tables) (omega (arith, c.loop-slot-test.false, c.loop-slot.auto.slot-end)) c.loop-slot.invariant.1
+    subst (λ (n : ℕ). AreSlots (Shows (view c.args.disk.now) (view c.loop-slot.disk)) n c.loop-slot.tables) (omega (arith, c.loop-slot-test.false, c.loop-slot.auto.slot-end))
+    c.loop-slot.invariant.1

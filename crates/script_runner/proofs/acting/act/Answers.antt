@@ -15,5 +15,6 @@ returns-in_err-bytes-in-Push-clause-acts g c =
     let r = runner_of c.args.core.now c.args.sessions.now in
     let s = runner_of c.push.new.core c.push.new.sessions in
     let e = c.in_err-bytes-in-Push.field-0.0 in
-    by_error (λ (x : Result Reply Refusal). Acts _ state (line_value c.args.line.now) (answer_of x) r s) c.from_residual-in_err-bytes-in-Push.result e c.from_residual-in_err-bytes-in-Push.ensures.1
+    by_error (λ (x : Result Reply Refusal). Acts _ state (line_value c.args.line.now) (answer_of x) r s) c.from_residual-in_err-bytes-in-Push.result e
+    c.from_residual-in_err-bytes-in-Push.ensures.1
     (subst (λ (l : Line). Acts _ state (line_value l) (replies.Refused e) r s) (sym c.in-Push.is) c.in_err-bytes-in-Push.ensures.pushes)

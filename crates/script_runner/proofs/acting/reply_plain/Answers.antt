@@ -11,7 +11,8 @@ returns-clause-made g c =
       (
         acts,
         printed (λ text. text.items) c.print.result reply
-            (plain_reply _ g.C.HasState.state (line_value c.args.line.now) reply (runner_of c.args.core.now c.args.sessions.now) (runner_of c.act-answer.new.core c.act-answer.new.sessions) c.requires.plain acts)
+            (plain_reply _ g.C.HasState.state (line_value c.args.line.now) reply (runner_of c.args.core.now c.args.sessions.now)
+            (runner_of c.act-answer.new.core c.act-answer.new.sessions) c.requires.plain acts)
             c.print.ensures,
       ),
     )

@@ -9,7 +9,8 @@ use Rattle.script_runner.proofs.acting.reply_to.Goals as goal
 
 pub returns-in-Err-clause-made : goal.returns-in-Err-clause-made
 returns-in-Err-clause-made g c =
-    barred _ g.C.HasState.state (line_value c.args.line.now) (λ (reply : ReplyValue). Prints (λ text. text.items) c.print_reply.result reply) (runner_of c.args.core.now c.args.sessions.now)
+    barred _ g.C.HasState.state (line_value c.args.line.now) (λ (reply : ReplyValue). Prints (λ text. text.items) c.print_reply.result reply)
+    (runner_of c.args.core.now c.args.sessions.now)
     c.requires.other c.in-Err.refusal c.in-Err.ensures.err
     (printed (λ text. text.items) c.print_reply.result (replies.Refused c.in-Err.refusal) (λ x. x) c.print_reply.ensures)
 
@@ -45,7 +46,8 @@ returns-in_default-line g c =
     let r = runner_of c.args.core.now c.args.sessions.now in
     let s = runner_of c.reply_plain.new.core c.reply_plain.new.sessions in
     record {
-      made = taken _ g.C.HasState.state (line_value c.args.line.now) (λ (reply : ReplyValue). Prints (λ text. text.items) c.reply_plain.result reply) r s c.requires.other c.in_default.ensures.ok
+      made = taken _ g.C.HasState.state (line_value c.args.line.now) (λ (reply : ReplyValue). Prints (λ text. text.items) c.reply_plain.result reply) r s c.requires.other
+          c.in_default.ensures.ok
           (c.reply_plain.ensures.made);
       running = c.reply_plain.ensures.running;
     }

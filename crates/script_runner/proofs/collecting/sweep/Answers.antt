@@ -9,7 +9,8 @@ pub steps-smaller : goal.steps-smaller
 steps-smaller g c =
     let state = g.C.HasState.state in
     let first_step : StepOf 0 asked.GcStep (Ok c.in_ok-make_step.field-0) c.make_step.new.buf (state c.steps.core) (state c.make_step.new.self) =
-    subst (λ (actor : ℕ). StepOf actor asked.GcStep (Ok c.in_ok-make_step.field-0) c.make_step.new.buf (state c.steps.core) (state c.make_step.new.self)) c.first.ensures c.in_ok-make_step.ensures.step in
+    subst (λ (actor : ℕ). StepOf actor asked.GcStep (Ok c.in_ok-make_step.field-0) c.make_step.new.buf (state c.steps.core) (state c.make_step.new.self)) c.first.ensures
+    c.in_ok-make_step.ensures.step in
     let one : Collects _ state (Ok _) c.steps.core c.make_step.new.self =
     (c.make_step.new.buf, subst (λ (a : Answer). StepOf 0 asked.GcStep (Ok a) c.make_step.new.buf (state c.steps.core) (state c.make_step.new.self)) c.in-Did.is first_step) in
     let inv = c.steps.invariant in
@@ -19,7 +20,8 @@ pub steps-preserved : goal.steps-preserved
 steps-preserved g c =
     let state = g.C.HasState.state in
     let first_step : StepOf 0 asked.GcStep (Ok c.in_ok-make_step.field-0) c.make_step.new.buf (state c.steps.core) (state c.make_step.new.self) =
-    subst (λ (actor : ℕ). StepOf actor asked.GcStep (Ok c.in_ok-make_step.field-0) c.make_step.new.buf (state c.steps.core) (state c.make_step.new.self)) c.first.ensures c.in_ok-make_step.ensures.step in
+    subst (λ (actor : ℕ). StepOf actor asked.GcStep (Ok c.in_ok-make_step.field-0) c.make_step.new.buf (state c.steps.core) (state c.make_step.new.self)) c.first.ensures
+    c.in_ok-make_step.ensures.step in
     let one : Collects _ state (Ok _) c.steps.core c.make_step.new.self =
     (c.make_step.new.buf, subst (λ (a : Answer). StepOf 0 asked.GcStep (Ok a) c.make_step.new.buf (state c.steps.core) (state c.make_step.new.self)) c.in-Did.is first_step) in
     let inv = c.steps.invariant in

@@ -16,7 +16,8 @@ returns-in_err-fed-clause-pushes g c =
     let old = c.args.core.now in
     let new = c.feed-fed.new.core in
     let e = c.in_err-fed.field-0.0 in
-    by_error (λ (r : Result ℕ Refusal). Pushes _ state actor (pushed_bytes c.args.digits.now) r c.args.sessions.now c.set.new.self old new) c.from_residual.result e c.from_residual.ensures.1 (
+    by_error (λ (r : Result ℕ Refusal). Pushes _ state actor (pushed_bytes c.args.digits.now) r c.args.sessions.now c.set.new.self old new) c.from_residual.result e
+    c.from_residual.ensures.1 (
       s,
       t,
       replaced actor s t c.args.sessions.now c.take.new.self c.set.new.self c.in-Some.ensures.taken c.take.ensures.left c.set.ensures.sessions,

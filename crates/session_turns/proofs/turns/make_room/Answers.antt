@@ -21,12 +21,14 @@ returns-in_err-make_turn-clause-turns g c =
     let e = c.in_err-make_turn.field-0.0 in
     by_error (λ (r : Result (Unit {0}) Refusal). MakesRoom _ state c.args.actor r s u old new) c.from_residual.result e c.from_residual.ensures.1
     (room_then_stop _ state c.args.actor (Unit {0})
-    (Unit {0}) tt e s c.loop-actor.session u old c.loop-actor.core new c.loop-actor.invariant.turns (crowded c.queued.result (seen c.loop-actor.session) c.queued.ensures c.loop-actor-test.true) c.in_err-make_turn.ensures.turn)
+    (Unit {0}) tt e s c.loop-actor.session u old c.loop-actor.core new c.loop-actor.invariant.turns
+    (crowded c.queued.result (seen c.loop-actor.session) c.queued.ensures c.loop-actor-test.true) c.in_err-make_turn.ensures.turn)
 
 pub returns-then-is_none-clause-turns : goal.returns-then-is_none-clause-turns
 returns-then-is_none-clause-turns g c =
     room_then_any _ g.C.HasState.state c.args.actor (Unit {0})
-    (Unit {0}) tt tt c.args.session.now c.loop-actor.session c.make_turn.new.session c.args.core.now c.loop-actor.core c.make_turn.new.core c.loop-actor.invariant.turns (crowded c.queued.result (seen c.loop-actor.session) c.queued.ensures c.loop-actor-test.true)
+    (Unit {0}) tt tt c.args.session.now c.loop-actor.session c.make_turn.new.session c.args.core.now c.loop-actor.core c.make_turn.new.core c.loop-actor.invariant.turns
+    (crowded c.queued.result (seen c.loop-actor.session) c.queued.ensures c.loop-actor-test.true)
     c.in_ok-make_turn.field-0 c.in_ok-make_turn.ensures.turn
 
 pub loop-actor-preserved : goal.loop-actor-preserved
@@ -36,6 +38,7 @@ loop-actor-preserved g c =
       ended = c.in_ok-make_turn.ensures.ended ∙ c.loop-actor.invariant.ended;
       count = c.in_ok-make_turn.ensures.count ∙ c.loop-actor.invariant.count;
       turns = room_then_any _ g.C.HasState.state c.args.actor (Unit {0})
-          (Unit {0}) tt tt c.args.session.now c.loop-actor.session c.make_turn.new.session c.args.core.now c.loop-actor.core c.make_turn.new.core c.loop-actor.invariant.turns (crowded c.queued.result (seen c.loop-actor.session) c.queued.ensures c.loop-actor-test.true)
+          (Unit {0}) tt tt c.args.session.now c.loop-actor.session c.make_turn.new.session c.args.core.now c.loop-actor.core c.make_turn.new.core c.loop-actor.invariant.turns
+          (crowded c.queued.result (seen c.loop-actor.session) c.queued.ensures c.loop-actor-test.true)
           c.in_ok-make_turn.field-0 c.in_ok-make_turn.ensures.turn;
     }

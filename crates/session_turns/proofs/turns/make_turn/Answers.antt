@@ -28,7 +28,8 @@ returns-in_err-answer-clause-turn g c =
     let e = c.in_err-answer.field-0.0 in
     let t = c.due.new.self in
     let new = c.ask.new.core in
-    by_error (λ (r : Result (Option Answer) Refusal). TakesTurn _ state c.args.actor r c.args.session.now t c.args.core.now new) c.from_residual-in_err-answer.result e c.from_residual-in_err-answer.ensures.1
+    by_error (λ (r : Result (Option Answer) Refusal). TakesTurn _ state c.args.actor r c.args.session.now t c.args.core.now new) c.from_residual-in_err-answer.result e
+    c.from_residual-in_err-answer.ensures.1
     (inr (
       record { places = c.due.ensures.places; keeps = c.due.ensures.keeps },
       c.in_ok-due.ensures.ok,

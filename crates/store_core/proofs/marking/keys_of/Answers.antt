@@ -3,4 +3,5 @@ use Rattle.store_core.proofs.marking.keys_of.Goals as goal
 
 pub returns : goal.returns
 returns c =
-    keys_whole c.args.filled.now.kind c.entries-entry-items.result.now c.loop-entry.entry-index c.args.filled.now.segments c.loop-entry.keys.items c.loop-entry-test.false c.loop-entry.invariant c.entries-entry-items.ensures.entries
+    keys_whole c.args.filled.now.kind c.entries-entry-items.result.now c.loop-entry.entry-index c.args.filled.now.segments c.loop-entry.keys.items c.loop-entry-test.false
+    c.loop-entry.invariant c.entries-entry-items.ensures.entries

@@ -13,4 +13,5 @@ returns-in-Some-clause-fresh c =
     (λ fresh. fresh.items) c.mark_fresh.ensures.ok c.mark_fresh.ensures.fresh
 
 pub returns-in-Some-clause-kept : goal.returns-in-Some-clause-kept
-returns-in-Some-clause-kept c = marks_kept c.args.collection.now c.in-Some.running c.mark_fresh.new.collection c.in-Some.is c.mark_fresh.ensures.others c.mark_fresh.result c.mark_fresh.ensures.kept
+returns-in-Some-clause-kept c = marks_kept c.args.collection.now c.in-Some.running c.mark_fresh.new.collection c.in-Some.is c.mark_fresh.ensures.others c.mark_fresh.result
+    c.mark_fresh.ensures.kept

@@ -20,7 +20,8 @@ returns-in_err-read_same-in-Some-clause-refused g c =
     let e = c.in_err-read_same-in-Some.field-0.0 in
     let found = c.in_ok-place.ensures in
     passed_on c.from_residual-in_err-read_same-in-Some.result
-    (IsOneRefusal (λ at why. (known ≡ None) × Shows old new (g.X.Index.breaks c.args.index.now at why)) (IsUnlike old.size known (Shows old new) c.args.kind c.args.digest.now c.args.offered.now))
+    (IsOneRefusal (λ at why. (known ≡ None) × Shows old new (g.X.Index.breaks c.args.index.now at why))
+    (IsUnlike old.size known (Shows old new) c.args.kind c.args.digest.now c.args.offered.now))
     e c.from_residual-in_err-read_same-in-Some.ensures.1
     (of_one _ old.size known (Shows old new) c.args.kind c.args.digest.now c.args.offered.now c.in-Some.place
     (λ m is. ap (finite.get m) (sym c.key_of.ensures) ∙ sym (found.found m is) ∙ c.in-Some.is)
@@ -30,7 +31,8 @@ returns-in_err-read_same-in-Some-clause-refused g c =
 pub returns-in_ok-read_same-in-Some-clause-fit : goal.returns-in_ok-read_same-in-Some-clause-fit
 returns-in_ok-read_same-in-Some-clause-fit g c =
     let view = g.D.Disk.view in
-    since (view c.args.disk.now) (view c.find.new.disk) (view c.read_same.new.disk) {P = FitsHad c.args.kind c.args.offered.now (Some c.in-Some.place)} c.in_ok-place.ensures.reads.only c.in_ok-read_same-in-Some.ensures.same
+    since (view c.args.disk.now) (view c.find.new.disk) (view c.read_same.new.disk) {P = FitsHad c.args.kind c.args.offered.now (Some c.in-Some.place)}
+    c.in_ok-place.ensures.reads.only c.in_ok-read_same-in-Some.ensures.same
 
 pub returns-in-None-clause-fit : goal.returns-in-None-clause-fit
 returns-in-None-clause-fit g c =

@@ -20,17 +20,20 @@ use Rattle.store_state.proofs.indexing.put_from.Goals as goal
 pub put_next-requires-clause-places : goal.put_next-requires-clause-places
 put_next-requires-clause-places g c =
     let view = g.D.Disk.view in
-    subst (λ (n : ℕ). AllByRecursion (λ e. IsPlace n (place_of c.args.slot e)) c.args.entries.now) (sym (size_in (view c.args.disk.now) (view c.loop-at.disk) c.requires.slots c.loop-at.invariant.2)) c.requires.part.places
+    subst (λ (n : ℕ). AllByRecursion (λ e. IsPlace n (place_of c.args.slot e)) c.args.entries.now)
+    (sym (size_in (view c.args.disk.now) (view c.loop-at.disk) c.requires.slots c.loop-at.invariant.2)) c.requires.part.places
 
 pub put_next-requires-clause-lie : goal.put_next-requires-clause-lie
 put_next-requires-clause-lie g c =
     let view = g.D.Disk.view in
-    subst (λ (n : ℕ). AllByRecursion (λ had. IfSome had (IsPlace n)) c.args.before.now) (sym (size_in (view c.args.disk.now) (view c.loop-at.disk) c.requires.slots c.loop-at.invariant.2)) c.requires.had.lie
+    subst (λ (n : ℕ). AllByRecursion (λ had. IfSome had (IsPlace n)) c.args.before.now)
+    (sym (size_in (view c.args.disk.now) (view c.loop-at.disk) c.requires.slots c.loop-at.invariant.2)) c.requires.had.lie
 
 pub put_next-requires-clause-put : goal.put_next-requires-clause-put
 put_next-requires-clause-put g c =
     let view = g.D.Disk.view in
-    over_in (view c.args.disk.now).size c.args.kind c.args.slot c.args.entries.now c.args.before.now c.loop-at.at (g.X.Index.places c.args.index.now (view c.args.disk.now).content) (g.X.Index.places c.loop-at.index (view c.loop-at.disk).content)
+    over_in (view c.args.disk.now).size c.args.kind c.args.slot c.args.entries.now c.args.before.now c.loop-at.at
+    (g.X.Index.places c.args.index.now (view c.args.disk.now).content) (g.X.Index.places c.loop-at.index (view c.loop-at.disk).content)
     c.requires.part c.requires.had c.loop-at.invariant.0 c.loop-at.invariant.1
 
 pub returns-in_err-put_next-clause-memory : goal.returns-in_err-put_next-clause-memory
@@ -39,7 +42,8 @@ returns-in_err-put_next-clause-memory g c = λ ran_out.
     let places = g.X.Index.places in
     let e = c.in_err-put_next.field-0.0 in
     let back = c.in_err-put_next.ensures.memory (ap Err (err_is c.from_residual.result e Memory c.from_residual.ensures.1 ran_out)) in
-    as_before (view c.args.disk.now).size c.args.kind c.args.slot c.args.entries.now c.args.before.now c.loop-at.at (places c.args.index.now (view c.args.disk.now).content) (places c.loop-at.index (view c.loop-at.disk).content)
+    as_before (view c.args.disk.now).size c.args.kind c.args.slot c.args.entries.now c.args.before.now c.loop-at.at (places c.args.index.now (view c.args.disk.now).content)
+    (places c.loop-at.index (view c.loop-at.disk).content)
     c.requires.part c.requires.had c.loop-at.invariant.0 c.loop-at.invariant.1 (places c.put_next.new.index (view c.put_next.new.disk).content) back.0 back.1
 
 pub returns-in_err-put_next-clause-refused : goal.returns-in_err-put_next-clause-refused
@@ -61,7 +65,8 @@ returns-in_err-put_next-clause-changes g c = λ slots size_is.
     let e = c.in_err-put_next.field-0.0 in
     let first = c.loop-at.invariant.2 slots size_is in
     passed (λ x. Changes (slot_at slots) x old new) blames c.from_residual.result e c.from_residual.ensures.1
-    (changes_on (slot_at slots) (ending_of (blames e)) old mid new Done first.faults_are first (c.in_err-put_next.ensures.changes slots (size_on old mid slots first.later size_is)))
+    (changes_on (slot_at slots) (ending_of (blames e)) old mid new Done first.faults_are first
+    (c.in_err-put_next.ensures.changes slots (size_on old mid slots first.later size_is)))
 
 pub loop-at-preserved : goal.loop-at-preserved
 loop-at-preserved g c =
@@ -71,7 +76,8 @@ loop-at-preserved g c =
     let new = view c.put_next.new.disk in
     let places = g.X.Index.places in
     let d : Entry = record { digest = []; offset = 0; length = 0; level = 0 } in (
-      in_more c.args.kind c.args.slot c.args.entries.now c.loop-at.at d c.loop-at-test.true (places c.args.index.now old.content) (places c.loop-at.index mid.content) (places c.put_next.new.index new.content)
+      in_more c.args.kind c.args.slot c.args.entries.now c.loop-at.at d c.loop-at-test.true (places c.args.index.now old.content) (places c.loop-at.index mid.content)
+          (places c.put_next.new.index new.content)
           c.loop-at.invariant.0 c.in_ok-put_next.ensures.ok,
       λ none. c.in_ok-put_next.ensures.unknown (c.loop-at.invariant.1 none),
       λ slots size_is.

@@ -18,7 +18,8 @@ returns-in_err-take_back-clause-changes g c = λ slots size_is.
     let first = lifted (g.X.Index.owned_from c.args.index.now) (g.X.Index.serves c.args.index.now) (g.met.X.Index.owns_no_slot c.args.index.now) Refused
     old mid c.requires.serves put slots size_is in
     passed (λ x. Changes (slot_at slots) x old new) blames c.from_residual.result e c.from_residual.ensures.1
-    (changes_on (slot_at slots) (ending_of (blames e)) old mid new Refused first.faults_are first (c.in_err-take_back.ensures.changes slots (size_on old mid slots first.later size_is)))
+    (changes_on (slot_at slots) (ending_of (blames e)) old mid new Refused first.faults_are first
+    (c.in_err-take_back.ensures.changes slots (size_on old mid slots first.later size_is)))
 
 pub returns-in_ok-take_back-clause-memory : goal.returns-in_ok-take_back-clause-memory
 returns-in_ok-take_back-clause-memory g c = λ ran_out.
@@ -36,7 +37,8 @@ returns-in_ok-take_back-clause-changes g c = λ slots size_is.
     let first = lifted (g.X.Index.owned_from c.args.index.now) (g.X.Index.serves c.args.index.now) (g.met.X.Index.owns_no_slot c.args.index.now) Refused
     old mid c.requires.serves put slots size_is in
     let all = changes_on (slot_at slots) Done old mid new Refused first.faults_are first (c.in_ok-take_back.ensures.changes slots (size_on old mid slots first.later size_is)) in
-    subst (λ r. Changes (slot_at slots) (ending blames r) old new) (sym ended) (record { later = all.later; content_is = all.content_is; leaves = all.leaves; faults_are = all.faults_are })
+    subst (λ r. Changes (slot_at slots) (ending blames r) old new) (sym ended)
+    (record { later = all.later; content_is = all.content_is; leaves = all.leaves; faults_are = all.faults_are })
 
 pub returns-else-ran_out-clause-changes : goal.returns-else-ran_out-clause-changes
 returns-else-ran_out-clause-changes g c = λ slots size_is.

@@ -26,7 +26,8 @@ give_back-requires-clause-there g c =
     let within : i < length c.args.entries.now = omega (arith, c.loop-left.invariant.1, c.requires.many.0, c.loop-left-test.true) in
     let more : c.loop-left.left ≡ i + 1 = omega (arith, c.loop-left-test.true) in
     there_back c.args.kind c.args.entries.now c.args.before.now c.args.count c.loop-left.left i d None within more c.key_in.result c.key_in.ensures.key
-    (g.X.Index.places c.args.index.now (g.D.Disk.view c.args.disk.now).content) (g.X.Index.places c.loop-left.index (g.D.Disk.view c.loop-left.disk).content) c.loop-left.invariant.0
+    (g.X.Index.places c.args.index.now (g.D.Disk.view c.args.disk.now).content) (g.X.Index.places c.loop-left.index (g.D.Disk.view c.loop-left.disk).content)
+    c.loop-left.invariant.0
 
 pub loop-left-preserved : goal.loop-left-preserved
 loop-left-preserved g c =
@@ -40,7 +41,8 @@ loop-left-preserved g c =
     let within : i < length c.args.entries.now = omega (arith, c.loop-left.invariant.1, c.requires.many.0, c.loop-left-test.true) in
     let more : c.loop-left.left ≡ i + 1 = omega (arith, c.loop-left-test.true) in (
       one_more_back c.args.kind c.args.entries.now c.args.before.now c.args.count c.loop-left.left i d None within more c.key_in.result c.key_in.ensures.key
-          (places c.args.index.now old.content) (places c.loop-left.index mid.content) c.loop-left.invariant.0 (places c.give_back.new.index new.content) c.in_ok-give_back.ensures.ok c.in_ok-give_back.ensures.unknown,
+          (places c.args.index.now old.content) (places c.loop-left.index mid.content) c.loop-left.invariant.0 (places c.give_back.new.index new.content)
+          c.in_ok-give_back.ensures.ok c.in_ok-give_back.ensures.unknown,
       omega (arith, c.loop-left.invariant.1),
       c.in_ok-give_back.ensures.changes.later.size_is ∙ c.loop-left.invariant.2,
       λ slots size_is.

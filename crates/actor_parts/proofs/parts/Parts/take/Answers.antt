@@ -7,7 +7,8 @@ use Rattle.actor_parts.proofs.parts.Parts.take.Goals as goal
 pub returns-clause-taken : goal.returns-clause-taken
 returns-clause-taken c =
     c.replace.ensures.value
-    ∙ part_read c.self.inside.parts.items c.args.self.now c.number.result c.args.actor c.self.view_is c.number.ensures.value c.index_mut.result.now c.self.invariant c.number.ensures.limit c.index_mut.ensures.value
+    ∙ part_read c.self.inside.parts.items c.args.self.now c.number.result c.args.actor c.self.view_is c.number.ensures.value c.index_mut.result.now c.self.invariant
+    c.number.ensures.limit c.index_mut.ensures.value
 
 pub returns-clause-left : goal.returns-clause-left
 returns-clause-left c =

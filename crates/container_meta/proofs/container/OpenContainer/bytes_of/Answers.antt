@@ -14,13 +14,23 @@ index-entry-requires c =
 pub part-requires : goal.part-requires
 part-requires c =
     let es : List Entry = c.self.inside.entries.items in
-    let cut = cut_packed c.index-entry.result.now es c.self.inside.bytes.items c.args.self.now.segments c.args.i (ap (λ (v : Contents). v.segments) (sym c.self.view_is)) c.self.invariant.exact c.self.invariant.whole c.requires in
-    omega (arith, cut.within, cut.offset_is, ap (λ (e : Entry). e.offset) c.index-entry.ensures, ap (λ (e : Entry). e.length) c.index-entry.ensures, ap length c.deref.ensures.value)
+    let cut = cut_packed c.index-entry.result.now es c.self.inside.bytes.items c.args.self.now.segments c.args.i (ap (λ (v : Contents). v.segments) (sym c.self.view_is))
+    c.self.invariant.exact c.self.invariant.whole c.requires in
+    omega (
+      arith,
+      cut.within,
+      cut.offset_is,
+      ap (λ (e : Entry). e.offset) c.index-entry.ensures,
+      ap (λ (e : Entry). e.length) c.index-entry.ensures,
+      ap length
+          c.deref.ensures.value,
+    )
 
 pub returns : goal.returns
 returns c =
     let es : List Entry = c.self.inside.entries.items in
-    let cut = cut_packed c.index-entry.result.now es c.self.inside.bytes.items c.args.self.now.segments c.args.i (ap (λ (v : Contents). v.segments) (sym c.self.view_is)) c.self.invariant.exact c.self.invariant.whole c.requires in
+    let cut = cut_packed c.index-entry.result.now es c.self.inside.bytes.items c.args.self.now.segments c.args.i (ap (λ (v : Contents). v.segments) (sym c.self.view_is))
+    c.self.invariant.exact c.self.invariant.whole c.requires in
     let offset : c.index-entry.result.now.offset ≡ cut.from = ap (λ (e : Entry). e.offset) c.index-entry.ensures ∙ cut.offset_is ∙ omega arith in
     let held = ap (drop c.index-entry.result.now.offset) c.deref.ensures.value ∙ ap (λ (n : ℕ). drop n c.self.inside.bytes.items) offset in
     c.part.ensures

@@ -21,7 +21,8 @@ returns-then-eq c =
     let es : List Entry = c.self.inside.entries.items in
     let s : Segment = segment_at c.args.self.now.segments c.args.i in
     let t : Segment = c.args.seg.now.segment in
-    let cut = cut_packed c.index.result.now es c.self.inside.bytes.items c.args.self.now.segments c.args.i (ap (λ (v : Contents). v.segments) (sym c.self.view_is)) c.self.invariant.exact c.self.invariant.whole c.requires in
+    let cut = cut_packed c.index.result.now es c.self.inside.bytes.items c.args.self.now.segments c.args.i (ap (λ (v : Contents). v.segments) (sym c.self.view_is))
+    c.self.invariant.exact c.self.invariant.whole c.requires in
     let level : c.index.result.now.level ≡ s.level = ap (λ (e : Entry). e.level) c.index.ensures ∙ cut.level_is in
     elim c.if-entry-level.branch [
       | then-entry-level w ↦
@@ -35,13 +36,15 @@ returns-else-eq c =
     let es : List Entry = c.self.inside.entries.items in
     let s : Segment = segment_at c.args.self.now.segments c.args.i in
     let t : Segment = c.args.seg.now.segment in
-    let cut = cut_packed c.index.result.now es c.self.inside.bytes.items c.args.self.now.segments c.args.i (ap (λ (v : Contents). v.segments) (sym c.self.view_is)) c.self.invariant.exact c.self.invariant.whole c.requires in
+    let cut = cut_packed c.index.result.now es c.self.inside.bytes.items c.args.self.now.segments c.args.i (ap (λ (v : Contents). v.segments) (sym c.self.view_is))
+    c.self.invariant.exact c.self.invariant.whole c.requires in
     let level : c.index.result.now.level ≡ s.level = ap (λ (e : Entry). e.level) c.index.ensures ∙ cut.level_is in
     let digest : c.index.result.now.digest ≡ sha256 s.bytes = ap (λ (e : Entry). e.digest) c.index.ensures ∙ cut.digest_is in
     c.if-eq.false
     ∙ elim c.if-entry-level.branch [
       | then-entry-level w ↦
           other_digest s t
-          (ap (λ (d : List ℕ). bytes_eq d (sha256 t.bytes)) (sym digest) ∙ ap (bytes_eq c.index.result.now.digest) (sym w.digest.ensures) ∙ sym w.eq.ensures ∙ sym w.value-is ∙ c.if-eq.false)
+          (ap (λ (d : List ℕ). bytes_eq d (sha256 t.bytes)) (sym digest) ∙ ap (bytes_eq c.index.result.now.digest) (sym w.digest.ensures) ∙ sym w.eq.ensures ∙ sym w.value-is
+          ∙ c.if-eq.false)
       | else-entry-level w ↦ other_level s t (λ same. w.if-entry-level.false (level ∙ same ∙ sym c.level.ensures))
     ]

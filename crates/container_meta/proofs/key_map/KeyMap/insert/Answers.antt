@@ -6,7 +6,8 @@ use Rattle.container_meta.proofs.key_map.KeyMap.insert.Goals as goal
 
 pub returns-clause-ok : goal.returns-clause-ok
 returns-clause-ok g c =
-    inserted_seen c.self.inside.entries.entries c.insert.new.self.entries c.args.key.now c.args.value c.in_ok-insert.ensures.was_ordered c.in_ok-insert.ensures.ordered c.in_ok-insert.ensures.entries
+    inserted_seen c.self.inside.entries.entries c.insert.new.self.entries c.args.key.now c.args.value c.in_ok-insert.ensures.was_ordered c.in_ok-insert.ensures.ordered
+    c.in_ok-insert.ensures.entries
     ∙ ap (λ m. finite.insert m c.args.key.now c.args.value) c.self.view_is
 
 pub returns-in_err-insert-clause-absent : goal.returns-in_err-insert-clause-absent

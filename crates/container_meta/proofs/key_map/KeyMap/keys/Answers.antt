@@ -12,7 +12,8 @@ loop-key-init g c =
     (c.into_iter-key-iterator.ensures.into_iter_gives.0 ∙ sym (entries_seen c.self.inside.entries.entries c.len.ensures.ordered) ∙ ap finite.entries c.self.view_is)
 
 -- one key more is listed
-one_more : {X : Type 0} (listed after : List (List ℕ)) (one : List ℕ) (value : X) (left rest : List (List ℕ × X)) (all : List (List ℕ)) → after ≡ listed ++ one ∷ [] → left ≡ (one, value) ∷ rest
+one_more : {X : Type 0} (listed after : List (List ℕ)) (one : List ℕ) (value : X) (left rest : List (List ℕ × X)) (all : List (List ℕ)) → after ≡ listed ++ one ∷ [] →
+    left ≡ (one, value) ∷ rest
     → listed ++ map (λ e. e.0) left ≡ all → after ++ map (λ e. e.0) rest ≡ all
 one_more listed after one value left rest all pushed first h =
     ap (λ xs. xs ++ map (λ e. e.0) rest) pushed ∙ append_assoc listed (one ∷ []) (map (λ e. e.0) rest)
@@ -20,5 +21,6 @@ one_more listed after one value left rest all pushed first h =
 
 pub loop-key-preserved : goal.loop-key-preserved
 loop-key-preserved g c =
-    one_more c.loop-key.keys.items c.push.new.self.items c.in-Some.key.now c.in-Some.field-0-1.now c.loop-key.key-iterator c.next.new.self (map (λ e. e.0) (finite.entries c.args.self.now)) c.in_ok-push.ensures.items
+    one_more c.loop-key.keys.items c.push.new.self.items c.in-Some.key.now c.in-Some.field-0-1.now c.loop-key.key-iterator c.next.new.self
+    (map (λ e. e.0) (finite.entries c.args.self.now)) c.in_ok-push.ensures.items
     c.in-Some.ensures.steps c.loop-key.invariant

@@ -13,7 +13,8 @@ loop-preserved g c = elim c.match-write.branch [
   }
   | in-Err w ↦ record {
     within = omega (arith, c.loop.invariant.within);
-    written = subst (λ n. Appends (g.W.Write.contents c.args.self.now.writer) (g.W.Write.contents c.write.new.self) (take n c.args.from.now)) (sym w.done-is) (appends_kept _ _ _ _ c.loop.invariant.written w.in-Err.ensures.bytes);
+    written = subst (λ n. Appends (g.W.Write.contents c.args.self.now.writer) (g.W.Write.contents c.write.new.self) (take n c.args.from.now)) (sym w.done-is)
+        (appends_kept _ _ _ _ c.loop.invariant.written w.in-Err.ensures.bytes);
     count = c.loop.invariant.count;
   }
 ]

@@ -19,10 +19,12 @@ returns-in-Ok-apply-clause-passed c =
 pub returns : goal.returns
 returns c =
     let value = record_value c.in_ok-value.value in
-    let named = subst (λ (r : RecordValue). IsName r.name) (sym c.in_ok-value.ensures) (own_named c.args.at c.args.cell.now (λ i. omega (arith, c.type_inv.cell i)) c.requires.length (sym c.check_own.ensures ∙ c.in-Ok.is)) in
+    let named = subst (λ (r : RecordValue). IsName r.name) (sym c.in_ok-value.ensures)
+    (own_named c.args.at c.args.cell.now (λ i. omega (arith, c.type_inv.cell i)) c.requires.length (sym c.check_own.ensures ∙ c.in-Ok.is)) in
     record {
       passed =
           takes_part c.args.at (replay c.args.self.now) _ c.args.cell.now (sym c.check_own.ensures ∙ c.in-Ok.is) refl (ap (λ (r : RecordValue). r.sequence) c.in_ok-value.ensures)
-          (c.in-Err-apply.ensures.err ∙ sym (names_keep c.args.self.now.names value c.in-Err-apply.fault named c.in-Err-apply.ensures.cause c.in_default.not-Memory) ∙ ap (names_taking c.args.self.now.names) c.in_ok-value.ensures);
+          (c.in-Err-apply.ensures.err ∙ sym (names_keep c.args.self.now.names value c.in-Err-apply.fault named c.in-Err-apply.ensures.cause c.in_default.not-Memory)
+          ∙ ap (names_taking c.args.self.now.names) c.in_ok-value.ensures);
       halt = tt;
     }

@@ -22,14 +22,16 @@ pub returns-clause-top : goal.returns-clause-top
 returns-clause-top c = λ pushed taken holds.
     c.in_ok-closed.ensures.top
     ∙ ap (λ (rs : List (Vec Child)). (close 0 [] (items_of rs)).top) c.deref.ensures.value
-    ∙ (finished_holds (items_of c.self.inside.rows.items) c.self.inside.finished.items c.self.inside.leaves pushed taken c.self.invariant (subst (λ (b : Progress). Holds b pushed taken) (sym c.self.view_is) holds)).0
+    ∙ (finished_holds (items_of c.self.inside.rows.items) c.self.inside.finished.items c.self.inside.leaves pushed taken c.self.invariant
+    (subst (λ (b : Progress). Holds b pushed taken) (sym c.self.view_is) holds)).0
 
 pub returns-clause-nodes : goal.returns-clause-nodes
 returns-clause-nodes c = λ pushed taken holds.
     ap (λ (ns : List Contents). taken ++ ns) (c.in_ok-append.ensures.items
     ∙ ap (λ (ns : List Contents). c.self.inside.finished.items ++ ns)
     (c.in_ok-closed.ensures.nodes ∙ ap (λ (rs : List (Vec Child)). (close 0 [] (items_of rs)).nodes) c.deref.ensures.value))
-    ∙ (finished_holds (items_of c.self.inside.rows.items) c.self.inside.finished.items c.self.inside.leaves pushed taken c.self.invariant (subst (λ (b : Progress). Holds b pushed taken) (sym c.self.view_is) holds)).1
+    ∙ (finished_holds (items_of c.self.inside.rows.items) c.self.inside.finished.items c.self.inside.leaves pushed taken c.self.invariant
+    (subst (λ (b : Progress). Holds b pushed taken) (sym c.self.view_is) holds)).1
 
 pub returns-clause-added : goal.returns-clause-added
 returns-clause-added c =

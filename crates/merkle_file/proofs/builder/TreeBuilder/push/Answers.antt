@@ -28,7 +28,8 @@ returns-clause-pushed c = λ pushed taken holds.
     let may = subst (λ (b : Progress). MayPush b c.args.child) (sym c.self.view_is) c.requires in
     let digest : length c.args.child.digest ≡ 32 = search rules in
     let whole = take_at c.place_leaf.new.rows (drop (length c.place_leaf.new.rows) c.self.inside.rows.items) c.self.inside.rows.len len in
-    pushed_holds (items_of c.self.inside.rows.items) _ c.self.inside.finished.items c.place_leaf.new.finished.items c.self.inside.leaves c.args.child pushed taken c.self.invariant may digest
+    pushed_holds (items_of c.self.inside.rows.items) _ c.self.inside.finished.items c.place_leaf.new.finished.items c.self.inside.leaves c.args.child pushed taken c.self.invariant
+    may digest
     (ap items_of whole ∙ c.in_ok-place_leaf.ensures.rows ∙ ap (λ (rs : List (Vec Child)). (place 0 c.args.child (items_of rs)).rows) c.deref_mut.ensures.value)
     (c.in_ok-place_leaf.ensures.nodes ∙ ap (λ (rs : List (Vec Child)). c.self.inside.finished.items ++ (place 0 c.args.child (items_of rs)).nodes) c.deref_mut.ensures.value)
     (subst (λ (b : Progress). Holds b pushed taken) (sym c.self.view_is) holds)

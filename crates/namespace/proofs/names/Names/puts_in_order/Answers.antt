@@ -5,7 +5,8 @@ use Rattle.namespace.proofs.names.Names.puts_in_order.Goals as goal
 
 pub returns-clause-puts : goal.returns-clause-puts
 returns-clause-puts c =
-    puts_sorted c.args.self.now _ _ c.in_ok-puts.ensures.listed (IsNonDecreasingBy-from_sort_by_key (λ put. put.sequence) _ c.in_ok-sort_by_key.ensures.sorted (λ a r q k. search rules))
+    puts_sorted c.args.self.now _ _ c.in_ok-puts.ensures.listed
+    (IsNonDecreasingBy-from_sort_by_key (λ put. put.sequence) _ c.in_ok-sort_by_key.ensures.sorted (λ a r q k. search rules))
     (c.sort_by_key.ensures.stable (λ put. put.sequence) (answers_always _ _ _ (λ f a r g h. search rules)))
 
 pub returns-clause-only : goal.returns-clause-only

@@ -5,5 +5,6 @@ use Rattle.recovery.proofs.passed.Passed.add.Goals as goal
 
 pub returns-clause-ok : goal.returns-clause-ok
 returns-clause-ok c =
-    inserted_seen c.self.inside.nodes.entries c.insert.new.self.entries c.args.key.now tt c.in_ok-insert.ensures.was_ordered c.in_ok-insert.ensures.ordered c.in_ok-insert.ensures.entries
+    inserted_seen c.self.inside.nodes.entries c.insert.new.self.entries c.args.key.now tt c.in_ok-insert.ensures.was_ordered c.in_ok-insert.ensures.ordered
+    c.in_ok-insert.ensures.entries
     ∙ ap (λ m. finite.insert m c.args.key.now tt) c.self.view_is

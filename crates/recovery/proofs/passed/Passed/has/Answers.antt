@@ -7,4 +7,5 @@ use Rattle.recovery.proofs.passed.Passed.has.Goals as goal
 pub returns : goal.returns
 returns c =
     c.is_some.ensures
-    ∙ ap is_some (c.copied.ensures ∙ sym (ap (λ m. finite.get m c.args.key.now) (sym c.self.view_is) ∙ get_seen c.self.inside.nodes.entries c.args.key.now ∙ sym c.get.ensures.value))
+    ∙ ap is_some (c.copied.ensures ∙ sym (ap (λ m. finite.get m c.args.key.now) (sym c.self.view_is) ∙ get_seen c.self.inside.nodes.entries c.args.key.now
+    ∙ sym c.get.ensures.value))

@@ -8,7 +8,8 @@ use Rattle.script_lines.proofs.reader.ScriptReader.go_on.Goals as goal
 pub returns-in_default-clause-told : goal.returns-in_default-clause-told
 returns-in_default-clause-told g c = λ first begun in_line.
     let mid = c.fill.new.self in
-    no_byte first mid begun _ (read_on first c.args.self.now mid begun _ _ in_line c.fill.ensures.takes c.fill.ensures.line) c.at_end.result c.at_end.ensures.end c.at_end.ensures.wrong
+    no_byte first mid begun _ (read_on first c.args.self.now mid begun _ _ in_line c.fill.ensures.takes c.fill.ensures.line) c.at_end.result c.at_end.ensures.end
+    c.at_end.ensures.wrong
     (out_since first c.args.self.now mid begun _ _ in_line (c.in_ok-fill.ensures.out c.in_default.ensures.none))
 
 pub returns-then-self-eq-MOST_SCRIPT-clause-told : goal.returns-then-self-eq-MOST_SCRIPT-clause-told
@@ -34,7 +35,8 @@ returns-then-self-eq-MOST_LINE-clause-told g c = λ first begun in_line.
     let before = read_on first c.args.self.now mid begun _ _ in_line c.fill.ensures.takes c.fill.ensures.line in
     let some = c.in-Some.ensures.some in
     let room : mid.taken < MOST_SCRIPT = omega (arith, ap (λ (r : ReaderState). r.taken) c.self.view_is) in (
-      too_long first mid begun _ before c.pass.new.self c.in-Some.byte some.0 some.1 room c.pass.ensures c.if-byte-eq10.false (omega (arith, ap (λ (r : ReaderState). length r.line) c.self-2.view_is, length-take c.self-2.inside.length c.self-2.inside.line)),
+      too_long first mid begun _ before c.pass.new.self c.in-Some.byte some.0 some.1 room c.pass.ensures c.if-byte-eq10.false
+          (omega (arith, ap (λ (r : ReaderState). length r.line) c.self-2.view_is, length-take c.self-2.inside.length c.self-2.inside.line)),
       same_part first mid begun _ before c.pass.new.self c.in-Some.byte some.0 some.1 room c.pass.ensures,
     )
 
@@ -44,4 +46,5 @@ returns-clause-told g c = λ first begun in_line.
     let before = read_on first c.args.self.now mid begun _ _ in_line c.fill.ensures.takes c.fill.ensures.line in
     let some = c.in-Some.ensures.some in
     let room : mid.taken < MOST_SCRIPT = omega (arith, ap (λ (r : ReaderState). r.taken) c.self.view_is) in
-    goes_on first mid begun _ before c.pass.new.self c.in-Some.byte some.0 some.1 room c.pass.ensures c.if-byte-eq10.false c.keep.new.self (omega (arith, ap (λ (r : ReaderState). length r.line) c.self-2.view_is, length-take c.self-2.inside.length c.self-2.inside.line)) c.keep.ensures
+    goes_on first mid begun _ before c.pass.new.self c.in-Some.byte some.0 some.1 room c.pass.ensures c.if-byte-eq10.false c.keep.new.self
+    (omega (arith, ap (λ (r : ReaderState). length r.line) c.self-2.view_is, length-take c.self-2.inside.length c.self-2.inside.line)) c.keep.ensures

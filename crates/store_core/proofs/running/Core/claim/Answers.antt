@@ -2,7 +2,8 @@ use Rattle.store_core.proofs.MarkedSteps.{claim_alike, claim_collects, claim_ref
 use Rattle.store_core.proofs.running.Core.claim.Goals as goal
 
 pub returns-in_err-fresh-clause-collects : goal.returns-in_err-fresh-clause-collects
-returns-in_err-fresh-clause-collects g c = claim_refused c.args.seg.now c.from_residual.result c.args.self.now.collection c.mark_key.new.collection c.from_residual.ensures.0 c.in_err-fresh.ensures.kept
+returns-in_err-fresh-clause-collects g c = claim_refused c.args.seg.now c.from_residual.result c.args.self.now.collection c.mark_key.new.collection c.from_residual.ensures.0
+    c.in_err-fresh.ensures.kept
 
 pub returns-clause-made : goal.returns-clause-made
 returns-clause-made g c = λ stop count.

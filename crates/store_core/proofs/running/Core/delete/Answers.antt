@@ -5,5 +5,6 @@ use Rattle.store_core.proofs.running.Core.delete.Goals as goal
 
 pub returns-in-Ok-clause-made : goal.returns-in-Ok-clause-made
 returns-in-Ok-clause-made g c = λ buf stop count.
-    made_delete c.args.name.now c.args.actor c.in-Ok.sequence buf _ _ c.in-Ok.ensures.ok refl c.in-Ok.ensures.disk c.in-Ok.ensures.moves c.in-Ok.ensures.same c.in-Ok.ensures.frame c.in-Ok.ensures.durable refl
+    made_delete c.args.name.now c.args.actor c.in-Ok.sequence buf _ _ c.in-Ok.ensures.ok refl c.in-Ok.ensures.disk c.in-Ok.ensures.moves c.in-Ok.ensures.same c.in-Ok.ensures.frame
+    c.in-Ok.ensures.durable refl
     (λ served. subst (λ (size : ℕ). HasPlaces size c.args.self.now.index) (sym c.in-Ok.ensures.disk.later.size_is) served)

@@ -9,7 +9,8 @@ returns-in_err-fresh-clause-made g c =
     rw (p.1, p.2, c.in_err-fresh.ensures.refused) (λ bytes stop count. seal_without_memory c.args.filled.now c.args.actor bytes _ c.mark_container.new.collection stop count)
 
 pub returns-in_err-fresh-clause-collects : goal.returns-in_err-fresh-clause-collects
-returns-in_err-fresh-clause-collects g c = seal_refused c.args.filled.now c.from_residual.result c.args.self.now.collection c.mark_container.new.collection c.from_residual.ensures.0 c.in_err-fresh.ensures.kept
+returns-in_err-fresh-clause-collects g c = seal_refused c.args.filled.now c.from_residual.result c.args.self.now.collection c.mark_container.new.collection
+    c.from_residual.ensures.0 c.in_err-fresh.ensures.kept
 
 pub returns-clause-made : goal.returns-clause-made
 returns-clause-made g c = λ bytes stop count.

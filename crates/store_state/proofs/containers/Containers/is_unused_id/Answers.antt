@@ -10,4 +10,5 @@ returns-clause-unused c = λ held are none.
 
 pub returns-clause-used : goal.returns-clause-used
 returns-clause-used c = λ held are some.
-    used_by c.args.id held c.requires (ap (list_any (λ used. used == c.args.id)) (sym (c.deref.ensures.value ∙ are.ids)) ∙ sym c.contains.ensures.value ∙ is_true c.contains.result some)
+    used_by c.args.id held c.requires (ap (list_any (λ used. used == c.args.id)) (sym (c.deref.ensures.value ∙ are.ids)) ∙ sym c.contains.ensures.value
+    ∙ is_true c.contains.result some)

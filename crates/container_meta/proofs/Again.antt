@@ -1,26 +1,15 @@
 -- What is spelled is read again.
-use Rattle.std.proofs.Common.{◌≡◌, ℕ, zero, suc, ◌+◌, ◌-◌, ◌*◌, ◌^◌, ◌≤◌, Bool, true, false, List, [], ◌∷◌, ◌++◌, length, Option, Some, Ok, refl, sym, ap, ◌∙◌, arith, append_assoc, length-append, eq-eqb}
-use Rattle.std.specs.Prelude.{◌==◌, nat_le, is_some, unwrap_or, if◌then◌else◌}
-use Rattle.std.specs.Int.{w32, w64}
-use Rattle.std.proofs.lemmas.Bool.{le-leb, leb-true}
+use Rattle.container_meta.proofs.Prelude.{◌≡◌, ℕ, zero, suc, ◌+◌, ◌-◌, ◌*◌, ◌^◌, ◌≤◌, true, false, List, [], ◌∷◌, ◌++◌, length, Some, Ok, refl, sym, ap, ◌∙◌, arith, append_assoc, length-append, eq-eqb, ◌==◌, nat_le, is_some, unwrap_or, w32, w64, le-leb, leb-true, append-nil, sum_by-append, bytes_eq-Decides, sha256, byte_at, checked, passes, AllHold, both, both_true, range-range, range-first, range-second, range-whole, CONTAINER_GATE, DATA_BYTES, HEADER_BYTES, MOST_ENTRIES, Kind, Leaf, Entry, magic, kind_of, is_id, is_count, is_length, is_level, entry_place, HeaderValue, IsNext, Follow, IsHeader, bytes_of, has_digest, header_spelling, next_read, opening_checks, digest_checks, field_checks, entry_checks, end_checks, count_at, kind_at, digest_at, entry_at, is_end, zeros_in_front}
+use Rattle.std.proofs.Common.{Bool, Option}
+use Rattle.std.specs.Prelude.{if◌then◌else◌}
 use Rattle.std.proofs.Math.Dec.{eqb-suc-zero}
-use Rattle.std.proofs.lemmas.List.{append-nil}
-use Rattle.std.proofs.lemmas.List.Sums.{sum_by-append}
-use Rattle.std.proofs.lemmas.Slice.Eq.{bytes_eq-Decides}
-use Rattle.sha2.specs.Sha256.{sha256}
-use Rattle.base_model.specs.Bytes.{range, byte_at, zeros}
-use Rattle.base_model.specs.Checks.{checked, passes}
+use Rattle.base_model.specs.Bytes.{range, zeros}
 use Rattle.base_model.specs.Numbers.{number_at, seven_at}
-use Rattle.base_model.proofs.Checks.{AllHold, checked_all, then_step, both, both_true, not_false}
+use Rattle.base_model.proofs.Checks.{checked_all, then_step, not_false}
 use Rattle.base_model.proofs.Numbers.{number_2, number_4, number_8}
-use Rattle.base_model.proofs.Ranges.{range-range, range-first, range-second, range-whole}
-use Rattle.disk_format.specs.declared.numbers.TheConstants.{CONTAINER_GATE, DATA_BYTES, HEADER_BYTES, MOST_ENTRIES}
-use Rattle.container_meta.specs.declared.kind.Kind.{Kind}
-use Rattle.container_meta.specs.declared.kind.Kind.TheVariants.{Leaf}
-use Rattle.container_meta.specs.declared.entry.Entry.{Entry}
-use Rattle.container_meta.specs.Format.{magic, kind_of, is_id, is_count, is_data_length, is_length, is_level, entry_place}
-use Rattle.container_meta.specs.Spelling.{HeaderValue, IsNext, Follow, IsHeader, bytes_of, has_digest, entry_spelling, entries_spelling, fields_spelling, header_spelling}
-use Rattle.container_meta.specs.Reading.{next_read, opening_checks, digest_checks, field_checks, entry_checks, end_checks, count_at, kind_at, digest_at, entry_at, is_end, zeros_in_front, zeros_end, entries_at, header_at}
+use Rattle.container_meta.specs.Format.{is_data_length}
+use Rattle.container_meta.specs.Spelling.{entry_spelling, entries_spelling, fields_spelling}
+use Rattle.container_meta.specs.Reading.{zeros_end, entries_at, header_at}
 use Rattle.container_meta.proofs.Lists.{zeros_in_front-zeros}
 use Rattle.container_meta.proofs.Spelled.{entries_spelling-cons, bytes_of-push}
 use Rattle.container_meta.proofs.Numbers.{length-entry_spelling, entry_again}

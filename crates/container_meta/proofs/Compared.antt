@@ -1,12 +1,8 @@
 -- Whether a segment is another one, by level, digest and bytes.
-use Rattle.std.proofs.Common.{◌≡◌, ◌≢◌, false, ap, sym, ◌∙◌, eq-eqb, inl, inr}
-use Rattle.std.proofs.lemmas.Bool.{cases_Bool, ne_eqb}
-use Rattle.std.proofs.lemmas.Slice.Eq.{bytes_eq-Decides}
-use Rattle.std.specs.Prelude.{◌==◌}
-use Rattle.std.specs.Str.{bytes_eq}
-use Rattle.sha2.specs.Sha256.{sha256}
-use Rattle.base_model.proofs.Checks.{both, unequal}
-use Rattle.container_meta.specs.Segments.{Segment, is_segment}
+use Rattle.container_meta.proofs.Prelude.{◌≡◌, false, ap, sym, ◌∙◌, eq-eqb, inl, inr, ne_eqb, bytes_eq-Decides, ◌==◌, bytes_eq, sha256, both, Segment, is_segment}
+use Rattle.std.proofs.Common.{◌≢◌}
+use Rattle.std.proofs.lemmas.Bool.{cases_Bool}
+use Rattle.base_model.proofs.Checks.{unequal}
 use Rattle.container_meta.proofs.Packing.{chosen_by, refused_by}
 
 -- of one level, they are one where their bytes are

@@ -1,12 +1,6 @@
 -- A segment of an open container, by its number.
-use Rattle.std.proofs.Common.{◌≡◌, ℕ, zero, suc, ◌+◌, ◌<◌, ◌≤◌, List, [], ◌∷◌, ◌++◌, length, take, drop, get_or, refl, sym, ap, subst, ◌∙◌, arith, length-append}
-use Rattle.std.proofs.lemmas.List.{take_at}
+use Rattle.container_meta.proofs.Prelude.{◌≡◌, ℕ, zero, suc, ◌+◌, ◌<◌, ◌≤◌, List, [], ◌∷◌, ◌++◌, length, take, drop, get_or, refl, sym, ap, subst, ◌∙◌, arith, length-append, take_at, flat_map-cons, sha256, Entry, Segment, data_of, entries_from, segment_at, segments_in, bytes_of}
 use Rattle.std.proofs.Math.Seq.{drop-append-add}
-use Rattle.std.proofs.lemmas.List.Concat.{flat_map-cons}
-use Rattle.sha2.specs.Sha256.{sha256}
-use Rattle.container_meta.specs.declared.entry.Entry.{Entry}
-use Rattle.container_meta.specs.Segments.{Segment, data_of, entries_from, segment_at, segments_in}
-use Rattle.container_meta.specs.Spelling.{bytes_of}
 use Rattle.container_meta.proofs.Packing.{data-segments_in}
 
 -- an entry is that of a segment, whose bytes it cuts from data that begins at an offset

@@ -1,10 +1,8 @@
 -- A header that was read says its digest.
-use Rattle.std.proofs.Common.{◌≡◌, ℕ, List, length, Result, Ok, Err, IfOk, ◌∙◌}
+use Rattle.container_meta.proofs.Prelude.{◌≡◌, ℕ, List, length, Result, Ok, Err, ◌∙◌, Entry, Header, MetaFault, HeaderValue, IsHeader, header_spelling, with_entries}
+use Rattle.std.proofs.Common.{IfOk}
 use Rattle.base_model.specs.Bytes.{range}
-use Rattle.container_meta.specs.declared.entry.Entry.{Entry}
-use Rattle.container_meta.specs.declared.entry.Header.{Header}
-use Rattle.container_meta.specs.declared.fault.MetaFault.{MetaFault}
-use Rattle.container_meta.specs.Spelling.{HeaderValue, IsHeader, IsSpelled, header_digest, header_spelling, with_entries}
+use Rattle.container_meta.specs.Spelling.{IsSpelled, header_digest}
 use Rattle.container_meta.proofs.Again.{small_count}
 use Rattle.container_meta.proofs.Parts.{parts_of_spelling}
 

@@ -1,18 +1,10 @@
 -- A container as it is written.
-use Rattle.std.proofs.Common.{◌≡◌, ℕ, ◌+◌, ◌-◌, ◌*◌, ◌≤◌, true, List, [], ◌∷◌, ◌++◌, length, take, Some, refl, sym, ap, subst, ◌∙◌, arith, append_assoc}
+use Rattle.container_meta.proofs.Prelude.{◌≡◌, ℕ, ◌+◌, ◌-◌, ◌*◌, ◌≤◌, true, List, [], ◌∷◌, ◌++◌, length, take, Some, refl, sym, ap, subst, ◌∙◌, arith, append_assoc, nat_le, ◌==◌, le-leb, leb-true, eqb-true, take_at, sha256, DATA_BYTES, MOST_ENTRIES, Kind, Leaf, Entry, kind_byte, kind_of, is_id, is_length, Segment, bytes_in, entries_from, segments_in, bytes_of, Follow, IsHeader, header_of, container_spelling, both, both_true}
 use Rattle.base_model.specs.Bytes.{zeros}
-use Rattle.std.specs.Prelude.{nat_le, ◌==◌}
-use Rattle.std.proofs.lemmas.Bool.{le-leb, leb-true, eqb-true}
-use Rattle.std.proofs.lemmas.List.{take_at}
-use Rattle.sha2.specs.Sha256.{sha256}
-use Rattle.disk_format.specs.declared.numbers.TheConstants.{DATA_BYTES, MOST_ENTRIES, MOST_SEGMENT, MOST_CHILDREN}
-use Rattle.container_meta.specs.declared.kind.Kind.{Kind}
-use Rattle.container_meta.specs.declared.kind.Kind.TheVariants.{Leaf, Tree}
-use Rattle.container_meta.specs.declared.entry.Entry.{Entry}
-use Rattle.container_meta.specs.Format.{kind_byte, kind_of, is_id, is_within, is_length, child_count}
-use Rattle.container_meta.specs.Segments.{Segment, bytes_in, entries_from, segments_in}
-use Rattle.container_meta.specs.Spelling.{bytes_of, Follow, IsHeader, entries_spelling, fields_spelling, front_spelling, header_digest, header_of, container_spelling}
-use Rattle.base_model.proofs.Checks.{both, both_true}
+use Rattle.disk_format.specs.declared.numbers.TheConstants.{MOST_SEGMENT, MOST_CHILDREN}
+use Rattle.container_meta.specs.declared.kind.Kind.TheVariants.{Tree}
+use Rattle.container_meta.specs.Format.{is_within, child_count}
+use Rattle.container_meta.specs.Spelling.{entries_spelling, fields_spelling, front_spelling, header_digest}
 use Rattle.container_meta.proofs.Parts.{length-entries_spelling}
 use Rattle.container_meta.proofs.Packing.{bytes_of-cons, data-segments_in, bytes_in-segments_in}
 

@@ -1,11 +1,7 @@
 -- Reading entries one after the other, as a loop does.
-use Rattle.std.proofs.Common.{◌≡◌, ℕ, suc, ◌+◌, ◌-◌, ◌≤◌, ◌<◌, List, [], ◌∷◌, ◌++◌, Result, Ok, Err, sym, ap, ◌∙◌, arith}
-use Rattle.base_model.specs.Checks.{◌>>=◌}
-use Rattle.container_meta.specs.declared.kind.Kind.{Kind}
-use Rattle.container_meta.specs.declared.entry.Entry.{Entry}
-use Rattle.container_meta.specs.declared.fault.MetaFault.{MetaFault}
+use Rattle.container_meta.proofs.Prelude.{◌≡◌, ℕ, suc, ◌+◌, ◌-◌, ◌≤◌, ◌<◌, List, [], ◌∷◌, ◌++◌, Result, Ok, Err, sym, ap, ◌∙◌, arith, ◌>>=◌, Kind, Entry, MetaFault, next_read}
 use Rattle.container_meta.specs.declared.fault.MetaFault.TheVariants.{Gate, Magic, Field, Digest, Memory}
-use Rattle.container_meta.specs.Reading.{Fails, next_read, entries_at}
+use Rattle.container_meta.specs.Reading.{Fails, entries_at}
 
 pub fails_so : {Y : Type 0} (e : MetaFault) (read : Result Y MetaFault) → read ≡ Err e → Fails e read
 fails_so Memory read h = tt

@@ -1,27 +1,13 @@
 -- What is read has the bytes as its spelling.
-use Rattle.std.proofs.Common.{◌≡◌, ℕ, zero, suc, ◌+◌, ◌-◌, ◌*◌, ◌≤◌, ◌<◌, true, List, [], ◌∷◌, ◌++◌, length, Some, Result, Ok, Err, refl, sym, ap, subst, ◌∙◌, arith, append_assoc, length-append, inl, inr}
-use Rattle.std.specs.Prelude.{◌==◌, nat_le, is_some, unwrap_or, IfOk}
-use Rattle.std.specs.Str.{bytes_eq}
-use Rattle.std.specs.Int.{w16, w32, w64, to_be_bytes}
-use Rattle.std.proofs.lemmas.Bool.{cases_lt, eqb-true, leb-true}
-use Rattle.std.proofs.lemmas.List.{append-nil, nil_from_length}
-use Rattle.std.proofs.lemmas.Slice.Eq.{bytes_eq-Decides}
-use Rattle.sha2.specs.Sha256.{sha256}
-use Rattle.base_model.specs.Bytes.{range, byte_at, zeros}
-use Rattle.base_model.specs.Checks.{Check, checked, passes, ◌>>=◌}
+use Rattle.container_meta.proofs.Prelude.{◌≡◌, ℕ, zero, suc, ◌+◌, ◌-◌, ◌*◌, ◌≤◌, ◌<◌, true, List, [], ◌∷◌, ◌++◌, length, Some, Result, Ok, Err, refl, sym, ap, subst, ◌∙◌, arith, append_assoc, length-append, inl, inr, ◌==◌, nat_le, is_some, unwrap_or, bytes_eq, w16, w32, w64, to_be_bytes, cases_lt, eqb-true, leb-true, append-nil, nil_from_length, bytes_eq-Decides, sha256, byte_at, checked, passes, ◌>>=◌, AllHold, both, IsBytes, spelled_4, length-range, range-join, CONTAINER_GATE, HEADER_BYTES, MOST_ENTRIES, Kind, Leaf, Entry, Header, MetaFault, magic, kind_byte, kind_of, is_count, is_length, entry_place, HeaderValue, with_entries, IsNext, Follow, IsHeader, bytes_of, has_digest, header_spelling, next_read, opening_checks, digest_checks, field_checks, entry_checks, end_checks, count_at, kind_at, digest_at, entry_at, is_end, zeros_in_front}
+use Rattle.std.specs.Prelude.{IfOk}
+use Rattle.base_model.specs.Bytes.{range, zeros}
+use Rattle.base_model.specs.Checks.{Check}
 use Rattle.base_model.specs.Numbers.{number_at, seven_at}
-use Rattle.base_model.proofs.Checks.{AllHold, bind_ok, checked_ok, ok_is, both, not_true}
-use Rattle.base_model.proofs.Numbers.{IsBytes, spelled_2, spelled_4, spelled_8}
-use Rattle.base_model.proofs.Ranges.{length-range, range-join}
-use Rattle.disk_format.specs.declared.numbers.TheConstants.{CONTAINER_GATE, HEADER_BYTES, MOST_ENTRIES}
-use Rattle.container_meta.specs.declared.kind.Kind.{Kind}
-use Rattle.container_meta.specs.declared.kind.Kind.TheVariants.{Leaf}
-use Rattle.container_meta.specs.declared.entry.Entry.{Entry}
-use Rattle.container_meta.specs.declared.entry.Header.{Header}
-use Rattle.container_meta.specs.declared.fault.MetaFault.{MetaFault}
-use Rattle.container_meta.specs.Format.{magic, kind_byte, kind_of, is_count, is_length, entry_place}
-use Rattle.container_meta.specs.Spelling.{HeaderValue, with_entries, IsNext, Follow, IsHeader, bytes_of, has_digest, entry_spelling, entries_spelling, fields_spelling, header_spelling}
-use Rattle.container_meta.specs.Reading.{next_read, decoded, opening_checks, digest_checks, field_checks, entry_checks, end_checks, count_at, kind_at, digest_at, entry_at, is_end, zeros_in_front, zeros_end, entries_at, header_at}
+use Rattle.base_model.proofs.Checks.{bind_ok, checked_ok, ok_is, not_true}
+use Rattle.base_model.proofs.Numbers.{spelled_2, spelled_8}
+use Rattle.container_meta.specs.Spelling.{entry_spelling, entries_spelling, fields_spelling}
+use Rattle.container_meta.specs.Reading.{decoded, zeros_end, entries_at, header_at}
 use Rattle.container_meta.proofs.Lists.{all_zeros}
 use Rattle.container_meta.proofs.Spelled.{entries_spelling-nil, entries_spelling-cons, bytes_of-push}
 use Rattle.container_meta.proofs.Numbers.{entry_spelled}

@@ -1,4 +1,5 @@
 pub mod Lists
+mod Prelude
 pub mod Spelled
 pub mod Entries
 pub mod Numbers

@@ -1,11 +1,10 @@
 -- Zeros, and lists that are written from the front on.
-use Rattle.std.proofs.Common.{◌≡◌, ℕ, zero, suc, ◌+◌, ◌-◌, ◌≤◌, Bool, true, false, cond, eqb, List, [], ◌∷◌, ◌++◌, length, take, drop, replicate, refl, sym, ap, ◌∙◌, arith}
-use Rattle.std.proofs.lemmas.List.{length-replicate, take_all, length-take, length-drop}
+use Rattle.container_meta.proofs.Prelude.{◌≡◌, ℕ, zero, suc, ◌+◌, ◌-◌, ◌≤◌, true, false, cond, List, [], ◌∷◌, ◌++◌, length, take, drop, refl, sym, ap, ◌∙◌, arith, take_all, length-take, eqb-true, zeros_in_front}
+use Rattle.std.proofs.Common.{Bool, eqb, replicate}
+use Rattle.std.proofs.lemmas.List.{length-replicate, length-drop}
 use Rattle.std.proofs.lemmas.Slice.{take-put_mid}
 use borrow.Rule.Slice.PartMut.{put_mid}
-use Rattle.std.proofs.lemmas.Bool.{eqb-true}
 use Rattle.base_model.specs.Bytes.{zeros}
-use Rattle.container_meta.specs.Reading.{zeros_in_front}
 
 zeros_step : (b : Bool) (n m : ℕ) → n ≤ m → cond b (suc n) 0 ≤ suc m
 zeros_step true n m h = omega arith

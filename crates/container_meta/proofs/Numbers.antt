@@ -1,14 +1,11 @@
 -- Numbers and entries, as read and as spelled.
-use Rattle.std.proofs.Common.{◌≡◌, ℕ, zero, suc, ◌+◌, ◌^◌, ◌≤◌, ◌<◌, List, [], ◌∷◌, ◌++◌, length, drop, get_or, refl, sym, ap, ◌∙◌, arith, append_assoc, length-append}
-use Rattle.std.specs.Int.{w32, w64, to_be_bytes, from_be_bytes}
+use Rattle.container_meta.proofs.Prelude.{◌≡◌, ℕ, zero, suc, ◌+◌, ◌^◌, ◌≤◌, ◌<◌, List, [], ◌∷◌, ◌++◌, length, drop, get_or, refl, sym, ap, ◌∙◌, arith, append_assoc, length-append, w32, w64, to_be_bytes, byte_at, IsBytes, spelled_4, length-range, range-range, range-join, range-first, range-second, range-one, range-whole, length-zeros, Entry, entry_at}
+use Rattle.std.specs.Int.{from_be_bytes}
 use Rattle.std.proofs.lemmas.Nat.{be_bytes_8, from_be_bytes-to_be_bytes_4}
-use Rattle.base_model.specs.Bytes.{range, byte_at, zeros}
+use Rattle.base_model.specs.Bytes.{range, zeros}
 use Rattle.base_model.specs.Numbers.{number_at, seven_at}
-use Rattle.base_model.proofs.Numbers.{IsBytes, IsBytes-range, spelled_4}
-use Rattle.base_model.proofs.Ranges.{length-range, range-range, range-join, range-first, range-second, range-one, range-whole, length-zeros}
-use Rattle.container_meta.specs.declared.entry.Entry.{Entry}
+use Rattle.base_model.proofs.Numbers.{IsBytes-range}
 use Rattle.container_meta.specs.Spelling.{entry_spelling}
-use Rattle.container_meta.specs.Reading.{entry_at}
 
 IsBytes-cons : (bytes : List ℕ) → IsBytes bytes → IsBytes (0 ∷ bytes)
 IsBytes-cons bytes h zero = omega arith

@@ -1,21 +1,10 @@
 -- Segments that are kept as entries and one list of bytes.
-use Rattle.std.proofs.Common.{inl, inr, ◌≡◌, ℕ, suc, ◌+◌, ◌-◌, ◌≤◌, ◌<◌, Bool, true, false, List, [], ◌∷◌, ◌++◌, length, take, drop, get_or, map, refl, sym, ap, subst, ◌∙◌, arith, append_assoc, length-append, length-drop, drop-cons, eq-eqb}
-use Rattle.std.specs.Prelude.{◌==◌, ◌&&◌, ◌||◌, nat_lt, nat_le}
-use Rattle.std.specs.List.{list_any}
-use Rattle.std.specs.Str.{bytes_eq}
-use Rattle.std.proofs.lemmas.Bool.{cases_lt, lt-leb, le-leb, leb-true, le-ltb, lt-ltb, ltb-true}
-use Rattle.std.proofs.lemmas.List.{append-nil, length-take, take-append-le, drop-append-le, take-append-drop, take_all, nil_from_length}
-use Rattle.std.proofs.lemmas.List.Sums.{sum_by-append}
-use Rattle.std.proofs.lemmas.List.Concat.{flat_map-cons}
-use Rattle.sha2.specs.Sha256.{sha256}
-use Rattle.sha2.proofs.Facts256.{length-sha256}
-use Rattle.disk_format.specs.declared.numbers.TheConstants.{DATA_BYTES, MOST_ENTRIES}
-use Rattle.container_meta.specs.declared.kind.Kind.{Kind}
-use Rattle.container_meta.specs.declared.entry.Entry.{Entry}
-use Rattle.container_meta.specs.Format.{kind_byte, is_length, is_level}
-use Rattle.container_meta.specs.Segments.{Segment, KindSegment, Contents, segment_key, has_key, bytes_in, data_of, entries_from, segments_in, CanAdd, has_room}
-use Rattle.container_meta.specs.Spelling.{bytes_of, has_digest, IsNext, Follow}
-use Rattle.base_model.proofs.Checks.{both}
+use Rattle.container_meta.proofs.Prelude.{inl, inr, ◌≡◌, ℕ, suc, ◌+◌, ◌-◌, ◌≤◌, ◌<◌, true, false, List, [], ◌∷◌, ◌++◌, length, take, drop, get_or, map, refl, sym, ap, subst, ◌∙◌, arith, append_assoc, length-append, eq-eqb, ◌==◌, ◌||◌, nat_le, list_any, bytes_eq, cases_lt, le-leb, leb-true, append-nil, length-take, take_all, nil_from_length, sum_by-append, flat_map-cons, sha256, length-sha256, DATA_BYTES, MOST_ENTRIES, Kind, Entry, kind_byte, is_length, is_level, Segment, Contents, bytes_in, data_of, entries_from, segments_in, CanAdd, bytes_of, has_digest, IsNext, Follow, both}
+use Rattle.std.proofs.Common.{Bool, length-drop, drop-cons}
+use Rattle.std.specs.Prelude.{◌&&◌, nat_lt}
+use Rattle.std.proofs.lemmas.Bool.{lt-leb, le-ltb, lt-ltb, ltb-true}
+use Rattle.std.proofs.lemmas.List.{take-append-le, drop-append-le, take-append-drop}
+use Rattle.container_meta.specs.Segments.{KindSegment, segment_key, has_key, has_room}
 use Rattle.container_meta.proofs.Spelled.{bytes_of-push}
 
 pub length-segments_in : (es : List Entry) (bytes : List ℕ) → length (segments_in es bytes) ≡ length es

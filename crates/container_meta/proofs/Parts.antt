@@ -1,16 +1,8 @@
 -- A header has its spelling where its parts stand in their places.
-use Rattle.std.proofs.Common.{◌≡◌, ℕ, suc, ◌+◌, ◌-◌, ◌*◌, ◌≤◌, List, [], ◌∷◌, ◌++◌, length, get_or, refl, sym, ap, ◌∙◌, arith, length-append}
-use Rattle.std.specs.Int.{w16, w32, w64, to_be_bytes}
-use Rattle.std.proofs.lemmas.List.{take_all}
-use Rattle.sha2.specs.Sha256.{sha256}
-use Rattle.sha2.proofs.Facts256.{length-sha256}
-use Rattle.base_model.specs.Bytes.{range, byte_at, zeros}
-use Rattle.base_model.proofs.Ranges.{range-range, byte-range, range-join, range-first, range-second, range-one, range-whole, length-zeros}
-use Rattle.disk_format.specs.declared.numbers.TheConstants.{CONTAINER_GATE, HEADER_BYTES, MOST_ENTRIES}
-use Rattle.container_meta.specs.declared.kind.Kind.{Kind}
-use Rattle.container_meta.specs.declared.entry.Entry.{Entry}
-use Rattle.container_meta.specs.Format.{magic, kind_byte}
-use Rattle.container_meta.specs.Spelling.{HeaderValue, entry_spelling, entries_spelling, fields_spelling, front_spelling, header_spelling, Follow}
+use Rattle.container_meta.proofs.Prelude.{◌≡◌, ℕ, suc, ◌+◌, ◌-◌, ◌*◌, ◌≤◌, List, [], ◌∷◌, ◌++◌, length, get_or, refl, sym, ap, ◌∙◌, arith, length-append, w16, w32, w64, to_be_bytes, take_all, sha256, length-sha256, byte_at, range-range, range-join, range-first, range-second, range-one, range-whole, length-zeros, CONTAINER_GATE, HEADER_BYTES, MOST_ENTRIES, Kind, Entry, magic, kind_byte, HeaderValue, header_spelling, Follow}
+use Rattle.base_model.specs.Bytes.{range, zeros}
+use Rattle.base_model.proofs.Ranges.{byte-range}
+use Rattle.container_meta.specs.Spelling.{entry_spelling, entries_spelling, fields_spelling, front_spelling}
 use Rattle.container_meta.proofs.Spelled.{entries_spelling-nil, entries_spelling-cons, length-fields_spelling}
 use Rattle.container_meta.proofs.Numbers.{length-entry_spelling}
 

@@ -1,14 +1,9 @@
 -- Segments stand in their container where their entries say.
-use Rattle.std.proofs.Common.{◌≡◌, ℕ, ◌+◌, ◌-◌, ◌*◌, ◌≤◌, List, [], ◌∷◌, ◌++◌, length, refl, ap, ◌∙◌, arith, append_assoc, length-append}
-use Rattle.std.proofs.lemmas.List.Concat.{flat_map-cons, length-flat_map}
-use Rattle.sha2.specs.Sha256.{sha256}
-use Rattle.sha2.proofs.Facts256.{length-sha256}
+use Rattle.container_meta.proofs.Prelude.{◌≡◌, ℕ, ◌+◌, ◌-◌, ◌*◌, ◌≤◌, List, [], ◌∷◌, ◌++◌, length, refl, ap, ◌∙◌, arith, append_assoc, length-append, flat_map-cons, sha256, length-sha256, range-first, range-second, range-whole, length-zeros, CONTAINER_GATE, DATA_BYTES, HEADER_BYTES, MOST_ENTRIES, Kind, Segment, bytes_in, data_of, StandFrom, HeaderValue, IsHeader, header_spelling, header_of, container_spelling}
+use Rattle.std.proofs.lemmas.List.Concat.{length-flat_map}
 use Rattle.base_model.specs.Bytes.{range, zeros}
-use Rattle.base_model.proofs.Ranges.{range-first, range-second, range-whole, length-zeros}
-use Rattle.disk_format.specs.declared.numbers.TheConstants.{CONTAINER_GATE, DATA_BYTES, HEADER_BYTES, MOST_ENTRIES, SLOT_BYTES}
-use Rattle.container_meta.specs.declared.kind.Kind.{Kind}
-use Rattle.container_meta.specs.Segments.{Segment, bytes_in, data_of, StandFrom}
-use Rattle.container_meta.specs.Spelling.{HeaderValue, IsHeader, entries_spelling, fields_spelling, front_spelling, header_spelling, header_of, container_spelling}
+use Rattle.disk_format.specs.declared.numbers.TheConstants.{SLOT_BYTES}
+use Rattle.container_meta.specs.Spelling.{entries_spelling, fields_spelling, front_spelling}
 use Rattle.container_meta.proofs.Spelled.{length-fields_spelling}
 use Rattle.container_meta.proofs.Parts.{length-entries_spelling}
 use Rattle.container_meta.proofs.Again.{small_count}

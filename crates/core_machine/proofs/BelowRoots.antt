@@ -1,36 +1,20 @@
 -- What actors need that read, and what lies below the roots of a collection: the tree of a file that is read goes from nodes to their children,
 -- and each key of it, as each that the files need, lies below a root.
-use Rattle.std.proofs.Common.{◌≡◌, ℕ, List, Some, ◌∙◌, sym, ap, subst, get_or}
-use Rattle.std.specs.List.{All, AllByRecursion, Contains}
-use Rattle.std.proofs.lemmas.List.Elements.{Contains-get_or}
+use Rattle.core_machine.proofs.Prelude.{◌≡◌, ℕ, List, Some, ◌∙◌, sym, ap, subst, AllByRecursion, Contains-get_or, Reader, LiveKeys, child_keys, IsLive, HoldsNode, IsPartKey, IsRoot, root_there, root_whole, IsTree, Stored, Store, names_of, root_key, IsReachable, tree_keys, HasKey, file_tree, node_key, right_file, root_of_tree, IsAt, CoreState, IsBelowLive}
+use Rattle.std.proofs.Common.{get_or}
+use Rattle.std.specs.List.{All, Contains}
 use Rattle.actor_parts.specs.declared.part.Part.TheVariants as core
-use Rattle.actor_parts.specs.declared.part.Reader.{Reader}
-use Rattle.gc_enumerate.specs.Live.{LiveKeys}
-use Rattle.gc_enumerate.specs.Scanning.{child_keys}
-use Rattle.gc_sweep.specs.Holding.{IsLive}
-use Rattle.gc_steps.specs.LiveTrees.{HoldsNode}
-use Rattle.gc_steps.specs.Roots.{IsPartKey, IsRoot}
 use Rattle.gc_steps.proofs.FileKeys.{key_of_root, tree_closed}
 use Rattle.gc_steps.proofs.Needed.{closed_tree}
 use Rattle.gc_steps.proofs.NeededKeys.{reachable_has}
 use Rattle.gc_steps.proofs.ReaderNeeds.{tree_root}
-use Rattle.gc_steps.proofs.RootTrees.{root_there, top_of}
-use Rattle.gc_steps.proofs.Started.{root_whole}
+use Rattle.gc_steps.proofs.RootTrees.{top_of}
 use Rattle.merkle_file.specs.Node as node
 use Rattle.merkle_file.specs.Tree as tree
-use Rattle.merkle_file.specs.Walk.{IsTree, trees_in}
-use Rattle.store_model.specs.Files.{Stored}
-use Rattle.store_model.specs.Image.{Store, names_of}
-use Rattle.store_model.specs.Refusals.{root_key}
-use Rattle.store_model.specs.Reserve.{IsReachable, tree_keys}
-use Rattle.store_model.specs.Slots.{Copy, HasKey}
+use Rattle.merkle_file.specs.Walk.{trees_in}
+use Rattle.store_model.specs.Slots.{Copy}
 use Rattle.store_model.specs.Standing.{IsStoreOf}
-use Rattle.store_model.specs.Trees.{file_tree, node_key}
-use Rattle.store_model.proofs.Unfolding.{right_file, root_of_tree}
-use Rattle.store_core.specs.Runs.{IsAt}
-use Rattle.store_core.specs.State.{CoreState}
 use Rattle.core_machine.specs.Files.{Takes}
-use Rattle.core_machine.specs.Lives.{IsBelowLive}
 use Rattle.core_machine.proofs.CollectNeeds.{needs_here}
 
 -- ---- a file that is read

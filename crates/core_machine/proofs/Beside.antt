@@ -1,29 +1,12 @@
 -- A container of a later id in a closed slot leaves what a collection that runs has of the table.
-use Rattle.std.proofs.Common.{◌≡◌, ◌≢◌, ℕ, ◌+◌, ◌-◌, ◌*◌, ◌<◌, ◌≤◌, Bool, List, [], ◌∷◌, length, get_or, Option, Some, None, sym, ◌∙◌, ap, refl, arith}
-use Rattle.std.specs.List.{AllByRecursion}
-use Rattle.std.proofs.lemmas.List.{get_or-set_other}
-use Rattle.disk_format.specs.Cells.{Root}
-use Rattle.container_meta.specs.Spelling.{HeaderValue}
+use Rattle.core_machine.proofs.Prelude.{◌≡◌, ◌≢◌, ℕ, ◌+◌, ◌-◌, ◌*◌, ◌<◌, ◌≤◌, Bool, List, [], ◌∷◌, length, Option, Some, None, sym, ◌∙◌, ap, refl, arith, AllByRecursion, get_or-set_other, Root, HeaderValue, StoreChange, as_many, all_first, IsFirstFree, RepresentsSlots, count_of, SlotTable, CoreSweep, IsSweeping, IsTaken, sources_before, old_not_zero, CoreCollection, CoreStage, trees_from, HasStage, IsUnderWay, Phase, IsUnderWayIn, sources_in, Marking, Recording, Sweeping, SameCollection, SameStage, SameSweep, ids_at}
+use Rattle.std.proofs.Common.{get_or}
 use Rattle.store_model.specs.Slots.{with_slot}
-use Rattle.store_model.specs.Steps.{StoreChange}
-use Rattle.store_model.proofs.Free.{as_many}
-use Rattle.store_model.proofs.HeldTrees.{all_first, all_second}
-use Rattle.store_state.specs.Tables.{IsFirstFree, RepresentsSlots, count_of}
-use Rattle.store_state.specs.declared.slot_table.SlotTable.{SlotTable}
-use Rattle.gc_sweep.specs.declared.sweep.Sweep.{Sweep as CoreSweep}
-use Rattle.gc_sweep.specs.UnderWay.{IsSweeping, IsTaken, sources_before}
-use Rattle.gc_sweep.proofs.Taken.{counts_set, ids_set, old_not_zero, slot_closed}
-use Rattle.gc_steps.specs.declared.collection.Collection.{Collection as CoreCollection}
-use Rattle.gc_steps.specs.declared.collection.Stage.{Stage as CoreStage}
+use Rattle.store_model.proofs.HeldTrees.{all_second}
+use Rattle.gc_sweep.proofs.Taken.{counts_set, ids_set, slot_closed}
 use Rattle.gc_steps.specs.declared.collection.Stage.TheVariants as core
-use Rattle.gc_steps.specs.StepsToCome.{trees_from}
-use Rattle.gc_steps.specs.UnderWay.{HasStage, IsUnderWay}
 use Rattle.gc_steps.proofs.NoNearer.{old_from_same, steps_same}
-use Rattle.refusals.specs.declared.refusal.Phase.{Phase}
-use Rattle.store_core.specs.State.{IsUnderWayIn}
-use Rattle.store_machine.specs.Collecting.{sources_in}
-use Rattle.store_machine.specs.Machine.{Collection, Stage, Marking, Recording, Sweeping, Sweep}
-use Rattle.core_machine.specs.Collections.{SameCollection, SameStage, SameSweep, ids_at}
+use Rattle.store_machine.specs.Machine.{Collection, Stage, Sweep}
 
 module _ (held : List (Option HeaderValue)) (t now : SlotTable) (slot : ℕ) (h : HeaderValue) (free : IsFirstFree slot held) (was : RepresentsSlots held t)
     (is : RepresentsSlots (with_slot slot h held) now) where

@@ -1,21 +1,14 @@
 -- Lists of bytes of which some were written: what of a store is as it was.
-use Rattle.std.proofs.Common.{◌≡◌, ◌≢◌, inl, inr, ◌<◌, ◌≤◌, ◌+◌, ◌-◌, ℕ, Bool, List, length, Option, Some, None, refl, sym, ◌∙◌, subst, arith}
-use Rattle.std.proofs.lemmas.Bool.{cases_lt, lt-ltb}
+use Rattle.core_machine.proofs.Prelude.{◌≡◌, ◌≢◌, inl, inr, ◌<◌, ◌≤◌, ◌+◌, ◌-◌, ℕ, Bool, List, length, Option, Some, None, refl, sym, ◌∙◌, subst, arith, lt-ltb, SameOutside, Known, KnownWith, Both, half_cells, slot_at, SLOT_BYTES, SameButSlotOf, SameBefore, Store, Tables, SameButGate}
+use Rattle.std.proofs.lemmas.Bool.{cases_lt}
 use Rattle.base_model.specs.Bytes.{range}
-use Rattle.base_model.specs.Frames.{SameOutside}
-use Rattle.base_model.specs.Known.{Known, KnownWith}
-use Rattle.dd_disk.specs.Writes.{Both}
-use Rattle.disk_format.specs.Layout.{cell_at, half_cells, slot_at}
-use Rattle.disk_format.specs.declared.numbers.TheConstants.{CELL_BYTES, FIRST_HALF, SLOT_BYTES}
+use Rattle.disk_format.specs.Layout.{cell_at}
+use Rattle.disk_format.specs.declared.numbers.TheConstants.{CELL_BYTES, FIRST_HALF}
 use Rattle.ingest_steps.specs.Recording.{SameButRecord as SameButRecordOf, SameButRecordBy}
-use Rattle.ingest_steps.specs.Sealing.{SameButSlotOf}
 use Rattle.ingest_steps.proofs.RecordFrames.{record_alone}
-use Rattle.segment_index.specs.Changes.{SameBefore}
-use Rattle.store_model.specs.Image.{Store}
-use Rattle.store_state.specs.declared.tables.Tables.{Tables}
 use Rattle.store_model.specs.Steps.{HasCellsFor}
 use Rattle.store_model.proofs.Journaled.{SameButJournal}
-use Rattle.core_machine.specs.Bytes.{SameBut, SameButGate, SameJournal}
+use Rattle.core_machine.specs.Bytes.{SameBut, SameJournal}
 
 pub before_same : (place : ℕ) (bytes : List ℕ) → SameBefore place bytes bytes
 before_same place bytes = record { size = refl; before = λ p n within. refl }

@@ -1,30 +1,12 @@
 -- What a step leaves of the bytes of a disk that tells its content, where a core is at a store: what was only read, what counts, a slot, a record.
-use Rattle.std.proofs.Common.{◌≡◌, inl, inr, ◌<◌, ◌≤◌, ℕ, List, [], ◌∷◌, Some, refl, sym, ◌∙◌, subst, arith}
-use Rattle.std.specs.List.{AllByRecursion}
-use Rattle.base_model.specs.Known.{KnownWith}
-use Rattle.dd_disk.specs.Ending.{Broken, Done, Ending, Refused, Unread}
-use Rattle.dd_disk.specs.View.{IsLater, OnlyReads}
-use Rattle.dd_disk.specs.Writes.{Both}
-use Rattle.disk_format.specs.Cells.{Change}
-use Rattle.container_meta.specs.declared.kind.Kind.{Kind}
+use Rattle.core_machine.proofs.Prelude.{◌≡◌, inl, inr, ◌<◌, ◌≤◌, ℕ, List, [], ◌∷◌, Some, refl, sym, ◌∙◌, subst, arith, AllByRecursion, KnownWith, Broken, Ending, IsLater, OnlyReads, Both, Change, Kind, Segment, segment_key, slot_at, SameButSlotOf, SameBefore, Files, Stored, Encodes, Store, HasFree, first_free, HasNewest, some_free, IsSettled, IsAt, CoreState, data_level, AllHeld, Holds, SameButRecord, SameButSlot, SameStore}
+use Rattle.dd_disk.specs.Ending.{Done, Refused, Unread}
 use Rattle.container_meta.specs.declared.kind.Kind.TheVariants as kinds
-use Rattle.container_meta.specs.Segments.{Contents, Segment, segment_key}
-use Rattle.disk_format.specs.Layout.{slot_at}
+use Rattle.container_meta.specs.Segments.{Contents}
 use Rattle.ingest_steps.specs.Naming.{ChangesJournalAlone}
-use Rattle.ingest_steps.specs.Sealing.{ChangesFirstFree, SameButSlotOf}
-use Rattle.segment_index.specs.Changes.{SameBefore}
+use Rattle.ingest_steps.specs.Sealing.{ChangesFirstFree}
 use Rattle.store_model.specs.Collisions.{Stands}
-use Rattle.store_model.specs.Files.{Files, Stored}
-use Rattle.store_model.specs.Image.{Encodes, Store}
-use Rattle.store_model.specs.Slots.{HasFree, first_free}
-use Rattle.store_model.specs.Trees.{HasNewest}
-use Rattle.store_model.proofs.Free.{some_free}
-use Rattle.store_state.specs.Settled.{IsSettled}
 use Rattle.store_state.specs.Settled as settled
-use Rattle.store_core.specs.Runs.{IsAt}
-use Rattle.store_core.specs.State.{CoreState}
-use Rattle.store_core.proofs.KeepingSegments.{data_level}
-use Rattle.core_machine.specs.Bytes.{AllHeld, Holds, SameButRecord, SameButSlot, SameStore}
 use Rattle.core_machine.proofs.Bytes.{before_same, both_known, but_none, but_record, but_slot, known_weaker}
 
 -- ---- segments that a store holds

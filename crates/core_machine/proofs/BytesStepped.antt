@@ -1,52 +1,20 @@
 -- What each step of a core that stands for files leaves of the bytes of its disk, as the machine of files has it.
 use Rattle.std.specs.Prelude.{IfErr}
-use Rattle.std.proofs.Common.{◌≡◌, ℕ, List, [], ◌∷◌, Option, Some, None, Result, Ok, Err, refl, sym, ◌∙◌, ap, subst}
+use Rattle.core_machine.proofs.Prelude.{◌≡◌, ℕ, List, [], ◌∷◌, Option, Some, None, Result, Ok, Err, refl, sym, ◌∙◌, ap, subst, AllByRecursion, KnownWith, ending_of, OnlyReads, Change, Root, Gone, Put, Answer, IsStep, StepValue, pin_of, HasNewest, KindSegment, segment_at, segment_key, Refusal, ByteSet, IsIn, Store, with_sealed, blames, IsSettled, Represents, Tables, PlaceMap, GcEffect, GcRow, IsNotMade, TouchesBy, ClaimRow, CommitRow, DeleteRow, Effect, NamesOne, Rests, Row, SealRow, SealsOne, Steps, StopsAfter, next_id, FileEvent, IsAt, IsGivenRight, IsNoGcStep, IsHarmless, MayClash, CoreState, running_step, never_damaged, FileMachine, Answers, ByState, LegalBy, RunState, Stopped, RootMachine, of_files, AllHeld, BytesOf, ChangesBytes, Holds, SameButRecord, SameStore, stored_in, answered_by, asked_as, NamesGc, NamesStep}
 use Rattle.std.proofs.lemmas.List.{append-nil}
-use Rattle.std.specs.List.{AllByRecursion}
-use Rattle.base_model.specs.Known.{KnownWith}
-use Rattle.dd_disk.specs.Ending.{Done, ending_of}
-use Rattle.dd_disk.specs.View.{OnlyReads}
-use Rattle.disk_format.specs.Cells.{Change, Root}
-use Rattle.disk_format.specs.Cells.Change.{Delete as Gone, Put}
-use Rattle.actor_parts.specs.declared.step.Answer.{Answer}
+use Rattle.dd_disk.specs.Ending.{Done}
 use Rattle.actor_parts.specs.declared.step.Answer.TheVariants as answers
 use Rattle.actor_parts.specs.StepValue as steps
-use Rattle.actor_parts.specs.StepValue.{IsStep, StepValue}
-use Rattle.actor_parts.specs.Segments.{pin_of}
-use Rattle.store_model.specs.Trees.{HasNewest}
-use Rattle.container_meta.specs.Segments.{Contents, KindSegment, segment_at, segment_key}
+use Rattle.container_meta.specs.Segments.{Contents}
 use Rattle.gc_steps.specs.declared.collection.Collection.{Collection}
-use Rattle.refusals.specs.declared.refusal.Refusal.{Refusal}
 use Rattle.refusals.specs.declared.refusal.Refusal.TheVariants as refusals
-use Rattle.store_model.specs.Collisions.{ByteSet, IsIn}
-use Rattle.store_model.specs.Image.{Store}
-use Rattle.store_model.specs.Steps.{with_sealed}
-use Rattle.store_state.specs.Refused.{blames}
-use Rattle.store_state.specs.Settled.{IsSettled}
-use Rattle.store_state.specs.Tables.{Represents}
-use Rattle.store_state.specs.declared.tables.Tables.{Tables}
-use Rattle.container_meta.specs.Places.{PlaceMap}
-use Rattle.store_core.specs.Collecting.{GcEffect, GcRow, IsNotMade, TouchesBy}
-use Rattle.store_core.specs.Core.{ClaimRow, CommitRow, DeleteRow, Effect, NamesOne, Rests, Row, SealRow, SealsOne, Steps, StopsAfter, next_id}
 use Rattle.store_core.specs.Keeping.{IsHeldIn, kept_by}
-use Rattle.store_core.specs.Runs.{FileEvent, IsAt, IsGivenRight, IsNoGcStep}
-use Rattle.store_core.specs.Sound.{IsHarmless, MayClash}
-use Rattle.store_core.specs.State.{CoreState}
-use Rattle.store_core.proofs.CoreRuns.{running_step}
-use Rattle.store_core.proofs.Damage.{never_damaged}
 use Rattle.store_core.proofs.GcSteps.{end_reads}
 use Rattle.store_core.proofs.KeepingFiles.{may_seal_all}
 use Rattle.store_core.proofs.KeepingSegments.{keeps_segments}
 use Rattle.store_machine.specs.Asked as asked
-use Rattle.store_machine.specs.ByMap.{FileMachine}
-use Rattle.store_machine.specs.Legal.{Answers, ByState, LegalBy}
-use Rattle.store_machine.specs.Machine.{RunState, Stopped}
-use Rattle.store_machine.specs.Remembering.{RootMachine}
-use Rattle.store_machine.specs.Values.{of_files}
-use Rattle.core_machine.specs.Bytes.{AllHeld, BytesOf, ChangesBytes, Holds, OneClashes, SameButRecord, SameStore}
-use Rattle.core_machine.specs.Files.{file_step, stored_in}
-use Rattle.core_machine.specs.Refines.{answered_by, asked_as}
-use Rattle.core_machine.specs.Sweeping.{NamesGc, NamesStep}
+use Rattle.core_machine.specs.Bytes.{OneClashes}
+use Rattle.core_machine.specs.Files.{file_step}
 use Rattle.core_machine.proofs.Bytes.{known_of, known_weaker}
 use Rattle.core_machine.proofs.BytesAt.{IsRest, all_held, reads_told, record_told, rest_told, right_here, slot_told, stands_here, store_told}
 use Rattle.core_machine.proofs.BytesSwept.{broke, refused, swept}

@@ -1,52 +1,23 @@
 -- What a step of a collection leaves of the bytes: all before the end of the slots, but for the slot that it writes copies to, or the gate of a
 -- container that it gives back.
-use Rattle.std.specs.Prelude.{count_by, map, ◌==◌}
-use Rattle.std.proofs.Common.{◌≡◌, inl, inr, ◌+◌, ◌<◌, ◌≤◌, ℕ, suc, List, [], Some, None, refl, ◌∙◌, ap, subst, arith}
-use Rattle.std.specs.List.{AllByRecursion}
-use Rattle.base_model.specs.Frames.{SameOutside}
-use Rattle.base_model.specs.Known.{KnownWith}
-use Rattle.container_meta.specs.Segments.{Contents, segment_key}
-use Rattle.dd_disk.specs.Ending.{Broken, Done, Ending, ending_of}
-use Rattle.dd_disk.specs.View.{OnlyReads}
-use Rattle.disk_format.specs.Layout.{slot_at}
-use Rattle.disk_format.specs.declared.numbers.TheConstants.{RESERVE}
+use Rattle.core_machine.proofs.Prelude.{◌==◌, ◌≡◌, inl, inr, ◌+◌, ◌<◌, ◌≤◌, ℕ, suc, List, [], Some, None, refl, ◌∙◌, ap, subst, arith, AllByRecursion, SameOutside, KnownWith, segment_key, Broken, Ending, ending_of, OnlyReads, slot_at, RESERVE, Mark, Filter, Select, IsSafe, IsStepRefusal, Touches, phase_at, HoldsAt, held_at, at_stage, Next, Flush, Release, End, HoldsSweep, SourcesStand, slot_in_turn, IsSweeping, Refusal, SameBefore, ByteSet, IsIn, Encodes, Store, free_slots, with_sealed, HasNewest, blames, IsSettled, Represents, at_moment, IsAt, IsSafeIn, CoreState, IsUnderWayIn, FileMachine, Makes, Stopped, AllHeld, SameButGate, SameButSlot, SameStore, stored_in, changes_of}
+use Rattle.std.specs.Prelude.{count_by, map}
+use Rattle.container_meta.specs.Segments.{Contents}
+use Rattle.dd_disk.specs.Ending.{Done}
 use Rattle.gc_steps.specs.declared.collection.Collection.{Collection}
 use Rattle.gc_steps.specs.declared.collection.Stage.{Stage}
-use Rattle.gc_steps.specs.declared.collection.Stage.TheVariants.{Mark, Filter, Select, Sweep}
-use Rattle.gc_steps.specs.Safety.{IsSafe}
-use Rattle.gc_steps.specs.Stepping.{IsStepRefusal, Touches, phase_at}
-use Rattle.gc_steps.specs.SweepIsSafe.{HoldsAt}
-use Rattle.gc_steps.proofs.Sparing.{held_at, held_within}
-use Rattle.gc_steps.proofs.UnderWay.{at_stage}
-use Rattle.gc_sweep.specs.declared.sweep.Next.{Next}
-use Rattle.gc_sweep.specs.declared.sweep.Next.TheVariants.{Copy, Flush, Release, End}
-use Rattle.gc_sweep.specs.Holding.{HoldsSweep, SourcesStand}
-use Rattle.gc_sweep.specs.InTurn.{slot_in_turn}
-use Rattle.gc_sweep.specs.UnderWay.{IsSweeping, free_in, taken_from}
+use Rattle.gc_steps.specs.declared.collection.Stage.TheVariants.{Sweep}
+use Rattle.gc_steps.proofs.Sparing.{held_within}
+use Rattle.gc_sweep.specs.declared.sweep.Next.TheVariants.{Copy}
+use Rattle.gc_sweep.specs.UnderWay.{free_in, taken_from}
 use Rattle.gc_sweep.proofs.Holds.{in_turn}
 use Rattle.gc_sweep.proofs.HoldsRoom.{are_newest, may_flush}
 use Rattle.ingest_steps.specs.Sealing.{FitBeside}
-use Rattle.refusals.specs.declared.refusal.Refusal.{Refusal}
-use Rattle.segment_index.specs.Changes.{SameBefore}
-use Rattle.store_model.specs.Collisions.{ByteSet, IsIn, Stands}
-use Rattle.store_model.specs.Image.{Encodes, Store}
-use Rattle.store_model.specs.Slots.{free_slots}
-use Rattle.store_model.specs.Steps.{MaySeal, changed, with_sealed}
-use Rattle.store_model.specs.Trees.{HasNewest}
+use Rattle.store_model.specs.Collisions.{Stands}
+use Rattle.store_model.specs.Steps.{MaySeal, changed}
 use Rattle.store_model.proofs.Free.{zeros_free}
-use Rattle.store_state.specs.Refused.{blames}
-use Rattle.store_state.specs.Settled.{IsSettled}
-use Rattle.store_state.specs.Tables.{Represents}
-use Rattle.store_core.specs.Collecting.{at_moment}
-use Rattle.store_core.specs.Runs.{IsAt, IsSafeIn}
-use Rattle.store_core.specs.State.{CoreState, IsUnderWayIn}
 use Rattle.store_core.proofs.AtStore.{shows_here}
-use Rattle.store_machine.specs.ByMap.{FileMachine}
-use Rattle.store_machine.specs.Collecting.{Makes}
-use Rattle.store_machine.specs.Machine.{Stopped}
-use Rattle.core_machine.specs.Bytes.{AllHeld, BreaksOff, SameButGate, SameButSlot, SameStore, Sweeps}
-use Rattle.core_machine.specs.Files.{stored_in}
-use Rattle.core_machine.specs.Sweeping.{changes_of}
+use Rattle.core_machine.specs.Bytes.{BreaksOff, Sweeps}
 use Rattle.core_machine.proofs.Bytes.{before_same, but_gate, but_gate_none, known_weaker}
 use Rattle.core_machine.proofs.BytesAt.{IsRest, all_held, counts_told, rest_told, right_here, same_store, slot_told, stands_here}
 

@@ -1,20 +1,10 @@
 -- What the files of a core need that is at a store, and its tables.
-use Rattle.std.proofs.Common.{◌≡◌, ℕ, List, Option, Some, subst}
+use Rattle.core_machine.proofs.Prelude.{◌≡◌, ℕ, List, Option, Some, subst, PlaceMap, child_keys, HoldsNode, Stored, Store, IsReachable, node_key, Represents, IsAt, CoreState}
 use Rattle.std.specs.List.{Contains}
-use Rattle.container_meta.specs.Places.{PlaceMap}
-use Rattle.gc_enumerate.specs.Scanning.{child_keys}
-use Rattle.gc_steps.specs.LiveTrees.{HoldsNode}
 use Rattle.gc_steps.proofs.FileKeys.{reachable_closed}
 use Rattle.merkle_file.specs.Node.{Contents}
-use Rattle.store_model.specs.Files.{Stored}
-use Rattle.store_model.specs.Image.{Store}
-use Rattle.store_model.specs.Reserve.{IsReachable}
 use Rattle.store_model.specs.Slots.{Copy}
 use Rattle.store_model.specs.Standing.{IsStoreOf}
-use Rattle.store_model.specs.Trees.{node_key}
-use Rattle.store_state.specs.Tables.{Represents}
-use Rattle.store_core.specs.Runs.{IsAt}
-use Rattle.store_core.specs.State.{CoreState}
 
 module _ (S : List ℕ → Type 0) (store : Store) (stored : Stored) (c : CoreState) (at : IsAt S store stored c) where
   -- the tables are its, with the map of the index

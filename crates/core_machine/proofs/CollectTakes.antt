@@ -1,36 +1,18 @@
 -- A file that is read goes on over a step of a collection, which spares what is needed: the trees of the files that actors read.
-use Rattle.std.proofs.Common.{◌≡◌, inr, ◌<◌, ℕ, List, [], ◌∷◌, map, Option, Some, refl, sym, ◌∙◌, ap, subst, arith}
-use Rattle.std.specs.List.{AllByRecursion, Contains}
-use Rattle.container_meta.specs.Spelling.{HeaderValue}
-use Rattle.merkle_file.specs.Tree.{Tree, Empty, Leaf, Node, of_segment, root_of}
-use Rattle.merkle_file.specs.Walk.{IsTree, segments_in, trees_in}
-use Rattle.merkle_file.specs.declared.top.Top.{Top}
-use Rattle.actor_parts.specs.declared.actor.TheConstants.{ACTORS}
+use Rattle.core_machine.proofs.Prelude.{◌≡◌, inr, ◌<◌, ℕ, List, [], ◌∷◌, Option, Some, refl, sym, ◌∙◌, ap, subst, arith, AllByRecursion, HeaderValue, of_segment, IsTree, segments_in, Top, ACTORS, Reader, SegmentsAhead, segments_on, IsPartKey, IsIn, Stored, Store, root_key, HoldsCounted, key_set, tree_keys, HasKey, KeepsCopies, HasNewest, file_tree, contained, in_set, tree_on, right_file, root_of_tree, HoldsPart, IsAt, CoreState, all_part}
+use Rattle.std.proofs.Common.{map}
+use Rattle.std.specs.List.{Contains}
+use Rattle.merkle_file.specs.Tree.{Tree, Empty, Leaf, Node, root_of}
+use Rattle.merkle_file.specs.Walk.{trees_in}
 use Rattle.actor_parts.specs.declared.part.Part.TheVariants as core_parts
 use Rattle.actor_parts.specs.declared.part.Part as core_part
-use Rattle.actor_parts.specs.declared.part.Reader.{Reader}
 use Rattle.actor_parts.specs.Parts.{part_of}
 use Rattle.read_steps.specs.Opening.{top_of}
-use Rattle.read_steps.specs.Walking.{SegmentsAhead}
-use Rattle.read_steps.proofs.Openings.{segments_on}
 use Rattle.gc_steps.specs.LiveTrees.{IsRootOf}
-use Rattle.gc_steps.specs.Roots.{IsPartKey}
 use Rattle.gc_steps.specs.Safety.{IsNeeded}
 use Rattle.gc_steps.proofs.ReaderNeeds.{reader_needs}
-use Rattle.store_model.specs.Collisions.{IsIn}
-use Rattle.store_model.specs.Files.{Stored}
-use Rattle.store_model.specs.Image.{Store}
-use Rattle.store_model.specs.Refusals.{root_key}
-use Rattle.store_model.specs.Reserve.{HoldsCounted, key_set, tree_keys}
-use Rattle.store_model.specs.Slots.{HasKey}
-use Rattle.store_model.specs.Steps.{KeepsCopies}
-use Rattle.store_model.specs.Trees.{HasNewest, file_tree}
-use Rattle.store_model.proofs.Counted.{contained, in_set, tree_on}
-use Rattle.store_model.proofs.Unfolding.{right_file, root_of_tree, trees_agree}
-use Rattle.store_state.specs.Invariant.{HoldsPart, HoldsRest}
-use Rattle.store_core.specs.Runs.{IsAt}
-use Rattle.store_core.specs.State.{CoreState}
-use Rattle.store_core.proofs.OwnParts.{all_part}
+use Rattle.store_model.proofs.Unfolding.{trees_agree}
+use Rattle.store_state.specs.Invariant.{HoldsRest}
 use Rattle.core_machine.specs.Files.{Takes}
 use Rattle.core_machine.proofs.Coming.{takes_at}
 

@@ -1,38 +1,19 @@
 -- A step of a collection, made or refused, or its end, as the machine of roots has it.
-use Rattle.std.proofs.Common.{◌≡◌, ◌++◌, ℕ, true, false, List, [], Some, None, option_map, Result, Ok, Err, refl, sym, ◌∙◌, ap, subst, Bool}
+use Rattle.core_machine.proofs.Prelude.{◌≡◌, ◌++◌, ℕ, true, false, List, [], Some, None, option_map, Result, Ok, Err, refl, sym, ◌∙◌, ap, subst, Bool, Root, Answer, Next, CoreStage, Did, TablesAfter, answer_at, phase_at, IsUnderWay, Named, NameMap, Phase, Refusal, IsValidFor, StoreChange, SlotTable, GcEffect, GcRow, IsNotMade, at_moment, StopsAfter, counted, CoreState, IsUnderWayIn, phase_in, swept_by, Answers, IsAtRightPart, RunState, Running, of_roots, HasCopied, SameCollection, ForgetsBy, MovesAs, NamesGc, changes_of, Follows, FollowsPhase, HasIndex, IsMachine, SameStop, answered_by}
 use Rattle.std.specs.FinMap as finite
-use Rattle.disk_format.specs.Cells.{Root}
-use Rattle.actor_parts.specs.declared.step.Answer.{Answer}
 use Rattle.actor_parts.specs.declared.step.Answer.TheVariants as answers
 use Rattle.actor_parts.specs.StepValue as steps
-use Rattle.gc_sweep.specs.declared.sweep.Next.{Next}
 use Rattle.gc_sweep.specs.declared.sweep.Next.TheVariants as nexts
-use Rattle.gc_steps.specs.declared.collection.Stage.{Stage as CoreStage}
 use Rattle.gc_steps.specs.declared.collection.Stage.TheVariants as core
-use Rattle.gc_steps.specs.declared.phase.StepDone.TheVariants.{Did, Done}
-use Rattle.gc_steps.specs.Stepping.{StepsTo, TablesAfter, answer_at, phase_at}
-use Rattle.gc_steps.specs.UnderWay.{IsUnderWay}
-use Rattle.namespace.specs.declared.record.Named.{Named}
-use Rattle.namespace.specs.Names.{NameMap}
-use Rattle.refusals.specs.declared.refusal.Phase.{Phase}
+use Rattle.gc_steps.specs.declared.phase.StepDone.TheVariants.{Done}
+use Rattle.gc_steps.specs.Stepping.{StepsTo}
 use Rattle.refusals.specs.declared.refusal.Phase.TheVariants as phases
-use Rattle.refusals.specs.declared.refusal.Refusal.{Refusal}
 use Rattle.refusals.specs.declared.refusal.Refusal.TheVariants as refusals
-use Rattle.store_model.specs.Image.{IsValidFor}
-use Rattle.store_model.specs.Steps.{StoreChange}
-use Rattle.store_state.specs.declared.slot_table.SlotTable.{SlotTable}
 use Rattle.store_core.specs.Collecting as collecting
-use Rattle.store_core.specs.Collecting.{GcEffect, GcRow, HasEnded, IsNotMade, NoneRuns, at_moment}
-use Rattle.store_core.specs.Core.{StopsAfter, counted}
-use Rattle.store_core.specs.State.{CoreState, IsUnderWayIn}
+use Rattle.store_core.specs.Collecting.{HasEnded, NoneRuns}
 use Rattle.store_machine.specs.Asked as asked
-use Rattle.store_machine.specs.Collecting.{GoesOn, phase_in, swept_by}
-use Rattle.store_machine.specs.Legal.{Answers, IsAtRightPart}
-use Rattle.store_machine.specs.Machine.{RunState, Running}
-use Rattle.store_machine.specs.Values.{of_roots}
-use Rattle.core_machine.specs.Collections.{HasCopied, SameCollection}
-use Rattle.core_machine.specs.Sweeping.{ForgetsBy, MovesAs, NamesGc, changes_of}
-use Rattle.core_machine.specs.Refines.{Follows, FollowsPhase, HasIndex, IsMachine, SameParts, SameStop, answered_by}
+use Rattle.store_machine.specs.Collecting.{GoesOn}
+use Rattle.core_machine.specs.Refines.{SameParts}
 use Rattle.core_machine.proofs.Phases.{Runs, none_runs, one_runs, phase_so}
 use Rattle.core_machine.proofs.Rows.{M, as_it_was, goes_on}
 use Rattle.core_machine.proofs.Stepped.{choose_step, mark_step, record_step}

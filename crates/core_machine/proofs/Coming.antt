@@ -1,30 +1,12 @@
 -- What is to come of a file, by any store that the tables of a core may be of.
-use Rattle.std.proofs.Common.{◌≡◌, ◌∙◌, ℕ, ◌≤◌, List, [], ◌∷◌, ◌++◌, length, Option, Some, refl, sym, subst, arith}
+use Rattle.core_machine.proofs.Prelude.{◌≡◌, ◌∙◌, ℕ, ◌≤◌, List, [], ◌∷◌, ◌++◌, length, Option, Some, refl, sym, subst, arith, MOST_FILE, PlaceMap, HeaderValue, Top, of_segment, IsTree, segments_in, Reader, Stored, Store, ByteSet, IsIn, HoldsCounted, HasKey, KeepsCopies, StoreChange, file_tree, tree_on, SegmentsAhead, segments_on, Represents, IsAt, CoreState, NextOn, one_map}
 use Rattle.std.proofs.lemmas.List.Concat.{flat_map-cons}
-use Rattle.disk_format.specs.declared.numbers.TheConstants.{MOST_FILE}
-use Rattle.container_meta.specs.Places.{PlaceMap}
-use Rattle.container_meta.specs.Spelling.{HeaderValue}
-use Rattle.merkle_file.specs.declared.top.Top.{Top}
 use Rattle.merkle_file.specs.Tree as tree
-use Rattle.merkle_file.specs.Tree.{Tree, Trees, children_of, leaves, leaves_below, of_segment}
-use Rattle.merkle_file.specs.Walk.{AreBelow, IsTree, segments_in}
-use Rattle.actor_parts.specs.declared.part.Reader.{Reader}
-use Rattle.store_model.specs.Files.{Stored}
-use Rattle.store_model.specs.Image.{Store}
-use Rattle.store_model.specs.Collisions.{ByteSet, IsIn}
-use Rattle.store_model.specs.Reserve.{HoldsCounted}
-use Rattle.store_model.specs.Slots.{HasKey}
-use Rattle.store_model.specs.Steps.{KeepsCopies, StoreChange}
-use Rattle.store_model.specs.Trees.{file_tree, root_of}
-use Rattle.store_model.proofs.Counted.{tree_on}
+use Rattle.merkle_file.specs.Tree.{Tree, Trees, children_of, leaves, leaves_below}
+use Rattle.merkle_file.specs.Walk.{AreBelow}
+use Rattle.store_model.specs.Trees.{root_of}
 use Rattle.store_model.proofs.SameIndex.{same_copies}
-use Rattle.read_steps.specs.Walking.{HeldAhead, IsIndexed, SegmentsAhead}
-use Rattle.read_steps.proofs.Openings.{segments_on}
-use Rattle.store_state.specs.Tables.{Represents}
-use Rattle.store_core.specs.Runs.{IsAt}
-use Rattle.store_core.specs.State.{CoreState}
-use Rattle.store_core.proofs.KeepingFiles.{NextOn}
-use Rattle.store_core.proofs.Sealing.{one_map}
+use Rattle.read_steps.specs.Walking.{HeldAhead, IsIndexed}
 use Rattle.core_machine.specs.Files.{Takes}
 
 module _ (S : List ℕ → Type 0) (s : Store) (stored : Stored) (c : CoreState) (at : IsAt S s stored c) (image : List ℕ) (told : c.disk.content ≡ Some image) where

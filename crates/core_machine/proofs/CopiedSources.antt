@@ -1,42 +1,17 @@
 -- A copying step of a core's sweep, as one of the machine's, on any disk.
-use Rattle.std.proofs.Common.{◌≡◌, ◌≢◌, inl, inr, ℕ, suc, ◌+◌, ◌<◌, Bool, true, false, List, [], ◌∷◌, ◌++◌, append-nil, append_assoc, drop, length, get_or, map, Option, Some, None, refl, sym, ◌∙◌, ap, subst, arith, length-append}
-use Rattle.std.proofs.lemmas.Bool.{eqb-false}
-use Rattle.std.proofs.lemmas.List.{length-map, map-append}
-use Rattle.container_meta.specs.declared.entry.Entry.{Entry}
-use Rattle.container_meta.specs.declared.kind.Kind.{Kind}
-use Rattle.container_meta.specs.Segments.{Contents, Segment, keys_of, segment_key}
-use Rattle.container_meta.specs.Spelling.{HeaderValue}
+use Rattle.core_machine.proofs.Prelude.{◌≡◌, ◌≢◌, inl, inr, ℕ, suc, ◌+◌, ◌<◌, Bool, true, false, List, [], ◌∷◌, ◌++◌, append_assoc, drop, length, Option, Some, None, refl, sym, ◌∙◌, ap, subst, arith, eqb-false, length-map, Entry, Kind, Segment, segment_key, HeaderValue, without_keys, Plan, IsPlan, Planned, Source, TakesOne, planned, source_of, Shows, Root, Phase, IsValidFor, HasFree, StoreChange, SlotTable, Tables, Represents, CoreSweep, CopiesSource, EndsBy, IsFilling, TakesBy, HasNext, IsSweeping, entry_in, sources_before, keys_append, Moment, SweepsOn, phase_at, IsUnderWay, one_map, Went, freed_in, keys_written, next_by, sources_in, Sweeping, of_roots, SameRun, SameSweep, ids_at, TellsForgotten, dead_in}
+use Rattle.std.proofs.Common.{append-nil, get_or, map, length-append}
+use Rattle.std.proofs.lemmas.List.{map-append}
+use Rattle.container_meta.specs.Segments.{Contents, keys_of}
 use Rattle.copy_forward.specs.Copying.{Forgets, PlansSource}
-use Rattle.copy_forward.specs.Entries.{without_keys}
-use Rattle.copy_forward.specs.declared.plan.Plan.{Plan}
-use Rattle.copy_forward.specs.Planning.{IsPlan, Planned, Source, Takes, TakesOne, planned, source_of}
-use Rattle.dd_disk.specs.Shows.{Shows}
-use Rattle.disk_format.specs.Cells.{Root}
-use Rattle.refusals.specs.declared.refusal.Phase.{Phase}
+use Rattle.copy_forward.specs.Planning.{Takes}
 use Rattle.refusals.specs.declared.refusal.Phase.TheVariants as phases
-use Rattle.store_model.specs.Image.{IsValidFor}
-use Rattle.store_model.specs.Slots.{HasFree}
-use Rattle.store_model.specs.Steps.{StoreChange}
-use Rattle.store_state.specs.declared.slot_table.SlotTable.{SlotTable}
-use Rattle.store_state.specs.declared.tables.Tables.{Tables}
-use Rattle.store_state.specs.Tables.{Represents}
 use Rattle.gc_sweep.specs.declared.sweep.Next.TheVariants as nexts
-use Rattle.gc_sweep.specs.declared.sweep.Sweep.{Sweep as CoreSweep}
-use Rattle.gc_sweep.specs.Copying.{CopiesSource, EndsBy, IsFilling, TakesBy}
 use Rattle.gc_sweep.specs.Next.{IsNext}
-use Rattle.gc_sweep.specs.UnderWay.{HasNext, IsSweeping, entry_in, sources_before}
 use Rattle.gc_sweep.proofs.Arrives.{no_items}
-use Rattle.gc_sweep.proofs.KeyLists.{keys_append}
 use Rattle.gc_steps.specs.declared.collection.Stage.TheVariants as stages
-use Rattle.gc_steps.specs.Stepping.{Moment, SweepsOn, phase_at}
-use Rattle.gc_steps.specs.UnderWay.{IsUnderWay}
-use Rattle.store_core.proofs.Sealing.{one_map}
-use Rattle.store_machine.specs.Collecting.{Copies, Went, freed_in, keys_written, next_by, sources_in}
-use Rattle.store_machine.specs.Machine.{Collection, Sweeping, Sweep}
-use Rattle.store_machine.specs.Values.{of_roots}
-use Rattle.core_machine.specs.Collections.{SameRun, SameSweep, ids_at}
-use Rattle.core_machine.specs.Refines.{TellsForgotten}
-use Rattle.core_machine.specs.Sweeping.{dead_in}
+use Rattle.store_machine.specs.Collecting.{Copies}
+use Rattle.store_machine.specs.Machine.{Collection, Sweep}
 use Rattle.core_machine.proofs.KeysForgotten.{copied_told}
 use Rattle.core_machine.proofs.NextSteps.{has_each, next_so}
 use Rattle.core_machine.proofs.SweptOn.{AtSweep, MapMoves, Swept, at_sweep, copied_so, entry_next, is_sweeping, no_keys, run_on, source_next}

@@ -1,60 +1,26 @@
 -- A step that stopped a core at the files of a machine: its disk stands for the files of the machine that is stopped then.
-use Rattle.std.proofs.Common.{◌≡◌, ◌⊎◌, inl, inr, ◌+◌, ◌≤◌, ℕ, suc, Bool, true, false, if◌then◌else◌, List, [], ◌∷◌, map, Contains, Option, Some, None, Result, Err, refl, sym, ◌∙◌, ap, subst, arith}
+use Rattle.core_machine.proofs.Prelude.{◌≡◌, ◌⊎◌, inl, inr, ◌+◌, ◌≤◌, ℕ, suc, Bool, true, false, List, [], ◌∷◌, Option, Some, None, Result, Err, refl, sym, ◌∙◌, ap, subst, arith, Broken, IsLater, OnlyReads, PlaceMap, Change, Root, Gone, Put, Answer, StepValue, IsStep, Mark, Filter, Select, IsSafeAt, Touches, phase_at, HoldsAt, HasStage, IsUnderWay, Next, Flush, Release, End, HoldsSweep, slot_in_turn, IsSweeping, Refusal, ByteSet, HasNoCollisions, IsIn, Files, with_freed, Store, last_sequence, with_change, with_sealed, CoreInvariant, Stop, TouchesBy, Effect, NamesOne, SealsOne, Steps, StopsAfter, next_id, FileEvent, IsGivenRight, IsSafeIn, IsHarmless, MayClash, CoreState, IsUnderWayIn, running_step, last_at, opens_at, never_damaged, step_later, FileMachine, SameState, ByState, LegalBy, Refuses, broken_by, with_name, without_name, Found, RunState, Running, Stopped, stopped, RootMachine, StaysAt, of_files, IsAtFiles, MayStand, StandsFor, stored_in, answered_by, asked_as, NamesStep, changes_of}
+use Rattle.std.proofs.Common.{if◌then◌else◌, map, Contains}
 use Rattle.std.specs.Prelude.{IfErr}
-use Rattle.dd_disk.specs.Ending.{Broken}
-use Rattle.dd_disk.specs.View.{IsLater, OnlyReads}
-use Rattle.container_meta.specs.Places.{PlaceMap}
 use Rattle.container_meta.specs.Segments.{Contents}
-use Rattle.disk_format.specs.Cells.{Change, Root}
-use Rattle.disk_format.specs.Cells.Change.{Delete as Gone, Put}
-use Rattle.actor_parts.specs.declared.step.Answer.{Answer}
 use Rattle.actor_parts.specs.StepValue as steps
-use Rattle.actor_parts.specs.StepValue.{StepValue, IsStep}
 use Rattle.gc_steps.specs.declared.collection.Collection.{Collection}
 use Rattle.gc_steps.specs.declared.collection.Stage.{Stage}
-use Rattle.gc_steps.specs.declared.collection.Stage.TheVariants.{Mark, Filter, Select, Sweep}
-use Rattle.gc_steps.specs.Safety.{IsSafeAt}
-use Rattle.gc_steps.specs.Stepping.{Touches, phase_at}
-use Rattle.gc_steps.specs.SweepIsSafe.{HoldsAt}
-use Rattle.gc_steps.specs.UnderWay.{HasStage, IsUnderWay}
-use Rattle.gc_sweep.specs.declared.sweep.Next.{Next}
-use Rattle.gc_sweep.specs.declared.sweep.Next.TheVariants.{Copy, Flush, Release, End}
-use Rattle.gc_sweep.specs.Holding.{HoldsSweep}
-use Rattle.gc_sweep.specs.InTurn.{slot_in_turn}
+use Rattle.gc_steps.specs.declared.collection.Stage.TheVariants.{Sweep}
+use Rattle.gc_sweep.specs.declared.sweep.Next.TheVariants.{Copy}
 use Rattle.gc_sweep.specs.Releasing.{GivesBack}
-use Rattle.gc_sweep.specs.UnderWay.{IsSweeping}
 use Rattle.ingest_steps.specs.Naming.{FilesStandStill}
 use Rattle.ingest_steps.specs.Sealing.{SealsIndexed}
-use Rattle.refusals.specs.declared.refusal.Refusal.{Refusal}
 use Rattle.refusals.specs.declared.refusal.Refusal.TheVariants as refusals
-use Rattle.store_model.specs.Collisions.{ByteSet, HasNoCollisions, IsIn, Stands as IsStoreOf}
-use Rattle.store_model.specs.Files.{Files, with_file, without_file}
-use Rattle.store_model.specs.Freeing.{with_freed}
-use Rattle.store_model.specs.Image.{Store, last_sequence}
+use Rattle.store_model.specs.Collisions.{Stands as IsStoreOf}
+use Rattle.store_model.specs.Files.{with_file, without_file}
 use Rattle.store_model.specs.Standing.{CanBeOpened}
-use Rattle.store_model.specs.Steps.{changed, has_cell, with_cell, with_change, with_checkpoint, with_other, with_sealed}
+use Rattle.store_model.specs.Steps.{changed, has_cell, with_cell, with_checkpoint, with_other}
 use Rattle.store_model.specs.Trees.{root_of}
 use Rattle.store_model.proofs.Cells.{last_with_cell}
-use Rattle.store_state.specs.Invariant.{CoreInvariant}
-use Rattle.store_core.specs.declared.stop.Stop.{Stop}
-use Rattle.store_core.specs.Collecting.{TouchesBy}
-use Rattle.store_core.specs.Core.{Effect, NamesOne, SealsOne, Steps, StopsAfter, next_id}
-use Rattle.store_core.specs.Runs.{FileEvent, IsGivenRight, IsRootOf, IsSafeIn}
-use Rattle.store_core.specs.Sound.{IsHarmless, MayClash}
-use Rattle.store_core.specs.State.{CoreState, IsUnderWayIn}
-use Rattle.store_core.proofs.CoreRuns.{running_step}
-use Rattle.store_core.proofs.Crashes.{change_leaves, delete_leaves, flush_leaves, last_at, last_more, less_indexed, none_in_turn, opens_at, opens_by, opens_copied, opens_freed, opens_sealed, put_indexed, put_leaves, release_leaves, seal_leaves}
-use Rattle.store_core.proofs.Damage.{never_damaged}
-use Rattle.store_core.proofs.Stepping.{step_later}
-use Rattle.store_machine.specs.ByMap.{FileMachine}
-use Rattle.store_machine.specs.Forgetting.{Forgets, SameState}
-use Rattle.store_machine.specs.Legal.{ByState, LegalBy, Refuses, broken_by, with_name, without_name}
-use Rattle.store_machine.specs.Machine.{Found, RunState, Running, Stopped, stopped}
-use Rattle.store_machine.specs.Remembering.{RootMachine}
-use Rattle.store_machine.specs.Values.{StaysAt, of_files}
-use Rattle.core_machine.specs.Files.{IsAtFiles, MayStand, StandsFor, stored_in}
-use Rattle.core_machine.specs.Refines.{answered_by, asked_as}
-use Rattle.core_machine.specs.Sweeping.{NamesStep, changes_of}
+use Rattle.store_core.specs.Runs.{IsRootOf}
+use Rattle.store_core.proofs.Crashes.{change_leaves, delete_leaves, flush_leaves, last_more, less_indexed, none_in_turn, opens_by, opens_copied, opens_freed, opens_sealed, put_indexed, put_leaves, release_leaves, seal_leaves}
+use Rattle.store_machine.specs.Forgetting.{Forgets}
 use Rattle.core_machine.proofs.FileSteps.{StepsAt, StepsTo}
 
 -- what stops a core that finds no damage

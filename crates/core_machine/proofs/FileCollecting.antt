@@ -1,50 +1,20 @@
 -- A collection that runs in a core which is at the files of a machine: what it records, writes and gives back, by what the files need.
-use Rattle.std.proofs.Common.{◌≡◌, ℕ, ◌<◌, true, List, [], ◌∷◌, length, get_or, map, Contains, Some, refl, sym, ◌∙◌, ap, subst, arith}
-use Rattle.std.specs.List.{AllByRecursion}
-use Rattle.actor_parts.specs.Segments.{pin_by}
-use Rattle.container_meta.specs.declared.kind.Kind.{Kind}
+use Rattle.core_machine.proofs.Prelude.{◌≡◌, ℕ, ◌<◌, true, List, [], ◌∷◌, length, Some, refl, sym, ◌∙◌, ap, subst, arith, AllByRecursion, pin_by, Kind, PlaceMap, Segment, has_key, segment_key, ContainerLiveness, Next, HoldsSweep, SourcesStand, slot_in_turn, IsSweeping, id_at, live_anywhere, old_id, CoreCollection, IsSafe, phase_at, HoldsAt, IsUnderWay, held_at, at_stage, IsSpare, HasKey, length_of_copy, CoreInvariant, IsAt, IsSafeIn, CoreState, IsUnderWayIn, AtStore, data_level, FileMachine, IsCopyOf, IsRecordOf, keys_written, forget_collection, CollectionNeeds, HasCopy, NeededSince, of_files, SameRun, IsAtFiles, stored_in, IsLiveAtStage, LivesJust, TellsForgotten}
+use Rattle.std.proofs.Common.{get_or, map, Contains}
 use Rattle.container_meta.specs.declared.kind.Kind.TheVariants as kinds
-use Rattle.container_meta.specs.Places.{PlaceMap}
-use Rattle.container_meta.specs.Segments.{Segment, has_key, segment_key}
-use Rattle.gc_select.specs.declared.liveness.ContainerLiveness.{ContainerLiveness}
-use Rattle.gc_sweep.specs.declared.sweep.Next.{Next}
 use Rattle.gc_sweep.specs.declared.sweep.Next.TheVariants as nexts
-use Rattle.gc_sweep.specs.Holding.{HoldsSweep, IsCopied, SourcesStand}
-use Rattle.gc_sweep.specs.InTurn.{slot_in_turn}
-use Rattle.gc_sweep.specs.UnderWay.{IsSweeping}
+use Rattle.gc_sweep.specs.Holding.{IsCopied}
 use Rattle.gc_sweep.proofs.Holds.{in_turn}
-use Rattle.gc_sweep.proofs.InSlots.{id_at, live_anywhere, old_id}
 use Rattle.gc_sweep.proofs.KeyLists.{listed, listed_left, listed_one, listed_right}
-use Rattle.gc_steps.specs.declared.collection.Collection.{Collection as CoreCollection}
 use Rattle.gc_steps.specs.declared.collection.Stage.{Stage}
 use Rattle.gc_steps.specs.declared.collection.Stage.TheVariants as core
-use Rattle.gc_steps.specs.Safety.{IsSafe}
-use Rattle.gc_steps.specs.Stepping.{phase_at}
-use Rattle.gc_steps.specs.SweepIsSafe.{HoldsAt}
-use Rattle.gc_steps.specs.UnderWay.{IsUnderWay}
 use Rattle.gc_steps.proofs.RecordOf.{IsOfSlot}
-use Rattle.gc_steps.proofs.Sparing.{held_at, ready_is_spare}
-use Rattle.gc_steps.proofs.UnderWay.{at_stage}
+use Rattle.gc_steps.proofs.Sparing.{ready_is_spare}
 use Rattle.refusals.specs.declared.refusal.Phase.TheVariants as phases
-use Rattle.store_model.specs.Reserve.{IsSpare}
-use Rattle.store_model.specs.Slots.{HasKey}
-use Rattle.store_model.proofs.Roots.{length_of_copy}
-use Rattle.store_state.specs.Invariant.{CoreInvariant}
-use Rattle.store_core.specs.Runs.{IsAt, IsSafeIn}
-use Rattle.store_core.specs.State.{CoreState, IsUnderWayIn}
-use Rattle.store_core.proofs.AtStore.{AtStore, at_store}
+use Rattle.store_core.proofs.AtStore.{at_store}
 use Rattle.store_core.proofs.ByNeed.{sums_needed}
-use Rattle.store_core.proofs.KeepingSegments.{data_level}
-use Rattle.store_machine.specs.ByMap.{FileMachine}
-use Rattle.store_machine.specs.Collecting.{IsCopyOf, IsRecordOf, keys_written}
-use Rattle.store_machine.specs.Forgetting.{forget_collection}
 use Rattle.store_machine.specs.Machine.{Collection}
-use Rattle.store_machine.specs.Needs.{CollectionNeeds, HasCopy, IsNeeded, NeededSince}
-use Rattle.store_machine.specs.Values.{of_files}
-use Rattle.core_machine.specs.Collections.{SameRun}
-use Rattle.core_machine.specs.Files.{IsAtFiles, stored_in}
-use Rattle.core_machine.specs.Lives.{IsLiveAtStage, LivesJust}
-use Rattle.core_machine.specs.Refines.{TellsForgotten}
+use Rattle.store_machine.specs.Needs.{IsNeeded}
 use Rattle.core_machine.proofs.FileNeeds.{AllFit, needed_has}
 
 -- ---- by what is called so

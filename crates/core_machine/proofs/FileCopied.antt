@@ -1,43 +1,18 @@
 -- A copying step of a core that is at the files of a machine: it took what is needed of its source, and where nothing of it is to be written that is ready.
-use Rattle.std.proofs.Common.{◌≡◌, inl, inr, ◌⊎◌, ℕ, zero, suc, ◌+◌, Bool, true, false, List, [], ◌∷◌, ◌++◌, append-nil, drop, get_or, length, length-drop, take, Option, Some, None, refl, sym, ◌∙◌, ap, subst, arith}
-use Rattle.std.specs.Prelude.{slice_get}
-use Rattle.std.proofs.lemmas.Bool.{eqb-false, eqb-true}
-use Rattle.std.proofs.lemmas.List.{length-map}
-use Rattle.container_meta.specs.declared.entry.Entry.{Entry}
-use Rattle.container_meta.specs.Places.{PlaceMap}
-use Rattle.container_meta.specs.Segments.{keys_of, segment_key}
-use Rattle.container_meta.specs.Spelling.{Follow, HeaderValue}
+use Rattle.core_machine.proofs.Prelude.{◌≡◌, inl, inr, ◌⊎◌, ℕ, zero, suc, ◌+◌, Bool, true, false, List, [], ◌∷◌, ◌++◌, drop, length, take, Option, Some, None, refl, sym, ◌∙◌, ap, subst, arith, slice_get, eqb-false, eqb-true, length-map, Entry, PlaceMap, segment_key, Follow, HeaderValue, Plan, IsPlan, Source, planned, source_of, Shows, DiskView, shown_content, CoreSweep, CopiesSource, EndsBy, TakesBy, HoldsSweep, HasNext, entry_in, sources_before, CoreCollection, Phase, StoreChange, SlotTable, CoreState, FileMachine, DoesNotFit, Gathered, GoesOver, sources_in, IsReady, of_files, SameSweep, ids_at, dead_in}
+use Rattle.std.proofs.Common.{append-nil, get_or, length-drop}
+use Rattle.container_meta.specs.Segments.{keys_of}
 use Rattle.copy_forward.specs.Copying.{PlansBy}
-use Rattle.copy_forward.specs.declared.plan.Plan.{Plan}
-use Rattle.copy_forward.specs.Planning.{IsPlan, Source, planned, source_of}
-use Rattle.dd_disk.specs.Shows.{Shows}
-use Rattle.dd_disk.specs.View.{DiskView}
-use Rattle.dd_disk.proofs.Shows.{shown_content}
 use Rattle.gc_sweep.specs.declared.sweep.Next.TheVariants as nexts
-use Rattle.gc_sweep.specs.declared.sweep.Sweep.{Sweep as CoreSweep}
-use Rattle.gc_sweep.specs.Copying.{CopiesSource, EndsBy, TakesBy}
-use Rattle.gc_sweep.specs.Holding.{HoldsSweep}
 use Rattle.gc_sweep.specs.Next.{IsNext}
-use Rattle.gc_sweep.specs.UnderWay.{HasNext, entry_in, sources_before}
 use Rattle.gc_sweep.proofs.KeyLists.{each_so}
 use Rattle.gc_sweep.proofs.SourceRead.{IsReadOf, not_other, read_of}
-use Rattle.gc_steps.specs.declared.collection.Collection.{Collection as CoreCollection}
 use Rattle.gc_steps.specs.declared.collection.Stage.TheVariants as core
-use Rattle.refusals.specs.declared.refusal.Phase.{Phase}
 use Rattle.refusals.specs.declared.refusal.Phase.TheVariants as phases
 use Rattle.store_model.specs.Slots.{HoldsSlot}
-use Rattle.store_model.specs.Steps.{StoreChange}
-use Rattle.store_state.specs.declared.slot_table.SlotTable.{SlotTable}
-use Rattle.store_core.specs.State.{CoreState}
 use Rattle.store_core.proofs.FoundCopies.{next_place}
-use Rattle.store_machine.specs.ByMap.{FileMachine}
-use Rattle.store_machine.specs.Collecting.{DoesNotFit, Gathered, GoesOver, sources_in}
 use Rattle.store_machine.specs.Collecting as machine
 use Rattle.store_machine.specs.Machine.{Collection, Sweep}
-use Rattle.store_machine.specs.Remembering.{IsReady}
-use Rattle.store_machine.specs.Values.{of_files}
-use Rattle.core_machine.specs.Collections.{SameSweep, ids_at}
-use Rattle.core_machine.specs.Sweeping.{dead_in}
 use Rattle.core_machine.proofs.CopiedSources.{filling_keys}
 use Rattle.core_machine.proofs.FileCollecting.{RunsIn, content_in, copy_in, holds_in, image_in, index_in, lives_in, live_in, stands_in, sweeping_in}
 use Rattle.core_machine.proofs.FileCopying.{IsPlanned, TakesSo, counted_filling, first_of_rest, follow_from, takes_so}

@@ -1,45 +1,26 @@
 -- A copying step of a core's sweep goes over the entries of its source as the machine of files does.
-use Rattle.std.proofs.Common.{◌≡◌, inl, inr, ℕ, zero, suc, ◌+◌, ◌<◌, Bool, true, false, ◌||◌, List, [], ◌∷◌, ◌++◌, append_assoc, length, drop, take, map, Contains, Option, Some, None, option_map, refl, sym, ◌∙◌, ap, subst, arith}
-use Rattle.std.specs.Prelude.{◌&&◌, nat_le, nat_lt, slice_get}
+use Rattle.core_machine.proofs.Prelude.{◌≡◌, inl, inr, ℕ, zero, suc, ◌+◌, ◌<◌, Bool, true, false, ◌||◌, List, [], ◌∷◌, ◌++◌, append_assoc, length, drop, take, Option, Some, None, option_map, refl, sym, ◌∙◌, ap, subst, arith, nat_le, slice_get, bytes_eq, AllByRecursion, leb-true, ltb-true, length-map, Contains-append_cases, Contains-append_left, bytes_eq-Decides, key_of, Entry, Kind, Place, kind_byte, PlaceMap, Segment, has_key, segment_key, Follow, HeaderValue, Planned, Source, TakesOne, source_of, LiveKeys, IsWithin, IsFilling, IsLive, live_anywhere, keys_append, listed_of, Store, IsPartialIndexOf, newest, some_same, DoesNotFit, Gathered, HasCopy, NeededSince, of_files, TellsForgotten}
+use Rattle.std.proofs.Common.{map, Contains}
+use Rattle.std.specs.Prelude.{◌&&◌, nat_lt}
 use Rattle.std.specs.FinMap as finite
-use Rattle.std.specs.Str.{bytes_eq}
-use Rattle.std.specs.List.{AllByRecursion}
-use Rattle.std.proofs.lemmas.Bool.{leb-false, leb-true, ltb-false, ltb-true}
-use Rattle.std.proofs.lemmas.List.{length-map}
-use Rattle.std.proofs.lemmas.List.Elements.{Contains-append_cases, Contains-append_left, Contains-push_cases}
+use Rattle.std.proofs.lemmas.Bool.{leb-false, ltb-false}
+use Rattle.std.proofs.lemmas.List.Elements.{Contains-push_cases}
 use Rattle.std.proofs.lemmas.List.Folds.{list_any-append}
 use Rattle.std.proofs.lemmas.List.Sums.{sum_by-append, sum_by-cons}
-use Rattle.std.proofs.lemmas.Slice.Eq.{bytes_eq-Decides}
-use Rattle.base_model.specs.Bytes.{key_of}
 use Rattle.base_model.proofs.Checks.{both}
-use Rattle.container_meta.specs.declared.entry.Entry.{Entry}
-use Rattle.container_meta.specs.declared.kind.Kind.{Kind}
-use Rattle.container_meta.specs.declared.place.Place.{Place}
-use Rattle.container_meta.specs.Format.{kind_byte}
-use Rattle.container_meta.specs.Places.{PlaceMap}
-use Rattle.container_meta.specs.Segments.{Contents, Segment, bytes_in, has_key, has_room, keys_of, segment_key}
-use Rattle.container_meta.specs.Spelling.{Follow, HeaderValue, IsNext, has_digest}
+use Rattle.container_meta.specs.Segments.{Contents, bytes_in, has_room, keys_of}
+use Rattle.container_meta.specs.Spelling.{IsNext, has_digest}
 use Rattle.copy_forward.specs.Entries.{is_copy}
-use Rattle.copy_forward.specs.Planning.{HasLiveKey, IsFull, Planned, Source, Takes, TakesOne, source_of}
+use Rattle.copy_forward.specs.Planning.{HasLiveKey, IsFull, Takes}
 use Rattle.disk_format.specs.declared.numbers.TheConstants.{DATA_BYTES, MOST_ENTRIES}
-use Rattle.gc_enumerate.specs.Live.{LiveKeys}
-use Rattle.gc_steps.specs.Sparing.{IsWithin}
-use Rattle.gc_sweep.specs.Copying.{IsFilling}
-use Rattle.gc_sweep.specs.Holding.{IsLive}
-use Rattle.gc_sweep.proofs.InSlots.{at_copy, copy_at, live_anywhere}
-use Rattle.gc_sweep.proofs.KeyLists.{keys_append}
+use Rattle.gc_sweep.proofs.InSlots.{at_copy, copy_at}
 use Rattle.store_core.proofs.ByNeed.{of_listed}
-use Rattle.store_core.proofs.CopiesOnce.{listed_of}
-use Rattle.store_model.specs.Image.{Store}
 use Rattle.store_model.specs.Indexing.{entry_key}
-use Rattle.store_model.specs.Slots.{Copy, IsPartialIndexOf, newest, place_of}
-use Rattle.store_model.proofs.Copies.{some_same}
-use Rattle.store_machine.specs.Collecting.{DoesNotFit, Gathered, HasNoRoom, bytes_filled, length_of}
+use Rattle.store_model.specs.Slots.{Copy, place_of}
+use Rattle.store_machine.specs.Collecting.{HasNoRoom, bytes_filled, length_of}
 use Rattle.store_machine.specs.Collecting as machine
 use Rattle.store_machine.specs.Machine.{Collection}
-use Rattle.store_machine.specs.Needs.{HasCopy, IndexHas, NeededSince}
-use Rattle.store_machine.specs.Values.{of_files}
-use Rattle.core_machine.specs.Refines.{TellsForgotten}
+use Rattle.store_machine.specs.Needs.{IndexHas}
 
 -- ---- how many bytes are filled
 

@@ -1,30 +1,13 @@
 -- What a crash leaves at any moment of a step, and of steps, of a core that stands for files: files that the run of the machine comes by.
-use Rattle.std.proofs.Common.{◌≡◌, ◌⊎◌, inl, inr, ◌≤◌, ℕ, List, [], ◌∷◌, Some, None, Result, Ok, Err, refl, sym, ◌∙◌, ap, subst, arith}
-use Rattle.dd_disk.specs.View.{CrashLeaves, DiskView, OnlyReads}
-use Rattle.dd_disk.proofs.Later.{leaves_weaker, reads_leave}
-use Rattle.actor_parts.specs.declared.step.Answer.{Answer}
+use Rattle.core_machine.proofs.Prelude.{◌≡◌, ◌⊎◌, inl, inr, ◌≤◌, ℕ, List, [], ◌∷◌, Some, None, Result, Ok, Err, refl, sym, ◌∙◌, ap, subst, arith, CrashLeaves, DiskView, OnlyReads, leaves_weaker, reads_leave, Answer, StepValue, Refusal, ByteSet, IsIn, OpensAs, Stored, FileEvent, IsNoGcStep, stored_by, stored_with, Steps, StopsAfter, CoreState, running_step, FileMachine, Answers, Legal, RefusesGcStep, with_name, without_name, Found, RunState, Running, Stopped, MayBeFound, RootMachine, Run, of_files, IsOfFound, IsOfPassed, MayStand, StandsFor, stored_in, answered_by, asked_as}
 use Rattle.actor_parts.specs.declared.step.Answer.TheVariants as answers
 use Rattle.actor_parts.specs.StepValue as steps
-use Rattle.actor_parts.specs.StepValue.{StepValue}
-use Rattle.refusals.specs.declared.refusal.Refusal.{Refusal}
 use Rattle.refusals.specs.declared.refusal.Refusal.TheVariants as refusals
-use Rattle.store_model.specs.Collisions.{ByteSet, IsIn, OpensAs}
-use Rattle.store_model.specs.Files.{Stored}
-use Rattle.store_core.specs.Runs.{FileEvent, IsNoGcStep, IsOnTheWay, stored_by, stored_tried, stored_with}
-use Rattle.store_core.specs.Core.{Steps, StopsAfter}
-use Rattle.store_core.specs.State.{CoreState}
-use Rattle.store_core.proofs.CoreRuns.{running_step}
+use Rattle.store_core.specs.Runs.{IsOnTheWay, stored_tried}
 use Rattle.store_core.proofs.Crashes.{leaves_on_the_way}
 use Rattle.store_machine.specs.Asked as asked
-use Rattle.store_machine.specs.ByMap.{FileMachine}
-use Rattle.store_machine.specs.Legal.{Answers, Legal, RefusesGcStep, with_name, without_name}
-use Rattle.store_machine.specs.Machine.{Found, RunState, Running, Stepped, Stopped}
-use Rattle.store_machine.specs.Opening.{MayBeFound}
-use Rattle.store_machine.specs.Remembering.{RootMachine}
-use Rattle.store_machine.specs.Runs.{IsPassedFrom, Run}
-use Rattle.store_machine.specs.Values.{of_files}
-use Rattle.core_machine.specs.Files.{IsOfFound, IsOfPassed, MayStand, StandsFor, stored_in}
-use Rattle.core_machine.specs.Refines.{answered_by, asked_as}
+use Rattle.store_machine.specs.Machine.{Stepped}
+use Rattle.store_machine.specs.Runs.{IsPassedFrom}
 use Rattle.core_machine.proofs.FileKept.{answers_by, comes, refused_now}
 use Rattle.core_machine.proofs.FileStands.{stands_opens}
 use Rattle.core_machine.proofs.FileSteps.{StepsTo, by_gc}

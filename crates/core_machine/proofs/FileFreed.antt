@@ -1,19 +1,9 @@
 -- A machine of files that is stopped as containers were given back: which stores may stand then.
-use Rattle.std.proofs.Common.{◌≢◌, ◌≡◌, ◌⊎◌, inl, inr, ◌<◌, ℕ, zero, suc, List, [], ◌∷◌, take, Contains, Some, None, refl, sym, arith}
-use Rattle.std.specs.List.{AllByRecursion}
-use Rattle.std.proofs.lemmas.List.Elements.{Contains-append_left, Contains-append_right}
-use Rattle.disk_format.specs.declared.numbers.TheConstants.{RESERVE}
-use Rattle.store_model.specs.Freeing.{FreesSome, FreesTo, IsLeastSpare, with_all_freed, with_freed}
-use Rattle.store_model.specs.Image.{Store}
-use Rattle.store_model.specs.Reserve.{IsReachable}
-use Rattle.store_model.specs.Slots.{free_slots}
+use Rattle.core_machine.proofs.Prelude.{◌≢◌, ◌≡◌, ◌⊎◌, inl, inr, ◌<◌, ℕ, zero, suc, List, [], ◌∷◌, take, Some, None, refl, sym, arith, AllByRecursion, Contains-append_left, Contains-append_right, RESERVE, FreesSome, FreesTo, with_all_freed, with_freed, Store, IsReachable, free_slots, FileMachine, Found, RunState, Running, Stopped, NamesNeed, IsGivenBack, IsNamedBy, MayBeFound, freeing, of_files, stores_freed}
+use Rattle.std.proofs.Common.{Contains}
+use Rattle.store_model.specs.Freeing.{IsLeastSpare}
 use Rattle.store_model.proofs.FreedFiles.{frees_first}
-use Rattle.store_machine.specs.ByMap.{FileMachine}
-use Rattle.store_machine.specs.Machine.{Found, RunState, Running, Stopped}
-use Rattle.store_machine.specs.Needs.{NamesNeed}
-use Rattle.store_machine.specs.Opening.{IsGivenBack, IsNamedBy, MayBeFound, Stands, freeing}
-use Rattle.store_machine.specs.Values.{of_files}
-use Rattle.core_machine.specs.Openings.{stores_freed}
+use Rattle.store_machine.specs.Opening.{Stands}
 use Rattle.core_machine.proofs.FileNames.{needs_reach, reach_needs}
 
 -- ---- what may stand

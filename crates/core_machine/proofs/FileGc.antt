@@ -1,62 +1,25 @@
 -- Steps of a collection, made by a core that is at the files of a machine: what the content of the disk adds to them.
-use Rattle.std.proofs.Common.{◌≡◌, inl, inr, ◌⊎◌, ℕ, suc, ◌<◌, Bool, true, List, [], ◌∷◌, ◌++◌, drop, map, Option, Some, None, option_map, Result, Ok, Err, IfErr, refl, sym, ◌∙◌, ap, subst, arith}
-use Rattle.std.specs.List.{AllByRecursion}
-use Rattle.actor_parts.specs.declared.step.Answer.{Answer}
+use Rattle.core_machine.proofs.Prelude.{◌≡◌, inl, inr, ◌⊎◌, ℕ, suc, ◌<◌, Bool, true, List, [], ◌∷◌, ◌++◌, drop, Option, Some, None, option_map, Result, Ok, Err, refl, sym, ◌∙◌, ap, subst, arith, AllByRecursion, Answer, StepValue, Kind, PlaceMap, Segment, Root, LAST_ID, ContainerLiveness, Next, CopiesSource, slot_in_turn, CoreCollection, CoreStage, recorded, TablesAfter, moment, phase_at, at_stage, Phase, Refusal, ByteSet, IsIn, Store, IsSpare, FlushContainer, FreeContainer, SlotTable, Tables, GcRow, StartRow, at_moment, Row, Steps, FileEvent, IsAt, IsHarmless, MayClash, CoreState, IsUnderWayIn, running_step, phase_of, one_map, same_some, FileMachine, GoesOver, IsCollecting, IsCopyOf, IsRecordOf, MayBreak, phase_by, sources_in, SameState, asked_of, forget_collection, Answers, ByState, LegalBy, RunState, Running, Stopped, Sweeping, Adds, AddsBy, AddsToAnswer, IsReady, RootMachine, of_files, of_roots, SameCollection, SameRun, SameStage, SameSweep, ids_at, stored_in, HasIndex, TellsForgotten, answered_by, asked_as, ForgetsBy, MovesAs, NamesGc, NamesStep, changes_of, dead_in, WroteOnce}
+use Rattle.std.proofs.Common.{map, IfErr}
 use Rattle.actor_parts.specs.declared.step.Answer.TheVariants as answers
 use Rattle.actor_parts.specs.StepValue as steps
-use Rattle.actor_parts.specs.StepValue.{StepValue}
-use Rattle.container_meta.specs.declared.kind.Kind.{Kind}
-use Rattle.container_meta.specs.Places.{PlaceMap}
-use Rattle.container_meta.specs.Segments.{Segment}
-use Rattle.disk_format.specs.Cells.{Root}
-use Rattle.disk_format.specs.declared.numbers.TheConstants.{LAST_ID}
-use Rattle.gc_select.specs.declared.liveness.ContainerLiveness.{ContainerLiveness}
-use Rattle.gc_sweep.specs.declared.sweep.Next.{Next}
 use Rattle.gc_sweep.specs.declared.sweep.Next.TheVariants as nexts
-use Rattle.gc_sweep.specs.Copying.{CopiesSource}
-use Rattle.gc_sweep.specs.InTurn.{slot_in_turn}
-use Rattle.gc_steps.specs.declared.collection.Collection.{Collection as CoreCollection}
-use Rattle.gc_steps.specs.declared.collection.Stage.{Stage as CoreStage}
 use Rattle.gc_steps.specs.declared.collection.Stage.TheVariants as core
-use Rattle.gc_steps.specs.Filtering.{Records, recorded}
-use Rattle.gc_steps.specs.Stepping.{StepsTo, TablesAfter, moment, phase_at}
+use Rattle.gc_steps.specs.Filtering.{Records}
+use Rattle.gc_steps.specs.Stepping.{StepsTo}
 use Rattle.gc_steps.proofs.RecordOf.{record_of}
-use Rattle.gc_steps.proofs.UnderWay.{at_stage}
-use Rattle.refusals.specs.declared.refusal.Phase.{Phase}
 use Rattle.refusals.specs.declared.refusal.Phase.TheVariants as phases
-use Rattle.refusals.specs.declared.refusal.Refusal.{Refusal}
 use Rattle.refusals.specs.declared.refusal.Refusal.TheVariants as refusals
-use Rattle.store_model.specs.Collisions.{ByteSet, IsIn}
-use Rattle.store_model.specs.Image.{Store}
-use Rattle.store_model.specs.Reserve.{IsSpare}
-use Rattle.store_model.specs.Steps.{FlushContainer, FreeContainer, changed}
-use Rattle.store_state.specs.declared.slot_table.SlotTable.{SlotTable}
-use Rattle.store_state.specs.declared.tables.Tables.{Tables}
-use Rattle.store_core.specs.Collecting.{GcRow, GoesOn, StartRow, at_moment}
-use Rattle.store_core.specs.Core.{Row, Steps}
-use Rattle.store_core.specs.Runs.{FileEvent, IsAt}
-use Rattle.store_core.specs.Sound.{IsHarmless, MayClash}
-use Rattle.store_core.specs.State.{CoreState, IsUnderWayIn}
+use Rattle.store_model.specs.Steps.{changed}
+use Rattle.store_core.specs.Collecting.{GoesOn}
 use Rattle.store_core.proofs.AtStore.{at_store}
-use Rattle.store_core.proofs.CoreRuns.{running_step}
 use Rattle.store_core.proofs.Damage.{answer_harmless}
-use Rattle.store_core.proofs.GcSteps.{phase_of}
-use Rattle.store_core.proofs.Sealing.{one_map}
-use Rattle.store_core.proofs.SparedRest.{same_some}
 use Rattle.store_machine.specs.Asked as asked
-use Rattle.store_machine.specs.ByMap.{FileMachine}
-use Rattle.store_machine.specs.Collecting.{GoesOver, IsCollecting, IsCopyOf, IsRecordOf, MayBreak, phase_by, sources_in}
-use Rattle.store_machine.specs.Forgetting.{SameState, asked_of, forget_collection}
-use Rattle.store_machine.specs.Legal.{Answers, ByState, LegalBy}
-use Rattle.store_machine.specs.Machine.{Collection, RunState, Running, Stage, Stopped, Sweep, Sweeping}
+use Rattle.store_machine.specs.Machine.{Collection, Stage, Sweep}
 use Rattle.store_machine.specs.Needs.{IsNeeded}
-use Rattle.store_machine.specs.Remembering.{Adds, AddsBy, AddsToAnswer, AddsToRefused, AddsToStep, IsReady, RootMachine}
-use Rattle.store_machine.specs.Values.{of_files, of_roots}
-use Rattle.core_machine.specs.Collections.{SameCollection, SameRun, SameStage, SameSweep, ids_at}
-use Rattle.core_machine.specs.Files.{file_step, stored_in}
-use Rattle.core_machine.specs.Refines.{HasIndex, TellsForgotten, answered_by, asked_as}
-use Rattle.core_machine.specs.Sweeping.{ForgetsBy, MovesAs, NamesGc, NamesStep, StopsAs, changes_of, dead_in}
-use Rattle.core_machine.specs.Written.{WroteOnce}
+use Rattle.store_machine.specs.Remembering.{AddsToRefused, AddsToStep}
+use Rattle.core_machine.specs.Files.{file_step}
+use Rattle.core_machine.specs.Sweeping.{StopsAs}
 use Rattle.core_machine.proofs.FileCollecting.{RunsIn, SweepsBy, at_copy, at_filter, at_flush, at_release, copies_in, record_in, spare_in, under_in}
 use Rattle.core_machine.proofs.FileCopied.{over_so, ready_so}
 use Rattle.core_machine.proofs.FileNeeds.{all_fit}

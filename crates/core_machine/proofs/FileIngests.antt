@@ -1,51 +1,31 @@
 -- What the content of a disk adds to claims, seals and commits, so that they are steps of the machine of files.
-use Rattle.std.proofs.Common.{◌≡◌, inl, inr, ◌<◌, ◌≤◌, ℕ, zero, suc, List, [], ◌∷◌, length, take, Option, Some, None, Result, Ok, Err, IfErr, refl, sym, ◌∙◌, ap, subst, arith}
-use Rattle.std.specs.Prelude.{slice_get}
+use Rattle.core_machine.proofs.Prelude.{◌≡◌, inl, inr, ◌<◌, ◌≤◌, ℕ, zero, suc, List, [], ◌∷◌, length, take, Option, Some, None, Result, Ok, Err, refl, sym, ◌∙◌, ap, subst, arith, slice_get, AllByRecursion, Shows, shown_content, Root, MOST_FILE, Kind, Place, kind_byte, KindSegment, Segment, segment_at, segment_key, Answer, Refusal, Stored, Store, HasKey, IsPartialIndexOf, newest, bytes_at, store_once, length_of_copy, ClaimRow, CommitRow, SealRow, IsAt, IsHarmless, CoreState, data_level, FileMachine, IsLacked, HasCopy, AddsToAnswer, RootMachine, stored_in, TellsForgotten, answered_by}
+use Rattle.std.proofs.Common.{IfErr}
 use Rattle.std.specs.FinMap as finite
-use Rattle.std.specs.List.{AllByRecursion, Contains}
+use Rattle.std.specs.List.{Contains}
 use Rattle.sha2.specs.Sha256.{sha256}
 use Rattle.base_model.specs.Bytes.{range}
-use Rattle.dd_disk.specs.Shows.{Shows}
-use Rattle.dd_disk.proofs.Shows.{shown_content}
-use Rattle.disk_format.specs.Cells.{Root}
-use Rattle.disk_format.specs.declared.numbers.TheConstants.{MOST_FILE}
-use Rattle.container_meta.specs.declared.kind.Kind.{Kind}
 use Rattle.container_meta.specs.declared.kind.Kind.TheVariants as kinds
-use Rattle.container_meta.specs.declared.place.Place.{Place}
-use Rattle.container_meta.specs.Format.{kind_byte}
-use Rattle.container_meta.specs.Segments.{Contents, KindSegment, Segment, segment_at, segment_key}
+use Rattle.container_meta.specs.Segments.{Contents}
 use Rattle.actor_parts.specs.declared.step.Answer.TheVariants as answers
-use Rattle.actor_parts.specs.declared.step.Answer.{Answer}
 use Rattle.actor_parts.specs.Segments.{IsOfKind}
 use Rattle.refusals.specs.declared.refusal.Difference.{Difference}
 use Rattle.refusals.specs.declared.refusal.Difference.TheVariants.{Length, Byte}
-use Rattle.refusals.specs.declared.refusal.Refusal.{Refusal}
 use Rattle.refusals.specs.declared.refusal.Refusal.TheVariants as refusals
 use Rattle.store_model.specs.Collisions.{Stands}
-use Rattle.store_model.specs.Files.{Stored}
-use Rattle.store_model.specs.Image.{Store}
-use Rattle.store_model.specs.Slots.{Copy, HasKey, IsPartialIndexOf, newest}
+use Rattle.store_model.specs.Slots.{Copy}
 use Rattle.store_model.specs.Steps.{FitsCopy, FitsHeld}
-use Rattle.store_model.specs.Trees.{bytes_at}
 use Rattle.store_model.proofs.Copies.{copy_digest}
 use Rattle.store_model.proofs.Lookups.{finds}
-use Rattle.store_model.proofs.Once.{store_once}
-use Rattle.store_model.proofs.Roots.{length_of_copy}
 use Rattle.store_state.specs.Comparing.{FirstDifference, FitSoFar, FitsBytes, IsUnlike}
 use Rattle.store_state.proofs.Compared.{held_all}
-use Rattle.store_core.specs.Core.{ClaimRow, CommitRow, SealRow}
-use Rattle.store_core.specs.Runs.{IsAt, IsRightCommit, IsRootOf}
-use Rattle.store_core.specs.Sound.{HoldsTwin, IsHarmless, IsTwin}
-use Rattle.store_core.specs.State.{CoreState}
-use Rattle.store_core.proofs.KeepingSegments.{data_level, node_level}
-use Rattle.store_machine.specs.ByMap.{FileMachine}
+use Rattle.store_core.specs.Runs.{IsRightCommit, IsRootOf}
+use Rattle.store_core.specs.Sound.{HoldsTwin, IsTwin}
+use Rattle.store_core.proofs.KeepingSegments.{node_level}
 use Rattle.store_machine.specs.Asked as asked
-use Rattle.store_machine.specs.Legal.{DifferBy, Fits, IsClash, IsLacked}
-use Rattle.store_machine.specs.Needs.{HasCopy}
-use Rattle.store_machine.specs.Remembering.{AddsToAnswer, IsWhole, RootMachine}
+use Rattle.store_machine.specs.Legal.{DifferBy, Fits, IsClash}
+use Rattle.store_machine.specs.Remembering.{IsWhole}
 use Rattle.core_machine.specs.Bytes.{ClashesWith}
-use Rattle.core_machine.specs.Files.{stored_in}
-use Rattle.core_machine.specs.Refines.{TellsForgotten, answered_by}
 
 -- the first difference, of bytes of one length
 first_differ : (place mine other : ℕ) (offered held : List ℕ) → length offered ≡ length held → FirstDifference offered held place mine other

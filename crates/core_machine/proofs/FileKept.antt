@@ -1,32 +1,13 @@
 -- A core that was at the files of a machine is at those of the machine that a step made of it, where the step is none of a collection.
-use Rattle.std.proofs.Common.{◌≡◌, ℕ, List, [], ◌∷◌, None, Some, Result, Ok, Err, refl, sym, ◌∙◌, ap, subst}
-use Rattle.disk_format.specs.Cells.{Root}
-use Rattle.actor_parts.specs.declared.step.Answer.{Answer}
+use Rattle.core_machine.proofs.Prelude.{◌≡◌, ℕ, List, [], ◌∷◌, None, Some, Result, Ok, Err, refl, sym, ◌∙◌, ap, subst, Root, Answer, StepValue, Refusal, ByteSet, IsIn, Stored, Store, IsSettled, ChangesTo, FileEvent, IsAt, IsNoGcStep, changes_by, stored_by, stored_with, CoreState, NextOn, stays_settled, Asked, FileMachine, Answers, ByState, LegalBy, Refuses, RefusesClaim, RefusesCommit, RefusesDelete, RefusesOn, RefusesSeal, RunState, Running, keeping, RootMachine, of_files, IsOfFile, stored_in, answered_by, asked_as, segment_key}
 use Rattle.actor_parts.specs.declared.step.Answer.TheVariants as answers
 use Rattle.actor_parts.specs.StepValue as steps
-use Rattle.actor_parts.specs.StepValue.{StepValue}
-use Rattle.refusals.specs.declared.refusal.Refusal.{Refusal}
 use Rattle.refusals.specs.declared.refusal.Refusal.TheVariants as refusals
-use Rattle.store_model.specs.Collisions.{ByteSet, IsIn}
-use Rattle.store_model.specs.Files.{Stored}
-use Rattle.store_model.specs.Image.{Store}
-use Rattle.store_state.specs.Settled.{IsSettled}
-use Rattle.store_core.specs.Runs.{ChangesTo, FileEvent, IsAt, IsNoGcStep, changes_by, stored_by, stored_with}
-use Rattle.store_core.specs.State.{CoreState}
-use Rattle.store_core.proofs.KeepingFiles.{NextOn, file_step}
-use Rattle.store_core.proofs.KeepingSegments.{stays_settled}
-use Rattle.store_machine.specs.Asked.{Asked}
-use Rattle.store_machine.specs.ByMap.{FileMachine}
+use Rattle.store_core.proofs.KeepingFiles.{file_step}
 use Rattle.store_machine.specs.Done.{Done}
-use Rattle.store_machine.specs.Legal.{Answers, ByState, LegalBy, Refuses, RefusesClaim, RefusesCommit, RefusesDelete, RefusesOn, RefusesSeal}
-use Rattle.store_machine.specs.Machine.{Collection, RunState, Running, keeping}
-use Rattle.store_machine.specs.Remembering.{RootMachine}
-use Rattle.store_machine.specs.Values.{of_files}
-use Rattle.core_machine.specs.Files.{IsOfFile, stored_in}
-use Rattle.core_machine.specs.Refines.{answered_by, asked_as}
+use Rattle.store_machine.specs.Machine.{Collection}
 use Rattle.core_machine.proofs.FileSteps.{StepsAt, StepsTo}
 use Rattle.core_machine.proofs.FileWritten.{KeepsWritten, keeping_written, none_written, same_written}
-use Rattle.container_meta.specs.Segments.{segment_key}
 use Rattle.store_machine.specs.Needs.{keys_of}
 
 -- ---- names and store are as they were

@@ -1,50 +1,22 @@
 -- Just what the machine of files needed as its collection began, or since, is live in a core that is at its files, after each step.
-use Rattle.std.proofs.Common.{◌≡◌, ◌↔◌, ℕ, List, [], ◌∷◌, ◌++◌, Contains, Option, Some, None, Result, Ok, Err, refl, sym, ◌∙◌, ap, subst}
+use Rattle.core_machine.proofs.Prelude.{◌≡◌, ◌↔◌, ℕ, List, [], ◌∷◌, ◌++◌, Option, Some, None, Result, Ok, Err, refl, sym, ◌∙◌, ap, subst, PlaceMap, segment_key, Answer, StepValue, Phase, Refusal, Filter, Mark, Select, IsSafe, CoreStepsTo, Touches, moment, IsStoreAfter, Next, IsLive, IsLater, ending_of, ByteSet, IsIn, Stored, Store, some_same, blames, GcEffect, GcRow, CoreGoesOn, IsKeptKey, IsNotMade, StartRow, TouchesBy, at_moment, Effect, Rests, Row, Steps, StopsAfter, FileEvent, IsAt, IsSafeIn, stored_by, CoreState, running_step, contains_one, led_to, same_some, Asked, FileMachine, marking, marks_of, Answers, MachineCollection, keeping, NeededSince, OneNeeds, keys_kept, values_read, RootMachine, of_files, stored_in, LivesJust, answered_by, asked_as}
+use Rattle.std.proofs.Common.{Contains}
 use Rattle.std.specs.FinMap as finite
-use Rattle.container_meta.specs.Places.{PlaceMap}
-use Rattle.container_meta.specs.Segments.{segment_key}
-use Rattle.actor_parts.specs.declared.step.Answer.{Answer}
 use Rattle.actor_parts.specs.declared.step.Answer.TheVariants as answers
 use Rattle.actor_parts.specs.StepValue as steps
-use Rattle.actor_parts.specs.StepValue.{StepValue}
-use Rattle.refusals.specs.declared.refusal.Phase.{Phase}
-use Rattle.refusals.specs.declared.refusal.Refusal.{Refusal}
 use Rattle.refusals.specs.declared.refusal.Refusal.TheVariants as refusals
 use Rattle.gc_steps.specs.declared.collection.Collection.{Collection}
 use Rattle.gc_steps.specs.declared.collection.Stage.{Stage}
-use Rattle.gc_steps.specs.declared.collection.Stage.TheVariants.{Filter, Mark, Select, Sweep}
-use Rattle.gc_steps.specs.Safety.{IsSafe}
-use Rattle.gc_steps.specs.Stepping.{Keeps, StepsTo as CoreStepsTo, Touches, moment}
-use Rattle.gc_steps.proofs.StepSafe.{IsStoreAfter}
-use Rattle.gc_sweep.specs.declared.sweep.Next.{Next}
-use Rattle.gc_sweep.specs.Holding.{IsLive}
-use Rattle.dd_disk.specs.View.{IsLater}
-use Rattle.dd_disk.specs.Ending.{Done as DoneEnding, ending_of}
-use Rattle.store_model.specs.Collisions.{ByteSet, IsIn}
-use Rattle.store_model.specs.Files.{Stored}
-use Rattle.store_model.specs.Image.{Store}
-use Rattle.store_model.proofs.Copies.{some_same}
-use Rattle.store_state.specs.Refused.{blames}
-use Rattle.store_core.specs.Collecting.{Begins as CoreBegins, GcEffect, GcRow, GoesOn as CoreGoesOn, IsKeptKey, IsNotMade, StartRow, TouchesBy, at_moment}
-use Rattle.store_core.specs.Core.{Effect, Rests, Row, Steps, StopsAfter}
-use Rattle.store_core.specs.Runs.{FileEvent, IsAt, IsSafeIn, stored_by}
-use Rattle.store_core.specs.State.{CoreState}
-use Rattle.store_core.proofs.CoreRuns.{running_step}
-use Rattle.store_core.proofs.Marks.{contains_one}
-use Rattle.store_core.proofs.SparedRest.{leaves, led_to, refused_known, same_some}
+use Rattle.gc_steps.specs.declared.collection.Stage.TheVariants.{Sweep}
+use Rattle.gc_steps.specs.Stepping.{Keeps}
+use Rattle.dd_disk.specs.Ending.{Done as DoneEnding}
+use Rattle.store_core.specs.Collecting.{Begins as CoreBegins}
+use Rattle.store_core.proofs.SparedRest.{leaves, refused_known}
 use Rattle.store_core.proofs.Standing.{containers_stay}
-use Rattle.store_machine.specs.Asked.{Asked}
-use Rattle.store_machine.specs.ByMap.{FileMachine}
-use Rattle.store_machine.specs.Collecting.{Begins, GoesOn, marking, marks_of}
-use Rattle.store_machine.specs.Legal.{Answers}
-use Rattle.store_machine.specs.Machine.{Collection as MachineCollection, keeping}
-use Rattle.store_machine.specs.Needs.{NeededSince, OneNeeds, keys_kept, keys_of, values_read}
-use Rattle.store_machine.specs.Remembering.{RootMachine}
-use Rattle.store_machine.specs.Values.{of_files}
+use Rattle.store_machine.specs.Collecting.{Begins, GoesOn}
+use Rattle.store_machine.specs.Needs.{keys_of}
 use Rattle.store_machine.proofs.Beside.{refused_keeps}
-use Rattle.core_machine.specs.Files.{LivesByNeed, stored_in}
-use Rattle.core_machine.specs.Lives.{LivesJust}
-use Rattle.core_machine.specs.Refines.{answered_by, asked_as}
+use Rattle.core_machine.specs.Files.{LivesByNeed}
 use Rattle.core_machine.proofs.FileKept.{answers_by, comes, next}
 use Rattle.core_machine.proofs.FileNeeds.{all_fit}
 use Rattle.core_machine.proofs.FileRoots.{NeededNow, needed_below, needed_closed, roots_needed}

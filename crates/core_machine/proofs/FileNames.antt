@@ -1,28 +1,15 @@
 -- What the names of the machine of files need is just what can be reached of their files; and of an image that is a store of files the names
 -- have the roots of these.
-use Rattle.std.proofs.Common.{◌≡◌, ℕ, zero, suc, Bool, true, false, cond, List, [], ◌∷◌, map, Contains, Ordering, Less, Equal, Option, Some, None, option_map, T, refl, sym, ◌∙◌, ap, subst, arith}
+use Rattle.core_machine.proofs.Prelude.{◌≡◌, ℕ, zero, suc, Bool, true, false, cond, List, [], ◌∷◌, Option, Some, None, option_map, refl, sym, ◌∙◌, ap, subst, arith, nat_list_cmp_total, eq_by_cmp, Contains-append_right, HeaderValue, Root, Named, Store, last_sequence, names_of, IsReachable, FitsFile, files_fit, SameNow, Found, NamesNeed, IsNamedBy, of_files, order}
+use Rattle.std.proofs.Common.{map, Contains, Ordering, Less, Equal, T}
 use Rattle.std.specs.Cmp.{tied_itself}
-use Rattle.std.specs.Cmp.Lexicographic.{nat_list_cmp_total}
-use Rattle.std.specs.Ordering.{eq_by_cmp, is_eq}
+use Rattle.std.specs.Ordering.{is_eq}
 use Rattle.std.specs.FinMap as finite
 use Rattle.std.specs.FinMap.Entries.{below_all, find, is_sorted}
-use Rattle.std.proofs.lemmas.List.Elements.{Contains-append_right}
-use Rattle.container_meta.specs.Spelling.{HeaderValue}
-use Rattle.disk_format.specs.Cells.{Root}
-use Rattle.namespace.specs.declared.record.Named.{Named}
 use Rattle.namespace.proofs.Again.{first, second, is_less}
 use Rattle.namespace.proofs.Entries.{is_equal}
-use Rattle.store_model.specs.Image.{Store, last_sequence, names_of}
-use Rattle.store_model.specs.Reserve.{IsReachable}
 use Rattle.store_model.specs.Standing.{IsFileOf, IsStoreOf}
 use Rattle.store_model.specs.Trees.{root_of}
-use Rattle.store_model.proofs.SameFiles.{FitsFile, files_fit}
-use Rattle.store_machine.specs.Forgetting.{SameNow}
-use Rattle.store_machine.specs.Machine.{Found}
-use Rattle.store_machine.specs.Needs.{NamesNeed}
-use Rattle.store_machine.specs.Opening.{IsNamedBy}
-use Rattle.store_machine.specs.Values.{of_files}
-use Rattle.store_machine.proofs.SameNames.{order}
 
 -- ---- the values of a map
 

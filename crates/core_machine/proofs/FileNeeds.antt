@@ -1,28 +1,16 @@
 -- What the files of a machine need, its actors and its collection, the index of a core that is at them has.
-use Rattle.std.proofs.Common.{◌≡◌, inl, inr, ℕ, suc, List, [], ◌∷◌, Contains, Option, refl, sym, ◌∙◌, subst}
+use Rattle.core_machine.proofs.Prelude.{◌≡◌, inl, inr, ℕ, suc, List, [], ◌∷◌, Option, refl, sym, ◌∙◌, subst, AllByRecursion, Contains-append_cases, PlaceMap, HeaderValue, Reader, PinMap, Root, Top, keys_there, tree_keys, HasKey, file_tree, HoldsPart, Machine, Reading, CollectionNeeds, keys_kept, values_read, of_files, none_in}
+use Rattle.std.proofs.Common.{Contains}
 use Rattle.std.specs.Prelude.{slice_index_or}
 use Rattle.std.specs.FinMap as finite
-use Rattle.std.specs.List.{AllByRecursion}
-use Rattle.std.proofs.lemmas.List.Elements.{Contains-append_cases}
-use Rattle.container_meta.specs.Places.{PlaceMap}
-use Rattle.container_meta.specs.Spelling.{HeaderValue}
 use Rattle.actor_parts.specs.declared.part.Part as core_part
 use Rattle.actor_parts.specs.declared.part.Part.TheVariants as core
-use Rattle.actor_parts.specs.declared.part.Reader.{Reader}
 use Rattle.actor_parts.specs.Parts.{part_of}
-use Rattle.actor_parts.specs.PinMap.{PinMap}
-use Rattle.disk_format.specs.Cells.{Root}
-use Rattle.merkle_file.specs.declared.top.Top.{Top}
-use Rattle.gc_steps.proofs.Marked.{keys_there}
-use Rattle.store_model.specs.Reserve.{tree_keys}
-use Rattle.store_model.specs.Slots.{HasKey}
-use Rattle.store_model.specs.Trees.{file_tree}
-use Rattle.store_state.specs.Invariant.{HoldsPart, IndexesFiles}
+use Rattle.store_state.specs.Invariant.{IndexesFiles}
 use Rattle.store_machine.specs.Forgetting as forgetting
-use Rattle.store_machine.specs.Machine.{Machine, Part, Idle, Writing, Reading}
-use Rattle.store_machine.specs.Needs.{CollectionNeeds, IsNeeded, keys_kept, values_read}
-use Rattle.store_machine.specs.Values.{of_files}
-use Rattle.store_machine.proofs.Swept.{in_cases, none_in}
+use Rattle.store_machine.specs.Machine.{Part, Idle, Writing}
+use Rattle.store_machine.specs.Needs.{IsNeeded}
+use Rattle.store_machine.proofs.Swept.{in_cases}
 use Rattle.core_machine.specs.Refines as refines
 use Rattle.core_machine.proofs.FileNames.{needs_reach}
 

@@ -1,45 +1,24 @@
 -- An opening, at first or again, of a disk that stands for files is one of the machine of files, which then stands for what was opened.
-use Rattle.std.proofs.Common.{◌≢◌, ◌≡◌, ◌⊎◌, inl, inr, ◌<◌, ◌≤◌, ℕ, zero, suc, true, false, IsTrue, List, [], ◌∷◌, replicate, slice_index_or, take, Some, None, Ok, Err, refl, sym, ◌∙◌, ap, subst, arith}
+use Rattle.core_machine.proofs.Prelude.{◌≢◌, ◌≡◌, ◌⊎◌, inl, inr, ◌<◌, ◌≤◌, ℕ, zero, suc, true, false, List, [], ◌∷◌, replicate, take, Some, None, Ok, Err, refl, sym, ◌∙◌, ap, subst, arith, AllByRecursion, ACTORS, Shows, DiskView, OnlyReads, shown_content, RESERVE, RoomMade, RoomUnmade, Refusal, ByteSet, IsIn, IsOf, OpensAs, FreesSome, FreesTo, IsPartlyFreed, with_all_freed, Encodes, Store, last_sequence, IsReachable, free_slots, last_id, store_once, IsReadFrom, OpensCore, OpensNone, WritesUnread, IsAt, CoreState, FileMachine, SameNow, Found, Reading, RunState, Running, Stopped, all_idle, NamesNeed, IsGivenBack, IsNamedBy, MayRefuseOpening, freeing, RootMachine, of_files, of_roots, KnownWith, ChangesBytes, FitsBy, IsAtFiles, IsFileMachine, MayStand, StandsFor, stored_in, stores_freed, stores_left, IsMachine}
+use Rattle.std.proofs.Common.{IsTrue, slice_index_or}
 use Rattle.std.specs.FinMap as finite
-use Rattle.std.specs.List.{AllByRecursion}
-use Rattle.actor_parts.specs.declared.actor.TheConstants.{ACTORS}
-use Rattle.dd_disk.specs.Shows.{Shows}
-use Rattle.dd_disk.specs.View.{DiskView, OnlyReads}
-use Rattle.dd_disk.proofs.Shows.{shown_content}
-use Rattle.disk_format.specs.declared.numbers.TheConstants.{RESERVE}
 use Rattle.recovery.specs.Opening as recovery
-use Rattle.recovery.specs.Room.{IsNotFull, RoomMade, RoomUnmade}
-use Rattle.refusals.specs.declared.refusal.Refusal.{Refusal}
+use Rattle.recovery.specs.Room.{IsNotFull}
 use Rattle.refusals.specs.declared.refusal.Refusal.TheVariants as refusals
-use Rattle.store_model.specs.Collisions.{ByteSet, IsIn, IsOf, OpensAs}
-use Rattle.store_model.specs.Freeing.{FreesSome, FreesTo, IsPartlyFreed, with_all_freed}
-use Rattle.store_model.specs.Image.{Encodes, Store, last_sequence}
-use Rattle.store_model.specs.Reserve.{IsReachable}
-use Rattle.store_model.specs.Slots.{free_slots, last_id}
 use Rattle.store_model.specs.Standing.{IsStoreOf}
 use Rattle.store_model.proofs.FreedFiles.{frees_some, freed_to, opens_of}
-use Rattle.store_model.proofs.Once.{store_once}
 use Rattle.store_state.specs.Refused.{fails}
-use Rattle.store_core.specs.Opening.{BeginsAt, IsGivenUp, IsKept, IsReadFrom, OpensCore, OpensNone, StaysOrStops, WritesUnread}
-use Rattle.store_core.specs.Runs.{IsAt}
-use Rattle.store_core.specs.State.{CoreState}
+use Rattle.store_core.specs.Opening.{BeginsAt, IsGivenUp, IsKept, StaysOrStops}
 use Rattle.store_core.proofs.Opened.{begins_at}
-use Rattle.store_machine.specs.ByMap.{FileMachine}
 use Rattle.store_machine.specs.Done as done
-use Rattle.store_machine.specs.Forgetting.{Forgets, SameNow, SameParts}
-use Rattle.store_machine.specs.Machine.{Found, Part, Idle, Reading, RunState, Running, Stopped, all_idle}
-use Rattle.store_machine.specs.Needs.{NamesNeed}
-use Rattle.store_machine.specs.Opening.{IsGivenBack, IsNamedBy, MayRefuseOpening, Opens, Stands, freeing}
-use Rattle.store_machine.specs.Remembering.{RootMachine}
-use Rattle.store_machine.specs.Values.{of_files, of_roots}
+use Rattle.store_machine.specs.Forgetting.{Forgets, SameParts}
+use Rattle.store_machine.specs.Machine.{Part, Idle}
+use Rattle.store_machine.specs.Opening.{Opens, Stands}
 use Rattle.store_machine.proofs.Forgotten.{still_same}
 use Rattle.store_machine.proofs.SameNames.{len_same}
-use Rattle.base_model.specs.Known.{KnownWith}
-use Rattle.core_machine.specs.Bytes.{BeganRoom, ChangesBytes, LeavesUnopened, MadeRoom}
+use Rattle.core_machine.specs.Bytes.{BeganRoom, LeavesUnopened, MadeRoom}
 use Rattle.core_machine.specs.FileOpenings.{LeavesFor, FilesOpened, FilesReopenedNot, FilesUnopened, Reopens, opening}
-use Rattle.core_machine.specs.Files.{FitsBy, IsAtFiles, IsFileMachine, MayStand, StandsFor, stored_in}
-use Rattle.core_machine.specs.Openings.{LeavesMachine, store_read, stores_freed, stores_left}
-use Rattle.core_machine.specs.Refines.{IsMachine}
+use Rattle.core_machine.specs.Openings.{LeavesMachine, store_read}
 use Rattle.core_machine.proofs.Bytes.{known_of}
 use Rattle.core_machine.proofs.FileFreed.{all_needed, each_given, found_still, given_back, on_the_way, some_needed, stands_still, stands_too}
 use Rattle.core_machine.proofs.FileNames.{now_of_store, named_by}

@@ -1,17 +1,12 @@
 -- What actors are at in a machine of files and in a core that is one: what writers keep is pinned, and what readers read is read.
-use Rattle.std.proofs.Common.{◌≡◌, ◌<◌, inl, inr, ℕ, zero, suc, List, [], ◌∷◌, length, slice_index_or, Contains, refl, sym, ◌∙◌, ap, subst, arith}
+use Rattle.core_machine.proofs.Prelude.{◌≡◌, ◌<◌, inl, inr, ℕ, zero, suc, List, [], ◌∷◌, length, refl, sym, ◌∙◌, ap, subst, arith, Contains-append_cases, Contains-append_left, Contains-append_right, Reader, PinMap, IsPartKey, contains_first, contains_none, keys_there, Reading, keys_kept, values_read, FilePart}
+use Rattle.std.proofs.Common.{slice_index_or, Contains}
 use Rattle.std.specs.FinMap as finite
-use Rattle.std.proofs.lemmas.List.Elements.{Contains-append_cases, Contains-append_left, Contains-append_right}
 use Rattle.actor_parts.specs.declared.part.Part as core_part
 use Rattle.actor_parts.specs.declared.part.Part.TheVariants as core
-use Rattle.actor_parts.specs.declared.part.Reader.{Reader}
 use Rattle.actor_parts.specs.Parts.{part_of}
-use Rattle.actor_parts.specs.PinMap.{PinMap}
-use Rattle.gc_steps.specs.Roots.{IsPartKey}
-use Rattle.gc_steps.proofs.Marked.{contains_first, contains_head, contains_next, contains_none, keys_there}
-use Rattle.store_machine.specs.Machine.{Part, Idle, Writing, Reading}
-use Rattle.store_machine.specs.Needs.{keys_kept, values_read}
-use Rattle.store_machine.proofs.Parts.{FilePart}
+use Rattle.gc_steps.proofs.Marked.{contains_head, contains_next}
+use Rattle.store_machine.specs.Machine.{Part, Idle, Writing}
 use Rattle.core_machine.proofs.FileNeeds.{AllFit, PartsFit}
 
 -- ---- an actor

@@ -1,37 +1,21 @@
 -- What reads of files add to the steps of the machine of roots, and that each actor that reads a file reads it still after a step.
-use Rattle.std.proofs.Common.{◌≡◌, ◌<◌, ℕ, zero, suc, List, [], ◌∷◌, length, slice_index_or, Option, Some, Result, Ok, Err, refl, sym, ◌∙◌, ap, subst}
+use Rattle.core_machine.proofs.Prelude.{◌≡◌, ◌<◌, ℕ, zero, suc, List, [], ◌∷◌, length, Option, Some, Result, Ok, Err, refl, sym, ◌∙◌, ap, subst, Reader, Answer, StepValue, apart, Root, Top, Refusal, SegmentsAhead, ByteSet, IsIn, ReadRow, Row, Steps, FileEvent, IsAt, IsHarmless, MayClash, CoreState, running_step, never_damaged, FileMachine, Reading, part_in, Adds, AddsToAnswer, RootMachine, FilePart, ReadsFiles, stored_in, answered_by}
+use Rattle.std.proofs.Common.{slice_index_or}
 use Rattle.std.specs.Prelude.{IfErr}
 use Rattle.actor_parts.specs.declared.part.Part as core_part
 use Rattle.actor_parts.specs.declared.part.Part.TheVariants as core
-use Rattle.actor_parts.specs.declared.part.Reader.{Reader}
-use Rattle.actor_parts.specs.declared.step.Answer.{Answer}
 use Rattle.actor_parts.specs.declared.step.Answer.TheVariants as answers
 use Rattle.actor_parts.specs.Parts.{part_of}
 use Rattle.actor_parts.specs.StepValue as steps
-use Rattle.actor_parts.specs.StepValue.{StepValue}
-use Rattle.actor_parts.proofs.Apart.{apart}
-use Rattle.disk_format.specs.Cells.{Root}
-use Rattle.merkle_file.specs.declared.top.Top.{Top}
-use Rattle.refusals.specs.declared.refusal.Refusal.{Refusal}
 use Rattle.refusals.specs.declared.refusal.Refusal.TheVariants as refusals
 use Rattle.read_steps.specs.Readers as readers
-use Rattle.read_steps.specs.Walking.{SegmentsAhead}
-use Rattle.store_model.specs.Collisions.{ByteSet, IsIn}
-use Rattle.store_core.specs.Core.{GivesHeld, ReadRow, Row, Steps}
-use Rattle.store_core.specs.Runs.{FileEvent, IsAt}
-use Rattle.store_core.specs.Sound.{IsHarmless, MayClash}
-use Rattle.store_core.specs.State.{CoreState}
-use Rattle.store_core.proofs.CoreRuns.{running_step}
-use Rattle.store_core.proofs.Damage.{never_damaged}
-use Rattle.store_machine.specs.ByMap.{FileMachine}
+use Rattle.store_core.specs.Core.{GivesHeld}
 use Rattle.store_machine.specs.Asked as asked
 use Rattle.store_machine.specs.Forgetting as forgetting
-use Rattle.store_machine.specs.Machine.{Idle, Writing, Reading, part_in}
-use Rattle.store_machine.specs.Remembering.{Adds, AddsToAnswer, RootMachine}
-use Rattle.store_machine.proofs.Parts.{FilePart, RootPart}
-use Rattle.core_machine.specs.Files.{ReadsFiles, Takes, file_step, stored_in}
+use Rattle.store_machine.specs.Machine.{Idle, Writing}
+use Rattle.store_machine.proofs.Parts.{RootPart}
+use Rattle.core_machine.specs.Files.{Takes, file_step}
 use Rattle.core_machine.specs.Refines as refines
-use Rattle.core_machine.specs.Refines.{answered_by}
 use Rattle.core_machine.proofs.Coming.{ahead_at, indexed_at, takes_at, whole_at}
 use Rattle.core_machine.proofs.FileNeeds.{AllFit, PartsFit, all_fit}
 use Rattle.core_machine.proofs.FileParts.{fit_at}

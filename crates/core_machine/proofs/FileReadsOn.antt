@@ -1,40 +1,22 @@
 -- Each actor that reads a file reads it still after a step that didn't stop the core: its tree is held, and what is to come of it.
-use Rattle.std.proofs.Common.{◌≡◌, ◌≢◌, inl, inr, ◌<◌, ℕ, zero, suc, List, [], ◌∷◌, length, slice_index_or, slice_set, take, Option, Some, None, Result, Ok, Err, refl, sym, ◌∙◌, ap, subst, arith}
+use Rattle.core_machine.proofs.Prelude.{◌≡◌, ◌≢◌, inl, inr, ◌<◌, ℕ, zero, suc, List, [], ◌∷◌, length, slice_set, take, Option, Some, None, Result, Ok, Err, refl, sym, ◌∙◌, ap, subst, arith, Reader, Answer, StepValue, apart, Refusal, ByteSet, IsIn, key_set, tree_keys, file_tree, contained, in_set, FitsFile, files_fit, OpenRow, ReadRow, Row, Steps, FileEvent, IsAt, IsNoGcStep, changes_by, stored_by, CoreState, running_step, Leads, FileMachine, Answers, Reading, part_in, RootMachine, StaysAt, of_files, FilePart, ReadsFiles, stored_in, answered_by, asked_as}
+use Rattle.std.proofs.Common.{slice_index_or}
 use Rattle.std.proofs.lemmas.Bool.{cases_eq}
 use Rattle.actor_parts.specs.declared.part.Part as core_part
 use Rattle.actor_parts.specs.declared.part.Part.TheVariants as core
-use Rattle.actor_parts.specs.declared.part.Reader.{Reader}
-use Rattle.actor_parts.specs.declared.step.Answer.{Answer}
 use Rattle.actor_parts.specs.declared.step.Answer.TheVariants as answers
 use Rattle.actor_parts.specs.Parts.{part_of, with_part}
 use Rattle.actor_parts.specs.StepValue as steps
-use Rattle.actor_parts.specs.StepValue.{StepValue}
-use Rattle.actor_parts.proofs.Apart.{apart}
-use Rattle.refusals.specs.declared.refusal.Refusal.{Refusal}
 use Rattle.refusals.specs.declared.refusal.Refusal.TheVariants as refusals
 use Rattle.read_steps.specs.Readers as readers
 use Rattle.segmenter.specs.Segments.{segments_of}
-use Rattle.store_model.specs.Collisions.{ByteSet, IsIn}
-use Rattle.store_model.specs.Reserve.{key_set, tree_keys}
 use Rattle.store_model.specs.Standing.{IsStoreOf}
-use Rattle.store_model.specs.Trees.{file_tree}
-use Rattle.store_model.proofs.Counted.{contained, in_set}
-use Rattle.store_model.proofs.SameFiles.{FitsFile, files_fit}
-use Rattle.store_core.specs.Core.{OpenRow, ReadRow, Row, Steps}
-use Rattle.store_core.specs.Runs.{FileEvent, IsAt, IsNoGcStep, changes_by, stored_by}
-use Rattle.store_core.specs.State.{CoreState}
 use Rattle.store_core.proofs.AnySteps.{any_step}
-use Rattle.store_core.proofs.CoreRuns.{running_step}
 use Rattle.store_core.proofs.KeepingFiles.{file_step as next_on}
-use Rattle.store_core.proofs.Leading.{IsSpared, Leads}
-use Rattle.store_machine.specs.ByMap.{FileMachine}
-use Rattle.store_machine.specs.Legal.{Answers}
-use Rattle.store_machine.specs.Machine.{Idle, Reading, part_in}
-use Rattle.store_machine.specs.Remembering.{RootMachine}
-use Rattle.store_machine.specs.Values.{StaysAt, of_files}
-use Rattle.store_machine.proofs.Parts.{FilePart, put_told}
-use Rattle.core_machine.specs.Files.{ReadsFiles, Takes, stored_in}
-use Rattle.core_machine.specs.Refines.{answered_by, asked_as}
+use Rattle.store_core.proofs.Leading.{IsSpared}
+use Rattle.store_machine.specs.Machine.{Idle}
+use Rattle.store_machine.proofs.Parts.{put_told}
+use Rattle.core_machine.specs.Files.{Takes}
 use Rattle.core_machine.proofs.CollectTakes.{takes_still}
 use Rattle.core_machine.proofs.Coming.{takes_at, takes_on}
 use Rattle.core_machine.proofs.CollectNeeds.{needs_here}

@@ -1,33 +1,14 @@
 -- What a machine of files needs as a collection begins, of a core that is at its files: the collection's roots, with a node its children, and
 -- nothing that doesn't lie below a root.
-use Rattle.std.proofs.Common.{◌≡◌, ◌⊎◌, ◌<◌, inl, inr, ℕ, List, ◌++◌, length, Contains, Some, refl, sym, subst, arith}
+use Rattle.core_machine.proofs.Prelude.{◌≡◌, ◌⊎◌, ◌<◌, inl, inr, ℕ, List, ◌++◌, length, Some, refl, sym, subst, arith, Contains-append_cases, Contains-append_left, Contains-append_right, ACTORS, Reader, PinMap, LiveKeys, IsLive, IsPartKey, IsRoot, Stored, names_of, IsReachable, tree_keys, HasKey, file_tree, node_key, HoldsPart, IsAt, CoreState, all_part, FileMachine, Reading, part_in, OneNeeds, keys_kept, values_read, of_files, FilePart, ReadsFiles, stored_in}
+use Rattle.std.proofs.Common.{Contains}
 use Rattle.std.specs.FinMap as finite
-use Rattle.std.proofs.lemmas.List.Elements.{Contains-append_cases, Contains-append_left, Contains-append_right}
-use Rattle.actor_parts.specs.declared.actor.TheConstants.{ACTORS}
 use Rattle.actor_parts.specs.declared.part.Part as core_part
 use Rattle.actor_parts.specs.declared.part.Part.TheVariants as core
-use Rattle.actor_parts.specs.declared.part.Reader.{Reader}
 use Rattle.actor_parts.specs.Parts.{part_of}
-use Rattle.actor_parts.specs.PinMap.{PinMap}
-use Rattle.gc_enumerate.specs.Live.{LiveKeys}
-use Rattle.gc_sweep.specs.Holding.{IsLive}
-use Rattle.gc_steps.specs.Roots.{IsPartKey, IsRoot}
 use Rattle.gc_steps.proofs.FileKeys.{name_reachable}
-use Rattle.store_model.specs.Files.{Stored}
-use Rattle.store_model.specs.Image.{names_of}
-use Rattle.store_model.specs.Reserve.{IsReachable, tree_keys}
-use Rattle.store_model.specs.Slots.{HasKey}
-use Rattle.store_model.specs.Trees.{file_tree, node_key}
-use Rattle.store_state.specs.Invariant.{HoldsPart}
-use Rattle.store_core.specs.Runs.{IsAt}
-use Rattle.store_core.specs.State.{CoreState}
-use Rattle.store_core.proofs.OwnParts.{all_part}
-use Rattle.store_machine.specs.ByMap.{FileMachine}
-use Rattle.store_machine.specs.Machine.{Idle, Writing, Reading, part_in}
-use Rattle.store_machine.specs.Needs.{OneNeeds, keys_kept, values_read}
-use Rattle.store_machine.specs.Values.{of_files}
-use Rattle.store_machine.proofs.Parts.{FilePart}
-use Rattle.core_machine.specs.Files.{ReadsFiles, Takes, stored_in}
+use Rattle.store_machine.specs.Machine.{Idle, Writing}
+use Rattle.core_machine.specs.Files.{Takes}
 use Rattle.core_machine.proofs.BelowRoots.{Below, below_closed, files_below, root_below, root_taken, taken_below, taken_closed}
 use Rattle.core_machine.proofs.CollectNeeds.{needs_closed, needs_here}
 use Rattle.core_machine.proofs.FileNames.{needs_reach, reach_needs}

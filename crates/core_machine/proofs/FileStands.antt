@@ -1,14 +1,7 @@
 -- A core that is at the files of a machine stands for them; so does the disk of each core of a machine, also where it is stopped.
-use Rattle.std.proofs.Common.{◌≡◌, ℕ, List, refl, sym, subst}
-use Rattle.store_model.specs.Collisions.{IsIn, OpensAs}
-use Rattle.store_core.specs.State.{CoreState}
-use Rattle.store_core.proofs.Crashes.{last_at, opens_at}
-use Rattle.store_machine.specs.ByMap.{FileMachine}
-use Rattle.store_machine.specs.Machine.{RunState, Running, Stopped}
-use Rattle.store_machine.specs.Opening.{MayBeFound, Stands}
-use Rattle.store_machine.specs.Values.{of_files}
+use Rattle.core_machine.proofs.Prelude.{◌≡◌, ℕ, List, refl, sym, subst, IsIn, OpensAs, CoreState, last_at, opens_at, FileMachine, RunState, Running, Stopped, MayBeFound, of_files, FitsBy, IsAtFiles, IsFileMachine, MayStand, StandsFor, stored_in}
+use Rattle.store_machine.specs.Opening.{Stands}
 use Rattle.core_machine.specs.FileOpenings.{DisksStand}
-use Rattle.core_machine.specs.Files.{FitsBy, IsAtFiles, IsFileMachine, MayStand, StandsFor, stored_in}
 
 -- an image that may stand can be opened as its files
 pub stands_opens : (S : List ℕ → Type 0) (m : FileMachine) (image : List ℕ) → (stand : MayStand S m image) → OpensAs S (stored_in stand.found) image

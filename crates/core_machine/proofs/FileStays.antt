@@ -1,25 +1,10 @@
 -- A core that is at the files of a machine is at them still, where nothing of it is another and its disk was only read; and a disk that was
 -- only read stands for what it did.
-use Rattle.std.proofs.Common.{◌≡◌, ℕ, List, length, Option, Some, sym, ◌∙◌, ap, subst}
-use Rattle.std.specs.List.{AllByRecursion}
-use Rattle.dd_disk.specs.View.{DiskView, OnlyReads}
-use Rattle.container_meta.specs.Places.{PlaceMap}
+use Rattle.core_machine.proofs.Prelude.{◌≡◌, ℕ, List, length, Option, Some, sym, ◌∙◌, ap, subst, AllByRecursion, DiskView, OnlyReads, PlaceMap, Reader, Stored, IsValidFor, Store, HasKey, Tables, HoldsPart, IsSettled, Represents, IsAt, IsSafeIn, CoreState, IsUnderWayIn, FileMachine, IsAtFiles, StandsFor, stored_in, LivesJust}
 use Rattle.actor_parts.specs.declared.part.Part.{Part}
-use Rattle.actor_parts.specs.declared.part.Reader.{Reader}
 use Rattle.actor_parts.specs.Parts.{part_of}
 use Rattle.gc_steps.specs.declared.collection.Collection.{Collection}
-use Rattle.store_model.specs.Files.{Stored}
-use Rattle.store_model.specs.Image.{IsValidFor, Store}
-use Rattle.store_model.specs.Slots.{HasKey}
-use Rattle.store_state.specs.declared.tables.Tables.{Tables}
-use Rattle.store_state.specs.Invariant.{HoldsPart}
-use Rattle.store_state.specs.Settled.{IsSettled}
-use Rattle.store_state.specs.Tables.{Represents}
-use Rattle.store_core.specs.Runs.{IsAt, IsSafeIn}
-use Rattle.store_core.specs.State.{CoreState, IsUnderWayIn}
-use Rattle.store_machine.specs.ByMap.{FileMachine}
-use Rattle.core_machine.specs.Files.{IsAtFiles, StandsFor, Takes, stored_in}
-use Rattle.core_machine.specs.Lives.{LivesJust}
+use Rattle.core_machine.specs.Files.{Takes}
 
 pub stands_read : (S : List ℕ → Type 0) (m : FileMachine) (old new : DiskView) → OnlyReads old new → StandsFor S m old → StandsFor S m new
 stands_read S m old new reads stands =

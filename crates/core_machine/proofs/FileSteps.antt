@@ -1,19 +1,8 @@
 -- A step of a core that is at the files of a machine: what is known of it before its parts are proved.
-use Rattle.std.proofs.Common.{◌≡◌, ◌⊎◌, inl, inr, true, None, refl}
+use Rattle.core_machine.proofs.Prelude.{◌≡◌, ◌⊎◌, inl, inr, true, None, refl, StepValue, ByteSet, HasNoCollisions, IsIn, FileEvent, FileStep, IsNoGcStep, CoreState, IsUp, FileMachine, forget_step, Legal, Running, RootMachine, of_files, of_roots, IsAtFiles, IsOfFile, IsMachine, NamesStep}
 use Rattle.actor_parts.specs.StepValue as steps
-use Rattle.actor_parts.specs.StepValue.{StepValue}
-use Rattle.store_model.specs.Collisions.{ByteSet, HasNoCollisions, IsIn}
-use Rattle.store_core.specs.Runs.{FileEvent, FileStep, IsNoGcStep}
-use Rattle.store_core.specs.State.{CoreState, IsUp}
-use Rattle.store_machine.specs.ByMap.{FileMachine}
-use Rattle.store_machine.specs.Forgetting.{Forgets, forget_step}
-use Rattle.store_machine.specs.Legal.{Legal}
-use Rattle.store_machine.specs.Machine.{Running}
-use Rattle.store_machine.specs.Remembering.{RootMachine}
-use Rattle.store_machine.specs.Values.{of_files, of_roots}
-use Rattle.core_machine.specs.Files.{IsAtFiles, IsOfFile, file_step}
-use Rattle.core_machine.specs.Refines.{IsMachine}
-use Rattle.core_machine.specs.Sweeping.{NamesStep}
+use Rattle.store_machine.specs.Forgetting.{Forgets}
+use Rattle.core_machine.specs.Files.{file_step}
 
 -- The core runs, and is at the files of m, which forgets all but the roots as r does; it makes the step f, which r makes, too, and is t then.
 pub record StepsAt (C : Type 0) (state : C → CoreState) (among : ByteSet) (f : FileEvent) (old new : C) (m : FileMachine) (r t : RootMachine) : Type 0 where

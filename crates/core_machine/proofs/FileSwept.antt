@@ -1,60 +1,20 @@
 -- After a step of a collection that did not stop it a core is at the files of its machine, in the machine's store, on a settled disk.
-use Rattle.std.specs.Prelude.{slice_get}
-use Rattle.std.proofs.Common.{◌≡◌, inl, inr, ℕ, suc, ◌≤◌, List, [], ◌∷◌, ◌++◌, Contains, get_or, Option, Some, None, option_map, Result, Ok, Err, refl, sym, ◌∙◌, ap, subst, arith}
-use Rattle.actor_parts.specs.declared.step.Answer.{Answer}
+use Rattle.core_machine.proofs.Prelude.{slice_get, ◌≡◌, inl, inr, ℕ, suc, ◌≤◌, List, [], ◌∷◌, ◌++◌, Option, Some, None, option_map, Result, Ok, Err, refl, sym, ◌∙◌, ap, subst, arith, Answer, StepValue, PlaceMap, HeaderValue, header_of, Next, id_at, CoreCollection, CoreStage, CoreStepsTo, moment, phase_at, KeepsMarks, DiskView, HoldsAt, GoesWell, held_at, IsStoreAfter, Phase, Refusal, ByteSet, IsIn, Store, first_free, free_slots, ids_of, StoreChange, with_sealed, IsSettled, GcEffect, GcRow, CoreGoesOn, IsNotMade, at_moment, Effect, Row, Steps, ChangesTo, FileEvent, IsAt, IsSafeIn, stored_by, CoreState, IsUnderWayIn, AtStore, running_step, first_with, phase_of, stays_settled, Leads, led_to, same_some, FileMachine, Makes, keys_written, written_more, forget_collection, Answers, ByState, LegalBy, Refuses, Found, RunState, RootMachine, of_files, Root, stored_in, answered_by, asked_as, MovesAs, NamesGc, NamesStep, changes_of, SameRun, IsWritten, WroteOnce}
+use Rattle.std.proofs.Common.{Contains, get_or}
 use Rattle.actor_parts.specs.declared.step.Answer.TheVariants as answers
 use Rattle.actor_parts.specs.StepValue as steps
-use Rattle.actor_parts.specs.StepValue.{StepValue}
-use Rattle.container_meta.specs.Places.{PlaceMap}
-use Rattle.container_meta.specs.Spelling.{HeaderValue, header_of}
-use Rattle.gc_sweep.specs.declared.sweep.Next.{Next}
 use Rattle.gc_sweep.specs.declared.sweep.Next.TheVariants as nexts
-use Rattle.gc_sweep.proofs.InSlots.{id_at}
-use Rattle.gc_steps.specs.declared.collection.Collection.{Collection as CoreCollection}
-use Rattle.gc_steps.specs.declared.collection.Stage.{Stage as CoreStage}
 use Rattle.gc_steps.specs.declared.collection.Stage.TheVariants as core
-use Rattle.gc_steps.specs.Stepping.{Keeps, StepsTo as CoreStepsTo, moment, phase_at}
-use Rattle.gc_steps.specs.Marking.{KeepsMarks}
-use Rattle.dd_disk.specs.View.{DiskView}
-use Rattle.gc_steps.specs.SweepIsSafe.{HoldsAt}
-use Rattle.gc_steps.proofs.CopiedOn.{GoesWell, goes_well}
-use Rattle.gc_steps.proofs.Sparing.{held_at}
-use Rattle.gc_steps.proofs.StepSafe.{IsStoreAfter}
-use Rattle.refusals.specs.declared.refusal.Phase.{Phase}
-use Rattle.refusals.specs.declared.refusal.Refusal.{Refusal}
+use Rattle.gc_steps.specs.Stepping.{Keeps}
+use Rattle.gc_steps.proofs.CopiedOn.{goes_well}
 use Rattle.refusals.specs.declared.refusal.Refusal.TheVariants as refusals
-use Rattle.store_model.specs.Collisions.{ByteSet, IsIn}
-use Rattle.store_model.specs.Image.{Store}
-use Rattle.store_model.specs.Slots.{first_free, free_slots, ids_of}
-use Rattle.store_model.specs.Steps.{StoreChange, with_sealed}
-use Rattle.store_state.specs.Settled.{IsSettled}
-use Rattle.store_core.specs.Collecting.{GcEffect, GcRow, GoesOn as CoreGoesOn, IsNotMade, at_moment}
-use Rattle.store_core.specs.Core.{Effect, Row, Steps}
-use Rattle.store_core.specs.Runs.{AreChangesBy, ChangesTo, FileEvent, IsAt, IsSafeIn, stored_by}
-use Rattle.store_core.specs.State.{CoreState, IsUnderWayIn}
-use Rattle.store_core.proofs.AtStore.{AtStore, at_store}
-use Rattle.store_core.proofs.CoreRuns.{running_step}
-use Rattle.store_core.proofs.Frames.{first_with}
-use Rattle.store_core.proofs.GcSteps.{phase_of}
-use Rattle.store_core.proofs.KeepingSegments.{stays_settled}
-use Rattle.store_core.proofs.Leading.{Leads}
+use Rattle.store_core.specs.Runs.{AreChangesBy}
+use Rattle.store_core.proofs.AtStore.{at_store}
 use Rattle.store_core.proofs.Releasing.{after, leads}
-use Rattle.store_core.proofs.SparedRest.{led_to, same_some}
 use Rattle.store_machine.specs.Asked as asked
-use Rattle.store_machine.specs.ByMap.{FileMachine}
-use Rattle.store_machine.specs.Collecting.{GoesOn, Makes, keys_written}
-use Rattle.store_machine.proofs.Swept.{written_more}
-use Rattle.store_machine.specs.Forgetting.{Forgets, forget_collection}
-use Rattle.store_machine.specs.Legal.{Answers, ByState, LegalBy, Refuses}
-use Rattle.store_machine.specs.Machine.{Collection, Found, RunState}
-use Rattle.store_machine.specs.Remembering.{RootMachine}
-use Rattle.store_machine.specs.Values.{of_files}
-use Rattle.disk_format.specs.Cells.{Root}
-use Rattle.core_machine.specs.Files.{stored_in}
-use Rattle.core_machine.specs.Refines.{answered_by, asked_as}
-use Rattle.core_machine.specs.Sweeping.{MovesAs, NamesGc, NamesStep, changes_of}
-use Rattle.core_machine.specs.Collections.{SameRun}
-use Rattle.core_machine.specs.Written.{IsWritten, WroteOnce}
+use Rattle.store_machine.specs.Collecting.{GoesOn}
+use Rattle.store_machine.specs.Forgetting.{Forgets}
+use Rattle.store_machine.specs.Machine.{Collection}
 use Rattle.core_machine.proofs.FileGc.{same_run}
 use Rattle.core_machine.proofs.FileSteps.{StepsTo}
 use Rattle.core_machine.proofs.FileWritten.{SweepKept, same_sweep_kept, same_written, wrote_still, written_then}

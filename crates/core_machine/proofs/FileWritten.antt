@@ -1,35 +1,17 @@
 -- What a collection wrote it does not write again: a container of an id from its snapshot on has each of these keys, and it fills none of them once more.
-use Rattle.std.proofs.Common.{◌≡◌, inl, inr, ℕ, ◌≤◌, true, List, [], ◌∷◌, ◌++◌, append-nil, Option, Some, None, refl, sym, ◌∙◌, ap, subst, arith}
+use Rattle.core_machine.proofs.Prelude.{◌≡◌, inl, inr, ℕ, ◌≤◌, true, List, [], ◌∷◌, ◌++◌, Option, Some, None, refl, sym, ◌∙◌, ap, subst, arith, Contains-append_cases, Contains-get_or, PlaceMap, has_key, HeaderValue, header_of, Mark, Filter, Select, Moment, phase_at, HoldsAt, GoesWell, IsStoreAfter, Next, Flush, Release, End, slot_in_turn, Store, IsPartialIndexOf, first_free, FlushContainer, FreeContainer, StoreChange, listed_of, first_with, keys_written, changes_of, MachineCollection, keeping, none_in, IsWritten, WroteOnce, CoreState, FileMachine}
+use Rattle.std.proofs.Common.{append-nil}
 use Rattle.std.specs.Prelude.{Contains, get_or}
 use Rattle.std.proofs.lemmas.Grind.{get_or_default_zero}
-use Rattle.std.proofs.lemmas.List.Elements.{Contains-append_cases, Contains-get_or}
-use Rattle.container_meta.specs.Places.{PlaceMap}
-use Rattle.container_meta.specs.Segments.{Contents, has_key, keys_of}
-use Rattle.container_meta.specs.Spelling.{HeaderValue, header_of}
+use Rattle.container_meta.specs.Segments.{Contents, keys_of}
 use Rattle.gc_steps.specs.declared.collection.Collection.{Collection}
 use Rattle.gc_steps.specs.declared.collection.Stage.{Stage}
-use Rattle.gc_steps.specs.declared.collection.Stage.TheVariants.{Mark, Filter, Select, Sweep as SweepStage}
-use Rattle.gc_steps.specs.Stepping.{Moment, StepsTo, phase_at}
-use Rattle.gc_steps.specs.SweepIsSafe.{HoldsAt}
-use Rattle.gc_steps.proofs.CopiedOn.{GoesWell}
-use Rattle.gc_steps.proofs.StepSafe.{IsStoreAfter}
-use Rattle.gc_sweep.specs.declared.sweep.Next.{Next}
-use Rattle.gc_sweep.specs.declared.sweep.Next.TheVariants.{Copy, Flush, Release, End}
-use Rattle.gc_sweep.specs.InTurn.{slot_in_turn}
+use Rattle.gc_steps.specs.declared.collection.Stage.TheVariants.{Sweep as SweepStage}
+use Rattle.gc_steps.specs.Stepping.{StepsTo}
+use Rattle.gc_sweep.specs.declared.sweep.Next.TheVariants.{Copy}
 use Rattle.gc_sweep.proofs.Holds.{no_key}
-use Rattle.store_model.specs.Image.{Store}
-use Rattle.store_model.specs.Slots.{IsPartialIndexOf, first_free}
-use Rattle.store_model.specs.Steps.{FlushContainer, FreeContainer, StoreChange}
-use Rattle.store_core.proofs.CopiesOnce.{HoldsNewer, listed_found, listed_of, newer_on, not_old}
-use Rattle.store_core.proofs.Frames.{first_with}
-use Rattle.store_machine.specs.Collecting.{keys_written}
-use Rattle.core_machine.specs.Sweeping.{changes_of}
-use Rattle.store_machine.specs.Machine.{Collection as MachineCollection, keeping}
-use Rattle.store_machine.proofs.Swept.{none_in}
-use Rattle.core_machine.specs.Written.{IsWritten, WroteOnce}
+use Rattle.store_core.proofs.CopiesOnce.{HoldsNewer, listed_found, newer_on, not_old}
 use Rattle.core_machine.proofs.LivesOn.{StandOn}
-use Rattle.store_core.specs.State.{CoreState}
-use Rattle.store_machine.specs.ByMap.{FileMachine}
 use Rattle.gc_sweep.specs.declared.sweep.Sweep.{Sweep}
 
 as_newer : (held : List (Option HeaderValue)) (snapshot : ℕ) (buffer : Contents) (key : List ℕ) → IsWritten held snapshot buffer key → HoldsNewer held snapshot key

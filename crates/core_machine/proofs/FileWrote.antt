@@ -1,28 +1,10 @@
 -- After each step that did not stop it a core writes nothing twice, if it did not before.
-use Rattle.std.proofs.Common.{◌≡◌, inl, inr, ℕ, List, Option, Some, None, option_map, Result, Ok, Err, refl, sym, ◌∙◌, ap, subst, Bool}
-use Rattle.disk_format.specs.Cells.{Root}
-use Rattle.actor_parts.specs.declared.step.Answer.{Answer}
+use Rattle.core_machine.proofs.Prelude.{◌≡◌, inl, inr, ℕ, List, Option, Some, None, option_map, Result, Ok, Err, refl, sym, ◌∙◌, ap, subst, Bool, Root, Answer, StepValue, CoreCollection, Refusal, ByteSet, SlotTable, Collects, MarksIn, StartRow, Row, Steps, FileEvent, IsNoGcStep, CoreState, running_step, same_some, FileMachine, forget_collection, RootMachine, SameCollection, WroteOnce}
 use Rattle.actor_parts.specs.declared.step.Answer.TheVariants as answers
 use Rattle.actor_parts.specs.StepValue as steps
-use Rattle.actor_parts.specs.StepValue.{StepValue}
-use Rattle.gc_steps.specs.declared.collection.Collection.{Collection as CoreCollection}
-use Rattle.refusals.specs.declared.refusal.Refusal.{Refusal}
 use Rattle.refusals.specs.declared.refusal.Refusal.TheVariants as refusals
-use Rattle.store_model.specs.Collisions.{ByteSet}
-use Rattle.store_state.specs.declared.slot_table.SlotTable.{SlotTable}
-use Rattle.store_core.specs.Collecting.{Collects, MarksIn, StartRow}
-use Rattle.store_core.specs.Core.{Row, Steps}
-use Rattle.store_core.specs.Runs.{FileEvent, IsNoGcStep}
-use Rattle.store_core.specs.State.{CoreState}
 use Rattle.store_core.proofs.AnySteps.{gc_or_not}
-use Rattle.store_core.proofs.CoreRuns.{running_step}
-use Rattle.store_core.proofs.SparedRest.{same_some}
-use Rattle.store_machine.specs.ByMap.{FileMachine}
-use Rattle.store_machine.specs.Forgetting.{forget_collection}
 use Rattle.store_machine.specs.Machine.{Collection}
-use Rattle.store_machine.specs.Remembering.{RootMachine}
-use Rattle.core_machine.specs.Collections.{SameCollection}
-use Rattle.core_machine.specs.Written.{WroteOnce}
 use Rattle.core_machine.proofs.FileKept.{comes, next}
 use Rattle.core_machine.proofs.FileSteps.{StepsTo}
 use Rattle.core_machine.proofs.FileSwept.{swept_wrote}

@@ -1,44 +1,16 @@
 -- Each step of a core that stands for files is one of the machine of files.
-use Rattle.std.proofs.Common.{◌≡◌, ◌⊎◌, inl, inr, ℕ, List, [], ◌∷◌, true, Option, Some, None, Result, Ok, Err, IfErr, refl, sym, ◌∙◌, ap, subst, ◌≤◌, arith, map}
-use Rattle.base_model.specs.Known.{KnownWith}
-use Rattle.disk_format.specs.Cells.{Root}
-use Rattle.actor_parts.specs.declared.step.Answer.{Answer}
+use Rattle.core_machine.proofs.Prelude.{◌≡◌, ◌⊎◌, inl, inr, ℕ, List, [], ◌∷◌, true, Option, Some, None, Result, Ok, Err, refl, sym, ◌∙◌, ap, subst, ◌≤◌, arith, KnownWith, Root, Answer, IsStep, StepValue, Phase, Refusal, ByteSet, HasNoCollisions, IsIn, Store, IsSettled, Stop, CrashLeaves, leaves_on, reads_leave, AnswersStopped, Row, Steps, StepsOr, FileEvent, FileStep, IsAt, IsGivenRight, IsHarmless, MayClash, CoreState, Event, IsRunning, IsUp, UnlessStopped, running_step, never_damaged, step_runs, step_later, one_map, Asked, FileMachine, SameState, asked_of, forget_step, ByState, Legal, Found, RunState, Running, Stopped, Adds, AddsBy, RootMachine, Run, of_files, of_roots, BytesOf, ChangesBytes, FitsBy, IsOfFound, IsOfPassed, IsAtFiles, IsFileMachine, IsOfFile, stored_in, Follows, FollowsPhase, HasIndex, IsMachine, SameStop, TellsForgotten, answered_by, asked_as, asked_by, NamesStep}
+use Rattle.std.proofs.Common.{IfErr, map}
 use Rattle.actor_parts.specs.declared.step.Answer.TheVariants as answers
 use Rattle.actor_parts.specs.StepValue as steps
-use Rattle.actor_parts.specs.StepValue.{IsStep, StepValue}
-use Rattle.refusals.specs.declared.refusal.Phase.{Phase}
 use Rattle.refusals.specs.declared.refusal.Phase.TheVariants as phases
-use Rattle.refusals.specs.declared.refusal.Refusal.{Refusal}
 use Rattle.refusals.specs.declared.refusal.Refusal.TheVariants as refusals
-use Rattle.store_model.specs.Collisions.{ByteSet, HasNoCollisions, IsIn}
-use Rattle.store_model.specs.Image.{Store}
-use Rattle.store_state.specs.Settled.{IsSettled}
-use Rattle.store_core.specs.declared.stop.Stop.{Stop}
-use Rattle.dd_disk.specs.View.{CrashLeaves}
-use Rattle.dd_disk.proofs.Later.{leaves_on, reads_here, reads_leave}
-use Rattle.store_core.specs.Core.{AnswersStopped, CoreStep, Row, Steps, StepsOr}
-use Rattle.store_core.specs.Runs.{FileEvent, FileStep, IsAt, IsGivenRight}
-use Rattle.store_core.specs.Sound.{IsHarmless, MayClash}
-use Rattle.store_core.specs.State.{CoreState, Event, IsRunning, IsUp, UnlessStopped}
-use Rattle.store_core.proofs.CoreRuns.{running_step}
-use Rattle.store_core.proofs.Damage.{never_damaged}
-use Rattle.store_core.proofs.RunningOn.{step_runs}
-use Rattle.store_core.proofs.Stepping.{step_later}
-use Rattle.store_core.proofs.Sealing.{one_map}
-use Rattle.store_machine.specs.Asked.{Asked}
-use Rattle.store_machine.specs.ByMap.{FileMachine}
+use Rattle.dd_disk.proofs.Later.{reads_here}
+use Rattle.store_core.specs.Core.{CoreStep}
 use Rattle.store_machine.specs.Done.{Done}
-use Rattle.store_machine.specs.Forgetting.{Forgets, SameState, asked_of, forget_step}
-use Rattle.store_machine.specs.Legal.{ByState, Legal}
-use Rattle.store_machine.specs.Machine.{Found, RunState, Running, Stopped}
-use Rattle.store_machine.specs.Remembering.{Adds, AddsBy, RootMachine}
-use Rattle.store_machine.specs.Runs.{Run}
-use Rattle.store_machine.specs.Values.{of_files, of_roots}
+use Rattle.store_machine.specs.Forgetting.{Forgets}
 use Rattle.store_machine.proofs.Remembered.{steps_are_remembered}
-use Rattle.core_machine.specs.Bytes.{BytesOf, ChangesBytes}
-use Rattle.core_machine.specs.Files.{FileRunsRefine, FilesRefine, FitsBy, IsOfFound, IsOfPassed, IsAtFiles, IsFileMachine, IsOfFile, file_step, stored_in}
-use Rattle.core_machine.specs.Refines.{Follows, FollowsPhase, HasIndex, IsMachine, SameStop, TellsForgotten, answered_by, asked_as, asked_by}
-use Rattle.core_machine.specs.Sweeping.{NamesStep}
+use Rattle.core_machine.specs.Files.{FileRunsRefine, FilesRefine, file_step}
 use Rattle.core_machine.proofs.FileBroken.{broken}
 use Rattle.core_machine.proofs.FileCrashes.{found_first, found_later, read_leaves, stands_found, step_leaves, step_rises}
 use Rattle.core_machine.proofs.Bytes.{known_of}

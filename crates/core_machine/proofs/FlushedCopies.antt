@@ -1,32 +1,14 @@
 -- A step of a core's sweep that writes what was copied, as one of the machine's, on any disk.
-use Rattle.std.proofs.Common.{◌≡◌, ◌≢◌, ℕ, suc, ◌+◌, Bool, true, List, [], ◌∷◌, ◌++◌, length, None, refl, sym, ◌∙◌, ap, subst, arith, length-append}
-use Rattle.container_meta.specs.declared.kind.Kind.{Kind}
-use Rattle.container_meta.specs.Segments.{Segment, keys_of}
-use Rattle.container_meta.specs.Spelling.{HeaderValue, header_of}
-use Rattle.disk_format.specs.Cells.{Root}
-use Rattle.refusals.specs.declared.refusal.Phase.{Phase}
+use Rattle.core_machine.proofs.Prelude.{◌≡◌, ◌≢◌, ℕ, suc, ◌+◌, Bool, true, List, [], ◌∷◌, ◌++◌, length, None, refl, sym, ◌∙◌, ap, subst, arith, Kind, Segment, HeaderValue, header_of, Root, Phase, IsValidFor, Store, HasFree, first_free, FlushContainer, StoreChange, with_sealed, first_closed, some_free, all_first, free_sealed, SlotTable, IsFirstFree, Represents, CoreSweep, HasNext, IsSweeping, IsTaken, entry_in, sources_before, Moment, phase_at, IsUnderWay, one_map, keys_written, next_of, sources_in, Sweeping, forgotten_beside, freed_more, written_more, HasCopied, SameRun, SameSweep, ids_at, FollowsPhase, TellsForgotten}
+use Rattle.std.proofs.Common.{length-append}
+use Rattle.container_meta.specs.Segments.{keys_of}
 use Rattle.refusals.specs.declared.refusal.Phase.TheVariants as phases
-use Rattle.store_model.specs.Image.{IsValidFor, Store}
-use Rattle.store_model.specs.Slots.{HasFree, first_free}
-use Rattle.store_model.specs.Steps.{CanFlush, FlushContainer, StoreChange, with_sealed}
-use Rattle.store_model.proofs.Free.{first_closed, some_free}
-use Rattle.store_model.proofs.HeldTrees.{all_first}
-use Rattle.store_model.proofs.Valid.{free_sealed, valid_sealed}
-use Rattle.store_state.specs.declared.slot_table.SlotTable.{SlotTable}
-use Rattle.store_state.specs.Tables.{IsFirstFree, Represents}
+use Rattle.store_model.specs.Steps.{CanFlush}
+use Rattle.store_model.proofs.Valid.{valid_sealed}
 use Rattle.gc_sweep.specs.declared.sweep.Next.TheVariants as nexts
-use Rattle.gc_sweep.specs.declared.sweep.Sweep.{Sweep as CoreSweep}
-use Rattle.gc_sweep.specs.UnderWay.{HasNext, IsSweeping, IsTaken, entry_in, sources_before}
 use Rattle.gc_steps.specs.declared.collection.Stage.TheVariants as stages
-use Rattle.gc_steps.specs.Stepping.{Flushes as CoreFlushes, Moment, phase_at}
-use Rattle.gc_steps.specs.UnderWay.{IsUnderWay}
-use Rattle.store_core.proofs.Sealing.{one_map}
-use Rattle.store_machine.specs.Collecting.{keys_written, next_of, sources_in}
-use Rattle.store_machine.specs.Machine.{Collection, Sweeping, Sweep}
-use Rattle.store_machine.specs.Needs.{forgotten_beside}
-use Rattle.store_machine.proofs.Swept.{freed_more, written_more}
-use Rattle.core_machine.specs.Collections.{HasCopied, SameRun, SameSweep, ids_at}
-use Rattle.core_machine.specs.Refines.{FollowsPhase, TellsForgotten}
+use Rattle.gc_steps.specs.Stepping.{Flushes as CoreFlushes}
+use Rattle.store_machine.specs.Machine.{Collection, Sweep}
 use Rattle.core_machine.proofs.Beside.{ids_same}
 use Rattle.core_machine.proofs.KeysForgotten.{put_told}
 use Rattle.core_machine.proofs.SweptOn.{AtSweep, MapMoves, Swept, at_sweep, is_sweeping, next_ready, no_keys, run_on}

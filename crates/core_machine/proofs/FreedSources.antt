@@ -1,40 +1,18 @@
 -- A step of a core's sweep that gives a source back, as one of the machine's, on any disk.
-use Rattle.std.proofs.Common.{◌≡◌, ◌≢◌, ℕ, zero, suc, ◌+◌, ◌≤◌, Bool, true, false, List, [], ◌∷◌, ◌++◌, Contains, drop, get_or, length, set, Option, None, refl, sym, ◌∙◌, ap, subst, arith, append-nil}
+use Rattle.core_machine.proofs.Prelude.{◌≡◌, ◌≢◌, ℕ, zero, suc, ◌+◌, ◌≤◌, Bool, true, false, List, [], ◌∷◌, ◌++◌, drop, length, Option, None, refl, sym, ◌∙◌, ap, subst, arith, AllByRecursion, eq-eqb, get_or-set_other, Contains-append_right, Known, HeaderValue, Root, Phase, with_freed, IsValidFor, Store, HasFree, FreeContainer, StoreChange, SlotTable, Represents, RepresentsSlots, CoreSweep, slot_in_turn, HasNext, IsSweeping, entry_in, sources_before, id_at, CoreCollection, Moment, SweepsOn, phase_at, IsUnderWay, one_map, keys_written, next_by, next_of, sources_in, Sweeping, freed_more, written_more, HasCopied, SameRun, SameSweep, ids_at, FollowsPhase, TellsForgotten}
+use Rattle.std.proofs.Common.{Contains, get_or, set, append-nil}
 use Rattle.std.specs.Prelude.{nat_eq}
-use Rattle.std.specs.List.{AllByRecursion, IsDistinct}
-use Rattle.std.proofs.lemmas.Bool.{eq-eqb}
-use Rattle.std.proofs.lemmas.List.{get_or-set_other}
-use Rattle.std.proofs.lemmas.List.Elements.{Contains-append_right}
-use Rattle.base_model.specs.Known.{Known}
+use Rattle.std.specs.List.{IsDistinct}
 use Rattle.container_meta.specs.Segments.{keys_of}
-use Rattle.container_meta.specs.Spelling.{HeaderValue}
-use Rattle.disk_format.specs.Cells.{Root}
-use Rattle.refusals.specs.declared.refusal.Phase.{Phase}
 use Rattle.refusals.specs.declared.refusal.Phase.TheVariants as phases
-use Rattle.store_model.specs.Freeing.{with_freed}
-use Rattle.store_model.specs.Image.{IsValidFor, Store}
-use Rattle.store_model.specs.Slots.{HasFree}
-use Rattle.store_model.specs.Steps.{FreeContainer, StoreChange}
 use Rattle.store_model.proofs.Freed.{free_freed, valid_freed}
-use Rattle.store_state.specs.declared.slot_table.SlotTable.{SlotTable}
-use Rattle.store_state.specs.Tables.{Represents, RepresentsSlots}
 use Rattle.store_state.proofs.Taken.{ids_without}
 use Rattle.gc_sweep.specs.declared.sweep.Next.TheVariants as nexts
-use Rattle.gc_sweep.specs.declared.sweep.Sweep.{Sweep as CoreSweep}
-use Rattle.gc_sweep.specs.InTurn.{HasReleased, slot_in_turn}
+use Rattle.gc_sweep.specs.InTurn.{HasReleased}
 use Rattle.gc_sweep.specs.Releasing.{HasFreed}
-use Rattle.gc_sweep.specs.UnderWay.{HasNext, IsSweeping, entry_in, sources_before}
-use Rattle.gc_sweep.proofs.InSlots.{IsSourceIn, id_at, stands_in}
-use Rattle.gc_steps.specs.declared.collection.Collection.{Collection as CoreCollection}
+use Rattle.gc_sweep.proofs.InSlots.{IsSourceIn, stands_in}
 use Rattle.gc_steps.specs.declared.collection.Stage.TheVariants as stages
-use Rattle.gc_steps.specs.Stepping.{Moment, SweepsOn, phase_at}
-use Rattle.gc_steps.specs.UnderWay.{IsUnderWay}
-use Rattle.store_core.proofs.Sealing.{one_map}
-use Rattle.store_machine.specs.Collecting.{keys_written, next_by, next_of, sources_in}
-use Rattle.store_machine.specs.Machine.{Collection, Sweeping, Sweep}
-use Rattle.store_machine.proofs.Swept.{freed_more, written_more}
-use Rattle.core_machine.specs.Collections.{HasCopied, SameRun, SameSweep, ids_at}
-use Rattle.core_machine.specs.Refines.{FollowsPhase, TellsForgotten}
+use Rattle.store_machine.specs.Machine.{Collection, Sweep}
 use Rattle.core_machine.proofs.KeysForgotten.{freed_told}
 use Rattle.core_machine.proofs.NextSteps.{has_before, next_so}
 use Rattle.core_machine.proofs.SweptOn.{AtSweep, MapMoves, Swept, at_sweep, entry_next, ids_kept, is_sweeping, run_on, source_next}

@@ -1,31 +1,19 @@
 -- Which keys are forgotten, by the map of the index: what that is after each step that moves the one or the other.
-use Rattle.std.proofs.Common.{◌≡◌, ◌≢◌, ℕ, zero, suc, ◌+◌, ◌<◌, Bool, true, false, cond, not, ◌||◌, List, [], ◌∷◌, ◌++◌, Contains, filter, get_or, length, nat_lt, ⊎_elim, Option, Some, None, option_map, refl, sym, ◌∙◌, ap, subst, arith}
+use Rattle.core_machine.proofs.Prelude.{◌≡◌, ◌≢◌, ℕ, zero, suc, ◌+◌, ◌<◌, Bool, true, false, cond, not, ◌||◌, List, [], ◌∷◌, ◌++◌, length, Option, Some, None, option_map, refl, sym, ◌∙◌, ap, subst, arith, AllByRecursion, bytes_eq, Contains-append_cases, Contains-append_left, Contains-append_right, bytes_eq-Decides, key_of, Kind, Place, kind_byte, PlaceMap, Segment, entries_from, segment_key, HeaderValue, without_keys, Store, HasFree, HasKey, IsIndexOf, newest, without_slot, with_sealed, forgotten_beside, TellsForgotten}
+use Rattle.std.proofs.Common.{Contains, filter, get_or, nat_lt, ⊎_elim}
 use Rattle.std.specs.FinMap as finite
-use Rattle.std.specs.List.{AllByRecursion, list_any}
-use Rattle.std.specs.Str.{bytes_eq}
-use Rattle.std.proofs.lemmas.List.Elements.{All-contains, All-contains_itself, All-filter, Contains-append_cases, Contains-append_left, Contains-append_right, filter_passes}
+use Rattle.std.specs.List.{list_any}
+use Rattle.std.proofs.lemmas.List.Elements.{All-contains, All-contains_itself, All-filter, filter_passes}
 use Rattle.std.proofs.lemmas.List.Folds.{list_any_at}
 use Rattle.std.proofs.lemmas.Map.Views.{Contains-from_any}
-use Rattle.std.proofs.lemmas.Slice.Eq.{bytes_eq-Decides}
-use Rattle.base_model.specs.Bytes.{key_of}
-use Rattle.container_meta.specs.declared.kind.Kind.{Kind}
-use Rattle.container_meta.specs.declared.place.Place.{Place}
-use Rattle.container_meta.specs.Format.{kind_byte}
-use Rattle.container_meta.specs.Places.{PlaceMap}
-use Rattle.container_meta.specs.Segments.{Segment, entries_from, segment_key}
-use Rattle.container_meta.specs.Spelling.{HeaderValue}
-use Rattle.copy_forward.specs.Entries.{without_keys}
 use Rattle.gc_sweep.proofs.KeyLists.{gone, had_before, place_stays}
-use Rattle.store_model.specs.Image.{Store}
 use Rattle.store_model.specs.Indexing.{with_entries}
-use Rattle.store_model.specs.Slots.{Copy, HasFree, HasKey, IsIndexOf, copy_in, newer, newest, without_slot}
-use Rattle.store_model.specs.Steps.{with_sealed}
+use Rattle.store_model.specs.Slots.{Copy, copy_in, newer}
 use Rattle.store_model.proofs.Indexing.{has_segments, put_none}
 use Rattle.store_model.proofs.NewestSealed.{none_found}
 use Rattle.store_model.proofs.SealedTrees.{newest_beside}
 use Rattle.store_core.proofs.Sealing.{to_entries}
-use Rattle.store_machine.specs.Needs.{forgotten_beside, keys_of}
-use Rattle.core_machine.specs.Refines.{TellsForgotten}
+use Rattle.store_machine.specs.Needs.{keys_of}
 
 -- ---- keys in a list
 

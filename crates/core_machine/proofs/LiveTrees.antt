@@ -1,20 +1,7 @@
 -- Live keys and the trees below them, where an index keeps its keys, the newest copies stay, and what is live stays so.
-use Rattle.std.proofs.Common.{ℕ, List, Option, sym, subst}
+use Rattle.core_machine.proofs.Prelude.{ℕ, List, Option, sym, subst, Place, PlaceMap, HeaderValue, LiveKeys, IsLiveAt, root_there, IsLive, live_anywhere, Store, tree_keys, HasKey, KeepsCopies, tree_on, IsBelowLive}
 use Rattle.std.specs.List.{Contains}
-use Rattle.container_meta.specs.declared.place.Place.{Place}
-use Rattle.container_meta.specs.Places.{PlaceMap}
-use Rattle.container_meta.specs.Spelling.{HeaderValue}
-use Rattle.gc_enumerate.specs.Live.{LiveKeys, IsLiveAt}
 use Rattle.gc_steps.specs.LiveTrees.{IsWhole}
-use Rattle.gc_steps.proofs.RootTrees.{root_there}
-use Rattle.gc_sweep.specs.Holding.{IsLive}
-use Rattle.gc_sweep.proofs.InSlots.{live_anywhere}
-use Rattle.store_model.specs.Image.{Store}
-use Rattle.store_model.specs.Reserve.{tree_keys}
-use Rattle.store_model.specs.Slots.{HasKey}
-use Rattle.store_model.specs.Steps.{KeepsCopies}
-use Rattle.store_model.proofs.Counted.{tree_on}
-use Rattle.core_machine.specs.Lives.{IsBelowLive}
 
 -- a live key that is held whole is one of its own tree
 pub live_below : (index : PlaceMap) (held : List (Option HeaderValue)) (image : List ℕ) (live : LiveKeys) (key : List ℕ) → IsLive index live key → IsWhole index held image key

@@ -1,38 +1,18 @@
 -- Just the keys of which a predicate holds are live: what a step of the collection leaves of that, made or refused.
-use Rattle.std.proofs.Common.{◌≡◌, inl, inr, ℕ, List, ◌+◌, Option, None, Some, refl, sym, ◌∙◌, ap, subst}
+use Rattle.core_machine.proofs.Prelude.{◌≡◌, inl, inr, ℕ, List, ◌+◌, Option, None, Some, refl, sym, ◌∙◌, ap, subst, child_keys, Filter, Mark, Select, HoldsNode, IsWithin, filter_at, first_slot, is_old_slot, moment, IsSafe, IsSafeAt, SweepIsSafe, IsLive, Place, PlaceMap, IsLiveAt, Next, End, Flush, Release, Refusal, ByteSet, IsIn, Stored, Store, HasKey, IsPartialIndexOf, node_key, at_moment, IsAt, CoreState, IsBelowLive, IsClosedAt, IsLiveAtStage, LivesJust}
 use Rattle.std.specs.Prelude.{Contains}
-use Rattle.gc_enumerate.specs.Scanning.{child_keys}
 use Rattle.gc_steps.specs.declared.collection.Collection.{Collection}
 use Rattle.gc_steps.specs.declared.collection.Stage.{Stage}
-use Rattle.gc_steps.specs.declared.collection.Stage.TheVariants.{Filter, Mark, Select, Sweep}
-use Rattle.gc_steps.specs.LiveTrees.{HoldsNode}
-use Rattle.gc_steps.specs.Sparing.{IsWithin}
-use Rattle.gc_steps.specs.Stages.{filter_at, first_slot, is_old_slot}
-use Rattle.gc_steps.specs.Stepping.{Keeps, StepsTo, moment}
-use Rattle.gc_steps.specs.Safety.{IsSafe, IsSafeAt}
-use Rattle.gc_steps.specs.SweepIsSafe.{SweepIsSafe}
+use Rattle.gc_steps.specs.declared.collection.Stage.TheVariants.{Sweep}
+use Rattle.gc_steps.specs.Stepping.{Keeps, StepsTo}
 use Rattle.gc_steps.proofs.Needed.{live_tree}
 use Rattle.gc_steps.proofs.Sparing.{within_scanned, within_some}
-use Rattle.gc_sweep.specs.Holding.{IsLive}
 use Rattle.actor_parts.specs.declared.part.Part.{Part}
-use Rattle.container_meta.specs.declared.place.Place.{Place}
-use Rattle.container_meta.specs.Places.{PlaceMap}
-use Rattle.gc_enumerate.specs.Live.{IsLiveAt}
-use Rattle.gc_sweep.specs.declared.sweep.Next.{Next}
-use Rattle.gc_sweep.specs.declared.sweep.Next.TheVariants.{Copy as CopyNext, End, Flush, Release}
+use Rattle.gc_sweep.specs.declared.sweep.Next.TheVariants.{Copy as CopyNext}
 use Rattle.merkle_file.specs.Node as node
-use Rattle.refusals.specs.declared.refusal.Refusal.{Refusal}
 use Rattle.refusals.specs.declared.refusal.Refusal.TheVariants as refusals
-use Rattle.store_model.specs.Collisions.{ByteSet, IsIn}
-use Rattle.store_model.specs.Files.{Stored}
-use Rattle.store_model.specs.Image.{Store}
-use Rattle.store_model.specs.Slots.{Copy, HasKey, IsPartialIndexOf}
+use Rattle.store_model.specs.Slots.{Copy}
 use Rattle.store_model.specs.Standing.{IsStoreOf}
-use Rattle.store_model.specs.Trees.{node_key}
-use Rattle.store_core.specs.Collecting.{at_moment}
-use Rattle.store_core.specs.Runs.{IsAt}
-use Rattle.store_core.specs.State.{CoreState}
-use Rattle.core_machine.specs.Lives.{IsBelowLive, IsClosedAt, IsLiveAtStage, LivesJust}
 use Rattle.core_machine.proofs.CollectNeeds.{needs_here}
 
 -- the collection is the same, the index, and what reads give

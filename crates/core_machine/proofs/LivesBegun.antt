@@ -1,22 +1,10 @@
 -- Just the keys of which a predicate holds are live as a collection begins: where its roots are such, and with a node its children, and each
 -- such key lies below a root.
-use Rattle.std.proofs.Common.{◌≡◌, ℕ, List, Some, sym, ◌∙◌, subst}
-use Rattle.container_meta.specs.Places.{PlaceMap}
+use Rattle.core_machine.proofs.Prelude.{◌≡◌, ℕ, List, Some, sym, ◌∙◌, subst, PlaceMap, IsRoot, IsSafe, root_whole, IsLive, NameMap, Stored, Store, names_of, IsAt, CoreState, same_some, IsBelowLive, IsLiveAtStage, LivesJust}
 use Rattle.gc_steps.specs.declared.collection.Collection.{Collection}
-use Rattle.gc_steps.specs.Roots.{IsRoot}
-use Rattle.gc_steps.specs.Safety.{IsSafe}
 use Rattle.gc_steps.proofs.RootTrees.{whole_indexed}
 use Rattle.gc_steps.proofs.Safe.{start_safe}
-use Rattle.gc_steps.proofs.Started.{root_whole}
-use Rattle.gc_sweep.specs.Holding.{IsLive}
-use Rattle.namespace.specs.Names.{NameMap}
-use Rattle.store_model.specs.Files.{Stored}
-use Rattle.store_model.specs.Image.{Store, names_of}
 use Rattle.store_core.specs.Collecting.{Begins}
-use Rattle.store_core.specs.Runs.{IsAt}
-use Rattle.store_core.specs.State.{CoreState}
-use Rattle.store_core.proofs.SparedRest.{same_some}
-use Rattle.core_machine.specs.Lives.{IsBelowLive, IsLiveAtStage, LivesJust}
 use Rattle.core_machine.proofs.CollectNeeds.{needs_here, told_here}
 use Rattle.core_machine.proofs.Lives.{IsClosed, below_at, closed_at}
 

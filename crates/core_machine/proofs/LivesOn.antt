@@ -1,78 +1,44 @@
 -- Just the keys of which a predicate holds are live, also after a step that is none of the collection, of which another holds then: of what the
 -- step keeps too. That is pinned, as are the children of a node that it keeps, so that all these are live; and what was live and held whole
 -- stays so.
-use Rattle.std.proofs.Common.{◌≡◌, ◌⊎◌, ◌↔◌, inl, inr, ℕ, zero, suc, ◌+◌, ◌-◌, ◌<◌, Bool, true, false, List, [], ◌∷◌, ◌++◌, length, map, Option, Some, None, Result, Ok, refl, sym, ◌∙◌, ap, subst, arith}
-use Rattle.std.specs.Prelude.{Contains, slice_get}
+use Rattle.core_machine.proofs.Prelude.{◌≡◌, ◌⊎◌, ◌↔◌, inl, inr, ℕ, zero, suc, ◌+◌, ◌-◌, ◌<◌, Bool, true, false, List, [], ◌∷◌, ◌++◌, length, Option, Some, None, Result, Ok, refl, sym, ◌∙◌, ap, subst, arith, slice_get, AllByRecursion, Contains-append_cases, Contains-append_left, Contains-append_right, SLOT_BYTES, slot_at, Entry, Kind, Place, PlaceMap, Segment, entries_from, segment_key, HeaderValue, header_of, contents_in, Answer, PinMap, children_by, pin_by, pin_of, StepValue, apart, Refusal, LiveKeys, IsLiveAt, child_keys, Stored, Store, names_of, key_set, AreHeaders, HasKey, newest, bytes_at, node_key, some_same, contained, in_set, HoldsPart, Mark, Filter, Select, HoldsNode, IsPartKey, IsRoot, IsSafeAt, IsWithin, SweepIsSafe, contains_first, contains_none, IsLive, Collects, IsKeptKey, MarksIn, Row, Steps, ChangesTo, IsAt, IsSafeIn, changes_by, CoreState, Event, NextOn, contains_one, all_part, one_map, IsClosedAt, IsLiveAtStage, LivesJust}
+use Rattle.std.proofs.Common.{map}
+use Rattle.std.specs.Prelude.{Contains}
 use Rattle.std.specs.FinMap as finite
-use Rattle.std.specs.List.{AllByRecursion}
-use Rattle.std.proofs.lemmas.List.Elements.{Contains-append_cases, Contains-append_left, Contains-append_right}
 use Rattle.std.proofs.lemmas.Option.{slice_get-get_or}
 use Rattle.base_model.specs.Bytes.{range}
 use Rattle.base_model.proofs.Ranges.{range-range}
-use Rattle.disk_format.specs.declared.numbers.TheConstants.{SLOT_BYTES}
-use Rattle.disk_format.specs.Layout.{slot_at}
-use Rattle.container_meta.specs.declared.entry.Entry.{Entry}
-use Rattle.container_meta.specs.declared.kind.Kind.{Kind}
 use Rattle.container_meta.specs.declared.kind.Kind.TheVariants.{Leaf, Tree}
-use Rattle.container_meta.specs.declared.place.Place.{Place}
-use Rattle.container_meta.specs.Places.{PlaceMap}
-use Rattle.container_meta.specs.Segments.{Segment, entries_from, segment_key}
-use Rattle.container_meta.specs.Spelling.{HeaderValue, header_of}
 use Rattle.merkle_file.specs.declared.node.Child.{Child}
 use Rattle.merkle_file.specs.Node.{Contents, IsNode, spelling}
-use Rattle.merkle_file.specs.Reading.{contents_in}
 use Rattle.actor_parts.specs.declared.part.Part.{Part}
 use Rattle.actor_parts.specs.declared.part.Part.TheVariants.{Idle, Writing}
-use Rattle.actor_parts.specs.declared.step.Answer.{Answer}
 use Rattle.actor_parts.specs.declared.step.Answer.TheVariants as answers
 use Rattle.actor_parts.specs.Parts.{part_of, with_part}
-use Rattle.actor_parts.specs.PinMap.{PinMap, has_pin}
-use Rattle.actor_parts.specs.Segments.{IsOfKind, child_pin, children_by, pin_by, pin_of}
+use Rattle.actor_parts.specs.PinMap.{has_pin}
+use Rattle.actor_parts.specs.Segments.{IsOfKind, child_pin}
 use Rattle.actor_parts.specs.StepValue as asked
-use Rattle.actor_parts.specs.StepValue.{StepValue}
-use Rattle.actor_parts.proofs.Apart.{apart}
-use Rattle.refusals.specs.declared.refusal.Refusal.{Refusal}
-use Rattle.gc_enumerate.specs.Live.{LiveKeys, IsLiveAt}
-use Rattle.gc_enumerate.specs.Scanning.{child_key, child_keys}
-use Rattle.store_model.specs.Files.{Stored}
-use Rattle.store_model.specs.Image.{Store, names_of}
-use Rattle.store_model.specs.Reserve.{key_set}
-use Rattle.store_model.specs.Slots.{AreHeaders, Copy, HasKey, newest}
-use Rattle.store_model.specs.Trees.{bytes_at, node_key}
-use Rattle.store_model.proofs.Copies.{lies, some_same}
-use Rattle.store_model.proofs.Counted.{contained, in_set}
+use Rattle.gc_enumerate.specs.Scanning.{child_key}
+use Rattle.store_model.specs.Slots.{Copy}
+use Rattle.store_model.proofs.Copies.{lies}
 use Rattle.store_model.proofs.Frames.{SameSlot, copy_kept}
 use Rattle.store_model.proofs.Indexing.{entry_of}
 use Rattle.store_model.proofs.NewestSealed.{newest_without}
 use Rattle.store_model.proofs.OneNode.{one_spelling}
-use Rattle.store_state.specs.Invariant.{ArePinsOf, HoldsPart}
+use Rattle.store_state.specs.Invariant.{ArePinsOf}
 use Rattle.ingest_steps.specs.Claiming.{key_of_seg}
 use Rattle.ingest_steps.specs.Pinning.{with_pins}
 use Rattle.gc_steps.specs.declared.collection.Collection.{Collection}
 use Rattle.gc_steps.specs.declared.collection.Stage.{Stage}
-use Rattle.gc_steps.specs.declared.collection.Stage.TheVariants.{Mark, Filter, Select, Sweep}
-use Rattle.gc_steps.specs.LiveTrees.{HoldsNode}
-use Rattle.gc_steps.specs.Roots.{IsPartKey, IsRoot, Marks}
-use Rattle.gc_steps.specs.Safety.{IsSafeAt}
-use Rattle.gc_steps.specs.Sparing.{IsWithin}
-use Rattle.gc_steps.specs.SweepIsSafe.{SweepIsSafe}
+use Rattle.gc_steps.specs.declared.collection.Stage.TheVariants.{Sweep}
+use Rattle.gc_steps.specs.Roots.{Marks}
 use Rattle.gc_steps.proofs.ChildTrees.{leaf_apart}
 use Rattle.gc_steps.proofs.ClaimedPin.{one_more}
-use Rattle.gc_steps.proofs.Marked.{contains_first, contains_none, marks_none}
+use Rattle.gc_steps.proofs.Marked.{marks_none}
 use Rattle.gc_steps.proofs.PinnedTrees.{pin_found}
 use Rattle.gc_steps.proofs.SealedPins.{key_found}
-use Rattle.gc_sweep.specs.Holding.{IsLive}
-use Rattle.store_core.specs.Collecting.{Collects, IsKeptKey, MarksIn}
-use Rattle.store_core.specs.Core.{Row, Steps}
 use Rattle.store_core.specs.Frame.{KeepsStanding}
-use Rattle.store_core.specs.Runs.{ChangesTo, IsAt, IsSafeIn, changes_by}
-use Rattle.store_core.specs.State.{CoreState, Event}
-use Rattle.store_core.proofs.KeepingFiles.{NextOn}
-use Rattle.store_core.proofs.Marks.{contains_one}
-use Rattle.store_core.proofs.OwnParts.{all_part}
-use Rattle.store_core.proofs.Sealing.{one_map}
 use Rattle.store_core.proofs.FinishedStores.{still_there}
-use Rattle.core_machine.specs.Lives.{IsClosedAt, IsLiveAtStage, LivesJust}
 use Rattle.core_machine.proofs.LiveTrees.{below_on, live_below, live_on}
 use Rattle.core_machine.proofs.PlainSteps.{IsPlainStep}
 

@@ -1,25 +1,12 @@
 -- How many containers a collection that marks has to scan still: as many as the machine has.
-use Rattle.std.proofs.Common.{◌≡◌, ℕ, zero, suc, ◌+◌, ◌-◌, ◌*◌, ◌<◌, ◌≤◌, ◌&&◌, Bool, true, false, List, [], ◌∷◌, length, get_or, map, Option, Some, None, refl, sym, ◌∙◌, ap, arith}
-use Rattle.std.specs.Prelude.{◌==◌, if◌then◌else◌, slice_get}
-use Rattle.std.proofs.lemmas.Bool.{lt-ltb}
-use Rattle.container_meta.specs.declared.kind.Kind.{Kind}
+use Rattle.core_machine.proofs.Prelude.{◌≡◌, ℕ, zero, suc, ◌+◌, ◌-◌, ◌*◌, ◌<◌, ◌≤◌, Bool, true, false, List, [], ◌∷◌, length, Option, Some, None, refl, sym, ◌∙◌, ap, arith, ◌==◌, slice_get, lt-ltb, Kind, kind_byte, HeaderValue, MOST_LEVEL, CoreSweep, is_old, CoreStage, filter_at, first_slot, is_old_slot, is_tree_slot, mark_from, mark_level, trees_from, AreHeaders, ids_of, last_id, as_many, RepresentsSlots, count_of, SlotCount, SlotTable, marking, marks_of, SameStage}
+use Rattle.std.proofs.Common.{◌&&◌, get_or, map}
+use Rattle.std.specs.Prelude.{if◌then◌else◌}
 use Rattle.container_meta.specs.declared.kind.Kind.TheVariants.{Leaf, Tree}
-use Rattle.container_meta.specs.Format.{kind_byte}
-use Rattle.container_meta.specs.Spelling.{HeaderValue}
-use Rattle.disk_format.specs.declared.numbers.TheConstants.{MOST_LEVEL}
-use Rattle.gc_sweep.specs.declared.sweep.Sweep.{Sweep as CoreSweep}
-use Rattle.gc_sweep.specs.UnderWay.{is_old}
-use Rattle.gc_steps.specs.declared.collection.Stage.{Stage as CoreStage}
 use Rattle.gc_steps.specs.declared.collection.Stage.TheVariants as core
-use Rattle.gc_steps.specs.Stages.{filter_at, filter_from, first_from, first_slot, is_old_slot, is_tree, is_tree_slot, mark_at, mark_from, mark_level, mark_on}
-use Rattle.gc_steps.specs.StepsToCome.{count_from, trees_from}
-use Rattle.store_model.specs.Slots.{AreHeaders, ids_of, last_id}
-use Rattle.store_model.proofs.Free.{as_many}
-use Rattle.store_state.specs.Tables.{RepresentsSlots, count_of}
-use Rattle.store_state.specs.declared.slot_table.SlotCount.{SlotCount}
-use Rattle.store_state.specs.declared.slot_table.SlotTable.{SlotTable}
-use Rattle.store_machine.specs.Collecting.{marking, marks_of, one_tree, trees_in}
-use Rattle.core_machine.specs.Collections.{SameStage}
+use Rattle.gc_steps.specs.Stages.{filter_from, first_from, is_tree, mark_at, mark_on}
+use Rattle.gc_steps.specs.StepsToCome.{count_from}
+use Rattle.store_machine.specs.Collecting.{one_tree, trees_in}
 use Rattle.core_machine.proofs.OldIds.{old_is}
 
 -- ---- counts

@@ -1,27 +1,17 @@
 -- What comes next in a sweep: by the table of a core, and by the containers of the machine.
-use Rattle.std.proofs.Common.{◌≡◌, ◌≢◌, inl, inr, ℕ, zero, suc, ◌<◌, Bool, true, false, nat_lt, List, [], ◌∷◌, length, get_or, Option, Some, None, refl, sym, ◌∙◌, ap, subst, arith, if◌then◌else◌}
-use Rattle.std.specs.Prelude.{◌==◌, slice_get}
-use Rattle.std.proofs.lemmas.Bool.{eq-eqb, le-ltb, lt-ltb, ltb-true, ne_eqb}
-use Rattle.container_meta.specs.declared.kind.Kind.{Kind}
+use Rattle.core_machine.proofs.Prelude.{◌≡◌, ◌≢◌, inl, inr, ℕ, zero, suc, ◌<◌, Bool, true, false, List, [], ◌∷◌, length, Option, Some, None, refl, sym, ◌∙◌, ap, subst, arith, ◌==◌, slice_get, eq-eqb, le-ltb, lt-ltb, ltb-true, Kind, kind_byte, Segment, segment_key, HeaderValue, Phase, without_slot, some_same, SlotTable, RepresentsSlots, Next, is_old, old_id, phase_at, next_by}
+use Rattle.std.proofs.Common.{nat_lt, get_or, if◌then◌else◌}
+use Rattle.std.proofs.lemmas.Bool.{ne_eqb}
 use Rattle.container_meta.specs.declared.kind.Kind.TheVariants.{Leaf, Tree}
-use Rattle.container_meta.specs.Format.{kind_byte}
-use Rattle.container_meta.specs.Segments.{Contents, Segment, keys_of, segment_key}
-use Rattle.container_meta.specs.Spelling.{HeaderValue}
-use Rattle.refusals.specs.declared.refusal.Phase.{Phase}
+use Rattle.container_meta.specs.Segments.{Contents, keys_of}
 use Rattle.refusals.specs.declared.refusal.Phase.TheVariants as phases
-use Rattle.store_model.specs.Slots.{DifferentIds, without_slot}
-use Rattle.store_model.proofs.Copies.{some_same}
+use Rattle.store_model.specs.Slots.{DifferentIds}
 use Rattle.store_model.proofs.Freed.{there_before}
-use Rattle.store_state.specs.declared.slot_table.SlotTable.{SlotTable}
-use Rattle.store_state.specs.Tables.{RepresentsSlots}
-use Rattle.gc_sweep.specs.declared.sweep.Next.{Next}
 use Rattle.gc_sweep.specs.declared.sweep.Next.TheVariants as nexts
 use Rattle.gc_sweep.specs.Next.{IsNext, IsOfKind, IsOfOtherKind, kind_in}
-use Rattle.gc_sweep.specs.UnderWay.{is_old}
-use Rattle.gc_sweep.proofs.InSlots.{header_at, kind_at, old_id, one_slot}
+use Rattle.gc_sweep.proofs.InSlots.{header_at, kind_at, one_slot}
 use Rattle.gc_steps.specs.declared.collection.Stage.TheVariants as stages
-use Rattle.gc_steps.specs.Stepping.{phase_at}
-use Rattle.store_machine.specs.Collecting.{is_of_kind, kind_of_id, next_by}
+use Rattle.store_machine.specs.Collecting.{is_of_kind, kind_of_id}
 
 -- ---- kinds
 

@@ -1,19 +1,11 @@
 -- Which containers were there when a collection began: by the table of slots, and by what the slots hold.
-use Rattle.std.proofs.Common.{◌≡◌, ℕ, zero, suc, ◌<◌, ◌≤◌, ◌&&◌, Bool, true, false, cond, not, List, [], ◌∷◌, ◌++◌, length, get_or, take, Option, Some, None, refl, sym, ◌∙◌, ap, subst, arith}
-use Rattle.std.specs.Prelude.{◌==◌, if◌then◌else◌, nat_le, nat_lt, slice_get}
-use Rattle.std.proofs.lemmas.Bool.{eqb-true, leb-true}
-use Rattle.std.proofs.lemmas.List.{length-append, length-map, take_all}
-use Rattle.container_meta.specs.Spelling.{HeaderValue, IsHeader}
-use Rattle.gc_select.specs.declared.liveness.ContainerLiveness.{ContainerLiveness}
+use Rattle.core_machine.proofs.Prelude.{◌≡◌, ℕ, zero, suc, ◌<◌, ◌≤◌, Bool, true, false, cond, not, List, [], ◌∷◌, ◌++◌, length, take, Option, Some, None, refl, sym, ◌∙◌, ap, subst, arith, ◌==◌, nat_le, slice_get, eqb-true, leb-true, length-map, HeaderValue, ContainerLiveness, is_old, CoreCollection, AreHeaders, ids_of, some_same, RepresentsSlots, SlotTable, ids_before}
+use Rattle.std.proofs.Common.{◌&&◌, get_or}
+use Rattle.std.specs.Prelude.{if◌then◌else◌, nat_lt}
+use Rattle.std.proofs.lemmas.List.{length-append, take_all}
+use Rattle.container_meta.specs.Spelling.{IsHeader}
 use Rattle.gc_select.specs.Selecting as selecting
-use Rattle.gc_sweep.specs.UnderWay.{is_old}
-use Rattle.gc_steps.specs.declared.collection.Collection.{Collection as CoreCollection}
 use Rattle.gc_steps.specs.UnderWay.{IsRecordedTo, old_ids}
-use Rattle.store_model.specs.Slots.{AreHeaders, ids_of}
-use Rattle.store_model.proofs.Copies.{some_same}
-use Rattle.store_state.specs.Tables.{RepresentsSlots}
-use Rattle.store_state.specs.declared.slot_table.SlotTable.{SlotTable}
-use Rattle.store_machine.specs.Collecting.{ids_before}
 
 -- ---- headers
 

@@ -1,34 +1,17 @@
 -- What has been opened on any disk is a machine of roots, and what could not be opened is the one that it was, or is stopped.
-use Rattle.std.proofs.Common.{◌≡◌, inl, inr, ℕ, zero, suc, false, List, [], ◌++◌, replicate, Option, Some, None, Ok, refl, sym, ◌∙◌, ap, subst, arith, Bool}
+use Rattle.core_machine.proofs.Prelude.{◌≡◌, inl, inr, ℕ, zero, suc, false, List, [], ◌++◌, replicate, Option, Some, None, Ok, refl, sym, ◌∙◌, ap, subst, arith, Bool, ACTORS, PlaceMap, Root, ending_of, Shows, DiskView, Named, RoomUnmade, Refusal, IsValidFor, Store, last_sequence, names_of, IsIndexOf, last_id, Represents, IsReadFrom, OpensNone, WritesUnread, CoreState, IsRunning, blames, Tables, Found, RunState, Running, Stopped, all_idle, MayRefuseOpening, freeing, of_roots, len_changed, stores_left, SameCollection, IsMachine, SameStop}
 use Rattle.std.specs.FinMap as finite
-use Rattle.actor_parts.specs.declared.actor.TheConstants.{ACTORS}
 use Rattle.actor_parts.specs.declared.part.Part.TheVariants as core
-use Rattle.container_meta.specs.Places.{PlaceMap}
-use Rattle.disk_format.specs.Cells.{Root}
-use Rattle.dd_disk.specs.Ending.{Reads, ending_of}
-use Rattle.dd_disk.specs.Shows.{Shows}
-use Rattle.dd_disk.specs.View.{DiskView}
-use Rattle.namespace.specs.declared.record.Named.{Named}
+use Rattle.dd_disk.specs.Ending.{Reads}
 use Rattle.recovery.specs.Opening.{IsOpenRefusal}
-use Rattle.recovery.specs.Room.{RoomUnmade}
-use Rattle.refusals.specs.declared.refusal.Refusal.{Refusal}
 use Rattle.refusals.specs.declared.refusal.Refusal.TheVariants as refusals
-use Rattle.store_model.specs.Image.{IsValidFor, Store, last_sequence, names_of}
-use Rattle.store_model.specs.Slots.{IsIndexOf, last_id}
 use Rattle.store_model.proofs.Sound.{last_within}
-use Rattle.store_state.specs.Tables.{Represents}
-use Rattle.store_core.specs.Opening.{IsKept, IsNew, IsReadFrom, OpensNone, StopsUnopened, WritesUnread}
-use Rattle.store_core.specs.State.{CoreState, IsRunning}
-use Rattle.store_state.specs.Refused.{blames}
-use Rattle.store_state.specs.declared.tables.Tables.{Tables}
+use Rattle.store_core.specs.Opening.{IsKept, IsNew, StopsUnopened}
 use Rattle.store_machine.specs.Done as done
-use Rattle.store_machine.specs.Machine.{Found, Idle, RunState, Running, Stopped, all_idle}
-use Rattle.store_machine.specs.Opening.{MayRefuseOpening, freeing}
-use Rattle.store_machine.specs.Values.{of_roots}
-use Rattle.store_machine.proofs.SameNames.{get_mapped, len_changed, mapped}
-use Rattle.core_machine.specs.Openings.{OpenedRefines, Reopens, UnopenedRefines, stores_left}
-use Rattle.core_machine.specs.Collections.{SameCollection}
-use Rattle.core_machine.specs.Refines.{IsMachine, SameParts, SameStop}
+use Rattle.store_machine.specs.Machine.{Idle}
+use Rattle.store_machine.proofs.SameNames.{get_mapped, mapped}
+use Rattle.core_machine.specs.Openings.{OpenedRefines, Reopens, UnopenedRefines}
+use Rattle.core_machine.specs.Refines.{SameParts}
 use Rattle.core_machine.proofs.KeysForgotten.{opened_told}
 use Rattle.core_machine.proofs.Rows.{M}
 

@@ -1,18 +1,7 @@
 -- What a crash leaves at any moment of an opening, where containers may be given back: files that may be found, or what it might have left
 -- before.
-use Rattle.std.proofs.Common.{◌≡◌, ◌⊎◌, inl, inr, ℕ, List, Some}
-use Rattle.dd_disk.specs.View.{CrashLeaves, DiskView, OnlyReads}
-use Rattle.dd_disk.proofs.Later.{leaves_on, leaves_weaker, reads_leave}
-use Rattle.recovery.specs.Room.{RoomMade}
-use Rattle.refusals.specs.declared.refusal.Refusal.{Refusal}
-use Rattle.store_model.specs.Collisions.{ByteSet, IsIn, OpensAs}
-use Rattle.store_model.specs.Freeing.{IsPartlyFreed}
-use Rattle.store_model.specs.Image.{Store}
-use Rattle.store_core.specs.Opening.{OpensCore, OpensNone}
-use Rattle.store_core.specs.State.{CoreState}
-use Rattle.store_machine.specs.ByMap.{FileMachine}
+use Rattle.core_machine.proofs.Prelude.{◌≡◌, ◌⊎◌, inl, inr, ℕ, List, Some, CrashLeaves, DiskView, OnlyReads, leaves_on, leaves_weaker, reads_leave, RoomMade, Refusal, ByteSet, IsIn, OpensAs, IsPartlyFreed, Store, OpensCore, OpensNone, CoreState, FileMachine, IsOfFound, MayStand, StandsFor, stored_in}
 use Rattle.core_machine.specs.FileOpenings.{LeavesFound}
-use Rattle.core_machine.specs.Files.{IsOfFound, MayStand, StandsFor, stored_in}
 use Rattle.core_machine.proofs.FileCrashes.{stands_found}
 use Rattle.core_machine.proofs.FileStands.{stands_opens}
 

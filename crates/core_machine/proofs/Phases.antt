@@ -1,24 +1,9 @@
 -- A collection that runs in a core is the machine's, and its next step is of the same kind.
-use Rattle.std.proofs.Common.{◌≡◌, ℕ, ◌<◌, ◌≤◌, Bool, true, List, length, Option, Some, None, refl, sym, ◌∙◌, ap, subst}
+use Rattle.core_machine.proofs.Prelude.{◌≡◌, ℕ, ◌<◌, ◌≤◌, Bool, true, List, length, Option, Some, None, refl, sym, ◌∙◌, ap, subst, le-ltb, lt-ltb, Root, HeaderValue, ContainerLiveness, CoreCollection, CoreStage, phase_at, HasStage, IsUnderWay, Phase, Store, AreHeaders, RepresentsSlots, SlotTable, IsCollecting, ids_before, phase_by, sources_in, Marking, Recording, Sweeping, SameCollection, SameRun, SameStage}
 use Rattle.std.specs.Prelude.{if◌then◌else◌, is_some, nat_lt}
-use Rattle.std.proofs.lemmas.Bool.{le-ltb, lt-ltb}
-use Rattle.disk_format.specs.Cells.{Root}
-use Rattle.container_meta.specs.Spelling.{HeaderValue}
-use Rattle.gc_select.specs.declared.liveness.ContainerLiveness.{ContainerLiveness}
-use Rattle.gc_steps.specs.declared.collection.Collection.{Collection as CoreCollection}
-use Rattle.gc_steps.specs.declared.collection.Stage.{Stage as CoreStage}
 use Rattle.gc_steps.specs.declared.collection.Stage.TheVariants as core
-use Rattle.gc_steps.specs.Stepping.{phase_at}
-use Rattle.gc_steps.specs.UnderWay.{HasStage, IsUnderWay}
-use Rattle.refusals.specs.declared.refusal.Phase.{Phase}
 use Rattle.refusals.specs.declared.refusal.Phase.TheVariants as phases
-use Rattle.store_model.specs.Image.{Store}
-use Rattle.store_model.specs.Slots.{AreHeaders}
-use Rattle.store_state.specs.Tables.{RepresentsSlots}
-use Rattle.store_state.specs.declared.slot_table.SlotTable.{SlotTable}
-use Rattle.store_machine.specs.Collecting.{IsCollecting, ids_before, phase_by, sources_in}
-use Rattle.store_machine.specs.Machine.{Collection, Stage, Marking, Recording, Sweeping}
-use Rattle.core_machine.specs.Collections.{SameCollection, SameRun, SameStage}
+use Rattle.store_machine.specs.Machine.{Collection, Stage}
 use Rattle.core_machine.proofs.OldIds.{as_many_recorded, fewer_recorded}
 
 -- ---- whether one runs

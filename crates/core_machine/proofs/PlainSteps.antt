@@ -1,7 +1,6 @@
 -- Steps that neither begin a collection nor are one of it.
 use Rattle.actor_parts.specs.StepValue as asked
-use Rattle.actor_parts.specs.StepValue.{StepValue}
-use Rattle.store_core.specs.Runs.{IsNoGcStep}
+use Rattle.core_machine.proofs.Prelude.{StepValue, IsNoGcStep}
 
 abbrev pub IsPlainStep : StepValue → Type 0
 IsPlainStep (asked.GcStart percent) = ⊥

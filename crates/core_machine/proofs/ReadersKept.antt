@@ -1,24 +1,13 @@
 -- Actors that read go on reading the same where a step neither opens a file nor reads on: in a core, and in a machine of files.
-use Rattle.std.proofs.Common.{◌≡◌, inl, inr, ℕ, zero, suc, List, [], ◌∷◌, slice_index_or, slice_set, Result, Ok, Err, ap, subst}
+use Rattle.core_machine.proofs.Prelude.{◌≡◌, inl, inr, ℕ, zero, suc, List, [], ◌∷◌, slice_set, Result, Ok, Err, ap, subst, Reader, Answer, StepValue, Refusal, Row, CoreState, Asked, FileMachine, Answers, Reading, part_in, of_files, FilePart, answered_by, asked_as}
+use Rattle.std.proofs.Common.{slice_index_or}
 use Rattle.actor_parts.specs.declared.part.Part as core_part
 use Rattle.actor_parts.specs.declared.part.Part.TheVariants as core
-use Rattle.actor_parts.specs.declared.part.Reader.{Reader}
-use Rattle.actor_parts.specs.declared.step.Answer.{Answer}
 use Rattle.actor_parts.specs.declared.step.Answer.TheVariants as answers
 use Rattle.actor_parts.specs.Parts.{part_of, with_part}
 use Rattle.actor_parts.specs.StepValue as steps
-use Rattle.actor_parts.specs.StepValue.{StepValue}
-use Rattle.refusals.specs.declared.refusal.Refusal.{Refusal}
 use Rattle.refusals.specs.declared.refusal.Refusal.TheVariants as refusals
-use Rattle.store_core.specs.Core.{Row}
-use Rattle.store_core.specs.State.{CoreState}
-use Rattle.store_machine.specs.Asked.{Asked}
-use Rattle.store_machine.specs.ByMap.{FileMachine}
-use Rattle.store_machine.specs.Legal.{Answers}
-use Rattle.store_machine.specs.Machine.{Idle, Reading, part_in}
-use Rattle.store_machine.specs.Values.{of_files}
-use Rattle.store_machine.proofs.Parts.{FilePart}
-use Rattle.core_machine.specs.Refines.{answered_by, asked_as}
+use Rattle.store_machine.specs.Machine.{Idle}
 use Rattle.core_machine.proofs.RefusedSteps.{IsNoRead, refused_left}
 
 -- it opens no file, and reads none on

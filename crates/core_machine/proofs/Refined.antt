@@ -1,32 +1,14 @@
 -- A step of a core is one of the machine of roots.
-use Rattle.container_meta.specs.Places.{PlaceMap}
-use Rattle.container_meta.specs.Segments.{KindSegment}
+use Rattle.core_machine.proofs.Prelude.{PlaceMap, KindSegment, ◌≡◌, ℕ, List, [], ◌∷◌, Option, Some, None, Result, Ok, Err, refl, sym, ◌∙◌, ap, subst, Bool, true, Root, Top, Answer, StepValue, Refusal, Stop, ClaimRow, ListRow, StatRow, AbortRow, AnswersStopped, BeginRow, EndRow, OpenRow, ReadRow, Steps, StepsOr, StopsAfter, counted, CoreState, Event, IsUnderWayIn, IsUp, UnlessStopped, Asked, Answers, ByState, LegalBy, RunState, Running, Stopped, of_roots, Tables, Collects, IsKeptKey, StartRow, SameCollection, NamesStep, Follows, HasIndex, IsMachine, SameStop, asked_by, answered_by, IsValidFor, Represents}
 use Rattle.read_steps.specs.Counting.{counts_of}
-use Rattle.std.proofs.Common.{◌≡◌, ℕ, List, [], ◌∷◌, Option, Some, None, Result, Ok, Err, refl, sym, ◌∙◌, ap, subst, Bool, true}
-use Rattle.disk_format.specs.Cells.{Root}
-use Rattle.merkle_file.specs.declared.top.Top.{Top}
-use Rattle.actor_parts.specs.declared.step.Answer.{Answer}
 use Rattle.actor_parts.specs.declared.step.Answer.TheVariants as answers
 use Rattle.actor_parts.specs.StepValue as steps
-use Rattle.actor_parts.specs.StepValue.{StepValue}
-use Rattle.refusals.specs.declared.refusal.Refusal.{Refusal}
 use Rattle.refusals.specs.declared.refusal.Refusal.TheVariants as refusals
-use Rattle.store_core.specs.declared.stop.Stop.{Stop}
-use Rattle.store_core.specs.Core.{ClaimRow, ListRow, StatRow, AbortRow, AnswersStopped, BeginRow, EndRow, Made, OpenRow, ReadRow, Steps, StepsOr, StopsAfter, counted}
-use Rattle.store_core.specs.State.{CoreState, Event, IsUnderWayIn, IsUp, UnlessStopped}
-use Rattle.store_machine.specs.Asked.{Asked}
+use Rattle.store_core.specs.Core.{Made}
 use Rattle.store_machine.specs.Asked as asked
 use Rattle.store_machine.specs.Done.{Done}
-use Rattle.store_machine.specs.Legal.{Answers, ByState, LegalBy}
-use Rattle.store_machine.specs.Machine.{RunState, Running, Stopped}
-use Rattle.store_machine.specs.Values.{IsStuck, of_roots}
-use Rattle.store_state.specs.declared.tables.Tables.{Tables}
-use Rattle.store_core.specs.Collecting.{Collects, IsKeptKey, StartRow}
-use Rattle.core_machine.specs.Collections.{SameCollection}
-use Rattle.core_machine.specs.Sweeping.{NamesStep}
-use Rattle.core_machine.specs.Refines.{CoreRefines, Follows, HasIndex, IsMachine, SameParts, SameStop, asked_by, answered_by}
-use Rattle.store_model.specs.Image.{IsValidFor}
-use Rattle.store_state.specs.Tables.{Represents}
+use Rattle.store_machine.specs.Values.{IsStuck}
+use Rattle.core_machine.specs.Refines.{CoreRefines, SameParts}
 use Rattle.core_machine.proofs.Collected.{gc_row}
 use Rattle.core_machine.proofs.Sealed.{seal_row}
 use Rattle.core_machine.proofs.Started.{start_row}

@@ -1,20 +1,10 @@
 -- A step that is refused leaves the machine as it is, or stops it; but for a read, before which nodes may be opened.
-use Rattle.std.proofs.Common.{◌≡◌, ◌⊎◌, inl, inr, ℕ, true, List, Option, Some, None, ap, subst}
-use Rattle.container_meta.specs.Segments.{Contents, KindSegment}
-use Rattle.disk_format.specs.Cells.{Root}
-use Rattle.refusals.specs.declared.refusal.Refusal.{Refusal}
+use Rattle.core_machine.proofs.Prelude.{◌≡◌, ◌⊎◌, inl, inr, ℕ, true, List, Option, Some, None, ap, subst, KindSegment, Root, Refusal, Store, CoreState, Asked, Refuses, RefusesClaim, RefusesCommit, RefusesDelete, RefusesGcStep, RefusesOn, RefusesSeal, FileMachine, SameState, Found, Machine, RunState, Running, Stopped, stopped, RootMachine, IsMachine, SameStop}
+use Rattle.container_meta.specs.Segments.{Contents}
 use Rattle.refusals.specs.declared.refusal.Refusal.TheVariants as refusals
-use Rattle.store_model.specs.Image.{Store}
-use Rattle.store_core.specs.State.{CoreState}
-use Rattle.store_machine.specs.Asked.{Asked}
 use Rattle.store_machine.specs.Asked as asked
-use Rattle.store_machine.specs.Legal.{Refuses, RefusesClaim, RefusesCommit, RefusesDelete, RefusesGcStep, RefusesOn, RefusesSeal}
-use Rattle.store_machine.specs.ByMap.{FileMachine}
-use Rattle.store_machine.specs.Forgetting.{Forgets, SameState}
-use Rattle.store_machine.specs.Machine.{Found, Machine, RunState, Running, Stopped, stopped}
-use Rattle.store_machine.specs.Remembering.{RootMachine}
+use Rattle.store_machine.specs.Forgetting.{Forgets}
 use Rattle.store_machine.specs.Values.{Values}
-use Rattle.core_machine.specs.Refines.{IsMachine, SameStop}
 
 abbrev pub IsNoRead : {V : Type 0} → Asked V → Type 0
 IsNoRead asked.ReadNext = ⊥

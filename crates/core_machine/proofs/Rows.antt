@@ -1,67 +1,45 @@
 -- Rows of the core, as rows of the machine of roots.
-use Rattle.actor_parts.specs.PinMap.{PinMap}
-use Rattle.actor_parts.specs.Segments.{first_unpinned, pin_of}
-use Rattle.container_meta.specs.Segments.{KindSegment, segment_key}
+use Rattle.core_machine.proofs.Prelude.{PinMap, pin_of, KindSegment, segment_key, len_changed, order, length, arith, ◌≡◌, ◌≢◌, inl, inr, Bool, true, false, cond, ◌≤◌, ◌<◌, ◌-◌, ◌++◌, ℕ, zero, suc, List, [], ◌∷◌, take, drop, slice_set, Option, Some, None, option_map, Result, Ok, Err, refl, sym, ◌∙◌, ap, subst, Root, Gone, Put, DiskView, PlaceMap, Top, contents_in, Named, NameMap, Refusal, newest, Store, last_sequence, IsValidFor, names_of, Represents, SlotTable, Tables, CoreCollection, MarksIn, HeaderValue, SameCollection, AbortRow, BeginRow, ClaimRow, CommitRow, ListRow, StatRow, DeleteRow, EndRow, NamesOne, OpenRow, ReadRow, StopsAfter, counted, eq_by_cmp, nat_list_cmp_total, half_cells, with_change, CoreState, Answer, Asked, Answers, with_name, IsAtRightPart, IsLacked, broken_by, without_name, Found, Machine, Reading, RunState, Running, Stopped, keeping, part_in, put_at, of_roots, HasIndex, IsMachine, SameStop, answered_by}
+use Rattle.actor_parts.specs.Segments.{first_unpinned}
 use Rattle.disk_format.specs.declared.numbers.TheConstants.{MOST_NAMES}
 use Rattle.ingest_steps.specs.Claiming as claiming
 use Rattle.ingest_steps.specs.Writers as writers
 use Rattle.namespace.specs.Names.{HasRoom as HasRoomIn}
 use Rattle.namespace.specs.Listing.{NamedRoot, listing_of, named_root}
-use Rattle.store_machine.proofs.SameNames.{changed, entries_changed, len_changed, order}
-use Rattle.std.proofs.Common.{map, length, Contains, arith, ◌≡◌, ◌≢◌, inl, inr, Bool, true, false, cond, ◌≤◌, ◌<◌, ◌-◌, ◌^◌, ◌++◌, ℕ, zero, suc, List, [], ◌∷◌, take, drop, slice_index_or, slice_set, Option, Some, None, option_map, is_some, Result, Ok, Err, refl, sym, ◌∙◌, ap, subst}
+use Rattle.store_machine.proofs.SameNames.{changed, entries_changed}
+use Rattle.std.proofs.Common.{map, Contains, ◌^◌, slice_index_or, is_some}
 use Rattle.std.specs.Prelude.{IsSome}
 use Rattle.std.specs.FinMap as finite
-use Rattle.disk_format.specs.Cells.{IsName, Root}
-use Rattle.disk_format.specs.Cells.Change.{Delete as Gone, Put}
+use Rattle.disk_format.specs.Cells.{IsName}
 use Rattle.disk_format.specs.declared.why.Why.{Why}
-use Rattle.dd_disk.specs.View.{DiskView}
-use Rattle.container_meta.specs.Places.{PlaceMap}
-use Rattle.merkle_file.specs.declared.top.Top.{Top}
-use Rattle.merkle_file.specs.Reading.{contents_in}
 use Rattle.merkle_file.specs.Walk.{opened as opened_node}
-use Rattle.namespace.specs.declared.record.Named.{Named}
-use Rattle.namespace.specs.Names.{NameMap}
 use Rattle.actor_parts.specs.declared.part.Part as core_part
 use Rattle.actor_parts.specs.declared.part.Part.TheVariants as core
 use Rattle.actor_parts.specs.Kinds as core_kinds
 use Rattle.actor_parts.specs.Parts.{part_of, with_part}
 use Rattle.refusals.specs.declared.refusal.PartKind.{PartKind}
 use Rattle.refusals.specs.declared.refusal.PartKind.TheVariants as kinds
-use Rattle.refusals.specs.declared.refusal.Refusal.{Refusal}
 use Rattle.refusals.specs.declared.refusal.Refusal.TheVariants as refusals
 use Rattle.container_meta.specs.declared.place.Place.{Place as PlaceValue}
 use Rattle.segment_index.specs.Places.{KnownMap}
-use Rattle.store_model.specs.Slots.{Copy as KeyCopy, newest}
+use Rattle.store_model.specs.Slots.{Copy as KeyCopy}
 use Rattle.store_machine.specs.Needs.{HasLength}
-use Rattle.store_model.specs.Image.{Store, last_sequence, IsValidFor, names_of}
-use Rattle.store_state.specs.Tables.{Represents}
-use Rattle.store_state.specs.declared.slot_table.SlotTable.{SlotTable}
-use Rattle.store_state.specs.declared.tables.Tables.{Tables}
-use Rattle.gc_steps.specs.declared.collection.Collection.{Collection as CoreCollection}
-use Rattle.store_core.specs.Collecting.{MarksIn}
-use Rattle.container_meta.specs.Spelling.{HeaderValue}
-use Rattle.core_machine.specs.Collections.{SameCollection}
-use Rattle.store_core.specs.Core.{AbortRow, BeginRow, ClaimRow, CommitRow, KeepsTables, ListRow, StatRow, DeleteRow, EndRow, IsAtOther, NamesOne, OpenRow, ReadRow, StopsAfter, counted}
+use Rattle.store_core.specs.Core.{KeepsTables, IsAtOther}
 use Rattle.actor_parts.specs.StepValue as steps
 use Rattle.ingest_steps.specs.Naming as naming
 use Rattle.store_model.proofs.NameChanges.{last_changed, names_after_change}
-use Rattle.std.specs.Ordering.{nat_cmp, eq_by_cmp}
-use Rattle.std.specs.Cmp.Lexicographic.{nat_list_cmp_total, slice_cmp}
-use Rattle.disk_format.specs.Layout.{half_cells}
-use Rattle.store_model.specs.Steps.{with_change}
-use Rattle.store_core.specs.State.{CoreState}
+use Rattle.std.specs.Ordering.{nat_cmp}
+use Rattle.std.specs.Cmp.Lexicographic.{slice_cmp}
 use Rattle.read_steps.specs.Readers as readers
 use Rattle.read_steps.specs.Walking as walking
-use Rattle.actor_parts.specs.declared.step.Answer.{Answer}
 use Rattle.actor_parts.specs.declared.step.Answer.TheVariants as answers
-use Rattle.store_machine.specs.Asked.{Asked}
 use Rattle.store_machine.specs.Asked as asked
 use Rattle.store_machine.specs.Done.{Done}
-use Rattle.store_machine.specs.Legal.{Answers, Keeps, listing, counted as counted_of, HasName, HasRoom, IsKept, MayCommit, with_name, HasNumbers, IsAtRightPart, IsIndexed, IsLacked, LacksNumbers, broken_by, RefusesRead, taken_by, without_name}
+use Rattle.store_machine.specs.Legal.{Keeps, listing, counted as counted_of, HasName, HasRoom, IsKept, MayCommit, HasNumbers, IsIndexed, LacksNumbers, RefusesRead, taken_by}
 use Rattle.std.proofs.lemmas.List.{set-get_or}
-use Rattle.store_machine.specs.Machine.{Collection, Found, Machine, Part, Idle, Writing, Reading, RunState, Running, Stopped, keeping, kind_of, one_more, part_in, put_at}
-use Rattle.store_machine.specs.Values.{GivesLeaf, IsStuck, Opens, Walked, of_roots}
-use Rattle.core_machine.specs.Refines.{HasIndex, IsMachine, SamePart, SameParts, SameStop, answered_by}
+use Rattle.store_machine.specs.Machine.{Collection, Part, Idle, Writing, kind_of, one_more}
+use Rattle.store_machine.specs.Values.{GivesLeaf, IsStuck, Opens, Walked}
+use Rattle.core_machine.specs.Refines.{SamePart, SameParts}
 
 -- ---- what a walk shows
 

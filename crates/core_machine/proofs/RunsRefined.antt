@@ -1,15 +1,7 @@
 -- Steps of a core, one after the other, are a run of the machine of roots.
-use Rattle.std.proofs.Common.{◌≡◌, true, [], ◌∷◌, Result, Ok, refl, subst, sym}
-use Rattle.base_model.specs.Known.{KnownWith}
-use Rattle.actor_parts.specs.declared.step.Answer.{Answer}
+use Rattle.core_machine.proofs.Prelude.{◌≡◌, true, [], ◌∷◌, Result, Ok, refl, subst, sym, KnownWith, Answer, Phase, Refusal, CoreState, step_runs, step_later, Follows, FollowsPhase, IsMachine}
 use Rattle.actor_parts.specs.declared.step.Answer.TheVariants as answers
-use Rattle.refusals.specs.declared.refusal.Phase.{Phase}
 use Rattle.refusals.specs.declared.refusal.Phase.TheVariants as phases
-use Rattle.refusals.specs.declared.refusal.Refusal.{Refusal}
-use Rattle.store_core.specs.State.{CoreState}
-use Rattle.store_core.proofs.RunningOn.{step_runs}
-use Rattle.store_core.proofs.Stepping.{step_later}
-use Rattle.core_machine.specs.Refines.{Follows, FollowsPhase, IsMachine}
 use Rattle.core_machine.specs.Runs.{RunsRefine}
 use Rattle.core_machine.proofs.Refined.{core_refines}
 

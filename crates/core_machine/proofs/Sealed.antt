@@ -1,46 +1,26 @@
 -- A seal of the core, as one of the machine of roots.
-use Rattle.std.proofs.Common.{arith, ◌≡◌, ◌&&◌, Bool, true, ◌<◌, ◌≤◌, ℕ, suc, false, List, [], ◌∷◌, slice_set, Option, Some, None, Result, Ok, Err, refl, sym, ◌∙◌, ap, subst}
-use Rattle.std.specs.Prelude.{nat_le}
+use Rattle.core_machine.proofs.Prelude.{arith, ◌≡◌, Bool, true, ◌<◌, ◌≤◌, ℕ, suc, false, List, [], ◌∷◌, slice_set, Option, Some, None, Result, Ok, Err, refl, sym, ◌∙◌, ap, subst, nat_le, leb-true, Root, LAST_ID, Kind, PlaceMap, Segment, segment_key, Answer, PinMap, children_by, pin_by, Refusal, IsValidFor, header_of, IsIndexOf, first_free, first_closed, some_free, with_sealed, free_sealed, IsFirstFree, Represents, SealRow, SealsOne, StopsAfter, counted, Collects, IsKeptKey, CoreState, IsUnderWayIn, one_map, Asked, Answers, RunState, Running, Stopped, keeping, put_at, forgotten_beside, of_roots, SameCollection, HasIndex, IsMachine, SameStop, TellsForgotten, answered_by}
+use Rattle.std.proofs.Common.{◌&&◌}
 use Rattle.std.specs.FinMap as finite
-use Rattle.std.proofs.lemmas.Bool.{leb-true}
-use Rattle.disk_format.specs.Cells.{Root}
-use Rattle.disk_format.specs.declared.numbers.TheConstants.{LAST_ID}
-use Rattle.container_meta.specs.declared.kind.Kind.{Kind}
-use Rattle.container_meta.specs.Places.{PlaceMap}
-use Rattle.container_meta.specs.Segments.{Contents, Segment, segment_key}
+use Rattle.container_meta.specs.Segments.{Contents}
 use Rattle.actor_parts.specs.declared.part.Part.TheVariants as core
-use Rattle.actor_parts.specs.declared.step.Answer.{Answer}
 use Rattle.actor_parts.specs.declared.step.Answer.TheVariants as answers
 use Rattle.actor_parts.specs.Kinds as core_kinds
 use Rattle.actor_parts.specs.Parts.{part_of}
-use Rattle.actor_parts.specs.PinMap.{PinMap}
-use Rattle.actor_parts.specs.Segments.{children_by, first_not_in, pin_by}
+use Rattle.actor_parts.specs.Segments.{first_not_in}
 use Rattle.actor_parts.specs.StepValue as steps
 use Rattle.refusals.specs.declared.refusal.PartKind.TheVariants as kinds
-use Rattle.refusals.specs.declared.refusal.Refusal.{Refusal}
 use Rattle.refusals.specs.declared.refusal.Refusal.TheVariants as refusals
-use Rattle.store_model.specs.Image.{IsValidFor}
-use Rattle.container_meta.specs.Spelling.{header_of}
-use Rattle.store_model.specs.Slots.{IsIndexOf, first_free}
-use Rattle.store_model.proofs.Free.{first_closed, some_free}
-use Rattle.store_model.specs.Steps.{CanSeal, with_sealed}
+use Rattle.store_model.specs.Steps.{CanSeal}
 use Rattle.store_model.proofs.Lookups.{partial_of}
-use Rattle.store_model.proofs.Valid.{free_sealed}
-use Rattle.store_state.specs.Tables.{IsFirstFree, Represents}
 use Rattle.ingest_steps.specs.Pinning as pinning
 use Rattle.ingest_steps.specs.Sealing as sealing
-use Rattle.store_core.specs.Core.{IndexesAll, IsSealed, SealRow, SealsOne, StopsAfter, counted}
-use Rattle.store_core.specs.Collecting.{Collects, IsKeptKey}
-use Rattle.store_core.specs.State.{CoreState, IsUnderWayIn}
-use Rattle.store_core.proofs.Sealing.{one_map}
-use Rattle.store_machine.specs.Asked.{Asked}
+use Rattle.store_core.specs.Core.{IndexesAll, IsSealed}
 use Rattle.store_machine.specs.Asked as asked
-use Rattle.store_machine.specs.Legal.{Answers, HasSlotAndId, Keeps}
-use Rattle.store_machine.specs.Machine.{RunState, Running, Stopped, Writing, keeping, put_at}
-use Rattle.store_machine.specs.Needs.{first_unkept, forgotten_beside, keys_of, or_else, with_pins}
-use Rattle.store_machine.specs.Values.{of_roots}
-use Rattle.core_machine.specs.Collections.{SameCollection}
-use Rattle.core_machine.specs.Refines.{HasIndex, IsMachine, SameParts, SameStop, TellsForgotten, answered_by}
+use Rattle.store_machine.specs.Legal.{HasSlotAndId, Keeps}
+use Rattle.store_machine.specs.Machine.{Writing}
+use Rattle.store_machine.specs.Needs.{first_unkept, keys_of, or_else, with_pins}
+use Rattle.core_machine.specs.Refines.{SameParts}
 use Rattle.core_machine.proofs.Beside.{same_beside}
 use Rattle.core_machine.proofs.KeysForgotten.{written_told}
 use Rattle.core_machine.proofs.Rows.{M, as_it_was, kept_same, left_by, right_at, same_marks, set_at, stopped_at, writing_at, wrong}

@@ -1,28 +1,12 @@
 -- A collection that begins in a core, or does not, as the machine of roots has it.
-use Rattle.std.proofs.Common.{◌≡◌, ℕ, suc, ◌<◌, List, [], ◌++◌, Some, None, Result, Ok, Err, refl, sym, ◌∙◌, subst, arith, Bool}
+use Rattle.core_machine.proofs.Prelude.{◌≡◌, ℕ, suc, ◌<◌, List, [], ◌++◌, Some, None, Result, Ok, Err, refl, sym, ◌∙◌, subst, arith, Bool, Root, MOST_LEVEL, Answer, CoreCollection, mark_level, Refusal, last_id, StartRow, Rests, CoreState, IsUnderWayIn, Asked, marking, marks_of, sources_in, Answers, IsAtRightPart, Running, keys_kept, values_read, of_roots, SameCollection, SameRun, SameStage, IsMachine, answered_by}
 use Rattle.std.specs.FinMap as finite
-use Rattle.disk_format.specs.Cells.{Root}
-use Rattle.disk_format.specs.declared.numbers.TheConstants.{MOST_LEVEL}
-use Rattle.actor_parts.specs.declared.step.Answer.{Answer}
 use Rattle.actor_parts.specs.declared.step.Answer.TheVariants as answers
-use Rattle.gc_steps.specs.declared.collection.Collection.{Collection as CoreCollection}
-use Rattle.gc_steps.specs.Stages.{mark_level}
-use Rattle.refusals.specs.declared.refusal.Refusal.{Refusal}
 use Rattle.refusals.specs.declared.refusal.Refusal.TheVariants as refusals
-use Rattle.store_model.specs.Slots.{last_id}
 use Rattle.store_core.specs.Collecting as collecting
-use Rattle.store_core.specs.Collecting.{StartRow}
-use Rattle.store_core.specs.Core.{Rests}
-use Rattle.store_core.specs.State.{CoreState, IsUnderWayIn}
-use Rattle.store_machine.specs.Asked.{Asked}
 use Rattle.store_machine.specs.Asked as asked
-use Rattle.store_machine.specs.Collecting.{marking, marks_of, sources_in}
-use Rattle.store_machine.specs.Legal.{Answers, IsAtRightPart}
-use Rattle.store_machine.specs.Machine.{Collection, Running}
-use Rattle.store_machine.specs.Needs.{keys_kept, values_read}
-use Rattle.store_machine.specs.Values.{of_roots}
-use Rattle.core_machine.specs.Collections.{SameCollection, SameRun, SameStage}
-use Rattle.core_machine.specs.Refines.{IsMachine, SameParts, answered_by}
+use Rattle.store_machine.specs.Machine.{Collection}
+use Rattle.core_machine.specs.Refines.{SameParts}
 use Rattle.core_machine.proofs.Marked.{left_first, same_marking}
 use Rattle.core_machine.proofs.Phases.{is_collecting, none_runs, one_runs}
 use Rattle.core_machine.proofs.Rows.{M, as_it_was, goes_on, left_by, same_at}

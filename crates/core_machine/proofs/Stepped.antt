@@ -1,47 +1,24 @@
 -- Steps of a collection before it sweeps: a container is scanned or recorded, or the sources are chosen.
-use Rattle.std.proofs.Common.{◌≡◌, ℕ, suc, ◌+◌, ◌-◌, ◌*◌, ◌<◌, Bool, true, false, List, [], ◌∷◌, ◌++◌, length, get_or, Option, Some, None, refl, sym, ◌∙◌, ap, subst, arith}
-use Rattle.std.specs.Prelude.{if◌then◌else◌, nat_lt, slice_get}
-use Rattle.std.proofs.lemmas.Bool.{le-ltb, lt-ltb, ltb-true}
-use Rattle.disk_format.specs.Cells.{Root}
-use Rattle.container_meta.specs.Spelling.{HeaderValue}
+use Rattle.core_machine.proofs.Prelude.{◌≡◌, ℕ, suc, ◌+◌, ◌-◌, ◌*◌, ◌<◌, Bool, true, false, List, [], ◌∷◌, ◌++◌, length, Option, Some, None, refl, sym, ◌∙◌, ap, subst, arith, slice_get, le-ltb, lt-ltb, ltb-true, Root, HeaderValue, ContainerLiveness, Next, CoreSweep, is_old, old_not_zero, CoreCollection, CoreStage, recorded, filter_at, first_slot, is_old_slot, is_tree_slot, mark_from, phase_at, trees_from, IsUnderWay, at_stage, Phase, ids_of, StoreChange, RepresentsSlots, SlotCount, SlotTable, CoreState, IsRecordOf, freed_in, ids_before, keys_written, marking, next_by, next_of, phase_by, sources_in, Running, Marking, Recording, Sweeping, of_roots, HasCopied, SameCollection, SameRun, SameStage, SameSweep, ids_at, IsMachine}
+use Rattle.std.proofs.Common.{get_or}
+use Rattle.std.specs.Prelude.{if◌then◌else◌, nat_lt}
 use Rattle.copy_forward.specs.Headers.{IsTabled}
 use Rattle.copy_forward.proofs.Tabled.{held_tabled}
-use Rattle.gc_select.specs.declared.liveness.ContainerLiveness.{ContainerLiveness}
 use Rattle.gc_select.specs.Selecting as selecting
 use Rattle.gc_select.specs.Selecting.{selected, sources_of}
-use Rattle.gc_sweep.specs.declared.sweep.Next.{Next}
 use Rattle.gc_sweep.specs.declared.sweep.Next.TheVariants as nexts
-use Rattle.gc_sweep.specs.declared.sweep.Sweep.{Sweep as CoreSweep}
 use Rattle.gc_sweep.specs.Beginning as beginning
 use Rattle.gc_sweep.specs.Next.{IsNext}
-use Rattle.gc_sweep.specs.UnderWay.{is_old}
 use Rattle.gc_sweep.proofs.Released.{open_slot}
-use Rattle.gc_sweep.proofs.Taken.{old_not_zero}
-use Rattle.gc_steps.specs.declared.collection.Collection.{Collection as CoreCollection}
-use Rattle.gc_steps.specs.declared.collection.Stage.{Stage as CoreStage}
 use Rattle.gc_steps.specs.declared.collection.Stage.TheVariants as core
 use Rattle.gc_steps.specs.Filtering as filtering
-use Rattle.gc_steps.specs.Filtering.{recorded, recorded_by}
+use Rattle.gc_steps.specs.Filtering.{recorded_by}
 use Rattle.gc_steps.specs.Marking.{Scans}
-use Rattle.gc_steps.specs.Stages.{filter_at, first_slot, is_old_slot, is_tree_slot, mark_from}
-use Rattle.gc_steps.specs.Stepping.{phase_at}
-use Rattle.gc_steps.specs.StepsToCome.{trees_from}
-use Rattle.gc_steps.specs.UnderWay.{IsUnderWay}
 use Rattle.gc_steps.proofs.SparingStages.{recorded_id_by}
-use Rattle.gc_steps.proofs.UnderWay.{at_stage}
-use Rattle.refusals.specs.declared.refusal.Phase.{Phase}
 use Rattle.refusals.specs.declared.refusal.Phase.TheVariants as phases
-use Rattle.store_model.specs.Slots.{ids_of}
-use Rattle.store_model.specs.Steps.{StoreChange}
-use Rattle.store_state.specs.Tables.{RepresentsSlots}
-use Rattle.store_state.specs.declared.slot_table.SlotCount.{SlotCount}
-use Rattle.store_state.specs.declared.slot_table.SlotTable.{SlotTable}
-use Rattle.store_core.specs.State.{CoreState}
-use Rattle.store_machine.specs.Collecting.{GoesOn, IsRecordOf, freed_in, ids_before, keys_written, marking, next_by, next_of, no_sweep, phase_by, sources_in}
-use Rattle.store_machine.specs.Machine.{Collection, Running, Stage, Marking, Recording, Sweeping}
-use Rattle.store_machine.specs.Values.{of_roots}
-use Rattle.core_machine.specs.Collections.{HasCopied, SameCollection, SameRun, SameStage, SameSweep, ids_at}
-use Rattle.core_machine.specs.Refines.{IsMachine, SameParts}
+use Rattle.store_machine.specs.Collecting.{GoesOn, no_sweep}
+use Rattle.store_machine.specs.Machine.{Collection, Stage}
+use Rattle.core_machine.specs.Refines.{SameParts}
 use Rattle.core_machine.proofs.Marked.{left_mark, one_fewer, same_marking}
 use Rattle.core_machine.proofs.OldIds.{all_recorded, old_is, recorded_to, right_at}
 use Rattle.core_machine.proofs.Phases.{Runs, phase_so}

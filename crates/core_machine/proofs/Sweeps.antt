@@ -1,26 +1,12 @@
 -- The steps of a core's sweep, and its end, as those of the machine, on any disk.
-use Rattle.std.proofs.Common.{◌≡◌, ℕ, Bool, true, [], length, Some, None, refl, sym, ◌∙◌, ap, subst, arith}
-use Rattle.disk_format.specs.Cells.{Root}
-use Rattle.refusals.specs.declared.refusal.Phase.{Phase}
+use Rattle.core_machine.proofs.Prelude.{◌≡◌, ℕ, Bool, true, [], length, Some, None, refl, sym, ◌∙◌, ap, subst, arith, Root, Phase, IsValidFor, HasFree, SlotTable, Represents, Next, HasNext, CoreCollection, CoreStage, Did, Moment, TablesAfter, answer_at, phase_at, IsUnderWay, Sweeping, of_roots, SameRun, FollowsPhase}
 use Rattle.refusals.specs.declared.refusal.Phase.TheVariants as phases
-use Rattle.store_model.specs.Image.{IsValidFor}
-use Rattle.store_model.specs.Slots.{HasFree}
-use Rattle.store_state.specs.declared.slot_table.SlotTable.{SlotTable}
-use Rattle.store_state.specs.Tables.{Represents}
-use Rattle.gc_sweep.specs.declared.sweep.Next.{Next}
 use Rattle.gc_sweep.specs.declared.sweep.Next.TheVariants as nexts
-use Rattle.gc_sweep.specs.UnderWay.{HasNext}
-use Rattle.gc_steps.specs.declared.collection.Collection.{Collection as CoreCollection}
-use Rattle.gc_steps.specs.declared.collection.Stage.{Stage as CoreStage}
 use Rattle.gc_steps.specs.declared.collection.Stage.TheVariants as stages
-use Rattle.gc_steps.specs.declared.phase.StepDone.TheVariants.{Did, Done}
-use Rattle.gc_steps.specs.Stepping.{Moment, StepsTo, TablesAfter, answer_at, answer_of, phase_at}
-use Rattle.gc_steps.specs.UnderWay.{IsUnderWay}
+use Rattle.gc_steps.specs.declared.phase.StepDone.TheVariants.{Done}
+use Rattle.gc_steps.specs.Stepping.{StepsTo, answer_of}
 use Rattle.store_machine.specs.Collecting.{Ends}
-use Rattle.store_machine.specs.Machine.{Collection, Sweeping}
-use Rattle.store_machine.specs.Values.{of_roots}
-use Rattle.core_machine.specs.Collections.{SameRun}
-use Rattle.core_machine.specs.Refines.{FollowsPhase}
+use Rattle.store_machine.specs.Machine.{Collection}
 use Rattle.core_machine.proofs.CopiedSources.{copies_so}
 use Rattle.core_machine.proofs.FlushedCopies.{flushes_so}
 use Rattle.core_machine.proofs.FreedSources.{releases_so}

@@ -1,35 +1,13 @@
 -- What a step of a sweep leaves of the machine: common to its steps, whatever they do.
-use Rattle.std.proofs.Common.{◌≡◌, ◌≢◌, ◌≤◌, ℕ, Bool, true, List, [], ◌∷◌, ◌++◌, length, get_or, map, Option, Some, None, refl, sym, ◌∙◌, ap, subst, arith}
-use Rattle.std.specs.List.{AllByRecursion}
-use Rattle.container_meta.specs.Places.{PlaceMap}
-use Rattle.container_meta.specs.Segments.{Contents, keys_of, segment_key}
-use Rattle.container_meta.specs.Spelling.{HeaderValue}
-use Rattle.disk_format.specs.Cells.{Root}
-use Rattle.disk_format.specs.declared.numbers.TheConstants.{LAST_ID}
-use Rattle.refusals.specs.declared.refusal.Phase.{Phase}
+use Rattle.core_machine.proofs.Prelude.{◌≡◌, ◌≢◌, ◌≤◌, ℕ, Bool, true, List, [], ◌∷◌, ◌++◌, length, Option, Some, None, refl, sym, ◌∙◌, ap, subst, arith, AllByRecursion, PlaceMap, segment_key, HeaderValue, Root, LAST_ID, Phase, IsValidFor, Store, last_sequence, names_of, HasFree, StoreChange, SlotTable, Tables, Represents, Next, CoreSweep, IsSweeping, entry_in, sources_before, CoreCollection, Moment, IsUnderWay, at_stage, Makes, Went, next_by, phase_in, sources_in, swept_by, Marking, Recording, Sweeping, of_roots, HasCopied, SameRun, SameStage, SameSweep, ids_at, TellsForgotten, ForgetsBy, changes_of}
+use Rattle.std.proofs.Common.{get_or, map}
+use Rattle.container_meta.specs.Segments.{Contents, keys_of}
 use Rattle.refusals.specs.declared.refusal.Phase.TheVariants as phases
-use Rattle.store_model.specs.Image.{IsValidFor, Store, last_sequence, names_of}
-use Rattle.store_model.specs.Slots.{HasFree}
-use Rattle.store_model.specs.Steps.{StoreChange}
-use Rattle.store_state.specs.declared.slot_table.SlotTable.{SlotTable}
-use Rattle.store_state.specs.declared.tables.Tables.{Tables}
-use Rattle.store_state.specs.Tables.{Represents}
-use Rattle.gc_sweep.specs.declared.sweep.Next.{Next}
 use Rattle.gc_sweep.specs.declared.sweep.Next.TheVariants as nexts
-use Rattle.gc_sweep.specs.declared.sweep.Sweep.{Sweep as CoreSweep}
 use Rattle.gc_sweep.specs.Next.{IsNext}
-use Rattle.gc_sweep.specs.UnderWay.{IsSweeping, entry_in, sources_before}
-use Rattle.gc_steps.specs.declared.collection.Collection.{Collection as CoreCollection}
 use Rattle.gc_steps.specs.declared.collection.Stage.TheVariants as stages
-use Rattle.gc_steps.specs.Stepping.{Moment}
-use Rattle.gc_steps.specs.UnderWay.{IsUnderWay}
-use Rattle.gc_steps.proofs.UnderWay.{at_stage}
-use Rattle.store_machine.specs.Collecting.{Goes, GoesOn, Makes, Went, last_by, next_by, phase_in, sources_in, swept_by}
-use Rattle.store_machine.specs.Machine.{Collection, Stage, Marking, Recording, Sweeping, Sweep}
-use Rattle.store_machine.specs.Values.{of_roots}
-use Rattle.core_machine.specs.Collections.{HasCopied, SameRun, SameStage, SameSweep, ids_at}
-use Rattle.core_machine.specs.Refines.{TellsForgotten}
-use Rattle.core_machine.specs.Sweeping.{ForgetsBy, changes_of}
+use Rattle.store_machine.specs.Collecting.{Goes, GoesOn, last_by}
+use Rattle.store_machine.specs.Machine.{Collection, Stage, Sweep}
 use Rattle.core_machine.proofs.Rows.{M}
 
 -- ---- a step that was made

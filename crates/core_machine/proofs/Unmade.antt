@@ -1,52 +1,27 @@
 -- A step of a collection that is refused, as the machine of roots has it.
-use Rattle.std.proofs.Common.{◌≡◌, ◌⊎◌, inl, inr, ℕ, suc, ◌<◌, List, [], ◌∷◌, drop, map, Option, Some, None, Err, refl, sym, ◌∙◌, ap, subst, arith, Bool}
-use Rattle.container_meta.specs.declared.entry.Entry.{Entry}
-use Rattle.container_meta.specs.Places.{PlaceMap}
+use Rattle.core_machine.proofs.Prelude.{◌≡◌, ◌⊎◌, inl, inr, ℕ, suc, ◌<◌, List, [], ◌∷◌, drop, Option, Some, None, Err, refl, sym, ◌∙◌, ap, subst, arith, Bool, Entry, PlaceMap, Planned, Source, DiskView, LAST_ID, LiveKeys, Next, CoreSweep, slot_in_turn, CoreCollection, CoreStage, KeepsMarks, IsStepRefusal, phase_at, IsUnderWay, Phase, Refusal, with_freed, Store, with_sealed, SlotTable, at_moment, StopsAfter, CoreState, IsCollecting, MayBreak, IsAtRightPart, Refuses, Running, Stopped, Sweeping, of_roots, SameCollection, SameRun, ids_at, NamesGc, changes_of, HasIndex, IsMachine}
+use Rattle.std.proofs.Common.{map}
 use Rattle.container_meta.specs.Segments.{Contents}
 use Rattle.copy_forward.specs.Copying.{IsCopyRefusal}
 use Rattle.copy_forward.specs.Entries.{IsRemoveRefusal, MapStays}
 use Rattle.copy_forward.specs.Headers.{IsHeaderRefusal}
-use Rattle.copy_forward.specs.Planning.{IsPlanRefusal, IsStuck, Planned, Source}
-use Rattle.dd_disk.specs.View.{DiskView}
-use Rattle.disk_format.specs.declared.numbers.TheConstants.{LAST_ID}
-use Rattle.gc_enumerate.specs.Live.{LiveKeys}
+use Rattle.copy_forward.specs.Planning.{IsPlanRefusal, IsStuck}
 use Rattle.gc_enumerate.specs.declared.fault.ScanFault.{ScanFault}
 use Rattle.gc_enumerate.specs.declared.fault.ScanFault.TheVariants as faults
-use Rattle.gc_sweep.specs.declared.sweep.Next.{Next}
 use Rattle.gc_sweep.specs.declared.sweep.Next.TheVariants as nexts
-use Rattle.gc_sweep.specs.declared.sweep.Sweep.{Sweep as CoreSweep}
 use Rattle.gc_sweep.specs.Copying.{IsCopyStepRefusal}
 use Rattle.gc_sweep.specs.Flushing.{IsFlushStepRefusal}
-use Rattle.gc_sweep.specs.InTurn.{slot_in_turn}
 use Rattle.ingest_steps.specs.Sealing.{KeepsMap}
-use Rattle.gc_steps.specs.declared.collection.Collection.{Collection as CoreCollection}
-use Rattle.gc_steps.specs.declared.collection.Stage.{Stage as CoreStage}
 use Rattle.gc_steps.specs.declared.collection.Stage.TheVariants as core
 use Rattle.gc_steps.specs.Filtering.{IsRecordRefusal}
-use Rattle.gc_steps.specs.Marking.{IsMarkRefusal, KeepsMarks}
+use Rattle.gc_steps.specs.Marking.{IsMarkRefusal}
 use Rattle.gc_steps.specs.Scanning.{step_refusal}
-use Rattle.gc_steps.specs.Stepping.{IsStepRefusal, Keeps, phase_at}
-use Rattle.gc_steps.specs.UnderWay.{IsUnderWay}
-use Rattle.refusals.specs.declared.refusal.Phase.{Phase}
+use Rattle.gc_steps.specs.Stepping.{Keeps}
 use Rattle.refusals.specs.declared.refusal.Phase.TheVariants as phases
-use Rattle.refusals.specs.declared.refusal.Refusal.{Refusal}
 use Rattle.refusals.specs.declared.refusal.Refusal.TheVariants as refusals
-use Rattle.store_model.specs.Freeing.{with_freed}
-use Rattle.store_model.specs.Image.{Store}
-use Rattle.store_model.specs.Steps.{changed, with_sealed}
-use Rattle.store_state.specs.declared.slot_table.SlotTable.{SlotTable}
-use Rattle.store_core.specs.Collecting.{at_moment}
-use Rattle.store_core.specs.Core.{StopsAfter}
-use Rattle.store_core.specs.State.{CoreState}
+use Rattle.store_model.specs.Steps.{changed}
 use Rattle.actor_parts.specs.StepValue as steps
 use Rattle.store_machine.specs.Asked as asked
-use Rattle.store_machine.specs.Collecting.{IsCollecting, MayBreak}
-use Rattle.store_machine.specs.Legal.{IsAtRightPart, Refuses}
-use Rattle.store_machine.specs.Machine.{Running, Stopped, Sweeping}
-use Rattle.store_machine.specs.Values.{of_roots}
-use Rattle.core_machine.specs.Collections.{SameCollection, SameRun, ids_at}
-use Rattle.core_machine.specs.Sweeping.{NamesGc, changes_of}
-use Rattle.core_machine.specs.Refines.{HasIndex, IsMachine}
 use Rattle.core_machine.proofs.FreedSources.{in_turn}
 use Rattle.core_machine.proofs.Phases.{Runs, is_collecting, some_runs}
 use Rattle.core_machine.proofs.Rows.{M, as_it_was, same_at, stopped_at}

@@ -1,9 +1,8 @@
 -- An image that can be opened as files may be that of a machine that is not open yet and has them.
-use Rattle.std.proofs.Common.{ℕ, zero, suc, ◌+◌, List, replicate, None, refl, arith}
-use Rattle.store_model.specs.Collisions.{AreAmong, IsIn, IsOf}
+use Rattle.core_machine.proofs.Prelude.{ℕ, zero, suc, ◌+◌, List, replicate, None, refl, arith, IsIn, IsOf, IsReachable}
+use Rattle.store_model.specs.Collisions.{AreAmong}
 use Rattle.store_model.specs.Files.{no_files}
 use Rattle.store_model.specs.Image.{empty_store}
-use Rattle.store_model.specs.Reserve.{IsReachable}
 use Rattle.store_model.specs.Standing.{IsFormatted}
 use Rattle.store_model.proofs.FreedFiles.{free_reserve}
 use Rattle.core_machine.specs.Unopened.{FilesBegin, FormattedBegins}

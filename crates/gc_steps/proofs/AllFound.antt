@@ -1,54 +1,19 @@
 -- While a collection marks, each live key is in the index, and a live node that was passed has live children, whatever the disk holds. So once it
 -- has marked, the index has each key of the trees of all roots.
-use Rattle.std.proofs.Common.{◌≡◌, ◌⊎◌, inl, inr, ℕ, zero, suc, ◌+◌, ◌-◌, ◌<◌, ◌≤◌, ◌&&◌, Bool, true, false, List, [], ◌∷◌, ◌++◌, find, length, get_or, map, Option, Some, None, refl, sym, ◌∙◌, ap, subst, arith}
-use Rattle.std.specs.Prelude.{nat_le, slice_get}
-use Rattle.std.specs.Str.{bytes_eq}
+use Rattle.gc_steps.proofs.Prelude.{◌≡◌, ◌⊎◌, inl, inr, ℕ, zero, suc, ◌+◌, ◌-◌, ◌<◌, ◌≤◌, Bool, true, false, List, [], ◌∷◌, ◌++◌, length, map, Option, Some, None, refl, sym, ◌∙◌, ap, subst, arith, nat_le, slice_get, bytes_eq, All, AllByRecursion, eqb-true, leb-true, eqb_tells, slice_get-get_or, All-weaker, Contains-get_or, recursion_from_All, bytes_eq-Decides, byte_at, key_of, MOST_LEVEL, Entry, Kind, Leaf, Place, is_level, kind_byte, PlaceMap, HeaderValue, IsHeader, header_digest, LiveKeys, HasLiveChildren, IsAmong, IsLiveOf, IsToScan, Scan, child_keys, among_keys, entry_key, AreHeaders, IsPartialIndexOf, last_id, place_of, lies, some_same, found_so, have_levels, finds, Refusal, Memory, RepresentsSlots, count_of, SlotCount, SlotTable, Collection, Stage, Mark, Filter, Select, RootKey, HasMarkedAll, HeadersAreApart, IsDataKey, is_tree_slot, mark_from, mark_level, AreFound, DiskView, Store, KeepsMarks, MarksOnly, Scans, ScansEntries, ScansSome, scan_for, WasScanned, ShowsAt}
+use Rattle.std.proofs.Common.{◌&&◌, find, get_or}
 use Rattle.std.specs.FinMap as finite
-use Rattle.std.specs.List.{All, AllByRecursion, Contains}
-use Rattle.std.proofs.lemmas.Bool.{eqb-true, leb-true}
-use Rattle.std.proofs.lemmas.Bool.Decides.{eqb_tells}
-use Rattle.std.proofs.lemmas.Option.{slice_get-get_or}
-use Rattle.std.proofs.lemmas.List.Elements.{All-weaker, Contains-get_or, recursion_from_All}
-use Rattle.std.proofs.lemmas.Slice.Eq.{bytes_eq-Decides}
-use Rattle.base_model.specs.Bytes.{byte_at, key_of}
-use Rattle.disk_format.specs.declared.numbers.TheConstants.{MOST_LEVEL}
-use Rattle.container_meta.specs.declared.entry.Entry.{Entry}
-use Rattle.container_meta.specs.declared.kind.Kind.{Kind}
-use Rattle.container_meta.specs.declared.kind.Kind.TheVariants.{Leaf, Tree}
-use Rattle.container_meta.specs.declared.place.Place.{Place}
-use Rattle.container_meta.specs.Format.{is_level, kind_byte}
-use Rattle.container_meta.specs.Places.{PlaceMap}
-use Rattle.container_meta.specs.Spelling.{HeaderValue, IsHeader, header_digest}
-use Rattle.gc_enumerate.specs.Live.{LiveKeys, IsLiveAt}
-use Rattle.gc_enumerate.specs.Marking.{HasLiveChildren, IsAmong, IsLiveOf}
+use Rattle.std.specs.List.{Contains}
+use Rattle.container_meta.specs.declared.kind.Kind.TheVariants.{Tree}
+use Rattle.gc_enumerate.specs.Live.{IsLiveAt}
 use Rattle.gc_enumerate.specs.Copies.{IsPlaceOf}
-use Rattle.gc_enumerate.specs.Scanning.{IsToScan, Scan, child_keys, keys_of}
-use Rattle.gc_enumerate.proofs.LiveChildren.{among_keys}
-use Rattle.store_model.specs.Indexing.{entry_key}
-use Rattle.store_model.specs.Slots.{AreHeaders, Copy, IsPartialIndexOf, last_id, place_of}
-use Rattle.store_model.proofs.Copies.{lies, some_same}
+use Rattle.gc_enumerate.specs.Scanning.{keys_of}
+use Rattle.store_model.specs.Slots.{Copy}
 use Rattle.store_model.proofs.Free.{as_many}
-use Rattle.store_model.proofs.HeldSlots.{found_so, have_levels}
-use Rattle.store_model.proofs.Lookups.{finds}
-use Rattle.refusals.specs.declared.refusal.Refusal.{Refusal}
-use Rattle.refusals.specs.declared.refusal.Refusal.TheVariants.{Memory}
-use Rattle.store_state.specs.Tables.{RepresentsSlots, count_of}
-use Rattle.store_state.specs.declared.slot_table.SlotCount.{SlotCount}
-use Rattle.store_state.specs.declared.slot_table.SlotTable.{SlotTable}
-use Rattle.gc_steps.specs.declared.collection.Collection.{Collection}
-use Rattle.gc_steps.specs.declared.collection.Stage.{Stage}
-use Rattle.gc_steps.specs.declared.collection.Stage.TheVariants.{Mark, Filter, Select, Sweep}
-use Rattle.gc_steps.specs.declared.roots.RootKey.{RootKey}
-use Rattle.gc_steps.specs.Finding.{FindsAll, FindsTree, HasAt, HasMarkedAll, HasNode, HeadersAreApart, IsDataKey}
-use Rattle.gc_steps.specs.Stages.{is_tree_slot, mark_from, mark_level}
-use Rattle.gc_steps.specs.Starting.{AreFound}
+use Rattle.gc_steps.specs.declared.collection.Stage.TheVariants.{Sweep}
+use Rattle.gc_steps.specs.Finding.{FindsAll, FindsTree, HasAt, HasNode}
 use Rattle.gc_steps.proofs.FirstStage.{id_below, not_first, tree_of, tree_slot}
 use Rattle.gc_steps.proofs.NextStage.{scanned_to}
-use Rattle.dd_disk.specs.View.{DiskView}
-use Rattle.store_model.specs.Image.{Store}
-use Rattle.gc_steps.specs.Marking.{KeepsMarks, MarksOnly, Scans, ScansEntries, ScansSome, scan_for}
-use Rattle.gc_steps.specs.MarksAreClosed.{WasScanned}
-use Rattle.gc_steps.specs.Scanning.{ShowsAt}
 
 -- ---- what the index has lies in a container
 

@@ -1,30 +1,12 @@
 -- What a step of another actor leaves of a collection, where what it makes live is held whole, and its children are live.
-use Rattle.std.proofs.Common.{◌≡◌, ◌⊎◌, ◌<◌, ◌≤◌, inl, inr, ℕ, List, Option, Some, refl, sym, ◌∙◌, ap}
-use Rattle.std.specs.Prelude.{slice_get, get_or}
+use Rattle.gc_steps.proofs.Prelude.{◌≡◌, ◌⊎◌, ◌<◌, ◌≤◌, inl, inr, ℕ, List, Option, Some, refl, sym, ◌∙◌, ap, slice_get, All, Part, Place, PlaceMap, HeaderValue, LiveKeys, child_keys, Store, names_of, entry_key, HasKey, newest, KeepsCopies, HasNewest, bytes_at, node_key, some_same, Collection, IsLive, IsWhole, HoldsNode, IsPassed, MarksAreClosed, NewAreLive, IsRoot, Stage, Mark, Filter, Select, HoldsAt, SweepIsSafe}
+use Rattle.std.specs.Prelude.{get_or}
 use Rattle.std.specs.FinMap as finite
-use Rattle.std.specs.List.{All}
-use Rattle.actor_parts.specs.declared.part.Part.{Part}
-use Rattle.container_meta.specs.declared.place.Place.{Place}
-use Rattle.container_meta.specs.Places.{PlaceMap}
-use Rattle.container_meta.specs.Spelling.{HeaderValue}
-use Rattle.gc_enumerate.specs.Live.{LiveKeys}
-use Rattle.gc_enumerate.specs.Scanning.{child_keys}
 use Rattle.merkle_file.specs.Node.{Contents}
-use Rattle.store_model.specs.Image.{Store, names_of}
-use Rattle.store_model.specs.Indexing.{entry_key}
-use Rattle.store_model.specs.Slots.{Copy, HasKey, newest}
-use Rattle.store_model.specs.Steps.{KeepsCopies}
-use Rattle.store_model.specs.Trees.{HasNewest, bytes_at, node_key}
-use Rattle.store_model.proofs.Copies.{some_same}
+use Rattle.store_model.specs.Slots.{Copy}
 use Rattle.store_model.proofs.Counted.{tree_on}
-use Rattle.gc_steps.specs.declared.collection.Collection.{Collection}
-use Rattle.gc_sweep.specs.Holding.{GoesOnBeside, IsLive}
-use Rattle.gc_steps.specs.LiveTrees.{IsWhole, HoldsNode}
-use Rattle.gc_steps.specs.MarksAreClosed.{IsPassed, MarksAreClosed, NewAreLive}
-use Rattle.gc_steps.specs.Roots.{IsRoot}
-use Rattle.gc_steps.specs.declared.collection.Stage.{Stage}
-use Rattle.gc_steps.specs.declared.collection.Stage.TheVariants.{Mark, Filter, Select, Sweep}
-use Rattle.gc_steps.specs.SweepIsSafe.{HoldsAt, SweepIsSafe}
+use Rattle.gc_sweep.specs.Holding.{GoesOnBeside}
+use Rattle.gc_steps.specs.declared.collection.Stage.TheVariants.{Sweep}
 use Rattle.gc_sweep.proofs.HoldsBeside.{holds_beside, stand_beside}
 
 -- The tree of a key is held whole; and where the key is that of a node, the node's children are live.

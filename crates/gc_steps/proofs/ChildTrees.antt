@@ -1,21 +1,11 @@
 -- The children of a node whose tree is held whole are the roots of trees that are held whole, one level below.
-use Rattle.std.proofs.Common.{◌≡◌, ℕ, ◌+◌, List, ◌∷◌, map, Option, refl, sym, ◌∙◌, ap, subst, arith}
-use Rattle.std.specs.List.{All, Contains}
-use Rattle.std.proofs.lemmas.List.Elements.{All-nil, All-cons, Contains-append_left, Contains-append_right}
-use Rattle.sha2.specs.Sha256.{sha256}
-use Rattle.container_meta.specs.Places.{PlaceMap}
-use Rattle.container_meta.specs.Spelling.{HeaderValue}
-use Rattle.gc_enumerate.specs.Scanning.{child_key, child_keys}
-use Rattle.merkle_file.specs.Node.{Contents, node_digest}
+use Rattle.gc_steps.proofs.Prelude.{◌≡◌, ℕ, ◌+◌, List, ◌∷◌, map, Option, refl, sym, ◌∙◌, ap, subst, arith, All, Contains-append_left, Contains-append_right, sha256, PlaceMap, HeaderValue, child_key, child_keys, node_digest, Trees, child_of, children_of, level_of, of_segment, AreBelow, IsTree, contents_of, HoldsCounted, keys_below, tree_keys, HasKey, newest, HoldsTrees, bytes_at, leaf_key, node_key, some_same, one_spelling, HoldsNode, IsRootOf, IsWhole}
+use Rattle.std.specs.List.{Contains}
+use Rattle.std.proofs.lemmas.List.Elements.{All-nil, All-cons}
+use Rattle.merkle_file.specs.Node.{Contents}
 use Rattle.merkle_file.specs.Tree as tree
-use Rattle.merkle_file.specs.Tree.{Tree, Trees, child_of, children_of, level_of, of_segment}
-use Rattle.merkle_file.specs.Walk.{AreBelow, IsTree, contents_of}
-use Rattle.store_model.specs.Reserve.{HoldsCounted, keys_below, tree_keys}
-use Rattle.store_model.specs.Slots.{Copy, HasKey, newest}
-use Rattle.store_model.specs.Trees.{HoldsTrees, bytes_at, leaf_key, node_key}
-use Rattle.store_model.proofs.Copies.{some_same}
-use Rattle.store_model.proofs.OneNode.{one_spelling}
-use Rattle.gc_steps.specs.LiveTrees.{HoldsNode, IsRootOf, IsWhole}
+use Rattle.merkle_file.specs.Tree.{Tree}
+use Rattle.store_model.specs.Slots.{Copy}
 use Rattle.gc_steps.proofs.Marked.{contains_next}
 use Rattle.gc_steps.proofs.Needed.{child_root}
 

@@ -1,24 +1,16 @@
 -- The sources that are chosen, of containers that were recorded.
-use Rattle.std.proofs.Common.{◌≡◌, ℕ, zero, suc, ◌<◌, ◌≤◌, Bool, true, false, List, [], ◌∷◌, length, get_or, refl, sym, ◌∙◌, ap, subst, arith}
-use Rattle.std.specs.Prelude.{◌↔◌, Contains, filter, if◌then◌else◌, nat_eq}
+use Rattle.gc_steps.proofs.Prelude.{◌≡◌, ℕ, zero, suc, ◌<◌, ◌≤◌, Bool, true, false, List, [], ◌∷◌, length, refl, sym, ◌∙◌, ap, subst, arith, filter, if◌then◌else◌, nat_eq, get_or_default_zero, take_all, All-contains, ContainerLiveness, IsSelectedId, is_selected, SlotTable, SweepValue, Begins, is_old, Collection, Chooses, IsRecordedTo, old_ids}
+use Rattle.std.proofs.Common.{get_or}
+use Rattle.std.specs.Prelude.{◌↔◌, Contains}
 use Rattle.std.specs.List.{IsDistinct}
 use Rattle.std.specs.List.Sorted.{IsPermutation}
-use Rattle.std.proofs.lemmas.Grind.{get_or_default_zero}
-use Rattle.std.proofs.lemmas.List.{take_all}
-use Rattle.std.proofs.lemmas.List.Elements.{All-contains, All-contains_itself, All-filter, filter_passes}
+use Rattle.std.proofs.lemmas.List.Elements.{All-contains_itself, All-filter, filter_passes}
 use Rattle.std.proofs.lemmas.List.Sorted.{length_permutation}
-use Rattle.gc_select.specs.declared.liveness.ContainerLiveness.{ContainerLiveness}
-use Rattle.gc_select.specs.Selecting.{AreSources, IsSelectedId, ids_of, is_selected, selected, sources_of}
+use Rattle.gc_select.specs.Selecting.{AreSources, ids_of, selected, sources_of}
 use Rattle.gc_select.proofs.Chosen.{ids_many}
 pub use Rattle.gc_select.proofs.Chosen.{chosen_which, sources_many}
-use Rattle.store_state.specs.declared.slot_table.SlotTable.{SlotTable}
-use Rattle.gc_sweep.specs.declared.sweep.Sweep.{Sweep as SweepValue}
-use Rattle.gc_sweep.specs.Beginning.{Begins}
-use Rattle.gc_sweep.specs.UnderWay.{AreLeft, is_old}
-use Rattle.gc_steps.specs.declared.collection.Collection.{Collection}
+use Rattle.gc_sweep.specs.UnderWay.{AreLeft}
 use Rattle.gc_steps.specs.declared.collection.Stage.TheVariants.{Sweep}
-use Rattle.gc_steps.specs.Filtering.{Chooses}
-use Rattle.gc_steps.specs.UnderWay.{IsRecordedTo, old_ids}
 
 -- of a list no more pass a test than it has
 pub filter_fewer : {A : Type 0} (test : A → Bool) (xs : List A) → length (filter test xs) ≤ length xs

@@ -1,25 +1,9 @@
 -- A claim of a segment that is held leaves both invariants of a collection, where the segment's key becomes live.
-use Rattle.std.proofs.Common.{◌≡◌, ◌⊎◌, ◌↔◌, ◌<◌, inl, inr, ℕ, Bool, true, false, cond, List, length, Some, refl, sym, ◌∙◌, ap}
-use Rattle.std.specs.Cmp.Lexicographic.{nat_list_cmp_total}
+use Rattle.gc_steps.proofs.Prelude.{◌≡◌, ◌⊎◌, ◌<◌, inl, inr, ℕ, Bool, true, false, cond, List, length, Some, refl, sym, ◌∙◌, ap, nat_list_cmp_total, bytes_eq, bytes_eq-Decides, ACTORS, Part, Writing, Pin, PinMap, Place, PlaceMap, LiveKeys, Files, Store, IsStoreOf, tied, CoreInvariant, Collection, IsPartKey, Marks}
+use Rattle.std.proofs.Common.{◌↔◌}
 use Rattle.std.specs.FinMap as finite
-use Rattle.std.specs.Str.{bytes_eq}
-use Rattle.std.proofs.lemmas.Slice.Eq.{bytes_eq-Decides}
-use Rattle.actor_parts.specs.declared.actor.TheConstants.{ACTORS}
-use Rattle.actor_parts.specs.declared.part.Part.{Part}
-use Rattle.actor_parts.specs.declared.part.Part.TheVariants.{Writing}
-use Rattle.actor_parts.specs.declared.pins.Pin.{Pin}
 use Rattle.actor_parts.specs.Parts.{part_of, with_part}
-use Rattle.actor_parts.specs.PinMap.{PinMap}
-use Rattle.container_meta.specs.declared.place.Place.{Place}
-use Rattle.container_meta.specs.Places.{PlaceMap}
-use Rattle.gc_enumerate.specs.Live.{LiveKeys, IsLiveAt, SharesMark}
-use Rattle.store_model.specs.Files.{Files}
-use Rattle.store_model.specs.Image.{Store}
-use Rattle.store_model.specs.Standing.{IsStoreOf}
-use Rattle.store_model.proofs.Indexing.{tied}
-use Rattle.store_state.specs.Invariant.{CoreInvariant}
-use Rattle.gc_steps.specs.declared.collection.Collection.{Collection}
-use Rattle.gc_steps.specs.Roots.{IsPartKey, Marks}
+use Rattle.gc_enumerate.specs.Live.{IsLiveAt, SharesMark}
 use Rattle.gc_steps.proofs.Carried.{KeepsBoth, moves_none}
 use Rattle.gc_steps.proofs.GainedPins.{Gains, Grows, gained}
 

@@ -1,45 +1,10 @@
 -- What each step of a collection does to what is filled, and to the count of its sources, over a disk that tells its content.
-use Rattle.std.proofs.Common.{◌≡◌, ◌⊎◌, inl, inr, ℕ, ◌+◌, ◌<◌, ◌≤◌, Bool, true, false, List, [], ◌∷◌, length, length-append, drop, map, Option, Some, None, refl, sym, ◌∙◌, ap, subst, arith}
-use Rattle.std.specs.Prelude.{slice_get}
+use Rattle.gc_steps.proofs.Prelude.{◌≡◌, ◌⊎◌, inl, inr, ℕ, ◌+◌, ◌<◌, ◌≤◌, Bool, true, false, List, [], ◌∷◌, length, drop, map, Option, Some, None, refl, sym, ◌∙◌, ap, subst, arith, slice_get, AllByRecursion, Kind, Place, PlaceMap, Segment, has_key, segment_key, HeaderValue, PlansBy, Plan, source_of, Shows, DiskView, shown_content, LiveKeys, DifferentIds, HoldSlots, HoldsSlot, IsPartialIndexOf, RepresentsSlots, SlotTable, Tables, Next, CopyNext, Flush, Release, End, SweepValue, Begins, CopiesSource, TakesBy, HasFlushed, HoldsSweep, IsCopied, IsLive, HasReleased, IsNext, HasNext, IsSweeping, sources_before, no_key, LeavesHeld, holds_copied, listed_so, filled_new, IsReadOf, not_other, read_of, Collection, Stage, Mark, Filter, Select, StepsTo, moment, HoldsAt, IsUnderWay}
+use Rattle.std.proofs.Common.{length-append}
 use Rattle.std.specs.FinMap as finite
-use Rattle.std.specs.List.{AllByRecursion}
-use Rattle.container_meta.specs.declared.kind.Kind.{Kind}
-use Rattle.container_meta.specs.declared.place.Place.{Place}
-use Rattle.container_meta.specs.Places.{PlaceMap}
-use Rattle.container_meta.specs.Segments.{Contents, Segment, has_key, keys_of, segment_key}
-use Rattle.container_meta.specs.Spelling.{HeaderValue}
-use Rattle.copy_forward.specs.Copying.{PlansBy}
-use Rattle.copy_forward.specs.declared.plan.Plan.{Plan}
-use Rattle.copy_forward.specs.Planning.{source_of}
-use Rattle.dd_disk.specs.Shows.{Shows}
-use Rattle.dd_disk.specs.View.{DiskView}
-use Rattle.dd_disk.proofs.Shows.{shown_content}
-use Rattle.gc_enumerate.specs.Live.{LiveKeys}
-use Rattle.store_model.specs.Slots.{DifferentIds, HoldSlots, HoldsSlot, IsPartialIndexOf}
-use Rattle.store_state.specs.Tables.{RepresentsSlots}
-use Rattle.store_state.specs.declared.slot_table.SlotTable.{SlotTable}
-use Rattle.store_state.specs.declared.tables.Tables.{Tables}
-use Rattle.gc_sweep.specs.declared.sweep.Next.{Next}
-use Rattle.gc_sweep.specs.declared.sweep.Next.TheVariants.{Copy as CopyNext, Flush, Release, End}
-use Rattle.gc_sweep.specs.declared.sweep.Sweep.{Sweep as SweepValue}
-use Rattle.gc_sweep.specs.Beginning.{Begins}
-use Rattle.gc_sweep.specs.Copying.{CopiesSource, EndsBy, TakesBy}
-use Rattle.gc_sweep.specs.Flushing.{HasFlushed}
-use Rattle.gc_sweep.specs.Holding.{HoldsSweep, IsCopied, IsLive}
-use Rattle.gc_sweep.specs.InTurn.{HasReleased}
-use Rattle.gc_sweep.specs.Next.{IsNext}
-use Rattle.gc_sweep.specs.UnderWay.{HasNext, IsSweeping, sources_before}
-use Rattle.gc_sweep.proofs.Holds.{no_key}
-use Rattle.gc_sweep.proofs.HoldsCopied.{LeavesHeld, holds_copied}
-use Rattle.gc_sweep.proofs.KeyLists.{listed_so}
-use Rattle.gc_sweep.proofs.PlannedKeys.{filled_new}
-use Rattle.gc_sweep.proofs.SourceRead.{IsReadOf, not_other, read_of}
-use Rattle.gc_steps.specs.declared.collection.Collection.{Collection}
-use Rattle.gc_steps.specs.declared.collection.Stage.{Stage}
-use Rattle.gc_steps.specs.declared.collection.Stage.TheVariants.{Mark, Filter, Select, Sweep}
-use Rattle.gc_steps.specs.Stepping.{StepsTo, moment}
-use Rattle.gc_steps.specs.SweepIsSafe.{HoldsAt}
-use Rattle.gc_steps.specs.UnderWay.{IsUnderWay}
+use Rattle.container_meta.specs.Segments.{Contents, keys_of}
+use Rattle.gc_sweep.specs.Copying.{EndsBy}
+use Rattle.gc_steps.specs.declared.collection.Stage.TheVariants.{Sweep}
 use Rattle.gc_steps.proofs.UnderWay.{at_stage}
 
 -- the index has the key's copy in a container that was there when the collection began

@@ -1,22 +1,14 @@
 -- Refusals of look-ups and reads, as a scan says them.
-use Rattle.std.proofs.Common.{◌≡◌, ℕ, ◌+◌, List, Err, sym, ◌∙◌, ap}
+use Rattle.gc_steps.proofs.Prelude.{◌≡◌, ℕ, ◌+◌, List, Err, sym, ◌∙◌, ap, Place, ending_of, Shows, DiskView, Why, Refusal, DiskRead, Damaged, Corrupt, bytes_at, blames, ShowsAt}
 use Rattle.base_model.specs.Bytes.{range}
-use Rattle.container_meta.specs.declared.place.Place.{Place}
-use Rattle.dd_disk.specs.Ending.{CountsFault, ending_of}
-use Rattle.dd_disk.specs.Shows.{Shows}
-use Rattle.dd_disk.specs.View.{DiskView}
+use Rattle.dd_disk.specs.Ending.{CountsFault}
 use Rattle.dd_disk.proofs.Shows.{weaker}
-use Rattle.disk_format.specs.declared.why.Why.{Why}
 use Rattle.disk_format.specs.Layout.{data_at}
 use Rattle.gc_enumerate.specs.Copies.{CountsReads}
 use Rattle.gc_enumerate.specs.Faults.{IsLookupFault, IsReadFault}
-use Rattle.refusals.specs.declared.refusal.Refusal.{Refusal}
-use Rattle.refusals.specs.declared.refusal.Refusal.TheVariants.{DiskRead, Damaged, Corrupt}
-use Rattle.store_model.specs.Trees.{bytes_at}
 use Rattle.store_state.specs.Comparing.{IsCopyRefusal}
 use Rattle.store_state.specs.Indexing.{IsFindRefusal}
-use Rattle.store_state.specs.Refused.{blames}
-use Rattle.gc_steps.specs.Scanning.{ShowsAt, scan_fault}
+use Rattle.gc_steps.specs.Scanning.{scan_fault}
 
 pub lookup_fault : (P Q : ℕ → Why → Type 0) → ((at : ℕ) (why : Why) → P at why → Q at why) → (refusal : Refusal) → IsFindRefusal P refusal → IsLookupFault Q (scan_fault refusal)
 lookup_fault P Q each DiskRead cause = tt

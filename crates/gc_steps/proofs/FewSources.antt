@@ -1,29 +1,11 @@
 -- No more sources are chosen than containers were there, and a seal brings no such container.
-use Rattle.std.proofs.Common.{◌≡◌, ◌⊎◌, inl, inr, ◌<◌, ◌≤◌, ◌+◌, ◌-◌, ℕ, suc, Bool, true, false, List, [], ◌∷◌, length, get_or, Option, Vec, Global, refl, sym, ◌∙◌, ap, subst, arith}
-use Rattle.std.specs.Prelude.{if◌then◌else◌, filter}
-use Rattle.container_meta.specs.Spelling.{HeaderValue}
-use Rattle.store_model.specs.Slots.{with_slot}
-use Rattle.store_state.specs.Tables.{IsFirstFree, RepresentsSlots}
-use Rattle.store_state.specs.declared.slot_table.SlotTable.{SlotTable}
-use Rattle.gc_steps.specs.declared.collection.Collection.{Collection}
-use Rattle.gc_steps.specs.Filtering.{Chooses}
-use Rattle.gc_sweep.specs.UnderWay.{is_old}
-use Rattle.gc_steps.specs.Stages.{is_old_slot}
-use Rattle.gc_steps.specs.StepsToCome.{count_from, old_from}
-use Rattle.gc_steps.specs.UnderWay.{IsRecordedTo, IsUnderWay, old_ids}
-use Rattle.container_meta.specs.Places.{PlaceMap}
-use Rattle.dd_disk.specs.View.{DiskView}
-use Rattle.refusals.specs.declared.refusal.Refusal.{Refusal}
-use Rattle.refusals.specs.declared.refusal.Refusal.TheVariants.{Memory}
-use Rattle.store_state.specs.declared.tables.Tables.{Tables}
-use Rattle.gc_steps.specs.declared.collection.Stage.{Stage}
-use Rattle.gc_steps.specs.declared.collection.Stage.TheVariants.{Mark, Filter, Select, Sweep}
-use Rattle.gc_steps.specs.FewSources.{HasFewSources, IsToChoose}
-use Rattle.gc_steps.specs.Marking.{KeepsMarks, MarksOnly}
-use Rattle.gc_steps.specs.Stepping.{Keeps, Moment, StepsTo, TablesAfter, moment}
+use Rattle.gc_steps.proofs.Prelude.{◌≡◌, ◌⊎◌, inl, inr, ◌<◌, ◌≤◌, ◌+◌, ◌-◌, ℕ, suc, Bool, true, false, List, [], ◌∷◌, length, Option, Vec, Global, refl, sym, ◌∙◌, ap, subst, arith, if◌then◌else◌, filter, HeaderValue, with_slot, IsFirstFree, RepresentsSlots, SlotTable, Collection, Chooses, is_old, is_old_slot, old_from, IsRecordedTo, IsUnderWay, old_ids, PlaceMap, DiskView, Refusal, Memory, Tables, Stage, Mark, Filter, Select, IsToChoose, KeepsMarks, MarksOnly, Keeps, Moment, StepsTo, TablesAfter, moment, Next, Flush, Release, End}
+use Rattle.std.proofs.Common.{get_or}
+use Rattle.gc_steps.specs.StepsToCome.{count_from}
+use Rattle.gc_steps.specs.declared.collection.Stage.TheVariants.{Sweep}
+use Rattle.gc_steps.specs.FewSources.{HasFewSources}
 use Rattle.gc_steps.proofs.NoNearer.{old_many}
-use Rattle.gc_sweep.specs.declared.sweep.Next.{Next}
-use Rattle.gc_sweep.specs.declared.sweep.Next.TheVariants.{Copy, Flush, Release, End}
+use Rattle.gc_sweep.specs.declared.sweep.Next.TheVariants.{Copy}
 use Rattle.gc_steps.proofs.Chosen.{few_chosen}
 use Rattle.gc_steps.proofs.UnderWay.{at_stage}
 

@@ -1,14 +1,5 @@
 -- Where no root comes after a step, and no container came or went, a collection goes on.
-use Rattle.std.proofs.Common.{◌≡◌, inl, ℕ, List, Option, sym, ◌∙◌, ap}
-use Rattle.std.specs.Prelude.{slice_get}
-use Rattle.actor_parts.specs.declared.part.Part.{Part}
-use Rattle.container_meta.specs.Places.{PlaceMap}
-use Rattle.container_meta.specs.Spelling.{HeaderValue}
-use Rattle.store_model.specs.Image.{Store, names_of}
-use Rattle.store_model.specs.Slots.{HasKey, newest}
-use Rattle.store_model.specs.Steps.{KeepsCopies}
-use Rattle.gc_steps.specs.declared.collection.Collection.{Collection}
-use Rattle.gc_steps.specs.Roots.{IsRoot}
+use Rattle.gc_steps.proofs.Prelude.{◌≡◌, inl, ℕ, List, Option, sym, ◌∙◌, ap, slice_get, Part, PlaceMap, HeaderValue, Store, names_of, HasKey, newest, KeepsCopies, Collection, IsRoot}
 use Rattle.gc_steps.proofs.Carried.{KeepsBoth, carried, moves_none}
 
 -- The store has the same containers, and the image the same copies of the keys that the index has; the roots after it are among those before.

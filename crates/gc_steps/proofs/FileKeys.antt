@@ -1,32 +1,11 @@
 -- The keys that files need go from nodes to their children.
-use Rattle.std.proofs.Common.{◌≡◌, ◌⊎◌, inl, inr, ℕ, Bool, List, [], ◌∷◌, map, length, ◌≤◌, Option, Some, None, sym, ◌∙◌, ap, subst}
-use Rattle.std.specs.Prelude.{if◌then◌else◌}
+use Rattle.gc_steps.proofs.Prelude.{◌≡◌, ◌⊎◌, inl, inr, ℕ, Bool, List, [], ◌∷◌, map, length, ◌≤◌, Option, Some, None, sym, ◌∙◌, ap, subst, if◌then◌else◌, AllByRecursion, Contains-append_cases, Contains-append_left, Contains-append_right, HeaderValue, key_of, Root, MOST_FILE, child_key, child_keys, Top, node_digest, Trees, child_of, children_of, of_segment, AreBelow, IsTree, contents_of, trees_in, Named, Files, Store, names_of, IsReachable, keys_below, tree_keys, newest, IsFileOf, IsStoreOf, HoldsTree, HoldsTrees, bytes_at, file_tree, leaf_key, node_key, some_same, one_spelling, FitsFile, file_of_root, files_fit, right_file, root_of_tree, HoldsNode, HasRootKey, IsNameKey}
 use Rattle.std.specs.FinMap as finite
-use Rattle.std.specs.List.{AllByRecursion, Contains}
-use Rattle.std.proofs.lemmas.List.Elements.{Contains-append_cases, Contains-append_left, Contains-append_right}
-use Rattle.container_meta.specs.Spelling.{HeaderValue}
-use Rattle.base_model.specs.Bytes.{key_of}
-use Rattle.disk_format.specs.Cells.{Root}
-use Rattle.disk_format.specs.declared.numbers.TheConstants.{MOST_FILE}
-use Rattle.gc_enumerate.specs.Scanning.{child_key, child_keys}
-use Rattle.merkle_file.specs.declared.top.Top.{Top}
-use Rattle.merkle_file.specs.Node.{Contents, node_digest}
+use Rattle.std.specs.List.{Contains}
+use Rattle.merkle_file.specs.Node.{Contents}
 use Rattle.merkle_file.specs.Tree as tree
-use Rattle.merkle_file.specs.Tree.{Tree, Trees, child_of, children_of, of_segment}
-use Rattle.merkle_file.specs.Walk.{AreBelow, IsTree, contents_of, trees_in}
-use Rattle.namespace.specs.declared.record.Named.{Named}
-use Rattle.store_model.specs.Files.{Files}
-use Rattle.store_model.specs.Image.{Store, names_of}
-use Rattle.store_model.specs.Reserve.{IsReachable, keys_below, tree_keys}
-use Rattle.store_model.specs.Slots.{Copy, newest}
-use Rattle.store_model.specs.Standing.{IsFileOf, IsStoreOf}
-use Rattle.store_model.specs.Trees.{HoldsTree, HoldsTrees, bytes_at, file_tree, leaf_key, node_key}
-use Rattle.store_model.proofs.Copies.{some_same}
-use Rattle.store_model.proofs.OneNode.{one_spelling}
-use Rattle.store_model.proofs.SameFiles.{FitsFile, file_of_root, files_fit}
-use Rattle.store_model.proofs.Unfolding.{right_file, root_of_tree}
-use Rattle.gc_steps.specs.LiveTrees.{HoldsNode}
-use Rattle.gc_steps.specs.Roots.{HasRootKey, IsNameKey}
+use Rattle.merkle_file.specs.Tree.{Tree}
+use Rattle.store_model.specs.Slots.{Copy}
 use Rattle.gc_steps.proofs.ListedKeys.{name_of_key}
 use Rattle.gc_steps.proofs.ChildTrees.{leaf_apart}
 use Rattle.gc_steps.proofs.Marked.{contains_first, contains_head, contains_next, contains_none}

@@ -1,35 +1,13 @@
 -- A collection that begins has passed no node, and no container has come after it.
-use Rattle.std.proofs.Common.{◌≡◌, ◌≢◌, inl, inr, ℕ, zero, suc, ◌+◌, ◌-◌, ◌<◌, ◌≤◌, ◌&&◌, Bool, true, false, not, List, [], ◌∷◌, length, map, get_or, Option, Some, None, refl, sym, ◌∙◌, ap, subst, arith}
-use Rattle.std.specs.Prelude.{◌==◌, nat_lt, nat_le, if◌then◌else◌, slice_get}
-use Rattle.std.specs.List.{AllByRecursion}
-use Rattle.std.proofs.lemmas.Bool.{eqb-true, leb-true, lt-ltb}
-use Rattle.std.proofs.lemmas.Option.{slice_get-get_or}
-use Rattle.std.proofs.lemmas.Slice.Eq.{bytes_eq-Decides}
-use Rattle.disk_format.specs.declared.numbers.TheConstants.{MOST_LEVEL}
-use Rattle.container_meta.specs.declared.entry.Entry.{Entry}
-use Rattle.container_meta.specs.declared.kind.Kind.{Kind}
+use Rattle.gc_steps.proofs.Prelude.{◌≡◌, ◌≢◌, inl, inr, ℕ, zero, suc, ◌+◌, ◌-◌, ◌<◌, ◌≤◌, Bool, true, false, List, [], ◌∷◌, length, map, Option, Some, None, refl, sym, ◌∙◌, ap, subst, arith, nat_lt, nat_le, if◌then◌else◌, slice_get, AllByRecursion, eqb-true, leb-true, lt-ltb, slice_get-get_or, bytes_eq-Decides, MOST_LEVEL, Entry, Kind, kind_byte, PlaceMap, HeaderValue, IsHeader, node_digest, HoldSlots, last_id, newest, node_key, lies, some_same, slot_held, found_so, same_kind, RepresentsSlots, count_of, SlotCount, SlotTable, LiveKeys, Collection, Stage, Mark, HoldsNode, IsPassed, NewAreLive, WasScanned, is_old_slot, is_tree, is_tree_slot, mark_at, mark_level}
+use Rattle.std.proofs.Common.{◌&&◌, not, get_or}
+use Rattle.std.specs.Prelude.{◌==◌}
 use Rattle.container_meta.specs.declared.kind.Kind.TheVariants.{Tree}
-use Rattle.container_meta.specs.Format.{kind_byte}
-use Rattle.container_meta.specs.Places.{PlaceMap}
-use Rattle.container_meta.specs.Spelling.{HeaderValue, IsHeader}
-use Rattle.merkle_file.specs.Node.{Contents, node_digest}
-use Rattle.store_model.specs.Slots.{Copy, HoldSlots, ids_of, last_id, newest}
-use Rattle.store_model.specs.Trees.{node_key}
-use Rattle.store_model.proofs.Copies.{lies, some_same}
+use Rattle.merkle_file.specs.Node.{Contents}
+use Rattle.store_model.specs.Slots.{Copy, ids_of}
 use Rattle.store_model.proofs.CopyIds.{newest_id}
 use Rattle.store_model.proofs.Free.{as_many}
-use Rattle.store_model.proofs.Freed.{slot_held}
-use Rattle.store_model.proofs.HeldSlots.{found_so, same_kind}
-use Rattle.store_state.specs.Tables.{RepresentsSlots, count_of}
-use Rattle.store_state.specs.declared.slot_table.SlotCount.{SlotCount}
-use Rattle.store_state.specs.declared.slot_table.SlotTable.{SlotTable}
-use Rattle.gc_enumerate.specs.Live.{LiveKeys}
-use Rattle.gc_steps.specs.declared.collection.Collection.{Collection}
-use Rattle.gc_steps.specs.declared.collection.Stage.{Stage}
-use Rattle.gc_steps.specs.declared.collection.Stage.TheVariants.{Mark}
-use Rattle.gc_steps.specs.LiveTrees.{HoldsNode}
-use Rattle.gc_steps.specs.MarksAreClosed.{IsPassed, NewAreLive, WasScanned}
-use Rattle.gc_steps.specs.Stages.{first_from, is_old_slot, is_tree, is_tree_slot, mark_at, mark_level}
+use Rattle.gc_steps.specs.Stages.{first_from}
 
 -- ---- no container has come after it
 

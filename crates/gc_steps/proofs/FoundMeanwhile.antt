@@ -1,51 +1,14 @@
 -- While a collection marks, whatever others do and whatever the disk holds, each live key that the index has is that of data, or of a node whose
 -- children are so, too, or of a node that marking has yet to come to. So once it has marked, the index has each key of the trees of all roots.
-use Rattle.std.proofs.Common.{◌≡◌, ◌⊎◌, ◌↔◌, inl, inr, ℕ, zero, suc, ◌-◌, ◌<◌, ◌≤◌, true, List, [], ◌∷◌, ◌++◌, get_or, map, Option, Some, refl, sym, ◌∙◌, ap, subst, arith}
-use Rattle.std.specs.Prelude.{slice_get}
+use Rattle.gc_steps.proofs.Prelude.{◌≡◌, ◌⊎◌, inl, inr, ℕ, zero, suc, ◌-◌, ◌<◌, ◌≤◌, true, List, [], ◌∷◌, ◌++◌, map, Option, Some, refl, sym, ◌∙◌, ap, subst, arith, slice_get, All, AllByRecursion, eqb_tells, leb_tells, All-contains, All-weaker, Contains-get_or, Part, Writing, PinMap, has_pin, IsOfKind, child_pin, children_by, key_of, Kind, Leaf, Place, PlaceMap, Segment, segment_key, HeaderValue, header_digest, DiskView, MOST_LEVEL, LiveKeys, IsAmong, child_key, child_keys, among_keys, IsLive, Child, contents_in, sha256, NameMap, Refusal, Memory, Store, AreHeaders, HasKey, IsPartialIndexOf, last_id, some_same, RepresentsSlots, SlotCount, SlotTable, Collection, Stage, Mark, Filter, Select, RootKey, HasMarkedAll, HeadersAreApart, IsDataKey, KeepsMarks, MarksOnly, Scans, WasScanned, IsPartKey, IsRoot, Marks, key_at, roots_of, mark_level, AreFound}
+use Rattle.std.proofs.Common.{◌↔◌, get_or}
 use Rattle.std.specs.FinMap as finite
-use Rattle.std.specs.List.{All, AllByRecursion}
-use Rattle.std.proofs.lemmas.Bool.Decides.{eqb_tells, leb_tells}
-use Rattle.std.proofs.lemmas.List.Elements.{All-append, All-contains, All-map, All-weaker, Contains-get_or}
-use Rattle.actor_parts.specs.declared.part.Part.{Part}
-use Rattle.actor_parts.specs.declared.part.Part.TheVariants.{Writing}
-use Rattle.actor_parts.specs.PinMap.{PinMap, has_pin}
-use Rattle.actor_parts.specs.Segments.{IsOfKind, child_pin, children_by}
-use Rattle.base_model.specs.Bytes.{key_of}
-use Rattle.container_meta.specs.declared.kind.Kind.{Kind}
-use Rattle.container_meta.specs.declared.kind.Kind.TheVariants.{Leaf, Tree}
-use Rattle.container_meta.specs.declared.place.Place.{Place}
-use Rattle.container_meta.specs.Places.{PlaceMap}
-use Rattle.container_meta.specs.Segments.{Segment, segment_key}
-use Rattle.container_meta.specs.Spelling.{HeaderValue, header_digest}
-use Rattle.dd_disk.specs.View.{DiskView}
-use Rattle.disk_format.specs.declared.numbers.TheConstants.{MOST_LEVEL}
-use Rattle.gc_enumerate.specs.Live.{LiveKeys, IsLiveAt}
-use Rattle.gc_enumerate.specs.Marking.{IsAmong}
-use Rattle.gc_enumerate.specs.Scanning.{child_key, child_keys}
-use Rattle.gc_enumerate.proofs.LiveChildren.{among_keys}
-use Rattle.gc_sweep.specs.Holding.{IsLive}
-use Rattle.merkle_file.specs.declared.node.Child.{Child}
-use Rattle.merkle_file.specs.Reading.{contents_in}
-use Rattle.sha2.specs.Sha256.{sha256}
-use Rattle.namespace.specs.Names.{NameMap}
-use Rattle.refusals.specs.declared.refusal.Refusal.{Refusal}
-use Rattle.refusals.specs.declared.refusal.Refusal.TheVariants.{Memory}
-use Rattle.store_model.specs.Image.{Store}
-use Rattle.store_model.specs.Slots.{AreHeaders, HasKey, IsPartialIndexOf, last_id}
-use Rattle.store_model.proofs.Copies.{some_same}
-use Rattle.store_state.specs.Tables.{RepresentsSlots}
-use Rattle.store_state.specs.declared.slot_table.SlotCount.{SlotCount}
-use Rattle.store_state.specs.declared.slot_table.SlotTable.{SlotTable}
-use Rattle.gc_steps.specs.declared.collection.Collection.{Collection}
-use Rattle.gc_steps.specs.declared.collection.Stage.{Stage}
-use Rattle.gc_steps.specs.declared.collection.Stage.TheVariants.{Mark, Filter, Select, Sweep}
-use Rattle.gc_steps.specs.declared.roots.RootKey.{RootKey}
-use Rattle.gc_steps.specs.Finding.{FindsTrees, HasChildren, HasMarkedAll, HeadersAreApart, IsDataKey}
-use Rattle.gc_steps.specs.Marking.{KeepsMarks, MarksOnly, Scans}
-use Rattle.gc_steps.specs.MarksAreClosed.{WasScanned}
-use Rattle.gc_steps.specs.Roots.{IsPartKey, IsRoot, Marks, RootKeys, key_at, roots_of}
-use Rattle.gc_steps.specs.Stages.{mark_level}
-use Rattle.gc_steps.specs.Starting.{AreFound}
+use Rattle.std.proofs.lemmas.List.Elements.{All-append, All-map}
+use Rattle.container_meta.specs.declared.kind.Kind.TheVariants.{Tree}
+use Rattle.gc_enumerate.specs.Live.{IsLiveAt}
+use Rattle.gc_steps.specs.declared.collection.Stage.TheVariants.{Sweep}
+use Rattle.gc_steps.specs.Finding.{FindsTrees, HasChildren}
+use Rattle.gc_steps.specs.Roots.{RootKeys}
 use Rattle.gc_steps.proofs.AllFound.{Entered, HasLive, all_passed, below_it, data_or_node, entered, grows, node_here, none_yet, not_later, passed, some_among, some_grows, tabled_held}
 use Rattle.gc_steps.proofs.FirstStage.{id_below}
 use Rattle.gc_steps.proofs.GainedPins.{live_anywhere}

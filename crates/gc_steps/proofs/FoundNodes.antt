@@ -1,43 +1,15 @@
 -- The nodes that a scan of a container found, on a disk whose content is known: just the live nodes of the level whose newest copies lie in it.
-use Rattle.std.proofs.Common.{◌≡◌, ◌⊎◌, inl, inr, ℕ, ◌-◌, ◌<◌, ◌≤◌, true, List, [], ◌∷◌, length, get_or, Option, Some, None, refl, sym, ◌∙◌, ap, subst, arith}
-use Rattle.std.specs.Prelude.{slice_get}
+use Rattle.gc_steps.proofs.Prelude.{◌≡◌, ◌⊎◌, inl, inr, ℕ, ◌-◌, ◌<◌, ◌≤◌, true, List, [], ◌∷◌, length, Option, Some, None, refl, sym, ◌∙◌, ap, subst, arith, slice_get, All, AllByRecursion, flat_map, eqb-true, All-weaker, Contains-append_cases, recursion_from_All, slice_get-get_or, bytes_eq-Decides, key_of, Entry, Kind, Leaf, Place, is_level, kind_byte, PlaceMap, HeaderValue, DiskView, shown_content, LiveKeys, HasLiveChildren, IsLiveOf, HaveNodes, IsToScan, Scan, child_keys, node_digest, Files, Store, entry_key, HoldSlots, HoldsSlot, IsPartialIndexOf, newest, place_of, IsStoreOf, bytes_at, node_key, lies, some_same, slot_held, found_so, newest_so, nodes_so, IsNodeEntry, finds, one_spelling, IsLive, HoldsNode, NewAreLive, scan_for, ShowsAt}
+use Rattle.std.proofs.Common.{get_or}
 use Rattle.std.specs.FinMap as finite
-use Rattle.std.specs.List.{All, AllByRecursion, Contains, flat_map}
-use Rattle.std.proofs.lemmas.Bool.{eqb-true}
-use Rattle.std.proofs.lemmas.List.Elements.{All-weaker, Contains-append_cases, recursion_from_All}
-use Rattle.std.proofs.lemmas.Option.{slice_get-get_or}
-use Rattle.std.proofs.lemmas.Slice.Eq.{bytes_eq-Decides}
-use Rattle.base_model.specs.Bytes.{key_of}
-use Rattle.container_meta.specs.declared.entry.Entry.{Entry}
-use Rattle.container_meta.specs.declared.kind.Kind.{Kind}
-use Rattle.container_meta.specs.declared.kind.Kind.TheVariants.{Leaf, Tree}
-use Rattle.container_meta.specs.declared.place.Place.{Place}
-use Rattle.container_meta.specs.Format.{is_level, kind_byte}
-use Rattle.container_meta.specs.Places.{PlaceMap}
-use Rattle.container_meta.specs.Spelling.{HeaderValue}
-use Rattle.dd_disk.specs.View.{DiskView}
-use Rattle.dd_disk.proofs.Shows.{shown_content}
-use Rattle.gc_enumerate.specs.Live.{LiveKeys, IsLiveAt}
-use Rattle.gc_enumerate.specs.Marking.{HasLiveChildren, IsLiveOf}
-use Rattle.gc_enumerate.specs.Scanning.{HaveNodes, IsNodeOf, IsToScan, Scan, child_keys}
-use Rattle.merkle_file.specs.Node.{Contents, node_digest, spelling}
-use Rattle.store_model.specs.Files.{Files}
-use Rattle.store_model.specs.Image.{Store}
-use Rattle.store_model.specs.Indexing.{entry_key}
-use Rattle.store_model.specs.Slots.{Copy, HoldSlots, HoldsSlot, IsPartialIndexOf, newest, place_of}
-use Rattle.store_model.specs.Standing.{IsStoreOf}
-use Rattle.store_model.specs.Trees.{bytes_at, node_key}
-use Rattle.store_model.proofs.Copies.{LiesIn, lies, some_same}
-use Rattle.store_model.proofs.Freed.{slot_held}
-use Rattle.store_model.proofs.HeldSlots.{found_so, newest_so, nodes_so, IsNodeEntry}
-use Rattle.store_model.proofs.Lookups.{finds}
-use Rattle.store_model.proofs.OneNode.{one_spelling}
+use Rattle.std.specs.List.{Contains}
+use Rattle.container_meta.specs.declared.kind.Kind.TheVariants.{Tree}
+use Rattle.gc_enumerate.specs.Live.{IsLiveAt}
+use Rattle.gc_enumerate.specs.Scanning.{IsNodeOf}
+use Rattle.merkle_file.specs.Node.{Contents, spelling}
+use Rattle.store_model.specs.Slots.{Copy}
+use Rattle.store_model.proofs.Copies.{LiesIn}
 use Rattle.store_model.proofs.Once.{slot_once}
-use Rattle.gc_sweep.specs.Holding.{IsLive}
-use Rattle.gc_steps.specs.LiveTrees.{HoldsNode}
-use Rattle.gc_steps.specs.MarksAreClosed.{NewAreLive}
-use Rattle.gc_steps.specs.Marking.{scan_for}
-use Rattle.gc_steps.specs.Scanning.{ShowsAt}
 use Rattle.gc_steps.proofs.Marked.{contains_none}
 
 -- ---- the header of a slot

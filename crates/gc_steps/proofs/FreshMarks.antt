@@ -1,13 +1,10 @@
 -- Keys that become live while a collection runs, and those of them that were not.
-use Rattle.std.proofs.Common.{◌≡◌, ◌⊎◌, ◌↔◌, ◌<◌, ◌≤◌, ◌+◌, inl, inr, ℕ, Bool, true, false, List, [], ◌∷◌, ◌++◌, length, take, get_or, is_some, Result, Ok, Err, OnOk, OnErr, refl, sym, ◌∙◌, subst}
+use Rattle.gc_steps.proofs.Prelude.{◌≡◌, ◌⊎◌, ◌<◌, ◌≤◌, ◌+◌, inl, inr, ℕ, Bool, true, false, List, [], ◌∷◌, ◌++◌, length, take, is_some, Result, Ok, Err, OnOk, refl, sym, ◌∙◌, subst, take_all, take_more, Contains-append_left, Place, LiveKeys, HasMarked, IsAsLive, Unmarks, Marks}
+use Rattle.std.proofs.Common.{◌↔◌, get_or, OnErr}
 use Rattle.std.specs.FinMap as finite
 use Rattle.std.specs.List.{Contains}
-use Rattle.std.proofs.lemmas.List.{take_all, take_more}
-use Rattle.std.proofs.lemmas.List.Elements.{Contains-append_left}
-use Rattle.container_meta.specs.declared.place.Place.{Place}
-use Rattle.gc_enumerate.specs.Live.{LiveKeys, IsLiveAt}
-use Rattle.gc_steps.specs.Fresh.{AreFresh, HasMarked, IsAsLive, Unmarks}
-use Rattle.gc_steps.specs.Roots.{Marks}
+use Rattle.gc_enumerate.specs.Live.{IsLiveAt}
+use Rattle.gc_steps.specs.Fresh.{AreFresh}
 use Rattle.gc_steps.proofs.Marked.{contains_more, contains_none, keys_turn, marks_none}
 
 -- ---- marks of keys

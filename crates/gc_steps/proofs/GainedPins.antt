@@ -1,42 +1,15 @@
 -- An actor's pins grow, and the live keys by the same keys: both invariants of a collection stay.
-use Rattle.std.proofs.Common.{◌≡◌, ◌⊎◌, ◌↔◌, ◌<◌, inl, inr, ℕ, zero, suc, true, List, [], ◌∷◌, length, map, Some, sym, ◌∙◌, ap, subst, arith}
-use Rattle.std.specs.Prelude.{slice_get, get_or}
+use Rattle.gc_steps.proofs.Prelude.{◌≡◌, ◌⊎◌, ◌<◌, inl, inr, ℕ, zero, suc, true, List, [], ◌∷◌, length, map, Some, sym, ◌∙◌, ap, subst, arith, slice_get, All, AllByRecursion, sha256, ACTORS, Part, Writing, PinMap, has_pin, IsOfKind, child_pin, children_by, Kind, Leaf, Place, PlaceMap, Segment, segment_key, HeaderValue, LiveKeys, child_key, child_keys, Child, IsNode, node_digest, contents_in, NameMap, Files, Store, names_of, entry_key, HasKey, newest, IsStoreOf, KeepsCopies, bytes_at, node_key, some_same, same_kind, ArePinsOf, CoreInvariant, HoldsPart, Collection, IsLive, IsPartKey, IsRoot, Marks}
+use Rattle.std.proofs.Common.{◌↔◌}
+use Rattle.std.specs.Prelude.{get_or}
 use Rattle.std.specs.FinMap as finite
-use Rattle.std.specs.List.{All, AllByRecursion}
-use Rattle.sha2.specs.Sha256.{sha256}
-use Rattle.actor_parts.specs.declared.actor.TheConstants.{ACTORS}
-use Rattle.actor_parts.specs.declared.part.Part.{Part}
-use Rattle.actor_parts.specs.declared.part.Part.TheVariants.{Writing}
 use Rattle.actor_parts.specs.Parts.{part_of, with_part}
-use Rattle.actor_parts.specs.PinMap.{PinMap, has_pin}
-use Rattle.actor_parts.specs.Segments.{IsOfKind, child_pin, children_by}
 use Rattle.actor_parts.proofs.Apart.{apart}
-use Rattle.container_meta.specs.declared.kind.Kind.{Kind}
-use Rattle.container_meta.specs.declared.kind.Kind.TheVariants.{Leaf, Tree}
-use Rattle.container_meta.specs.declared.place.Place.{Place}
-use Rattle.container_meta.specs.Places.{PlaceMap}
-use Rattle.container_meta.specs.Segments.{Segment, segment_key}
-use Rattle.container_meta.specs.Spelling.{HeaderValue}
-use Rattle.gc_enumerate.specs.Live.{LiveKeys, IsLiveAt}
-use Rattle.gc_enumerate.specs.Scanning.{child_key, child_keys}
-use Rattle.merkle_file.specs.declared.node.Child.{Child}
-use Rattle.merkle_file.specs.Node.{Contents, IsNode, node_digest, spelling}
-use Rattle.merkle_file.specs.Reading.{contents_in}
+use Rattle.container_meta.specs.declared.kind.Kind.TheVariants.{Tree}
+use Rattle.gc_enumerate.specs.Live.{IsLiveAt}
+use Rattle.merkle_file.specs.Node.{Contents, spelling}
 use Rattle.merkle_file.proofs.RootLaws.{spellings_tell_nodes}
-use Rattle.namespace.specs.Names.{NameMap}
-use Rattle.store_model.specs.Files.{Files}
-use Rattle.store_model.specs.Image.{Store, names_of}
-use Rattle.store_model.specs.Indexing.{entry_key}
-use Rattle.store_model.specs.Slots.{Copy, HasKey, newest}
-use Rattle.store_model.specs.Standing.{IsStoreOf}
-use Rattle.store_model.specs.Steps.{KeepsCopies}
-use Rattle.store_model.specs.Trees.{bytes_at, node_key}
-use Rattle.store_model.proofs.Copies.{some_same}
-use Rattle.store_model.proofs.HeldSlots.{same_kind}
-use Rattle.store_state.specs.Invariant.{ArePinsOf, CoreInvariant, HoldsPart}
-use Rattle.gc_steps.specs.declared.collection.Collection.{Collection}
-use Rattle.gc_sweep.specs.Holding.{IsLive}
-use Rattle.gc_steps.specs.Roots.{IsPartKey, IsRoot, Marks}
+use Rattle.store_model.specs.Slots.{Copy}
 use Rattle.gc_steps.proofs.Carried.{Carries, IsGrown, KeepsBoth, MovesBeside, carried}
 use Rattle.gc_steps.proofs.PinnedTrees.{pin_found, pinned_whole}
 use Rattle.gc_steps.proofs.RootsAfter.{part_root}

@@ -1,20 +1,10 @@
 -- The levels of what the index has, where the content of a disk is a store: those of the trees that are held whole.
-use Rattle.std.proofs.Common.{◌≡◌, ℕ, ◌-◌, List, Some, refl, sym, ◌∙◌, ap, arith}
+use Rattle.gc_steps.proofs.Prelude.{◌≡◌, ℕ, ◌-◌, List, Some, refl, sym, ◌∙◌, ap, arith, Why, Place, PlaceMap, IsMisplaced, level_of, contents_of, Store, IsPartialIndexOf, HasNewest, HoldsTree, leaf_key, node_key, some_same, finds, IsRootOf, IsWhole}
 use Rattle.std.specs.FinMap as finite
-use Rattle.disk_format.specs.declared.why.Why.{Why}
-use Rattle.container_meta.specs.declared.place.Place.{Place}
-use Rattle.container_meta.specs.Places.{PlaceMap}
-use Rattle.gc_enumerate.specs.Scanning.{IsMisplaced}
 use Rattle.merkle_file.specs.Node.{Contents, spelling}
 use Rattle.merkle_file.specs.Tree as tree
-use Rattle.merkle_file.specs.Tree.{Tree, level_of}
-use Rattle.merkle_file.specs.Walk.{contents_of}
-use Rattle.store_model.specs.Image.{Store}
-use Rattle.store_model.specs.Slots.{Copy, IsPartialIndexOf}
-use Rattle.store_model.specs.Trees.{HasNewest, HoldsTree, leaf_key, node_key}
-use Rattle.store_model.proofs.Copies.{some_same}
-use Rattle.store_model.proofs.Lookups.{finds}
-use Rattle.gc_steps.specs.LiveTrees.{IsRootOf, IsWhole}
+use Rattle.merkle_file.specs.Tree.{Tree}
+use Rattle.store_model.specs.Slots.{Copy}
 use Rattle.gc_steps.proofs.ChildTrees.{IsWholeBelow}
 
 module _ (index : PlaceMap) (store : Store) (image : List ℕ) (partial : IsPartialIndexOf store.held index) where

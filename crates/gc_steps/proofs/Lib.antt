@@ -29,6 +29,7 @@ pub mod NoNearer
 pub mod NoneMissing
 pub mod OtherSteps
 pub mod PinnedTrees
+mod Prelude
 pub mod ReaderNeeds
 pub mod RecordOf
 pub mod Recorded

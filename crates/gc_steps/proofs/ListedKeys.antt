@@ -1,18 +1,11 @@
 -- The key of the root of a name, and the name that it is of.
-use Rattle.std.proofs.Common.{◌≡◌, ℕ, Bool, true, false, cond, ◌&&◌, List, [], ◌∷◌, map, Some, None, inl, inr, refl, sym, ◌∙◌, ap}
+use Rattle.gc_steps.proofs.Prelude.{◌≡◌, ℕ, Bool, true, false, cond, List, [], ◌∷◌, map, Some, None, inl, inr, refl, sym, ◌∙◌, ap, nat_cmp, eq_by_cmp, slice_cmp, AllByRecursion, bytes_eq-Decides, Named, NamedRoot, listing_of, named_root, NameMap, tied, HasRootKey, IsListedKey, IsNameKey}
+use Rattle.std.proofs.Common.{◌&&◌}
 use Rattle.std.specs.Prelude.{T}
-use Rattle.std.specs.Ordering.{nat_cmp, eq_by_cmp, is_lt, is_eq}
-use Rattle.std.specs.Cmp.Lexicographic.{slice_cmp}
+use Rattle.std.specs.Ordering.{is_lt, is_eq}
 use Rattle.std.specs.FinMap as finite
-use Rattle.std.specs.List.{AllByRecursion}
 use Rattle.std.specs.FinMap.Entries.{below_all}
 use Rattle.std.proofs.Common.{Ordering, Less, Equal, Greater}
-use Rattle.std.proofs.lemmas.Slice.Eq.{bytes_eq-Decides}
-use Rattle.namespace.specs.declared.record.Named.{Named}
-use Rattle.namespace.specs.Listing.{NamedRoot, listing_of, named_root}
-use Rattle.namespace.specs.Names.{NameMap}
-use Rattle.store_model.proofs.Indexing.{tied}
-use Rattle.gc_steps.specs.Roots.{HasRootKey, IsListedKey, IsNameKey}
 
 -- a name with a root of that key
 pub record HasName (names : NameMap) (key : List ℕ) : Type 0 where

@@ -1,50 +1,12 @@
 -- A collection that runs alone: what it recorded is so of the containers that it began at, and it copies just what is live of its sources.
-use Rattle.std.proofs.Common.{◌≡◌, ◌⊎◌, inl, inr, ℕ, zero, suc, ◌+◌, ◌-◌, ◌<◌, ◌≤◌, Bool, true, false, List, [], ◌∷◌, ◌++◌, length, Option, Some, None, refl, sym, ◌∙◌, ap, subst, arith}
-use Rattle.std.specs.Prelude.{slice_get, Contains}
+use Rattle.gc_steps.proofs.Prelude.{◌≡◌, ◌⊎◌, inl, inr, ℕ, zero, suc, ◌+◌, ◌-◌, ◌<◌, ◌≤◌, Bool, true, false, List, [], ◌∷◌, ◌++◌, length, Option, Some, None, refl, sym, ◌∙◌, ap, subst, arith, slice_get, AllByRecursion, Contains-get_or, Place, PlaceMap, entries_from, has_key, HeaderValue, bytes_of, header_of, SumsLive, DiskView, LiveKeys, ContainerLiveness, Next, CopyNext, Flush, Release, End, SweepValue, CopiesSource, HoldsSweep, IsLive, HasReleased, slot_in_turn, HasNext, IsSweeping, no_key, LeavesHeld, listed, listed_so, IsReadOf, Files, IsValidFor, Store, with_entries, HasFree, IsPartialIndexOf, first_free, with_slot, without_slot, IsStoreOf, some_same, there_before, put_none, Represents, RepresentsSlots, SlotTable, Tables, Collection, Stage, Filter, Mark, Select, SweepStage, IsToChoose, Chooses, Records, recorded, Scans, filter_at, filter_from, first_slot, is_old_slot, is_tree_slot, mark_at, mark_from, mark_level, mark_on, Flushes, StepsTo, moment, HoldsAt, IsUnderWay}
+use Rattle.std.specs.Prelude.{Contains}
 use Rattle.std.specs.FinMap as finite
-use Rattle.std.specs.List.{AllByRecursion}
-use Rattle.std.proofs.lemmas.List.Elements.{Contains-get_or}
-use Rattle.container_meta.specs.declared.place.Place.{Place}
-use Rattle.container_meta.specs.Places.{PlaceMap}
-use Rattle.container_meta.specs.Segments.{Contents, entries_from, has_key, keys_of}
-use Rattle.container_meta.specs.Spelling.{HeaderValue, bytes_of, header_of}
-use Rattle.copy_forward.specs.Entries.{SumsLive}
-use Rattle.dd_disk.specs.View.{DiskView}
-use Rattle.gc_enumerate.specs.Live.{LiveKeys, IsLiveAt}
-use Rattle.gc_select.specs.declared.liveness.ContainerLiveness.{ContainerLiveness}
-use Rattle.gc_sweep.specs.declared.sweep.Next.{Next}
-use Rattle.gc_sweep.specs.declared.sweep.Next.TheVariants.{Copy as CopyNext, Flush, Release, End}
-use Rattle.gc_sweep.specs.declared.sweep.Sweep.{Sweep as SweepValue}
-use Rattle.gc_sweep.specs.Copying.{CopiesSource}
-use Rattle.gc_sweep.specs.Holding.{HoldsSweep, IsLive}
-use Rattle.gc_sweep.specs.InTurn.{HasReleased, slot_in_turn}
-use Rattle.gc_sweep.specs.UnderWay.{HasNext, IsSweeping}
-use Rattle.gc_sweep.proofs.Holds.{no_key}
-use Rattle.gc_sweep.proofs.HoldsCopied.{LeavesHeld}
+use Rattle.container_meta.specs.Segments.{Contents, keys_of}
+use Rattle.gc_enumerate.specs.Live.{IsLiveAt}
 use Rattle.gc_sweep.proofs.InSlots.{lies_at}
-use Rattle.gc_sweep.proofs.KeyLists.{both_so, listed, listed_either, listed_left, listed_right, listed_so}
-use Rattle.gc_sweep.proofs.SourceRead.{IsReadOf}
-use Rattle.store_model.specs.Files.{Files}
-use Rattle.store_model.specs.Image.{IsValidFor, Store}
-use Rattle.store_model.specs.Indexing.{with_entries}
-use Rattle.store_model.specs.Slots.{HasFree, IsPartialIndexOf, first_free, with_slot, without_slot}
-use Rattle.store_model.specs.Standing.{IsStoreOf}
-use Rattle.store_model.proofs.Copies.{some_same}
-use Rattle.store_model.proofs.Freed.{other_there, there_before}
-use Rattle.store_model.proofs.Indexing.{put_none}
-use Rattle.store_state.specs.Tables.{Represents, RepresentsSlots}
-use Rattle.store_state.specs.declared.slot_table.SlotTable.{SlotTable}
-use Rattle.store_state.specs.declared.tables.Tables.{Tables}
-use Rattle.gc_steps.specs.declared.collection.Collection.{Collection}
-use Rattle.gc_steps.specs.declared.collection.Stage.{Stage}
-use Rattle.gc_steps.specs.declared.collection.Stage.TheVariants.{Filter, Mark, Select, Sweep as SweepStage}
-use Rattle.gc_steps.specs.FewSources.{IsToChoose}
-use Rattle.gc_steps.specs.Filtering.{Chooses, Records, recorded}
-use Rattle.gc_steps.specs.Marking.{Scans}
-use Rattle.gc_steps.specs.Stages.{filter_at, filter_from, first_slot, is_old_slot, is_tree_slot, mark_at, mark_from, mark_level, mark_on}
-use Rattle.gc_steps.specs.Stepping.{Flushes, StepsTo, moment}
-use Rattle.gc_steps.specs.SweepIsSafe.{HoldsAt}
-use Rattle.gc_steps.specs.UnderWay.{IsUnderWay}
+use Rattle.gc_sweep.proofs.KeyLists.{both_so, listed_either, listed_left, listed_right}
+use Rattle.store_model.proofs.Freed.{other_there}
 use Rattle.gc_steps.proofs.CopiedOn.{keys_so, live_so}
 use Rattle.gc_steps.proofs.RecordOf.{record_of}
 use Rattle.gc_steps.proofs.SparingStages.{came, copied_leaves, entry_none, read, with_place}

@@ -1,18 +1,6 @@
 -- What a step before the sweep does to the whole collection.
-use Rattle.std.proofs.Common.{◌≡◌, ℕ, Option, refl, sym, ap, subst}
-use Rattle.container_meta.specs.Places.{PlaceMap}
-use Rattle.dd_disk.specs.View.{DiskView}
+use Rattle.gc_steps.proofs.Prelude.{◌≡◌, ℕ, Option, refl, sym, ap, subst, PlaceMap, DiskView, Runs, Tables, Collection, Stage, Mark, Filter, Did, Records, Scans, Makes, Moment, RunsOn, StepsTo, TablesAfter, answer_at, moment, IsUnderWay}
 use Rattle.refusals.specs.declared.refusal.Phase.TheVariants as phases
-use Rattle.store_state.specs.Tables.{Runs}
-use Rattle.store_state.specs.declared.tables.Tables.{Tables}
-use Rattle.gc_steps.specs.declared.collection.Collection.{Collection}
-use Rattle.gc_steps.specs.declared.collection.Stage.{Stage}
-use Rattle.gc_steps.specs.declared.collection.Stage.TheVariants.{Mark, Filter}
-use Rattle.gc_steps.specs.declared.phase.StepDone.TheVariants.{Did}
-use Rattle.gc_steps.specs.Filtering.{Records}
-use Rattle.gc_steps.specs.Marking.{Scans}
-use Rattle.gc_steps.specs.Stepping.{Makes, Moment, RunsOn, StepsTo, TablesAfter, answer_at, moment}
-use Rattle.gc_steps.specs.UnderWay.{IsUnderWay}
 use Rattle.gc_steps.proofs.Nearer.{fewer_to_mark, fewer_to_record}
 use Rattle.gc_steps.proofs.TablesRun.{runs_same}
 

@@ -1,13 +1,8 @@
 -- The map of the index stays where the gate of a slot is written.
-use Rattle.std.proofs.Common.{◌≡◌, ℕ, ◌<◌, ◌≤◌, List, length, Option, Some, sym, ◌∙◌, ap, subst, arith}
+use Rattle.gc_steps.proofs.Prelude.{◌≡◌, ℕ, ◌<◌, ◌≤◌, List, length, Option, Some, sym, ◌∙◌, ap, subst, arith, PlaceMap, DiskView, size_of, slot_at, Runs, Tables}
 use Rattle.base_model.specs.Known.{KnownWith}
 use Rattle.container_log.specs.Writing.{SameButGate}
-use Rattle.container_meta.specs.Places.{PlaceMap}
-use Rattle.dd_disk.specs.View.{DiskView}
-use Rattle.disk_format.specs.Layout.{size_of, slot_at}
 use Rattle.segment_index.specs.Changes.{SameFrom}
-use Rattle.store_state.specs.Tables.{Runs}
-use Rattle.store_state.specs.declared.tables.Tables.{Tables}
 use Rattle.gc_sweep.proofs.OnDisk.{slots_there}
 
 pub map_kept : (places : Option (List ℕ) → Option PlaceMap) (owned_from : ℕ → ℕ)

@@ -1,16 +1,9 @@
 -- What becomes live, key by key.
-use Rattle.std.proofs.Common.{◌≡◌, ◌⊎◌, ◌↔◌, ◌<◌, inl, inr, ℕ, zero, suc, ◌+◌, Bool, true, false, List, [], ◌∷◌, ◌++◌, length, take, get_or, Option, Some, None, is_some, arith, refl, sym, ◌∙◌, subst}
-use Rattle.std.specs.Prelude.{◌||◌}
-use Rattle.std.specs.Cmp.Lexicographic.{slice_cmp}
+use Rattle.gc_steps.proofs.Prelude.{◌≡◌, ◌⊎◌, ◌<◌, inl, inr, ℕ, zero, suc, ◌+◌, Bool, true, false, List, [], ◌∷◌, ◌++◌, length, take, Option, Some, None, is_some, arith, refl, sym, ◌∙◌, subst, ◌||◌, slice_cmp, nat_cmp, eq_by_cmp, take_more, bytes_eq-Decides, Part, tied, LiveKeys, IsNumberKey, Marks}
+use Rattle.std.proofs.Common.{◌↔◌, get_or}
 use Rattle.std.specs.FinMap as finite
 use Rattle.std.specs.List.{Contains, list_any}
-use Rattle.std.specs.Ordering.{nat_cmp, eq_by_cmp}
-use Rattle.std.proofs.lemmas.List.{take_more}
-use Rattle.std.proofs.lemmas.Slice.Eq.{bytes_eq-Decides}
-use Rattle.actor_parts.specs.declared.part.Part.{Part}
-use Rattle.store_model.proofs.Indexing.{tied}
-use Rattle.gc_enumerate.specs.Live.{LiveKeys, IsLiveAt}
-use Rattle.gc_steps.specs.Roots.{IsNumberKey, Marks}
+use Rattle.gc_enumerate.specs.Live.{IsLiveAt}
 
 pub marks_none : (P : List ℕ → Type 0) (live : LiveKeys) → ((key : List ℕ) → P key → ⊥) → Marks P live live
 marks_none P live none key place = (λ is. inl is, λ is. by_case is)

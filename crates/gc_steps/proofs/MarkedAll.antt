@@ -1,11 +1,5 @@
 -- What marking has come to at its end.
-use Rattle.std.proofs.Common.{ℕ, List, inl}
-use Rattle.actor_parts.specs.declared.part.Part.{Part}
-use Rattle.container_meta.specs.Places.{PlaceMap}
-use Rattle.store_model.specs.Image.{Store}
-use Rattle.gc_steps.specs.declared.collection.Collection.{Collection}
-use Rattle.gc_steps.specs.MarksAreClosed.{MarksAreClosed, WasScanned}
-use Rattle.gc_steps.specs.SweepIsSafe.{HoldsAt, SweepIsSafe}
+use Rattle.gc_steps.proofs.Prelude.{ℕ, List, inl, Part, PlaceMap, Store, Collection, MarksAreClosed, WasScanned, HoldsAt, SweepIsSafe}
 
 -- Once each level was marked the sweep is safe.
 pub marked_all : (index : PlaceMap) (store : Store) (parts : List Part) (image : List ℕ) (c : Collection) → ((level slot : ℕ) → WasScanned c.stage level slot)

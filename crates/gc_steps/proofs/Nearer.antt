@@ -1,20 +1,9 @@
 -- Each step of a collection leaves fewer to come.
-use Rattle.std.proofs.Common.{◌≡◌, ℕ, zero, suc, ◌+◌, ◌-◌, ◌*◌, ◌<◌, ◌≤◌, Bool, true, false, [], ◌∷◌, ◌++◌, length, Option, Some, None, refl, sym, ◌∙◌, ap, subst, arith}
-use Rattle.std.specs.Prelude.{if◌then◌else◌}
-use Rattle.container_meta.specs.Places.{PlaceMap}
-use Rattle.dd_disk.specs.View.{DiskView}
-use Rattle.disk_format.specs.declared.numbers.TheConstants.{MOST_LEVEL}
-use Rattle.store_state.specs.declared.slot_table.SlotTable.{SlotTable}
-use Rattle.gc_steps.specs.declared.collection.Collection.{Collection}
-use Rattle.gc_steps.specs.declared.collection.Stage.{Stage}
-use Rattle.gc_steps.specs.declared.collection.Stage.TheVariants.{Mark, Filter, Select, Sweep}
-use Rattle.gc_steps.specs.Filtering.{Records, Chooses, recorded}
-use Rattle.gc_steps.specs.Marking.{Scans}
-use Rattle.gc_steps.specs.Stages.{first_from, first_slot, filter_at, filter_from, is_old_slot, is_tree_slot, mark_at, mark_from, mark_level, mark_on}
-use Rattle.gc_steps.specs.StepsToCome.{count_from, filter_steps, old_from, steps_at, steps_to_come, trees_from}
-use Rattle.gc_sweep.specs.StepsLeft.{steps_left}
+use Rattle.gc_steps.proofs.Prelude.{◌≡◌, ℕ, zero, suc, ◌+◌, ◌-◌, ◌*◌, ◌<◌, ◌≤◌, Bool, true, false, [], ◌∷◌, ◌++◌, length, Option, Some, None, refl, sym, ◌∙◌, ap, subst, arith, if◌then◌else◌, PlaceMap, DiskView, MOST_LEVEL, SlotTable, Collection, Stage, Mark, Filter, Select, Records, Chooses, recorded, Scans, first_slot, filter_at, filter_from, is_old_slot, is_tree_slot, mark_at, mark_from, mark_level, mark_on, old_from, steps_at, steps_to_come, steps_left, IsUnderWay}
+use Rattle.gc_steps.specs.declared.collection.Stage.TheVariants.{Sweep}
+use Rattle.gc_steps.specs.Stages.{first_from}
+use Rattle.gc_steps.specs.StepsToCome.{count_from, filter_steps, trees_from}
 use Rattle.gc_sweep.proofs.Nears.{begun_few}
-use Rattle.gc_steps.specs.UnderWay.{IsUnderWay}
 use Rattle.gc_steps.proofs.UnderWay.{at_stage}
 
 -- ---- counts

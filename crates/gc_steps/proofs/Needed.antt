@@ -1,25 +1,14 @@
 -- Each key of a tree is one of which something holds that holds of the tree's root, as that it is live.
-use Rattle.std.proofs.Common.{◌≡◌, ◌⊎◌, inl, inr, ℕ, suc, ◌+◌, Bool, true, false, List, [], map, Option, refl, sym, ◌∙◌, ap, subst, arith}
-use Rattle.std.specs.Prelude.{if◌then◌else◌, ◌==◌}
-use Rattle.std.specs.List.{All, Contains}
-use Rattle.std.proofs.lemmas.Bool.{eqb-true}
-use Rattle.std.proofs.lemmas.List.Elements.{Contains-append_cases}
-use Rattle.base_model.specs.Bytes.{key_of}
+use Rattle.gc_steps.proofs.Prelude.{◌≡◌, ◌⊎◌, inl, inr, ℕ, suc, ◌+◌, Bool, true, false, List, [], map, Option, refl, sym, ◌∙◌, ap, subst, arith, if◌then◌else◌, All, eqb-true, Contains-append_cases, key_of, kind_byte, PlaceMap, HeaderValue, LiveKeys, child_key, child_keys, Trees, child_of, children_of, level_of, of_segment, IsTree, AreBelow, contents_of, tree_keys, keys_below, HoldsTree, HoldsTrees, leaf_key, node_key, IsLive, IsRootOf, HoldsNode}
+use Rattle.std.specs.Prelude.{◌==◌}
+use Rattle.std.specs.List.{Contains}
 use Rattle.container_meta.specs.declared.kind.Kind.TheVariants as kinds
-use Rattle.container_meta.specs.Format.{kind_byte}
-use Rattle.container_meta.specs.Places.{PlaceMap}
-use Rattle.container_meta.specs.Spelling.{HeaderValue}
-use Rattle.gc_enumerate.specs.Live.{LiveKeys}
-use Rattle.gc_enumerate.specs.Scanning.{child_kind, child_key, child_keys}
+use Rattle.gc_enumerate.specs.Scanning.{child_kind}
 use Rattle.merkle_file.specs.Node.{Contents}
 use Rattle.merkle_file.specs.Tree as tree
-use Rattle.merkle_file.specs.Tree.{Tree, Trees, child_of, children_of, level_of, of_segment}
-use Rattle.merkle_file.specs.Walk.{IsTree, AreBelow, contents_of}
-use Rattle.store_model.specs.Reserve.{AllKeys, tree_keys, keys_below}
+use Rattle.merkle_file.specs.Tree.{Tree}
+use Rattle.store_model.specs.Reserve.{AllKeys}
 use Rattle.store_model.specs.Slots.{Copy}
-use Rattle.store_model.specs.Trees.{HoldsTree, HoldsTrees, leaf_key, node_key}
-use Rattle.gc_sweep.specs.Holding.{IsLive}
-use Rattle.gc_steps.specs.LiveTrees.{IsRootOf, HoldsNode}
 use Rattle.gc_steps.proofs.Marked.{contains_first, contains_none}
 
 -- a node names a tree below it by the key of that tree's root

@@ -1,38 +1,13 @@
 -- Something holds of each key that is needed, where it holds of the roots and goes from nodes to their children.
-use Rattle.std.proofs.Common.{◌≡◌, ◌≢◌, ◌≤◌, ◌<◌, inl, inr, ℕ, suc, ◌+◌, Bool, List, [], ◌∷◌, length, Option, Some, None, refl, sym, ◌∙◌, ap, subst, arith}
-use Rattle.std.specs.Prelude.{if◌then◌else◌}
+use Rattle.gc_steps.proofs.Prelude.{◌≡◌, ◌≢◌, ◌≤◌, ◌<◌, inl, inr, ℕ, suc, ◌+◌, Bool, List, [], ◌∷◌, length, Option, Some, None, refl, sym, ◌∙◌, ap, subst, arith, if◌then◌else◌, All, AllByRecursion, sum_by-cons, key_of, Root, MOST_FILE, ACTORS, Part, Idle, Writing, Reading, PlaceMap, child_keys, Child, Top, IsChild, node_digest, total, of_segment, IsTree, contents_of, trees_in, Named, Files, Store, names_of, root_key, IsReachable, tree_keys, HasKey, IsFileOf, IsStoreOf, HoldsTree, file_tree, node_key, FitsFile, files_fit, right_file, root_of_tree, HoldsPart, HoldsNode, IsRootOf, HasRootKey, IsPartKey, IsRoot, IsNeeded}
 use Rattle.std.specs.FinMap as finite
-use Rattle.std.specs.List.{All, AllByRecursion, Contains}
-use Rattle.std.proofs.lemmas.List.Sums.{sum_by-cons}
-use Rattle.base_model.specs.Bytes.{key_of}
-use Rattle.disk_format.specs.Cells.{Root}
-use Rattle.disk_format.specs.declared.numbers.TheConstants.{MOST_FILE}
-use Rattle.actor_parts.specs.declared.actor.TheConstants.{ACTORS}
-use Rattle.actor_parts.specs.declared.part.Part.{Part}
-use Rattle.actor_parts.specs.declared.part.Part.TheVariants.{Idle, Writing, Reading}
+use Rattle.std.specs.List.{Contains}
 use Rattle.actor_parts.specs.Parts.{part_of}
-use Rattle.container_meta.specs.Places.{PlaceMap}
-use Rattle.gc_enumerate.specs.Scanning.{child_keys}
-use Rattle.merkle_file.specs.declared.node.Child.{Child}
-use Rattle.merkle_file.specs.declared.top.Top.{Top}
-use Rattle.merkle_file.specs.Node.{Contents, IsChild, node_digest, total}
+use Rattle.merkle_file.specs.Node.{Contents}
 use Rattle.merkle_file.specs.Tree as tree
-use Rattle.merkle_file.specs.Tree.{Tree, of_segment}
-use Rattle.merkle_file.specs.Walk.{IsTree, contents_of, trees_in}
-use Rattle.namespace.specs.declared.record.Named.{Named}
-use Rattle.store_model.specs.Files.{Files}
-use Rattle.store_model.specs.Image.{Store, names_of}
-use Rattle.store_model.specs.Refusals.{root_key}
-use Rattle.store_model.specs.Reserve.{IsReachable, tree_keys}
-use Rattle.store_model.specs.Slots.{Copy, HasKey}
-use Rattle.store_model.specs.Standing.{IsFileOf, IsStoreOf}
-use Rattle.store_model.specs.Trees.{HoldsTree, file_tree, node_key, root_of}
-use Rattle.store_model.proofs.SameFiles.{FitsFile, files_fit}
-use Rattle.store_model.proofs.Unfolding.{right_file, root_of_tree}
-use Rattle.store_state.specs.Invariant.{HoldsPart}
-use Rattle.gc_steps.specs.LiveTrees.{HoldsNode, IsRootOf}
-use Rattle.gc_steps.specs.Roots.{HasRootKey, IsPartKey, IsRoot}
-use Rattle.gc_steps.specs.Safety.{IsNeeded}
+use Rattle.merkle_file.specs.Tree.{Tree}
+use Rattle.store_model.specs.Slots.{Copy}
+use Rattle.store_model.specs.Trees.{root_of}
 use Rattle.gc_steps.proofs.Marked.{contains_none}
 use Rattle.gc_steps.proofs.Needed.{closed_tree}
 use Rattle.gc_steps.proofs.RootsAfter.{key_of_name}

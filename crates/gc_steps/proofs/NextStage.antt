@@ -1,18 +1,8 @@
 -- What was passed once a container is scanned, and the next stage has come.
-use Rattle.std.proofs.Common.{◌≡◌, ◌⊎◌, inl, inr, ℕ, zero, suc, ◌+◌, ◌-◌, ◌<◌, ◌≤◌, true, List, length, Option, Some, None, sym, ap, subst, arith}
-use Rattle.std.proofs.lemmas.Bool.Decides.{leb_tells, eqb_tells}
-use Rattle.container_meta.specs.Spelling.{HeaderValue}
+use Rattle.gc_steps.proofs.Prelude.{◌≡◌, ◌⊎◌, inl, inr, ℕ, zero, suc, ◌+◌, ◌-◌, ◌<◌, ◌≤◌, true, List, length, Option, Some, None, sym, ap, subst, arith, leb_tells, eqb_tells, HeaderValue, HoldSlots, RepresentsSlots, SlotTable, Collection, Stage, Mark, HoldsNode, IsPassed, WasScanned, first_slot, is_tree_slot, mark_at, mark_from, mark_level, mark_on}
 use Rattle.merkle_file.specs.Node.{Contents}
-use Rattle.store_model.specs.Slots.{Copy, HoldSlots}
+use Rattle.store_model.specs.Slots.{Copy}
 use Rattle.store_model.proofs.Free.{as_many}
-use Rattle.store_state.specs.Tables.{RepresentsSlots}
-use Rattle.store_state.specs.declared.slot_table.SlotTable.{SlotTable}
-use Rattle.gc_steps.specs.declared.collection.Collection.{Collection}
-use Rattle.gc_steps.specs.declared.collection.Stage.{Stage}
-use Rattle.gc_steps.specs.declared.collection.Stage.TheVariants.{Mark}
-use Rattle.gc_steps.specs.LiveTrees.{HoldsNode}
-use Rattle.gc_steps.specs.MarksAreClosed.{IsPassed, WasScanned}
-use Rattle.gc_steps.specs.Stages.{first_slot, is_tree_slot, mark_at, mark_from, mark_level, mark_on}
 use Rattle.gc_steps.proofs.FirstStage.{first_there, node_there, tree_there}
 
 -- a node that was passed had been passed before, or is of the level in the slot

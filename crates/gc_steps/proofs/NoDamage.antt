@@ -1,67 +1,29 @@
 -- The next step of a collection finds no damage and misses nothing, where the content of the disk stands for files.
-use Rattle.std.proofs.Common.{◌≡◌, ◌≢◌, ◌≤◌, inl, inr, ℕ, zero, suc, ◌&&◌, Bool, true, false, List, [], ◌∷◌, ◌++◌, get_or, Option, Some, None, refl, sym, ◌∙◌, ap, subst, arith}
-use Rattle.std.specs.Prelude.{if◌then◌else◌, slice_get}
+use Rattle.gc_steps.proofs.Prelude.{◌≡◌, ◌≢◌, ◌≤◌, inl, inr, ℕ, zero, suc, Bool, true, false, List, [], ◌∷◌, ◌++◌, Option, Some, None, refl, sym, ◌∙◌, ap, subst, arith, if◌then◌else◌, slice_get, eq-eqb, eqb-true, All-contains, All-from_recursion, Contains-append_right, sha256, Part, byte_at, key_of, Entry, Kind, Leaf, Place, is_level, kind_byte, PlaceMap, HeaderValue, IsHeader, Shows, DiskView, shown_content, Why, IsToScan, Scan, ScanFault, IsNode, Refusal, Corrupt, Damaged, Missing, Numbers, Files, Store, entry_key, HoldsSlot, IsPartialIndexOf, newest, place_of, IsStoreOf, bytes_at, slot_held, IsNodeEntry, have_levels, newest_so, nodes_so, finds, Represents, RepresentsSlots, SlotTable, Tables, Collection, Stage, Next, IsFlushStepRefusal, IsEntriesFault, IsMarkRefusal, scan_for, MarksAreClosed, ShowsAt, step_refusal, is_old, is_old_slot, IsStepRefusal, moment, HasStage, IsUnderWay}
+use Rattle.std.proofs.Common.{◌&&◌, get_or}
 use Rattle.std.specs.List.{Contains}
-use Rattle.std.proofs.lemmas.Bool.{eq-eqb, eqb-true}
-use Rattle.std.proofs.lemmas.List.Elements.{All-contains, All-from_recursion, Contains-append_right}
-use Rattle.sha2.specs.Sha256.{sha256}
-use Rattle.actor_parts.specs.declared.part.Part.{Part}
-use Rattle.base_model.specs.Bytes.{byte_at, key_of}
 use Rattle.container_log.specs.Faults.{IsDamage}
 use Rattle.container_log.specs.Parts.{header_bytes, ReadAs}
-use Rattle.container_meta.specs.declared.entry.Entry.{Entry}
-use Rattle.container_meta.specs.declared.kind.Kind.{Kind}
-use Rattle.container_meta.specs.declared.kind.Kind.TheVariants.{Leaf, Tree}
-use Rattle.container_meta.specs.declared.place.Place.{Place}
-use Rattle.container_meta.specs.Format.{is_level, kind_byte}
-use Rattle.container_meta.specs.Places.{PlaceMap}
-use Rattle.container_meta.specs.Spelling.{HeaderValue, IsHeader}
+use Rattle.container_meta.specs.declared.kind.Kind.TheVariants.{Tree}
 use Rattle.container_meta.proofs.Again.{header_again}
-use Rattle.dd_disk.specs.Shows.{Shows}
-use Rattle.dd_disk.specs.View.{DiskView}
-use Rattle.dd_disk.proofs.Shows.{shown_content}
-use Rattle.disk_format.specs.declared.why.Why.{Why}
 use Rattle.disk_format.specs.declared.why.Why.TheVariants.{Digest, Field}
 use Rattle.gc_enumerate.specs.Faults.{IsCorrupt}
-use Rattle.gc_enumerate.specs.Scanning.{IsEntryFault, IsNoNode, IsNodeFault, IsToScan, Scan, node_fault}
-use Rattle.gc_enumerate.specs.declared.fault.ScanFault.{ScanFault}
+use Rattle.gc_enumerate.specs.Scanning.{IsEntryFault, IsNoNode, IsNodeFault, node_fault}
 use Rattle.gc_enumerate.specs.declared.fault.ScanFault.TheVariants as faults
-use Rattle.merkle_file.specs.Node.{Contents, IsNode, spelling}
+use Rattle.merkle_file.specs.Node.{Contents, spelling}
 use Rattle.merkle_file.specs.Reading.{any_node, first_fault, wrong}
 use Rattle.merkle_file.proofs.Nodes.{node_again}
-use Rattle.refusals.specs.declared.refusal.Refusal.{Refusal}
-use Rattle.refusals.specs.declared.refusal.Refusal.TheVariants.{Clash, Corrupt, Damaged, Missing, Numbers}
-use Rattle.store_model.specs.Files.{Files}
-use Rattle.store_model.specs.Image.{Store}
-use Rattle.store_model.specs.Indexing.{entry_key}
-use Rattle.store_model.specs.Slots.{HoldsSlot, IsPartialIndexOf, ids_of, newest, place_of}
-use Rattle.store_model.specs.Standing.{IsStoreOf}
-use Rattle.store_model.specs.Trees.{IsNodeOf, bytes_at}
+use Rattle.refusals.specs.declared.refusal.Refusal.TheVariants.{Clash}
+use Rattle.store_model.specs.Slots.{ids_of}
+use Rattle.store_model.specs.Trees.{IsNodeOf}
 use Rattle.store_model.proofs.Copies.{copy_digest}
-use Rattle.store_model.proofs.Freed.{slot_held}
-use Rattle.store_model.proofs.HeldSlots.{IsNodeEntry, have_levels, newest_so, nodes_so}
-use Rattle.store_model.proofs.Lookups.{finds}
-use Rattle.store_state.specs.Tables.{Represents, RepresentsSlots}
-use Rattle.store_state.specs.declared.slot_table.SlotTable.{SlotTable}
-use Rattle.store_state.specs.declared.tables.Tables.{Tables}
-use Rattle.gc_steps.specs.declared.collection.Collection.{Collection}
-use Rattle.gc_steps.specs.declared.collection.Stage.{Stage}
 use Rattle.gc_steps.specs.declared.collection.Stage.TheVariants as stages
 use Rattle.copy_forward.specs.Headers.{IsHeaderDamage, IsHeaderRefusal, IsTabled}
 use Rattle.copy_forward.proofs.Tabled.{never_other}
-use Rattle.gc_sweep.specs.declared.sweep.Next.{Next}
 use Rattle.gc_sweep.specs.declared.sweep.Next.TheVariants as nexts
-use Rattle.gc_sweep.specs.Flushing.{IsFlushStepRefusal}
 use Rattle.gc_sweep.proofs.CopyFailures.{IsFailure, copying_fails, flushing_fails}
 use Rattle.gc_sweep.proofs.InSlots.{old_id}
 use Rattle.gc_steps.specs.Filtering.{IsRecordRefusal}
-use Rattle.gc_steps.specs.Marking.{IsEntriesFault, IsMarkRefusal, scan_for}
-use Rattle.gc_steps.specs.MarksAreClosed.{MarksAreClosed}
-use Rattle.gc_steps.specs.Scanning.{ShowsAt, step_refusal}
-use Rattle.gc_sweep.specs.UnderWay.{is_old}
-use Rattle.gc_steps.specs.Stages.{is_old_slot}
-use Rattle.gc_steps.specs.Stepping.{IsStepRefusal, moment}
-use Rattle.gc_steps.specs.UnderWay.{HasStage, IsUnderWay}
 use Rattle.gc_steps.proofs.NoneMissing.{never_missing, not_misplaced}
 
 -- a refusal tells of no damage, and of nothing that is missing

@@ -1,22 +1,12 @@
 -- As many steps of a collection come after a container is sealed as before.
-use Rattle.std.proofs.Common.{◌≡◌, ◌≢◌, ℕ, zero, suc, ◌+◌, ◌-◌, ◌*◌, ◌<◌, ◌≤◌, Bool, true, false, List, [], ◌∷◌, length, get_or, set, Option, Some, None, refl, sym, ◌∙◌, ap, subst, arith}
-use Rattle.std.specs.Prelude.{nat_lt, if◌then◌else◌, ◌&&◌, not, ◌==◌, slice_get}
-use Rattle.std.proofs.lemmas.Bool.{eqb-false, eqb-true, ltb-true}
-use Rattle.std.proofs.lemmas.List.{get_or-set_other, length-set}
-use Rattle.container_meta.specs.Spelling.{HeaderValue}
-use Rattle.store_model.specs.Slots.{with_slot, ids_of as ids_held}
-use Rattle.store_state.specs.Tables.{IsFirstFree, RepresentsSlots, count_of}
-use Rattle.store_state.specs.declared.slot_table.SlotCount.{SlotCount}
-use Rattle.store_state.specs.declared.slot_table.SlotTable.{SlotTable}
+use Rattle.gc_steps.proofs.Prelude.{◌≡◌, ◌≢◌, ℕ, zero, suc, ◌+◌, ◌-◌, ◌*◌, ◌<◌, ◌≤◌, Bool, true, false, List, [], ◌∷◌, length, set, Option, Some, None, refl, sym, ◌∙◌, ap, subst, arith, nat_lt, if◌then◌else◌, slice_get, eqb-true, ltb-true, get_or-set_other, length-set, HeaderValue, with_slot, ids_held, IsFirstFree, RepresentsSlots, count_of, SlotCount, SlotTable, Collection, Stage, Mark, Filter, Select, is_old, slice_get-set, is_old_slot, is_tree, is_tree_slot, old_from, steps_at, steps_to_come, IsUnderWay}
+use Rattle.std.proofs.Common.{get_or}
+use Rattle.std.specs.Prelude.{◌&&◌, not, ◌==◌}
+use Rattle.std.proofs.lemmas.Bool.{eqb-false}
 use Rattle.store_state.proofs.Taken.{counts_with, ids_with}
-use Rattle.gc_steps.specs.declared.collection.Collection.{Collection}
-use Rattle.gc_steps.specs.declared.collection.Stage.{Stage}
-use Rattle.gc_steps.specs.declared.collection.Stage.TheVariants.{Mark, Filter, Select, Sweep}
-use Rattle.gc_sweep.specs.UnderWay.{is_old}
-use Rattle.gc_sweep.proofs.Taken.{closed_slot, slice_get-set}
-use Rattle.gc_steps.specs.Stages.{is_old_slot, is_tree, is_tree_slot}
-use Rattle.gc_steps.specs.StepsToCome.{count_from, old_from, steps_at, steps_to_come}
-use Rattle.gc_steps.specs.UnderWay.{IsUnderWay}
+use Rattle.gc_steps.specs.declared.collection.Stage.TheVariants.{Sweep}
+use Rattle.gc_sweep.proofs.Taken.{closed_slot}
+use Rattle.gc_steps.specs.StepsToCome.{count_from}
 
 -- of two tests that agree
 count_same : (a b : ℕ → Bool) → ((n : ℕ) → a n ≡ b n) → (from count : ℕ) → count_from a from count ≡ count_from b from count

@@ -1,32 +1,9 @@
 -- A scan meets no child that the index lacks, or has at another level.
-use Rattle.std.proofs.Common.{◌≡◌, inl, inr, ℕ, List, [], ◌∷◌, ◌++◌, Some, None, true, refl, sym, ◌∙◌, subst, arith}
-use Rattle.std.specs.List.{All, Contains}
-use Rattle.std.proofs.lemmas.List.Elements.{All-contains, All-from_recursion, Contains-append_right}
-use Rattle.actor_parts.specs.declared.part.Part.{Part}
-use Rattle.container_meta.specs.declared.entry.Entry.{Entry}
-use Rattle.container_meta.specs.Format.{is_level}
-use Rattle.container_meta.specs.Places.{PlaceMap}
-use Rattle.container_meta.specs.Spelling.{HeaderValue, IsHeader}
-use Rattle.dd_disk.specs.View.{DiskView}
-use Rattle.disk_format.specs.declared.why.Why.{Why}
-use Rattle.gc_enumerate.specs.Scanning.{ComesTo, IsNodeOf, IsToScan, LacksChild, MisplacesChild, child_keys, keys_of}
-use Rattle.gc_enumerate.specs.declared.fault.ScanFault.{ScanFault}
+use Rattle.gc_steps.proofs.Prelude.{◌≡◌, inl, inr, ℕ, List, [], ◌∷◌, ◌++◌, Some, None, true, refl, sym, ◌∙◌, subst, arith, All, All-contains, All-from_recursion, Contains-append_right, Part, Entry, is_level, PlaceMap, HeaderValue, IsHeader, DiskView, Why, IsToScan, child_keys, ScanFault, Missing, Files, Store, IsPartialIndexOf, IsStoreOf, node_key, have_levels, Represents, SlotTable, Tables, Collection, IsMarkRefusal, IsEntriesFault, scan_for, MarksAreClosed, ShowsAt, step_refusal}
+use Rattle.std.specs.List.{Contains}
+use Rattle.gc_enumerate.specs.Scanning.{ComesTo, IsNodeOf, LacksChild, MisplacesChild, keys_of}
 use Rattle.gc_enumerate.specs.declared.fault.ScanFault.TheVariants as faults
 use Rattle.merkle_file.specs.Node.{Contents}
-use Rattle.refusals.specs.declared.refusal.Refusal.TheVariants.{Missing}
-use Rattle.store_model.specs.Files.{Files}
-use Rattle.store_model.specs.Image.{Store}
-use Rattle.store_model.specs.Slots.{IsPartialIndexOf}
-use Rattle.store_model.specs.Standing.{IsStoreOf}
-use Rattle.store_model.specs.Trees.{node_key}
-use Rattle.store_model.proofs.HeldSlots.{have_levels}
-use Rattle.store_state.specs.Tables.{Represents}
-use Rattle.store_state.specs.declared.slot_table.SlotTable.{SlotTable}
-use Rattle.store_state.specs.declared.tables.Tables.{Tables}
-use Rattle.gc_steps.specs.declared.collection.Collection.{Collection}
-use Rattle.gc_steps.specs.Marking.{IsMarkRefusal, IsEntriesFault, scan_for}
-use Rattle.gc_steps.specs.MarksAreClosed.{MarksAreClosed}
-use Rattle.gc_steps.specs.Scanning.{ShowsAt, step_refusal}
 use Rattle.gc_steps.proofs.ChildTrees.{IsWholeBelow, children_whole}
 use Rattle.gc_steps.proofs.FoundNodes.{scanned_node}
 use Rattle.gc_steps.proofs.Levels.{child_placed}

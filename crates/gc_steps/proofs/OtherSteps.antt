@@ -1,24 +1,12 @@
 -- Steps of other actors that bring no root, and no container, leave both invariants of a collection.
-use Rattle.std.proofs.Common.{◌≡◌, ◌⊎◌, ℕ, suc, ◌<◌, true, List, refl, subst}
+use Rattle.gc_steps.proofs.Prelude.{◌≡◌, ◌⊎◌, ℕ, suc, ◌<◌, true, List, refl, subst, ACTORS, Part, Idle, Writing, PinMap, has_pin, PlaceMap, Root, Put, Delete, NameMap, Store, names_of, root_key, HasKey, KeepsCopies, Collection, IsRoot}
 use Rattle.std.specs.FinMap as finite
-use Rattle.actor_parts.specs.declared.actor.TheConstants.{ACTORS}
-use Rattle.actor_parts.specs.declared.part.Part.{Part}
-use Rattle.actor_parts.specs.declared.part.Part.TheVariants.{Idle, Writing}
 use Rattle.actor_parts.specs.Parts.{part_of, with_part}
-use Rattle.actor_parts.specs.PinMap.{PinMap, has_pin}
-use Rattle.container_meta.specs.Places.{PlaceMap}
-use Rattle.disk_format.specs.Cells.{Root}
-use Rattle.disk_format.specs.Cells.Change.{Put, Delete}
-use Rattle.namespace.specs.Names.{NameMap}
-use Rattle.store_model.specs.Image.{Store, last_sequence, names_of}
+use Rattle.store_model.specs.Image.{last_sequence}
 use Rattle.store_model.specs.Journal.{Follow}
-use Rattle.store_model.specs.Refusals.{root_key}
-use Rattle.store_model.specs.Slots.{HasKey}
-use Rattle.store_model.specs.Steps.{KeepsCopies, with_cell, with_change}
+use Rattle.store_model.specs.Steps.{with_cell, with_change}
 use Rattle.store_model.proofs.Cells.{names_with_cell}
 use Rattle.store_model.proofs.NameChanges.{names_after_change}
-use Rattle.gc_steps.specs.declared.collection.Collection.{Collection}
-use Rattle.gc_steps.specs.Roots.{IsRoot}
 use Rattle.gc_steps.proofs.Carried.{KeepsBoth}
 use Rattle.gc_steps.proofs.FewerRoots.{fewer_roots}
 use Rattle.gc_steps.proofs.RootsAfter.{committed_root, deleted_root}

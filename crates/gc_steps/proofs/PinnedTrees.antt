@@ -1,40 +1,20 @@
 -- What is pinned is held whole: from the pinned nodes down to the data.
-use Rattle.std.proofs.Common.{◌≡◌, ◌≤◌, ℕ, zero, suc, ◌+◌, ◌&&◌, Bool, true, false, List, [], ◌∷◌, length, map, Option, Some, None, refl, sym, ◌∙◌, ap, subst, arith}
+use Rattle.gc_steps.proofs.Prelude.{◌≡◌, ◌≤◌, ℕ, zero, suc, ◌+◌, Bool, true, false, List, [], ◌∷◌, length, map, Option, Some, None, refl, sym, ◌∙◌, ap, subst, arith, AllByRecursion, eqb-true, Contains-append_cases, sha256, key_of, Pin, PinMap, has_pin, IsOfKind, child_pin, children_by, Kind, Leaf, kind_byte, Place, PlaceMap, Segment, segment_key, HeaderValue, Child, IsNode, node_digest, total, contents_in, Trees, child_of, children_of, level_of, of_segment, AreBelow, contents_of, Files, Store, keys_below, tree_keys, HasKey, IsPartialIndexOf, newest, IsStoreOf, HasNewest, HoldsTrees, leaf_key, node_key, headers_of_right, newest_so, ArePinsOf, IsRootOf, IsWhole}
+use Rattle.std.proofs.Common.{◌&&◌}
 use Rattle.std.specs.Prelude.{◌==◌}
 use Rattle.std.specs.FinMap as finite
-use Rattle.std.specs.List.{AllByRecursion, Contains}
-use Rattle.std.proofs.lemmas.Bool.{eqb-true}
-use Rattle.std.proofs.lemmas.List.Elements.{Contains-append_cases}
-use Rattle.sha2.specs.Sha256.{sha256}
-use Rattle.base_model.specs.Bytes.{key_of}
-use Rattle.actor_parts.specs.declared.pins.Pin.{Pin}
-use Rattle.actor_parts.specs.PinMap.{PinMap, has_pin, is_pin}
-use Rattle.actor_parts.specs.Segments.{IsNodeSegment, IsOfKind, child_kind, child_pin, children_by, pin_by}
-use Rattle.container_meta.specs.declared.kind.Kind.{Kind}
-use Rattle.container_meta.specs.declared.kind.Kind.TheVariants.{Leaf, Tree}
-use Rattle.container_meta.specs.Format.{kind_byte}
-use Rattle.container_meta.specs.declared.place.Place.{Place}
-use Rattle.container_meta.specs.Places.{PlaceMap}
-use Rattle.container_meta.specs.Segments.{Segment, segment_key}
-use Rattle.container_meta.specs.Spelling.{HeaderValue}
-use Rattle.merkle_file.specs.declared.node.Child.{Child}
-use Rattle.merkle_file.specs.Node.{Contents, IsNode, node_digest, spelling, total}
-use Rattle.merkle_file.specs.Reading.{contents_in}
+use Rattle.std.specs.List.{Contains}
+use Rattle.actor_parts.specs.PinMap.{is_pin}
+use Rattle.actor_parts.specs.Segments.{IsNodeSegment, child_kind, pin_by}
+use Rattle.container_meta.specs.declared.kind.Kind.TheVariants.{Tree}
+use Rattle.merkle_file.specs.Node.{Contents, spelling}
 use Rattle.merkle_file.specs.Tree as tree
-use Rattle.merkle_file.specs.Tree.{Trees, child_of, children_of, level_of, of_segment}
-use Rattle.merkle_file.specs.Walk.{AreBelow, contents_of}
-use Rattle.store_model.specs.Files.{Files}
-use Rattle.store_model.specs.Image.{Store}
-use Rattle.store_model.specs.Reserve.{keys_below, tree_keys}
-use Rattle.store_model.specs.Slots.{Copy, HasKey, IsPartialIndexOf, newest}
-use Rattle.store_model.specs.Standing.{IsStoreOf}
-use Rattle.store_model.specs.Trees.{HasNewest, HoldsTrees, leaf_key, node_key}
-use Rattle.store_model.proofs.Copies.{copy_within, headers_of_right}
-use Rattle.store_model.proofs.HeldSlots.{HasLevel, levels_so, newest_so, same_digest}
+use Rattle.store_model.specs.Slots.{Copy}
+use Rattle.store_model.proofs.Copies.{copy_within}
+use Rattle.store_model.proofs.HeldSlots.{HasLevel, levels_so, same_digest}
 use Rattle.store_model.proofs.Roots.{length_of_copy}
 use Rattle.store_model.proofs.TreeKeys.{at_head, either_part, none_there}
-use Rattle.store_state.specs.Invariant.{ArePinsOf, HoldsPin}
-use Rattle.gc_steps.specs.LiveTrees.{IsRootOf, IsWhole}
+use Rattle.store_state.specs.Invariant.{HoldsPin}
 use Rattle.gc_steps.proofs.Levels.{whole_level}
 
 -- ---- pins and children

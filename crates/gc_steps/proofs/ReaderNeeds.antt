@@ -1,25 +1,10 @@
 -- What an actor needs that takes a file: the tree of the root that it has.
-use Rattle.std.proofs.Common.{◌≡◌, ◌≤◌, ℕ, Bool, false, List, [], ◌∷◌, length, Option, refl, ◌∙◌, ap, arith}
-use Rattle.std.specs.Prelude.{◌==◌, if◌then◌else◌}
-use Rattle.std.specs.List.{AllByRecursion, Contains}
+use Rattle.gc_steps.proofs.Prelude.{◌≡◌, ◌≤◌, ℕ, Bool, false, List, [], ◌∷◌, length, Option, refl, ◌∙◌, ap, arith, if◌then◌else◌, AllByRecursion, sum_by-cons, Reader, key_of, HeaderValue, Root, Child, Top, IsChild, node_digest, total, children_of, of_segment, IsTree, contents_of, trees_in, root_key, tree_keys, HoldsTree, HoldsRest, IsRootOf, HasRootKey}
+use Rattle.std.specs.Prelude.{◌==◌}
+use Rattle.std.specs.List.{Contains}
 use Rattle.std.proofs.lemmas.Bool.{ne_eqb}
-use Rattle.std.proofs.lemmas.List.Sums.{sum_by-cons}
-use Rattle.actor_parts.specs.declared.part.Reader.{Reader}
-use Rattle.base_model.specs.Bytes.{key_of}
-use Rattle.container_meta.specs.Spelling.{HeaderValue}
-use Rattle.disk_format.specs.Cells.{Root}
-use Rattle.merkle_file.specs.declared.node.Child.{Child}
-use Rattle.merkle_file.specs.declared.top.Top.{Top}
-use Rattle.merkle_file.specs.Node.{IsChild, node_digest, total}
 use Rattle.merkle_file.specs.Tree as tree
-use Rattle.merkle_file.specs.Tree.{Tree, children_of, of_segment}
-use Rattle.merkle_file.specs.Walk.{IsTree, contents_of, trees_in}
-use Rattle.store_model.specs.Refusals.{root_key}
-use Rattle.store_model.specs.Reserve.{tree_keys}
-use Rattle.store_model.specs.Trees.{HoldsTree}
-use Rattle.store_state.specs.Invariant.{HoldsRest}
-use Rattle.gc_steps.specs.LiveTrees.{IsRootOf}
-use Rattle.gc_steps.specs.Roots.{HasRootKey}
+use Rattle.merkle_file.specs.Tree.{Tree}
 use Rattle.gc_steps.proofs.Marked.{contains_none}
 
 -- the key that a root has

@@ -1,25 +1,7 @@
 -- What a collection records of a container: its id, its kind, all its bytes, and the sum of its live copies.
-use Rattle.std.proofs.Common.{◌≡◌, ℕ, ◌<◌, List, length, get_or, Option, Some, refl, sym, ◌∙◌, ap, subst, arith}
-use Rattle.std.specs.Prelude.{slice_get}
-use Rattle.container_meta.specs.Places.{PlaceMap}
-use Rattle.container_meta.specs.Spelling.{HeaderValue, bytes_of}
-use Rattle.copy_forward.specs.Entries.{SumsLive}
-use Rattle.dd_disk.specs.View.{DiskView}
-use Rattle.dd_disk.proofs.Shows.{shown_content}
-use Rattle.gc_enumerate.specs.Live.{LiveKeys}
-use Rattle.gc_select.specs.declared.liveness.ContainerLiveness.{ContainerLiveness}
-use Rattle.gc_sweep.proofs.InSlots.{id_at}
-use Rattle.gc_sweep.proofs.SourceRead.{header_in}
-use Rattle.store_model.specs.Image.{Store}
-use Rattle.store_model.specs.Files.{Files}
-use Rattle.store_model.specs.Slots.{HoldsSlot}
-use Rattle.store_model.specs.Standing.{IsStoreOf}
+use Rattle.gc_steps.proofs.Prelude.{◌≡◌, ℕ, ◌<◌, List, length, Option, Some, refl, sym, ◌∙◌, ap, subst, arith, slice_get, PlaceMap, HeaderValue, bytes_of, SumsLive, DiskView, shown_content, LiveKeys, ContainerLiveness, id_at, header_in, Store, Files, HoldsSlot, IsStoreOf, Represents, RepresentsSlots, count_of, SlotCount, Tables, Collection, Records, recorded, recorded_by}
+use Rattle.std.proofs.Common.{get_or}
 use Rattle.store_model.proofs.Free.{as_many}
-use Rattle.store_state.specs.Tables.{Represents, RepresentsSlots, count_of}
-use Rattle.store_state.specs.declared.slot_table.SlotCount.{SlotCount}
-use Rattle.store_state.specs.declared.tables.Tables.{Tables}
-use Rattle.gc_steps.specs.declared.collection.Collection.{Collection}
-use Rattle.gc_steps.specs.Filtering.{Records, recorded, recorded_by}
 use Rattle.gc_steps.proofs.SparingStages.{recorded_id_by, recorded_live_by}
 use Rattle.gc_steps.proofs.WholeCopies.{count_there}
 

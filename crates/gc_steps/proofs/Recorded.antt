@@ -1,11 +1,5 @@
 -- A collection, once a container is recorded.
-use Rattle.std.proofs.Common.{◌≡◌, ℕ, ◌+◌, List, [], ◌∷◌, ◌++◌, ap, ◌∙◌}
-use Rattle.gc_select.specs.declared.liveness.ContainerLiveness.{ContainerLiveness}
-use Rattle.store_state.specs.declared.slot_table.SlotTable.{SlotTable}
-use Rattle.gc_steps.specs.declared.collection.Collection.{Collection}
-use Rattle.gc_steps.specs.declared.collection.Stage.{Stage}
-use Rattle.gc_steps.specs.Filtering.{recorded}
-use Rattle.gc_steps.specs.Stages.{filter_from}
+use Rattle.gc_steps.proofs.Prelude.{◌≡◌, ℕ, ◌+◌, List, [], ◌∷◌, ◌++◌, ap, ◌∙◌, ContainerLiveness, SlotTable, Collection, Stage, recorded, filter_from}
 
 pub recorded_as : (c : Collection) (t : SlotTable) (slot live : ℕ) (one : ContainerLiveness) (liveness : List ContainerLiveness) (stage : Stage) → one ≡ recorded t slot live
     → liveness ≡ c.liveness ++ one ∷ [] → stage ≡ filter_from c.snapshot t (slot + 1)

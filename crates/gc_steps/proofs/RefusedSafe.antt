@@ -1,40 +1,10 @@
 -- What a refusal of a step of a collection leaves, that is no failed write: it is safe, as are the store and its index.
-use Rattle.std.proofs.Common.{◌≡◌, ◌⊎◌, ◌+◌, inl, inr, ℕ, List, Option, Some, refl, sym, ◌∙◌, ap, subst}
-use Rattle.actor_parts.specs.declared.part.Part.{Part}
-use Rattle.container_meta.specs.Places.{PlaceMap}
-use Rattle.dd_disk.specs.Ending.{Ending, Refused, Unread, ending_of}
-use Rattle.dd_disk.specs.Moves.{StandsFor}
-use Rattle.dd_disk.specs.View.{DiskView, OnlyReads}
-use Rattle.disk_format.specs.Layout.{slot_at}
-use Rattle.refusals.specs.declared.refusal.Refusal.{Refusal}
-use Rattle.refusals.specs.declared.refusal.Refusal.TheVariants.{Memory, DiskRead, DiskWrite, Damaged, Numbers}
-use Rattle.segment_index.specs.Changes.{Changes}
-use Rattle.store_model.specs.Collisions.{ByteSet, IsIn, Stands}
-use Rattle.store_model.specs.Files.{Files}
-use Rattle.store_model.specs.Image.{IsValidFor, Store}
-use Rattle.store_model.specs.Standing.{IsStoreOf}
-use Rattle.store_model.specs.Trees.{HasNewest}
-use Rattle.store_state.specs.Invariant.{CoreInvariant}
-use Rattle.store_state.specs.Tables.{Represents}
-use Rattle.store_state.specs.declared.tables.Tables.{Tables}
-use Rattle.gc_steps.specs.declared.collection.Collection.{Collection}
-use Rattle.gc_steps.specs.declared.collection.Stage.{Stage}
-use Rattle.gc_steps.specs.declared.collection.Stage.TheVariants.{Mark, Filter, Select, Sweep}
-use Rattle.copy_forward.specs.Entries.{MapStays}
-use Rattle.ingest_steps.specs.Sealing.{FitBeside, KeepsMap, SealsIndexed}
+use Rattle.gc_steps.proofs.Prelude.{◌≡◌, ◌⊎◌, ◌+◌, inl, inr, ℕ, List, Option, Some, refl, sym, ◌∙◌, ap, subst, Part, PlaceMap, Ending, ending_of, StandsFor, DiskView, OnlyReads, slot_at, Refusal, Memory, DiskRead, Damaged, Numbers, Changes, ByteSet, IsIn, Stands, Files, IsValidFor, Store, IsStoreOf, HasNewest, CoreInvariant, Represents, Tables, Collection, Stage, Mark, Filter, Select, MapStays, SealsIndexed, AllByRecursion, blames, Next, CopyNext, Flush, Release, End, IsFlushStepRefusal, HoldsSweep, SourcesStand, are_newest, may_flush, HoldsAt, SweepIsSafe, KeepsMarks, MarksOnly, MarksAreClosed, IsSafe, IsSafeAt, IsStepRefusal, Keeps, Touches, moment}
+use Rattle.dd_disk.specs.Ending.{Refused, Unread}
+use Rattle.refusals.specs.declared.refusal.Refusal.TheVariants.{DiskWrite}
+use Rattle.gc_steps.specs.declared.collection.Stage.TheVariants.{Sweep}
+use Rattle.ingest_steps.specs.Sealing.{FitBeside, KeepsMap}
 use Rattle.store_model.specs.Steps.{MaySeal}
-use Rattle.std.specs.List.{AllByRecursion}
-use Rattle.store_state.specs.Refused.{blames}
-use Rattle.gc_sweep.specs.declared.sweep.Next.{Next}
-use Rattle.gc_sweep.specs.declared.sweep.Next.TheVariants.{Copy as CopyNext, Flush, Release, End}
-use Rattle.gc_sweep.specs.Flushing.{IsFlushStepRefusal}
-use Rattle.gc_sweep.specs.Holding.{HoldsSweep, SourcesStand}
-use Rattle.gc_sweep.proofs.HoldsRoom.{are_newest, may_flush}
-use Rattle.gc_steps.specs.SweepIsSafe.{HoldsAt, SweepIsSafe}
-use Rattle.gc_steps.specs.Marking.{KeepsMarks, MarksOnly}
-use Rattle.gc_steps.specs.MarksAreClosed.{MarksAreClosed}
-use Rattle.gc_steps.specs.Safety.{IsSafe, IsSafeAt}
-use Rattle.gc_steps.specs.Stepping.{IsStepRefusal, Keeps, Touches, moment}
 use Rattle.gc_steps.proofs.OtherSteps.{kept}
 use Rattle.gc_steps.proofs.Safe.{marks_safe, others_safe}
 use Rattle.gc_steps.proofs.ScanKeeps.{refusal_keeps}

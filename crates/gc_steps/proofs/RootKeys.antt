@@ -1,32 +1,16 @@
 -- The roots that a collection begins with, as they are listed, looked up and marked.
-use Rattle.std.proofs.Common.{◌≡◌, ◌≢◌, ◌⊎◌, ◌↔◌, ◌<◌, ◌≤◌, inl, inr, ℕ, zero, suc, ◌+◌, ◌==◌, Bool, true, false, List, [], ◌∷◌, ◌++◌, length, map, take, drop, get_or, Option, Some, None, arith, refl, sym, ◌∙◌, ap, subst}
-use Rattle.std.specs.Prelude.{if◌then◌else◌, nat_lt}
+use Rattle.gc_steps.proofs.Prelude.{◌≡◌, ◌≢◌, ◌⊎◌, ◌<◌, ◌≤◌, inl, inr, ℕ, zero, suc, ◌+◌, Bool, true, false, List, [], ◌∷◌, ◌++◌, length, map, take, drop, Option, Some, None, arith, refl, sym, ◌∙◌, ap, subst, if◌then◌else◌, nat_lt, flat_map, eq-eqb, eqb-true, ltb-true, leb_tells, append-nil, map_push, take_more, Contains-append_cases, Contains-append_left, Contains-append_right, ACTORS, Part, Idle, Writing, Reading, Pin, PinMap, Place, PlaceMap, Root, LiveKeys, NamedRoot, listed_value, listing_of, NameMap, Refusal, Memory, root_key, RootKey, HasRootKey, IsListedKey, IsNumberKey, IsPartKey, IsRoot, Marks, key_at, keys_as_pinned, keys_of_listed, keys_of_number, keys_of_part, keys_of_pin, keys_of_root, roots_of, AreFound, IsFound, IsStartRefusal, IsUnfound, StopsAt}
+use Rattle.std.proofs.Common.{◌↔◌, ◌==◌, get_or}
 use Rattle.std.specs.FinMap as finite
-use Rattle.std.specs.List.{Contains, flat_map}
-use Rattle.std.proofs.lemmas.Bool.{eq-eqb, eqb-true, ltb-false, ltb-true}
-use Rattle.std.proofs.lemmas.Bool.Decides.{leb_tells}
+use Rattle.std.specs.List.{Contains}
+use Rattle.std.proofs.lemmas.Bool.{ltb-false}
 use Rattle.std.proofs.Math.Dec.{leb}
-use Rattle.std.proofs.lemmas.List.{append_assoc, append-nil, drop_more, flat_map_more, map-append, map_push, take-append-drop, take_more}
-use Rattle.std.proofs.lemmas.List.Elements.{All-push, Contains-append_cases, Contains-append_left, Contains-append_right}
-use Rattle.actor_parts.specs.declared.actor.TheConstants.{ACTORS}
-use Rattle.actor_parts.specs.declared.part.Part.{Part}
-use Rattle.actor_parts.specs.declared.part.Part.TheVariants.{Idle, Writing, Reading}
-use Rattle.actor_parts.specs.declared.pins.Pin.{Pin}
+use Rattle.std.proofs.lemmas.List.{append_assoc, drop_more, flat_map_more, map-append, take-append-drop}
+use Rattle.std.proofs.lemmas.List.Elements.{All-push}
 use Rattle.actor_parts.specs.Parts.{part_of}
-use Rattle.actor_parts.specs.PinMap.{PinMap}
-use Rattle.container_meta.specs.declared.place.Place.{Place}
-use Rattle.container_meta.specs.Places.{PlaceMap}
-use Rattle.disk_format.specs.Cells.{Root}
-use Rattle.gc_enumerate.specs.Live.{LiveKeys, IsLiveAt}
+use Rattle.gc_enumerate.specs.Live.{IsLiveAt}
 use Rattle.namespace.specs.declared.listing.ListedName.{ListedName}
-use Rattle.namespace.specs.Listing.{NamedRoot, listed_value, listing_of}
-use Rattle.namespace.specs.Names.{NameMap}
-use Rattle.refusals.specs.declared.refusal.Refusal.{Refusal}
-use Rattle.refusals.specs.declared.refusal.Refusal.TheVariants.{Memory}
-use Rattle.store_model.specs.Refusals.{root_key}
-use Rattle.gc_steps.specs.declared.roots.RootKey.{RootKey}
-use Rattle.gc_steps.specs.Roots.{HasRootKey, IsListedKey, IsNumberKey, IsPartKey, IsRoot, Marks, key_at, keys_as_pinned, keys_of_first, keys_of_listed, keys_of_names, keys_of_number, keys_of_part, keys_of_pin, keys_of_root, roots_of}
-use Rattle.gc_steps.specs.Starting.{AreFound, IsFound, IsStartRefusal, IsUnfound, StopsAt}
+use Rattle.gc_steps.specs.Roots.{keys_of_first, keys_of_names}
 use Rattle.gc_steps.proofs.Marked.{OfFirst, contains_first, contains_head, contains_more, contains_next, contains_none, keys_there, marks_as, marks_more}
 
 -- ---- loops, one turn more

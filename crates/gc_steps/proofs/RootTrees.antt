@@ -1,31 +1,9 @@
 -- The trees of files, by their roots, are held whole.
-use Rattle.std.proofs.Common.{◌≡◌, ◌≤◌, ℕ, Bool, true, false, List, [], length, Option, refl, sym, ◌∙◌, ap, subst, arith}
-use Rattle.std.specs.Prelude.{◌==◌, if◌then◌else◌}
-use Rattle.std.specs.List.{AllByRecursion, Contains}
-use Rattle.std.proofs.lemmas.Bool.{eqb-true}
-use Rattle.base_model.specs.Bytes.{key_of}
-use Rattle.disk_format.specs.Cells.{Root}
-use Rattle.disk_format.specs.declared.numbers.TheConstants.{MOST_FILE}
-use Rattle.actor_parts.specs.declared.part.Reader.{Reader}
-use Rattle.container_meta.specs.Places.{PlaceMap}
-use Rattle.container_meta.specs.Spelling.{HeaderValue}
-use Rattle.merkle_file.specs.declared.top.Top.{Top}
-use Rattle.merkle_file.specs.Node.{node_digest}
+use Rattle.gc_steps.proofs.Prelude.{◌≡◌, ◌≤◌, ℕ, Bool, true, false, List, [], length, Option, refl, sym, ◌∙◌, ap, subst, arith, if◌then◌else◌, AllByRecursion, eqb-true, key_of, Root, MOST_FILE, Reader, PlaceMap, HeaderValue, Top, node_digest, of_segment, IsTree, contents_of, trees_in, Files, Store, names_of, HoldsCounted, tree_keys, keys_below, HasKey, IsStoreOf, file_tree, leaf_key, node_key, in_head, FitsFile, file_of_root, files_fit, right_file, root_of_tree, HoldsRest, IndexesFiles, IsRootOf, IsWhole, HasRootKey, IsNameKey}
+use Rattle.std.specs.Prelude.{◌==◌}
+use Rattle.std.specs.List.{Contains}
 use Rattle.merkle_file.specs.Tree as tree
-use Rattle.merkle_file.specs.Tree.{Tree, of_segment}
-use Rattle.merkle_file.specs.Walk.{IsTree, contents_of, trees_in}
-use Rattle.store_model.specs.Files.{Files}
-use Rattle.store_model.specs.Image.{Store, names_of}
-use Rattle.store_model.specs.Reserve.{HoldsCounted, tree_keys, keys_below}
-use Rattle.store_model.specs.Slots.{HasKey}
-use Rattle.store_model.specs.Standing.{IsStoreOf}
-use Rattle.store_model.specs.Trees.{file_tree, leaf_key, node_key}
-use Rattle.store_model.proofs.FreedTrees.{in_head}
-use Rattle.store_model.proofs.SameFiles.{FitsFile, file_of_root, files_fit}
-use Rattle.store_model.proofs.Unfolding.{right_file, root_of_tree}
-use Rattle.store_state.specs.Invariant.{HoldsRest, IndexesFiles}
-use Rattle.gc_steps.specs.LiveTrees.{IsRootOf, IsWhole}
-use Rattle.gc_steps.specs.Roots.{HasRootKey, IsNameKey}
+use Rattle.merkle_file.specs.Tree.{Tree}
 use Rattle.gc_steps.proofs.ListedKeys.{name_of_key}
 
 abbrev pub top_of : Root → Top

@@ -1,23 +1,8 @@
 -- The roots after steps of other actors: none comes but those that the step gives.
-use Rattle.std.proofs.Common.{◌≡◌, ◌⊎◌, inl, inr, ℕ, zero, suc, ◌<◌, Bool, true, false, cond, List, [], ◌∷◌, map, Some, None, refl, sym, ◌∙◌, ap, subst}
-use Rattle.std.specs.Prelude.{if◌then◌else◌}
-use Rattle.std.specs.Ordering.{nat_cmp, eq_by_cmp}
-use Rattle.std.specs.Cmp.Lexicographic.{slice_cmp, nat_list_cmp_total}
+use Rattle.gc_steps.proofs.Prelude.{◌≡◌, ◌⊎◌, inl, inr, ℕ, zero, suc, ◌<◌, Bool, true, false, cond, List, [], ◌∷◌, map, Some, None, refl, sym, ◌∙◌, ap, subst, if◌then◌else◌, nat_cmp, eq_by_cmp, slice_cmp, nat_list_cmp_total, ACTORS, Part, Idle, Writing, Reading, Reader, Pin, PinMap, has_pin, Root, Put, Delete, Named, named_root, NameMap, HasRootKey, IsListedKey, IsNameKey, IsPartKey, IsRoot, root_key}
 use Rattle.std.specs.FinMap as finite
-use Rattle.actor_parts.specs.declared.actor.TheConstants.{ACTORS}
-use Rattle.actor_parts.specs.declared.part.Part.{Part}
-use Rattle.actor_parts.specs.declared.part.Part.TheVariants.{Idle, Writing, Reading}
-use Rattle.actor_parts.specs.declared.part.Reader.{Reader}
-use Rattle.actor_parts.specs.declared.pins.Pin.{Pin}
 use Rattle.actor_parts.specs.Parts.{part_of, with_part}
-use Rattle.actor_parts.specs.PinMap.{PinMap, has_pin}
-use Rattle.disk_format.specs.Cells.{Root}
-use Rattle.disk_format.specs.Cells.Change.{Put, Delete}
-use Rattle.namespace.specs.declared.record.Named.{Named}
-use Rattle.namespace.specs.Listing.{named_root}
-use Rattle.namespace.specs.Names.{NameMap, names_changed}
-use Rattle.gc_steps.specs.Roots.{HasRootKey, IsListedKey, IsNameKey, IsPartKey, IsRoot}
-use Rattle.store_model.specs.Refusals.{root_key}
+use Rattle.namespace.specs.Names.{names_changed}
 use Rattle.gc_steps.proofs.ListedKeys.{name_of_key}
 use Rattle.gc_steps.proofs.PinnedTrees.{pin_found}
 

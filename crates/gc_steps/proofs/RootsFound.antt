@@ -1,47 +1,12 @@
 -- The roots of a collection are found, where the content of the disk stands for files.
-use Rattle.std.proofs.Common.{◌≡◌, ◌≢◌, ◌⊎◌, ◌≤◌, inl, inr, ℕ, zero, suc, ◌==◌, Bool, true, false, List, [], ◌∷◌, ◌++◌, length, Option, Some, None, refl, sym, ◌∙◌, ap, subst}
-use Rattle.std.specs.Prelude.{if◌then◌else◌, nat_lt}
+use Rattle.gc_steps.proofs.Prelude.{◌≡◌, ◌≢◌, ◌⊎◌, ◌≤◌, inl, inr, ℕ, zero, suc, Bool, true, false, List, [], ◌∷◌, ◌++◌, length, Option, Some, None, refl, sym, ◌∙◌, ap, subst, if◌then◌else◌, nat_lt, AllByRecursion, flat_map, eq-eqb, All-contains, All-from_recursion, key_of, Root, MOST_FILE, ACTORS, Part, Idle, Reading, Writing, Pin, PinMap, Place, PlaceMap, Why, IsMisplaced, Top, node_digest, of_segment, IsTree, contents_of, trees_in, Named, NamedRoot, listing_of, Refusal, Damaged, DiskRead, Memory, Missing, Files, Store, names_of, root_key, HoldsCounted, HasKey, IsPartialIndexOf, IsStoreOf, file_tree, some_same, FitsFile, file_of_root, files_fit, right_file, root_of_tree, ArePinsOf, CoreInvariant, HoldsPart, IndexesFiles, RootKey, IsRootOf, keys_as_pinned, keys_of_listed, keys_of_number, keys_of_part, keys_of_pin, keys_of_root, roots_of, IsFound, IsStartRefusal, IsUnfound, StopsAt}
+use Rattle.std.proofs.Common.{◌==◌}
 use Rattle.std.specs.FinMap as finite
-use Rattle.std.specs.List.{AllByRecursion, Contains, flat_map}
-use Rattle.std.proofs.lemmas.Bool.{eq-eqb}
-use Rattle.std.proofs.lemmas.List.Elements.{All-contains, All-from_recursion}
-use Rattle.base_model.specs.Bytes.{key_of}
-use Rattle.disk_format.specs.Cells.{Root}
-use Rattle.disk_format.specs.declared.numbers.TheConstants.{MOST_FILE}
-use Rattle.actor_parts.specs.declared.actor.TheConstants.{ACTORS}
-use Rattle.actor_parts.specs.declared.part.Part.{Part}
-use Rattle.actor_parts.specs.declared.part.Part.TheVariants.{Idle, Reading, Writing}
-use Rattle.actor_parts.specs.declared.pins.Pin.{Pin}
+use Rattle.std.specs.List.{Contains}
 use Rattle.actor_parts.specs.Parts.{part_of}
-use Rattle.actor_parts.specs.PinMap.{PinMap}
-use Rattle.container_meta.specs.declared.place.Place.{Place}
-use Rattle.container_meta.specs.Places.{PlaceMap}
-use Rattle.disk_format.specs.declared.why.Why.{Why}
-use Rattle.gc_enumerate.specs.Scanning.{IsMisplaced}
-use Rattle.merkle_file.specs.declared.top.Top.{Top}
-use Rattle.merkle_file.specs.Node.{node_digest}
 use Rattle.merkle_file.specs.Tree as tree
-use Rattle.merkle_file.specs.Tree.{Tree, of_segment}
-use Rattle.merkle_file.specs.Walk.{IsTree, contents_of, trees_in}
-use Rattle.namespace.specs.declared.record.Named.{Named}
-use Rattle.namespace.specs.Listing.{NamedRoot, listing_of}
-use Rattle.refusals.specs.declared.refusal.Refusal.{Refusal}
-use Rattle.refusals.specs.declared.refusal.Refusal.TheVariants.{Damaged, DiskRead, Memory, Missing}
-use Rattle.store_model.specs.Files.{Files}
-use Rattle.store_model.specs.Image.{Store, names_of}
-use Rattle.store_model.specs.Refusals.{root_key}
-use Rattle.store_model.specs.Reserve.{HoldsCounted}
-use Rattle.store_model.specs.Slots.{HasKey, IsPartialIndexOf}
-use Rattle.store_model.specs.Standing.{IsStoreOf}
-use Rattle.store_model.specs.Trees.{file_tree}
-use Rattle.store_model.proofs.Copies.{some_same}
-use Rattle.store_model.proofs.SameFiles.{FitsFile, file_of_root, files_fit}
-use Rattle.store_model.proofs.Unfolding.{right_file, root_of_tree}
-use Rattle.store_state.specs.Invariant.{ArePinsOf, CoreInvariant, HoldsPart, IndexesFiles}
-use Rattle.gc_steps.specs.declared.roots.RootKey.{RootKey}
-use Rattle.gc_steps.specs.LiveTrees.{IsRootOf}
-use Rattle.gc_steps.specs.Roots.{keys_as_pinned, keys_of_first, keys_of_listed, keys_of_number, keys_of_part, keys_of_pin, keys_of_root, roots_of}
-use Rattle.gc_steps.specs.Starting.{IsFound, IsStartRefusal, IsUnfound, StopsAt}
+use Rattle.merkle_file.specs.Tree.{Tree}
+use Rattle.gc_steps.specs.Roots.{keys_of_first}
 use Rattle.gc_steps.proofs.Levels.{tree_level}
 use Rattle.gc_steps.proofs.ListedKeys.{each_name}
 use Rattle.gc_steps.proofs.NoneMissing.{between}

@@ -1,31 +1,9 @@
 -- A collection that is safe: as it begins, and after the steps of others.
-use Rattle.std.proofs.Common.{◌≡◌, ◌↔◌, ◌^◌, ◌+◌, ◌-◌, min, ℕ, zero, suc, List, Option, Some, None, refl, sym, subst}
-use Rattle.disk_format.specs.declared.numbers.TheConstants.{MOST_LEVEL}
-use Rattle.actor_parts.specs.declared.part.Part.{Part}
-use Rattle.container_meta.specs.declared.place.Place.{Place}
-use Rattle.container_meta.specs.Places.{PlaceMap}
-use Rattle.gc_enumerate.specs.Live.{LiveKeys, IsLiveAt}
-use Rattle.gc_enumerate.specs.Scanning.{child_keys}
+use Rattle.gc_steps.proofs.Prelude.{◌≡◌, ◌^◌, ◌+◌, ◌-◌, min, ℕ, zero, suc, List, Option, Some, None, refl, sym, subst, MOST_LEVEL, Part, Place, PlaceMap, LiveKeys, child_keys, All, node_key, Files, Store, IsStoreOf, CoreInvariant, Represents, SlotTable, Tables, Collection, Stage, Mark, Filter, Select, IsToChoose, IsLive, MarksAreClosed, NewAreLive, WasScanned, IsRoot, IsSafe, IsSafeAt, filter_at, filter_from, first_slot, is_old_slot, is_tree_slot, mark_at, mark_from, mark_level, mark_on, HoldsAt, SweepIsSafe}
+use Rattle.std.proofs.Common.{◌↔◌}
+use Rattle.gc_enumerate.specs.Live.{IsLiveAt}
 use Rattle.merkle_file.specs.Node.{Contents}
-use Rattle.std.specs.List.{All}
-use Rattle.store_model.specs.Trees.{node_key}
-use Rattle.store_model.specs.Files.{Files}
-use Rattle.store_model.specs.Image.{Store}
-use Rattle.store_model.specs.Standing.{IsStoreOf}
-use Rattle.store_state.specs.Invariant.{CoreInvariant}
-use Rattle.store_state.specs.Tables.{Represents}
-use Rattle.store_state.specs.declared.slot_table.SlotTable.{SlotTable}
-use Rattle.store_state.specs.declared.tables.Tables.{Tables}
-use Rattle.gc_steps.specs.declared.collection.Collection.{Collection}
-use Rattle.gc_steps.specs.declared.collection.Stage.{Stage}
-use Rattle.gc_steps.specs.declared.collection.Stage.TheVariants.{Mark, Filter, Select, Sweep}
-use Rattle.gc_steps.specs.FewSources.{IsToChoose}
-use Rattle.gc_sweep.specs.Holding.{IsLive}
-use Rattle.gc_steps.specs.MarksAreClosed.{MarksAreClosed, NewAreLive, WasScanned}
-use Rattle.gc_steps.specs.Roots.{IsRoot}
-use Rattle.gc_steps.specs.Safety.{IsSafe, IsSafeAt}
-use Rattle.gc_steps.specs.Stages.{filter_at, filter_from, first_slot, is_old_slot, is_tree_slot, mark_at, mark_from, mark_level, mark_on}
-use Rattle.gc_steps.specs.SweepIsSafe.{HoldsAt, SweepIsSafe}
+use Rattle.gc_steps.specs.declared.collection.Stage.TheVariants.{Sweep}
 use Rattle.gc_steps.proofs.Carried.{KeepsBoth}
 use Rattle.gc_steps.proofs.MarkedAll.{marked_all}
 use Rattle.gc_steps.proofs.Started.{started}

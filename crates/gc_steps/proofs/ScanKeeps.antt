@@ -1,43 +1,13 @@
 -- A scan keeps marks closed.
-use Rattle.std.proofs.Common.{◌≡◌, ◌⊎◌, inl, inr, ℕ, ◌+◌, ◌<◌, true, List, [], ◌∷◌, ◌++◌, length, map, take, Option, Some, refl, sym, ◌∙◌, ap, subst, arith}
-use Rattle.std.specs.Prelude.{slice_get}
-use Rattle.std.specs.List.{All, AllByRecursion, Contains, flat_map}
-use Rattle.std.proofs.lemmas.List.Elements.{All-contains, All-from_recursion, All-take, All-weaker, recursion_from_All}
-use Rattle.actor_parts.specs.declared.part.Part.{Part}
-use Rattle.container_meta.specs.declared.entry.Entry.{Entry}
-use Rattle.container_meta.specs.declared.place.Place.{Place}
-use Rattle.container_meta.specs.Format.{is_level}
-use Rattle.container_meta.specs.Places.{PlaceMap}
-use Rattle.container_meta.specs.Spelling.{HeaderValue, IsHeader}
-use Rattle.dd_disk.specs.View.{DiskView}
-use Rattle.dd_disk.proofs.Shows.{shown_content}
-use Rattle.gc_enumerate.specs.Live.{LiveKeys, IsLiveAt}
-use Rattle.gc_enumerate.specs.Marking.{IsAmong}
-use Rattle.gc_enumerate.specs.Scanning.{HaveNodes, Scan, child_keys, keys_of}
-use Rattle.gc_enumerate.proofs.LiveChildren.{among_keys}
+use Rattle.gc_steps.proofs.Prelude.{◌≡◌, ◌⊎◌, inl, inr, ℕ, ◌+◌, ◌<◌, true, List, [], ◌∷◌, ◌++◌, length, map, take, Option, Some, refl, sym, ◌∙◌, ap, subst, arith, slice_get, All, AllByRecursion, flat_map, All-contains, All-from_recursion, All-weaker, recursion_from_All, Part, Entry, Place, is_level, PlaceMap, HeaderValue, IsHeader, DiskView, shown_content, LiveKeys, IsAmong, HaveNodes, Scan, child_keys, among_keys, level_of, Refusal, Memory, Files, Store, entry_key, HoldsSlot, IsPartialIndexOf, IsStoreOf, node_key, have_levels, Represents, Tables, Collection, Stage, Mark, IsLive, HoldsNode, IsWhole, KeepsMarks, MarksOnly, Scans, ScansEntries, ScansSome, scan_for, IsPassed, MarksAreClosed, WasScanned, ShowsAt, mark_from}
+use Rattle.std.specs.List.{Contains}
+use Rattle.std.proofs.lemmas.List.Elements.{All-take}
+use Rattle.gc_enumerate.specs.Live.{IsLiveAt}
+use Rattle.gc_enumerate.specs.Scanning.{keys_of}
 use Rattle.merkle_file.specs.Node.{Contents}
-use Rattle.merkle_file.specs.Tree.{Tree, level_of}
-use Rattle.refusals.specs.declared.refusal.Refusal.{Refusal}
-use Rattle.refusals.specs.declared.refusal.Refusal.TheVariants.{Memory}
-use Rattle.store_model.specs.Files.{Files}
-use Rattle.store_model.specs.Image.{Store}
-use Rattle.store_model.specs.Indexing.{entry_key}
-use Rattle.store_model.specs.Slots.{Copy, HoldsSlot, IsPartialIndexOf}
-use Rattle.store_model.specs.Standing.{IsStoreOf}
-use Rattle.store_model.specs.Trees.{node_key}
+use Rattle.merkle_file.specs.Tree.{Tree}
+use Rattle.store_model.specs.Slots.{Copy}
 use Rattle.store_model.proofs.Free.{as_many}
-use Rattle.store_model.proofs.HeldSlots.{have_levels}
-use Rattle.store_state.specs.Tables.{Represents}
-use Rattle.store_state.specs.declared.tables.Tables.{Tables}
-use Rattle.gc_steps.specs.declared.collection.Collection.{Collection}
-use Rattle.gc_steps.specs.declared.collection.Stage.{Stage}
-use Rattle.gc_steps.specs.declared.collection.Stage.TheVariants.{Mark}
-use Rattle.gc_sweep.specs.Holding.{IsLive}
-use Rattle.gc_steps.specs.LiveTrees.{HoldsNode, IsWhole}
-use Rattle.gc_steps.specs.Marking.{KeepsMarks, MarksOnly, Scans, ScansEntries, ScansSome, scan_for}
-use Rattle.gc_steps.specs.MarksAreClosed.{IsPassed, MarksAreClosed, WasScanned}
-use Rattle.gc_steps.specs.Scanning.{ShowsAt}
-use Rattle.gc_steps.specs.Stages.{mark_from}
 use Rattle.gc_steps.proofs.ChildTrees.{IsTreeOf, IsWholeBelow, children_whole, node_of_whole}
 use Rattle.gc_steps.proofs.FoundNodes.{IsLiveNode, child_found, header_held, new_live, node_scanned, scanned_node}
 use Rattle.gc_steps.proofs.Marked.{contains_first, contains_head, contains_next, contains_none}

@@ -1,8 +1,6 @@
 -- The first slot from one on that passes a test.
-use Rattle.std.proofs.Common.{◌≡◌, ℕ, zero, suc, ◌+◌, ◌-◌, ◌<◌, ◌≤◌, Bool, true, false, length, None, Some, refl, ◌∙◌, ap, arith}
-use Rattle.std.specs.Prelude.{if◌then◌else◌}
-use Rattle.store_state.specs.declared.slot_table.SlotTable.{SlotTable}
-use Rattle.gc_steps.specs.Stages.{first_from, first_slot}
+use Rattle.gc_steps.proofs.Prelude.{◌≡◌, ℕ, zero, suc, ◌+◌, ◌-◌, ◌<◌, ◌≤◌, Bool, true, false, length, None, Some, refl, ◌∙◌, ap, arith, if◌then◌else◌, SlotTable, first_slot}
+use Rattle.gc_steps.specs.Stages.{first_from}
 
 -- one number more
 first_step : (test : ℕ → Bool) (from count less : ℕ) → count ≡ suc less → first_from test from count ≡ (if test from then Some from else first_from test (from + 1) less)

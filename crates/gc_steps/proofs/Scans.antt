@@ -1,25 +1,12 @@
 -- What a scan makes of the live keys, at a moment that is named otherwise, and after calls that only read.
-use Rattle.std.proofs.Common.{◌≡◌, inl, inr, ℕ, List, [], ◌∷◌, take, get_or, Option, Some, None, Result, Ok, Err, OnOk, refl, sym, ap, subst}
-use Rattle.container_meta.specs.declared.entry.Entry.{Entry}
-use Rattle.container_meta.specs.declared.place.Place.{Place}
-use Rattle.container_meta.specs.Places.{PlaceMap}
-use Rattle.container_meta.specs.Spelling.{HeaderValue, IsHeader}
-use Rattle.dd_disk.specs.Shows.{Shows}
-use Rattle.dd_disk.specs.View.{DiskView, OnlyReads}
+use Rattle.gc_steps.proofs.Prelude.{◌≡◌, inl, inr, ℕ, List, [], ◌∷◌, take, Option, Some, None, Result, Ok, Err, OnOk, refl, sym, ap, subst, Entry, Place, PlaceMap, HeaderValue, IsHeader, Shows, DiskView, OnlyReads, Why, LiveKeys, Scan, HaveNodes, ScanFault, Refusal, HoldsSlot, Collection, ScansEntries, ScansSome, IsEntriesFault, KeepsMarks, scan_for, ShowsAt, step_refusal}
+use Rattle.std.proofs.Common.{get_or}
 use Rattle.dd_disk.proofs.Shows.{since}
-use Rattle.disk_format.specs.declared.why.Why.{Why}
-use Rattle.gc_enumerate.specs.Live.{LiveKeys}
 use Rattle.gc_enumerate.specs.Marking.{MarksChildren, MarksSome, ChildrenAreLive, UnlessMemory}
-use Rattle.gc_enumerate.specs.Scanning.{Scan, HaveNodes, IsScanFault, IsStuck}
-use Rattle.gc_enumerate.specs.declared.fault.ScanFault.{ScanFault}
+use Rattle.gc_enumerate.specs.Scanning.{IsScanFault, IsStuck}
 use Rattle.gc_enumerate.specs.declared.fault.ScanFault.TheVariants as faults
 use Rattle.gc_enumerate.proofs.Scans.{node_wider, finds_wider, entry_fault_wider}
 use Rattle.merkle_file.specs.Node.{Contents}
-use Rattle.refusals.specs.declared.refusal.Refusal.{Refusal}
-use Rattle.store_model.specs.Slots.{HoldsSlot}
-use Rattle.gc_steps.specs.declared.collection.Collection.{Collection}
-use Rattle.gc_steps.specs.Marking.{ScansEntries, ScansSome, IsEntriesFault, KeepsMarks, scan_for}
-use Rattle.gc_steps.specs.Scanning.{ShowsAt, step_refusal}
 
 module _ (D : Type 0) (view : D → DiskView) (known : Option PlaceMap) (old : DiskView) (slot level : ℕ) (h : HeaderValue) (before after : LiveKeys) (mid new : D)
     (same : mid ≡ new) where

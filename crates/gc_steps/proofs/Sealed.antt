@@ -1,22 +1,13 @@
 -- A container that is sealed while a collection is under way leaves it so.
-use Rattle.std.proofs.Common.{◌≡◌, ◌≢◌, ℕ, zero, suc, ◌<◌, ◌≤◌, max, Bool, true, false, cond, List, [], ◌∷◌, length, get_or, take, set, Option, Some, refl, sym, ◌∙◌, ap, subst, arith}
-use Rattle.std.specs.Prelude.{nat_eq, nat_lt, ◌&&◌, not, ◌==◌, slice_get}
+use Rattle.gc_steps.proofs.Prelude.{◌≡◌, ◌≢◌, ℕ, zero, suc, ◌<◌, ◌≤◌, Bool, true, false, cond, List, [], ◌∷◌, length, take, set, Option, Some, refl, sym, ◌∙◌, ap, subst, arith, nat_eq, nat_lt, slice_get, ltb-true, get_or-set_other, length-set, take_all, HeaderValue, IsHeader, AreHeaders, with_slot, IsFirstFree, RepresentsSlots, count_of, SlotCount, SlotTable, Collection, Stage, Mark, Filter, Select, IsSweeping, is_old, is_old_slot, is_tree, is_tree_slot, HasStage, IsUnderWay, old_ids, slice_get-set}
+use Rattle.std.proofs.Common.{max, get_or}
+use Rattle.std.specs.Prelude.{◌&&◌, not, ◌==◌}
 use Rattle.std.specs.List.{IsDistinct}
-use Rattle.std.proofs.lemmas.Bool.{ltb-true}
-use Rattle.std.proofs.lemmas.List.{get_or-set_other, length-set, take_all}
-use Rattle.container_meta.specs.Spelling.{HeaderValue, IsHeader}
 use Rattle.disk_format.specs.declared.numbers.TheConstants.{RESERVE}
-use Rattle.store_model.specs.Slots.{AreHeaders, with_slot}
-use Rattle.store_state.specs.Tables.{IsFirstFree, RepresentsSlots, count_of}
-use Rattle.store_state.specs.declared.slot_table.SlotCount.{SlotCount}
-use Rattle.store_state.specs.declared.slot_table.SlotTable.{SlotTable}
-use Rattle.gc_steps.specs.declared.collection.Collection.{Collection}
-use Rattle.gc_steps.specs.declared.collection.Stage.{Stage}
-use Rattle.gc_steps.specs.declared.collection.Stage.TheVariants.{Mark, Filter, Select, Sweep}
-use Rattle.gc_sweep.specs.UnderWay.{IsSweeping, free_in, is_old}
-use Rattle.gc_steps.specs.Stages.{is_old_slot, is_tree, is_tree_slot}
-use Rattle.gc_steps.specs.UnderWay.{HasStage, IsSlot, IsUnderWay, old_ids}
-use Rattle.gc_sweep.proofs.Taken.{counts_set, free_less, ids_set, old_not_zero, sealed_by_other, slice_get-set, slot_closed}
+use Rattle.gc_steps.specs.declared.collection.Stage.TheVariants.{Sweep}
+use Rattle.gc_sweep.specs.UnderWay.{free_in}
+use Rattle.gc_steps.specs.UnderWay.{IsSlot}
+use Rattle.gc_sweep.proofs.Taken.{counts_set, free_less, ids_set, old_not_zero, sealed_by_other, slot_closed}
 
 -- an id from the snapshot on is that of no container that was there
 not_old : (snapshot id : ℕ) → snapshot ≤ id → is_old snapshot id ≡ false

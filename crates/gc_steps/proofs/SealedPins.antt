@@ -1,36 +1,14 @@
 -- A seal leaves both invariants of a collection, where the keys of what is sealed become live.
-use Rattle.std.proofs.Common.{◌≡◌, ◌⊎◌, ◌↔◌, ◌<◌, ◌≤◌, ◌+◌, inl, inr, ℕ, zero, suc, Bool, true, false, cond, List, [], ◌∷◌, length, map, get_or, option_map, Option, Some, None, refl, sym, ◌∙◌, ap, subst, arith}
-use Rattle.std.specs.Prelude.{slice_get}
+use Rattle.gc_steps.proofs.Prelude.{◌≡◌, ◌⊎◌, ◌<◌, ◌≤◌, ◌+◌, inl, inr, ℕ, zero, suc, Bool, true, false, cond, List, [], ◌∷◌, length, map, option_map, Option, Some, None, refl, sym, ◌∙◌, ap, subst, arith, slice_get, All, bytes_eq, bytes_eq-Decides, sha256, ACTORS, Part, Writing, PinMap, Entry, Kind, Place, PlaceMap, Segment, entries_from, segment_key, HeaderValue, header_of, LiveKeys, Files, Store, entry_key, HasKey, IsPartialIndexOf, first_free, place_of, with_slot, IsStoreOf, KeepsCopies, with_sealed, some_same, in_head, entry_of, CoreInvariant, Collection, IsPartKey, Marks}
+use Rattle.std.proofs.Common.{◌↔◌, get_or}
 use Rattle.std.specs.FinMap as finite
-use Rattle.std.specs.List.{All, Contains}
-use Rattle.std.specs.Str.{bytes_eq}
-use Rattle.std.proofs.lemmas.Slice.Eq.{bytes_eq-Decides}
-use Rattle.sha2.specs.Sha256.{sha256}
-use Rattle.actor_parts.specs.declared.actor.TheConstants.{ACTORS}
-use Rattle.actor_parts.specs.declared.part.Part.{Part}
-use Rattle.actor_parts.specs.declared.part.Part.TheVariants.{Writing}
+use Rattle.std.specs.List.{Contains}
 use Rattle.actor_parts.specs.Parts.{part_of, with_part}
-use Rattle.actor_parts.specs.PinMap.{PinMap}
-use Rattle.container_meta.specs.declared.entry.Entry.{Entry}
-use Rattle.container_meta.specs.declared.kind.Kind.{Kind}
-use Rattle.container_meta.specs.declared.place.Place.{Place}
-use Rattle.container_meta.specs.Places.{PlaceMap}
-use Rattle.container_meta.specs.Segments.{Contents, Segment, entries_from, keys_of, segment_key}
-use Rattle.container_meta.specs.Spelling.{HeaderValue, header_of}
-use Rattle.gc_enumerate.specs.Live.{LiveKeys}
-use Rattle.store_model.specs.Files.{Files}
-use Rattle.store_model.specs.Image.{Store}
-use Rattle.store_model.specs.Indexing.{entry_key}
-use Rattle.store_model.specs.Slots.{Copy, HasKey, IsPartialIndexOf, first_free, free_slots, place_of, with_slot}
-use Rattle.store_model.specs.Standing.{IsStoreOf}
-use Rattle.store_model.specs.Steps.{CanSeal, KeepsCopies, with_sealed}
-use Rattle.store_model.proofs.Copies.{some_same}
-use Rattle.store_model.proofs.FreedTrees.{in_head, in_tail}
-use Rattle.store_model.proofs.Indexing.{entry_of}
+use Rattle.container_meta.specs.Segments.{Contents, keys_of}
+use Rattle.store_model.specs.Slots.{Copy, free_slots}
+use Rattle.store_model.specs.Steps.{CanSeal}
+use Rattle.store_model.proofs.FreedTrees.{in_tail}
 use Rattle.store_model.proofs.NewestSealed.{newest_with, newest_without}
-use Rattle.store_state.specs.Invariant.{CoreInvariant}
-use Rattle.gc_steps.specs.declared.collection.Collection.{Collection}
-use Rattle.gc_steps.specs.Roots.{IsPartKey, Marks}
 use Rattle.gc_steps.proofs.Carried.{KeepsBoth, MovesBeside}
 use Rattle.gc_steps.proofs.GainedPins.{Grows, gained}
 use Rattle.gc_steps.proofs.Marked.{contains_first, contains_none}

@@ -1,63 +1,14 @@
 -- A collection that runs alone: only keys that are needed are live, and each container with a live copy is spared, and no other.
-use Rattle.std.proofs.Common.{◌≡◌, ◌⊎◌, inl, inr, ℕ, zero, suc, ◌+◌, ◌<◌, true, List, [], ◌∷◌, ◌++◌, length, get_or, Option, Some, refl, sym, ◌∙◌, ap, subst, arith}
-use Rattle.std.specs.Prelude.{slice_get}
+use Rattle.gc_steps.proofs.Prelude.{◌≡◌, ◌⊎◌, inl, inr, ℕ, zero, suc, ◌+◌, ◌<◌, true, List, [], ◌∷◌, ◌++◌, length, Option, Some, refl, sym, ◌∙◌, ap, subst, arith, slice_get, eqb_tells, Part, Entry, Kind, Place, PlaceMap, entries_from, HeaderValue, IsHeader, header_of, HasLiveCopy, DiskView, shown_content, MOST_LEVEL, LiveKeys, IsAmong, child_keys, Next, CopyNext, Flush, Release, End, CopiesSource, HoldsSweep, HasReleased, slot_in_turn, HasNoEntryIn, HasNext, IsSweeping, sources_before, no_key, LeavesHeld, copy_at, id_at, one_header, header_in, Refusal, Memory, Files, IsValidFor, Store, entry_key, with_entries, HasFree, HasKey, HoldSlots, HoldsSlot, IsPartialIndexOf, first_free, last_id, place_of, with_slot, without_slot, IsStoreOf, node_key, some_same, finds, Represents, RepresentsSlots, SlotTable, Tables, Collection, Stage, Mark, Filter, Select, SweepStage, Chooses, Records, recorded, IsAsLive, HoldsNode, KeepsMarks, MarksOnly, Scans, ScansEntries, ScansSome, IsSafe, IsSafeAt, CopiesAlone, IsSpared, IsSparedAt, IsWithin, Spares, filter_from, is_old_slot, mark_from, mark_level, Flushes, Keeps, StepsTo, moment, HoldsAt, IsUnderWay}
+use Rattle.std.proofs.Common.{get_or}
 use Rattle.std.specs.List.{Contains}
-use Rattle.std.proofs.lemmas.Bool.Decides.{eqb_tells}
-use Rattle.actor_parts.specs.declared.part.Part.{Part}
-use Rattle.container_meta.specs.declared.entry.Entry.{Entry}
-use Rattle.container_meta.specs.declared.kind.Kind.{Kind}
-use Rattle.container_meta.specs.declared.place.Place.{Place}
-use Rattle.container_meta.specs.Places.{PlaceMap}
-use Rattle.container_meta.specs.Segments.{entries_from}
-use Rattle.container_meta.specs.Spelling.{HeaderValue, IsHeader, header_of}
-use Rattle.copy_forward.specs.Entries.{HasLiveCopy}
-use Rattle.dd_disk.specs.View.{DiskView}
-use Rattle.dd_disk.proofs.Shows.{shown_content}
-use Rattle.disk_format.specs.declared.numbers.TheConstants.{MOST_LEVEL}
-use Rattle.gc_enumerate.specs.Live.{LiveKeys, IsLiveAt}
-use Rattle.gc_enumerate.specs.Marking.{IsAmong}
-use Rattle.gc_enumerate.specs.Scanning.{child_keys}
-use Rattle.gc_sweep.specs.declared.sweep.Next.{Next}
-use Rattle.gc_sweep.specs.declared.sweep.Next.TheVariants.{Copy as CopyNext, Flush, Release, End}
-use Rattle.gc_sweep.specs.Copying.{CopiesSource}
-use Rattle.gc_sweep.specs.Holding.{HoldsSweep}
-use Rattle.gc_sweep.specs.InTurn.{HasReleased, slot_in_turn}
-use Rattle.gc_sweep.specs.Releasing.{HasNoEntryIn}
-use Rattle.gc_sweep.specs.UnderWay.{HasNext, IsSweeping, sources_before}
-use Rattle.gc_sweep.proofs.Holds.{no_key}
-use Rattle.gc_sweep.proofs.HoldsCopied.{LeavesHeld}
-use Rattle.gc_sweep.proofs.InSlots.{copy_at, id_at, none_in, one_header}
+use Rattle.gc_enumerate.specs.Live.{IsLiveAt}
+use Rattle.gc_sweep.proofs.InSlots.{none_in}
 use Rattle.gc_sweep.proofs.Released.{none_held}
-use Rattle.gc_sweep.proofs.SourceRead.{header_in}
 use Rattle.merkle_file.specs.Node.{Contents}
-use Rattle.refusals.specs.declared.refusal.Refusal.{Refusal}
-use Rattle.refusals.specs.declared.refusal.Refusal.TheVariants.{Memory}
-use Rattle.store_model.specs.Files.{Files}
-use Rattle.store_model.specs.Image.{IsValidFor, Store}
-use Rattle.store_model.specs.Indexing.{entry_key, with_entries}
 use Rattle.store_model.specs.Reserve.{HoldsNone, IsSpare}
-use Rattle.store_model.specs.Slots.{Copy, HasFree, HasKey, HoldSlots, HoldsSlot, IsPartialIndexOf, first_free, last_id, place_of, with_slot, without_slot}
-use Rattle.store_model.specs.Standing.{IsStoreOf}
-use Rattle.store_model.specs.Trees.{node_key}
-use Rattle.store_model.proofs.Copies.{some_same}
+use Rattle.store_model.specs.Slots.{Copy}
 use Rattle.store_model.proofs.Free.{as_many}
-use Rattle.store_model.proofs.Lookups.{finds}
-use Rattle.store_state.specs.Tables.{Represents, RepresentsSlots}
-use Rattle.store_state.specs.declared.slot_table.SlotTable.{SlotTable}
-use Rattle.store_state.specs.declared.tables.Tables.{Tables}
-use Rattle.gc_steps.specs.declared.collection.Collection.{Collection}
-use Rattle.gc_steps.specs.declared.collection.Stage.{Stage}
-use Rattle.gc_steps.specs.declared.collection.Stage.TheVariants.{Mark, Filter, Select, Sweep as SweepStage}
-use Rattle.gc_steps.specs.Filtering.{Chooses, Records, recorded}
-use Rattle.gc_steps.specs.Fresh.{IsAsLive}
-use Rattle.gc_steps.specs.LiveTrees.{HoldsNode}
-use Rattle.gc_steps.specs.Marking.{KeepsMarks, MarksOnly, Scans, ScansEntries, ScansSome}
-use Rattle.gc_steps.specs.Safety.{IsSafe, IsSafeAt}
-use Rattle.gc_steps.specs.Sparing.{CopiesAlone, IsSpared, IsSparedAt, IsWithin, Spares}
-use Rattle.gc_steps.specs.Stages.{filter_from, is_old_slot, mark_from, mark_level}
-use Rattle.gc_steps.specs.Stepping.{Flushes, Keeps, StepsTo, moment}
-use Rattle.gc_steps.specs.SweepIsSafe.{HoldsAt}
-use Rattle.gc_steps.specs.UnderWay.{IsUnderWay}
 use Rattle.gc_steps.proofs.FirstStage.{id_below, old_there}
 use Rattle.gc_steps.proofs.ScanKeeps.{IsNewKey, new_key, some_key}
 use Rattle.gc_steps.proofs.SparingStages.{AreAlone, IsChosen, IsSweptSo, begun_swept, chosen_on, copied_alone, copied_leaves, copied_swept, filter_alone, filter_spared, flushed_alone, flushed_swept, level_alone, level_spared, mark_alone, mark_spared, recorded_chosen, released_alone, released_swept}

@@ -1,61 +1,17 @@
 -- Which stage comes next, and that each container of a collection that runs alone is spared by it.
-use Rattle.std.proofs.Common.{◌≡◌, ◌≢◌, ◌⊎◌, inl, inr, ℕ, zero, suc, ◌+◌, ◌-◌, ◌*◌, ◌<◌, ◌≤◌, Bool, true, false, cond, List, [], ◌∷◌, ◌++◌, length, map, get_or, Option, Some, None, refl, sym, ◌∙◌, ap, subst, arith}
-use Rattle.std.specs.Prelude.{nat_lt, ◌||◌, ◌==◌, slice_get}
+use Rattle.gc_steps.proofs.Prelude.{◌≡◌, ◌≢◌, ◌⊎◌, inl, inr, ℕ, zero, suc, ◌+◌, ◌-◌, ◌*◌, ◌<◌, ◌≤◌, Bool, true, false, cond, List, [], ◌∷◌, ◌++◌, length, map, Option, Some, None, refl, sym, ◌∙◌, ap, subst, arith, nat_lt, ◌||◌, slice_get, AllByRecursion, bytes_eq, eq-eqb, lt-ltb, leb_tells, get_or_default_zero, Contains-append_left, bytes_eq-Decides, sha256, both_true, Entry, Kind, Place, PlaceMap, Segment, entries_from, has_key, segment_key, HeaderValue, IsHeader, header_of, Plan, PlansBy, HasLiveCopy, SumsLive, source_of, Shows, DiskView, shown_content, LiveKeys, ContainerLiveness, IsSelectedId, is_selected, Next, CopyNext, Flush, Release, End, Begins, CopiesSource, TakesBy, HasFlushed, HoldsSweep, IsCopied, IsLive, HasReleased, slot_in_turn, IsNext, HasNext, IsSweeping, sources_before, no_key, LeavesHeld, holds_copied, at_copy, copy_at, one_header, listed, filled_new, IsReadOf, not_other, read_of, entry_key, with_entries, DifferentIds, HoldSlots, HoldsSlot, IsPartialIndexOf, first_free, place_of, with_slot, without_slot, some_same, there_before, entry_of, put_none, put_some, RepresentsSlots, SlotCount, SlotTable, Collection, recorded, recorded_by, CopiesAlone, IsSpared, IsSparedAt, filter_at, filter_from, first_slot, is_old_slot, is_tree_slot, mark_at, mark_from, mark_level, mark_on, IsSourceId}
+use Rattle.std.proofs.Common.{get_or}
+use Rattle.std.specs.Prelude.{◌==◌}
 use Rattle.std.specs.FinMap as finite
-use Rattle.std.specs.List.{AllByRecursion, Contains}
-use Rattle.std.specs.Str.{bytes_eq}
-use Rattle.std.proofs.lemmas.Bool.{eq-eqb, lt-ltb}
-use Rattle.std.proofs.lemmas.Bool.Decides.{leb_tells}
-use Rattle.std.proofs.lemmas.Grind.{common_steps, get_or_default_zero}
-use Rattle.std.proofs.lemmas.List.Elements.{Contains-append_left}
-use Rattle.std.proofs.lemmas.Slice.Eq.{bytes_eq-Decides}
-use Rattle.sha2.specs.Sha256.{sha256}
-use Rattle.base_model.proofs.Checks.{both_true}
-use Rattle.container_meta.specs.declared.entry.Entry.{Entry}
-use Rattle.container_meta.specs.declared.kind.Kind.{Kind}
-use Rattle.container_meta.specs.declared.place.Place.{Place}
-use Rattle.container_meta.specs.Places.{PlaceMap}
-use Rattle.container_meta.specs.Segments.{Contents, Segment, entries_from, has_key, segment_key}
-use Rattle.container_meta.specs.Spelling.{Follow, HeaderValue, IsHeader, header_of}
-use Rattle.copy_forward.specs.declared.plan.Plan.{Plan}
-use Rattle.copy_forward.specs.Copying.{PlansBy}
-use Rattle.copy_forward.specs.Entries.{HasLiveCopy, SumsLive}
-use Rattle.copy_forward.specs.Planning.{source_of}
-use Rattle.dd_disk.specs.Shows.{Shows}
-use Rattle.dd_disk.specs.View.{DiskView}
-use Rattle.dd_disk.proofs.Shows.{shown_content}
-use Rattle.gc_enumerate.specs.Live.{LiveKeys}
-use Rattle.gc_select.specs.declared.liveness.ContainerLiveness.{ContainerLiveness}
-use Rattle.gc_select.specs.Selecting.{IsSelectedId, is_selected}
-use Rattle.gc_sweep.specs.declared.sweep.Next.{Next}
-use Rattle.gc_sweep.specs.declared.sweep.Next.TheVariants.{Copy as CopyNext, Flush, Release, End}
+use Rattle.std.specs.List.{Contains}
+use Rattle.std.proofs.lemmas.Grind.{common_steps}
+use Rattle.container_meta.specs.Segments.{Contents}
+use Rattle.container_meta.specs.Spelling.{Follow}
 use Rattle.gc_sweep.specs.declared.sweep.Sweep.{Sweep}
-use Rattle.gc_sweep.specs.Beginning.{Begins}
-use Rattle.gc_sweep.specs.Copying.{CopiesSource, TakesBy}
-use Rattle.gc_sweep.specs.Flushing.{HasFlushed}
-use Rattle.gc_sweep.specs.Holding.{HoldsSweep, IsCopied, IsHalfCopied, IsLive, IsOrigin}
-use Rattle.gc_sweep.specs.InTurn.{HasReleased, slot_in_turn}
-use Rattle.gc_sweep.specs.Next.{IsNext}
-use Rattle.gc_sweep.specs.UnderWay.{HasNext, IsSweeping, entry_in, sources_before}
-use Rattle.gc_sweep.proofs.Holds.{no_key}
-use Rattle.gc_sweep.proofs.HoldsCopied.{LeavesHeld, holds_copied}
-use Rattle.gc_sweep.proofs.InSlots.{at_copy, copy_at, half_within, live_anywhere, one_header, source_old, stands_in}
-use Rattle.gc_sweep.proofs.KeyLists.{listed}
-use Rattle.gc_sweep.proofs.PlannedKeys.{filled_new}
-use Rattle.gc_sweep.proofs.SourceRead.{IsReadOf, not_other, read_of}
-use Rattle.store_model.specs.Indexing.{entry_key, with_entries}
-use Rattle.store_model.specs.Slots.{DifferentIds, HoldSlots, HoldsSlot, IsPartialIndexOf, first_free, place_of, with_slot, without_slot}
-use Rattle.store_model.proofs.Copies.{some_same}
-use Rattle.store_model.proofs.Freed.{there_before}
-use Rattle.store_model.proofs.Indexing.{entry_of, put_none, put_some}
-use Rattle.store_state.specs.Tables.{RepresentsSlots}
-use Rattle.store_state.specs.declared.slot_table.SlotCount.{SlotCount}
-use Rattle.store_state.specs.declared.slot_table.SlotTable.{SlotTable}
-use Rattle.gc_steps.specs.declared.collection.Collection.{Collection}
-use Rattle.gc_steps.specs.Filtering.{recorded, recorded_by}
-use Rattle.gc_steps.specs.Sparing.{CopiesAlone, IsSpared, IsSparedAt, IsToBeFreed, IsToBeTaken}
-use Rattle.gc_steps.specs.Stages.{filter_at, filter_from, first_slot, is_old_slot, is_tree_slot, mark_at, mark_from, mark_level, mark_on}
-use Rattle.gc_steps.specs.Taking.{IsSourceId}
+use Rattle.gc_sweep.specs.Holding.{IsHalfCopied, IsOrigin}
+use Rattle.gc_sweep.specs.UnderWay.{entry_in}
+use Rattle.gc_sweep.proofs.InSlots.{half_within, live_anywhere, source_old, stands_in}
+use Rattle.gc_steps.specs.Sparing.{IsToBeFreed, IsToBeTaken}
 use Rattle.gc_steps.proofs.FirstStage.{first_there}
 
 -- ---- up to the choice

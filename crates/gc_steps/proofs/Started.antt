@@ -1,29 +1,11 @@
 -- What holds as a collection begins.
-use Rattle.std.proofs.Common.{◌≡◌, ◌≤◌, ◌↔◌, inl, inr, ◌<◌, ◌+◌, ◌-◌, ◌^◌, ℕ, zero, suc, min, List, [], ◌∷◌, Option, subst, refl, arith}
-use Rattle.std.specs.List.{AllByRecursion}
-use Rattle.disk_format.specs.declared.numbers.TheConstants.{MOST_LEVEL}
-use Rattle.actor_parts.specs.declared.part.Part.{Part}
-use Rattle.actor_parts.specs.declared.part.Part.TheVariants.{Idle, Reading, Writing}
+use Rattle.gc_steps.proofs.Prelude.{◌≡◌, ◌≤◌, inl, inr, ◌<◌, ◌+◌, ◌-◌, ◌^◌, ℕ, zero, suc, min, List, [], ◌∷◌, Option, subst, refl, arith, AllByRecursion, MOST_LEVEL, Part, Idle, Reading, Writing, Place, PlaceMap, NameMap, Files, Store, names_of, HasKey, last_id, IsStoreOf, headers_of_right, CoreInvariant, HoldsPart, Represents, Tables, Collection, HoldsNode, IsWhole, IsPassed, MarksAreClosed, IsPartKey, IsRoot, mark_level}
+use Rattle.std.proofs.Common.{◌↔◌}
 use Rattle.actor_parts.specs.Parts.{part_of}
-use Rattle.container_meta.specs.declared.place.Place.{Place}
-use Rattle.container_meta.specs.Places.{PlaceMap}
 use Rattle.gc_enumerate.specs.Live.{IsLiveAt}
 use Rattle.merkle_file.specs.Node.{Contents}
-use Rattle.namespace.specs.Names.{NameMap}
-use Rattle.store_model.specs.Files.{Files}
-use Rattle.store_model.specs.Image.{Store, names_of}
-use Rattle.store_model.specs.Slots.{Copy, HasKey, last_id}
-use Rattle.store_model.specs.Standing.{IsStoreOf}
-use Rattle.store_model.proofs.Copies.{headers_of_right}
+use Rattle.store_model.specs.Slots.{Copy}
 use Rattle.store_model.proofs.Sound.{last_within}
-use Rattle.store_state.specs.Invariant.{CoreInvariant, HoldsPart}
-use Rattle.store_state.specs.Tables.{Represents}
-use Rattle.store_state.specs.declared.tables.Tables.{Tables}
-use Rattle.gc_steps.specs.declared.collection.Collection.{Collection}
-use Rattle.gc_steps.specs.LiveTrees.{HoldsNode, IsWhole}
-use Rattle.gc_steps.specs.MarksAreClosed.{IsPassed, MarksAreClosed}
-use Rattle.gc_steps.specs.Roots.{IsPartKey, IsRoot}
-use Rattle.gc_steps.specs.Stages.{mark_level}
 use Rattle.gc_steps.proofs.FirstStage.{none_new, none_passed}
 use Rattle.gc_steps.proofs.PinnedTrees.{pinned_whole}
 use Rattle.gc_steps.proofs.RootTrees.{whole_indexed, whole_name, whole_reader}

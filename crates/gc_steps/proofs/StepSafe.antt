@@ -1,71 +1,27 @@
 -- What the next step of a collection leaves, when it is done: it is safe, and no key that is needed is lost.
-use Rattle.std.proofs.Common.{◌≡◌, ◌⊎◌, inl, inr, ℕ, ◌+◌, ◌<◌, ◌≤◌, List, length, get_or, Option, Some, None, refl, sym, ◌∙◌, ap, subst, arith}
-use Rattle.std.specs.Prelude.{slice_get}
-use Rattle.std.specs.List.{All, AllByRecursion}
-use Rattle.actor_parts.specs.declared.actor.TheConstants.{ACTORS}
-use Rattle.actor_parts.specs.declared.part.Part.{Part}
-use Rattle.container_meta.specs.declared.entry.Entry.{Entry}
-use Rattle.container_meta.specs.Places.{PlaceMap}
-use Rattle.container_meta.specs.Segments.{Contents, entries_from, segment_key}
-use Rattle.container_meta.specs.Spelling.{HeaderValue, header_of}
-use Rattle.dd_disk.specs.Ending.{Ending, Done}
-use Rattle.dd_disk.specs.Moves.{StandsFor}
-use Rattle.dd_disk.specs.View.{DiskView, IsLater, OnlyReads}
+use Rattle.gc_steps.proofs.Prelude.{◌≡◌, ◌⊎◌, inl, inr, ℕ, ◌+◌, ◌<◌, ◌≤◌, List, length, Option, Some, None, refl, sym, ◌∙◌, ap, subst, arith, slice_get, All, AllByRecursion, ACTORS, Part, Entry, PlaceMap, entries_from, segment_key, HeaderValue, header_of, Ending, Done, StandsFor, DiskView, OnlyReads, slot_at, LiveKeys, child_keys, SealsIndexed, NameMap, Changes, ByteSet, IsIn, Stands, Files, IsValidFor, Store, names_of, entry_key, with_entries, AreHeaders, HasFree, HasKey, IsPartialIndexOf, first_free, IsStoreOf, with_sealed, HasNewest, bytes_at, node_key, some_same, there_before, entry_of, put_none, CoreInvariant, Represents, RepresentsSlots, Tables, Next, CopyNext, Flush, Release, End, SweepValue, CopiesSource, HoldsSweep, IsLive, SourcesStand, HasReleased, slot_in_turn, HasFreed, HasNoEntryIn, IsSweeping, holds_copied, are_newest, may_flush, Collection, Stage, Mark, Filter, Select, Chooses, Records, HoldsNode, IsWhole, Scans, MarksAreClosed, NewAreLive, IsRoot, IsNeeded, IsSafe, IsSafeAt, filter_at, first_slot, is_old_slot, mark_from, Flushes, StepsTo, TablesAfter, Touches, moment, HoldsAt, SweepIsSafe, IsUnderWay}
+use Rattle.std.proofs.Common.{get_or}
+use Rattle.container_meta.specs.Segments.{Contents}
+use Rattle.dd_disk.specs.View.{IsLater}
 use Rattle.dd_disk.specs.Writes.{Both}
-use Rattle.disk_format.specs.Layout.{slot_at}
-use Rattle.gc_enumerate.specs.Live.{LiveKeys}
-use Rattle.gc_enumerate.specs.Scanning.{child_keys}
-use Rattle.ingest_steps.specs.Sealing.{SealsIndexed}
 use Rattle.merkle_file.specs.Node as node
-use Rattle.namespace.specs.Names.{NameMap}
-use Rattle.segment_index.specs.Changes.{Changes, SameBefore}
-use Rattle.store_model.specs.Collisions.{ByteSet, IsIn, Stands}
-use Rattle.store_model.specs.Files.{Files}
+use Rattle.segment_index.specs.Changes.{SameBefore}
 use Rattle.store_model.specs.Freeing.{with_freed}
-use Rattle.store_model.specs.Image.{IsValidFor, Store, names_of}
-use Rattle.store_model.specs.Indexing.{entry_key, with_entries}
 use Rattle.store_model.specs.Reserve.{HasReserve}
-use Rattle.store_model.specs.Slots.{AreHeaders, Copy, HasFree, HasKey, IsPartialIndexOf, first_free}
-use Rattle.store_model.specs.Standing.{IsStoreOf}
-use Rattle.store_model.specs.Steps.{CanFlush, with_sealed}
-use Rattle.store_model.specs.Trees.{HasNewest, bytes_at, node_key}
-use Rattle.store_model.proofs.Copies.{some_same}
+use Rattle.store_model.specs.Slots.{Copy}
+use Rattle.store_model.specs.Steps.{CanFlush}
 use Rattle.store_model.proofs.FramedTrees.{newest_framed, stands_framed}
-use Rattle.store_model.proofs.Freed.{there_before}
-use Rattle.store_model.proofs.Indexing.{entry_of, put_none}
 use Rattle.store_model.proofs.Valid.{valid_sealed}
-use Rattle.store_state.specs.Invariant.{CoreInvariant}
-use Rattle.store_state.specs.Tables.{Represents, RepresentsSlots}
-use Rattle.store_state.specs.declared.tables.Tables.{Tables}
 use Rattle.store_state.proofs.Parts.{parts_kept}
-use Rattle.gc_sweep.specs.declared.sweep.Next.{Next}
-use Rattle.gc_sweep.specs.declared.sweep.Next.TheVariants.{Copy as CopyNext, Flush, Release, End}
-use Rattle.gc_sweep.specs.declared.sweep.Sweep.{Sweep as SweepValue}
-use Rattle.gc_sweep.specs.Copying.{CopiesSource}
-use Rattle.gc_sweep.specs.Holding.{HoldsSweep, IsLive, SourcesStand}
-use Rattle.gc_sweep.specs.InTurn.{HasReleased, slot_in_turn}
-use Rattle.gc_sweep.specs.Releasing.{GivesBack, HasFreed, HasNoEntryIn}
-use Rattle.gc_sweep.specs.UnderWay.{IsSweeping}
+use Rattle.gc_sweep.specs.Releasing.{GivesBack}
 use Rattle.gc_sweep.proofs.Holds.{begun_holds, in_turn}
-use Rattle.gc_sweep.proofs.HoldsCopied.{holds_copied, leaves_on_disk}
+use Rattle.gc_sweep.proofs.HoldsCopied.{leaves_on_disk}
 use Rattle.gc_sweep.proofs.HoldsFlushed.{holds_flushed}
 use Rattle.gc_sweep.proofs.HoldsReleased.{holds_released}
-use Rattle.gc_sweep.proofs.HoldsRoom.{are_newest, has_reserve, may_flush, one_free}
+use Rattle.gc_sweep.proofs.HoldsRoom.{has_reserve, one_free}
 use Rattle.gc_sweep.proofs.InSlots.{copy_of, sources_stand}
 use Rattle.gc_sweep.proofs.Leaves.{LeavesStore, copy_leaves, flush_leaves, live_keys, release_leaves}
-use Rattle.gc_steps.specs.declared.collection.Collection.{Collection}
-use Rattle.gc_steps.specs.declared.collection.Stage.{Stage}
-use Rattle.gc_steps.specs.declared.collection.Stage.TheVariants.{Mark, Filter, Select, Sweep}
-use Rattle.gc_steps.specs.Filtering.{Chooses, Records}
-use Rattle.gc_steps.specs.LiveTrees.{HoldsNode, IsWhole}
-use Rattle.gc_steps.specs.Marking.{Scans}
-use Rattle.gc_steps.specs.MarksAreClosed.{MarksAreClosed, NewAreLive}
-use Rattle.gc_steps.specs.Roots.{IsRoot}
-use Rattle.gc_steps.specs.Safety.{IsNeeded, IsSafe, IsSafeAt}
-use Rattle.gc_steps.specs.Stages.{filter_at, first_slot, is_old_slot, mark_from}
-use Rattle.gc_steps.specs.Stepping.{Flushes, StepsTo, TablesAfter, Touches, moment}
-use Rattle.gc_steps.specs.SweepIsSafe.{HoldsAt, SweepIsSafe}
-use Rattle.gc_steps.specs.UnderWay.{IsUnderWay}
+use Rattle.gc_steps.specs.declared.collection.Stage.TheVariants.{Sweep}
 use Rattle.gc_steps.proofs.ChildTrees.{children_whole}
 use Rattle.gc_steps.proofs.NeededKeys.{needed_has, parts_have, reachable_has}
 use Rattle.gc_steps.proofs.RootTrees.{whole_indexed}

@@ -1,37 +1,16 @@
 -- What a step of the sweep does to the whole collection.
-use Rattle.std.proofs.Common.{◌≡◌, ℕ, ◌<◌, Option, Some, None, refl, sym, ◌∙◌, ap, subst, arith}
+use Rattle.gc_steps.proofs.Prelude.{◌≡◌, ℕ, ◌<◌, Option, Some, None, refl, sym, ◌∙◌, ap, subst, arith, PlaceMap, Plan, MapStays, Ending, DiskView, size_of, slot_at, Refusal, Changes, KnownMap, Runs, Tables, Next, Flush, Release, SweepValue, CopiesSource, HasFlushed, HasReleased, slot_in_turn, HasFreed, steps_left, IsSweeping, Collection, Stage, Did, GoesBy, IsStepRefusal, Keeps, Makes, Moment, RunsOn, StepsTo, TablesAfter, Touches, answer_at, moment, steps_to_come, IsUnderWay}
 use Rattle.base_model.specs.Known.{Known}
-use Rattle.container_meta.specs.Places.{PlaceMap}
 use Rattle.copy_forward.specs.Copying.{Forgets}
-use Rattle.copy_forward.specs.declared.plan.Plan.{Plan}
-use Rattle.copy_forward.specs.Entries.{MapStays}
-use Rattle.dd_disk.specs.Ending.{Ending}
-use Rattle.dd_disk.specs.View.{DiskView, IsDurable}
-use Rattle.disk_format.specs.Layout.{size_of, slot_at}
+use Rattle.dd_disk.specs.View.{IsDurable}
 use Rattle.ingest_steps.specs.Sealing.{places_with}
 use Rattle.refusals.specs.declared.refusal.Phase.TheVariants as phases
-use Rattle.refusals.specs.declared.refusal.Refusal.{Refusal}
-use Rattle.segment_index.specs.Changes.{Changes}
-use Rattle.segment_index.specs.Places.{KnownMap}
-use Rattle.store_state.specs.Tables.{Runs}
-use Rattle.store_state.specs.declared.tables.Tables.{Tables}
-use Rattle.gc_sweep.specs.declared.sweep.Next.{Next}
-use Rattle.gc_sweep.specs.declared.sweep.Next.TheVariants.{Copy, Flush, Release}
-use Rattle.gc_sweep.specs.declared.sweep.Sweep.{Sweep as SweepValue}
-use Rattle.gc_sweep.specs.Copying.{CopiesSource, IsCopyStepRefusal}
-use Rattle.gc_sweep.specs.Flushing.{HasFlushed, WritesCopies}
-use Rattle.gc_sweep.specs.InTurn.{HasReleased, slot_in_turn}
-use Rattle.gc_sweep.specs.Releasing.{HasFreed}
-use Rattle.gc_sweep.specs.StepsLeft.{steps_left}
-use Rattle.gc_sweep.specs.UnderWay.{IsSweeping}
+use Rattle.gc_sweep.specs.declared.sweep.Next.TheVariants.{Copy}
+use Rattle.gc_sweep.specs.Copying.{IsCopyStepRefusal}
+use Rattle.gc_sweep.specs.Flushing.{WritesCopies}
 use Rattle.gc_sweep.proofs.Nears.{copy_nears, flush_nears, release_nears}
-use Rattle.gc_steps.specs.declared.collection.Collection.{Collection}
-use Rattle.gc_steps.specs.declared.collection.Stage.{Stage}
 use Rattle.gc_steps.specs.declared.collection.Stage.TheVariants.{Sweep}
-use Rattle.gc_steps.specs.declared.phase.StepDone.TheVariants.{Did}
-use Rattle.gc_steps.specs.Stepping.{GoesBy, IsStepRefusal, Keeps, Makes, Moment, Refuses, RunsOn, StepsTo, TablesAfter, Touches, answer_at, answer_of, moment}
-use Rattle.gc_steps.specs.StepsToCome.{steps_to_come}
-use Rattle.gc_steps.specs.UnderWay.{IsUnderWay}
+use Rattle.gc_steps.specs.Stepping.{Refuses, answer_of}
 use Rattle.gc_steps.proofs.Nearer.{fewer_to_sweep}
 use Rattle.gc_steps.proofs.TablesRun.{runs_emptied, runs_same}
 use Rattle.gc_steps.proofs.UnderWay.{at_stage}

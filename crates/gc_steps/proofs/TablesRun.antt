@@ -1,13 +1,7 @@
 -- Tables run on beside an index that has fewer keys, or the same.
-use Rattle.std.proofs.Common.{◌≡◌, ℕ, List, Option, Some, None, refl, sym, ◌∙◌, subst}
-use Rattle.container_meta.specs.Places.{PlaceMap}
+use Rattle.gc_steps.proofs.Prelude.{◌≡◌, ℕ, List, Option, Some, None, refl, sym, ◌∙◌, subst, PlaceMap, KnownMap, IsPartialIndexOf, some_same, Runs, Tables}
 use Rattle.copy_forward.specs.Entries.{without_keys}
-use Rattle.segment_index.specs.Places.{KnownMap}
-use Rattle.store_model.specs.Slots.{IsPartialIndexOf}
-use Rattle.store_model.proofs.Copies.{some_same}
 use Rattle.store_state.specs.Indexing.{Stays}
-use Rattle.store_state.specs.Tables.{Runs}
-use Rattle.store_state.specs.declared.tables.Tables.{Tables}
 use Rattle.gc_sweep.proofs.KeyLists.{had_before}
 
 -- with an index that has fewer keys

@@ -1,28 +1,14 @@
 -- A collection stays under way from step to step.
-use Rattle.std.proofs.Common.{◌≡◌, ℕ, zero, suc, ◌+◌, ◌-◌, ◌<◌, ◌≤◌, Bool, true, false, cond, List, [], ◌∷◌, ◌++◌, length, get_or, take, Option, Some, None, Vec, Global, refl, sym, ◌∙◌, ap, subst, arith}
-use Rattle.std.specs.Prelude.{nat_eq, if◌then◌else◌, slice_get}
-use Rattle.std.specs.List.{AllByRecursion, IsDistinct}
+use Rattle.gc_steps.proofs.Prelude.{◌≡◌, ℕ, zero, suc, ◌+◌, ◌-◌, ◌<◌, ◌≤◌, Bool, true, false, cond, List, [], ◌∷◌, ◌++◌, length, take, Option, Some, None, Vec, Global, refl, sym, ◌∙◌, ap, subst, arith, nat_eq, if◌then◌else◌, slice_get, AllByRecursion, append-nil, map_push, take_all, take_more, PlaceMap, HeaderValue, MOST_LEVEL, LiveKeys, ContainerLiveness, DifferentIds, ids_held, Runs, SlotCount, SlotTable, Tables, Collection, Stage, Mark, Filter, Select, Chooses, recorded, recorded_by, IsSweeping, is_old, first_slot, filter_at, filter_from, is_old_slot, is_tree_slot, mark_at, mark_from, mark_level, mark_on, HasStage, IsRecordedTo, IsUnderWay, old_ids}
+use Rattle.std.proofs.Common.{get_or}
+use Rattle.std.specs.List.{IsDistinct}
 use Rattle.std.proofs.lemmas.Bool.Decides.{Decides-eqb}
-use Rattle.std.proofs.lemmas.List.{append-nil, map_push, take_all, take_more}
 use Rattle.std.proofs.lemmas.List.Elements.{filter-append}
-use Rattle.container_meta.specs.Places.{PlaceMap}
-use Rattle.container_meta.specs.Spelling.{HeaderValue}
-use Rattle.disk_format.specs.declared.numbers.TheConstants.{MOST_LEVEL}
-use Rattle.gc_enumerate.specs.Live.{LiveKeys}
-use Rattle.gc_select.specs.declared.liveness.ContainerLiveness.{ContainerLiveness}
 use Rattle.gc_select.specs.Selecting.{ids_of}
-use Rattle.store_model.specs.Slots.{DifferentIds, IsUnusedId, ids_of as ids_held}
-use Rattle.store_state.specs.Tables.{Runs}
-use Rattle.store_state.specs.declared.slot_table.SlotCount.{SlotCount}
-use Rattle.store_state.specs.declared.slot_table.SlotTable.{SlotTable}
-use Rattle.store_state.specs.declared.tables.Tables.{Tables}
-use Rattle.gc_steps.specs.declared.collection.Collection.{Collection}
-use Rattle.gc_steps.specs.declared.collection.Stage.{Stage}
-use Rattle.gc_steps.specs.declared.collection.Stage.TheVariants.{Mark, Filter, Select, Sweep}
-use Rattle.gc_steps.specs.Filtering.{Chooses, recorded, recorded_by}
-use Rattle.gc_sweep.specs.UnderWay.{IsSweeping, is_old}
-use Rattle.gc_steps.specs.Stages.{first_from, first_slot, filter_at, filter_from, is_old_slot, is_tree_slot, mark_at, mark_from, mark_level, mark_on}
-use Rattle.gc_steps.specs.UnderWay.{HasChosen, HasRoom, HasStage, IsRecordedTo, IsUnderWay, old_ids}
+use Rattle.store_model.specs.Slots.{IsUnusedId}
+use Rattle.gc_steps.specs.declared.collection.Stage.TheVariants.{Sweep}
+use Rattle.gc_steps.specs.Stages.{first_from}
+use Rattle.gc_steps.specs.UnderWay.{HasChosen, HasRoom}
 
 pub at_stage : (t : SlotTable) (c : Collection) (stage : Stage) → IsUnderWay t c → c.stage ≡ stage → HasStage t c stage
 at_stage t c stage under is = subst (HasStage t c) is under.stage_is

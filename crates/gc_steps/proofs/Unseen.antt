@@ -1,13 +1,8 @@
 -- Marks of keys that the index lacks say nothing.
-use Rattle.std.proofs.Common.{◌≡◌, ◌↔◌, inl, ℕ, List, Some, refl}
+use Rattle.gc_steps.proofs.Prelude.{◌≡◌, inl, ℕ, List, Some, refl, Part, Place, PlaceMap, LiveKeys, Store, Collection, IsLive}
+use Rattle.std.proofs.Common.{◌↔◌}
 use Rattle.std.specs.FinMap as finite
-use Rattle.actor_parts.specs.declared.part.Part.{Part}
-use Rattle.container_meta.specs.declared.place.Place.{Place}
-use Rattle.container_meta.specs.Places.{PlaceMap}
-use Rattle.gc_enumerate.specs.Live.{LiveKeys, IsLiveAt}
-use Rattle.store_model.specs.Image.{Store}
-use Rattle.gc_steps.specs.declared.collection.Collection.{Collection}
-use Rattle.gc_sweep.specs.Holding.{IsLive}
+use Rattle.gc_enumerate.specs.Live.{IsLiveAt}
 use Rattle.gc_steps.proofs.Carried.{KeepsBoth, carried, moves_none}
 
 -- Where keys are marked, or no longer, and the index has none of them, both invariants stay.

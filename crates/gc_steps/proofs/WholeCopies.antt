@@ -1,60 +1,16 @@
 -- A collection of all that isn't live, which runs alone, leaves only containers each of whose entries is a live copy.
-use Rattle.std.proofs.Common.{◌≡◌, ◌⊎◌, inl, inr, ℕ, zero, suc, ◌+◌, ◌-◌, ◌*◌, ◌<◌, ◌≤◌, Bool, true, false, List, [], ◌∷◌, ◌++◌, length, map, get_or, Option, Some, None, option_map, refl, sym, ◌∙◌, ap, subst, arith}
-use Rattle.std.specs.Prelude.{◌||◌, ◌==◌, nat_lt, slice_get}
+use Rattle.gc_steps.proofs.Prelude.{◌≡◌, ◌⊎◌, inl, inr, ℕ, zero, suc, ◌+◌, ◌-◌, ◌*◌, ◌<◌, ◌≤◌, Bool, true, false, List, [], ◌∷◌, ◌++◌, length, map, Option, Some, None, option_map, refl, sym, ◌∙◌, ap, subst, arith, ◌||◌, nat_lt, slice_get, AllByRecursion, lt-ltb, leb_tells, eqb_tells, get_or_default_zero, sum_by-cons, both_true, Entry, Kind, PlaceMap, Segment, entries_from, has_key, HeaderValue, IsHeader, bytes_of, header_of, SumsLive, DiskView, shown_content, MOST_LEVEL, LiveKeys, ContainerLiveness, is_selected, Next, CopyNext, Flush, Release, End, CopiesSource, HoldsSweep, IsCopied, IsLive, slot_in_turn, IsSweeping, LeavesHeld, holds_copied, at_copy, copy_at, id_at, one_header, header_in, Files, IsValidFor, Store, entry_key, with_entries, HasFree, HoldSlots, HoldsSlot, IsPartialIndexOf, first_free, last_id, newest, place_of, with_slot, without_slot, IsStoreOf, some_same, there_before, entry_of, put_none, put_some, Represents, RepresentsSlots, count_of, SlotCount, SlotTable, Tables, Collection, Stage, Filter, Mark, Select, SweepStage, Chooses, Records, recorded, recorded_by, Scans, CopiesAlone, IsSparedAt, IsWithin, Spares, filter_at, filter_from, first_slot, is_old_slot, is_tree_slot, mark_at, mark_from, mark_level, mark_on, Flushes, StepsTo, moment, HoldsAt, IsSourceId, IsUnderWay}
+use Rattle.std.proofs.Common.{get_or}
+use Rattle.std.specs.Prelude.{◌==◌}
 use Rattle.std.specs.FinMap as finite
-use Rattle.std.specs.List.{AllByRecursion}
-use Rattle.std.proofs.lemmas.Bool.{lt-ltb}
-use Rattle.std.proofs.lemmas.Bool.Decides.{leb_tells, eqb_tells}
-use Rattle.std.proofs.lemmas.Grind.{get_or_default_zero}
-use Rattle.std.proofs.lemmas.List.Sums.{sum_by-cons}
-use Rattle.base_model.proofs.Checks.{both_true}
-use Rattle.container_meta.specs.declared.entry.Entry.{Entry}
-use Rattle.container_meta.specs.declared.kind.Kind.{Kind}
-use Rattle.container_meta.specs.Places.{PlaceMap}
-use Rattle.container_meta.specs.Segments.{Segment, entries_from, has_key}
-use Rattle.container_meta.specs.Spelling.{Follow, HeaderValue, IsHeader, bytes_of, header_of}
-use Rattle.copy_forward.specs.Entries.{IsLiveCopy, SumsLive}
-use Rattle.dd_disk.specs.View.{DiskView}
-use Rattle.dd_disk.proofs.Shows.{shown_content}
-use Rattle.disk_format.specs.declared.numbers.TheConstants.{MOST_LEVEL}
-use Rattle.gc_enumerate.specs.Live.{LiveKeys}
-use Rattle.gc_select.specs.declared.liveness.ContainerLiveness.{ContainerLiveness}
-use Rattle.gc_select.specs.Selecting.{is_selected}
-use Rattle.gc_sweep.specs.declared.sweep.Next.{Next}
-use Rattle.gc_sweep.specs.declared.sweep.Next.TheVariants.{Copy as CopyNext, Flush, Release, End}
-use Rattle.gc_sweep.specs.Copying.{CopiesSource}
-use Rattle.gc_sweep.specs.Holding.{HoldsSweep, IsCopied, IsLive}
-use Rattle.gc_sweep.specs.InTurn.{slot_in_turn}
-use Rattle.gc_sweep.specs.UnderWay.{IsSweeping}
+use Rattle.container_meta.specs.Spelling.{Follow}
+use Rattle.copy_forward.specs.Entries.{IsLiveCopy}
 use Rattle.gc_sweep.proofs.Holds.{none_left}
-use Rattle.gc_sweep.proofs.HoldsCopied.{LeavesHeld, holds_copied}
-use Rattle.gc_sweep.proofs.InSlots.{at_copy, copy_at, id_at, live_anywhere, one_header}
-use Rattle.gc_sweep.proofs.SourceRead.{header_in}
-use Rattle.store_model.specs.Files.{Files}
-use Rattle.store_model.specs.Image.{IsValidFor, Store}
-use Rattle.store_model.specs.Indexing.{entry_key, with_entries}
-use Rattle.store_model.specs.Slots.{HasFree, HoldSlots, HoldsSlot, IsPartialIndexOf, first_free, last_id, newest, place_of, with_slot, without_slot}
-use Rattle.store_model.specs.Standing.{IsStoreOf}
-use Rattle.store_model.proofs.Copies.{length_within, some_same}
+use Rattle.gc_sweep.proofs.InSlots.{live_anywhere}
+use Rattle.store_model.proofs.Copies.{length_within}
 use Rattle.store_model.proofs.Free.{as_many}
-use Rattle.store_model.proofs.Freed.{there_before}
-use Rattle.store_model.proofs.Indexing.{entry_of, put_none, put_some}
 use Rattle.store_model.proofs.NewestSealed.{entries_found}
-use Rattle.store_state.specs.Tables.{Represents, RepresentsSlots, count_of}
-use Rattle.store_state.specs.declared.slot_table.SlotCount.{SlotCount}
-use Rattle.store_state.specs.declared.slot_table.SlotTable.{SlotTable}
-use Rattle.store_state.specs.declared.tables.Tables.{Tables}
-use Rattle.gc_steps.specs.declared.collection.Collection.{Collection}
-use Rattle.gc_steps.specs.declared.collection.Stage.{Stage}
-use Rattle.gc_steps.specs.declared.collection.Stage.TheVariants.{Filter, Mark, Select, Sweep as SweepStage}
-use Rattle.gc_steps.specs.Filtering.{Chooses, Records, recorded, recorded_by}
-use Rattle.gc_steps.specs.Marking.{Scans}
-use Rattle.gc_steps.specs.Sparing.{CopiesAlone, IsSparedAt, IsWithin, Spares}
-use Rattle.gc_steps.specs.Stages.{filter_at, filter_from, first_slot, is_old_slot, is_tree_slot, mark_at, mark_from, mark_level, mark_on}
-use Rattle.gc_steps.specs.Stepping.{Flushes, StepsTo, moment}
-use Rattle.gc_steps.specs.SweepIsSafe.{HoldsAt}
-use Rattle.gc_steps.specs.Taking.{IsAllLive, IsSourceId, IsTakenAt, IsTakenOrLive, TakesAll}
-use Rattle.gc_steps.specs.UnderWay.{IsUnderWay}
+use Rattle.gc_steps.specs.Taking.{IsAllLive, IsTakenAt, IsTakenOrLive, TakesAll}
 use Rattle.gc_steps.proofs.FirstStage.{first_there, id_below, old_there}
 use Rattle.gc_steps.proofs.Sparing.{held_within}
 use Rattle.gc_steps.proofs.SparingStages.{AreAlone, alone_source, entry_none, last_selected, more_selected, recorded_id_by, recorded_live_by, with_place}

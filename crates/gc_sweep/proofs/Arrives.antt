@@ -1,12 +1,6 @@
 -- A sweep that is under way, by its parts.
-use Rattle.std.proofs.Common.{◌≡◌, ℕ, ◌+◌, ◌*◌, ◌≤◌, List, [], ◌∷◌, ◌++◌, length, refl, sym, subst, arith}
-use Rattle.std.specs.Prelude.{if◌then◌else◌, nat_eq, nat_lt}
-use Rattle.std.specs.List.{AllByRecursion, IsDistinct}
-use Rattle.container_meta.specs.Segments.{Contents}
-use Rattle.disk_format.specs.declared.numbers.TheConstants.{MOST_ENTRIES, MOST_SLOTS, RESERVE}
-use Rattle.store_state.specs.declared.slot_table.SlotTable.{SlotTable}
-use Rattle.gc_sweep.specs.declared.sweep.Sweep.{Sweep}
-use Rattle.gc_sweep.specs.UnderWay.{AreLeft, HasNext, IsSweeping, IsTaken, entry_in, free_in, sources_before, taken_from}
+use Rattle.gc_sweep.proofs.Prelude.{◌≡◌, ℕ, ◌+◌, ◌*◌, ◌≤◌, List, [], ◌∷◌, ◌++◌, length, refl, sym, subst, arith, if◌then◌else◌, nat_eq, nat_lt, AllByRecursion, Contents, MOST_ENTRIES, MOST_SLOTS, RESERVE, SlotTable, Sweep, AreLeft, HasNext, IsSweeping, IsTaken, entry_in, free_in, sources_before, taken_from}
+use Rattle.std.specs.List.{IsDistinct}
 
 pub no_items : {A : Type 0} → (xs : List A) → length xs ≡ 0 → xs ≡ []
 no_items [] none = refl

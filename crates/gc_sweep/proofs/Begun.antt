@@ -1,13 +1,6 @@
 -- A sweep that begins is under way.
-use Rattle.std.proofs.Common.{ℕ, ◌≤◌, List, [], length, refl, sym, subst, arith}
-use Rattle.std.specs.Prelude.{nat_eq}
+use Rattle.gc_sweep.proofs.Prelude.{ℕ, ◌≤◌, List, [], length, refl, sym, subst, arith, nat_eq, MOST_SLOTS, RESERVE, SlotTable, Sweep, Begins, IsNext, AreLeft, IsSweeping, free_in}
 use Rattle.std.specs.List.{IsDistinct}
-use Rattle.disk_format.specs.declared.numbers.TheConstants.{MOST_SLOTS, RESERVE}
-use Rattle.store_state.specs.declared.slot_table.SlotTable.{SlotTable}
-use Rattle.gc_sweep.specs.declared.sweep.Sweep.{Sweep}
-use Rattle.gc_sweep.specs.Beginning.{Begins}
-use Rattle.gc_sweep.specs.Next.{IsNext}
-use Rattle.gc_sweep.specs.UnderWay.{AreLeft, IsSweeping, free_in}
 use Rattle.gc_sweep.proofs.Arrives.{arrives, by_parts}
 use Rattle.gc_sweep.proofs.CopyKeeps.{before_next, has_next}
 

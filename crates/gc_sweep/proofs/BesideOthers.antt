@@ -1,18 +1,8 @@
 -- What others leave, as a sweep sees it: where they write no container, and where they seal one.
-use Rattle.std.proofs.Common.{◌≡◌, ◌⊎◌, inl, inr, ℕ, zero, suc, ◌≤◌, List, [], ◌∷◌, Option, Some, None, refl, sym, ◌∙◌, ap, arith}
+use Rattle.gc_sweep.proofs.Prelude.{◌≡◌, ◌⊎◌, inl, inr, ℕ, zero, suc, ◌≤◌, List, [], ◌∷◌, Option, Some, None, refl, sym, ◌∙◌, ap, arith, Entry, Place, PlaceMap, HeaderValue, IsHeader, LiveKeys, with_entries, HasKey, first_free, free_slots, place_of, with_slot, HasNewest, some_same, entry_of, put_none, put_some, still_has, GoesOnBeside, IsLive}
 use Rattle.std.specs.Prelude.{slice_get}
 use Rattle.std.specs.FinMap as finite
-use Rattle.container_meta.specs.declared.entry.Entry.{Entry}
-use Rattle.container_meta.specs.declared.place.Place.{Place}
-use Rattle.container_meta.specs.Places.{PlaceMap}
-use Rattle.container_meta.specs.Spelling.{HeaderValue, IsHeader}
-use Rattle.gc_enumerate.specs.Live.{LiveKeys, IsLiveAt}
-use Rattle.store_model.specs.Indexing.{with_entries}
-use Rattle.store_model.specs.Slots.{HasKey, first_free, free_slots, place_of, with_slot}
-use Rattle.store_model.specs.Trees.{HasNewest}
-use Rattle.store_model.proofs.Copies.{some_same}
-use Rattle.store_model.proofs.Indexing.{entry_of, put_none, put_some, still_has}
-use Rattle.gc_sweep.specs.Holding.{GoesOnBeside, IsLive}
+use Rattle.gc_enumerate.specs.Live.{IsLiveAt}
 use Rattle.gc_sweep.proofs.HoldsFlushed.{with_before}
 use Rattle.gc_sweep.proofs.InSlots.{live_on}
 

@@ -1,27 +1,9 @@
 -- A source that was copied: how many segments were.
-use Rattle.std.proofs.Common.{◌≡◌, ◌⊎◌, inl, inr, ℕ, suc, ◌+◌, ◌^◌, ◌<◌, ◌≤◌, Bool, true, false, List, [], ◌∷◌, length, get_or, drop, Option, None, Some, ap, sym, subst, arith, length-append}
-use Rattle.std.specs.Prelude.{IfSome, if◌then◌else◌, nat_le, nat_lt}
+use Rattle.gc_sweep.proofs.Prelude.{◌≡◌, ◌⊎◌, inl, inr, ℕ, suc, ◌+◌, ◌<◌, ◌≤◌, Bool, true, false, List, [], ◌∷◌, length, get_or, drop, Option, None, Some, ap, sym, subst, arith, length-append, if◌then◌else◌, nat_le, nat_lt, both, MOST_ENTRIES, Entry, Kind, PlaceMap, Contents, HeaderValue, IsHeader, IsCopyRefusal, Plan, IsPlan, Planned, Source, Takes, TakesOne, planned, source_of, Shows, DiskView, LiveKeys, Refusal, Memory, SlotTable, Sweep, IsCopyStepRefusal, IsFilling, IsSource, kind_in, IsSweeping, entry_in}
+use Rattle.std.proofs.Common.{◌^◌}
+use Rattle.std.specs.Prelude.{IfSome}
 use Rattle.std.proofs.lemmas.Bool.{leb-true}
-use Rattle.base_model.proofs.Checks.{both}
-use Rattle.disk_format.specs.declared.numbers.TheConstants.{MOST_ENTRIES}
-use Rattle.container_meta.specs.declared.entry.Entry.{Entry}
-use Rattle.container_meta.specs.declared.kind.Kind.{Kind}
-use Rattle.container_meta.specs.Places.{PlaceMap}
-use Rattle.container_meta.specs.Segments.{Contents}
-use Rattle.container_meta.specs.Spelling.{HeaderValue, IsHeader}
-use Rattle.copy_forward.specs.Copying.{IsCopyRefusal, PlansSource}
-use Rattle.copy_forward.specs.declared.plan.Plan.{Plan}
-use Rattle.copy_forward.specs.Planning.{IsPlan, Planned, Source, Takes, TakesOne, planned, source_of}
-use Rattle.dd_disk.specs.Shows.{Shows}
-use Rattle.dd_disk.specs.View.{DiskView}
-use Rattle.gc_enumerate.specs.Live.{LiveKeys}
-use Rattle.refusals.specs.declared.refusal.Refusal.{Refusal}
-use Rattle.refusals.specs.declared.refusal.Refusal.TheVariants.{Memory}
-use Rattle.store_state.specs.declared.slot_table.SlotTable.{SlotTable}
-use Rattle.gc_sweep.specs.declared.sweep.Sweep.{Sweep}
-use Rattle.gc_sweep.specs.Copying.{IsCopyStepRefusal, IsFilling, IsSource}
-use Rattle.gc_sweep.specs.Next.{kind_in}
-use Rattle.gc_sweep.specs.UnderWay.{IsSweeping, entry_in}
+use Rattle.copy_forward.specs.Copying.{PlansSource}
 
 -- ---- each entry adds a segment at most
 

@@ -1,46 +1,23 @@
 -- Over a disk that tells its content, a source is not copied, and what was copied is not written, for want of memory or of an id alone, or as the disk failed.
-use Rattle.std.proofs.Common.{◌≡◌, ◌≢◌, inl, inr, ℕ, ◌+◌, List, [], ◌∷◌, drop, get_or, Option, Some, None, refl, sym, ◌∙◌, ap, subst}
+use Rattle.gc_sweep.proofs.Prelude.{◌≡◌, ◌≢◌, inl, inr, ℕ, ◌+◌, List, [], ◌∷◌, drop, get_or, Option, Some, None, refl, sym, ◌∙◌, ap, subst, sha256, Entry, Kind, Place, kind_byte, PlaceMap, Contents, HeaderValue, IsCopyRefusal, Planned, Source, planned, source_of, Shows, DiskView, shown_content, LiveKeys, Refusal, Memory, entry_key, HoldSlots, IsPartialIndexOf, place_of, bytes_at, slot_held, RepresentsSlots, SlotTable, Tables, CopyNext, Sweep, IsCopyStepRefusal, HasNext, IsSweeping}
 use Rattle.std.specs.Prelude.{slice_get}
-use Rattle.sha2.specs.Sha256.{sha256}
 use Rattle.base_model.specs.Bytes.{range}
 use Rattle.container_log.specs.Faults.{IsDamage}
 use Rattle.container_log.specs.Parts.{header_bytes, ReadAs}
-use Rattle.container_meta.specs.declared.entry.Entry.{Entry}
-use Rattle.container_meta.specs.declared.kind.Kind.{Kind}
-use Rattle.container_meta.specs.declared.place.Place.{Place}
-use Rattle.container_meta.specs.Format.{kind_byte}
-use Rattle.container_meta.specs.Places.{PlaceMap}
-use Rattle.container_meta.specs.Segments.{Contents}
-use Rattle.container_meta.specs.Spelling.{HeaderValue}
 use Rattle.container_meta.proofs.Again.{header_again}
-use Rattle.copy_forward.specs.Copying.{IsCopyRefusal, IsSourceRefusal}
+use Rattle.copy_forward.specs.Copying.{IsSourceRefusal}
 use Rattle.copy_forward.specs.Entries.{IsRemoveRefusal}
 use Rattle.copy_forward.specs.Headers.{IsHeaderRefusal}
 use Rattle.copy_forward.specs.Flushing.{IsFlushRefusal}
-use Rattle.copy_forward.specs.Planning.{IsOneRefusal, IsPlanRefusal, IsStuck, Planned, Source, planned, source_of}
+use Rattle.copy_forward.specs.Planning.{IsOneRefusal, IsPlanRefusal, IsStuck}
 use Rattle.copy_forward.proofs.Tabled.{never_other}
-use Rattle.dd_disk.specs.Shows.{Shows}
-use Rattle.dd_disk.specs.View.{DiskView}
-use Rattle.dd_disk.proofs.Shows.{shown_content}
 use Rattle.disk_format.specs.Layout.{data_at}
 use Rattle.disk_format.specs.declared.why.Why.{Why}
-use Rattle.gc_enumerate.specs.Live.{LiveKeys}
-use Rattle.refusals.specs.declared.refusal.Refusal.{Refusal}
-use Rattle.refusals.specs.declared.refusal.Refusal.TheVariants.{Corrupt, Damaged, DiskRead, DiskWrite, Memory, Numbers}
+use Rattle.refusals.specs.declared.refusal.Refusal.TheVariants.{Corrupt, Damaged, DiskRead, DiskWrite, Numbers}
 use Rattle.store_model.specs.Image.{AreCopies}
-use Rattle.store_model.specs.Indexing.{entry_key}
-use Rattle.store_model.specs.Slots.{HoldSlots, IsPartialIndexOf, place_of}
-use Rattle.store_model.specs.Trees.{bytes_at}
 use Rattle.store_model.proofs.Copies.{copy_digest}
-use Rattle.store_model.proofs.Freed.{slot_held}
-use Rattle.store_state.specs.Tables.{RepresentsSlots}
-use Rattle.store_state.specs.declared.slot_table.SlotTable.{SlotTable}
-use Rattle.store_state.specs.declared.tables.Tables.{Tables}
-use Rattle.gc_sweep.specs.declared.sweep.Next.TheVariants.{Copy as CopyNext}
-use Rattle.gc_sweep.specs.declared.sweep.Sweep.{Sweep}
-use Rattle.gc_sweep.specs.Copying.{CopiesNothing, IsCopyStepRefusal}
+use Rattle.gc_sweep.specs.Copying.{CopiesNothing}
 use Rattle.gc_sweep.specs.Flushing.{IsFlushStepRefusal}
-use Rattle.gc_sweep.specs.UnderWay.{HasNext, IsSweeping}
 use Rattle.gc_sweep.proofs.InSlots.{copy_at, copy_of, header_at, source_old}
 
 -- no memory, or a call of the disk that failed

@@ -1,27 +1,9 @@
 -- A step that copies leaves a sweep under way.
-use Rattle.std.proofs.Common.{◌≡◌, ◌≢◌, ◌⊎◌, inl, inr, ℕ, zero, suc, ◌+◌, ◌*◌, ◌<◌, ◌≤◌, Bool, true, false, List, [], ◌∷◌, ◌++◌, length, get_or, drop, Option, None, Some, refl, ap, sym, subst, ◌∙◌, arith, length-append, append-nil}
-use Rattle.std.specs.Prelude.{if◌then◌else◌, nat_eq, nat_lt}
-use Rattle.std.specs.List.{AllByRecursion, IsDistinct}
-use Rattle.std.proofs.lemmas.Bool.{eqb-true, eq-eqb, lt-ltb}
-use Rattle.std.proofs.lemmas.Map.Keys.{apart_from_distinct}
-use Rattle.container_meta.specs.declared.kind.Kind.{Kind}
-use Rattle.container_meta.specs.Places.{PlaceMap}
-use Rattle.container_meta.specs.Segments.{Contents}
-use Rattle.container_meta.specs.Spelling.{HeaderValue, IsHeader}
-use Rattle.copy_forward.specs.declared.plan.Plan.{Plan}
-use Rattle.copy_forward.specs.Copying.{PlansBy}
-use Rattle.copy_forward.specs.Planning.{IsPlan, planned, source_of}
-use Rattle.dd_disk.specs.Shows.{Shows}
-use Rattle.dd_disk.specs.View.{DiskView}
-use Rattle.disk_format.specs.declared.numbers.TheConstants.{MOST_ENTRIES, RESERVE}
-use Rattle.gc_enumerate.specs.Live.{LiveKeys}
-use Rattle.store_state.specs.declared.slot_table.SlotTable.{SlotTable}
-use Rattle.gc_sweep.specs.declared.sweep.Next.{Next}
-use Rattle.gc_sweep.specs.declared.sweep.Next.TheVariants.{Copy, Flush, Release, End}
-use Rattle.gc_sweep.specs.declared.sweep.Sweep.{Sweep}
-use Rattle.gc_sweep.specs.Copying.{CopiesSource, EndsBy, GoesOn, HasEnded, IsFilling, TakesBy}
-use Rattle.gc_sweep.specs.Next.{IsNext, IsOfKind}
-use Rattle.gc_sweep.specs.UnderWay.{AreLeft, HasNext, IsSweeping, IsTaken, entry_in, free_in, sources_before, taken_from}
+use Rattle.gc_sweep.proofs.Prelude.{◌≡◌, ◌≢◌, ◌⊎◌, inl, inr, ℕ, zero, suc, ◌+◌, ◌*◌, ◌<◌, ◌≤◌, Bool, true, false, List, [], ◌∷◌, ◌++◌, length, get_or, drop, Option, None, Some, refl, ap, sym, subst, ◌∙◌, arith, length-append, append-nil, if◌then◌else◌, nat_eq, nat_lt, AllByRecursion, eqb-true, eq-eqb, apart_from_distinct, Kind, PlaceMap, Contents, HeaderValue, IsHeader, Plan, PlansBy, IsPlan, planned, source_of, Shows, DiskView, MOST_ENTRIES, RESERVE, LiveKeys, SlotTable, Next, Flush, Release, End, Sweep, CopiesSource, EndsBy, GoesOn, HasEnded, IsFilling, TakesBy, IsNext, AreLeft, HasNext, IsSweeping, IsTaken, entry_in, free_in, sources_before, taken_from}
+use Rattle.std.specs.List.{IsDistinct}
+use Rattle.std.proofs.lemmas.Bool.{lt-ltb}
+use Rattle.gc_sweep.specs.declared.sweep.Next.TheVariants.{Copy}
+use Rattle.gc_sweep.specs.Next.{IsOfKind}
 use Rattle.gc_sweep.proofs.Arrives.{GoesTo, all_by, arrives, by_parts, no_items}
 use Rattle.gc_sweep.proofs.Copied.{adds_few, copied_few}
 

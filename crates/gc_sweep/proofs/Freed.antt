@@ -1,26 +1,11 @@
 -- A source that is given back leaves a sweep under way.
-use Rattle.std.proofs.Common.{◌≡◌, ◌≢◌, ◌⊎◌, ℕ, zero, suc, ◌+◌, ◌*◌, ◌<◌, ◌≤◌, true, false, List, [], ◌∷◌, ◌++◌, length, get_or, set, drop, count_by, Option, None, refl, ap, sym, subst, ◌∙◌, arith}
-use Rattle.std.specs.Prelude.{◌==◌, if◌then◌else◌, nat_eq, nat_lt, Contains}
-use Rattle.std.specs.List.{AllByRecursion, IsDistinct}
-use Rattle.std.proofs.lemmas.Bool.{eq-eqb}
-use Rattle.std.proofs.lemmas.List.{get_or-set_other, length-map, length-set}
-use Rattle.std.proofs.lemmas.Map.Keys.{apart_from_distinct}
-use Rattle.container_meta.specs.Places.{PlaceMap}
-use Rattle.container_meta.specs.Segments.{Contents}
-use Rattle.disk_format.specs.declared.numbers.TheConstants.{MOST_ENTRIES, MOST_SLOTS, RESERVE}
-use Rattle.store_model.specs.Slots.{without_slot}
-use Rattle.store_model.proofs.Free.{as_many, zeros_free}
-use Rattle.store_model.proofs.Freed.{free_freed, headers_without}
-use Rattle.store_state.specs.declared.tables.Tables.{Tables}
-use Rattle.store_state.specs.Tables.{Represents, RepresentsSlots, Runs, count_of}
+use Rattle.gc_sweep.proofs.Prelude.{◌≡◌, ◌≢◌, ◌⊎◌, ℕ, zero, suc, ◌+◌, ◌*◌, ◌<◌, ◌≤◌, true, false, List, [], ◌∷◌, ◌++◌, length, get_or, set, drop, count_by, Option, None, refl, ap, sym, subst, ◌∙◌, arith, ◌==◌, if◌then◌else◌, nat_eq, nat_lt, AllByRecursion, eq-eqb, get_or-set_other, length-map, length-set, apart_from_distinct, PlaceMap, Contents, MOST_ENTRIES, MOST_SLOTS, RESERVE, without_slot, as_many, zeros_free, free_freed, Tables, Represents, RepresentsSlots, Runs, count_of, Next, Flush, Release, End, Sweep, HasReleased, slot_in_turn, IsNext, HasFreed, AreLeft, HasNext, IsSweeping, IsTaken, entry_in, free_in, sources_before, taken_from}
+use Rattle.std.specs.Prelude.{Contains}
+use Rattle.std.specs.List.{IsDistinct}
+use Rattle.store_model.proofs.Freed.{headers_without}
 use Rattle.store_state.proofs.Taken.{ids_without}
-use Rattle.gc_sweep.specs.declared.sweep.Next.{Next}
-use Rattle.gc_sweep.specs.declared.sweep.Next.TheVariants.{Copy, Flush, Release, End}
-use Rattle.gc_sweep.specs.declared.sweep.Sweep.{Sweep}
-use Rattle.gc_sweep.specs.InTurn.{HasReleased, slot_in_turn}
-use Rattle.gc_sweep.specs.Next.{IsNext, IsOfKind}
-use Rattle.gc_sweep.specs.Releasing.{HasFreed}
-use Rattle.gc_sweep.specs.UnderWay.{AreLeft, HasNext, IsSweeping, IsTaken, entry_in, free_in, sources_before, taken_from}
+use Rattle.gc_sweep.specs.declared.sweep.Next.TheVariants.{Copy}
+use Rattle.gc_sweep.specs.Next.{IsOfKind}
 use Rattle.gc_sweep.proofs.Arrives.{GoesTo, all_by, arrives, by_parts}
 use Rattle.gc_sweep.proofs.OnDisk.{few_slots}
 use Rattle.gc_sweep.proofs.Released.{open_slot}

@@ -1,19 +1,9 @@
 -- What planning the entries of a container adds to what is filled, and which keys leave the index, by a map that is known.
-use Rattle.std.proofs.Common.{◌≡◌, ◌⊎◌, inl, inr, ℕ, true, false, List, [], ◌∷◌, ◌++◌, take, map, Some, append_assoc, append-nil, refl, sym, ◌∙◌, ap, subst}
-use Rattle.std.specs.List.{AllByRecursion, IsDistinct}
-use Rattle.std.specs.Str.{bytes_eq}
-use Rattle.sha2.specs.Sha256.{sha256}
+use Rattle.gc_sweep.proofs.Prelude.{◌≡◌, ◌⊎◌, inl, inr, ℕ, true, false, List, [], ◌∷◌, ◌++◌, take, map, Some, append-nil, refl, sym, ◌∙◌, ap, subst, AllByRecursion, bytes_eq, sha256, Entry, Kind, kind_byte, PlaceMap, Contents, Segment, has_key, keys_of, segment_key, entry_key, place_of, bytes_at, is_copy, Planned, Source, Takes, TakesOne}
+use Rattle.std.proofs.Common.{append_assoc}
+use Rattle.std.specs.List.{IsDistinct}
 use Rattle.base_model.specs.Bytes.{key_of}
-use Rattle.container_meta.specs.declared.entry.Entry.{Entry}
-use Rattle.container_meta.specs.declared.kind.Kind.{Kind}
-use Rattle.container_meta.specs.Format.{kind_byte}
-use Rattle.container_meta.specs.Places.{PlaceMap}
-use Rattle.container_meta.specs.Segments.{Contents, Segment, has_key, keys_of, segment_key}
-use Rattle.store_model.specs.Indexing.{entry_key}
-use Rattle.store_model.specs.Slots.{place_of}
-use Rattle.store_model.specs.Trees.{bytes_at}
-use Rattle.copy_forward.specs.Entries.{is_copy}
-use Rattle.copy_forward.specs.Planning.{HasLiveKey, Planned, Source, Takes, TakesOne}
+use Rattle.copy_forward.specs.Planning.{HasLiveKey}
 use Rattle.gc_sweep.proofs.KeyLists.{both_so, distinct_more, keys_append, listed, listed_left, listed_one, listed_right}
 
 -- A segment that was added: that of a live copy, as it was shown.

@@ -1,25 +1,8 @@
 -- What holds of a sweep by the store, as it begins, as the disk changes beside its copies, and as it ends.
-use Rattle.std.proofs.Common.{◌≡◌, ◌≢◌, ℕ, ◌<◌, true, false, List, [], ◌∷◌, ◌++◌, length, get_or, map, Option, Some, refl, sym, ◌∙◌, ap, subst, arith}
+use Rattle.gc_sweep.proofs.Prelude.{◌≡◌, ◌≢◌, ℕ, ◌<◌, true, false, List, [], ◌∷◌, ◌++◌, length, get_or, map, Option, Some, refl, sym, ◌∙◌, ap, subst, arith, AllByRecursion, bytes_eq, Contains-append_right, PlaceMap, Contents, Segment, has_key, segment_key, HeaderValue, LiveKeys, HasNewest, RepresentsSlots, SlotTable, Next, CopyNext, Flush, Release, End, Sweep, Begins, HoldsSweep, IsCopied, slot_in_turn, IsNext, HasNoEntryIn, HasNext, IsSweeping, entry_in, sources_before}
 use Rattle.std.specs.Prelude.{slice_get}
-use Rattle.std.specs.List.{AllByRecursion, Contains, IsDistinct}
-use Rattle.std.specs.Str.{bytes_eq}
-use Rattle.std.proofs.lemmas.List.Elements.{Contains-append_right, Contains-get_or}
-use Rattle.container_meta.specs.Places.{PlaceMap}
-use Rattle.container_meta.specs.Segments.{Contents, Segment, has_key, segment_key}
-use Rattle.container_meta.specs.Spelling.{HeaderValue}
-use Rattle.gc_enumerate.specs.Live.{LiveKeys}
-use Rattle.store_model.specs.Trees.{HasNewest}
-use Rattle.store_state.specs.Tables.{RepresentsSlots}
-use Rattle.store_state.specs.declared.slot_table.SlotTable.{SlotTable}
-use Rattle.gc_sweep.specs.declared.sweep.Next.{Next}
-use Rattle.gc_sweep.specs.declared.sweep.Next.TheVariants.{Copy as CopyNext, Flush, Release, End}
-use Rattle.gc_sweep.specs.declared.sweep.Sweep.{Sweep}
-use Rattle.gc_sweep.specs.Beginning.{Begins}
-use Rattle.gc_sweep.specs.Holding.{HoldsSweep, IsCopied}
-use Rattle.gc_sweep.specs.InTurn.{slot_in_turn}
-use Rattle.gc_sweep.specs.Next.{IsNext}
-use Rattle.gc_sweep.specs.Releasing.{HasNoEntryIn}
-use Rattle.gc_sweep.specs.UnderWay.{HasNext, IsSweeping, entry_in, sources_before}
+use Rattle.std.specs.List.{Contains, IsDistinct}
+use Rattle.std.proofs.lemmas.List.Elements.{Contains-get_or}
 use Rattle.gc_sweep.proofs.InSlots.{IsSourceIn, none_in, stands_in}
 use Rattle.gc_sweep.proofs.KeyLists.{each_so, listed, none_distinct}
 

@@ -1,21 +1,8 @@
 -- What holds of a sweep by the store holds beside what others do.
-use Rattle.std.proofs.Common.{◌≡◌, inl, inr, ℕ, ◌<◌, Bool, true, List, ◌++◌, take, Option, Some, refl, ap, arith}
+use Rattle.gc_sweep.proofs.Prelude.{◌≡◌, inl, inr, ℕ, ◌<◌, Bool, true, List, ◌++◌, take, Option, Some, refl, ap, arith, Contains-append_left, Contains-append_right, Entry, Place, PlaceMap, has_key, segment_key, HeaderValue, is_copy, LiveKeys, entry_key, place_of, Sweep, AreCopied, GoesOnBeside, HoldsSweep, IsCopied, IsHalfCopied, IsOrigin, SourcesStand, entry_in, sources_before}
 use Rattle.std.specs.Prelude.{slice_get}
 use Rattle.std.specs.FinMap as finite
 use Rattle.std.specs.List.{Contains}
-use Rattle.std.proofs.lemmas.List.Elements.{Contains-append_left, Contains-append_right}
-use Rattle.container_meta.specs.declared.entry.Entry.{Entry}
-use Rattle.container_meta.specs.declared.place.Place.{Place}
-use Rattle.container_meta.specs.Places.{PlaceMap}
-use Rattle.container_meta.specs.Segments.{has_key, segment_key}
-use Rattle.container_meta.specs.Spelling.{HeaderValue}
-use Rattle.copy_forward.specs.Entries.{is_copy}
-use Rattle.gc_enumerate.specs.Live.{LiveKeys}
-use Rattle.store_model.specs.Indexing.{entry_key}
-use Rattle.store_model.specs.Slots.{place_of}
-use Rattle.gc_sweep.specs.declared.sweep.Sweep.{Sweep}
-use Rattle.gc_sweep.specs.Holding.{AreCopied, GoesOnBeside, HoldsSweep, IsCopied, IsHalfCopied, IsOrigin, SourcesStand}
-use Rattle.gc_sweep.specs.UnderWay.{entry_in, sources_before}
 use Rattle.gc_sweep.proofs.InSlots.{at_copy, copy_at, one_header}
 use Rattle.gc_sweep.proofs.KeyLists.{each_so}
 

@@ -1,35 +1,10 @@
 -- What holds of a sweep by the store holds once a source was copied; each live key keeps its place, and the index has no new one.
-use Rattle.std.proofs.Common.{◌≡◌, inl, inr, ℕ, ◌<◌, ◌≤◌, true, false, List, [], ◌++◌, length, drop, get_or, append-nil, Option, Some, None, refl, sym, ◌∙◌, ap, subst, arith}
-use Rattle.std.specs.Prelude.{nat_eq, slice_get}
+use Rattle.gc_sweep.proofs.Prelude.{◌≡◌, inl, inr, ℕ, ◌<◌, ◌≤◌, true, false, List, [], ◌++◌, length, drop, get_or, append-nil, Option, Some, None, refl, sym, ◌∙◌, ap, subst, arith, nat_eq, AllByRecursion, bytes_eq, eq-eqb, eqb-true, Contains-append_left, apart_from_distinct, Kind, Place, PlaceMap, Contents, has_key, keys_of, HeaderValue, Plan, PlansBy, without_keys, IsPlan, planned, source_of, Shows, DiskView, shown_content, LiveKeys, DifferentIds, HoldSlots, HoldsSlot, IsPartialIndexOf, HasNewest, RepresentsSlots, SlotTable, CopyNext, Sweep, CopiesSource, GoesOn, TakesBy, AreCopied, HoldsSweep, IsCopied, IsHalfCopied, IsLive, IsOrigin, HasNoEntryIn, HasNext, IsSweeping, entry_in, sources_before}
+use Rattle.std.specs.Prelude.{slice_get}
 use Rattle.std.specs.FinMap as finite
-use Rattle.std.specs.List.{AllByRecursion, Contains, IsDistinct}
-use Rattle.std.specs.Str.{bytes_eq}
-use Rattle.std.proofs.lemmas.Bool.{eq-eqb, eqb-true}
-use Rattle.std.proofs.lemmas.List.Elements.{Contains-append_left}
-use Rattle.std.proofs.lemmas.Map.Keys.{apart_from_distinct}
-use Rattle.container_meta.specs.declared.kind.Kind.{Kind}
-use Rattle.container_meta.specs.declared.place.Place.{Place}
-use Rattle.container_meta.specs.Places.{PlaceMap}
-use Rattle.container_meta.specs.Segments.{Contents, has_key, keys_of}
-use Rattle.container_meta.specs.Spelling.{HeaderValue}
-use Rattle.copy_forward.specs.declared.plan.Plan.{Plan}
-use Rattle.copy_forward.specs.Copying.{Forgets, PlansBy}
-use Rattle.copy_forward.specs.Entries.{without_keys}
-use Rattle.copy_forward.specs.Planning.{IsPlan, planned, source_of}
-use Rattle.dd_disk.specs.Shows.{Shows}
-use Rattle.dd_disk.specs.View.{DiskView}
-use Rattle.dd_disk.proofs.Shows.{shown_content}
-use Rattle.gc_enumerate.specs.Live.{LiveKeys}
-use Rattle.store_model.specs.Slots.{DifferentIds, HoldSlots, HoldsSlot, IsPartialIndexOf}
-use Rattle.store_model.specs.Trees.{HasNewest}
-use Rattle.store_state.specs.Tables.{RepresentsSlots}
-use Rattle.store_state.specs.declared.slot_table.SlotTable.{SlotTable}
-use Rattle.gc_sweep.specs.declared.sweep.Next.TheVariants.{Copy as CopyNext}
-use Rattle.gc_sweep.specs.declared.sweep.Sweep.{Sweep}
-use Rattle.gc_sweep.specs.Copying.{CopiesSource, GoesOn, TakesBy}
-use Rattle.gc_sweep.specs.Holding.{AreCopied, HasOnlyIn, HoldsSweep, IsCopied, IsHalfCopied, IsLive, IsOrigin}
-use Rattle.gc_sweep.specs.Releasing.{HasNoEntryIn}
-use Rattle.gc_sweep.specs.UnderWay.{HasNext, IsSweeping, entry_in, sources_before}
+use Rattle.std.specs.List.{Contains, IsDistinct}
+use Rattle.copy_forward.specs.Copying.{Forgets}
+use Rattle.gc_sweep.specs.Holding.{HasOnlyIn}
 use Rattle.gc_sweep.proofs.Copied.{adds_few}
 use Rattle.gc_sweep.proofs.Holds.{holds_on_disk, no_key}
 use Rattle.gc_sweep.proofs.InSlots.{one_header, one_slot, stands_in}

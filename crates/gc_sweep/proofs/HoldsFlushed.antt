@@ -1,32 +1,9 @@
 -- What holds of a sweep by the store holds once what was copied is written, and all live keys stay live.
-use Rattle.std.proofs.Common.{◌≡◌, ◌≢◌, ◌⊎◌, inl, inr, ℕ, zero, suc, ◌+◌, ◌<◌, ◌≤◌, Bool, true, false, cond, List, [], ◌∷◌, ◌++◌, length, get_or, map, take, append-nil, Option, Some, None, refl, sym, ◌∙◌, ap, subst, arith}
-use Rattle.std.specs.Prelude.{◌||◌, slice_get}
+use Rattle.gc_sweep.proofs.Prelude.{◌≡◌, ◌≢◌, ◌⊎◌, inl, inr, ℕ, zero, suc, ◌+◌, ◌<◌, ◌≤◌, Bool, true, false, List, [], ◌∷◌, ◌++◌, length, get_or, map, take, append-nil, Option, Some, None, refl, sym, ◌∙◌, ap, subst, arith, ◌||◌, bytes_eq, Contains-append_left, sha256, Entry, Kind, Place, PlaceMap, Segment, entries_from, has_key, segment_key, HeaderValue, IsHeader, header_of, is_copy, LiveKeys, entry_key, with_entries, first_free, free_slots, place_of, with_slot, some_same, first_closed, some_free, entry_of, put_none, put_some, still_has, RepresentsSlots, SlotTable, Flush, Sweep, HasFlushed, AreCopied, HoldsSweep, IsCopied, IsHalfCopied, IsLive, HasNoEntryIn, HasNext, IsSweeping, entry_in, sources_before}
+use Rattle.std.proofs.Common.{cond}
+use Rattle.std.specs.Prelude.{slice_get}
 use Rattle.std.specs.FinMap as finite
 use Rattle.std.specs.List.{Contains}
-use Rattle.std.specs.Str.{bytes_eq}
-use Rattle.std.proofs.lemmas.List.Elements.{Contains-append_left}
-use Rattle.sha2.specs.Sha256.{sha256}
-use Rattle.container_meta.specs.declared.entry.Entry.{Entry}
-use Rattle.container_meta.specs.declared.kind.Kind.{Kind}
-use Rattle.container_meta.specs.declared.place.Place.{Place}
-use Rattle.container_meta.specs.Places.{PlaceMap}
-use Rattle.container_meta.specs.Segments.{Segment, entries_from, has_key, segment_key}
-use Rattle.container_meta.specs.Spelling.{HeaderValue, IsHeader, header_of}
-use Rattle.copy_forward.specs.Entries.{is_copy}
-use Rattle.gc_enumerate.specs.Live.{LiveKeys}
-use Rattle.store_model.specs.Indexing.{entry_key, with_entries}
-use Rattle.store_model.specs.Slots.{first_free, free_slots, place_of, with_slot}
-use Rattle.store_model.proofs.Copies.{some_same}
-use Rattle.store_model.proofs.Free.{first_closed, some_free}
-use Rattle.store_model.proofs.Indexing.{entry_of, put_none, put_some, still_has}
-use Rattle.store_state.specs.Tables.{RepresentsSlots}
-use Rattle.store_state.specs.declared.slot_table.SlotTable.{SlotTable}
-use Rattle.gc_sweep.specs.declared.sweep.Next.TheVariants.{Flush}
-use Rattle.gc_sweep.specs.declared.sweep.Sweep.{Sweep}
-use Rattle.gc_sweep.specs.Flushing.{HasFlushed}
-use Rattle.gc_sweep.specs.Holding.{AreCopied, HoldsSweep, IsCopied, IsHalfCopied, IsLive}
-use Rattle.gc_sweep.specs.Releasing.{HasNoEntryIn}
-use Rattle.gc_sweep.specs.UnderWay.{HasNext, IsSweeping, entry_in, sources_before}
 use Rattle.gc_sweep.proofs.Holds.{no_key, no_keys_apart, none_copied}
 use Rattle.gc_sweep.proofs.InSlots.{at_copy, copy_at, live_on, none_in, source_old, stands_in}
 use Rattle.gc_sweep.proofs.KeyLists.{each_so, listed}

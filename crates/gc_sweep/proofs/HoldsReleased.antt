@@ -1,25 +1,9 @@
 -- What holds of a sweep by the store holds once a source is given back.
-use Rattle.std.proofs.Common.{◌≡◌, ◌≢◌, inl, inr, ℕ, zero, suc, ◌<◌, ◌≤◌, true, List, [], ◌∷◌, length, get_or, drop, Option, Some, refl, sym, ◌∙◌, ap, subst, arith}
+use Rattle.gc_sweep.proofs.Prelude.{◌≡◌, ◌≢◌, inl, inr, ℕ, zero, suc, ◌<◌, ◌≤◌, true, List, [], ◌∷◌, length, get_or, drop, Option, Some, refl, sym, ◌∙◌, ap, subst, arith, AllByRecursion, bytes_eq, Contains-append_left, Contains-append_right, PlaceMap, Contents, has_key, keys_of, segment_key, HeaderValue, LiveKeys, HasKey, without_slot, HasNewest, RepresentsSlots, SlotTable, Next, CopyNext, Flush, Release, End, Sweep, AreCopied, HoldsSweep, IsCopied, IsHalfCopied, IsOrigin, HasReleased, slot_in_turn, IsNext, HasNext, IsSweeping, entry_in, sources_before}
 use Rattle.std.specs.Prelude.{slice_get, slice_index_or}
-use Rattle.std.specs.List.{AllByRecursion, Contains, IsDistinct}
-use Rattle.std.specs.Str.{bytes_eq}
-use Rattle.std.proofs.lemmas.List.Elements.{Contains-append_cases, Contains-append_left, Contains-append_right}
-use Rattle.container_meta.specs.Places.{PlaceMap}
-use Rattle.container_meta.specs.Segments.{Contents, has_key, keys_of, segment_key}
-use Rattle.container_meta.specs.Spelling.{HeaderValue}
-use Rattle.gc_enumerate.specs.Live.{LiveKeys}
-use Rattle.store_model.specs.Slots.{HasKey, without_slot}
-use Rattle.store_model.specs.Trees.{HasNewest}
+use Rattle.std.specs.List.{Contains, IsDistinct}
+use Rattle.std.proofs.lemmas.List.Elements.{Contains-append_cases}
 use Rattle.store_model.proofs.Freed.{other_there, there_before}
-use Rattle.store_state.specs.Tables.{RepresentsSlots}
-use Rattle.store_state.specs.declared.slot_table.SlotTable.{SlotTable}
-use Rattle.gc_sweep.specs.declared.sweep.Next.{Next}
-use Rattle.gc_sweep.specs.declared.sweep.Next.TheVariants.{Copy as CopyNext, Flush, Release, End}
-use Rattle.gc_sweep.specs.declared.sweep.Sweep.{Sweep}
-use Rattle.gc_sweep.specs.Holding.{AreCopied, HoldsSweep, IsCopied, IsHalfCopied, IsOrigin}
-use Rattle.gc_sweep.specs.InTurn.{HasReleased, slot_in_turn}
-use Rattle.gc_sweep.specs.Next.{IsNext}
-use Rattle.gc_sweep.specs.UnderWay.{HasNext, IsSweeping, entry_in, sources_before}
 use Rattle.gc_sweep.proofs.Holds.{IsInTurn, in_turn, no_key}
 use Rattle.gc_sweep.proofs.InSlots.{one_header}
 use Rattle.gc_sweep.proofs.KeyLists.{each_so}

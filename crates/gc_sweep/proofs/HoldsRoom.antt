@@ -1,34 +1,12 @@
 -- The reserve of slots while a sweep is under way, and that what was copied may be written.
-use Rattle.std.proofs.Common.{◌≡◌, ◌≢◌, ◌⊎◌, inl, inr, ℕ, ◌+◌, ◌<◌, ◌≤◌, true, false, List, count_by, Option, Some, None, refl, sym, ◌∙◌, ap, subst, arith}
-use Rattle.std.specs.Prelude.{◌==◌, nat_le, slice_get}
-use Rattle.std.specs.List.{AllByRecursion}
-use Rattle.std.proofs.lemmas.Bool.Decides.{leb_tells}
-use Rattle.sha2.specs.Sha256.{sha256}
-use Rattle.container_meta.specs.declared.place.Place.{Place}
-use Rattle.container_meta.specs.Places.{PlaceMap}
-use Rattle.container_meta.specs.Segments.{Segment, segment_key}
-use Rattle.container_meta.specs.Spelling.{HeaderValue}
-use Rattle.disk_format.specs.declared.numbers.TheConstants.{RESERVE}
-use Rattle.gc_enumerate.specs.Live.{LiveKeys}
+use Rattle.gc_sweep.proofs.Prelude.{◌≡◌, ◌≢◌, ◌⊎◌, inl, inr, ℕ, ◌+◌, ◌<◌, ◌≤◌, true, false, List, count_by, Option, Some, None, refl, sym, ◌∙◌, ap, subst, arith, ◌==◌, nat_le, AllByRecursion, leb_tells, sha256, Place, PlaceMap, Segment, segment_key, HeaderValue, RESERVE, LiveKeys, HasReserve, HoldsNone, AreHeaders, HasKey, IsPartialIndexOf, first_free, free_slots, MaySeal, HasNewest, some_same, first_closed, some_free, zeros_free, RepresentsSlots, SlotTable, Next, CopyNext, Flush, Release, End, Sweep, HoldsSweep, IsCopied, slot_in_turn, HasNoEntryIn, IsSweeping, free_in, taken_from}
+use Rattle.std.specs.Prelude.{slice_get}
 use Rattle.store_model.specs.Collisions.{AreAmong, IsAmong}
-use Rattle.store_model.specs.Reserve.{HasReserve, HoldsNone, IsSpare}
-use Rattle.store_model.specs.Slots.{AreHeaders, Copy, HasKey, IsPartialIndexOf, first_free, free_slots}
+use Rattle.store_model.specs.Reserve.{IsSpare}
+use Rattle.store_model.specs.Slots.{Copy}
 use Rattle.store_model.specs.Standing.{AreNodes, IsOfKind}
-use Rattle.store_model.specs.Steps.{MaySeal}
-use Rattle.store_model.specs.Trees.{HasNewest}
-use Rattle.store_model.proofs.Copies.{some_same}
-use Rattle.store_model.proofs.Free.{first_closed, some_free, zeros_free}
 use Rattle.store_model.proofs.FreedFiles.{free_reserve}
 use Rattle.store_model.proofs.HeldSlots.{IsAmongThese, IsNodeEntry, among_so, newest_so, nodes_so}
-use Rattle.store_state.specs.Tables.{RepresentsSlots}
-use Rattle.store_state.specs.declared.slot_table.SlotTable.{SlotTable}
-use Rattle.gc_sweep.specs.declared.sweep.Next.{Next}
-use Rattle.gc_sweep.specs.declared.sweep.Next.TheVariants.{Copy as CopyNext, Flush, Release, End}
-use Rattle.gc_sweep.specs.declared.sweep.Sweep.{Sweep}
-use Rattle.gc_sweep.specs.Holding.{HoldsSweep, IsCopied}
-use Rattle.gc_sweep.specs.InTurn.{slot_in_turn}
-use Rattle.gc_sweep.specs.Releasing.{HasNoEntryIn}
-use Rattle.gc_sweep.specs.UnderWay.{IsSweeping, free_in, taken_from}
 use Rattle.gc_sweep.proofs.Holds.{IsInTurn, in_turn}
 use Rattle.gc_sweep.proofs.InSlots.{copy_of}
 use Rattle.gc_sweep.proofs.KeyLists.{each_so}

@@ -1,35 +1,15 @@
 -- Containers in slots by their ids, and where an index has the copy of a key.
-use Rattle.std.proofs.Common.{◌≡◌, ◌≢◌, ℕ, zero, suc, ◌+◌, ◌<◌, true, false, List, [], ◌∷◌, ◌++◌, length, get_or, map, Option, Some, None, find, option_map, refl, sym, ◌∙◌, ap, arith}
-use Rattle.std.specs.Prelude.{◌==◌, not, nat_lt, slice_get}
+use Rattle.gc_sweep.proofs.Prelude.{◌≡◌, ◌≢◌, ℕ, zero, suc, ◌+◌, ◌<◌, true, false, List, [], ◌∷◌, ◌++◌, length, get_or, map, Option, Some, None, find, option_map, refl, sym, ◌∙◌, ap, arith, ◌==◌, nat_lt, AllByRecursion, bytes_eq, eq-eqb, slice_get-get_or, bytes_eq-Decides, both, Entry, Kind, Place, PlaceMap, HeaderValue, LiveKeys, entry_key, DifferentIds, IsPartialIndexOf, ids_of, place_of, some_same, found_so, RepresentsSlots, count_of, SlotCount, SlotTable, is_copy, Next, CopyNext, Flush, Release, End, Sweep, IsLive, SourcesStand, kind_in, HasNext, IsSweeping, IsTaken, entry_in, is_old, sources_before}
+use Rattle.std.specs.Prelude.{not, slice_get}
 use Rattle.std.specs.FinMap as finite
-use Rattle.std.specs.List.{AllByRecursion, Contains}
-use Rattle.std.specs.Str.{bytes_eq}
-use Rattle.std.proofs.lemmas.Bool.{eq-eqb, ltb-true}
+use Rattle.std.specs.List.{Contains}
+use Rattle.std.proofs.lemmas.Bool.{ltb-true}
 use Rattle.std.proofs.lemmas.List.Elements.{All-contains, All-from_recursion}
-use Rattle.std.proofs.lemmas.Option.{slice_get-get_or}
-use Rattle.std.proofs.lemmas.Slice.Eq.{bytes_eq-Decides}
-use Rattle.base_model.proofs.Checks.{both}
-use Rattle.container_meta.specs.declared.entry.Entry.{Entry}
-use Rattle.container_meta.specs.declared.kind.Kind.{Kind}
-use Rattle.container_meta.specs.declared.place.Place.{Place}
-use Rattle.container_meta.specs.Places.{PlaceMap}
-use Rattle.container_meta.specs.Spelling.{HeaderValue}
-use Rattle.gc_enumerate.specs.Live.{LiveKeys, IsLiveAt}
-use Rattle.store_model.specs.Indexing.{entry_key}
-use Rattle.store_model.specs.Slots.{Copy, DifferentIds, IsPartialIndexOf, IsUnusedId, ids_of, newest, place_of}
-use Rattle.store_model.proofs.Copies.{lies, some_same}
-use Rattle.store_model.proofs.HeldSlots.{found_so}
-use Rattle.store_state.specs.Tables.{RepresentsSlots, count_of}
-use Rattle.store_state.specs.declared.slot_table.SlotCount.{SlotCount}
-use Rattle.store_state.specs.declared.slot_table.SlotTable.{SlotTable}
-use Rattle.copy_forward.specs.Entries.{is_copy, is_place_found}
+use Rattle.gc_enumerate.specs.Live.{IsLiveAt}
+use Rattle.store_model.specs.Slots.{Copy, IsUnusedId, newest}
+use Rattle.store_model.proofs.Copies.{lies}
+use Rattle.copy_forward.specs.Entries.{is_place_found}
 use Rattle.copy_forward.proofs.OnePlace.{place_same, same_place}
-use Rattle.gc_sweep.specs.declared.sweep.Next.{Next}
-use Rattle.gc_sweep.specs.declared.sweep.Next.TheVariants.{Copy as CopyNext, Flush, Release, End}
-use Rattle.gc_sweep.specs.declared.sweep.Sweep.{Sweep}
-use Rattle.gc_sweep.specs.Holding.{IsLive, SourcesStand}
-use Rattle.gc_sweep.specs.Next.{kind_in}
-use Rattle.gc_sweep.specs.UnderWay.{HasNext, IsSweeping, IsTaken, entry_in, is_old, sources_before}
 use Rattle.gc_sweep.proofs.Released.{open_slot}
 
 -- ---- lists

@@ -1,40 +1,21 @@
 -- What a step of a sweep leaves of the running store, over a disk that tells its content: its invariant goes on, and no live key is lost.
-use Rattle.std.proofs.Common.{◌≡◌, ℕ, zero, suc, ◌+◌, List, [], ◌∷◌, map, Option, Some, refl, sym, ◌∙◌, subst, arith}
+use Rattle.gc_sweep.proofs.Prelude.{◌≡◌, ℕ, zero, suc, ◌+◌, List, [], ◌∷◌, map, Option, Some, refl, sym, ◌∙◌, subst, arith, AllByRecursion, Kind, Place, PlaceMap, Contents, Segment, entries_from, segment_key, HeaderValue, Done, DiskView, LiveKeys, IsIn, Stands, Files, with_freed, Store, with_entries, HasReserve, HasKey, IsPartialIndexOf, KeepsCopies, MaySeal, with_sealed, HasNewest, some_same, free_freed, valid_freed, still_has, Represents, Tables, WritesCopies, IsCopied, IsLive, GivesBack, HasFreed, HasNoEntryIn}
 use Rattle.std.specs.Prelude.{slice_get}
 use Rattle.std.specs.FinMap as finite
-use Rattle.std.specs.List.{AllByRecursion, Contains}
+use Rattle.std.specs.List.{Contains}
 use Rattle.actor_parts.specs.declared.part.Part.{Part}
-use Rattle.container_meta.specs.declared.kind.Kind.{Kind}
-use Rattle.container_meta.specs.declared.place.Place.{Place}
-use Rattle.container_meta.specs.Places.{PlaceMap}
-use Rattle.container_meta.specs.Segments.{Contents, Segment, entries_from, segment_key}
-use Rattle.container_meta.specs.Spelling.{HeaderValue}
-use Rattle.dd_disk.specs.Ending.{Done}
 use Rattle.dd_disk.specs.Moves.{StandsFor}
-use Rattle.dd_disk.specs.View.{DiskView, IsLater}
-use Rattle.gc_enumerate.specs.Live.{LiveKeys, IsLiveAt}
+use Rattle.dd_disk.specs.View.{IsLater}
+use Rattle.gc_enumerate.specs.Live.{IsLiveAt}
 use Rattle.ingest_steps.specs.Sealing.{FitBeside, SealsIndexed}
-use Rattle.store_model.specs.Collisions.{ByteSet, IsIn, Stands}
-use Rattle.store_model.specs.Files.{Files}
-use Rattle.store_model.specs.Freeing.{with_freed}
-use Rattle.store_model.specs.Image.{IsValidFor, Store}
-use Rattle.store_model.specs.Indexing.{with_entries}
-use Rattle.store_model.specs.Reserve.{HasReserve, IsReachable}
-use Rattle.store_model.specs.Slots.{HasFree, HasKey, IsPartialIndexOf}
-use Rattle.store_model.specs.Steps.{KeepsCopies, MaySeal, with_sealed}
-use Rattle.store_model.specs.Trees.{HasNewest}
-use Rattle.store_model.proofs.Copies.{some_same}
-use Rattle.store_model.proofs.Freed.{free_freed, valid_freed}
+use Rattle.store_model.specs.Collisions.{ByteSet}
+use Rattle.store_model.specs.Image.{IsValidFor}
+use Rattle.store_model.specs.Reserve.{IsReachable}
+use Rattle.store_model.specs.Slots.{HasFree}
 use Rattle.store_model.proofs.FreedFiles.{reserve_by, reserve_freed}
-use Rattle.store_model.proofs.Indexing.{still_has}
 use Rattle.store_model.proofs.Valid.{valid_sealed}
 use Rattle.store_state.specs.Invariant.{CoreInvariant, HoldsPart}
-use Rattle.store_state.specs.Tables.{Represents}
-use Rattle.store_state.specs.declared.tables.Tables.{Tables}
 use Rattle.store_state.proofs.Parts.{parts_kept}
-use Rattle.gc_sweep.specs.Flushing.{WritesCopies}
-use Rattle.gc_sweep.specs.Holding.{IsCopied, IsLive}
-use Rattle.gc_sweep.specs.Releasing.{GivesBack, HasFreed, HasNoEntryIn}
 use Rattle.gc_sweep.proofs.Released.{none_held}
 
 -- a key that is marked is so at each place

@@ -18,6 +18,7 @@ pub mod Leaves
 pub mod Nears
 pub mod OnDisk
 pub mod PlannedKeys
+mod Prelude
 pub mod Released
 pub mod SourceEnds
 pub mod SourceRead

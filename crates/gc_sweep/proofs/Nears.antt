@@ -1,26 +1,8 @@
 -- Each step of a sweep leaves fewer to come.
-use Rattle.std.proofs.Common.{◌≡◌, inl, inr, ℕ, ◌+◌, ◌-◌, ◌*◌, ◌<◌, ◌≤◌, Bool, true, false, List, [], ◌∷◌, ◌++◌, length, drop, Option, None, Some, refl, ap, sym, subst, ◌∙◌, arith, length-append}
-use Rattle.std.proofs.lemmas.Bool.{eq-eqb}
-use Rattle.container_meta.specs.Places.{PlaceMap}
-use Rattle.container_meta.specs.Segments.{Contents}
-use Rattle.container_meta.specs.Spelling.{HeaderValue}
-use Rattle.copy_forward.specs.declared.plan.Plan.{Plan}
-use Rattle.copy_forward.specs.Copying.{PlansBy}
-use Rattle.copy_forward.specs.Planning.{IsPlan, source_of}
-use Rattle.dd_disk.specs.Shows.{Shows}
-use Rattle.dd_disk.specs.View.{DiskView}
-use Rattle.gc_enumerate.specs.Live.{LiveKeys}
-use Rattle.store_state.specs.declared.slot_table.SlotTable.{SlotTable}
-use Rattle.gc_sweep.specs.declared.sweep.Next.{Next}
-use Rattle.gc_sweep.specs.declared.sweep.Next.TheVariants.{Copy, Flush, Release, End}
-use Rattle.gc_sweep.specs.declared.sweep.Sweep.{Sweep}
-use Rattle.gc_sweep.specs.Beginning.{Begins}
-use Rattle.gc_sweep.specs.Copying.{CopiesSource, EndsBy, HasEnded, IsFilling, TakesBy}
-use Rattle.gc_sweep.specs.Flushing.{HasFlushed}
-use Rattle.gc_sweep.specs.InTurn.{HasReleased}
-use Rattle.gc_sweep.specs.Next.{IsNext}
+use Rattle.gc_sweep.proofs.Prelude.{◌≡◌, inl, inr, ℕ, ◌+◌, ◌*◌, ◌<◌, ◌≤◌, Bool, true, false, List, [], ◌∷◌, ◌++◌, length, drop, Option, None, Some, refl, ap, sym, subst, ◌∙◌, arith, length-append, eq-eqb, PlaceMap, Contents, HeaderValue, Plan, PlansBy, IsPlan, source_of, Shows, DiskView, LiveKeys, SlotTable, Next, Flush, Release, End, Sweep, Begins, CopiesSource, EndsBy, HasEnded, IsFilling, TakesBy, HasFlushed, HasReleased, IsNext, HasNext, IsSweeping}
+use Rattle.std.proofs.Common.{◌-◌}
+use Rattle.gc_sweep.specs.declared.sweep.Next.TheVariants.{Copy}
 use Rattle.gc_sweep.specs.StepsLeft.{steps_at, steps_left}
-use Rattle.gc_sweep.specs.UnderWay.{HasNext, IsSweeping}
 
 -- what comes next where the sources from one on are to be copied
 next_few : (t : SlotTable) (sources : List ℕ) (buffer : Contents) (k entry : ℕ) (s : Sweep) (n : Next) → IsNext t sources buffer k entry n

@@ -1,13 +1,7 @@
 -- The slots of a running store, by its tables, and its disk.
-use Rattle.std.proofs.Common.{◌≡◌, ℕ, ◌+◌, ◌<◌, ◌≤◌, length, Option, ap, ◌∙◌, arith}
-use Rattle.std.proofs.lemmas.List.{length-map}
-use Rattle.container_meta.specs.Places.{PlaceMap}
-use Rattle.disk_format.specs.declared.numbers.TheConstants.{MOST_SLOTS, SLOT_BYTES}
-use Rattle.disk_format.specs.Layout.{slot_at}
-use Rattle.store_model.proofs.Free.{as_many}
+use Rattle.gc_sweep.proofs.Prelude.{◌≡◌, ℕ, ◌+◌, ◌<◌, ◌≤◌, length, Option, ap, ◌∙◌, arith, length-map, PlaceMap, MOST_SLOTS, slot_at, as_many, Runs, count_of, Tables}
+use Rattle.disk_format.specs.declared.numbers.TheConstants.{SLOT_BYTES}
 use Rattle.store_state.specs.Indexing.{IsOfSlots}
-use Rattle.store_state.specs.Tables.{Runs, count_of}
-use Rattle.store_state.specs.declared.tables.Tables.{Tables}
 
 module _ (size : ℕ) (known : Option PlaceMap) (t : Tables) (runs : Runs size known t) where
   -- each slot has an id

@@ -1,29 +1,8 @@
 -- What the plan of a source makes of the index and of what is filled, where the index's map is known and the disk tells its content.
-use Rattle.std.proofs.Common.{◌≡◌, ◌≢◌, ◌⊎◌, inl, inr, ℕ, zero, suc, ◌+◌, ◌<◌, ◌≤◌, true, List, [], ◌∷◌, ◌++◌, length, drop, take, map, Option, Some, None, find, refl, sym, ◌∙◌, ap, subst, arith, length-append}
+use Rattle.gc_sweep.proofs.Prelude.{◌≡◌, ◌≢◌, ◌⊎◌, inl, inr, ℕ, zero, suc, ◌+◌, ◌<◌, ◌≤◌, true, List, [], ◌∷◌, ◌++◌, length, drop, take, map, Option, Some, None, find, refl, sym, ◌∙◌, ap, subst, arith, length-append, AllByRecursion, bytes_eq, Entry, Kind, Place, PlaceMap, Contents, Segment, has_key, keys_of, segment_key, HeaderValue, Plan, is_copy, without_keys, IsPlan, Planned, Source, planned, source_of, Shows, DiskView, shown_content, LiveKeys, entry_key, IsPartialIndexOf, place_of, bytes_at, some_same, found_so, Sweep, IsFilling, AreCopied, IsCopied, IsLive}
 use Rattle.std.specs.FinMap as finite
-use Rattle.std.specs.List.{AllByRecursion, IsDistinct}
-use Rattle.std.specs.Str.{bytes_eq}
-use Rattle.container_meta.specs.declared.entry.Entry.{Entry}
-use Rattle.container_meta.specs.declared.kind.Kind.{Kind}
-use Rattle.container_meta.specs.declared.place.Place.{Place}
-use Rattle.container_meta.specs.Places.{PlaceMap}
-use Rattle.container_meta.specs.Segments.{Contents, Segment, has_key, keys_of, segment_key}
-use Rattle.container_meta.specs.Spelling.{HeaderValue}
-use Rattle.copy_forward.specs.declared.plan.Plan.{Plan}
-use Rattle.copy_forward.specs.Entries.{is_copy, without_keys}
-use Rattle.copy_forward.specs.Planning.{IsPlan, Planned, Source, planned, source_of}
-use Rattle.dd_disk.specs.Shows.{Shows}
-use Rattle.dd_disk.specs.View.{DiskView}
-use Rattle.dd_disk.proofs.Shows.{shown_content}
-use Rattle.gc_enumerate.specs.Live.{LiveKeys, IsLiveAt}
-use Rattle.store_model.specs.Indexing.{entry_key}
-use Rattle.store_model.specs.Slots.{IsPartialIndexOf, place_of}
-use Rattle.store_model.specs.Trees.{bytes_at}
-use Rattle.store_model.proofs.Copies.{some_same}
-use Rattle.store_model.proofs.HeldSlots.{found_so}
-use Rattle.gc_sweep.specs.declared.sweep.Sweep.{Sweep}
-use Rattle.gc_sweep.specs.Copying.{IsFilling}
-use Rattle.gc_sweep.specs.Holding.{AreCopied, IsCopied, IsLive}
+use Rattle.std.specs.List.{IsDistinct}
+use Rattle.gc_enumerate.specs.Live.{IsLiveAt}
 use Rattle.gc_sweep.proofs.Gains.{Gains, IsOfCopy, IsOfDead, IsPlanned, all_planned, gained_keys, takes_apart, takes_gain}
 use Rattle.gc_sweep.proofs.Holds.{no_key, no_keys_apart, none_copied}
 use Rattle.gc_sweep.proofs.InSlots.{at_copy, copy_at, copy_of, lies_at, live_anywhere, live_on, one_header}

@@ -1,34 +1,18 @@
 -- A slot is closed in which the index has no entry: the tables, and the disk.
-use Rattle.std.proofs.Common.{◌≡◌, ◌≢◌, ◌⊎◌, inl, inr, ℕ, zero, suc, List, [], ◌∷◌, get_or, Option, Some, None, option_map, refl, sym, ◌∙◌, ap, subst, arith}
+use Rattle.gc_sweep.proofs.Prelude.{◌≡◌, ◌≢◌, ◌⊎◌, inl, inr, ℕ, zero, suc, List, [], ◌∷◌, get_or, Option, Some, None, option_map, refl, sym, ◌∙◌, ap, subst, arith, Place, PlaceMap, HeaderValue, Done, DiskView, IsIn, Stands, Files, with_freed, Store, HoldsNone, HasKey, IsPartialIndexOf, ids_of, without_slot, KeepsCopies, HasNewest, some_same, free_freed, slot_held, valid_freed, Represents, RepresentsSlots, SlotTable, Tables, HasFreed, HasNoEntryIn, GivesBack}
 use Rattle.std.specs.List.{slice_get}
 use Rattle.container_log.specs.Writing.{Frees, IsFreed}
-use Rattle.container_meta.specs.declared.place.Place.{Place}
-use Rattle.container_meta.specs.Places.{PlaceMap}
-use Rattle.container_meta.specs.Spelling.{HeaderValue}
-use Rattle.dd_disk.specs.Ending.{Ending, Done, Refused, Unread, Broken}
+use Rattle.dd_disk.specs.Ending.{Ending, Refused, Unread, Broken}
 use Rattle.dd_disk.specs.Moves.{Moves}
-use Rattle.dd_disk.specs.View.{DiskView}
 use Rattle.dd_disk.specs.Writes.{Writes, Written}
 use Rattle.dd_disk.proofs.Moves.{moves_written}
 use Rattle.segment_index.specs.Places.{KnownMap}
-use Rattle.store_model.specs.Collisions.{IsIn, Stands}
-use Rattle.store_model.specs.Files.{Files}
-use Rattle.store_model.specs.Freeing.{with_freed}
-use Rattle.store_model.specs.Image.{Store}
-use Rattle.store_model.specs.Reserve.{HoldsNone}
-use Rattle.store_model.specs.Slots.{Copy, HasKey, IsPartialIndexOf, ids_of, without_slot}
-use Rattle.store_model.specs.Steps.{KeepsCopies}
-use Rattle.store_model.specs.Trees.{HasNewest}
-use Rattle.store_model.proofs.Copies.{some_same}
-use Rattle.store_model.proofs.Freed.{free_freed, slot_held, valid_freed}
+use Rattle.store_model.specs.Slots.{Copy}
 use Rattle.store_model.proofs.FreedFiles.{unfreed_stands, one_freed_stands, one_freed_keeps}
 use Rattle.store_model.proofs.FreedTrees.{newest_freed}
 use Rattle.store_model.proofs.Lookups.{finds}
 use Rattle.store_state.specs.Invariant.{IndexesFiles}
-use Rattle.store_state.specs.Tables.{Represents, RepresentsSlots}
-use Rattle.store_state.specs.declared.slot_table.SlotTable.{SlotTable}
-use Rattle.store_state.specs.declared.tables.Tables.{Tables}
-use Rattle.gc_sweep.specs.Releasing.{HasFreed, HasNoEntryIn, GivesBack, KeepsFreed, freeing}
+use Rattle.gc_sweep.specs.Releasing.{KeepsFreed, freeing}
 
 -- ---- the slots
 

@@ -1,21 +1,7 @@
 -- How a source that was copied ended: it waits, is ready, or goes on.
-use Rattle.std.proofs.Common.{◌≡◌, ◌⊎◌, inl, inr, ℕ, ◌+◌, ◌<◌, ◌≤◌, Bool, true, false, List, [], ◌∷◌, ◌++◌, length, get_or, Option, refl, sym, ◌∙◌, ap, subst, arith}
+use Rattle.gc_sweep.proofs.Prelude.{◌≡◌, ◌⊎◌, inl, inr, ℕ, ◌+◌, ◌<◌, ◌≤◌, Bool, true, false, List, [], ◌∷◌, ◌++◌, length, get_or, Option, refl, sym, ◌∙◌, ap, subst, arith, leb_tells, Contains-append_left, Contains-append_right, Kind, PlaceMap, Contents, HeaderValue, Plan, SlotTable, Next, CopyNext, Flush, Release, End, Sweep, EndsBy, GoesOn, HasEnded, IsHalfCopied, IsOrigin, IsNext, entry_in, sources_before}
 use Rattle.std.specs.List.{Contains}
-use Rattle.std.proofs.lemmas.Bool.Decides.{leb_tells}
-use Rattle.std.proofs.lemmas.List.Elements.{Contains-append_left, Contains-append_right, Contains-push, Contains-push_cases}
-use Rattle.container_meta.specs.declared.kind.Kind.{Kind}
-use Rattle.container_meta.specs.Places.{PlaceMap}
-use Rattle.container_meta.specs.Segments.{Contents}
-use Rattle.container_meta.specs.Spelling.{HeaderValue}
-use Rattle.copy_forward.specs.declared.plan.Plan.{Plan}
-use Rattle.store_state.specs.declared.slot_table.SlotTable.{SlotTable}
-use Rattle.gc_sweep.specs.declared.sweep.Next.{Next}
-use Rattle.gc_sweep.specs.declared.sweep.Next.TheVariants.{Copy as CopyNext, Flush, Release, End}
-use Rattle.gc_sweep.specs.declared.sweep.Sweep.{Sweep}
-use Rattle.gc_sweep.specs.Copying.{EndsBy, GoesOn, HasEnded}
-use Rattle.gc_sweep.specs.Holding.{IsHalfCopied, IsOrigin}
-use Rattle.gc_sweep.specs.Next.{IsNext}
-use Rattle.gc_sweep.specs.UnderWay.{entry_in, sources_before}
+use Rattle.std.proofs.lemmas.List.Elements.{Contains-push, Contains-push_cases}
 use Rattle.gc_sweep.proofs.CopyKeeps.{before_next}
 use Rattle.gc_sweep.proofs.InSlots.{none_in}
 use Rattle.gc_sweep.proofs.SourceRead.{IsReadOf}

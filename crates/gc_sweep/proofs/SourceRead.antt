@@ -1,26 +1,9 @@
 -- The header that was read as a source was copied is the source's, over a disk that tells its content.
-use Rattle.std.proofs.Common.{◌≡◌, ◌⊎◌, inl, inr, ℕ, zero, suc, ◌<◌, ◌≤◌, List, [], length, get_or, Option, Some, None, refl, sym, ◌∙◌, ap, subst, arith}
+use Rattle.gc_sweep.proofs.Prelude.{◌≡◌, ◌⊎◌, inl, inr, ℕ, zero, suc, ◌<◌, ◌≤◌, List, [], length, get_or, Option, Some, None, refl, sym, ◌∙◌, ap, subst, arith, slice_get-get_or, Kind, PlaceMap, Contents, has_key, HeaderValue, LiveKeys, DifferentIds, HoldSlots, HoldsSlot, some_same, as_many, slot_held, RepresentsSlots, SlotTable, CopyNext, Sweep, IsFilling, IsSource, AreCopied, HoldsSweep, IsHalfCopied, kind_in, HasNext, IsSweeping, entry_in, sources_before}
 use Rattle.std.specs.Prelude.{slice_get}
-use Rattle.std.proofs.lemmas.Option.{slice_get-get_or}
-use Rattle.container_meta.specs.declared.kind.Kind.{Kind}
-use Rattle.container_meta.specs.Places.{PlaceMap}
-use Rattle.container_meta.specs.Segments.{Contents, has_key}
-use Rattle.container_meta.specs.Spelling.{HeaderValue}
 use Rattle.copy_forward.specs.Copying.{IsOther}
-use Rattle.gc_enumerate.specs.Live.{LiveKeys}
-use Rattle.store_model.specs.Slots.{DifferentIds, HoldSlots, HoldsSlot}
-use Rattle.store_model.proofs.Copies.{some_same}
-use Rattle.store_model.proofs.Free.{as_many}
-use Rattle.store_model.proofs.Freed.{slot_held}
 use Rattle.store_model.proofs.Once.{slot_once}
-use Rattle.store_state.specs.Tables.{RepresentsSlots}
-use Rattle.store_state.specs.declared.slot_table.SlotTable.{SlotTable}
-use Rattle.gc_sweep.specs.declared.sweep.Next.TheVariants.{Copy as CopyNext}
-use Rattle.gc_sweep.specs.declared.sweep.Sweep.{Sweep}
-use Rattle.gc_sweep.specs.Copying.{IsFilling, IsSource}
-use Rattle.gc_sweep.specs.Holding.{AreCopied, HoldsSweep, IsHalfCopied}
-use Rattle.gc_sweep.specs.Next.{IsOfKind, kind_in}
-use Rattle.gc_sweep.specs.UnderWay.{HasNext, IsSweeping, entry_in, sources_before}
+use Rattle.gc_sweep.specs.Next.{IsOfKind}
 use Rattle.gc_sweep.proofs.InSlots.{header_at, id_at, kind_at, one_slot, source_old}
 
 -- what an image shows in a slot stands there

@@ -1,24 +1,10 @@
 -- A container more in a closed slot: what a sweep needs of the table stays.
-use Rattle.std.proofs.Common.{◌≡◌, ◌≢◌, inl, inr, ℕ, zero, suc, ◌<◌, ◌≤◌, true, List, [], ◌∷◌, ◌++◌, length, get_or, set, count_by, Option, Some, None, option_map, refl, ap, sym, subst, ◌∙◌, arith}
-use Rattle.std.specs.Prelude.{◌==◌, slice_get, Contains}
-use Rattle.std.specs.List.{AllByRecursion}
-use Rattle.std.proofs.lemmas.Grind.{get_or_default_zero}
-use Rattle.std.proofs.lemmas.List.{get_or-set_other, length-set}
-use Rattle.container_meta.specs.declared.kind.Kind.{Kind}
-use Rattle.container_meta.specs.Spelling.{HeaderValue, IsHeader}
-use Rattle.disk_format.specs.declared.numbers.TheConstants.{RESERVE}
-use Rattle.store_model.specs.Slots.{AreHeaders, first_free, free_slots, ids_of, with_slot}
+use Rattle.gc_sweep.proofs.Prelude.{◌≡◌, ◌≢◌, inl, inr, ℕ, zero, suc, ◌<◌, ◌≤◌, true, List, [], ◌∷◌, ◌++◌, length, get_or, set, count_by, Option, Some, None, option_map, refl, ap, sym, subst, ◌∙◌, arith, ◌==◌, AllByRecursion, get_or_default_zero, get_or-set_other, length-set, Kind, HeaderValue, IsHeader, RESERVE, AreHeaders, first_free, free_slots, ids_of, with_slot, zeros_free, SlotCount, SlotTable, IsFirstFree, RepresentsSlots, count_of, Next, Flush, Release, End, Sweep, kind_in, AreLeft, HasNext, IsSweeping, IsTaken, free_in, is_old, sources_before}
+use Rattle.std.specs.Prelude.{slice_get, Contains}
 use Rattle.store_model.proofs.Filled.{free_less as filled_less, headers_with}
-use Rattle.store_model.proofs.Free.{zeros_free}
-use Rattle.store_state.specs.declared.slot_table.SlotCount.{SlotCount}
-use Rattle.store_state.specs.declared.slot_table.SlotTable.{SlotTable}
-use Rattle.store_state.specs.Tables.{IsFirstFree, RepresentsSlots, count_of}
 use Rattle.store_state.proofs.Taken.{counts_with, ids_with}
-use Rattle.gc_sweep.specs.declared.sweep.Next.{Next}
-use Rattle.gc_sweep.specs.declared.sweep.Next.TheVariants.{Copy, Flush, Release, End}
-use Rattle.gc_sweep.specs.declared.sweep.Sweep.{Sweep}
-use Rattle.gc_sweep.specs.Next.{IsOfKind, kind_in}
-use Rattle.gc_sweep.specs.UnderWay.{AreLeft, HasNext, IsSweeping, IsTaken, free_in, is_old, sources_before}
+use Rattle.gc_sweep.specs.declared.sweep.Next.TheVariants.{Copy}
+use Rattle.gc_sweep.specs.Next.{IsOfKind}
 use Rattle.gc_sweep.proofs.Arrives.{all_by}
 
 -- ---- lists

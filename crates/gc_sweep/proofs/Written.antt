@@ -1,23 +1,8 @@
 -- What was copied is written: the slot, and the sweep then.
-use Rattle.std.proofs.Common.{◌≡◌, ◌≢◌, ℕ, ◌+◌, ◌*◌, ◌<◌, ◌≤◌, List, [], ◌++◌, length, get_or, set, append-nil, count_by, Option, None, Some, refl, ap, sym, subst, ◌∙◌, arith}
-use Rattle.std.specs.Prelude.{◌==◌, if◌then◌else◌, nat_eq, nat_lt}
-use Rattle.std.specs.List.{AllByRecursion, IsDistinct}
-use Rattle.container_meta.specs.Places.{PlaceMap}
-use Rattle.container_meta.specs.Segments.{Contents}
-use Rattle.container_meta.specs.Spelling.{HeaderValue, header_of}
-use Rattle.disk_format.specs.declared.numbers.TheConstants.{LAST_ID, MOST_ENTRIES, RESERVE}
+use Rattle.gc_sweep.proofs.Prelude.{◌≡◌, ◌≢◌, ℕ, ◌+◌, ◌*◌, ◌<◌, ◌≤◌, List, [], ◌++◌, length, get_or, set, append-nil, count_by, Option, None, Some, refl, ap, sym, subst, ◌∙◌, arith, ◌==◌, if◌then◌else◌, nat_eq, nat_lt, AllByRecursion, PlaceMap, Contents, HeaderValue, header_of, LAST_ID, MOST_ENTRIES, RESERVE, Store, AreHeaders, first_free, free_slots, ids_of, with_slot, with_sealed, first_closed, some_free, zeros_free, Tables, IsFirstFree, Represents, RepresentsSlots, Runs, count_of, Next, Flush, Sweep, HasFlushed, WritesCopies, spared, AreLeft, HasNext, IsSweeping, IsTaken, entry_in, free_in, sources_before, taken_from}
+use Rattle.std.specs.List.{IsDistinct}
 use Rattle.ingest_steps.specs.Sealing.{HasSlotBeside, HasWritten}
-use Rattle.store_model.specs.Image.{Store}
-use Rattle.store_model.specs.Slots.{AreHeaders, first_free, free_slots, ids_of, with_slot}
-use Rattle.store_model.specs.Steps.{CanHold, with_sealed}
-use Rattle.store_model.proofs.Free.{first_closed, some_free, zeros_free}
-use Rattle.store_state.specs.declared.tables.Tables.{Tables}
-use Rattle.store_state.specs.Tables.{IsFirstFree, Represents, RepresentsSlots, Runs, count_of}
-use Rattle.gc_sweep.specs.declared.sweep.Next.{Next}
-use Rattle.gc_sweep.specs.declared.sweep.Next.TheVariants.{Flush}
-use Rattle.gc_sweep.specs.declared.sweep.Sweep.{Sweep}
-use Rattle.gc_sweep.specs.Flushing.{HasFlushed, WritesCopies, spared}
-use Rattle.gc_sweep.specs.UnderWay.{AreLeft, HasNext, IsSweeping, IsTaken, entry_in, free_in, sources_before, taken_from}
+use Rattle.store_model.specs.Steps.{CanHold}
 use Rattle.gc_sweep.proofs.Arrives.{GoesTo, arrives, by_parts}
 use Rattle.gc_sweep.proofs.Taken.{counts_set, free_less, ids_set, left_same, slot_closed, taken_same}
 

@@ -1,11 +1,7 @@
 -- The builder gets the first segment of the queue, and is ended after the last.
-use Rattle.std.proofs.Common.{◌≡◌, ◌∙◌, ℕ, Bool, true, false, List, [], ◌∷◌, drop, length, Option, Some, None, IsSome, refl, sym, ap, subst}
-use Rattle.container_meta.specs.Segments.{KindSegment}
-use Rattle.merkle_file.specs.declared.top.Top.{Top}
-use Rattle.merkle_file.specs.Tree.{of_segment}
-use Rattle.merkle_file.specs.Building.{Progress}
-use Rattle.ingest_session.specs.Moving.{Builds, BuildsFront, Finishes, IsAdvanced, IsClosing, front_of}
-use Rattle.ingest_session.specs.State.{SessionState, is_last, leaf_segment, rest_after}
+use Rattle.ingest_session.proofs.Prelude.{◌≡◌, ◌∙◌, ℕ, Bool, true, false, List, [], ◌∷◌, drop, length, Some, IsSome, refl, sym, ap, subst, KindSegment, Top, of_segment, Progress, BuildsFront, Finishes, IsAdvanced, IsClosing, front_of, SessionState, is_last, leaf_segment, rest_after}
+use Rattle.std.proofs.Common.{Option, None}
+use Rattle.ingest_session.specs.Moving.{Builds}
 
 pub is_advanced : (s : SessionState) (x : List ℕ) (seg : KindSegment) (b : Progress) → s.ahead ≡ None → s.queue ≡ x ∷ drop 1 s.queue →
     seg ≡ leaf_segment x → Builds (of_segment x) s.built b → IsAdvanced s (record s { ahead = Some seg; built = b })

@@ -1,22 +1,13 @@
 -- A session in which an item has its turn is like one that goes on.
-use Rattle.std.proofs.Common.{◌≡◌, ◌⊎◌, inl, inr, ◌∙◌, ℕ, Bool, true, false, not, ◌&&◌, ◌||◌, if◌then◌else◌, List, [], ◌∷◌, ◌++◌, Option, Some, None, length, refl, sym, ap, subst, append-nil}
-use Rattle.std.specs.Prelude.{nat_le, ◌==◌}
+use Rattle.ingest_session.proofs.Prelude.{◌≡◌, ◌⊎◌, inl, inr, ◌∙◌, ℕ, Bool, true, false, ◌&&◌, List, [], ◌∷◌, ◌++◌, Some, length, refl, sym, ap, subst, append-nil, ◌==◌, Kind, Leaf, Tree, Contents, has_key, child_kind, node_segment, leaf_key, node_key, Due, Claim, Seal, Nothing, has_child_of, due_in, due_node, end_due, is_node_due, item_due, item_is_there, item_kind, node_due, open_of, queue_due, queue_is_there, turn_for, turn_in, first_of, turn, turn_of, item_of, SessionState, is_last, leaf_segment, node_in_turn, turn_node}
+use Rattle.std.proofs.Common.{not, ◌||◌, if◌then◌else◌, Option, None}
+use Rattle.std.specs.Prelude.{nat_le}
 use Rattle.std.proofs.lemmas.Bool.{cases_Bool}
-use Rattle.container_meta.specs.declared.kind.Kind.{Kind}
-use Rattle.container_meta.specs.declared.kind.Kind.TheVariants.{Leaf, Tree}
-use Rattle.container_meta.specs.Segments.{Contents, has_key, has_segment}
+use Rattle.container_meta.specs.Segments.{has_segment}
 use Rattle.merkle_file.specs.Node as node
-use Rattle.actor_parts.specs.Segments.{child_kind, node_segment}
-use Rattle.store_model.specs.Trees.{leaf_key, node_key}
-use Rattle.ingest_session.specs.declared.due.Due.{Due}
-use Rattle.ingest_session.specs.declared.due.Due.TheVariants.{Claim, Seal, Nothing}
 use Rattle.ingest_session.specs.declared.line.TheConstants.{LONG_LINE}
-use Rattle.ingest_session.specs.Child.{has_child_of}
-use Rattle.ingest_session.specs.Due.{due_in, due_node, end_due, is_node_due, item_due, item_is_there, item_kind, node_due, node_is_there, open_of, queue_due, queue_is_there, turn_for, turn_in}
-use Rattle.ingest_session.specs.Finished.{first_of}
-use Rattle.ingest_session.specs.History.{turn, turn_of}
-use Rattle.ingest_session.specs.Items.{front_segment, item_of}
-use Rattle.ingest_session.specs.State.{SessionState, is_last, leaf_segment, node_in_turn, turn_node}
+use Rattle.ingest_session.specs.Due.{node_is_there}
+use Rattle.ingest_session.specs.Items.{front_segment}
 use Rattle.ingest_session.proofs.Ends.{due_at_end}
 use Rattle.ingest_session.proofs.InLine.{first_stays, turn_is_first}
 use Rattle.ingest_session.proofs.Replaying.{IsLike, core_of, waiting_turn}

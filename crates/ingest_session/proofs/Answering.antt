@@ -1,28 +1,11 @@
 -- What is known of a session stays known in each call.
-use Rattle.std.proofs.Common.{◌≡◌, ◌⊎◌, ◌∙◌, ◌+◌, ℕ, Bool, true, false, not, if◌then◌else◌, List, [], ◌∷◌, ◌++◌, Option, Some, None, IsSome, length, sum_by, inl, inr, refl, sym, ap, subst, arith, append-nil}
-use Rattle.std.proofs.lemmas.Bool.{and_parts}
+use Rattle.ingest_session.proofs.Prelude.{◌≡◌, ◌⊎◌, ◌∙◌, ◌+◌, ℕ, Bool, true, false, List, [], ◌∷◌, ◌++◌, Some, IsSome, length, sum_by, inl, inr, refl, sym, ap, subst, arith, append-nil, and_parts, AllByRecursion, Kind, Leaf, Tree, Contents, KindSegment, Segment, total_of, Answer, Held, Absent, Sealed, children_by, node_segment, Piece, Data, Node, piece_segment, Due, Seal, HasTurn, due_in, item_is_there, item_kind, needs_no_step, open_of, queue_is_there, IsKept, IsKeptChild, History, HasHistory, IsBegun, Pushed, Ended, Moved, Asked, Told, answered, item_if, moved, placed_after_seal, placed_if, same_kind, sealed_for, turn, turn_of, fits, item_of, SettleStep, Turned, Spelled, Advanced, Closed, PlacedNode, PlacedFront, IsSession, SessionState, HasItem, IsAhead, IsClosed, IsSized, IsWhole, is_last, rest_of, turn_node, IsAnswerFor, IsSettled, absent_item, added_item, emptied, placed_front, placed_item, placed_node, sealed, told_by, with_open}
+use Rattle.std.proofs.Common.{not, if◌then◌else◌, Option, None}
 use Rattle.std.proofs.lemmas.List.Sums.{sum_by-cons}
-use Rattle.std.specs.List.{AllByRecursion}
-use Rattle.container_meta.specs.declared.kind.Kind.{Kind}
-use Rattle.container_meta.specs.declared.kind.Kind.TheVariants.{Leaf, Tree}
-use Rattle.container_meta.specs.Segments.{Contents, KindSegment, Segment}
-use Rattle.merkle_file.specs.Building.{total_of}
 use Rattle.merkle_file.specs.Node as node
-use Rattle.actor_parts.specs.declared.step.Answer.{Answer}
-use Rattle.actor_parts.specs.declared.step.Answer.TheVariants.{Held, Absent, Sealed}
-use Rattle.actor_parts.specs.Segments.{KeyPin, children_by, node_segment}
-use Rattle.store_model.specs.Pieces.{Piece, Data, Node, piece_segment}
-use Rattle.ingest_session.specs.declared.due.Due.{Due}
-use Rattle.ingest_session.specs.declared.due.Due.TheVariants.{Seal}
-use Rattle.ingest_session.specs.Due.{HasTurn, due_in, item_is_there, item_kind, needs_no_step, open_of, queue_is_there}
-use Rattle.ingest_session.specs.Facts.{IsKept, IsKeptChild}
-use Rattle.ingest_session.specs.History.{History, HasHistory, IsBegun, Begun, Pushed, Ended, Moved, Asked, Told, answered, item_if, moved, no_history, placed_after_seal, placed_if, same_kind, sealed_for, turn, turn_of}
-use Rattle.ingest_session.specs.Items.{fits, item_of}
-use Rattle.ingest_session.specs.Settling.{SettleStep, Turned, Spelled, Advanced, Closed, PlacedNode, PlacedFront}
-use Rattle.ingest_session.specs.Sound.{IsSession}
-use Rattle.ingest_session.specs.State.{SessionState, HasItem, IsAhead, IsClosed, IsSized, IsWhole, is_last, rest_of, turn_node}
+use Rattle.actor_parts.specs.Segments.{KeyPin}
+use Rattle.ingest_session.specs.History.{Begun, no_history}
 use Rattle.ingest_session.specs.Told as told
-use Rattle.ingest_session.specs.Told.{IsAnswerFor, IsSettled, absent_item, added_item, emptied, placed_front, placed_item, placed_node, sealed, told_by, with_open}
 use Rattle.ingest_session.proofs.Following.{Follows, added_follows, advanced_follows, asked_follows, begun_follows, closing_follows, ending_follows, not_whole, placed_follows, placed_front_follows, placed_node_follows, rest_ahead, spelled_follows, taking_follows, turned_follows, waiting_follows, with_follows}
 use Rattle.ingest_session.proofs.InLine.{turn_is_first}
 use Rattle.ingest_session.proofs.Knowing.{HasChildren, IsOfPiece, IsStored, Knows, children_are_kept}

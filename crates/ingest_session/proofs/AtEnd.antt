@@ -1,12 +1,7 @@
 -- The end of a file.
-use Rattle.std.proofs.Common.{◌≡◌, ◌≤◌, ◌+◌, ◌∙◌, ℕ, Bool, true, false, List, [], ◌∷◌, ◌++◌, Option, Some, None, length, refl, sym, ap, subst, arith, sum_by, length-append, zero-add}
-use Rattle.std.proofs.lemmas.List.Sums.{sum_by-append}
+use Rattle.ingest_session.proofs.Prelude.{◌≡◌, ◌≤◌, ◌+◌, ◌∙◌, ℕ, Bool, true, false, List, [], ◌∷◌, ◌++◌, Some, length, refl, sym, ap, subst, arith, sum_by, length-append, zero-add, sum_by-append, KindSegment, empty_hand, Top, IsSession, SessionState, IsWhole, AreLong, is_last, rest_after, rest_of}
+use Rattle.std.proofs.Common.{Option, None}
 use Rattle.disk_format.specs.declared.numbers.TheConstants.{MOST_SEGMENT}
-use Rattle.container_meta.specs.Segments.{KindSegment}
-use Rattle.segmenter.specs.Cutting.{empty_hand}
-use Rattle.merkle_file.specs.declared.top.Top.{Top}
-use Rattle.ingest_session.specs.Sound.{IsSession}
-use Rattle.ingest_session.specs.State.{SessionState, IsWhole, AreLong, is_last, rest_after, rest_of}
 use Rattle.ingest_session.proofs.Lists.{all_and_one}
 use Rattle.ingest_session.proofs.Uncut.{empty_is_uncut}
 use Rattle.ingest_session.proofs.Rests.{rest_grows, ahead_stays, full_stays}

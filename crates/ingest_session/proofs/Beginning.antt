@@ -1,13 +1,9 @@
 -- A new session.
-use Rattle.std.proofs.Common.{◌≡◌, ◌∙◌, ℕ, false, List, [], None, length, map, refl, ap, arith}
-use Rattle.container_meta.specs.declared.kind.Kind.TheVariants.{Leaf, Tree}
-use Rattle.container_meta.specs.Segments.{Contents}
-use Rattle.segmenter.specs.Cutting.{Hand, empty_hand}
-use Rattle.merkle_file.specs.Form.{ByCount}
+use Rattle.ingest_session.proofs.Prelude.{◌≡◌, ◌∙◌, ℕ, false, List, [], length, map, refl, ap, arith, Leaf, Tree, Contents, Hand, empty_hand, ByCount, itself, Progress, Holds, levels_left, nodes_in_rows, open_over, total_of, IsSession}
+use Rattle.std.proofs.Common.{None}
 use Rattle.merkle_file.specs.Node as node
-use Rattle.merkle_file.specs.Tree.{child_of, itself}
-use Rattle.merkle_file.specs.Building.{Progress, Holds, levels_left, open_trees, whole_from, rest_from, nodes_in_rows, open_over, total_of}
-use Rattle.ingest_session.specs.Sound.{IsSession}
+use Rattle.merkle_file.specs.Tree.{child_of}
+use Rattle.merkle_file.specs.Building.{open_trees, whole_from, rest_from}
 use Rattle.ingest_session.proofs.Uncut.{empty_is_uncut}
 
 nothing_is_finished : nodes_in_rows itself (open_over ByCount []) ≡ []

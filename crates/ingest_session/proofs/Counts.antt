@@ -1,21 +1,9 @@
 -- There are at most two steps for each item.
-use Rattle.std.proofs.Common.{◌≡◌, ◌≤◌, ℕ, ◌+◌, ◌*◌, Bool, true, false, if◌then◌else◌, List, [], ◌∷◌, Option, Some, None, length, refl, ap, subst, arith, rules, length-append}
-use Rattle.container_meta.specs.declared.kind.Kind.{Kind}
-use Rattle.container_meta.specs.declared.kind.Kind.TheVariants.{Leaf, Tree}
-use Rattle.container_meta.specs.Segments.{Contents, Segment}
+use Rattle.ingest_session.proofs.Prelude.{◌≡◌, ◌≤◌, ℕ, ◌+◌, ◌*◌, Bool, true, false, List, [], ◌∷◌, Some, length, refl, ap, subst, arith, rules, length-append, Kind, Leaf, Tree, Contents, Segment, Answer, Held, Absent, Sealed, Due, HasTurn, due_in, item_kind, open_of, IsSession, with_segment, fits, item_of, SettleStep, Turned, Spelled, Advanced, Closed, PlacedNode, PlacedFront, SessionState, turn_node, IsAnswerFor, IsSettled, absent_item, added_item, emptied, placed_item, told_by, with_open, History, HasHistory, Pushed, Ended, Moved, Asked, Told, SealsSome, moved, placed_by, placed_if, turn, turn_of}
+use Rattle.std.proofs.Common.{if◌then◌else◌, Option, None}
 use Rattle.merkle_file.specs.Node as node
-use Rattle.actor_parts.specs.declared.step.Answer.{Answer}
-use Rattle.actor_parts.specs.declared.step.Answer.TheVariants.{Held, Absent, Sealed}
-use Rattle.ingest_session.specs.declared.due.Due.{Due}
-use Rattle.ingest_session.specs.Due.{HasTurn, due_in, item_kind, open_of}
-use Rattle.ingest_session.specs.Sound.{IsSession}
-use Rattle.ingest_session.specs.Filling.{with_segment}
-use Rattle.ingest_session.specs.Items.{fits, item_of}
-use Rattle.ingest_session.specs.Settling.{SettleStep, Turned, Spelled, Advanced, Closed, PlacedNode, PlacedFront}
-use Rattle.ingest_session.specs.State.{SessionState, turn_node}
-use Rattle.ingest_session.specs.Told.{IsAnswerFor, IsSettled, absent_item, added_item, emptied, placed_item, told_by, with_open}
 use Rattle.ingest_session.specs.Facts.{StepsAreFew, one_if}
-use Rattle.ingest_session.specs.History.{History, HasHistory, Begun, Pushed, Ended, Moved, Asked, Told, SealsSome, moved, placed_by, placed_if, turn, turn_of}
+use Rattle.ingest_session.specs.History.{Begun}
 use Rattle.ingest_session.proofs.Sealing.{claims_off}
 use Rattle.ingest_session.proofs.Waiting.{claimed_has_turn, session_of, waiting_has_turn}
 

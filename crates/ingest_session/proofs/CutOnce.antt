@@ -1,13 +1,11 @@
 -- Bytes are cut in one way into segments and a hand in which none ends.
-use Rattle.std.proofs.Common.{◌≡◌, ◌<◌, ◌+◌, ◌-◌, ◌∙◌, ℕ, zero, suc, Bool, true, false, if◌then◌else◌, List, [], ◌∷◌, ◌++◌, length, take, refl, sym, ap, arith, append-nil, append_assoc, length-append}
+use Rattle.ingest_session.proofs.Prelude.{◌≡◌, ◌<◌, ◌+◌, ◌-◌, ◌∙◌, ℕ, zero, suc, Bool, true, false, List, [], ◌∷◌, ◌++◌, length, take, refl, sym, ap, arith, append-nil, append_assoc, length-append, length-take-le, LEAST_SEGMENT, segments_of, Hand, HasCut, HasCut-finish, IsCutInto, IsUncut}
+use Rattle.std.proofs.Common.{if◌then◌else◌}
 use Rattle.std.proofs.lemmas.Bool.{and_from, le-leb}
-use Rattle.std.proofs.lemmas.List.{append_cancel_left, length-take-le, same_from_push}
-use Rattle.disk_format.specs.declared.numbers.TheConstants.{LEAST_SEGMENT}
-use Rattle.segmenter.specs.Segments.{first_from, first_length, is_boundary, segments_of}
-use Rattle.segmenter.specs.Cutting.{Hand, HasCut, ends_segment}
-use Rattle.segmenter.proofs.RunLemmas.{HasCut-finish}
+use Rattle.std.proofs.lemmas.List.{append_cancel_left, same_from_push}
+use Rattle.segmenter.specs.Segments.{first_from, first_length, is_boundary}
+use Rattle.segmenter.specs.Cutting.{ends_segment}
 use Rattle.segmenter.proofs.SegmentLemmas.{first_length-le, first_length-least, first_length-long, is_boundary-append, segments_of-first, segments_of-none}
-use Rattle.ingest_session.specs.Stream.{IsCutInto, IsUncut}
 use Rattle.ingest_session.proofs.Waiting.{on_and_off}
 
 -- ---- where a segment ends

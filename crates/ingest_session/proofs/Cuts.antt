@@ -1,10 +1,7 @@
 -- Few segments end in a short piece.
-use Rattle.std.proofs.Common.{◌≡◌, ◌≤◌, ◌<◌, ◌+◌, ◌*◌, ◌⊎◌, inl, inr, ℕ, List, length, ap, arith, length-append}
+use Rattle.ingest_session.proofs.Prelude.{◌≡◌, ◌≤◌, ◌<◌, ◌+◌, ◌*◌, ◌⊎◌, inl, inr, ℕ, List, length, ap, arith, length-append, LEAST_SEGMENT, IsTaking, CutsFew, SessionState}
 use Rattle.std.proofs.Math.Nat.{eq-or-lt_of_le}
-use Rattle.disk_format.specs.declared.numbers.TheConstants.{LEAST_SEGMENT}
-use Rattle.ingest_session.specs.Calls.{IsTaking}
-use Rattle.ingest_session.specs.Cuts.{CutsOne, CutsFew}
-use Rattle.ingest_session.specs.State.{SessionState}
+use Rattle.ingest_session.specs.Cuts.{CutsOne}
 
 few_by : (waited waits more hand later taken piece : ℕ) → waited ≤ waits
     → (waited < waits → LEAST_SEGMENT * waits + hand < LEAST_SEGMENT * (waited + 1) + taken)

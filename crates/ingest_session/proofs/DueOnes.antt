@@ -1,14 +1,6 @@
 -- What was given and answered fixes what is due.
-use Rattle.std.proofs.Common.{◌≡◌, ◌∙◌, ℕ, Bool, true, false, List, [], ◌++◌, refl, sym, ap, subst, append-nil, reverse}
-use Rattle.std.proofs.Math.Seq.{drop-append_seam}
-use Rattle.actor_parts.specs.declared.step.Answer.{Answer}
-use Rattle.store_model.specs.Pieces.{Piece}
-use Rattle.ingest_session.specs.Due.{due_in, needs_no_step}
+use Rattle.ingest_session.proofs.Prelude.{◌≡◌, ◌∙◌, ℕ, Bool, true, false, List, [], ◌++◌, refl, sym, ap, subst, append-nil, reverse, drop-append_seam, Answer, Piece, due_in, needs_no_step, data_in, History, HasHistory, SessionState, IsSettled}
 use Rattle.ingest_session.specs.DueFor.{DueIsOne}
-use Rattle.ingest_session.specs.Facts.{data_in}
-use Rattle.ingest_session.specs.History.{History, HasHistory}
-use Rattle.ingest_session.specs.State.{SessionState}
-use Rattle.ingest_session.specs.Told.{IsSettled}
 use Rattle.ingest_session.proofs.Replayed.{Extends, Reaches, cut_same, like_over, reaches}
 use Rattle.ingest_session.proofs.Replaying.{Core, IsLike, core_of, queue_at, session_at}
 use Rattle.ingest_session.proofs.Runs.{Came, IsSame, Skips, one_end, one_point}

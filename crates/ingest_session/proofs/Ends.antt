@@ -1,33 +1,13 @@
 -- When a file has ended and nothing is due, all of it is kept.
-use Rattle.std.proofs.Common.{◌≡◌, ◌≤◌, ◌∙◌, ℕ, Bool, true, false, inl, inr, if◌then◌else◌, List, [], ◌∷◌, ◌++◌, Option, Some, None, IsSome, length, take, refl, sym, ap, subst, append-nil, take_all, arith}
-use Rattle.std.proofs.lemmas.Bool.{ne_eqb, or_left, or_right}
-use Rattle.std.specs.Prelude.{◌==◌, not}
-use Rattle.disk_format.specs.declared.numbers.TheConstants.{MOST_FILE}
+use Rattle.ingest_session.proofs.Prelude.{◌≡◌, ◌≤◌, ◌∙◌, ℕ, Bool, true, false, inl, inr, List, [], ◌∷◌, ◌++◌, Some, IsSome, length, take, refl, sym, ap, subst, append-nil, take_all, arith, ne_eqb, or_left, or_right, ◌==◌, MOST_FILE, Kind, Leaf, Tree, KindSegment, Segment, has_key, Hand, segments_of, Top, ByCount, room_of, Progress, itself, nodes_of, of_segment, tree_of, segments_alike, child_kind, Piece, Data, Node, IsPieceOf, nodes_of_file, piece_segment, leaf_key, node_key, Due, Claim, Seal, Nothing, has_child_of, due_in, due_node, end_due, is_node_due, item_due, item_kind, node_due, open_of, queue_due, turn_for, IsKept, data_in, nodes_in, History, HasHistory, SessionState, IsAhead, is_last, node_in_turn, rest_of, turn_node, IsCutInto}
+use Rattle.std.proofs.Common.{if◌then◌else◌, Option, None}
+use Rattle.std.specs.Prelude.{not}
 use Rattle.disk_format.specs.Cells.{Root}
-use Rattle.container_meta.specs.declared.kind.Kind.{Kind}
-use Rattle.container_meta.specs.declared.kind.Kind.TheVariants.{Leaf, Tree}
-use Rattle.container_meta.specs.Segments.{KindSegment, Segment, has_key}
-use Rattle.segmenter.specs.Cutting.{Hand}
-use Rattle.segmenter.specs.Segments.{segments_of}
-use Rattle.merkle_file.specs.declared.top.Top.{Top}
-use Rattle.merkle_file.specs.Form.{ByCount, room_of}
-use Rattle.merkle_file.specs.Building.{Progress}
 use Rattle.merkle_file.specs.Node as node
 use Rattle.merkle_file.specs.Tree as tree
-use Rattle.merkle_file.specs.Tree.{itself, nodes_of, of_segment, tree_of}
-use Rattle.merkle_file.proofs.TreeLaws.{segments_alike}
-use Rattle.actor_parts.specs.Segments.{child_kind}
-use Rattle.store_model.specs.Pieces.{Piece, Data, Node, IsPieceOf, nodes_of_file, piece_segment}
-use Rattle.store_model.specs.Trees.{file_tree, leaf_key, node_key, root_of}
-use Rattle.ingest_session.specs.declared.due.Due.{Due}
-use Rattle.ingest_session.specs.declared.due.Due.TheVariants.{Claim, Seal, Nothing}
+use Rattle.store_model.specs.Trees.{file_tree, root_of}
 use Rattle.ingest_session.specs.Calls.{ready_by, root_by}
-use Rattle.ingest_session.specs.Child.{has_child_of}
-use Rattle.ingest_session.specs.Due.{due_in, due_node, end_due, is_node_due, item_due, item_kind, node_due, open_of, queue_due, turn_for}
-use Rattle.ingest_session.specs.Facts.{AllIsKept, BytesAreCounted, IsKept, data_in, nodes_in}
-use Rattle.ingest_session.specs.History.{History, HasHistory}
-use Rattle.ingest_session.specs.State.{SessionState, IsAhead, is_last, node_in_turn, rest_of, turn_node}
-use Rattle.ingest_session.specs.Stream.{IsCutInto}
+use Rattle.ingest_session.specs.Facts.{AllIsKept, BytesAreCounted}
 use Rattle.ingest_session.proofs.Answering.{known}
 use Rattle.ingest_session.proofs.Following.{IsBuilt, begun, pushed_and_rest, pushed_of, taken_of}
 use Rattle.ingest_session.proofs.Growing.{all_are_pushed, few_pushed}

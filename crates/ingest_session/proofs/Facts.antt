@@ -1,9 +1,6 @@
 -- What is claimed and sealed are pieces of the file, and the children of each node are kept before it.
-use Rattle.std.proofs.Common.{◌++◌, ◌∙◌, append_assoc, arith}
-use Rattle.container_meta.specs.Segments.{Segment}
-use Rattle.store_model.specs.Pieces.{HasPieceOf}
-use Rattle.ingest_session.specs.Due.{open_of, turn_in}
-use Rattle.ingest_session.specs.Facts.{ChildrenComeFirst, NodesAreFew, OpenNodesHaveChildren, OpensArePieces, PlacedComeFirst, TurnsArePieces, data_in, nodes_in}
+use Rattle.ingest_session.proofs.Prelude.{◌++◌, ◌∙◌, append_assoc, arith, Segment, HasPieceOf, open_of, turn_in, data_in, nodes_in}
+use Rattle.ingest_session.specs.Facts.{ChildrenComeFirst, NodesAreFew, OpenNodesHaveChildren, OpensArePieces, PlacedComeFirst, TurnsArePieces}
 use Rattle.ingest_session.proofs.Answering.{known}
 use Rattle.ingest_session.proofs.Following.{taken_of}
 use Rattle.ingest_session.proofs.Growing as growing

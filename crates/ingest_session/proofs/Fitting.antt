@@ -1,16 +1,10 @@
 -- A node may be added to the open container of nodes.
-use Rattle.std.proofs.Common.{◌≡◌, ◌≤◌, ◌+◌, ◌*◌, ◌∙◌, ℕ, true, false, Option, Some, None, IfSome, length, refl, sym, ap, subst, rules}
-use Rattle.disk_format.specs.declared.numbers.TheConstants.{MOST_CHILDREN, MOST_LEVEL}
-use Rattle.container_meta.specs.declared.kind.Kind.TheVariants.{Tree}
+use Rattle.ingest_session.proofs.Prelude.{◌≡◌, ◌≤◌, ◌+◌, ◌*◌, ◌∙◌, ℕ, true, false, Some, length, refl, sym, ap, subst, rules, MOST_LEVEL, Tree, Contents, KindSegment, has_key, IsNode, spelling, contents_in, length_spelling, IsStepSegment, node_segment, node_key, IsSpelled}
+use Rattle.std.proofs.Common.{Option, None, IfSome}
+use Rattle.disk_format.specs.declared.numbers.TheConstants.{MOST_CHILDREN}
 use Rattle.container_meta.specs.Format.{child_count, is_length, is_level}
-use Rattle.container_meta.specs.Segments.{CanAdd, Contents, KindSegment, has_key}
+use Rattle.container_meta.specs.Segments.{CanAdd}
 use Rattle.merkle_file.specs.Node as node
-use Rattle.merkle_file.specs.Node.{IsNode, spelling}
-use Rattle.merkle_file.specs.Reading.{contents_in}
-use Rattle.merkle_file.proofs.InPlace.{length_spelling}
-use Rattle.actor_parts.specs.Segments.{IsStepSegment, node_segment}
-use Rattle.store_model.specs.Trees.{node_key}
-use Rattle.ingest_session.specs.State.{IsSpelled}
 
 count_is : (k : ℕ) → child_count (4 + 40 * k) ≡ k
 count_is k = search rules

@@ -1,25 +1,9 @@
 -- A session follows a file: the pieces in their place are the first of it, and the builder has their segments.
-use Rattle.std.proofs.Common.{◌≡◌, ◌∙◌, ◌+◌, ℕ, Bool, true, false, List, [], ◌∷◌, ◌++◌, Option, Some, None, IsSome, length, map, take, drop, inl, inr, ◌⊎◌, refl, sym, ap, subst, append_assoc, append-nil, length-append}
-use Rattle.std.proofs.lemmas.List.{map-append}
-use Rattle.container_meta.specs.declared.kind.Kind.{Kind}
-use Rattle.container_meta.specs.declared.kind.Kind.TheVariants.{Leaf, Tree}
-use Rattle.container_meta.specs.Segments.{Contents, KindSegment}
-use Rattle.merkle_file.specs.declared.node.Child.{Child}
-use Rattle.merkle_file.specs.declared.top.Top.{Top}
-use Rattle.merkle_file.specs.Form.{ByCount}
+use Rattle.ingest_session.proofs.Prelude.{◌≡◌, ◌∙◌, ◌+◌, ℕ, Bool, true, false, List, [], ◌∷◌, ◌++◌, Some, IsSome, length, map, take, drop, inl, inr, ◌⊎◌, refl, sym, ap, subst, append_assoc, append-nil, length-append, map-append, Kind, Leaf, Tree, Contents, KindSegment, Child, Top, ByCount, itself, nodes_of, of_segment, tree_of, Progress, Holds, Piece, Data, Node, data_in, nodes_in, IsEnding, IsTaking, without_nodes, IsBegun, turn, turn_of, Finishes, BuildsFront, IsAdvanced, IsClosing, front_of, IsSession, SessionState, HasItem, IsAhead, IsClosed, IsWhole, is_last, rest_after, rest_of, turn_node, IsCutInto, placed_front, placed_item, placed_node, with_open}
+use Rattle.std.proofs.Common.{Option, None}
 use Rattle.merkle_file.specs.Node as node
-use Rattle.merkle_file.specs.Tree.{itself, nodes_of, of_segment, root_of, tree_of}
-use Rattle.merkle_file.specs.Building.{Progress, Holds}
-use Rattle.store_model.specs.Pieces.{Piece, Data, Node}
-use Rattle.ingest_session.specs.Facts.{data_in, nodes_in}
-use Rattle.ingest_session.specs.Calls.{IsEnding, IsTaking, GoesOn, EndsTree, LinesUp}
-use Rattle.ingest_session.specs.Finished.{without_nodes}
-use Rattle.ingest_session.specs.History.{IsBegun, turn, turn_of}
-use Rattle.ingest_session.specs.Moving.{Finishes, BuildsFront, IsAdvanced, IsClosing, front_of}
-use Rattle.ingest_session.specs.Sound.{IsSession}
-use Rattle.ingest_session.specs.State.{SessionState, HasItem, IsAhead, IsClosed, IsWhole, is_last, rest_after, rest_of, turn_node}
-use Rattle.ingest_session.specs.Stream.{IsCutInto}
-use Rattle.ingest_session.specs.Told.{placed_front, placed_item, placed_node, with_open}
+use Rattle.merkle_file.specs.Tree.{root_of}
+use Rattle.ingest_session.specs.Calls.{GoesOn, EndsTree, LinesUp}
 use Rattle.ingest_session.proofs.InLine.{first_and_rest, turn_is_first}
 use Rattle.ingest_session.proofs.Members.{data_append, nodes_append}
 

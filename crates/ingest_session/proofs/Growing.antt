@@ -1,33 +1,10 @@
 -- However a file goes on, the pieces in their place are the first of it.
-use Rattle.std.proofs.Common.{◌≡◌, ◌≤◌, ◌∙◌, ℕ, zero, suc, Bool, true, false, List, [], ◌∷◌, ◌++◌, Option, Some, None, IsSome, length, map, take, refl, sym, ap, subst, arith, append_assoc, append-nil, length-append, length-take, take_all}
-use Rattle.std.specs.List.{AllByRecursion}
-use Rattle.std.specs.Option.{option_to_list}
-use Rattle.std.proofs.lemmas.List.{length-map, map-append}
-use Rattle.disk_format.specs.declared.numbers.TheConstants.{MOST_FILE}
-use Rattle.container_meta.specs.declared.kind.Kind.{Kind}
-use Rattle.container_meta.specs.declared.kind.Kind.TheVariants.{Leaf, Tree}
-use Rattle.segmenter.specs.Cutting.{Hand}
-use Rattle.segmenter.specs.Segments.{segments_of}
+use Rattle.ingest_session.proofs.Prelude.{◌≡◌, ◌≤◌, ◌∙◌, ℕ, zero, suc, Bool, true, false, List, [], ◌∷◌, ◌++◌, Some, IsSome, length, map, take, refl, sym, ap, subst, arith, append_assoc, append-nil, length-append, take_all, AllByRecursion, option_to_list, length-map, map-append, MOST_FILE, Kind, Leaf, Tree, Hand, segments_of, Child, Top, ByCount, room_of, Progress, IsNode, HasCome, itself, nodes_of, of_segment, tree_of, nodes_come_in_order, segments_alike, Piece, Data, Node, IsPieceOf, nodes_of_file, MayFollow, data_in, nodes_in, first_of, turn, turn_of, IsSession, SessionState, IsWhole, is_last, node_in_turn, rest_of, turn_node, IsCutInto}
+use Rattle.std.proofs.Common.{Option, None, length-take}
 use Rattle.segmenter.proofs.LengthLemmas.{are_few, have_right_lengths, lengths_add_up}
-use Rattle.merkle_file.specs.declared.node.Child.{Child}
-use Rattle.merkle_file.specs.declared.top.Top.{Top}
-use Rattle.merkle_file.specs.Form.{ByCount, room_of}
-use Rattle.merkle_file.specs.Building.{Progress}
 use Rattle.merkle_file.specs.Node as node
-use Rattle.merkle_file.specs.Node.{IsNode}
-use Rattle.merkle_file.specs.Order.{HasCome}
-use Rattle.merkle_file.specs.Tree.{itself, nodes_of, of_segment, tree_of}
 use Rattle.merkle_file.proofs.ChildrenFirst as first
-use Rattle.merkle_file.proofs.InOrder.{nodes_come_in_order}
 use Rattle.merkle_file.proofs.RootLaws.{nodes_are_right}
-use Rattle.merkle_file.proofs.TreeLaws.{segments_alike}
-use Rattle.store_model.specs.Pieces.{Piece, Data, Node, IsPieceOf, nodes_of_file}
-use Rattle.ingest_session.specs.Facts.{MayFollow, data_in, nodes_in}
-use Rattle.ingest_session.specs.Finished.{first_of}
-use Rattle.ingest_session.specs.History.{turn, turn_of}
-use Rattle.ingest_session.specs.Sound.{IsSession}
-use Rattle.ingest_session.specs.State.{SessionState, IsWhole, is_last, node_in_turn, rest_of, turn_node}
-use Rattle.ingest_session.specs.Stream.{IsCutInto}
 use Rattle.ingest_session.proofs.Following.{Follows, IsBuilt, begun, pushed_and_rest, pushed_of, taken_of}
 use Rattle.ingest_session.proofs.InLine.{first_and_rest}
 use Rattle.ingest_session.proofs.Members.{IsAmong, IsIn, all_among, in_first, in_left, in_none, in_one, in_right, one_of}

@@ -1,11 +1,7 @@
 -- The node whose turn it is is the first in line.
-use Rattle.std.proofs.Common.{◌≡◌, List, [], ◌∷◌, ◌++◌, Option, Some, None, IsSome, refl, subst}
-use Rattle.container_meta.specs.declared.kind.Kind.{Kind}
-use Rattle.container_meta.specs.declared.kind.Kind.TheVariants.{Leaf, Tree}
-use Rattle.container_meta.specs.Segments.{KindSegment}
+use Rattle.ingest_session.proofs.Prelude.{◌≡◌, List, [], ◌∷◌, ◌++◌, Some, IsSome, refl, subst, Kind, Leaf, Tree, KindSegment, first_of, IsSpelled, node_in_turn}
+use Rattle.std.proofs.Common.{Option, None}
 use Rattle.merkle_file.specs.Node as node
-use Rattle.ingest_session.specs.Finished.{first_of}
-use Rattle.ingest_session.specs.State.{IsSpelled, node_in_turn}
 
 pub turn_is_first : (kind : Kind) (line : List node.Contents) (m : node.Contents) → node_in_turn kind line ≡ Some m → first_of line ≡ Some m
 turn_is_first Leaf line m is = absurd (cc)

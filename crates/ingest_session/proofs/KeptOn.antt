@@ -1,14 +1,5 @@
 -- What is kept of a file that goes on from what was given, after some answers: however the bytes came between these, it is one.
-use Rattle.std.proofs.Common.{◌∙◌, ℕ, true, List, [], ◌∷◌, ◌++◌, refl, sym, subst, reverse}
-use Rattle.container_meta.specs.declared.kind.Kind.{Kind}
-use Rattle.container_meta.specs.Segments.{Segment}
-use Rattle.segmenter.specs.Segments.{segments_of}
-use Rattle.actor_parts.specs.declared.step.Answer.{Answer}
-use Rattle.ingest_session.specs.Due.{due_in}
-use Rattle.ingest_session.specs.Facts.{IsKept, MayFollow}
-use Rattle.ingest_session.specs.History.{History, HasHistory, answered}
-use Rattle.ingest_session.specs.State.{SessionState}
-use Rattle.ingest_session.specs.Told.{IsAnswerFor, IsSettled, told_by}
+use Rattle.ingest_session.proofs.Prelude.{◌∙◌, ℕ, true, List, [], ◌∷◌, ◌++◌, refl, sym, subst, reverse, Kind, Segment, segments_of, Answer, due_in, IsKept, MayFollow, History, HasHistory, answered, SessionState, IsAnswerFor, IsSettled, told_by}
 use Rattle.ingest_session.proofs.Answering.{known}
 use Rattle.ingest_session.proofs.Growing as growing
 use Rattle.ingest_session.proofs.Members.{IsIn, in_none}

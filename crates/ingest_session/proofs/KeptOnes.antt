@@ -1,15 +1,6 @@
 -- What was given and answered fixes what is kept.
-use Rattle.std.proofs.Common.{◌≡◌, ◌∙◌, ℕ, Bool, true, false, List, [], ◌++◌, refl, sym, ap, subst, append-nil, reverse}
-use Rattle.container_meta.specs.Segments.{Segment}
-use Rattle.segmenter.specs.Cutting.{Hand}
-use Rattle.segmenter.specs.Segments.{segments_of}
-use Rattle.segmenter.proofs.RunLemmas.{HasCut-finish}
-use Rattle.actor_parts.specs.declared.step.Answer.{Answer}
+use Rattle.ingest_session.proofs.Prelude.{◌≡◌, ◌∙◌, ℕ, Bool, true, false, List, [], ◌++◌, refl, sym, ap, subst, append-nil, reverse, Segment, Hand, segments_of, HasCut-finish, Answer, data_in, History, HasHistory, SessionState, IsCutInto}
 use Rattle.ingest_session.specs.DueFor.{KeptIsOne}
-use Rattle.ingest_session.specs.Facts.{data_in}
-use Rattle.ingest_session.specs.History.{History, HasHistory}
-use Rattle.ingest_session.specs.State.{SessionState}
-use Rattle.ingest_session.specs.Stream.{IsCutInto}
 use Rattle.ingest_session.proofs.Answering.{known}
 use Rattle.ingest_session.proofs.Replayed.{Extends, reaches}
 use Rattle.ingest_session.proofs.Runs.{Came, IsSame, one_point}

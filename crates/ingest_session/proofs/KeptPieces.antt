@@ -1,24 +1,11 @@
 -- What a history has as kept: what an answer adds to it, and that all of it are pieces of the file.
-use Rattle.std.proofs.Common.{◌≡◌, ◌⊎◌, inl, inr, ◌∙◌, ℕ, if◌then◌else◌, List, [], ◌∷◌, ◌++◌, Option, Some, None, refl, sym, ap, subst, append-nil, append_assoc}
-use Rattle.std.specs.List.{AllByRecursion}
-use Rattle.container_meta.specs.declared.kind.Kind.{Kind}
-use Rattle.container_meta.specs.declared.kind.Kind.TheVariants.{Leaf, Tree}
-use Rattle.container_meta.specs.Segments.{KindSegment, Segment}
+use Rattle.ingest_session.proofs.Prelude.{◌≡◌, ◌⊎◌, inl, inr, ◌∙◌, ℕ, List, [], ◌∷◌, ◌++◌, Some, refl, sym, ap, subst, append-nil, append_assoc, AllByRecursion, Kind, Leaf, Tree, KindSegment, Segment, Answer, node_segment, Data, Node, HasPieceOf, IsPieceOf, Due, Seal, HasTurn, due_in, item_kind, open_of, IsKept, MayFollow, History, HasHistory, Pushed, Ended, Moved, Asked, Told, answered, held_by, item_if, same_kind, sealed_for, turn_of, item_of, SessionState, turn_node, IsAnswerFor, IsSettled}
+use Rattle.std.proofs.Common.{if◌then◌else◌, Option, None}
 use Rattle.merkle_file.specs.Node as node
-use Rattle.actor_parts.specs.declared.step.Answer.{Answer}
 use Rattle.actor_parts.specs.declared.step.Answer.TheVariants as answers
-use Rattle.actor_parts.specs.Segments.{node_segment}
-use Rattle.store_model.specs.Pieces.{Data, Node, HasPieceOf, IsPieceOf}
 use Rattle.store_model.specs.Standing.{IsSegmentOf}
-use Rattle.ingest_session.specs.declared.due.Due.{Due}
-use Rattle.ingest_session.specs.declared.due.Due.TheVariants.{Seal}
-use Rattle.ingest_session.specs.Due.{HasTurn, due_in, item_kind, open_of}
-use Rattle.ingest_session.specs.Facts.{IsKept, MayFollow}
-use Rattle.ingest_session.specs.History.{History, HasHistory, Begun, Pushed, Ended, Moved, Asked, Told, answered, held_by, item_if, same_kind, sealed_by, sealed_for, turn_of}
-use Rattle.ingest_session.specs.Items.{item_of}
+use Rattle.ingest_session.specs.History.{Begun, sealed_by}
 use Rattle.ingest_session.specs.Moving.{IsItem}
-use Rattle.ingest_session.specs.State.{SessionState, turn_node}
-use Rattle.ingest_session.specs.Told.{IsAnswerFor, IsSettled}
 use Rattle.ingest_session.proofs.Facts.{opens_are_pieces, turns_are_pieces}
 use Rattle.ingest_session.proofs.Members.{IsIn, in_either, in_left, in_none, in_one, in_right, one_of}
 use Rattle.ingest_session.proofs.Settled.{settles_by, settling_keeps}

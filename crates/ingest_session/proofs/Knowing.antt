@@ -1,29 +1,11 @@
 -- What is known of a session with a history, and that the children of a node which is claimed are kept.
-use Rattle.std.proofs.Common.{◌≡◌, ◌≤◌, ◌⊎◌, ◌∙◌, ◌+◌, ◌-◌, ℕ, Bool, true, false, List, [], ◌∷◌, Some, map, inl, inr, refl, sym, ap, subst, arith}
+use Rattle.ingest_session.proofs.Prelude.{◌≡◌, ◌≤◌, ◌⊎◌, ◌∙◌, ◌+◌, ◌-◌, ℕ, Bool, true, false, List, [], ◌∷◌, Some, map, inl, inr, refl, sym, ap, subst, arith, AllByRecursion, list_any, ne_eqb, key_of, kind_byte, Kind, Leaf, Tree, KindSegment, Segment, has_key, segment_key, Child, IsNode, spelling, HasCome, of_segment, child_kind, children_by, node_segment, Piece, Data, Node, piece_segment, leaf_key, node_key, has_child_of, open_of, IsKept, IsKeptChild, data_in, nodes_in, first_of, History, IsSession, SessionState, turn_node}
 use Rattle.std.specs.Prelude.{if◌then◌else◌}
-use Rattle.std.specs.List.{AllByRecursion, list_any}
-use Rattle.std.proofs.lemmas.Bool.{ne_eqb}
-use Rattle.base_model.specs.Bytes.{key_of}
-use Rattle.container_meta.specs.Format.{kind_byte}
-use Rattle.container_meta.specs.declared.kind.Kind.{Kind}
-use Rattle.container_meta.specs.declared.kind.Kind.TheVariants.{Leaf, Tree}
-use Rattle.container_meta.specs.Segments.{KindSegment, Segment, has_key, segment_key}
-use Rattle.merkle_file.specs.declared.node.Child.{Child}
 use Rattle.merkle_file.specs.Node as node
-use Rattle.merkle_file.specs.Node.{IsNode, node_digest, spelling, total}
-use Rattle.merkle_file.specs.Order.{HasCome}
-use Rattle.merkle_file.specs.Tree.{of_segment, parent}
+use Rattle.merkle_file.specs.Node.{node_digest, total}
+use Rattle.merkle_file.specs.Tree.{parent}
 use Rattle.merkle_file.proofs.InPlace.{read_again}
-use Rattle.actor_parts.specs.Segments.{child_kind, child_pin, children_by, node_segment, pin_by}
-use Rattle.store_model.specs.Pieces.{Piece, Data, Node, piece_segment}
-use Rattle.store_model.specs.Trees.{leaf_key, node_key}
-use Rattle.ingest_session.specs.Child.{has_child_of}
-use Rattle.ingest_session.specs.Due.{open_of}
-use Rattle.ingest_session.specs.Facts.{IsKept, IsKeptChild, data_in, nodes_in}
-use Rattle.ingest_session.specs.Finished.{first_of}
-use Rattle.ingest_session.specs.History.{History}
-use Rattle.ingest_session.specs.Sound.{IsSession}
-use Rattle.ingest_session.specs.State.{SessionState, turn_node}
+use Rattle.actor_parts.specs.Segments.{child_pin, pin_by}
 use Rattle.ingest_session.proofs.Following.{Follows, taken_of}
 use Rattle.ingest_session.proofs.Growing.{children_are_placed, nodes_right}
 use Rattle.ingest_session.proofs.InLine.{first_and_rest}

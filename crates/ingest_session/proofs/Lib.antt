@@ -1,5 +1,6 @@
 pub mod Lists
 pub mod InLine
+mod Prelude
 pub mod Rests
 pub mod Beginning
 pub mod Uncut

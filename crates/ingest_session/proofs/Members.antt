@@ -1,20 +1,13 @@
 -- Elements of lists, and the pieces that are in their place.
-use Rattle.std.proofs.Common.{◌≡◌, ◌⊎◌, ◌∙◌, ℕ, zero, suc, Bool, true, false, ◌+◌, List, [], ◌∷◌, ◌++◌, Some, slice_get, map, length, inl, inr, refl, sym, ap, subst, arith}
-use Rattle.std.proofs.lemmas.Bool.{and_parts, eqb-true, or_cases, or_left, or_parts, or_right}
+use Rattle.ingest_session.proofs.Prelude.{◌≡◌, ◌⊎◌, ◌∙◌, ℕ, zero, suc, Bool, true, false, ◌+◌, List, [], ◌∷◌, ◌++◌, Some, map, length, inl, inr, refl, sym, ap, subst, arith, and_parts, or_left, or_right, AllByRecursion, list_any, option_to_list, ◌==◌, Kind, Contents, Segment, has_key, segment_key, Piece, Data, Node, piece_segment, item_kind, data_in, nodes_in, turn_of, item_of}
+use Rattle.std.proofs.Common.{slice_get}
+use Rattle.std.proofs.lemmas.Bool.{eqb-true, or_cases, or_parts}
 use Rattle.std.proofs.lemmas.Option.{same_Some}
 use Rattle.std.proofs.lemmas.Slice.Eq.{bytes_eq-Decides}
-use Rattle.std.specs.List.{AllByRecursion, list_any}
-use Rattle.std.specs.Option.{option_to_list}
 use Rattle.std.specs.Str.{bytes_eq}
-use Rattle.std.specs.Prelude.{Option, None, ◌==◌}
-use Rattle.container_meta.specs.declared.kind.Kind.{Kind}
-use Rattle.container_meta.specs.Segments.{Contents, Segment, has_key, is_segment, segment_key}
+use Rattle.std.specs.Prelude.{Option, None}
+use Rattle.container_meta.specs.Segments.{is_segment}
 use Rattle.merkle_file.specs.Node as node
-use Rattle.store_model.specs.Pieces.{Piece, Data, Node, piece_segment}
-use Rattle.ingest_session.specs.Due.{item_kind}
-use Rattle.ingest_session.specs.Facts.{data_in, nodes_in}
-use Rattle.ingest_session.specs.History.{turn_of}
-use Rattle.ingest_session.specs.Items.{item_of}
 
 -- ---- an element of a list
 

@@ -1,32 +1,9 @@
 -- What answers make of a session, they make of the session over a whole file.
-use Rattle.std.proofs.Common.{◌≡◌, ◌≤◌, ◌⊎◌, inl, inr, ◌∙◌, ℕ, Bool, true, false, not, if◌then◌else◌, List, [], ◌∷◌, ◌++◌, Option, Some, None, IsSome, length, drop, map, refl, sym, ap, subst, arith, append-nil, append_assoc, length-append, reverse}
-use Rattle.std.proofs.Math.Seq.{drop-append_seam}
-use Rattle.std.proofs.lemmas.Bool.{and_parts}
-use Rattle.std.proofs.lemmas.List.{length-map, reverse-append}
-use Rattle.container_meta.specs.declared.kind.Kind.{Kind}
-use Rattle.container_meta.specs.declared.kind.Kind.TheVariants.{Leaf, Tree}
-use Rattle.container_meta.specs.Segments.{Contents, Segment}
-use Rattle.merkle_file.specs.declared.node.Child.{Child}
-use Rattle.merkle_file.specs.declared.top.Top.{Top}
-use Rattle.merkle_file.specs.Building.{Progress}
-use Rattle.merkle_file.specs.Form.{ByCount, room_of}
+use Rattle.ingest_session.proofs.Prelude.{◌≡◌, ◌≤◌, ◌⊎◌, inl, inr, ◌∙◌, ℕ, Bool, true, false, List, [], ◌∷◌, ◌++◌, Some, IsSome, length, drop, map, refl, sym, ap, subst, arith, append-nil, append_assoc, length-append, reverse, drop-append_seam, and_parts, length-map, Kind, Leaf, Tree, Contents, Segment, Child, Top, Progress, ByCount, room_of, itself, nodes_of, of_segment, tree_of, nodes_come_in_order, Answer, Held, Absent, Sealed, Piece, Due, Seal, Nothing, HasTurn, due_in, due_node, end_due, item_due, item_is_there, item_kind, needs_no_step, queue_due, queue_is_there, turn_in, data_in, nodes_in, History, HasHistory, IsBegun, Pushed, Ended, Moved, Asked, Told, answered, held_by, moved, placed_by, turn, turn_of, fits, SettleStep, Turned, Spelled, Advanced, Closed, PlacedNode, PlacedFront, IsSession, SessionState, IsWhole, is_last, node_in_turn, turn_node, IsCutInto, IsAnswerFor, IsSettled, absent_item, added_item, emptied, placed_item, told_by, with_open}
+use Rattle.std.proofs.Common.{not, if◌then◌else◌, Option, None}
+use Rattle.std.proofs.lemmas.List.{reverse-append}
 use Rattle.merkle_file.specs.Node as node
-use Rattle.merkle_file.specs.Tree.{itself, nodes_of, of_segment, tree_of}
-use Rattle.merkle_file.proofs.InOrder.{nodes_come_in_order}
-use Rattle.actor_parts.specs.declared.step.Answer.{Answer}
-use Rattle.actor_parts.specs.declared.step.Answer.TheVariants.{Held, Absent, Sealed}
-use Rattle.store_model.specs.Pieces.{Piece}
-use Rattle.ingest_session.specs.declared.due.Due.{Due}
-use Rattle.ingest_session.specs.declared.due.Due.TheVariants.{Seal, Nothing}
-use Rattle.ingest_session.specs.Due.{HasTurn, due_in, due_node, end_due, item_due, item_is_there, item_kind, needs_no_step, queue_due, queue_is_there, turn_in}
-use Rattle.ingest_session.specs.Facts.{data_in, nodes_in}
-use Rattle.ingest_session.specs.History.{History, HasHistory, IsBegun, Begun, Pushed, Ended, Moved, Asked, Told, answered, held_by, moved, placed_by, sealed_by, turn, turn_of}
-use Rattle.ingest_session.specs.Items.{fits}
-use Rattle.ingest_session.specs.Settling.{SettleStep, Turned, Spelled, Advanced, Closed, PlacedNode, PlacedFront}
-use Rattle.ingest_session.specs.Sound.{IsSession}
-use Rattle.ingest_session.specs.State.{SessionState, IsWhole, is_last, node_in_turn, turn_node}
-use Rattle.ingest_session.specs.Stream.{IsCutInto}
-use Rattle.ingest_session.specs.Told.{IsAnswerFor, IsSettled, absent_item, added_item, emptied, placed_item, told_by, with_open}
+use Rattle.ingest_session.specs.History.{Begun, sealed_by}
 use Rattle.ingest_session.specs.Told as told
 use Rattle.ingest_session.proofs.Agreeing.{Agrees, like}
 use Rattle.ingest_session.proofs.Answering.{known}

@@ -1,27 +1,10 @@
 -- A session over a whole file, and what an answer does to it.
-use Rattle.std.proofs.Common.{◌≡◌, ◌∙◌, ℕ, Bool, true, false, if◌then◌else◌, List, [], ◌∷◌, Option, Some, None, length, drop, map, refl, sym, ap}
-use Rattle.container_meta.specs.declared.kind.Kind.{Kind}
-use Rattle.container_meta.specs.declared.kind.Kind.TheVariants.{Leaf, Tree}
-use Rattle.container_meta.specs.Segments.{Contents, Segment, has_room}
-use Rattle.segmenter.specs.Cutting.{empty_hand}
-use Rattle.merkle_file.specs.Building.{nodes_in_rows, open_over}
-use Rattle.merkle_file.specs.Form.{ByCount}
+use Rattle.ingest_session.proofs.Prelude.{◌≡◌, ◌∙◌, ℕ, Bool, true, false, List, [], ◌∷◌, Some, length, drop, map, refl, sym, ap, Kind, Leaf, Tree, Contents, Segment, has_room, empty_hand, nodes_in_rows, open_over, ByCount, itself, nodes_of, of_segment, tree_of, Answer, Held, Absent, Sealed, Piece, Due, Seal, due_in, item_kind, needs_no_step, turn_in, data_in, nodes_in, with_segment, held_by, placed_after_seal, placed_by, placed_if, same_kind, sealed_for, turn, fits, item_of, SessionState, is_last, turn_node, IsAnswerFor, absent_item, added_item, emptied, placed_item, sealed, told_by, with_open}
+use Rattle.std.proofs.Common.{if◌then◌else◌, Option, None}
 use Rattle.merkle_file.specs.Node as node
-use Rattle.merkle_file.specs.Tree.{itself, nodes_of, of_segment, tree_of}
-use Rattle.actor_parts.specs.declared.step.Answer.{Answer}
-use Rattle.actor_parts.specs.declared.step.Answer.TheVariants.{Held, Absent, Sealed}
-use Rattle.store_model.specs.Pieces.{Piece}
-use Rattle.ingest_session.specs.declared.due.Due.{Due}
-use Rattle.ingest_session.specs.declared.due.Due.TheVariants.{Seal}
-use Rattle.ingest_session.specs.Due.{due_in, item_kind, needs_no_step, turn_in}
 use Rattle.ingest_session.specs.Due as due
-use Rattle.ingest_session.specs.Facts.{data_in, nodes_in}
-use Rattle.ingest_session.specs.Filling.{with_segment}
-use Rattle.ingest_session.specs.History.{held_by, placed_after_seal, placed_by, placed_if, same_kind, sealed_by, sealed_for, turn}
-use Rattle.ingest_session.specs.Items.{fits, item_of}
-use Rattle.ingest_session.specs.State.{SessionState, is_last, turn_node}
+use Rattle.ingest_session.specs.History.{sealed_by}
 use Rattle.ingest_session.specs.Told as told
-use Rattle.ingest_session.specs.Told.{IsAnswerFor, absent_item, added_item, emptied, placed_item, sealed, told_by, with_open}
 
 -- whose turn an item that waits has
 abbrev pub waiting_turn : Bool → Kind → Option Kind

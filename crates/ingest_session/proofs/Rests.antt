@@ -1,11 +1,7 @@
 -- What the builder of a tree is still to be given.
-use Rattle.std.proofs.Common.{◌≡◌, ◌≤◌, ℕ, false, List, [], ◌∷◌, ◌++◌, Option, Some, None, length, refl, ap, ◌∙◌}
-use Rattle.disk_format.specs.declared.numbers.TheConstants.{LEAST_SEGMENT}
-use Rattle.container_meta.specs.Segments.{KindSegment, Segment, has_room}
+use Rattle.ingest_session.proofs.Prelude.{◌≡◌, ◌≤◌, ℕ, false, List, [], ◌∷◌, ◌++◌, Some, length, refl, ap, ◌∙◌, LEAST_SEGMENT, KindSegment, Segment, has_room, item_kind, open_of, fits, item_of, SessionState, HasItem, rest_after, IsAhead, AreLong, turn_node}
+use Rattle.std.proofs.Common.{Option, None}
 use Rattle.merkle_file.specs.Node as node
-use Rattle.ingest_session.specs.Due.{item_kind, open_of}
-use Rattle.ingest_session.specs.Items.{fits, item_of}
-use Rattle.ingest_session.specs.State.{SessionState, HasItem, rest_after, IsAhead, AreLong, turn_node}
 
 pub rest_grows : (ahead : Option KindSegment) (queue : List (List ℕ)) (x : List ℕ) → IsAhead ahead queue →
     rest_after ahead (queue ++ x ∷ []) ≡ rest_after ahead queue ++ x ∷ []

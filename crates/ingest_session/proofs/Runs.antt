@@ -1,14 +1,7 @@
 -- Answers, one after the other, to the session over a whole file: they make one of it.
-use Rattle.std.proofs.Common.{◌≡◌, ◌∙◌, ℕ, Bool, true, false, List, [], ◌∷◌, ◌++◌, None, refl, sym, ap, subst}
-use Rattle.container_meta.specs.declared.kind.Kind.{Kind}
-use Rattle.container_meta.specs.declared.kind.Kind.TheVariants.{Leaf, Tree}
-use Rattle.container_meta.specs.Segments.{Segment}
-use Rattle.actor_parts.specs.declared.step.Answer.{Answer}
-use Rattle.store_model.specs.Pieces.{Piece}
-use Rattle.ingest_session.specs.Due.{needs_no_step}
-use Rattle.ingest_session.specs.History.{held_by, placed_by, sealed_by, turn}
-use Rattle.ingest_session.specs.State.{SessionState}
-use Rattle.ingest_session.specs.Told.{told_by}
+use Rattle.ingest_session.proofs.Prelude.{◌≡◌, ◌∙◌, ℕ, Bool, true, false, List, [], ◌∷◌, ◌++◌, refl, sym, ap, subst, Kind, Leaf, Tree, Segment, Answer, Piece, needs_no_step, held_by, placed_by, turn, SessionState, told_by}
+use Rattle.std.proofs.Common.{None}
+use Rattle.ingest_session.specs.History.{sealed_by}
 use Rattle.ingest_session.proofs.Replaying.{Core, core_of, session_at}
 use Rattle.ingest_session.proofs.Waiting.{on_and_off}
 

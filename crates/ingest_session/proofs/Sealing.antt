@@ -1,22 +1,9 @@
 -- What was sealed was answered Absent.
-use Rattle.std.proofs.Common.{◌≡◌, ◌∙◌, ℕ, Bool, true, false, ◌&&◌, not, if◌then◌else◌, List, [], ◌∷◌, ◌++◌, Option, Some, None, refl, sym, ap, append_assoc, append-nil}
-use Rattle.container_meta.specs.declared.kind.Kind.{Kind}
-use Rattle.container_meta.specs.declared.kind.Kind.TheVariants.{Leaf, Tree}
-use Rattle.container_meta.specs.Segments.{Contents, Segment}
+use Rattle.ingest_session.proofs.Prelude.{◌≡◌, ◌∙◌, ℕ, Bool, true, false, ◌&&◌, List, [], ◌∷◌, ◌++◌, Some, refl, sym, ap, append_assoc, append-nil, Kind, Leaf, Tree, Contents, Segment, Answer, Held, Absent, Sealed, Due, Claim, Seal, IsEnding, IsTaking, KeepsItem, due_in, due_node, item_due, item_is_there, item_kind, open_of, turn_in, with_segment, fits, item_of, SettleStep, Turned, Spelled, Advanced, Closed, PlacedNode, PlacedFront, SessionState, turn_node, IsAnswerFor, absent_item, added_item, emptied, placed_front, placed_item, placed_node, told_by, with_open, History, HasHistory, IsBegun, Pushed, Ended, Moved, Asked, Told, item_if, same_kind}
+use Rattle.std.proofs.Common.{not, if◌then◌else◌, Option, None}
 use Rattle.merkle_file.specs.Node as node
-use Rattle.actor_parts.specs.declared.step.Answer.{Answer}
-use Rattle.actor_parts.specs.declared.step.Answer.TheVariants.{Held, Absent, Sealed}
-use Rattle.ingest_session.specs.declared.due.Due.{Due}
-use Rattle.ingest_session.specs.declared.due.Due.TheVariants.{Claim, Seal}
-use Rattle.ingest_session.specs.Calls.{IsEnding, IsTaking, KeepsItem}
-use Rattle.ingest_session.specs.Due.{due_in, due_node, item_due, item_is_there, item_kind, open_of, turn_in}
-use Rattle.ingest_session.specs.Filling.{with_segment}
-use Rattle.ingest_session.specs.Items.{fits, item_of}
-use Rattle.ingest_session.specs.Settling.{SettleStep, Turned, Spelled, Advanced, Closed, PlacedNode, PlacedFront}
-use Rattle.ingest_session.specs.State.{SessionState, turn_node}
-use Rattle.ingest_session.specs.Told.{IsAnswerFor, absent_item, added_item, emptied, placed_front, placed_item, placed_node, told_by, with_open}
 use Rattle.ingest_session.specs.Facts.{SealsWereAbsent}
-use Rattle.ingest_session.specs.History.{History, HasHistory, IsBegun, Begun, Pushed, Ended, Moved, Asked, Told, absent_by, item_if, same_kind, sealed_by, waiting}
+use Rattle.ingest_session.specs.History.{Begun, absent_by, sealed_by, waiting}
 
 -- what a container holds and what waits for it
 abbrev pub kept : Kind → SessionState → List Segment

@@ -1,25 +1,9 @@
 -- A container that is to be sealed holds a segment at least.
-use Rattle.std.proofs.Common.{◌≡◌, ◌≤◌, ◌∙◌, ℕ, Bool, true, false, if◌then◌else◌, List, [], ◌∷◌, Option, Some, None, length, refl, ap, subst, arith, rules}
-use Rattle.std.specs.List.{AllByRecursion, list_any}
-use Rattle.base_model.specs.Bytes.{key_of}
+use Rattle.ingest_session.proofs.Prelude.{◌≡◌, ◌≤◌, ◌∙◌, ℕ, Bool, true, false, List, [], ◌∷◌, Some, length, refl, ap, subst, arith, rules, AllByRecursion, list_any, key_of, Kind, Leaf, Tree, kind_byte, Contents, KindSegment, Segment, has_key, has_room, Child, spelling, contents_in, length_spelling, IsStepSegment, child_kind, node_segment, leaf_key, node_key, Claim, Seal, has_child_of, due_in, due_node, end_due, item_due, item_kind, open_of, queue_due, item_of, IsSession, SessionState, HasItem, IsSized, IsSpelled, turn_node}
+use Rattle.std.proofs.Common.{if◌then◌else◌, Option, None}
 use Rattle.disk_format.specs.declared.numbers.TheConstants.{DATA_BYTES}
-use Rattle.container_meta.specs.declared.kind.Kind.{Kind}
-use Rattle.container_meta.specs.declared.kind.Kind.TheVariants.{Leaf, Tree}
-use Rattle.container_meta.specs.Format.{kind_byte}
-use Rattle.container_meta.specs.Segments.{Contents, KindSegment, Segment, has_key, has_room}
-use Rattle.merkle_file.specs.declared.node.Child.{Child}
 use Rattle.merkle_file.specs.Node as node
-use Rattle.merkle_file.specs.Node.{spelling}
-use Rattle.merkle_file.specs.Reading.{contents_in}
-use Rattle.merkle_file.proofs.InPlace.{length_spelling}
-use Rattle.actor_parts.specs.Segments.{AreStepSegments, IsStepSegment, child_kind, node_segment}
-use Rattle.store_model.specs.Trees.{leaf_key, node_key}
-use Rattle.ingest_session.specs.declared.due.Due.TheVariants.{Claim, Seal}
-use Rattle.ingest_session.specs.Child.{has_child_of}
-use Rattle.ingest_session.specs.Due.{due_in, due_node, end_due, item_due, item_kind, open_of, queue_due}
-use Rattle.ingest_session.specs.Items.{item_of}
-use Rattle.ingest_session.specs.Sound.{IsSession}
-use Rattle.ingest_session.specs.State.{SessionState, HasItem, IsSized, IsSpelled, turn_node}
+use Rattle.actor_parts.specs.Segments.{AreStepSegments}
 use Rattle.ingest_session.proofs.InLine.{turn_spelled}
 
 -- data may always stand in a step

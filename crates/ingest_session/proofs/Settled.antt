@@ -1,13 +1,8 @@
 -- What settling keeps.
-use Rattle.std.proofs.Common.{◌≡◌, ◌⊎◌, inl, inr, ◌∙◌, Bool, true, false, not, ◌&&◌, List, [], ◌++◌, refl, sym, ap, subst, append_assoc, append-nil}
-use Rattle.store_model.specs.Pieces.{Piece}
-use Rattle.ingest_session.specs.Calls.{KeepsItem}
-use Rattle.ingest_session.specs.History.{HasHistory, Moved, Asked, Places, moved}
-use Rattle.ingest_session.specs.Items.{item_of}
-use Rattle.ingest_session.specs.Moving.{IsClosing}
-use Rattle.ingest_session.specs.Settling.{KeepsOpen, Settles, SettleStep, Stays, Then, Turned, Spelled, Advanced, Closed, PlacedNode, PlacedFront}
-use Rattle.ingest_session.specs.Sound.{IsSession}
-use Rattle.ingest_session.specs.State.{SessionState, turn_node}
+use Rattle.ingest_session.proofs.Prelude.{◌≡◌, ◌⊎◌, inl, inr, ◌∙◌, Bool, true, false, ◌&&◌, List, [], ◌++◌, refl, sym, ap, subst, append_assoc, append-nil, Piece, KeepsItem, HasHistory, Moved, Asked, moved, item_of, IsClosing, Settles, SettleStep, Then, Turned, Spelled, Advanced, Closed, PlacedNode, PlacedFront, IsSession, SessionState, turn_node}
+use Rattle.std.proofs.Common.{not}
+use Rattle.ingest_session.specs.History.{Places}
+use Rattle.ingest_session.specs.Settling.{KeepsOpen, Stays}
 
 pub settles_on : {first second third : SessionState} → Settles first second → Settles second third → Settles first third
 settles_on one (Stays s) = one

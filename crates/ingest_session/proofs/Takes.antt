@@ -1,8 +1,5 @@
 -- Bytes that are taken piece by piece.
-use Rattle.std.proofs.Common.{◌≡◌, ◌∙◌, false, ◌++◌, ℕ, List, [], ap, sym, refl, subst, append_assoc, append-nil, length-append, arith}
-use Rattle.ingest_session.specs.State.{SessionState, rest_of}
-use Rattle.ingest_session.specs.Stream.{IsCutInto}
-use Rattle.ingest_session.specs.Calls.{IsTaking}
+use Rattle.ingest_session.proofs.Prelude.{◌≡◌, ◌∙◌, false, ◌++◌, ℕ, List, [], ap, sym, refl, subst, append_assoc, append-nil, length-append, arith, SessionState, rest_of, IsCutInto, IsTaking}
 
 pub takes_none : (s : SessionState) → s.ended ≡ false → IsTaking [] s s
 takes_none s ongoing = record {

@@ -1,16 +1,9 @@
 -- A segment that is whole is put into the queue.
-use Rattle.std.proofs.Common.{◌≡◌, ◌≤◌, ◌<◌, ◌+◌, ◌∙◌, ℕ, Bool, true, false, List, [], ◌∷◌, ◌++◌, Option, Some, None, length, take, refl, sym, ap, subst, arith, sum_by, append_assoc, length-append, zero-add}
-use Rattle.std.proofs.lemmas.List.{length-take-le}
-use Rattle.std.proofs.lemmas.List.Sums.{sum_by-append}
-use Rattle.disk_format.specs.declared.numbers.TheConstants.{LEAST_SEGMENT, MOST_FILE}
+use Rattle.ingest_session.proofs.Prelude.{◌≡◌, ◌≤◌, ◌<◌, ◌+◌, ◌∙◌, ℕ, Bool, true, false, List, [], ◌∷◌, ◌++◌, Some, length, take, refl, sym, ap, subst, arith, sum_by, append_assoc, length-append, zero-add, length-take-le, sum_by-append, LEAST_SEGMENT, MOST_FILE, Hand, HasCut, empty_hand, Top, IsTaking, KeepsItem, IsSession, SessionState, IsWhole, rest_of, rest_after, is_last, AreLong, turn_node, IsCutInto}
+use Rattle.std.proofs.Common.{Option, None}
 use Rattle.segmenter.specs.declared.cutting.Taken.{Taken}
-use Rattle.segmenter.specs.Cutting.{Hand, Takes, IsOne, HasCut, empty_hand}
-use Rattle.merkle_file.specs.declared.top.Top.{Top}
+use Rattle.segmenter.specs.Cutting.{Takes, IsOne}
 use Rattle.ingest_session.specs.declared.queue.TheConstants.{QUEUE}
-use Rattle.ingest_session.specs.Calls.{IsTaking, KeepsItem}
-use Rattle.ingest_session.specs.Sound.{IsSession}
-use Rattle.ingest_session.specs.State.{SessionState, IsWhole, rest_of, rest_after, is_last, AreLong, turn_node}
-use Rattle.ingest_session.specs.Stream.{IsCutInto}
 use Rattle.ingest_session.proofs.Lists.{all_and_one}
 use Rattle.ingest_session.proofs.Uncut.{empty_is_uncut}
 use Rattle.ingest_session.proofs.Rests.{rest_grows, ahead_stays, full_stays, item_stays, long_and_one}

@@ -1,15 +1,8 @@
 -- What an answer does to a session.
-use Rattle.std.proofs.Common.{◌≡◌, ◌<◌, Bool, true, false, if◌then◌else◌, refl, sym, subst, arith}
-use Rattle.actor_parts.specs.declared.step.Answer.{Answer}
-use Rattle.actor_parts.specs.declared.step.Answer.TheVariants.{Started, Did, Done, Begun, Held, Absent, Sealed, Committed, Aborted, Opened, Bytes, End, Dropped, Deleted, Listed, Stat}
-use Rattle.ingest_session.specs.declared.due.Due.{Due}
-use Rattle.ingest_session.specs.declared.due.Due.TheVariants.{Claim, Seal, Nothing}
-use Rattle.ingest_session.specs.Due.{due_in, due_node, item_due, item_kind}
-use Rattle.ingest_session.specs.History.{History, HasHistory, SealsSome, Told, answered}
-use Rattle.ingest_session.specs.Sound.{IsSession}
-use Rattle.ingest_session.specs.State.{SessionState, turn_node}
-use Rattle.ingest_session.specs.Told.{IsAnswerFor, IsSettled, sealed_by, told_by}
-use Rattle.ingest_session.specs.Work.{to_do}
+use Rattle.ingest_session.proofs.Prelude.{◌≡◌, ◌<◌, Bool, true, false, refl, sym, subst, arith, Answer, Held, Absent, Sealed, Due, Claim, Seal, Nothing, due_in, due_node, item_due, item_kind, History, HasHistory, SealsSome, Told, answered, IsSession, SessionState, turn_node, IsAnswerFor, IsSettled, told_by, to_do}
+use Rattle.std.proofs.Common.{if◌then◌else◌}
+use Rattle.actor_parts.specs.declared.step.Answer.TheVariants.{Started, Did, Done, Begun, Committed, Aborted, Opened, Bytes, End, Dropped, Deleted, Listed, Stat}
+use Rattle.ingest_session.specs.Told.{sealed_by}
 use Rattle.ingest_session.proofs.SealsSome.{seal_holds_some}
 use Rattle.ingest_session.proofs.Working.{absent_is_less, placed_is_less, sealed_is_less}
 

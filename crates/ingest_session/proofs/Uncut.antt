@@ -1,7 +1,6 @@
 -- What is in hand is no whole segment.
-use Rattle.std.proofs.Common.{refl, arith}
-use Rattle.segmenter.specs.Cutting.{empty_hand, ends_segment}
-use Rattle.ingest_session.specs.Stream.{IsUncut}
+use Rattle.ingest_session.proofs.Prelude.{refl, arith, empty_hand, IsUncut}
+use Rattle.segmenter.specs.Cutting.{ends_segment}
 
 pub empty_is_uncut : IsUncut empty_hand
 unfolding ends_segment

@@ -1,24 +1,11 @@
 -- The container has no segment of the key of the item that waits for it.
-use Rattle.std.proofs.Common.{◌≡◌, ◌∙◌, Bool, true, false, if◌then◌else◌, List, [], ◌∷◌, ◌++◌, Option, Some, None, ℕ, refl, sym, ap, subst}
-use Rattle.container_meta.specs.declared.kind.Kind.{Kind}
-use Rattle.container_meta.specs.declared.kind.Kind.TheVariants.{Leaf, Tree}
-use Rattle.container_meta.specs.Segments.{Contents, KindSegment, has_key}
+use Rattle.ingest_session.proofs.Prelude.{◌≡◌, ◌∙◌, Bool, true, false, List, [], ◌∷◌, ◌++◌, Some, ℕ, refl, sym, ap, subst, Kind, Leaf, Tree, Contents, KindSegment, has_key, Answer, Held, Absent, Sealed, child_kind, leaf_key, node_key, Due, Claim, Seal, Nothing, has_child_of, HasTurn, due_in, due_node, end_due, item_due, item_is_there, item_kind, open_of, queue_due, History, HasHistory, Pushed, Ended, Moved, Asked, Told, fits, SettleStep, Turned, Spelled, Advanced, Closed, PlacedNode, PlacedFront, IsSession, SessionState, HasItem, IsAhead, node_in_turn, turn_node, IsAnswerFor, IsSettled, absent_item, added_item, emptied, placed_item, told_by}
+use Rattle.std.proofs.Common.{if◌then◌else◌, Option, None}
 use Rattle.merkle_file.specs.Node as node
-use Rattle.actor_parts.specs.declared.step.Answer.{Answer}
-use Rattle.actor_parts.specs.declared.step.Answer.TheVariants.{Held, Absent, Sealed}
-use Rattle.actor_parts.specs.Segments.{child_kind}
-use Rattle.store_model.specs.Trees.{leaf_key, node_key}
-use Rattle.ingest_session.specs.declared.due.Due.{Due}
-use Rattle.ingest_session.specs.declared.due.Due.TheVariants.{Claim, Seal, Nothing}
-use Rattle.ingest_session.specs.Child.{has_child_of}
-use Rattle.ingest_session.specs.Due.{HasTurn, due_in, due_node, end_due, item_due, item_is_held, item_is_there, item_kind, open_of, queue_due, queue_has_key}
+use Rattle.ingest_session.specs.Due.{item_is_held, queue_has_key}
 use Rattle.ingest_session.specs.Facts.{WaitsForAnother}
-use Rattle.ingest_session.specs.History.{History, HasHistory, Begun, Pushed, Ended, Moved, Asked, Told}
-use Rattle.ingest_session.specs.Items.{fits}
-use Rattle.ingest_session.specs.Settling.{SettleStep, Turned, Spelled, Advanced, Closed, PlacedNode, PlacedFront}
-use Rattle.ingest_session.specs.Sound.{IsSession}
-use Rattle.ingest_session.specs.State.{SessionState, HasItem, IsAhead, node_in_turn, turn_node}
-use Rattle.ingest_session.specs.Told.{IsAnswerFor, IsSettled, absent_item, added_item, emptied, placed_item, sealed_by, told_by}
+use Rattle.ingest_session.specs.History.{Begun}
+use Rattle.ingest_session.specs.Told.{sealed_by}
 use Rattle.ingest_session.proofs.Sealing.{claims_off, no_step_off, waits_placed, waits_with}
 
 pub session_of : (s : SessionState) (h : History) → HasHistory s h → IsSession s

@@ -1,22 +1,10 @@
 -- Each answer leaves a session less to do, and nothing that it does before a step leaves it more.
-use Rattle.std.proofs.Common.{◌≡◌, ◌≤◌, ◌<◌, ◌+◌, ◌*◌, ◌∙◌, ℕ, Bool, true, false, if◌then◌else◌, List, [], ◌∷◌, drop, length, Option, Some, None, IsSome, refl, ap, arith, rules, length-append}
-use Rattle.std.specs.Option.{option_to_list}
-use Rattle.disk_format.specs.declared.numbers.TheConstants.{MOST_LEVEL}
-use Rattle.container_meta.specs.declared.kind.Kind.{Kind}
-use Rattle.container_meta.specs.declared.kind.Kind.TheVariants.{Leaf, Tree}
-use Rattle.container_meta.specs.Segments.{Contents, KindSegment, Segment}
-use Rattle.merkle_file.specs.declared.top.Top.{Top}
+use Rattle.ingest_session.proofs.Prelude.{◌≡◌, ◌≤◌, ◌<◌, ◌+◌, ◌*◌, ◌∙◌, ℕ, Bool, true, false, List, [], ◌∷◌, drop, length, Some, IsSome, refl, ap, arith, rules, length-append, option_to_list, MOST_LEVEL, Kind, Leaf, Tree, Contents, KindSegment, Segment, Top, Progress, levels_left, item_kind, open_of, with_segment, without_nodes, fits, item_of, BuildsFront, front_of, Settles, SettleStep, Then, Turned, Spelled, Advanced, Closed, PlacedNode, PlacedFront, SessionState, HasItem, node_in_turn, rest_after, turn_node, absent_item, added_item, emptied, placed_front, placed_item, placed_node, sealed, with_open, to_do}
+use Rattle.std.proofs.Common.{if◌then◌else◌, Option, None}
 use Rattle.merkle_file.specs.Node as node
-use Rattle.merkle_file.specs.Building.{Progress, levels_left}
-use Rattle.ingest_session.specs.Due.{item_kind, open_of}
-use Rattle.ingest_session.specs.Filling.{with_segment}
-use Rattle.ingest_session.specs.Finished.{without_nodes}
-use Rattle.ingest_session.specs.Items.{fits, item_of}
-use Rattle.ingest_session.specs.Moving.{BuildsFront, front_of}
-use Rattle.ingest_session.specs.Settling.{Settles, SettleStep, Stays, Then, Turned, Spelled, Advanced, Closed, PlacedNode, PlacedFront}
-use Rattle.ingest_session.specs.State.{SessionState, HasItem, ends_left, node_in_turn, rest_after, turn_node}
-use Rattle.ingest_session.specs.Told.{absent_item, added_item, emptied, placed_front, placed_item, placed_node, sealed, with_open}
-use Rattle.ingest_session.specs.Work.{seals_left, to_do, waits_left}
+use Rattle.ingest_session.specs.Settling.{Stays}
+use Rattle.ingest_session.specs.State.{ends_left}
+use Rattle.ingest_session.specs.Work.{seals_left, waits_left}
 
 -- ---- parts
 

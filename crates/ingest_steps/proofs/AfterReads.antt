@@ -1,35 +1,16 @@
 -- A container that is sealed after reads.
-use Rattle.std.proofs.Common.{◌≡◌, inl, inr, ℕ, ◌<◌, List, Option, Some, Result, Ok, Err, OnOk, IfOk, IfErr, IsErrAnd, refl, sym, ◌∙◌, ap, subst}
-use Rattle.std.specs.List.{AllByRecursion}
+use Rattle.ingest_steps.proofs.Prelude.{◌≡◌, inl, inr, ℕ, ◌<◌, List, Option, Some, Result, Ok, Err, refl, sym, ◌∙◌, ap, subst, AllByRecursion, slot_at, DiskView, IsLater, OnlyReads, SteppedFrom, Ending, Blame, NoCall, ReadCall, WriteCall, Done, Refused, Unread, Broken, ending, ending_of, Arrives, StandsFor, Shows, Both, counts_on, later_on, leaves_on, leaves_weaker, reads_leave, stands_reads, shown_content, Place, PlaceMap, Contents, Refusal, Memory, DiskWrite, SameBefore, Files, Store, HasKey, IsPartialIndexOf, free_slots, HasNoCollisions, ByteSet, IsIn, Stands, FitsHeld, IsChangeRefusal, KeepsWhatCounts, Left, Steps, Tables, Represents, FitBeside, KeepsHeld, SealsIndexed, SealsCompared, HasSlot, HasSlotBeside, HasWritten, HasPlacesOf, WasCompared, IsCompared, IsSealRefusal, sealing_indexed}
+use Rattle.std.proofs.Common.{OnOk, IfOk, IfErr, IsErrAnd}
 use Rattle.disk_format.specs.declared.numbers.TheConstants.{RESERVE}
-use Rattle.disk_format.specs.Layout.{slot_at}
-use Rattle.dd_disk.specs.View.{DiskView, IsLater, OnlyReads, SteppedFrom}
-use Rattle.dd_disk.specs.Ending.{Ending, Blame, NoCall, ReadCall, WriteCall, Done, Refused, Unread, Broken, Reads, ending, ending_of}
-use Rattle.dd_disk.specs.Moves.{Arrives, Moved, StandsFor}
-use Rattle.dd_disk.specs.Shows.{Shows}
-use Rattle.dd_disk.specs.Writes.{Both}
-use Rattle.dd_disk.proofs.Ended.{counts_on}
-use Rattle.dd_disk.proofs.Later.{later_on, leaves_on, leaves_weaker, reads_leave, reads_on}
-use Rattle.dd_disk.proofs.Moves.{stands_reads}
-use Rattle.dd_disk.proofs.Shows.{shown_content, until}
-use Rattle.container_meta.specs.declared.place.Place.{Place}
-use Rattle.container_meta.specs.Places.{PlaceMap}
-use Rattle.container_meta.specs.Segments.{Contents}
-use Rattle.refusals.specs.declared.refusal.Refusal.{Refusal}
-use Rattle.refusals.specs.declared.refusal.Refusal.TheVariants.{Memory, DiskRead, DiskWrite, Damaged}
-use Rattle.segment_index.specs.Changes.{SameBefore}
-use Rattle.store_model.specs.Files.{Files}
-use Rattle.store_model.specs.Image.{Store}
-use Rattle.store_model.specs.Slots.{HasKey, IsPartialIndexOf, free_slots}
-use Rattle.store_model.specs.Collisions.{HasNoCollisions, ByteSet, IsIn, Stands}
-use Rattle.store_model.specs.Steps.{FitsHeld}
+use Rattle.dd_disk.specs.Ending.{Reads}
+use Rattle.dd_disk.specs.Moves.{Moved}
+use Rattle.dd_disk.proofs.Later.{reads_on}
+use Rattle.dd_disk.proofs.Shows.{until}
+use Rattle.refusals.specs.declared.refusal.Refusal.TheVariants.{DiskRead, Damaged}
 use Rattle.store_state.specs.Comparing.{FitSoFar, IsAllRefusal, IsFirstUnlike}
-use Rattle.store_state.specs.Indexing.{IsChangeRefusal}
 use Rattle.store_state.specs.Refused.{blames}
-use Rattle.store_state.specs.Settled.{IsSettled, KeepsWhatCounts, Left, Steps}
-use Rattle.store_state.specs.declared.tables.Tables.{Tables}
-use Rattle.store_state.specs.Tables.{Represents}
-use Rattle.ingest_steps.specs.Sealing.{FitBeside, KeepsHeld, SealsIndexed, SealsCompared, HasSlot, HasSlotBeside, HasSealed, HasWritten, HasPlacesOf, WasCompared, IsCompared, IsSealRefusal, KeepsMap, index_first, sealing_compared, sealing_indexed}
+use Rattle.store_state.specs.Settled.{IsSettled}
+use Rattle.ingest_steps.specs.Sealing.{HasSealed, KeepsMap, index_first, sealing_compared}
 use Rattle.ingest_steps.proofs.SlotFrame.{first_after, first_reads}
 use Rattle.ingest_steps.proofs.Sealed.{same_content, same_keeps}
 

@@ -1,11 +1,5 @@
 -- Why a commit was refused, from one function to the next.
-use Rattle.std.proofs.Common.{List, ℕ}
-use Rattle.disk_format.specs.Cells.{Root}
-use Rattle.actor_parts.specs.declared.part.Part.{Part}
-use Rattle.refusals.specs.declared.refusal.Refusal.{Refusal}
-use Rattle.refusals.specs.declared.refusal.Refusal.TheVariants.{Memory, Numbers, DiskWrite}
-use Rattle.store_state.specs.declared.tables.Tables.{Tables}
-use Rattle.ingest_steps.specs.Writers.{IsUncommitted, IsCommitRefusal}
+use Rattle.ingest_steps.proofs.Prelude.{List, ℕ, Root, Part, Refusal, Memory, Numbers, DiskWrite, Tables, IsUncommitted, IsCommitRefusal}
 
 -- by what the actor is at, by the name or by the root
 pub uncommitted_refused : (part : Part) (t : Tables) (name : List ℕ) (root : Root) (refusal : Refusal) → IsUncommitted part t name root refusal

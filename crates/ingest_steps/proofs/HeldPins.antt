@@ -1,47 +1,21 @@
 -- A segment that is claimed, beside the store that the content stands for.
-use Rattle.std.proofs.Common.{◌≡◌, ℕ, ◌<◌, List, length, Option, Some, None, Result, Ok, Err, OnErr, sym, ◌∙◌, ap, subst, arith}
-use Rattle.std.specs.Prelude.{IfSome}
+use Rattle.ingest_steps.proofs.Prelude.{◌≡◌, ℕ, ◌<◌, List, length, Option, Some, None, Result, Ok, Err, OnErr, sym, ◌∙◌, ap, subst, arith, IfSome, eqb-true, sha256, DiskView, Shows, shown_content, Why, Kind, Leaf, Tree, Place, PlaceMap, KnownMap, Segment, KindSegment, segment_key, contents_in, Part, Writing, part_of, with_part, apart, PinMap, IsPin, Pin, IsStepSegment, IsOfKind, pin_of, children_of, Refusal, WrongPart, Unpinned, HasNoCollisions, IsIn, Stands, Files, Store, AreHeaders, Copy, HasKey, IsPartialIndexOf, AnyKey, FitsHeld, HasNewest, bytes_at, some_same, headers_of_right, ArePinsOf, HoldsPart, MayClaim, MayNotClaim, IsClaimRefusal, key_of_seg}
 use Rattle.std.specs.FinMap as finite
-use Rattle.std.proofs.lemmas.Bool.{eqb-true}
-use Rattle.sha2.specs.Sha256.{sha256}
 use Rattle.base_model.specs.Bytes.{key_of}
-use Rattle.dd_disk.specs.View.{DiskView}
-use Rattle.dd_disk.specs.Shows.{Shows}
-use Rattle.dd_disk.proofs.Shows.{shown_content}
-use Rattle.disk_format.specs.declared.why.Why.{Why}
-use Rattle.container_meta.specs.declared.kind.Kind.{Kind}
-use Rattle.container_meta.specs.declared.kind.Kind.TheVariants.{Leaf, Tree}
-use Rattle.container_meta.specs.declared.place.Place.{Place}
 use Rattle.container_meta.specs.Format.{kind_byte}
-use Rattle.container_meta.specs.Places.{PlaceMap}
-use Rattle.segment_index.specs.Places.{KnownMap, IsPlace}
-use Rattle.container_meta.specs.Segments.{Segment, KindSegment, segment_key}
-use Rattle.merkle_file.specs.Reading.{contents_in}
-use Rattle.actor_parts.specs.declared.part.Part.{Part}
-use Rattle.actor_parts.specs.declared.part.Part.TheVariants.{Idle, Writing}
-use Rattle.actor_parts.specs.Parts.{part_of, with_part}
-use Rattle.actor_parts.proofs.Apart.{apart}
-use Rattle.actor_parts.specs.PinMap.{PinMap, IsPin}
-use Rattle.actor_parts.specs.declared.pins.Pin.{Pin}
-use Rattle.actor_parts.specs.Segments.{IsNodeSegment, IsStepSegment, IsOfKind, first_unpinned, pin_of, children_of}
-use Rattle.refusals.specs.declared.refusal.Refusal.{Refusal}
-use Rattle.refusals.specs.declared.refusal.Refusal.TheVariants.{WrongPart, Unpinned}
-use Rattle.store_model.specs.Collisions.{HasNoCollisions, IsIn, IsAmong, Stands}
-use Rattle.store_model.specs.Files.{Files}
-use Rattle.store_model.specs.Image.{Store}
-use Rattle.store_model.specs.Slots.{AreHeaders, Copy, HasKey, IsPartialIndexOf}
-use Rattle.store_model.specs.Steps.{AnyKey, FitsHeld}
-use Rattle.store_model.specs.Trees.{HasNewest, IsNodeOf, bytes_at}
-use Rattle.store_model.proofs.Copies.{some_same, headers_of_right}
+use Rattle.segment_index.specs.Places.{IsPlace}
+use Rattle.actor_parts.specs.declared.part.Part.TheVariants.{Idle}
+use Rattle.actor_parts.specs.Segments.{IsNodeSegment, first_unpinned}
+use Rattle.store_model.specs.Collisions.{IsAmong}
+use Rattle.store_model.specs.Trees.{IsNodeOf}
 use Rattle.store_model.proofs.HeldSlots.{HasLevel, IsNodeEntry, levels_so, newest_so, nodes_so}
 use Rattle.store_model.proofs.Lookups.{finds}
 use Rattle.store_model.proofs.OneNode.{one_level}
 use Rattle.store_model.proofs.SealedTrees.{newest_by_fit}
 use Rattle.store_state.specs.Comparing.{FitsBytes, FitsHad}
-use Rattle.store_state.specs.Invariant.{ArePinsOf, HoldsPart}
 use Rattle.ingest_steps.specs.declared.claiming.Claimed.{Claimed}
 use Rattle.ingest_steps.specs.declared.claiming.Claimed.TheVariants.{Held, Absent}
-use Rattle.ingest_steps.specs.Claiming.{MayClaim, MayNotClaim, IsClaimRefusal, WasHeld, IsLookedUp, IsClaimed, KeepsPart, key_of_seg}
+use Rattle.ingest_steps.specs.Claiming.{WasHeld, IsLookedUp, IsClaimed, KeepsPart}
 use Rattle.ingest_steps.proofs.Pinned.{all_pinned, pins_with, pin_right}
 
 -- ---- the newest copy of a segment that is held

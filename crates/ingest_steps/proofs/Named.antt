@@ -1,41 +1,21 @@
 -- What a change of a name makes of the tables, of the store that they represent, and of the disk.
-use Rattle.std.proofs.Common.{◌≡◌, ◌⊎◌, inl, inr, ℕ, suc, ◌-◌, ◌^◌, ◌<◌, Bool, true, false, List, cond, Option, Some, IsSome, refl, sym, ◌∙◌, ap, subst, arith, rules}
+use Rattle.ingest_steps.proofs.Prelude.{◌≡◌, ◌⊎◌, inl, inr, ℕ, suc, ◌-◌, ◌^◌, ◌<◌, Bool, true, false, List, cond, Option, Some, IsSome, refl, sym, ◌∙◌, ap, subst, arith, nat_list_cmp_total, Root, Change, RecordValue, SelectorValue, Delete, Put, half_cells, DiskView, OnlyReads, Ending, Broken, Refused, ending_of, Writes, Moves, reads_leave, moves_written, PlaceMap, NameMap, HasPlace, names_with, Appends, IsAppended, IsCheckpointed, checkpointed, JournalValue, Files, Store, names_of, IsIn, Stands, HasJournal, appended, record_of, with_cell, with_change, with_checkpoint, store_has_cell, cell_here, cell_anew, names_checkpoint, SameButJournal, IsAbove, Refusal, Memory, Numbers, DiskWrite, Tables, Represents, RepresentsNames, MayChange, HasNumbers, IsWriteRefusal, record_after_last, tables_with, ChangesName, RecordsBy, IsRecordedBy, Records, IsRecorded, has_cell}
+use Rattle.std.proofs.Common.{rules}
 use Rattle.std.specs.FinMap as finite
 use Rattle.std.specs.Cmp.{tied_itself}
 use Rattle.std.specs.Ordering.{is_eq}
-use Rattle.std.specs.Cmp.Lexicographic.{nat_list_cmp_total}
-use Rattle.disk_format.specs.Cells.{Root, Change, RecordValue, SelectorValue, IsChange, IsRecord}
-use Rattle.disk_format.specs.Cells.Change.{Delete, Put}
-use Rattle.disk_format.specs.Layout.{half_cells}
-use Rattle.dd_disk.specs.View.{DiskView, OnlyReads}
-use Rattle.dd_disk.specs.Ending.{Ending, Broken, Refused, ending_of}
-use Rattle.dd_disk.specs.Writes.{Writes}
-use Rattle.dd_disk.specs.Moves.{Moves, Way, step}
-use Rattle.dd_disk.proofs.Later.{reads_leave}
-use Rattle.dd_disk.proofs.Moves.{moves_written, moves_wider}
-use Rattle.container_meta.specs.Places.{PlaceMap}
+use Rattle.disk_format.specs.Cells.{IsChange, IsRecord}
+use Rattle.dd_disk.specs.Moves.{Way, step}
+use Rattle.dd_disk.proofs.Moves.{moves_wider}
 use Rattle.namespace.specs.declared.record.Named.{Named}
-use Rattle.namespace.specs.Names.{NameMap, HasPlace, names_changed, names_with}
-use Rattle.journal_cells.specs.Appending.{Appends, IsAppended}
-use Rattle.journal_cells.specs.Checkpoints.{IsCheckpointed, checkpointed}
-use Rattle.journal_cells.specs.Journal.{JournalValue}
-use Rattle.store_model.specs.Files.{Command, Files, files_after}
+use Rattle.namespace.specs.Names.{names_changed}
+use Rattle.store_model.specs.Files.{Command, files_after}
 use Rattle.store_model.specs.Journal.{Follow}
-use Rattle.store_model.specs.Image.{Store, names_of}
-use Rattle.store_model.specs.Collisions.{IsIn, Stands}
-use Rattle.store_model.specs.Standing.{HasJournal}
-use Rattle.store_model.specs.Steps.{CanChangeName, HoldsFor, appended, change_of, name_of, record_of, with_cell, with_change, with_checkpoint}
-use Rattle.store_model.specs.Steps.{has_cell as store_has_cell}
-use Rattle.store_model.proofs.Cells.{cell_here, cell_anew, names_checkpoint}
-use Rattle.store_model.proofs.Journaled.{SameButJournal, IsAbove, with_journal, journal_above, files_above, held_for, change_stands}
+use Rattle.store_model.specs.Steps.{CanChangeName, HoldsFor, change_of, name_of}
+use Rattle.store_model.proofs.Journaled.{with_journal, journal_above, files_above, held_for, change_stands}
 use Rattle.store_model.proofs.Valid.{valid_change}
-use Rattle.refusals.specs.declared.refusal.Refusal.{Refusal}
-use Rattle.refusals.specs.declared.refusal.Refusal.TheVariants.{Memory, Numbers, DiskWrite}
 use Rattle.store_state.specs.Refused.{blames}
-use Rattle.store_state.specs.declared.tables.Tables.{Tables}
-use Rattle.store_state.specs.Tables.{Represents, RepresentsNames}
-use Rattle.ingest_steps.specs.Naming.{MayChange, MayDelete, MayName, HasNumbers, IsWriteRefusal, IsChanged, record_after_last, tables_with, StandsStill, commanding, changing_journal, ChangesName}
-use Rattle.ingest_steps.specs.Recording.{RecordsBy, IsRecordedBy, Records, IsRecorded, has_cell}
+use Rattle.ingest_steps.specs.Naming.{MayDelete, MayName, IsChanged, StandsStill, commanding, changing_journal}
 use Rattle.ingest_steps.proofs.Recorded.{count_of_cell, same_cell, checkpoint_told, record_same, names_told}
 use Rattle.ingest_steps.proofs.Renewed.{alone, append_after, append_between, half_of, checkpoint_after, checkpoint_between}
 

@@ -1,21 +1,10 @@
 -- Pins of segments, one after the other, and taken back.
-use Rattle.std.proofs.Common.{◌≡◌, ◌⊎◌, inl, inr, ℕ, zero, suc, ◌+◌, ◌<◌, Bool, true, false, cond, List, [], ◌∷◌, ◌++◌, length, take, get_or, Option, Some, None, IsSome, refl, sym, ◌∙◌, ap, subst, arith}
-use Rattle.std.specs.Cmp.Lexicographic.{slice_cmp, nat_list_cmp_total}
+use Rattle.ingest_steps.proofs.Prelude.{◌≡◌, ◌⊎◌, inl, inr, ℕ, suc, ◌+◌, ◌<◌, Bool, true, false, cond, List, [], ◌∷◌, ◌++◌, length, take, get_or, Option, Some, None, IsSome, refl, sym, ◌∙◌, ap, subst, arith, slice_cmp, nat_list_cmp_total, AllByRecursion, nat_cmp, eq_by_cmp, bytes_eq-Decides, Entry, Kind, Segment, entries_from, segment_at, segment_key, Pin, PinMap, IsPin, IsOfKind, pin_by, tied, WereHad, had_again, with_pins}
+use Rattle.std.proofs.Common.{zero}
 use Rattle.std.specs.FinMap as finite
-use Rattle.std.specs.List.{AllByRecursion}
-use Rattle.std.specs.Ordering.{nat_cmp, eq_by_cmp}
-use Rattle.std.proofs.lemmas.Slice.Eq.{bytes_eq-Decides}
-use Rattle.container_meta.specs.declared.entry.Entry.{Entry}
-use Rattle.container_meta.specs.declared.kind.Kind.{Kind}
 use Rattle.container_meta.specs.Format.{is_length}
-use Rattle.container_meta.specs.Segments.{Segment, entries_from, segment_at, segment_key}
 use Rattle.container_meta.specs.Spelling.{Follow}
-use Rattle.actor_parts.specs.declared.pins.Pin.{Pin}
-use Rattle.actor_parts.specs.PinMap.{PinMap, IsPin}
-use Rattle.actor_parts.specs.Segments.{IsOfKind, pin_by}
 use Rattle.store_model.proofs.Copies.{length_within}
-use Rattle.store_model.proofs.Indexing.{tied}
-use Rattle.ingest_steps.specs.Pinning.{WereHad, had_again, with_pins}
 use Rattle.ingest_steps.proofs.Pinned.{pin_right}
 
 -- ---- one segment

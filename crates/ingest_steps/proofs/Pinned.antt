@@ -1,32 +1,15 @@
 -- Pins are right and closed still where one more is added, of a segment that is held.
-use Rattle.std.proofs.Common.{◌≡◌, ℕ, ◌≤◌, ◌==◌, ◌&&◌, Bool, true, false, cond, List, [], ◌∷◌, length, Option, Some, None, refl, sym, ◌∙◌, ap, subst, arith}
-use Rattle.std.specs.Prelude.{nat_le, if◌then◌else◌}
-use Rattle.std.specs.Cmp.Lexicographic.{slice_cmp, nat_list_cmp_total}
+use Rattle.ingest_steps.proofs.Prelude.{◌≡◌, ℕ, ◌≤◌, Bool, true, false, cond, List, [], ◌∷◌, length, Option, Some, None, refl, sym, ◌∙◌, ap, subst, arith, nat_le, slice_cmp, nat_list_cmp_total, AllByRecursion, nat_cmp, eq_by_cmp, eqb-true, sum_by-cons, bytes_eq-Decides, sha256, Kind, Leaf, Tree, Segment, KindSegment, HeaderValue, contents_in, Pin, PinMap, IsPin, has_pin, KeyPin, IsStepSegment, IsOfKind, pin_by, pin_of, children_of, first_not_in, Copy, HasNewest, bytes_at, some_same, tied, ArePinsOf, key_of_seg}
+use Rattle.std.proofs.Common.{◌==◌, ◌&&◌}
+use Rattle.std.specs.Prelude.{if◌then◌else◌}
 use Rattle.std.specs.FinMap as finite
-use Rattle.std.specs.List.{AllByRecursion}
-use Rattle.std.specs.Ordering.{nat_cmp, eq_by_cmp}
-use Rattle.std.proofs.lemmas.Bool.{le-leb, eqb-true}
-use Rattle.std.proofs.lemmas.List.Sums.{sum_by-cons}
-use Rattle.std.proofs.lemmas.Slice.Eq.{bytes_eq-Decides}
-use Rattle.sha2.specs.Sha256.{sha256}
+use Rattle.std.proofs.lemmas.Bool.{le-leb}
 use Rattle.disk_format.specs.declared.numbers.TheConstants.{MOST_FILE, MOST_SEGMENT, MOST_LEVEL}
-use Rattle.container_meta.specs.declared.kind.Kind.{Kind}
-use Rattle.container_meta.specs.declared.kind.Kind.TheVariants.{Leaf, Tree}
-use Rattle.container_meta.specs.Segments.{Segment, KindSegment}
-use Rattle.container_meta.specs.Spelling.{HeaderValue}
 use Rattle.merkle_file.specs.declared.node.Child.{Child}
 use Rattle.merkle_file.specs.Node.{IsChild, total}
-use Rattle.merkle_file.specs.Reading.{contents_in}
-use Rattle.actor_parts.specs.declared.pins.Pin.{Pin}
-use Rattle.actor_parts.specs.PinMap.{PinMap, IsPin, is_pin, has_pin}
-use Rattle.actor_parts.specs.Segments.{KeyPin, IsStepSegment, IsOfKind, pin_by, pin_of, children_of, first_not_in}
-use Rattle.store_model.specs.Slots.{Copy}
-use Rattle.store_model.specs.Trees.{HasNewest, bytes_at}
-use Rattle.store_model.proofs.Copies.{some_same}
+use Rattle.actor_parts.specs.PinMap.{is_pin}
 use Rattle.store_model.proofs.HeldSlots.{same_kind}
-use Rattle.store_model.proofs.Indexing.{tied}
-use Rattle.store_state.specs.Invariant.{HoldsPin, ArePinsOf}
-use Rattle.ingest_steps.specs.Claiming.{key_of_seg}
+use Rattle.store_state.specs.Invariant.{HoldsPin}
 
 -- ---- what may be said of a segment
 

@@ -1,25 +1,11 @@
 -- What a record that is written makes of the bytes.
-use Rattle.std.proofs.Common.{◌≡◌, inl, inr, ℕ, ◌-◌, ◌^◌, ◌<◌, ◌≤◌, Bool, true, false, List, Some, refl, sym, ◌∙◌, subst, arith}
-use Rattle.disk_format.specs.Cells.{Change, RecordValue}
-use Rattle.disk_format.specs.Layout.{half_cells}
-use Rattle.dd_disk.specs.View.{DiskView, OnlyReads, IsDurable, CrashLeaves, SteppedFrom}
-use Rattle.dd_disk.specs.Ending.{Ending, Done, Broken, ending_of}
-use Rattle.dd_disk.specs.Writes.{Writes}
-use Rattle.dd_disk.proofs.Later.{leaves_weaker, reads_here, reads_leave}
-use Rattle.namespace.specs.Names.{NameMap}
-use Rattle.journal_cells.specs.Appending.{SameButNext, Appends}
-use Rattle.journal_cells.specs.Checkpoints.{SameButHalf, checkpointed}
-use Rattle.journal_cells.specs.Journal.{JournalValue}
-use Rattle.store_model.proofs.Journaled.{SameButJournal}
+use Rattle.ingest_steps.proofs.Prelude.{◌≡◌, inl, inr, ℕ, ◌-◌, ◌^◌, ◌<◌, ◌≤◌, Bool, true, false, List, Some, refl, sym, ◌∙◌, subst, arith, Change, RecordValue, half_cells, DiskView, OnlyReads, IsDurable, CrashLeaves, SteppedFrom, Ending, Done, Broken, ending_of, Writes, leaves_weaker, reads_here, reads_leave, NameMap, SameButNext, Appends, SameButHalf, checkpointed, JournalValue, SameButJournal, MayChange, HasNumbers, IsWriteRefusal, record_after_last, RecordsBy, IsRecordedBy, Records, IsRecorded, has_cell, Refusal, Memory, Numbers, DiskWrite, Tables}
 use Rattle.ingest_steps.proofs.Recorded.{count_of_cell}
 use Rattle.ingest_steps.proofs.Renewed.{next_alone, half_alone}
 use Rattle.ingest_steps.proofs.Named.{can_change, journal_between}
-use Rattle.ingest_steps.specs.Naming.{MayChange, HasNumbers, IsWriteRefusal, ChangesBytes, ChangesJournalAlone, record_after_last}
-use Rattle.ingest_steps.specs.Recording.{RecordsBy, IsRecordedBy, Records, IsRecorded, SameButRecordBy, SameButRecord, KeepsButRecord, has_cell}
-use Rattle.refusals.specs.declared.refusal.Refusal.{Refusal}
-use Rattle.refusals.specs.declared.refusal.Refusal.TheVariants.{Memory, Numbers, DiskWrite}
+use Rattle.ingest_steps.specs.Naming.{ChangesBytes, ChangesJournalAlone}
+use Rattle.ingest_steps.specs.Recording.{SameButRecordBy, SameButRecord, KeepsButRecord}
 use Rattle.store_state.specs.Refused.{blames}
-use Rattle.store_state.specs.declared.tables.Tables.{Tables}
 
 half_on : (half : ℕ) (old mid new : List ℕ) → SameButHalf half old mid → SameButHalf half mid new → SameButHalf half old new
 half_on half old mid new first second = record {

@@ -1,32 +1,17 @@
 -- A record that is written with a checkpoint before it, and the tables that have it.
-use Rattle.std.proofs.Common.{◌≡◌, inl, inr, ℕ, suc, ◌+◌, ◌-◌, ◌<◌, max, Bool, true, false, if◌then◌else◌, List, [], ◌∷◌, length, refl, sym, ◌∙◌, ap, subst, arith, length-append}
+use Rattle.ingest_steps.proofs.Prelude.{◌≡◌, inl, inr, ℕ, suc, ◌+◌, ◌-◌, ◌<◌, Bool, true, false, List, [], ◌∷◌, length, refl, sym, ◌∙◌, ap, subst, arith, Change, RecordValue, half_cells, DiskView, SteppedFrom, Ending, Done, Broken, Writes, leaves_weaker, NameMap, names_with, puts_of, Appends, IsAppended, Checkpoints, IsCheckpointed, checkpointed, JournalValue, IsTold, Store, record_of, with_cell, with_checkpoint, with_change, store_has_cell, cell_here, cell_anew, Tables, RepresentsNames, record_after_last, tables_with, RecordsBy, IsRecordedBy, Records, IsRecorded, has_cell}
+use Rattle.std.proofs.Common.{max, if◌then◌else◌, length-append}
 use Rattle.std.specs.Prelude.{nat_lt}
 use Rattle.std.proofs.lemmas.Bool.{ltb-true, lt-ltb, le-ltb}
 use Rattle.std.specs.FinMap as finite
-use Rattle.disk_format.specs.Cells.{Change, RecordValue}
-use Rattle.disk_format.specs.Layout.{half_cells}
-use Rattle.dd_disk.specs.View.{DiskView, SteppedFrom}
-use Rattle.dd_disk.specs.Ending.{Ending, Done, Broken}
-use Rattle.dd_disk.specs.Writes.{Writes}
-use Rattle.dd_disk.proofs.Later.{leaves_weaker}
 use Rattle.dd_disk.proofs.Writes.{IsUnrefused, writes_on}
-use Rattle.namespace.specs.Names.{NameMap, names_with}
-use Rattle.namespace.specs.Puts.{puts_of}
-use Rattle.journal_cells.specs.Appending.{Appends, IsAppended}
-use Rattle.journal_cells.specs.Checkpoints.{Checkpoints, IsCheckpointed, checkpointed}
-use Rattle.journal_cells.specs.Journal.{JournalValue, IsTold}
 use Rattle.store_model.specs.Journal.{Follow, last_of}
-use Rattle.store_model.specs.Image.{Store, last_sequence}
-use Rattle.store_model.specs.Steps.{record_of, with_cell, with_checkpoint, with_change}
-use Rattle.store_model.specs.Steps.{has_cell as store_has_cell}
-use Rattle.store_model.proofs.Cells.{cell_here, cell_anew, last_with_cell}
+use Rattle.store_model.specs.Image.{last_sequence}
+use Rattle.store_model.proofs.Cells.{last_with_cell}
 use Rattle.store_model.proofs.NameChanges.{last_appended}
 use Rattle.store_model.proofs.Puts.{puts_leave}
 use Rattle.store_model.proofs.Records.{last_of_push, names_after_push}
-use Rattle.store_state.specs.declared.tables.Tables.{Tables}
-use Rattle.store_state.specs.Tables.{RepresentsNames}
-use Rattle.ingest_steps.specs.Naming.{record_after_last, tables_with}
-use Rattle.ingest_steps.specs.Recording.{IsHalfFull, RecordsBy, IsRecordedBy, Records, IsRecorded, has_cell, journal_with_cell}
+use Rattle.ingest_steps.specs.Recording.{IsHalfFull, journal_with_cell}
 
 -- ---- what is written
 

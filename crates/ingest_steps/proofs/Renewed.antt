@@ -1,23 +1,17 @@
 -- What an image has while a record is written, and after: a cell alone changes, or the other half of the journal too.
-use Rattle.std.proofs.Common.{◌≡◌, ◌⊎◌, inl, inr, ℕ, ◌-◌, ◌<◌, ◌≤◌, Bool, true, false, List, [], ◌∷◌, ◌++◌, length, refl, sym, ◌∙◌, ap, subst, arith}
+use Rattle.ingest_steps.proofs.Prelude.{◌≡◌, ◌⊎◌, inl, inr, ℕ, ◌-◌, ◌<◌, ◌≤◌, Bool, true, false, List, [], ◌∷◌, ◌++◌, length, refl, sym, ◌∙◌, ap, subst, arith, Change, RecordValue, SelectorValue, half_cells, NameMap, HasPlace, puts_of, SameButNext, Appends, IsAppended, SameButHalf, Checkpoints, IsCheckpointed, JournalValue, IsTold, Store, names_of, HasJournal, appended, record_of, with_checkpoint, SameTo, SameButJournal, IsAbove, names_checkpoint}
 use Rattle.disk_format.specs.declared.numbers.TheConstants.{FIRST_HALF}
-use Rattle.disk_format.specs.Cells.{Change, RecordValue, SelectorValue, IsName}
+use Rattle.disk_format.specs.Cells.{IsName}
 use Rattle.base_model.specs.Bytes.{byte_at}
-use Rattle.disk_format.specs.Layout.{half_cells, selector_at}
-use Rattle.namespace.specs.Names.{NameMap, HasPlace}
-use Rattle.namespace.specs.Puts.{puts_of}
-use Rattle.journal_cells.specs.Appending.{SameButNext, CanFollow, Appends, IsAppended}
-use Rattle.journal_cells.specs.Checkpoints.{HoldsStill, IsFoundIn, IsOtherOpen, HasMoved, SameButHalf, Checkpoints, IsCheckpointed, next_selector}
-use Rattle.journal_cells.specs.Journal.{JournalValue, IsJournalOf, IsTold, with_record}
+use Rattle.disk_format.specs.Layout.{selector_at}
+use Rattle.journal_cells.specs.Appending.{CanFollow}
+use Rattle.journal_cells.specs.Checkpoints.{HoldsStill, IsFoundIn, IsOtherOpen, HasMoved, next_selector}
+use Rattle.journal_cells.specs.Journal.{IsJournalOf, with_record}
 use Rattle.store_model.specs.Journal.{HoldsRecords, KnowsOther, last_of}
-use Rattle.store_model.specs.Image.{Store, names_of}
-use Rattle.store_model.specs.Standing.{HasJournal}
-use Rattle.store_model.specs.Steps.{appended, record_of, with_checkpoint, with_other}
-use Rattle.store_model.proofs.Frames.{SameTo, selector_kept, older_kept, other_kept}
-use Rattle.store_model.proofs.Journaled.{SameButJournal, IsAbove}
+use Rattle.store_model.specs.Steps.{with_other}
+use Rattle.store_model.proofs.Frames.{selector_kept, older_kept, other_kept}
 use Rattle.store_model.proofs.NameChanges.{record_rises}
 use Rattle.store_model.proofs.Once.{other_known}
-use Rattle.store_model.proofs.Cells.{names_checkpoint}
 
 -- ---- frames
 

@@ -1,34 +1,19 @@
 -- What a container more makes of a disk, in terms of the tables.
-use Rattle.std.proofs.Common.{◌≡◌, ◌⊎◌, inl, inr, ℕ, ◌+◌, ◌<◌, ◌≤◌, List, [], ◌∷◌, length, Option, Some, None, refl, sym, ◌∙◌, ap, subst, arith}
-use Rattle.std.specs.List.{AllByRecursion}
+use Rattle.ingest_steps.proofs.Prelude.{◌≡◌, ◌⊎◌, inl, inr, ℕ, ◌+◌, ◌<◌, ◌≤◌, List, [], ◌∷◌, length, Option, Some, None, refl, sym, ◌∙◌, ap, subst, arith, AllByRecursion, slot_at, DiskView, SteppedFrom, Ending, Done, Refused, Unread, Broken, Writes, Moves, leaves_weaker, moves_written, Kind, PlaceMap, Segment, Contents, segment_key, Files, Store, AreHeaders, HasFree, HasKey, newest, free_slots, first_free, ByteSet, IsIn, Stands, AnyKey, CanHold, with_sealed, HasNewest, as_many, Tables, Represents, Runs, HasSlotBeside, FitBeside, KeepsHeld, IsSlotOf, SealsContainer, SameButSlotOf, ChangesSlotAlone, sealing}
 use Rattle.base_model.specs.Frames.{SameOutside}
 use Rattle.disk_format.specs.declared.numbers.TheConstants.{SLOT_BYTES, MOST_SLOTS}
-use Rattle.disk_format.specs.Layout.{slot_at}
-use Rattle.dd_disk.specs.View.{DiskView, SteppedFrom}
-use Rattle.dd_disk.specs.Ending.{Ending, Done, Refused, Unread, Broken}
-use Rattle.dd_disk.specs.Writes.{Writes, Written}
-use Rattle.dd_disk.specs.Moves.{Moves}
-use Rattle.dd_disk.proofs.Later.{leaves_weaker}
-use Rattle.dd_disk.proofs.Moves.{moves_written, stands_content}
+use Rattle.dd_disk.specs.Writes.{Written}
+use Rattle.dd_disk.proofs.Moves.{stands_content}
 use Rattle.dd_disk.proofs.Writes.{writes_weaker}
-use Rattle.container_meta.specs.declared.kind.Kind.{Kind}
-use Rattle.container_meta.specs.Places.{PlaceMap}
-use Rattle.container_meta.specs.Segments.{Segment, Contents, segment_key}
 use Rattle.container_log.specs.Writing.{Seals, IsSealed}
-use Rattle.store_model.specs.Files.{Files}
-use Rattle.store_model.specs.Image.{Store}
-use Rattle.store_model.specs.Slots.{AreHeaders, HasFree, HasKey, HoldsContainer, newest, last_id, free_slots, first_free}
-use Rattle.store_model.specs.Collisions.{ByteSet, IsIn, Stands}
-use Rattle.store_model.specs.Steps.{AnyKey, CanHold, MaySeal, KeepsCopies, with_sealed}
-use Rattle.store_model.specs.Trees.{HasNewest}
+use Rattle.store_model.specs.Slots.{HoldsContainer, last_id}
+use Rattle.store_model.specs.Steps.{MaySeal, KeepsCopies}
 use Rattle.store_model.proofs.FramedTrees.{unsealed}
-use Rattle.store_model.proofs.Free.{as_many, first_free_closed, same_free}
+use Rattle.store_model.proofs.Free.{first_free_closed, same_free}
 use Rattle.store_model.proofs.SealedTrees.{IsNewestOf, all_by_fit, newest_of_copy, newest_of_none, newest_kept, newest_sealed, sealed}
 use Rattle.store_model.proofs.Sound.{sound_of_right}
-use Rattle.store_state.specs.declared.tables.Tables.{Tables}
 use Rattle.store_state.specs.Invariant.{IndexesFiles}
-use Rattle.store_state.specs.Tables.{Represents, Runs}
-use Rattle.ingest_steps.specs.Sealing.{IsSlotFor, HasSlotBeside, FitBeside, KeepsHeld, IsSlotOf, SealsContainer, SameButSlotOf, ChangesSlotAlone, sealing}
+use Rattle.ingest_steps.specs.Sealing.{IsSlotFor}
 use Rattle.ingest_steps.proofs.SlotFrame.{frame_of}
 
 pub same_content : (a b : List ℕ) → Some a ≡ Some b → a ≡ b

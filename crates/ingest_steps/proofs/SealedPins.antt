@@ -1,30 +1,10 @@
 -- What an actor keeps is right still once a container is sealed for it.
-use Rattle.std.proofs.Common.{◌≡◌, true, ℕ, ◌+◌, ◌<◌, List, [], ◌∷◌, length, Option, Some, None, refl, sym, ◌∙◌, subst}
+use Rattle.ingest_steps.proofs.Prelude.{◌≡◌, true, ℕ, ◌+◌, ◌<◌, List, [], ◌∷◌, length, Option, Some, None, refl, sym, ◌∙◌, subst, AllByRecursion, DiskView, Done, Kind, PlaceMap, Segment, Contents, entries_from, segment_key, HeaderValue, Part, Writing, part_of, with_part, PinMap, has_pin, IsOfKind, KeyPin, first_not_in, pin_by, apart, Store, with_entries, HasKey, with_sealed, HasNewest, ArePinsOf, HoldsPart, Tables, MayKeep, first_unpinned_of, with_pins, SealsCompared, places_with}
 use Rattle.std.specs.FinMap as finite
-use Rattle.std.specs.List.{AllByRecursion}
-use Rattle.dd_disk.specs.View.{DiskView}
-use Rattle.dd_disk.specs.Ending.{Done}
-use Rattle.container_meta.specs.declared.kind.Kind.{Kind}
-use Rattle.container_meta.specs.Places.{PlaceMap}
-use Rattle.container_meta.specs.Segments.{Segment, Contents, entries_from, segment_key}
-use Rattle.container_meta.specs.Spelling.{HeaderValue}
-use Rattle.actor_parts.specs.declared.part.Part.{Part}
-use Rattle.actor_parts.specs.declared.part.Part.TheVariants.{Writing}
-use Rattle.actor_parts.specs.Parts.{part_of, with_part}
-use Rattle.actor_parts.specs.PinMap.{PinMap, has_pin}
-use Rattle.actor_parts.specs.Segments.{IsOfKind, KeyPin, children_by, first_not_in, pin_by}
-use Rattle.actor_parts.proofs.Apart.{apart}
-use Rattle.store_model.specs.Image.{Store}
-use Rattle.store_model.specs.Indexing.{with_entries}
-use Rattle.store_model.specs.Slots.{HasKey}
-use Rattle.store_model.specs.Steps.{with_sealed}
-use Rattle.store_model.specs.Trees.{HasNewest}
-use Rattle.store_state.specs.Invariant.{ArePinsOf, HoldsPart}
-use Rattle.store_state.specs.declared.tables.Tables.{Tables}
+use Rattle.actor_parts.specs.Segments.{children_by}
 use Rattle.store_model.proofs.Indexing.{has_segments, still_has}
 use Rattle.store_state.proofs.Parts.{part_kept}
-use Rattle.ingest_steps.specs.Pinning.{MayKeep, first_unpinned_of, or_else, with_pins}
-use Rattle.ingest_steps.specs.Sealing.{SealsCompared, places_with}
+use Rattle.ingest_steps.specs.Pinning.{or_else}
 use Rattle.ingest_steps.specs.SealStep.{KeepsSealed}
 use Rattle.ingest_steps.proofs.Pinned.{all_pinned, pinned_still, pins_with}
 

@@ -1,52 +1,24 @@
 -- What a container more makes of the tables and of the disk, where the index is changed first.
-use Rattle.std.proofs.Common.{◌≡◌, inl, inr, Bool, true, false, ℕ, suc, ◌+◌, ◌-◌, ◌<◌, ◌≤◌, List, [], ◌∷◌, length, get_or, Option, Some, None, refl, sym, ◌∙◌, ap, subst, arith}
-use Rattle.std.specs.Prelude.{◌&&◌, nat_le}
-use Rattle.std.specs.List.{AllByRecursion}
+use Rattle.ingest_steps.proofs.Prelude.{◌≡◌, inl, inr, Bool, true, false, ℕ, suc, ◌+◌, ◌-◌, ◌<◌, ◌≤◌, List, [], ◌∷◌, length, get_or, Option, Some, None, refl, sym, ◌∙◌, ap, subst, arith, nat_le, AllByRecursion, sum_by-cons, slot_at, DiskView, IsDurable, IsLater, CrashLeaves, SteppedFrom, Ending, Blame, NoCall, ReadCall, WriteCall, Done, Refused, Unread, Broken, ending_of, Both, StandsFor, Arrives, later_on, leaves_on, leaves_weaker, counts_on, Known, Refusal, DiskWrite, stands_reads, Entry, Kind, Leaf, Tree, PlaceMap, Segment, Contents, entries_from, segment_key, HeaderValue, header_of, KnownMap, SameBefore, Changes, JournalValue, IsTold, NameMap, Files, Store, IsValidFor, with_entries, Copy, HasFree, HasKey, IsPartialIndexOf, newest, IsIn, Stands, CanHold, FitsHeld, with_sealed, HasNewest, bytes_at, some_same, headers_of_right, SameTo, as_many, Tables, KeepsWhatCounts, Left, Steps, Represents, Runs, IsSlotOf, HasSlotBeside, FitBeside, KeepsHeld, SealsContainer, SealsIndexed, HasWritten, ChangesSlotAlone, places_with, sealing, sealing_indexed}
+use Rattle.std.specs.Prelude.{◌&&◌}
 use Rattle.std.proofs.lemmas.Bool.{leb-true}
 use Rattle.std.proofs.lemmas.List.{length-map}
-use Rattle.std.proofs.lemmas.List.Sums.{sum_by-cons}
-use Rattle.disk_format.specs.Layout.{size_of, slot_at}
-use Rattle.dd_disk.specs.View.{DiskView, IsDurable, IsLater, CrashLeaves, SteppedFrom}
-use Rattle.dd_disk.specs.Ending.{Ending, Blame, NoCall, ReadCall, WriteCall, Done, Refused, Unread, Broken, ending_of}
-use Rattle.dd_disk.specs.Writes.{Both}
-use Rattle.dd_disk.specs.Moves.{StandsFor, Acts, Arrives}
-use Rattle.dd_disk.proofs.Later.{later_on, leaves_on, leaves_weaker}
-use Rattle.dd_disk.proofs.Ended.{counts_on}
-use Rattle.base_model.specs.Known.{Known, KnownWith}
+use Rattle.disk_format.specs.Layout.{size_of}
+use Rattle.dd_disk.specs.Moves.{Acts}
+use Rattle.base_model.specs.Known.{KnownWith}
 use Rattle.container_log.specs.Writing.{SameButSlot}
-use Rattle.refusals.specs.declared.refusal.Refusal.{Refusal}
-use Rattle.refusals.specs.declared.refusal.Refusal.TheVariants.{DiskWrite}
 use Rattle.store_state.specs.Refused.{blames}
-use Rattle.dd_disk.proofs.Moves.{stands_left, stands_reads}
-use Rattle.container_meta.specs.declared.entry.Entry.{Entry}
-use Rattle.container_meta.specs.declared.kind.Kind.{Kind}
-use Rattle.container_meta.specs.declared.kind.Kind.TheVariants.{Leaf, Tree}
-use Rattle.container_meta.specs.Places.{PlaceMap}
-use Rattle.container_meta.specs.Segments.{Segment, Contents, bytes_in, entries_from, segment_key}
-use Rattle.container_meta.specs.Spelling.{HeaderValue, IsHeader, header_digest, header_of}
-use Rattle.segment_index.specs.Places.{KnownMap}
-use Rattle.segment_index.specs.Changes.{SameBefore, SameFrom, Changes}
-use Rattle.journal_cells.specs.Journal.{JournalValue, IsTold}
-use Rattle.namespace.specs.Names.{NameMap}
-use Rattle.store_model.specs.Files.{Files}
-use Rattle.store_model.specs.Image.{Store, IsValidFor}
-use Rattle.store_model.specs.Indexing.{with_entries}
-use Rattle.store_model.specs.Slots.{Copy, HasFree, HasKey, IsPartialIndexOf, newest, with_slot}
-use Rattle.store_model.specs.Collisions.{IsIn, Stands}
-use Rattle.store_model.specs.Steps.{CanHold, FitsHeld, with_sealed}
-use Rattle.store_model.specs.Trees.{HasNewest, bytes_at}
-use Rattle.store_model.proofs.Copies.{some_same, headers_of_right}
+use Rattle.dd_disk.proofs.Moves.{stands_left}
+use Rattle.container_meta.specs.Segments.{bytes_in}
+use Rattle.container_meta.specs.Spelling.{IsHeader, header_digest}
+use Rattle.segment_index.specs.Changes.{SameFrom}
+use Rattle.store_model.specs.Slots.{with_slot}
 use Rattle.store_model.proofs.FramedTrees.{newest_framed, stands_framed}
-use Rattle.store_model.proofs.Frames.{SameTo}
-use Rattle.store_model.proofs.Free.{as_many}
 use Rattle.store_model.proofs.HeldSlots.{all_held, copy_still}
 use Rattle.store_model.proofs.IndexSize.{partial_sealed}
 use Rattle.store_model.proofs.Valid.{free_sealed, valid_sealed}
-use Rattle.store_state.specs.declared.tables.Tables.{Tables}
-use Rattle.store_state.specs.Settled.{KeepsWhatCounts, Left, Steps}
-use Rattle.store_state.specs.Tables.{Represents, RepresentsSlots, Runs, count_of}
+use Rattle.store_state.specs.Tables.{RepresentsSlots, count_of}
 use Rattle.store_state.proofs.Changed.{keeps}
-use Rattle.ingest_steps.specs.Sealing.{IsSlotOf, HasSlotBeside, FitBeside, KeepsHeld, SealsContainer, SealsIndexed, HasWritten, ChangesSlotAlone, places_with, sealing, sealing_indexed}
 use Rattle.ingest_steps.proofs.SlotFrame.{first_changed, first_on}
 
 -- ---- how much a container has

@@ -1,18 +1,7 @@
 -- What a seal leaves as it was on a disk: all but its slot and what lies after the slots.
-use Rattle.std.proofs.Common.{inl, inr, ℕ, ◌<◌, List, Option, sym, ◌∙◌, subst, arith}
-use Rattle.base_model.specs.Known.{Known}
-use Rattle.disk_format.specs.Layout.{slot_at}
-use Rattle.dd_disk.specs.View.{DiskView, IsLater, OnlyReads, CrashLeaves, SteppedFrom}
-use Rattle.dd_disk.specs.Ending.{Ending, Done}
-use Rattle.dd_disk.proofs.Later.{later_on, leaves_on, leaves_weaker, reads_leave}
-use Rattle.container_meta.specs.Places.{PlaceMap}
-use Rattle.segment_index.specs.Changes.{SameBefore, Changes}
-use Rattle.store_model.specs.Image.{Store, IsValidFor}
-use Rattle.store_model.specs.Slots.{HasFree, first_free}
+use Rattle.ingest_steps.proofs.Prelude.{inl, inr, ℕ, ◌<◌, List, Option, sym, ◌∙◌, subst, arith, Known, slot_at, DiskView, IsLater, OnlyReads, CrashLeaves, SteppedFrom, Ending, Done, later_on, leaves_on, leaves_weaker, reads_leave, PlaceMap, SameBefore, Changes, Store, IsValidFor, HasFree, first_free, Tables, Represents, IsSlotOf, HasSlotBeside, SameButSlotOf, ChangesSlotAlone}
 use Rattle.store_model.proofs.Free.{some_free}
-use Rattle.store_state.specs.declared.tables.Tables.{Tables}
-use Rattle.store_state.specs.Tables.{Represents}
-use Rattle.ingest_steps.specs.Sealing.{IsSlotOf, HasSlotBeside, SameButSlotOf, ChangesSlotAlone, ChangesFirstFree}
+use Rattle.ingest_steps.specs.Sealing.{ChangesFirstFree}
 
 module _ (slots slot : ℕ) (within : slot < slots) where
   same_settled : (given c : List ℕ) → SameBefore (slot_at slots) given c → SameButSlotOf slots slot given c

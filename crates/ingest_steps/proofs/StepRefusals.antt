@@ -1,20 +1,9 @@
 -- Why a container is not sealed for an actor.
-use Rattle.std.proofs.Common.{◌≡◌, ℕ, List, Option, Result, Ok, Err, OnErr, refl, sym, subst}
-use Rattle.disk_format.specs.Layout.{slot_at}
-use Rattle.dd_disk.specs.View.{DiskView}
-use Rattle.dd_disk.specs.Ending.{Blame, NoCall, Refused, ending_of}
-use Rattle.container_meta.specs.Places.{PlaceMap}
-use Rattle.container_meta.specs.Segments.{Contents}
-use Rattle.actor_parts.specs.declared.part.Part.{Part}
-use Rattle.refusals.specs.declared.refusal.Refusal.{Refusal}
-use Rattle.refusals.specs.declared.refusal.Refusal.TheVariants.{Memory, WrongPart, Unpinned, Full, Numbers}
+use Rattle.ingest_steps.proofs.Prelude.{◌≡◌, ℕ, List, Option, Result, Ok, Err, OnErr, refl, sym, subst, slot_at, DiskView, Blame, NoCall, Refused, ending_of, PlaceMap, Contents, Part, Refusal, Memory, WrongPart, Unpinned, Numbers, Steps, Tables, MayKeep, IsUnkept, HasSlot, IsCompared, IsSealRefusal, IsStepRefusal}
+use Rattle.refusals.specs.declared.refusal.Refusal.TheVariants.{Full}
 use Rattle.store_state.specs.Refused.{blames}
-use Rattle.store_state.specs.Settled.{Steps}
-use Rattle.store_state.specs.declared.tables.Tables.{Tables}
 use Rattle.store_state.proofs.Changed.{changes_none}
-use Rattle.ingest_steps.specs.Pinning.{MayKeep, IsUnkept}
-use Rattle.ingest_steps.specs.Sealing.{HasSlot, IsCompared, IsSlotRefusal, IsSealRefusal}
-use Rattle.ingest_steps.specs.SealStep.{IsStepRefusal}
+use Rattle.ingest_steps.specs.Sealing.{IsSlotRefusal}
 use Rattle.ingest_steps.proofs.SealedTables.{steps_refused}
 
 pub map_on_err : {T E : Type 0} (result : Result T E) (P Q : Type 0) → (P → Q) → OnErr result P → OnErr result Q

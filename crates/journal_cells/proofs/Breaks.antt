@@ -1,23 +1,11 @@
 -- What is so of the faults of the format cell and of the selectors, whatever the disk.
-use Rattle.std.proofs.Common.{◌≡◌, ◌≢◌, inl, inr, ℕ, Bool, true, false, List, Option, None, Some, Result, Ok, Err, refl, subst, eq-eqb}
-use Rattle.std.specs.Prelude.{◌==◌, ◌&&◌, codes, if◌then◌else◌}
-use Rattle.std.specs.Int.{w32}
-use Rattle.std.specs.Str.{bytes_eq}
-use Rattle.std.proofs.lemmas.Slice.Eq.{bytes_eq-Decides}
-use Rattle.sha2.specs.Sha256.{sha256}
-use Rattle.base_model.specs.Bytes.{range, byte_at}
-use Rattle.base_model.specs.Checks.{checked, ◌>>=◌}
-use Rattle.base_model.specs.Numbers.{number_at}
-use Rattle.base_model.proofs.Checks.{EachFault, checked_err, step_err, err_is, both_true, unequal}
-use Rattle.disk_format.specs.declared.numbers.TheConstants.{FORMAT_GATE, SELECTOR_GATE, VERSION}
+use Rattle.journal_cells.proofs.Prelude.{◌≡◌, ◌≢◌, inl, inr, ℕ, Bool, true, false, List, Option, None, Some, Result, Ok, Err, refl, subst, eq-eqb, codes, w32, bytes_eq, bytes_eq-Decides, sha256, byte_at, checked, ◌>>=◌, number_at, EachFault, checked_err, both_true, unequal, FORMAT_GATE, SELECTOR_GATE, VERSION, SelectorValue, selector_at, CellFault, Damaged, Selection, IsFormatBreak, IsSelectorBreak, format_checks, selector_checks, selector_value, chosen}
+use Rattle.std.specs.Prelude.{◌==◌, ◌&&◌, if◌then◌else◌}
+use Rattle.base_model.specs.Bytes.{range}
+use Rattle.base_model.proofs.Checks.{step_err, err_is}
 use Rattle.disk_format.specs.declared.why.Why.TheVariants.{Field}
-use Rattle.disk_format.specs.Cells.{SelectorValue}
-use Rattle.disk_format.specs.Layout.{selector_at}
-use Rattle.journal_cells.specs.declared.fault.CellFault.{CellFault}
-use Rattle.journal_cells.specs.declared.fault.CellFault.TheVariants.{Damaged}
-use Rattle.journal_cells.specs.declared.heads.Selection.{Selection}
-use Rattle.journal_cells.specs.Faults.{IsSelectorPlace, IsFormatBreak, IsSelectorBreak}
-use Rattle.journal_cells.specs.Heads.{format_checks, format_in, selector_checks, selector_value, selector_in, chosen, selectors_in}
+use Rattle.journal_cells.specs.Faults.{IsSelectorPlace}
+use Rattle.journal_cells.specs.Heads.{format_in, selector_in, selectors_in}
 use Rattle.journal_cells.proofs.Outcomes.{IsOfBytes}
 
 unlike : (n : ℕ) → (n == VERSION) ≡ false → n ≢ VERSION

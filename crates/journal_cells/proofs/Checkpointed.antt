@@ -1,32 +1,16 @@
 -- What a checkpoint leaves: the journal that stood, or the new one.
-use Rattle.std.proofs.Common.{◌≡◌, ◌≢◌, ◌⊎◌, inl, inr, ℕ, zero, suc, ◌+◌, ◌-◌, ◌*◌, ◌≤◌, ◌<◌, ◌==◌, Bool, true, false, List, [], ◌∷◌, ◌++◌, length, max, refl, sym, ap, subst, ◌∙◌, arith, rules, length-append, append_assoc}
+use Rattle.journal_cells.proofs.Prelude.{◌≡◌, ◌≢◌, ◌⊎◌, inl, inr, ℕ, zero, suc, ◌+◌, ◌-◌, ◌*◌, ◌≤◌, ◌<◌, Bool, true, false, List, [], ◌∷◌, ◌++◌, length, max, refl, sym, ap, subst, ◌∙◌, arith, rules, length-append, append_assoc, eqb-true, eqb-false, byte_at, SameOutside, byte-written, same_written, byte_after, range-first, range-join, range-one, range-range, range-second, range-whole, range-written, CELL_BYTES, HALF_BYTES, SELECTOR_GATE, RecordValue, SelectorValue, IsRecord, IsSelector, record_cell, selector_cell, least_size, selector_at, cell_at, half_cells, CellTorn, DiskView, Ending, Torn, Writes, same_cell, writes_weaker, NameMap, names_with, names_after, puts_of, HoldsJournal, HoldsSelector, IsOlder, KnowsOther, Follow, StandFrom, ClosedFrom, last_of, FreshHalf, cells_of, IsFreshHalf, cells_filled, half_filled, gate_closed, replaced, Replaces, JournalValue, IsTold}
+use Rattle.std.proofs.Common.{◌==◌}
 use Rattle.std.specs.Prelude.{IsTrue}
 use Rattle.std.specs.List.{AllByRecursion}
-use Rattle.std.proofs.lemmas.Bool.{eqb-true, eqb-false}
 use Rattle.std.specs.FinMap as finite
-use Rattle.base_model.specs.Bytes.{range, byte_at, written}
-use Rattle.base_model.specs.Frames.{SameOutside}
-use Rattle.base_model.proofs.ByteAt.{byte_of_range, byte-written, byte-written-after, byte-zeros}
-use Rattle.base_model.proofs.Frames.{same_written, byte_after}
-use Rattle.base_model.proofs.Ranges.{length-written, range-first, range-join, range-one, range-range, range-second, range-whole, range-written}
-use Rattle.disk_format.specs.declared.numbers.TheConstants.{CELL_BYTES, HALF_BYTES, SELECTOR_GATE}
-use Rattle.disk_format.specs.Cells.{RecordValue, SelectorValue, IsRecord, IsSelector, record_cell, selector_cell}
-use Rattle.disk_format.specs.Layout.{least_size, selector_at, cell_at, half_cells}
-use Rattle.dd_disk.specs.Gated.{CellTorn}
-use Rattle.dd_disk.specs.View.{DiskView}
-use Rattle.dd_disk.specs.Ending.{Ending}
-use Rattle.dd_disk.specs.Writes.{Torn, Writes}
-use Rattle.dd_disk.proofs.Outside.{same_cell, cell_cases}
-use Rattle.dd_disk.proofs.Writes.{writes_weaker}
-use Rattle.namespace.specs.Names.{NameMap, names_with, names_after}
-use Rattle.namespace.specs.Puts.{puts_of}
-use Rattle.store_model.specs.Journal.{HoldsJournal, HoldsSelector, IsOlder, KnowsOther, Follow, StandFrom, ClosedFrom, last_of}
+use Rattle.base_model.specs.Bytes.{range, written}
+use Rattle.base_model.proofs.ByteAt.{byte_of_range, byte-written-after, byte-zeros}
+use Rattle.base_model.proofs.Ranges.{length-written}
+use Rattle.dd_disk.proofs.Outside.{cell_cases}
 use Rattle.store_model.proofs.Puts.{puts_follow, puts_leave, puts_last, puts_room, last_below}
 use Rattle.store_model.proofs.Spellings.{gate_of_selector}
-use Rattle.journal_cells.specs.declared.checkpoint.FreshHalf.{FreshHalf}
 use Rattle.journal_cells.specs.Checkpoints.{checkpointed, next_selector, IsFoundIn, SameButHalf, HoldsStill, StaysFound, HasMoved, StaysOrMoves, Checkpoints, IsCheckpointed}
-use Rattle.journal_cells.specs.Checkpoints.{cells_of, IsFreshHalf, cells_filled, half_filled, gate_closed, replaced, Replaces}
-use Rattle.journal_cells.specs.Journal.{JournalValue, IsTold}
 use Rattle.journal_cells.proofs.Appended.{length_record_cell}
 use Rattle.journal_cells.proofs.Scanned.{gate_read}
 

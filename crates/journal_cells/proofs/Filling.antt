@@ -1,20 +1,13 @@
 -- Writes that lie over each other, and a half that is written with its selector.
-use Rattle.std.proofs.Common.{◌≡◌, inl, inr, ℕ, ◌+◌, ◌≤◌, Bool, true, false, List, [], ◌∷◌, ◌++◌, length, take, drop, Option, None, Some, refl, sym, ap, subst, ◌∙◌, arith, append_assoc, append-nil, length-append, length-drop, take-append-drop}
-use Rattle.std.specs.Prelude.{option_map}
-use Rattle.std.proofs.lemmas.List.{drop-append-le, drop-drop, drop_at, length-take-le, take-append-le, take-take}
+use Rattle.journal_cells.proofs.Prelude.{◌≡◌, inl, inr, ℕ, ◌+◌, ◌≤◌, Bool, true, false, List, [], ◌∷◌, ◌++◌, length, take, drop, Option, None, Some, refl, sym, ap, subst, ◌∙◌, arith, append_assoc, length-append, option_map, length-take-le, length-range, HALF_BYTES, selector_at, cell_at, DiskView, Ending, Done, TornFrom, Puts, Torn, Writes, FreshHalf, cells_filled, half_filled, Replaces, replaced, gate_closed}
+use Rattle.std.proofs.Common.{append-nil, length-drop, take-append-drop}
+use Rattle.std.proofs.lemmas.List.{drop-append-le, drop-drop, drop_at, take-append-le, take-take}
 use Rattle.std.proofs.Math.Seq.{take-add}
 use Rattle.base_model.specs.Bytes.{range, written}
-use Rattle.base_model.proofs.Ranges.{length-range}
-use Rattle.disk_format.specs.declared.numbers.TheConstants.{HALF_BYTES}
-use Rattle.disk_format.specs.Layout.{selector_at, cell_at}
-use Rattle.dd_disk.specs.View.{DiskView, IsLater, CrashLeaves, SteppedFrom}
-use Rattle.dd_disk.specs.Ending.{Ending, Done}
-use Rattle.dd_disk.specs.Gated.{TornFrom}
-use Rattle.dd_disk.specs.Writes.{Puts, Torn, Writes}
+use Rattle.dd_disk.specs.View.{IsLater, CrashLeaves, SteppedFrom}
 use Rattle.dd_disk.proofs.Later.{leaves_on}
 use Rattle.dd_disk.proofs.Writes.{IsUnrefused, writes_on}
-use Rattle.journal_cells.specs.declared.checkpoint.FreshHalf.{FreshHalf}
-use Rattle.journal_cells.specs.Checkpoints.{FillsHalf, cells_filled, half_filled, Replaces, replaced, gate_closed}
+use Rattle.journal_cells.specs.Checkpoints.{FillsHalf}
 
 -- ---- bytes over bytes
 

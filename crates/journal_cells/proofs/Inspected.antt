@@ -1,37 +1,24 @@
 -- What an inspection of cells finds, step by step.
-use Rattle.std.proofs.Common.{◌≡◌, ◌≢◌, ◌⊎◌, inl, inr, ℕ, suc, ◌+◌, ◌-◌, ◌<◌, ◌≤◌, Bool, true, false, List, Option, None, Some, Result, Ok, Err, OnOk, IfErr, is_some, nat_lt, ◌||◌, ◌==◌, if◌then◌else◌, refl, sym, ap, subst, ◌∙◌, arith, eq-eqb}
+use Rattle.journal_cells.proofs.Prelude.{◌≡◌, ◌≢◌, ◌⊎◌, inl, inr, ℕ, suc, ◌+◌, ◌-◌, ◌<◌, ◌≤◌, Bool, true, false, List, Option, None, Some, Result, Ok, Err, IfErr, ◌||◌, refl, sym, ap, subst, ◌∙◌, arith, eq-eqb, le-ltb, byte_at, passes, Shows, DiskView, Reads, ending, always, weaker, Change, RecordValue, SelectorValue, IsName, Put, Delete, MOST_NAMES, RECORD_GATE, cell_at, half_cells, selector_at, nothing, and_then, cell_with, Damage, StopsAmong, NameMap, IsTaken, names_with, ClosedFrom, CellFault, Memory, DiskRead, DiskWrite, Damaged, NotAStore, Version, Numbers, IsReadFault, IsRecordBreak, names_taking, halves_found, AreSelectorCells, Replay, nothing_yet, has_place, open_cell, own_checks, record_in_cell, IsOpenFault}
+use Rattle.std.proofs.Common.{OnOk, is_some, nat_lt, ◌==◌, if◌then◌else◌}
 use Rattle.std.specs.FinMap as finite
 use Rattle.std.specs.Result.{is_ok}
-use Rattle.std.proofs.lemmas.Bool.{le-ltb}
-use Rattle.base_model.specs.Bytes.{range, byte_at}
-use Rattle.base_model.specs.Checks.{passes}
-use Rattle.dd_disk.specs.Shows.{Shows}
-use Rattle.dd_disk.specs.View.{DiskView}
-use Rattle.dd_disk.specs.Ending.{Reads, Refused, ending, ending_of}
+use Rattle.base_model.specs.Bytes.{range}
+use Rattle.dd_disk.specs.Ending.{Refused, ending_of}
 use Rattle.dd_io.specs.Flow.{SinkView}
-use Rattle.dd_disk.proofs.Shows.{always, weaker}
-use Rattle.disk_format.specs.Cells.{Change, RecordValue, SelectorValue, IsName}
-use Rattle.disk_format.specs.Cells.Change.{Put, Delete}
-use Rattle.disk_format.specs.declared.numbers.TheConstants.{MOST_NAMES, RECORD_GATE}
-use Rattle.disk_format.specs.Layout.{cell_at, half_cells, selector_at}
-use Rattle.inspection.specs.Found.{Found, nothing, and_then, cell_with, only_damage}
-use Rattle.inspection.specs.declared.damage.Damage.{Damage}
+use Rattle.inspection.specs.Found.{Found, only_damage}
 use Rattle.inspection.specs.declared.halt.Halt.{Halt}
 use Rattle.inspection.specs.declared.halt.Halt.TheVariants as halts_of
 use Rattle.inspection.specs.declared.tally.Tally.{Tally}
-use Rattle.inspection.specs.Handing.{Reports, Stops, StopsAmong, blames as halts}
+use Rattle.inspection.specs.Handing.{Reports, Stops, blames as halts}
 use Rattle.inspection.proofs.Steps.{nothing_then, then_nothing, reports_on, stops_after, stops_before, stops_without}
-use Rattle.namespace.specs.Names.{NameMap, HasNoPlace, IsRefused, IsTaken, names_with}
+use Rattle.namespace.specs.Names.{HasNoPlace, IsRefused}
 use Rattle.namespace.specs.declared.fault.NameFault.{NameFault}
 use Rattle.namespace.specs.declared.fault.NameFault.TheVariants as fault_of
-use Rattle.store_model.specs.Journal.{ClosedFrom}
-use Rattle.journal_cells.specs.declared.fault.CellFault.{CellFault}
-use Rattle.journal_cells.specs.declared.fault.CellFault.TheVariants.{Memory, DiskRead, DiskWrite, Damaged, NotAStore, Version, Numbers}
-use Rattle.journal_cells.specs.Faults.{IsReadFault, IsRecordBreak, blames as cell_blames}
-use Rattle.journal_cells.specs.Inspecting.{damage_in, damage_of, is_open, right_one, none_open, selector_found, selectors_found, is_right_alone, names_taking, after_cell, first_past, past_found, records_found, half_found, halves_found, journal_found}
-use Rattle.journal_cells.specs.Heads.{AreSelectorCells, selector_in}
-use Rattle.journal_cells.specs.Records.{Replay, nothing_yet, first_open, has_place, open_cell, own_checks, record_in, record_in_cell}
-use Rattle.journal_cells.specs.Scanning.{IsOpenFault}
+use Rattle.journal_cells.specs.Faults.{blames as cell_blames}
+use Rattle.journal_cells.specs.Inspecting.{damage_in, damage_of, is_open, right_one, none_open, selector_found, selectors_found, is_right_alone, after_cell, first_past, past_found, records_found, half_found, journal_found}
+use Rattle.journal_cells.specs.Heads.{selector_in}
+use Rattle.journal_cells.specs.Records.{first_open, record_in}
 use Rattle.journal_cells.proofs.Names.{place_again}
 use Rattle.journal_cells.proofs.Past.{first_none, first_some}
 use Rattle.journal_cells.proofs.Replays.{if_false, if_true, other_gate}

@@ -13,6 +13,7 @@ pub mod Names
 pub mod Outcomes
 pub mod Parts
 pub mod Past
+mod Prelude
 pub mod Prepared
 pub mod Replays
 pub mod Scanned

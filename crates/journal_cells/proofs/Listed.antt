@@ -1,8 +1,6 @@
 -- The faults of checks that fail, and the one that a reader answers.
-use Rattle.std.proofs.Common.{◌≡◌, Bool, true, false, List, [], ◌∷◌, Result, Err, refl}
+use Rattle.journal_cells.proofs.Prelude.{◌≡◌, Bool, true, false, List, [], ◌∷◌, Result, Err, refl, Check, checked, CellFault}
 use Rattle.std.specs.Prelude.{if◌then◌else◌}
-use Rattle.base_model.specs.Checks.{Check, checked}
-use Rattle.journal_cells.specs.declared.fault.CellFault.{CellFault}
 use Rattle.journal_cells.specs.Checks.{faults_of, answer_of}
 
 one_more : {A : Type 0} (b : Bool) (f : CellFault) (value : A) (rest : Result A CellFault) (fs : List CellFault) → rest ≡ answer_of fs value →

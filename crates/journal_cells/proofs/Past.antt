@@ -1,24 +1,10 @@
 -- Cells past the records of a half: whether one is open.
-use Rattle.std.proofs.Common.{◌≡◌, ℕ, zero, suc, ◌+◌, ◌-◌, ◌*◌, ◌<◌, ◌≤◌, true, false, List, length, take, Option, Some, None, Result, Ok, Err, refl, sym, ap, subst, ◌∙◌, arith, eq-eqb}
+use Rattle.journal_cells.proofs.Prelude.{◌≡◌, ℕ, zero, suc, ◌+◌, ◌-◌, ◌*◌, ◌<◌, ◌≤◌, true, false, List, length, take, Option, Some, None, Result, Ok, Err, refl, sym, ap, subst, ◌∙◌, arith, eq-eqb, eqb-false, eqb-true, ltb-false, ltb-true, length-take-le, byte_at, ◌>>=◌, then_step, byte-range, Shows, DiskView, OnlyReads, always, weaker, RecordValue, CELL_BYTES, RECORD_GATE, cell_at, half_cells, ClosedFrom, HoldsRecords, CellFault, Memory, DiskRead, DiskWrite, Damaged, NotAStore, Version, Numbers, IsCellFault, IsReadFault, IsRecordBreak, Replay, nothing_yet, open_cell, AreClosed, AreShut, IsFirstAmong, IsOpenFault, IsRead, IsWhole}
 use Rattle.std.specs.Prelude.{◌==◌, nat_lt}
-use Rattle.std.proofs.lemmas.Bool.{eqb-false, eqb-true, ltb-false, ltb-true}
-use Rattle.std.proofs.lemmas.List.{length-take-le}
-use Rattle.base_model.specs.Bytes.{range, byte_at}
-use Rattle.base_model.specs.Checks.{◌>>=◌}
-use Rattle.base_model.proofs.Checks.{then_step}
-use Rattle.base_model.proofs.Ranges.{byte-range}
-use Rattle.dd_disk.specs.Shows.{Shows}
-use Rattle.dd_disk.specs.View.{DiskView, OnlyReads}
-use Rattle.dd_disk.proofs.Shows.{always, both, weaker}
-use Rattle.disk_format.specs.Cells.{RecordValue}
-use Rattle.disk_format.specs.declared.numbers.TheConstants.{CELL_BYTES, RECORD_GATE}
-use Rattle.disk_format.specs.Layout.{cell_at, half_cells}
-use Rattle.store_model.specs.Journal.{ClosedFrom, HoldsRecords}
-use Rattle.journal_cells.specs.declared.fault.CellFault.{CellFault}
-use Rattle.journal_cells.specs.declared.fault.CellFault.TheVariants.{Memory, DiskRead, DiskWrite, Damaged, NotAStore, Version, Numbers}
-use Rattle.journal_cells.specs.Faults.{IsCellFault, IsReadFault, IsRecordBreak}
-use Rattle.journal_cells.specs.Records.{Replay, ended, first_open, half_in, nothing_yet, open_cell, replayed}
-use Rattle.journal_cells.specs.Scanning.{AreClosed, AreShut, IsFirstAmong, IsFirstIn, IsFirstOpen, IsOpenFault, IsRead, IsWhole}
+use Rattle.base_model.specs.Bytes.{range}
+use Rattle.dd_disk.proofs.Shows.{both}
+use Rattle.journal_cells.specs.Records.{ended, first_open, half_in, replayed}
+use Rattle.journal_cells.specs.Scanning.{IsFirstIn, IsFirstOpen}
 use Rattle.journal_cells.proofs.Replays.{holds_again, if_false, if_true, other_gate, replay_count, replay_of}
 
 -- ---- the first open cell

@@ -1,20 +1,12 @@
 -- What is written of a half that is to count.
-use Rattle.std.proofs.Common.{◌≡◌, ℕ, suc, ◌-◌, ◌*◌, ◌^◌, ◌<◌, ◌≤◌, List, [], ◌∷◌, length, map, Some, sym, ap, subst, ◌∙◌, arith}
+use Rattle.journal_cells.proofs.Prelude.{◌≡◌, ℕ, suc, ◌-◌, ◌*◌, ◌^◌, ◌<◌, ◌≤◌, List, [], ◌∷◌, length, map, Some, sym, ap, subst, ◌∙◌, arith, All-nil, All-cons, All-head, All-tail, length-zeros, CELL_BYTES, HALF_BYTES, MOST_NAME, MOST_NAMES, SelectorValue, IsName, selector_cell, NameMap, record_value, puts_of, last_of, FreshHalf, cells_of, IsFreshHalf}
 use Rattle.std.specs.Prelude.{slice_get}
 use Rattle.std.specs.List.{All}
 use Rattle.std.proofs.lemmas.List.{length-map}
-use Rattle.std.proofs.lemmas.List.Elements.{All-nil, All-cons, All-head, All-tail}
 use Rattle.base_model.specs.Bytes.{zeros}
-use Rattle.base_model.proofs.Ranges.{length-zeros}
-use Rattle.disk_format.specs.declared.numbers.TheConstants.{CELL_BYTES, HALF_BYTES, MOST_NAME, MOST_NAMES}
-use Rattle.disk_format.specs.Cells.{SelectorValue, IsName, selector_cell}
 use Rattle.namespace.specs.declared.record.Record.{Record}
-use Rattle.namespace.specs.Names.{NameMap, AreNames, record_value}
-use Rattle.namespace.specs.Puts.{puts_of}
+use Rattle.namespace.specs.Names.{AreNames}
 use Rattle.namespace.proofs.Puts.{puts_named, length-puts}
-use Rattle.store_model.specs.Journal.{last_of}
-use Rattle.journal_cells.specs.declared.checkpoint.FreshHalf.{FreshHalf}
-use Rattle.journal_cells.specs.Checkpoints.{cells_of, IsFreshHalf}
 
 -- the last of some
 same_record : (a b : Record) → Some a ≡ Some b → a ≡ b

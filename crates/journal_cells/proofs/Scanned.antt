@@ -1,21 +1,11 @@
 -- What reads of the journal show, cell by cell.
-use Rattle.std.proofs.Common.{◌≡◌, ◌≢◌, ℕ, suc, ◌+◌, ◌-◌, ◌<◌, List, [], ◌∷◌, ◌++◌, length, Some, None, Err, refl, sym, ap, ◌∙◌, subst, arith, length-append}
+use Rattle.journal_cells.proofs.Prelude.{◌≡◌, ◌≢◌, ℕ, suc, ◌+◌, ◌-◌, ◌<◌, List, [], ◌∷◌, ◌++◌, length, Some, None, Err, refl, sym, ap, ◌∙◌, subst, arith, length-append, byte_at, byte-range, RecordValue, IsRecord, RECORD_GATE, cell_at, half_cells, DiskView, OnlyReads, Shows, always, weaker, IsTaken, names_with, last_of_push, CellFault, Memory, DiskRead, DiskWrite, Damaged, NotAStore, Version, Numbers, IsFoundFault, IsRecordBreak, IsCellFault, Replay, nothing_yet, after_record, IsNext, IsPart, IsRead}
 use Rattle.std.specs.FinMap as finite
-use Rattle.base_model.specs.Bytes.{range, byte_at}
-use Rattle.base_model.proofs.Ranges.{byte-range}
-use Rattle.disk_format.specs.Cells.{RecordValue, IsRecord}
-use Rattle.disk_format.specs.declared.numbers.TheConstants.{RECORD_GATE}
-use Rattle.disk_format.specs.Layout.{cell_at, half_cells}
-use Rattle.dd_disk.specs.View.{DiskView, OnlyReads}
-use Rattle.dd_disk.specs.Shows.{Shows}
-use Rattle.dd_disk.proofs.Shows.{always, weaker, both}
-use Rattle.namespace.specs.Names.{IsTaken, names_with}
-use Rattle.store_model.proofs.Records.{last_of_push, names_after_push}
-use Rattle.journal_cells.specs.declared.fault.CellFault.{CellFault}
-use Rattle.journal_cells.specs.declared.fault.CellFault.TheVariants.{Memory, DiskRead, DiskWrite, Damaged, NotAStore, Version, Numbers}
-use Rattle.journal_cells.specs.Faults.{IsFoundFault, IsRecordBreak, IsCellFault}
-use Rattle.journal_cells.specs.Records.{Replay, nothing_yet, after_record, record_in, replayed}
-use Rattle.journal_cells.specs.Scanning.{IsNext, HasNext, HasNextFault, Leave, HasPart, HasRead, IsPart, IsRead}
+use Rattle.base_model.specs.Bytes.{range}
+use Rattle.dd_disk.proofs.Shows.{both}
+use Rattle.store_model.proofs.Records.{names_after_push}
+use Rattle.journal_cells.specs.Records.{record_in, replayed}
+use Rattle.journal_cells.specs.Scanning.{HasNext, HasNextFault, Leave, HasPart, HasRead}
 use Rattle.journal_cells.proofs.Damage.{IsDamage, record_damage}
 use Rattle.journal_cells.proofs.Replays.{follow_push, stand_push, replayed_open, replayed_closed, replayed_fault, replayed_full, gate_stands}
 

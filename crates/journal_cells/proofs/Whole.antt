@@ -1,21 +1,12 @@
 -- The journal as a whole: the selector that counts and the records of its half.
-use Rattle.std.proofs.Common.{◌≡◌, inl, inr, ℕ, ◌≤◌, Bool, List, max, Result, Ok, Err, IsTrue, refl, sym, ap, subst, ◌∙◌, arith}
-use Rattle.base_model.specs.Checks.{◌>>=◌}
-use Rattle.base_model.proofs.Checks.{then_step}
-use Rattle.disk_format.specs.Cells.{RecordValue, SelectorValue, IsSelector}
-use Rattle.dd_disk.specs.View.{DiskView, OnlyReads}
-use Rattle.dd_disk.specs.Shows.{Shows}
-use Rattle.dd_disk.proofs.Shows.{also, always, weaker, both, until}
-use Rattle.store_model.specs.Journal.{HoldsSelector, IsOlder, HoldsJournal, KnowsOther, last_of}
+use Rattle.journal_cells.proofs.Prelude.{◌≡◌, inl, inr, ℕ, ◌≤◌, Bool, List, max, Result, Ok, Err, refl, sym, ap, subst, ◌∙◌, arith, ◌>>=◌, then_step, RecordValue, SelectorValue, IsSelector, DiskView, OnlyReads, Shows, always, weaker, HoldsSelector, IsOlder, HoldsJournal, KnowsOther, last_of, CellFault, Memory, DiskRead, DiskWrite, Damaged, NotAStore, Version, Numbers, fails, IsSelectorBreak, IsRecordBreak, IsReadFault, IsCellFault, Selection, HoldsSelection, selection_of, Replay, nothing_yet, IsScanned, IsTold, IsWhole}
+use Rattle.std.proofs.Common.{IsTrue}
+use Rattle.dd_disk.proofs.Shows.{also, both, until}
 use Rattle.store_model.proofs.Once.{other_once}
-use Rattle.journal_cells.specs.declared.fault.CellFault.{CellFault}
-use Rattle.journal_cells.specs.declared.fault.CellFault.TheVariants.{Memory, DiskRead, DiskWrite, Damaged, NotAStore, Version, Numbers}
-use Rattle.journal_cells.specs.Faults.{fails, IsSelectorBreak, IsRecordBreak, IsJournalBreak, IsReadFault, IsCellFault}
-use Rattle.journal_cells.specs.declared.heads.Selection.{Selection}
-use Rattle.journal_cells.specs.Heads.{HoldsSelection, selection_of}
-use Rattle.journal_cells.specs.Records.{Replay, half_in, nothing_yet}
-use Rattle.journal_cells.specs.Journal.{IsScanned, IsTold, journal_in}
-use Rattle.journal_cells.specs.Scanning.{opened, IsWhole}
+use Rattle.journal_cells.specs.Faults.{IsJournalBreak}
+use Rattle.journal_cells.specs.Records.{half_in}
+use Rattle.journal_cells.specs.Journal.{journal_in}
+use Rattle.journal_cells.specs.Scanning.{opened}
 use Rattle.journal_cells.proofs.Past.{half_again}
 use Rattle.journal_cells.proofs.Replays.{replay_of, replay_count, replay_previous, replay_names}
 

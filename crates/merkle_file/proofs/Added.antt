@@ -1,14 +1,6 @@
 -- Placing a child, or closing, finishes at most one node in each row.
-use Rattle.std.proofs.Common.{◌≡◌, ℕ, ◌+◌, ◌≤◌, ◌&&◌, List, [], ◌∷◌, ◌++◌, length, ap, arith, inl, inr}
-use Rattle.std.specs.Prelude.{◌==◌, nat_le}
-use Rattle.std.proofs.lemmas.Bool.{cases_Bool}
-use Rattle.std.proofs.lemmas.List.{length-append}
-use Rattle.merkle_file.specs.declared.node.Child.{Child}
-use Rattle.disk_format.specs.declared.numbers.TheConstants.{MOST_CHILDREN, MOST_LEVEL}
-use Rattle.merkle_file.specs.Building.{levels_left}
-use Rattle.merkle_file.specs.Node.{Contents}
-use Rattle.merkle_file.specs.Tree.{parent}
-use Rattle.merkle_file.specs.Steps.{place, close, are_empty}
+use Rattle.merkle_file.proofs.Prelude.{◌≡◌, ℕ, ◌+◌, ◌≤◌, ◌&&◌, List, [], ◌∷◌, ◌++◌, length, ap, arith, inl, inr, ◌==◌, nat_le, cases_Bool, length-append, Child, MOST_CHILDREN, MOST_LEVEL, levels_left, Contents, parent, are_empty}
+use Rattle.merkle_file.specs.Steps.{place, close}
 use Rattle.merkle_file.proofs.Placing.{node_over}
 use Rattle.merkle_file.proofs.Closing.{node_of}
 

@@ -1,12 +1,8 @@
 -- Of the nodes of a tree each comes after its children.
-use Rattle.std.proofs.Common.{◌≡◌, ℕ, zero, suc, ◌+◌, ◌≤◌, ◌⊎◌, List, [], ◌∷◌, ◌++◌, length, map, Some, refl, sym, ap, subst, ◌∙◌, append_assoc, arith, inl, inr}
-use Rattle.std.specs.List.{AllByRecursion, slice_get}
-use Rattle.std.proofs.lemmas.List.{append-nil}
-use Rattle.std.proofs.lemmas.Bool.{cases_Bool}
-use Rattle.merkle_file.specs.declared.node.Child.{Child}
-use Rattle.merkle_file.specs.Form.{Form, is_whole, most_level}
-use Rattle.merkle_file.specs.Node.{Contents}
-use Rattle.merkle_file.specs.Tree.{Tree, Trees, Empty, Leaf, Node, NoTree, Then, trees, joined, level_of, child_of, children_of, nodes_of, nodes_below, itself, grouped, grouped_from, last_group, tree_over}
+use Rattle.merkle_file.proofs.Prelude.{◌≡◌, ℕ, zero, suc, ◌+◌, ◌≤◌, ◌⊎◌, List, [], ◌∷◌, ◌++◌, length, map, refl, sym, ap, subst, ◌∙◌, append_assoc, arith, inl, inr, AllByRecursion, append-nil, cases_Bool, Child, Form, is_whole, most_level, Contents, Tree, Trees, Empty, Leaf, Node, NoTree, Then, trees, joined, level_of, child_of, children_of, nodes_of, nodes_below, itself, grouped, last_group}
+use Rattle.std.proofs.Common.{Some}
+use Rattle.std.specs.List.{slice_get}
+use Rattle.merkle_file.specs.Tree.{grouped_from, tree_over}
 use Rattle.merkle_file.specs.Order.{HasCome, ChildrenComeFirst}
 use Rattle.merkle_file.proofs.Placing.{all_push}
 

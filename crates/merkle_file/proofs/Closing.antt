@@ -1,21 +1,11 @@
 -- Closing rows: what is kept, and one row after the other.
-use Rattle.std.proofs.Common.{◌≡◌, ℕ, zero, suc, ◌+◌, ◌*◌, ◌^◌, ◌<◌, ◌≤◌, Bool, true, false, eqb, List, [], ◌∷◌, ◌++◌, length, get_or, take, drop, set, refl, sym, ap, subst, ◌∙◌, append_assoc, arith, ◌&&◌}
-use Rattle.std.proofs.Math.Nat.{pow-suc}
-use Rattle.std.specs.Prelude.{nat_le, ◌==◌, replicate, Option, Some, None, MatchOption}
-use Rattle.std.specs.Option.{option_to_list}
-use Rattle.std.specs.Global.{Vec}
-use Rattle.std.specs.List.{AllByRecursion, list_all}
-use Rattle.std.proofs.lemmas.Bool.{eq-eqb, ne_eqb, and_parts, leb-true, leb-false, le-leb}
-use Rattle.std.proofs.lemmas.List.{length-append, append-nil, drop-map, take_more_set, replicate_more}
-use Rattle.std.proofs.lemmas.List.Sums.{sum_by-append}
-use Rattle.merkle_file.specs.declared.node.Child.{Child}
-use Rattle.merkle_file.specs.declared.top.Top.{Top}
-use Rattle.disk_format.specs.declared.numbers.TheConstants.{MOST_CHILDREN}
-use Rattle.merkle_file.specs.Node.{Contents, total, spelling, IsChild}
-use Rattle.merkle_file.specs.Tree.{parent}
+use Rattle.merkle_file.proofs.Prelude.{◌≡◌, ℕ, zero, suc, ◌+◌, ◌*◌, ◌^◌, ◌<◌, ◌≤◌, Bool, true, false, eqb, List, [], ◌∷◌, ◌++◌, length, get_or, take, drop, set, refl, sym, ap, subst, ◌∙◌, append_assoc, arith, ◌&&◌, pow-suc, nat_le, ◌==◌, option_to_list, Vec, AllByRecursion, eq-eqb, ne_eqb, and_parts, leb-true, leb-false, le-leb, length-append, append-nil, drop-map, replicate_more, sum_by-append, Child, Top, MOST_CHILDREN, Contents, total, IsChild, parent, are_empty, top_of, Closed, CanClose, AreNode, items_of}
+use Rattle.std.specs.Prelude.{replicate, Option, Some, None, MatchOption}
+use Rattle.std.specs.List.{list_all}
+use Rattle.std.proofs.lemmas.List.{take_more_set}
+use Rattle.merkle_file.specs.Node.{spelling}
 use Rattle.merkle_file.specs.Building.{count_of, total_of}
-use Rattle.merkle_file.specs.Steps.{are_empty, top_of, close, Closed}
-use Rattle.merkle_file.specs.Rows.{CanClose, AreNode, items_of}
+use Rattle.merkle_file.specs.Steps.{close}
 use Rattle.merkle_file.proofs.Placing.{length-sha256, items-set, length-items, front_of}
 
 all_append : {X : Type 0} (P : X → Type 0) (xs ys : List X) → AllByRecursion P xs → AllByRecursion P ys → AllByRecursion P (xs ++ ys)

@@ -1,15 +1,12 @@
 -- Fields of a node: what a check that found nothing tells, and that it finds nothing in what was written.
-use Rattle.std.proofs.Common.{◌≡◌, ℕ, ◌+◌, ◌*◌, ◌^◌, ◌<◌, ◌≤◌, Bool, true, false, cond, List, ◌++◌, length, get_or, take, drop, Option, Some, None, refl, sym, ap, ◌∙◌, append_assoc, arith, inl, inr}
-use Rattle.std.specs.Int.{w16, w64, from_be_bytes, to_be_bytes}
-use Rattle.std.proofs.lemmas.Bool.{cases_lt, eq-eqb, eqb-true, leb-true, le-leb, lt-ltb, and_parts, and_from, or_cases, or_left, or_right, ltb-true}
-use Rattle.std.proofs.lemmas.List.{take_at, drop_at, take-append-drop, length-append, length-take, length-drop, drop-drop, get_or-drop, get_or-take, get_or_past}
+use Rattle.merkle_file.proofs.Prelude.{◌≡◌, ℕ, ◌+◌, ◌*◌, ◌^◌, ◌<◌, ◌≤◌, Bool, true, false, List, ◌++◌, length, get_or, take, drop, refl, sym, ap, ◌∙◌, append_assoc, arith, inl, inr, w16, to_be_bytes, cases_lt, eq-eqb, eqb-true, leb-true, le-leb, and_parts, take_at, drop_at, take-append-drop, length-append, length-take, length-drop, drop-drop, FieldFault, Child, Asked, MOST_CHILDREN, entry, child_in}
+use Rattle.std.proofs.Common.{cond, Option, Some, None}
+use Rattle.std.specs.Int.{w64, from_be_bytes}
+use Rattle.std.proofs.lemmas.Bool.{lt-ltb, and_from, or_cases, or_left, or_right, ltb-true}
+use Rattle.std.proofs.lemmas.List.{get_or-drop, get_or-take, get_or_past}
 use Rattle.std.proofs.lemmas.Nat.{be_bytes_2, be_bytes_8, from_be_bytes-to_be_bytes_2, from_be_bytes-to_be_bytes_8}
-use Rattle.merkle_file.specs.declared.fault.FieldFault.{FieldFault}
-use Rattle.merkle_file.specs.declared.node.Child.{Child}
-use Rattle.merkle_file.specs.declared.reading.Asked.{Asked}
-use Rattle.disk_format.specs.declared.numbers.TheConstants.{MOST_CHILDREN}
-use Rattle.merkle_file.specs.Node.{entry, greatest_child}
-use Rattle.merkle_file.specs.Reading.{short_number, long_number, child_in, is_right_count, is_right_length, or_else, entry_fault}
+use Rattle.merkle_file.specs.Node.{greatest_child}
+use Rattle.merkle_file.specs.Reading.{short_number, long_number, is_right_count, is_right_length, or_else, entry_fault}
 
 abbrev pub IsBytes : List ℕ → Type 0
 IsBytes bytes = (i : ℕ) → get_or bytes i 0 < 256

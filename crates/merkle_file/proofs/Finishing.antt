@@ -1,19 +1,9 @@
 -- Closing what is kept of a list of trees gives the tree over them.
-use Rattle.std.proofs.Common.{◌≡◌, ℕ, zero, suc, ◌+◌, ◌*◌, ◌^◌, ◌<◌, ◌≤◌, Bool, true, false, eqb, List, [], ◌∷◌, ◌++◌, length, map, refl, sym, ap, subst, ◌∙◌, append_assoc, arith, inl, inr, ◌&&◌, ◌⊎◌}
-use Rattle.std.proofs.Math.Nat.{pow-suc}
-use Rattle.std.specs.Prelude.{nat_le}
-use Rattle.std.specs.List.{flat_map, AllByRecursion}
-use Rattle.std.proofs.lemmas.Bool.{cases_Bool, and_parts, leb-true, leb-false, eqb-true}
-use Rattle.std.proofs.lemmas.List.{length-append, append-nil, map-append, nil_from_length}
-use Rattle.std.proofs.lemmas.Grind.{flat_map-append}
-use Rattle.std.proofs.lemmas.List.Concat.{flat_map-cons}
-use Rattle.merkle_file.specs.declared.node.Child.{Child}
-use Rattle.disk_format.specs.declared.numbers.TheConstants.{MOST_CHILDREN}
-use Rattle.merkle_file.specs.Form.{Form, ByCount, is_whole}
-use Rattle.merkle_file.specs.Node.{Contents}
-use Rattle.merkle_file.specs.Tree.{Tree, joined, child_of, nodes_of, level_of, root_of, parent, grouped, last_group, tree_over}
-use Rattle.merkle_file.specs.Building.{open_trees, nodes_in_rows, whole_from, rest_from, whole, rest}
-use Rattle.merkle_file.specs.Steps.{are_empty, top_of, close, Closed}
+use Rattle.merkle_file.proofs.Prelude.{◌≡◌, ℕ, zero, suc, ◌+◌, ◌*◌, ◌^◌, ◌<◌, ◌≤◌, Bool, true, false, eqb, List, [], ◌∷◌, ◌++◌, length, map, refl, sym, ap, subst, ◌∙◌, append_assoc, arith, inl, inr, ◌&&◌, ◌⊎◌, pow-suc, nat_le, flat_map, AllByRecursion, cases_Bool, and_parts, leb-true, leb-false, eqb-true, length-append, append-nil, map-append, flat_map-append, flat_map-cons, Child, MOST_CHILDREN, Form, ByCount, is_whole, Contents, Tree, joined, child_of, nodes_of, level_of, root_of, parent, grouped, last_group, nodes_in_rows, whole, rest, are_empty, top_of, Closed}
+use Rattle.std.proofs.lemmas.List.{nil_from_length}
+use Rattle.merkle_file.specs.Tree.{tree_over}
+use Rattle.merkle_file.specs.Building.{open_trees, whole_from, rest_from}
+use Rattle.merkle_file.specs.Steps.{close}
 use Rattle.merkle_file.proofs.Closing.{node_of, close_last, close_none, close_some}
 use Rattle.merkle_file.proofs.Pushing.{whole_push, rest_push, counted, child_of-joined, nodes_of-joined, said, child_rows, length-children, length-joined}
 use Rattle.merkle_file.proofs.Groups.{grouped_is}

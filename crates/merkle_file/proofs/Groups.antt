@@ -1,13 +1,9 @@
 -- The groups of a list are its whole groups and what is left, and where nodes end by the number of their children, each
 -- takes as many elements as a node has at most.
-use Rattle.std.proofs.Common.{◌≡◌, ◌+◌, ◌<◌, ◌≤◌, List, [], ◌∷◌, ◌++◌, length, take, drop, refl, sym, ap, ◌∙◌, append_assoc, arith, inl, inr}
-use Rattle.std.proofs.lemmas.Bool.{cases_Bool, eqb-true, eqb-false}
-use Rattle.std.proofs.lemmas.List.{append-nil, drop_all, drop_at, length-append, take_all, take_at}
-use Rattle.disk_format.specs.declared.numbers.TheConstants.{MOST_CHILDREN}
-use Rattle.merkle_file.specs.declared.node.Child.{Child}
-use Rattle.merkle_file.specs.Form.{Form, ByCount, is_whole}
-use Rattle.merkle_file.specs.Tree.{GroupsAreTaken, child_of, grouped, grouped_from, last_group, of_segment}
-use Rattle.merkle_file.specs.Building.{whole_from, rest_from, whole, rest}
+use Rattle.merkle_file.proofs.Prelude.{◌≡◌, ◌+◌, ◌<◌, ◌≤◌, List, [], ◌∷◌, ◌++◌, length, take, drop, refl, sym, ap, ◌∙◌, append_assoc, arith, inl, inr, cases_Bool, eqb-true, eqb-false, append-nil, drop_all, drop_at, length-append, take_at, MOST_CHILDREN, Child, Form, ByCount, is_whole, child_of, grouped, last_group, of_segment, whole, rest}
+use Rattle.std.proofs.lemmas.List.{take_all}
+use Rattle.merkle_file.specs.Tree.{GroupsAreTaken, grouped_from}
+use Rattle.merkle_file.specs.Building.{whole_from, rest_from}
 
 -- the whole groups, and one of what is left
 abbrev pub groups_after : {X : Type 0} → Form → (X → Child) → List X → List X → List (List X)

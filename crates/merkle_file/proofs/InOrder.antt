@@ -1,16 +1,7 @@
 -- The nodes that are finished while a tree is built are the first nodes of the tree.
-use Rattle.std.proofs.Common.{◌≡◌, ℕ, zero, suc, ◌+◌, ◌^◌, ◌<◌, ◌≤◌, List, [], ◌∷◌, ◌++◌, length, map, refl, sym, ap, ◌∙◌, append_assoc, arith, inl, inr}
-use Rattle.std.specs.List.{flat_map}
-use Rattle.std.proofs.lemmas.Bool.{cases_Bool, cases_lt}
-use Rattle.std.proofs.lemmas.List.{append-nil, map-append}
-use Rattle.std.proofs.lemmas.Grind.{flat_map-append}
-use Rattle.std.proofs.lemmas.List.Concat.{flat_map-cons}
-use Rattle.merkle_file.specs.declared.node.Child.{Child}
-use Rattle.disk_format.specs.declared.numbers.TheConstants.{MOST_CHILDREN, MOST_LEVEL}
-use Rattle.merkle_file.specs.Form.{Form, ByCount, is_whole}
-use Rattle.merkle_file.specs.Node.{Contents}
-use Rattle.merkle_file.specs.Tree.{Tree, Leaf, child_of, joined, nodes_of, itself, grouped, last_group, tree_over}
-use Rattle.merkle_file.specs.Building.{open_trees, open_over, nodes_in_rows, whole_from, rest_from, whole, rest}
+use Rattle.merkle_file.proofs.Prelude.{◌≡◌, ℕ, zero, suc, ◌+◌, ◌^◌, ◌<◌, ◌≤◌, List, [], ◌∷◌, ◌++◌, length, map, refl, sym, ap, ◌∙◌, append_assoc, arith, inl, inr, flat_map, cases_Bool, cases_lt, append-nil, map-append, flat_map-append, flat_map-cons, Child, MOST_CHILDREN, MOST_LEVEL, Form, ByCount, is_whole, Contents, Tree, Leaf, child_of, joined, nodes_of, itself, grouped, last_group, open_over, nodes_in_rows, whole, rest}
+use Rattle.merkle_file.specs.Tree.{tree_over}
+use Rattle.merkle_file.specs.Building.{open_trees, whole_from, rest_from}
 use Rattle.merkle_file.specs.Order.{NodesComeInOrder}
 use Rattle.merkle_file.proofs.Pushing.{nodes_of-joined, said}
 use Rattle.merkle_file.proofs.Groups.{groups_after, grouped_is}

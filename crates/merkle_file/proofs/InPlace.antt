@@ -1,11 +1,7 @@
 -- What the bytes of a node say, read where they lie.
-use Rattle.std.proofs.Common.{◌≡◌, ℕ, zero, suc, ◌+◌, ◌*◌, ◌<◌, ◌≤◌, List, [], ◌∷◌, length, drop, refl, sym, ap, ◌∙◌, arith}
-use Rattle.std.specs.List.{flat_map, AllByRecursion}
-use Rattle.std.proofs.lemmas.List.{length-append, drop-drop}
-use Rattle.std.proofs.lemmas.List.Concat.{flat_map-cons}
-use Rattle.merkle_file.specs.declared.node.Child.{Child}
-use Rattle.merkle_file.specs.Node.{Contents, IsChild, IsNode, entry, spelling}
-use Rattle.merkle_file.specs.Reading.{IsNodeBytes, any_node, child_in, children_in, contents_in, short_number}
+use Rattle.merkle_file.proofs.Prelude.{◌≡◌, ℕ, zero, suc, ◌+◌, ◌*◌, ◌<◌, ◌≤◌, List, [], ◌∷◌, length, drop, refl, sym, ap, ◌∙◌, arith, flat_map, AllByRecursion, length-append, drop-drop, flat_map-cons, Child, Contents, IsChild, IsNode, entry, any_node, child_in, contents_in}
+use Rattle.merkle_file.specs.Node.{spelling}
+use Rattle.merkle_file.specs.Reading.{IsNodeBytes, children_in, short_number}
 use Rattle.merkle_file.specs.Laws.{NodesAreReadAgain}
 use Rattle.merkle_file.proofs.Fields.{length-entry}
 use Rattle.merkle_file.proofs.Nodes.{node_again}

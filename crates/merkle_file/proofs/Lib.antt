@@ -3,6 +3,7 @@ pub mod Nodes
 pub mod Placing
 pub mod Closing
 pub mod Groups
+mod Prelude
 pub mod Pushing
 pub mod Finishing
 pub mod Progress

@@ -1,18 +1,11 @@
 -- The two laws of nodes: bytes with no wrong field are a node's spelling, and a node's spelling has none.
-use Rattle.std.proofs.Common.{◌≡◌, ℕ, zero, suc, ◌+◌, ◌-◌, ◌*◌, ◌^◌, ◌<◌, ◌≤◌, List, [], ◌∷◌, ◌++◌, length, take, drop, Some, None, refl, sym, ap, ◌∙◌, arith, inl, inr}
+use Rattle.merkle_file.proofs.Prelude.{◌≡◌, ℕ, zero, suc, ◌+◌, ◌-◌, ◌*◌, ◌^◌, ◌<◌, ◌≤◌, List, [], ◌∷◌, ◌++◌, length, take, drop, refl, sym, ap, ◌∙◌, arith, inl, inr, w16, to_be_bytes, flat_map, AllByRecursion, cases_lt, eqb-true, ne_eqb, eq-eqb, drop_at, length-append, length-take, length-drop, flat_map-cons, sum_by-cons, Child, FieldFault, Asked, MOST_FILE, Contents, total, entry, IsChild, IsNode, child_in, contents_in, first_fault, IsAsked, IsWithin}
+use Rattle.std.proofs.Common.{Some, None}
 use Rattle.std.specs.Prelude.{slice_index}
-use Rattle.std.specs.Int.{w16, to_be_bytes}
-use Rattle.std.specs.List.{flat_map, AllByRecursion}
-use Rattle.std.proofs.lemmas.Bool.{cases_lt, ltb-false, le-ltb, or_parts, or_from, eqb-true, ne_eqb, eq-eqb}
-use Rattle.std.proofs.lemmas.List.{drop_at, length-append, length-take, length-drop}
-use Rattle.std.proofs.lemmas.List.Concat.{flat_map-cons}
-use Rattle.std.proofs.lemmas.List.Sums.{sum_by-cons}
-use Rattle.merkle_file.specs.declared.node.Child.{Child}
-use Rattle.merkle_file.specs.declared.fault.FieldFault.{FieldFault}
-use Rattle.merkle_file.specs.declared.reading.Asked.{Asked}
-use Rattle.disk_format.specs.declared.numbers.TheConstants.{NODE_FORM, MOST_FILE}
-use Rattle.merkle_file.specs.Node.{Contents, total, entry, spelling, IsChild, IsNode}
-use Rattle.merkle_file.specs.Reading.{short_number, long_number, child_in, children_in, contents_in, head_fault, entry_fault, entries_fault, first_fault, IsAsked, IsWithin}
+use Rattle.std.proofs.lemmas.Bool.{ltb-false, le-ltb, or_parts, or_from}
+use Rattle.disk_format.specs.declared.numbers.TheConstants.{NODE_FORM}
+use Rattle.merkle_file.specs.Node.{spelling}
+use Rattle.merkle_file.specs.Reading.{short_number, long_number, children_in, head_fault, entry_fault, entries_fault}
 use Rattle.merkle_file.proofs.Fields.{IsBytes, IsBytes-drop, nothing_if, nothing_unless, or_else_none, short_back, short_again, IsCount, count_takes, count_again, IsRight, entry_takes, entry_parts, length-entry, child_again, length_again, entry_again}
 
 -- ---- one entry after the other

@@ -1,21 +1,14 @@
 -- Placing a child in rows: what is kept, and one row after the other.
-use Rattle.std.proofs.Common.{◌≡◌, ℕ, zero, suc, ◌+◌, ◌*◌, ◌<◌, ◌≤◌, List, [], ◌∷◌, ◌++◌, length, get_or, take, drop, set, refl, sym, ap, subst, ◌∙◌, append_assoc, add-one, arith}
-use Rattle.std.proofs.Math.Nat.{pow-suc}
+use Rattle.merkle_file.proofs.Prelude.{◌≡◌, ℕ, zero, suc, ◌+◌, ◌*◌, ◌<◌, ◌≤◌, List, [], ◌∷◌, ◌++◌, length, get_or, take, drop, set, refl, sym, ap, subst, ◌∙◌, append_assoc, arith, pow-suc, Vec, AllByRecursion, to_be_bytes, eq-eqb, ne_eqb, length-append, append-nil, drop_more, replicate_more, take-append-drop, length-take-le, drop_at, drop-map, map-append, sum_by-append, Child, MOST_CHILDREN, MOST_FILE, Contents, total, IsChild, parent, Placed, CanPlace, items_of}
+use Rattle.std.proofs.Common.{add-one}
 use Rattle.std.specs.Prelude.{replicate}
-use Rattle.std.specs.Global.{Vec}
-use Rattle.std.specs.List.{AllByRecursion}
-use Rattle.std.specs.Int.{w32, to_be_bytes}
-use Rattle.std.proofs.lemmas.Bool.{eq-eqb, ne_eqb}
-use Rattle.std.proofs.lemmas.List.{length-append, append-nil, set_split, drop_more, replicate_more, take-append-drop, length-take-le, drop_at, drop-map, map-append, map-set, get_or-map}
-use Rattle.std.proofs.lemmas.List.Sums.{sum_by-append}
+use Rattle.std.specs.Int.{w32}
+use Rattle.std.proofs.lemmas.List.{set_split, map-set, get_or-map}
 use Rattle.sha2.specs.Sha256.{sha256, digest_bytes}
-use Rattle.merkle_file.specs.declared.node.Child.{Child}
-use Rattle.disk_format.specs.declared.numbers.TheConstants.{MOST_CHILDREN, MOST_FILE}
-use Rattle.merkle_file.specs.Node.{Contents, total, spelling, IsChild}
-use Rattle.merkle_file.specs.Tree.{parent}
+use Rattle.merkle_file.specs.Node.{spelling}
 use Rattle.merkle_file.specs.Building.{count_of, total_of}
-use Rattle.merkle_file.specs.Steps.{place, Placed}
-use Rattle.merkle_file.specs.Rows.{CanPlace, CanTake, IsPlacement, IsSettled, items_of}
+use Rattle.merkle_file.specs.Steps.{place}
+use Rattle.merkle_file.specs.Rows.{CanTake, IsPlacement, IsSettled}
 
 length-digest_bytes : (h : List ℕ) (n : ℕ) → length (digest_bytes h n) ≡ 4 * n
 unfolding digest_bytes

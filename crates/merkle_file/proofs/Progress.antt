@@ -1,16 +1,9 @@
 -- What a builder keeps, from call to call.
-use Rattle.std.proofs.Common.{◌≡◌, ℕ, zero, suc, ◌+◌, List, [], ◌∷◌, ◌++◌, length, map, take, drop, replicate, refl, sym, ap, ◌∙◌, append_assoc, arith, inl, inr}
-use Rattle.std.proofs.lemmas.Bool.{cases_lt}
-use Rattle.std.specs.Global.{Vec}
-use Rattle.std.proofs.lemmas.List.{append-nil, map-append, take_at}
-use Rattle.merkle_file.specs.declared.node.Child.{Child}
-use Rattle.disk_format.specs.declared.numbers.TheConstants.{MOST_CHILDREN, MOST_LEVEL}
-use Rattle.merkle_file.specs.Form.{ByCount}
-use Rattle.merkle_file.specs.Node.{Contents, IsChild}
-use Rattle.merkle_file.specs.Tree.{Leaf, nodes_of, root_of, itself, tree_over, tree_of}
-use Rattle.merkle_file.specs.Building.{Progress, Holds, IsProgress, MayPush, open_trees, open_over, nodes_in_rows, count_of, total_of, AreRows, whole_from, rest_from}
+use Rattle.merkle_file.proofs.Prelude.{◌≡◌, ℕ, zero, suc, ◌+◌, List, [], ◌∷◌, ◌++◌, length, map, take, drop, refl, sym, ap, ◌∙◌, append_assoc, arith, inl, inr, cases_lt, Vec, append-nil, map-append, take_at, Child, MOST_CHILDREN, MOST_LEVEL, ByCount, Contents, IsChild, Leaf, nodes_of, root_of, itself, tree_of, Progress, Holds, MayPush, open_over, nodes_in_rows, CanPlace, CanClose, items_of}
+use Rattle.std.proofs.Common.{replicate}
+use Rattle.merkle_file.specs.Tree.{tree_over}
+use Rattle.merkle_file.specs.Building.{IsProgress, open_trees, count_of, total_of, AreRows, whole_from, rest_from}
 use Rattle.merkle_file.specs.Steps.{place, close}
-use Rattle.merkle_file.specs.Rows.{CanPlace, CanClose, items_of}
 use Rattle.merkle_file.proofs.Placing.{can_next, can_not, place_next, place_here, all_push, total_push}
 use Rattle.merkle_file.proofs.Pushing.{child_rows, push_law}
 use Rattle.merkle_file.proofs.Finishing.{AtLevel, empty_where_none, finish_law}

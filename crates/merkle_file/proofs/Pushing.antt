@@ -1,18 +1,7 @@
 -- What is kept of a list of trees, after one more.
-use Rattle.std.proofs.Common.{◌≡◌, ℕ, zero, suc, ◌+◌, ◌*◌, ◌^◌, ◌<◌, true, false, List, [], ◌∷◌, ◌++◌, length, map, refl, sym, ap, subst, ◌∙◌, append_assoc, arith, inl, inr}
-use Rattle.std.proofs.Math.Nat.{pow-suc}
-use Rattle.std.specs.List.{flat_map}
-use Rattle.std.proofs.lemmas.Bool.{cases_Bool, eqb-true, eqb-false}
-use Rattle.std.proofs.lemmas.List.{length-append, append-nil, map-append}
-use Rattle.std.proofs.lemmas.Grind.{flat_map-append}
-use Rattle.std.proofs.lemmas.List.Concat.{flat_map-cons}
-use Rattle.merkle_file.specs.declared.node.Child.{Child}
-use Rattle.disk_format.specs.declared.numbers.TheConstants.{MOST_CHILDREN}
-use Rattle.merkle_file.specs.Form.{Form, ByCount, is_whole}
-use Rattle.merkle_file.specs.Node.{Contents}
-use Rattle.merkle_file.specs.Tree.{Tree, trees, joined, child_of, children_of, nodes_of, nodes_below, parent}
-use Rattle.merkle_file.specs.Building.{open_trees, nodes_in_rows, whole_from, rest_from, whole, rest}
-use Rattle.merkle_file.specs.Steps.{place, Placed}
+use Rattle.merkle_file.proofs.Prelude.{◌≡◌, ℕ, zero, suc, ◌+◌, ◌*◌, ◌^◌, ◌<◌, true, false, List, [], ◌∷◌, ◌++◌, length, map, refl, sym, ap, subst, ◌∙◌, append_assoc, arith, inl, inr, pow-suc, flat_map, cases_Bool, eqb-true, eqb-false, length-append, append-nil, map-append, flat_map-append, flat_map-cons, Child, MOST_CHILDREN, Form, ByCount, is_whole, Contents, Tree, trees, joined, child_of, children_of, nodes_of, nodes_below, parent, nodes_in_rows, whole, rest, Placed}
+use Rattle.merkle_file.specs.Building.{open_trees, whole_from, rest_from}
+use Rattle.merkle_file.specs.Steps.{place}
 use Rattle.merkle_file.proofs.Placing.{place_next, place_here, node_over}
 
 -- ---- groups

@@ -1,16 +1,9 @@
 -- The tree over right segments has right nodes.
-use Rattle.std.proofs.Common.{◌≡◌, ℕ, zero, suc, ◌+◌, ◌<◌, ◌≤◌, List, [], ◌∷◌, ◌++◌, length, map, refl, ap, arith, inl, inr}
-use Rattle.std.specs.Prelude.{sum_by}
-use Rattle.std.specs.List.{AllByRecursion}
-use Rattle.std.proofs.lemmas.Bool.{cases_Bool, ne_eqb, eqb-false}
-use Rattle.std.proofs.lemmas.List.{length-append}
-use Rattle.std.proofs.lemmas.List.Sums.{sum_by-append, sum_by-cons}
-use Rattle.merkle_file.specs.declared.node.Child.{Child}
-use Rattle.disk_format.specs.declared.numbers.TheConstants.{MOST_CHILDREN, MOST_FILE, MOST_LEVEL, MOST_SEGMENT}
-use Rattle.merkle_file.specs.Form.{Form, ByCount, is_whole}
-use Rattle.merkle_file.specs.Node.{IsChild, spelling, total}
-use Rattle.merkle_file.specs.Tree.{Tree, Empty, Leaf, Node, trees, joined, child_of, children_of, level_of, of_segment, grouped, grouped_from, last_group, tree_over}
-use Rattle.merkle_file.specs.Walk.{AreBelow, IsTree, TreesAreRight, contents_of, trees_in}
+use Rattle.merkle_file.proofs.Prelude.{◌≡◌, ℕ, zero, suc, ◌+◌, ◌<◌, ◌≤◌, List, [], ◌∷◌, ◌++◌, length, map, refl, ap, arith, inl, inr, sum_by, AllByRecursion, cases_Bool, ne_eqb, eqb-false, length-append, sum_by-append, sum_by-cons, Child, MOST_CHILDREN, MOST_FILE, MOST_LEVEL, Form, ByCount, is_whole, IsChild, total, Tree, Empty, Leaf, Node, trees, joined, child_of, children_of, level_of, of_segment, grouped, last_group, AreBelow, IsTree, contents_of, trees_in}
+use Rattle.disk_format.specs.declared.numbers.TheConstants.{MOST_SEGMENT}
+use Rattle.merkle_file.specs.Node.{spelling}
+use Rattle.merkle_file.specs.Tree.{grouped_from, tree_over}
+use Rattle.merkle_file.specs.Walk.{TreesAreRight}
 use Rattle.merkle_file.proofs.Placing.{all_push, length-sha256}
 
 abbrev pub Segments : Type 0

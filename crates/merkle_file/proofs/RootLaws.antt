@@ -1,16 +1,9 @@
 -- What the root of a tree over segments says, its nodes, and the one spelling of a node.
-use Rattle.std.proofs.Common.{◌≡◌, ℕ, zero, suc, ◌+◌, ◌^◌, ◌≤◌, List, [], ◌∷◌, ◌++◌, length, map, refl, sym, ap, ◌∙◌, arith}
-use Rattle.std.specs.Prelude.{sum_by}
-use Rattle.std.specs.List.{AllByRecursion, concat}
-use Rattle.std.proofs.lemmas.List.{append-nil}
-use Rattle.std.proofs.lemmas.List.Sums.{sum_by-cons}
+use Rattle.merkle_file.proofs.Prelude.{◌≡◌, ℕ, zero, suc, ◌+◌, ◌^◌, ◌≤◌, List, [], ◌∷◌, ◌++◌, length, map, refl, sym, ap, ◌∙◌, arith, sum_by, AllByRecursion, append-nil, sum_by-cons, MOST_CHILDREN, MOST_FILE, MOST_LEVEL, Form, ByCount, most_level, Contents, IsNode, IsWithin, any_node, contents_in, Tree, Trees, Empty, Leaf, Node, NoTree, Then, child_of, joined, level_of, nodes_of, nodes_below, of_segment, root_of, grouped, tree_of, AreBelow, IsTree, trees_in}
+use Rattle.std.specs.List.{concat}
 use Rattle.sha2.specs.Sha256.{sha256}
-use Rattle.disk_format.specs.declared.numbers.TheConstants.{MOST_CHILDREN, MOST_FILE, MOST_LEVEL}
-use Rattle.merkle_file.specs.Form.{Form, ByCount, most_level}
-use Rattle.merkle_file.specs.Node.{Contents, IsNode, SpellingsTellNodes, spelling}
-use Rattle.merkle_file.specs.Reading.{IsWithin, any_node, contents_in}
-use Rattle.merkle_file.specs.Tree.{Tree, Trees, Empty, Leaf, Node, NoTree, Then, child_of, joined, level_of, nodes_of, nodes_below, of_segment, root_of, grouped, tree_over, tree_of, BytesAreSegments, NoneIsEmpty, OneIsLeaf}
-use Rattle.merkle_file.specs.Walk.{AreBelow, IsTree, trees_in}
+use Rattle.merkle_file.specs.Node.{SpellingsTellNodes, spelling}
+use Rattle.merkle_file.specs.Tree.{tree_over, BytesAreSegments, NoneIsEmpty, OneIsLeaf}
 use Rattle.merkle_file.specs.Roots.{MayBeFile, IsRootOf, RootsAreRight, NodesAreRight}
 use Rattle.merkle_file.proofs.Nodes.{node_again}
 use Rattle.merkle_file.proofs.Placing.{length-sha256}

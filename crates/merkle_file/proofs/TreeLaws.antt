@@ -1,18 +1,6 @@
 -- The laws of trees.
-use Rattle.std.proofs.Common.{◌≡◌, ℕ, zero, suc, ◌+◌, ◌^◌, ◌≤◌, eqb, List, [], ◌∷◌, ◌++◌, length, map, refl, sym, ap, ◌∙◌, append_assoc, arith, inl, inr}
-use Rattle.std.proofs.Math.Nat.{pow-suc}
-use Rattle.std.specs.List.{flat_map}
-use Rattle.std.proofs.lemmas.Bool.{cases_Bool}
-use Rattle.std.proofs.lemmas.List.{length-append, append-nil, map-append}
-use Rattle.std.proofs.lemmas.Grind.{flat_map-append}
-use Rattle.std.proofs.lemmas.List.Concat.{flat_map-cons}
-use Rattle.merkle_file.specs.declared.node.Child.{Child}
-use Rattle.merkle_file.specs.declared.top.Top.{Top}
-use Rattle.disk_format.specs.declared.numbers.TheConstants.{MOST_CHILDREN, MOST_LEVEL}
-use Rattle.merkle_file.specs.Form.{Form, ByCount, is_whole, most_level}
-use Rattle.merkle_file.specs.Node.{Contents}
-use Rattle.merkle_file.specs.Tree.{Tree, Trees, Empty, Leaf, Node, NoTree, Then, trees, joined, leaves, leaves_below, child_of, children_of, nodes_of, nodes_below, level_of, root_of, of_segment, itself, parent, grouped, grouped_from, last_group, tree_over, tree_of, SegmentsAlike, LeavesAreSegments}
-use Rattle.merkle_file.specs.Building.{whole, rest}
+use Rattle.merkle_file.proofs.Prelude.{◌≡◌, ℕ, zero, suc, ◌+◌, ◌^◌, ◌≤◌, eqb, List, [], ◌∷◌, ◌++◌, length, map, refl, sym, ap, ◌∙◌, append_assoc, arith, inl, inr, pow-suc, flat_map, cases_Bool, length-append, append-nil, map-append, flat_map-append, flat_map-cons, Child, Top, MOST_CHILDREN, MOST_LEVEL, Form, ByCount, is_whole, most_level, Contents, Tree, Trees, Empty, Leaf, Node, NoTree, Then, trees, joined, leaves, leaves_below, child_of, children_of, nodes_of, nodes_below, level_of, root_of, of_segment, itself, parent, grouped, last_group, tree_of, whole, rest}
+use Rattle.merkle_file.specs.Tree.{grouped_from, tree_over, SegmentsAlike, LeavesAreSegments}
 use Rattle.merkle_file.proofs.Pushing.{counted}
 use Rattle.merkle_file.proofs.Groups.{grouped_is}
 

@@ -1,16 +1,7 @@
 -- A node of a tree, fed to a walk, puts the trees below it in its place.
-use Rattle.std.proofs.Common.{◌≡◌, ℕ, ◌-◌, List, [], ◌∷◌, ◌++◌, map, drop, Result, Ok, Err, refl, sym, ap, subst, ◌∙◌, arith}
-use Rattle.std.specs.Prelude.{OnOk, IsOk}
-use Rattle.std.specs.List.{AllByRecursion}
-use Rattle.std.proofs.lemmas.List.{map-append}
-use Rattle.std.proofs.lemmas.Grind.{flat_map-append}
-use Rattle.std.proofs.lemmas.List.Concat.{flat_map-cons}
-use Rattle.merkle_file.specs.declared.top.Top.{Top}
-use Rattle.merkle_file.specs.declared.fault.FieldFault.{FieldFault}
-use Rattle.merkle_file.specs.Node.{Contents, IsNode, spelling}
-use Rattle.merkle_file.specs.Tree.{Tree, Trees, Node, NoTree, Then, leaves, leaves_below, child_of, children_of, level_of, root_of, of_segment}
-use Rattle.merkle_file.specs.Reading.{contents_in}
-use Rattle.merkle_file.specs.Walk.{Ahead, AreBelow, IsNextNamed, IsTree, below, contents_of, list_of, opened, segments_in}
+use Rattle.merkle_file.proofs.Prelude.{◌≡◌, ℕ, ◌-◌, List, [], ◌∷◌, ◌++◌, map, drop, Result, Ok, Err, refl, sym, ap, subst, ◌∙◌, arith, OnOk, IsOk, AllByRecursion, map-append, flat_map-append, flat_map-cons, Top, FieldFault, Contents, IsNode, Tree, Trees, Node, NoTree, Then, leaves, leaves_below, child_of, children_of, level_of, root_of, of_segment, contents_in, Ahead, AreBelow, IsTree, below, contents_of, opened}
+use Rattle.merkle_file.specs.Node.{spelling}
+use Rattle.merkle_file.specs.Walk.{IsNextNamed, list_of, segments_in}
 
 below_roots : (level : ℕ) (ts : Trees (List ℕ)) → AreBelow level ts → map (below level) (children_of of_segment ts) ≡ map (root_of of_segment) (list_of ts)
 below_roots level NoTree h = refl

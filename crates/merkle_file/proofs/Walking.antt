@@ -1,14 +1,8 @@
 -- The trees to come on a walk, and the room that they take.
-use Rattle.std.proofs.Common.{◌≡◌, ℕ, zero, suc, ◌+◌, ◌-◌, ◌*◌, ◌<◌, ◌≤◌, List, [], ◌∷◌, ◌++◌, length, map, reverse, take, drop, get_or, refl, sym, ap, subst, ◌∙◌, append_assoc, arith}
-use Rattle.std.proofs.lemmas.List.{drop-drop, length-append, reverse-append, take-append-drop, drop_more}
-use Rattle.std.proofs.Math.Seq.{drop-length}
-use Rattle.merkle_file.specs.declared.node.Child.{Child}
-use Rattle.merkle_file.specs.declared.top.Top.{Top}
-use Rattle.disk_format.specs.declared.numbers.TheConstants.{MOST_CHILDREN}
+use Rattle.merkle_file.proofs.Prelude.{◌≡◌, ℕ, zero, suc, ◌+◌, ◌-◌, ◌*◌, ◌<◌, ◌≤◌, List, [], ◌∷◌, ◌++◌, length, map, reverse, take, drop, get_or, refl, sym, ap, subst, ◌∙◌, append_assoc, arith, drop-drop, length-append, reverse-append, take-append-drop, drop_more, drop-length, Child, Top, MOST_CHILDREN, Contents, IsNode, child_in, IsAsked, IsWithin, HasRoom, below, opened}
 use Rattle.merkle_file.specs.declared.stack.TheConstants.{STACK}
-use Rattle.merkle_file.specs.Node.{Contents, IsNode}
-use Rattle.merkle_file.specs.Reading.{child_in, children_in, IsAsked, IsWithin}
-use Rattle.merkle_file.specs.Walk.{HasRoom, IsNamed, IsNodeNext, asked_for, below, opened}
+use Rattle.merkle_file.specs.Reading.{children_in}
+use Rattle.merkle_file.specs.Walk.{IsNamed, IsNodeNext, asked_for}
 
 -- ---- the children that bytes spell, one by one
 

@@ -1,14 +1,6 @@
 -- Writes that open no store, one after another.
-use Rattle.std.proofs.Common.{inl, inr, ℕ, ◌+◌, ◌≤◌, List, length, sym, ap, ◌∙◌, arith}
-use Rattle.base_model.specs.Bytes.{byte_at}
-use Rattle.base_model.proofs.Ranges.{length-written}
-use Rattle.base_model.proofs.ByteAt.{byte-written-before}
-use Rattle.disk_format.specs.Layout.{size_of}
-use Rattle.dd_disk.specs.View.{DiskView, IsLater, CrashLeaves, SteppedFrom}
+use Rattle.recovery.proofs.Prelude.{inl, inr, ℕ, ◌+◌, ◌≤◌, List, length, sym, ap, ◌∙◌, arith, byte_at, length-written, byte-written-before, size_of, DiskView, IsLater, CrashLeaves, SteppedFrom, later_here, later_on, leaves_on, leaves_weaker, reads_here, reads_leave, IsBlankOf, StaysBlank}
 use Rattle.dd_disk.specs.Writes.{Torn}
-use Rattle.dd_disk.proofs.Later.{later_here, later_on, leaves_on, leaves_weaker, reads_here, reads_leave}
-use Rattle.store_model.specs.Image.{IsBlankOf}
-use Rattle.recovery.specs.Formatting.{StaysBlank}
 
 -- a write after the first byte opens no store
 pub blank_torn : (slots at n : ℕ) (old new : List ℕ) → 1 ≤ at → at + n ≤ size_of slots → IsBlankOf slots old → Torn at n old new → IsBlankOf slots new

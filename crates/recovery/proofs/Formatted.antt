@@ -1,18 +1,14 @@
 -- What an image is that `format` wrote to.
-use Rattle.std.proofs.Common.{◌≡◌, ◌≢◌, inl, inr, ℕ, zero, suc, ◌+◌, ◌-◌, ◌<◌, ◌≤◌, List, [], ◌∷◌, length, drop, refl, sym, ◌∙◌, ap, arith, add-one, subst, Option, Some, None, option_map}
-use Rattle.std.proofs.lemmas.Bool.Decides.{eqb_tells}
-use Rattle.base_model.specs.Bytes.{range, written, byte_at, zeros}
-use Rattle.base_model.proofs.Ranges.{length-written, range-written, range-written-after, length-zeros, byte-range}
-use Rattle.disk_format.specs.Layout.{IsSlotCount, size_of, slot_at, cell_at}
-use Rattle.disk_format.specs.Cells.{sealed, format_fields, selector_fields, format_cell, selector_cell, first_selector}
-use Rattle.disk_format.specs.declared.numbers.TheConstants.{CELL_BYTES, FIRST_SELECTOR, FIRST_SLOT, FORMAT_GATE, SELECTOR_GATE, RECORD_GATE, CONTAINER_GATE}
+use Rattle.recovery.proofs.Prelude.{◌≢◌, inl, inr, ℕ, zero, suc, ◌+◌, ◌-◌, ◌<◌, ◌≤◌, List, [], ◌∷◌, length, drop, refl, sym, ◌∙◌, ap, arith, subst, Option, Some, None, eqb_tells, range, written, byte_at, length-written, length-zeros, byte-range, IsSlotCount, size_of, slot_at, cell_at, format_cell, CELL_BYTES, FIRST_SELECTOR, FORMAT_GATE, RECORD_GATE, CONTAINER_GATE, TornFrom, IsBlankOf, IsFormatted, byte-written, byte-written-before, IsBlankOrFormatted}
+use Rattle.std.proofs.Common.{◌≡◌, add-one, option_map}
+use Rattle.base_model.specs.Bytes.{zeros}
+use Rattle.base_model.proofs.Ranges.{range-written, range-written-after}
+use Rattle.disk_format.specs.Cells.{sealed, format_fields, selector_fields, selector_cell, first_selector}
+use Rattle.disk_format.specs.declared.numbers.TheConstants.{FIRST_SLOT, SELECTOR_GATE}
 use Rattle.disk_format.proofs.CellParts.{length-sealed, length-format_fields, length-selector_fields}
-use Rattle.dd_disk.specs.Gated.{TornFrom}
-use Rattle.store_model.specs.Image.{IsBlankOf}
-use Rattle.store_model.specs.Standing.{IsFormatted}
 use Rattle.store_model.proofs.Empty.{formatted_holds}
-use Rattle.base_model.proofs.ByteAt.{byte-written, byte-zeros, byte-written-before, byte-written-after}
-use Rattle.recovery.specs.Formatting.{with_closed, laid_out, IsBlankOrFormatted}
+use Rattle.base_model.proofs.ByteAt.{byte-zeros, byte-written-after}
+use Rattle.recovery.specs.Formatting.{with_closed, laid_out}
 use Rattle.recovery.proofs.Blank.{blank_torn}
 
 -- the bytes of the selectors and of the journal

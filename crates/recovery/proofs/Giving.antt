@@ -1,29 +1,11 @@
 -- A disk on which containers are given back, one after the other.
-use Rattle.std.proofs.Common.{◌≡◌, ◌⊎◌, inl, inr, ℕ, zero, suc, ◌+◌, ◌<◌, ◌≤◌, List, [], ◌∷◌, ◌++◌, length, take, get_or, slice_set, Bool, Option, Some, None, Result, Ok, Err, OnErr, refl, sym, ◌∙◌, ap, subst, arith}
-use Rattle.std.specs.List.{slice_get}
-use Rattle.std.proofs.lemmas.List.{ext_get_or, get_or_past, take_all}
-use Rattle.base_model.specs.Bytes.{range, byte_at}
+use Rattle.recovery.proofs.Prelude.{◌⊎◌, inl, inr, ℕ, zero, suc, ◌+◌, ◌<◌, ◌≤◌, List, [], ◌∷◌, ◌++◌, length, take, get_or, slice_set, Bool, Option, Some, None, Result, Ok, Err, OnErr, refl, sym, ◌∙◌, ap, subst, arith, slice_get, take_all, range, byte_at, Known, KnownWith, byte-written, byte-range, Frees, IsFreed, HeaderValue, Done, Broken, DiskView, IsLater, IsDurable, CrashLeaves, Puts, Writes, later_here, later_on, leaves_on, leaves_weaker, reads_here, reads_leave, slot_at, RESERVE, Top, FreesSome, IsLeastSpare, IsPartlyFreed, SameButGates, with_all_freed, Store, Encodes, HoldsSlot, HoldSlots, some_same, IsVisited, IsLeastIn, IsLeastOf, IsReady, LeavesFreed, GivesBack, StopsGiving, IsGiving}
+use Rattle.std.proofs.Common.{◌≡◌}
+use Rattle.std.proofs.lemmas.List.{ext_get_or, get_or_past}
 use Rattle.base_model.specs.Frames.{SameOutside}
-use Rattle.base_model.specs.Known.{Known, KnownWith}
-use Rattle.base_model.proofs.ByteAt.{byte-written}
 use Rattle.base_model.proofs.Frames.{byte_before, byte_after}
-use Rattle.base_model.proofs.Ranges.{byte-range}
-use Rattle.container_log.specs.Writing.{Frees, IsFreed}
-use Rattle.container_meta.specs.Spelling.{HeaderValue}
-use Rattle.dd_disk.specs.Ending.{Done, Broken}
-use Rattle.dd_disk.specs.View.{DiskView, IsLater, IsDurable, CrashLeaves}
-use Rattle.dd_disk.specs.Writes.{Puts, Writes}
-use Rattle.dd_disk.proofs.Later.{later_here, later_on, leaves_on, leaves_weaker, reads_here, reads_leave}
-use Rattle.disk_format.specs.Layout.{slot_at}
-use Rattle.disk_format.specs.declared.numbers.TheConstants.{RESERVE}
-use Rattle.merkle_file.specs.declared.top.Top.{Top}
-use Rattle.store_model.specs.Freeing.{FreesSome, IsLeastSpare, IsPartlyFreed, SameButGates, with_all_freed}
-use Rattle.store_model.specs.Image.{Store, Encodes}
-use Rattle.store_model.specs.Slots.{HoldsSlot, HoldSlots}
-use Rattle.store_model.proofs.Copies.{some_same}
 use Rattle.store_model.proofs.Freed.{encodes_freed, same_gate, same_more, same_none}
-use Rattle.read_steps.specs.Visiting.{IsVisited}
-use Rattle.recovery.specs.Making.{AreClear, IsLeastIn, IsLeastOf, IsReady, ImagesFreed, LeavesFreed, Stands, GivesBack, StopsGiving, IsSteady, IsGiving}
+use Rattle.recovery.specs.Making.{AreClear, ImagesFreed, Stands, IsSteady}
 use Rattle.recovery.proofs.Spare.{least_given, none_given, enough_given, ready_after, all_freed_more, frees_more}
 
 -- ---- one image

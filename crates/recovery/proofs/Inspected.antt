@@ -1,24 +1,16 @@
 -- An inspection of a disk, part by part.
-use Rattle.std.proofs.Common.{◌≡◌, ℕ, ◌+◌, ◌-◌, ◌^◌, ◌<◌, length, Some, List, [], Result, Ok, Err, OnOk, None, refl, sym, subst, ◌∙◌, inl, inr}
+use Rattle.recovery.proofs.Prelude.{ℕ, ◌+◌, ◌-◌, ◌^◌, ◌<◌, length, Some, List, [], Result, Ok, Err, OnOk, None, refl, sym, subst, ◌∙◌, inl, inr, Done, Reads, ending_of, Shows, DiskView, IsLater, OnlyReads, reads_here, always, shown_content, since, until, weaker, Found, nothing, and_then, cell_with, Counts, Damage, Tally, Refusal, image_found, nothing_counted, AreCounted, IsFormatRefusal}
+use Rattle.std.proofs.Common.{◌≡◌}
 use Rattle.container_log.specs.Inspecting.{slots_found}
-use Rattle.dd_disk.specs.Ending.{Done, Reads, ending_of}
-use Rattle.dd_disk.specs.Shows.{Shows}
-use Rattle.dd_disk.specs.View.{DiskView, IsLater, OnlyReads}
 use Rattle.dd_disk.proofs.Ended.{reads_on}
-use Rattle.dd_disk.proofs.Later.{reads_here}
-use Rattle.dd_disk.proofs.Shows.{always, shown_content, since, until, weaker}
 use Rattle.dd_io.specs.Flow.{SinkView}
-use Rattle.inspection.specs.Found.{Found, nothing, and_then, cell_with}
-use Rattle.inspection.specs.Handing.{Counts, Finds, Reports, Stops, StopsAmong, blames as halts}
-use Rattle.inspection.specs.declared.damage.Damage.{Damage}
+use Rattle.inspection.specs.Handing.{Finds, Reports, Stops, StopsAmong, blames as halts}
 use Rattle.inspection.specs.declared.halt.Halt.{Halt}
 use Rattle.inspection.specs.declared.halt.Halt.TheVariants as halt_of
-use Rattle.inspection.specs.declared.tally.Tally.{Tally}
 use Rattle.inspection.proofs.Steps.{finds_first, finds_on, finds_shown, reports_nothing, stops_first, stops_on, stops_shown, then_nothing}
 use Rattle.journal_cells.specs.Inspecting.{journal_found}
-use Rattle.refusals.specs.declared.refusal.Refusal.{Refusal}
-use Rattle.recovery.specs.Inspecting.{image_found, nothing_counted, AreCounted, IsInspected, IsUninspected, ended_by, blamed}
-use Rattle.recovery.specs.Opening.{IsSized, IsFormatRefusal}
+use Rattle.recovery.specs.Inspecting.{IsInspected, IsUninspected, ended_by, blamed}
+use Rattle.recovery.specs.Opening.{IsSized}
 use Rattle.recovery.specs.declared.inspecting.Uninspected.{Uninspected}
 use Rattle.recovery.specs.declared.inspecting.Uninspected.TheVariants.{Refused}
 use Rattle.recovery.proofs.Small.{exact_counts, image_small}

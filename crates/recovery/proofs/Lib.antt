@@ -5,6 +5,7 @@ pub mod Inspected
 mod Marks
 mod Named
 mod Opens
+mod Prelude
 mod Pushed
 mod Reading
 mod Rooms

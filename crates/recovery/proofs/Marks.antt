@@ -1,38 +1,19 @@
 -- Marks, as the trees of names are walked.
-use Rattle.std.proofs.Common.{◌≡◌, ◌⊎◌, inl, inr, ℕ, zero, suc, ◌+◌, ◌*◌, ◌<◌, ◌≤◌, Bool, true, false, List, [], ◌∷◌, ◌++◌, length, map, take, drop, get_or, slice_set, Option, Some, None, Result, Ok, IsTrue, refl, sym, ◌∙◌, ap, subst, arith}
-use Rattle.std.specs.Cmp.Lexicographic.{slice_cmp}
+use Rattle.recovery.proofs.Prelude.{◌⊎◌, inl, inr, ℕ, zero, suc, ◌+◌, ◌*◌, ◌<◌, ◌≤◌, Bool, true, false, List, [], ◌∷◌, ◌++◌, length, map, take, drop, get_or, slice_set, Option, Some, None, Result, Ok, refl, sym, ◌∙◌, ap, subst, arith, slice_cmp, Contains, nat_cmp, eqb_tells, length-map, map-append, Contains-append_left, Place, PlaceMap, HeaderValue, Done, Reads, DiskView, OnlyReads, reads_none, size_of, Top, start_of, ListedName, NamedRoot, listed_value, Refusal, Memory, ByteSet, some_same, fails, top_of, HasPlace, IsVisitRefusal, Visits, VisitsRoots, VisitsTo, steps_ahead, WasRead, top_key, roots_wider, IsMarked, MarksAll, IsStuckAmong, IsMarkRefusal, IsHeld, AllHeld, WhereHeld, IsMarkingAll, Walks, WalksRoots, ahead_of, walk_state, HasNode, NodeSet, NotesNext, WasNoted, node_key}
+use Rattle.std.proofs.Common.{◌≡◌, IsTrue}
 use Rattle.std.specs.FinMap as finite
-use Rattle.std.specs.List.{Contains}
-use Rattle.std.specs.Ordering.{nat_cmp}
-use Rattle.std.proofs.lemmas.Bool.Decides.{eqb_tells}
-use Rattle.std.proofs.lemmas.List.{append-nil, append_assoc, drop_more, get_or-set_other, get_or-set_same, length-map, length-set, map-append, take-append-drop, take_more}
-use Rattle.std.proofs.lemmas.List.Elements.{Contains-append_cases, Contains-append_left, Contains-push, Contains-push_cases}
+use Rattle.std.proofs.lemmas.List.{append-nil, append_assoc, drop_more, get_or-set_other, get_or-set_same, length-set, take-append-drop, take_more}
+use Rattle.std.proofs.lemmas.List.Elements.{Contains-append_cases, Contains-push, Contains-push_cases}
 use Rattle.std.proofs.lemmas.List.Sums.{sum_by-cons}
-use Rattle.container_meta.specs.declared.place.Place.{Place}
-use Rattle.container_meta.specs.Places.{PlaceMap}
-use Rattle.container_meta.specs.Spelling.{HeaderValue}
-use Rattle.dd_disk.specs.Ending.{Done, Reads}
-use Rattle.dd_disk.specs.View.{DiskView, OnlyReads}
-use Rattle.dd_disk.proofs.Ended.{reads_none, reads_on}
-use Rattle.disk_format.specs.Layout.{size_of}
-use Rattle.merkle_file.specs.declared.top.Top.{Top}
+use Rattle.dd_disk.proofs.Ended.{reads_on}
 use Rattle.merkle_file.specs.Tree.{of_segment, root_of}
-use Rattle.merkle_file.specs.Walk.{start_of}
-use Rattle.namespace.specs.declared.listing.ListedName.{ListedName}
-use Rattle.namespace.specs.Listing.{NamedRoot, listed_value}
-use Rattle.refusals.specs.declared.refusal.Refusal.{Refusal}
-use Rattle.refusals.specs.declared.refusal.Refusal.TheVariants.{Memory}
 use Rattle.segment_index.specs.Places.{IsPlace}
-use Rattle.store_model.specs.Collisions.{ByteSet}
-use Rattle.store_model.proofs.Copies.{some_same}
-use Rattle.store_state.specs.Refused.{fails}
-use Rattle.read_steps.specs.Opening.{top_of}
-use Rattle.read_steps.specs.Visiting.{HasPlace, IsVisitRefusal, Visits, VisitsPlaced, VisitsRoots, VisitsTo, steps_ahead}
-use Rattle.read_steps.specs.Walking.{IsIndexed, WasRead, top_key}
-use Rattle.read_steps.proofs.Visited.{roots_more, roots_wider, visits_more, visits_wider}
+use Rattle.read_steps.specs.Visiting.{VisitsPlaced}
+use Rattle.read_steps.specs.Walking.{IsIndexed}
+use Rattle.read_steps.proofs.Visited.{roots_more, visits_more, visits_wider}
 use Rattle.read_steps.proofs.Walks.{placed_since, read_since, read_until, visit_since}
-use Rattle.recovery.specs.Marking.{AreMarked, AreWalked, IsMarked, AddsMarks, MarksTo, MarksAll, IsStuckOn, IsStuckAmong, IsTreeRefusal, IsMarkRefusal, IsHeld, AllHeld, IsWalked, IsWalking, IsWalkRefusal, WhereHeld, IsMarkingAll, TakesStep, TakesSteps, Walks, WalksRoots, WalkState, ahead_of, walk_state}
-use Rattle.recovery.specs.Passed.{HasNode, IsSized, NodeSet, NotesNext, WasNoted, node_key}
+use Rattle.recovery.specs.Marking.{AreMarked, AreWalked, AddsMarks, MarksTo, IsStuckOn, IsTreeRefusal, IsWalked, IsWalking, IsWalkRefusal, TakesStep, TakesSteps, WalkState}
+use Rattle.recovery.specs.Passed.{IsSized}
 use Rattle.recovery.proofs.Named.{among_more}
 use Rattle.recovery.proofs.Walked.{NotBelow, beside, complete, head_is, tail_is, visited_left}
 

@@ -1,46 +1,25 @@
 -- An opening: room that was made, or not, as it is told of the disk from its start on.
-use Rattle.std.proofs.Common.{◌≡◌, ◌≢◌, ◌⊎◌, inl, inr, ℕ, ◌<◌, ◌≤◌, List, [], ◌∷◌, map, Some, Ok, refl, sym, ◌∙◌, subst}
+use Rattle.recovery.proofs.Prelude.{◌≢◌, ◌⊎◌, inl, inr, ℕ, ◌<◌, ◌≤◌, List, [], ◌∷◌, map, Some, Ok, refl, sym, ◌∙◌, subst, PlaceMap, Done, Reads, ending_of, Shows, DiskView, IsDurable, IsLater, OnlyReads, counts_on, later_on, shown_content, until, weaker, RESERVE, CellFault, Top, NamedRoot, listing_of, Refusal, Memory, DiskRead, DiskWrite, Damaged, ByteSet, FreesSome, FreesTo, IsPartlyFreed, SameButGates, with_all_freed, Store, Encodes, names_of, Copy, IsIndexOf, free_slots, partial_of, store_once, OpenStore, blames, Represents, HasPlace, IsVisitRefusal, IsVisited, VisitsRoots, WasRead, roots_wider, MakesNoRoom, MakesRoom, AllHeld, IsStuckAmong, IsFound, cell_refusal, RoomMade, RoomUnmade, IsSlotsRefusal}
+use Rattle.std.proofs.Common.{◌≡◌}
 use Rattle.std.specs.FinMap as finite
 use Rattle.std.specs.List.{All}
 use Rattle.std.proofs.lemmas.List.Elements.{All-head, All-tail}
-use Rattle.container_meta.specs.Places.{PlaceMap}
-use Rattle.dd_disk.specs.Ending.{Done, Reads, ending_of}
-use Rattle.dd_disk.specs.Shows.{Shows}
-use Rattle.dd_disk.specs.View.{DiskView, IsDurable, IsLater, OnlyReads}
-use Rattle.dd_disk.proofs.Ended.{counts_on}
-use Rattle.dd_disk.proofs.Later.{later_on, reads_on}
-use Rattle.dd_disk.proofs.Shows.{shown_content, until, weaker}
-use Rattle.disk_format.specs.declared.numbers.TheConstants.{RESERVE}
-use Rattle.journal_cells.specs.declared.fault.CellFault.{CellFault}
+use Rattle.dd_disk.proofs.Later.{reads_on}
 use Rattle.journal_cells.specs.declared.fault.CellFault.TheVariants as cell
-use Rattle.merkle_file.specs.declared.top.Top.{Top}
 use Rattle.namespace.specs.declared.record.Named.{Named}
-use Rattle.namespace.specs.Listing.{NamedRoot, listing_of, named_root}
+use Rattle.namespace.specs.Listing.{named_root}
 use Rattle.namespace.proofs.Again.{entries_found}
-use Rattle.refusals.specs.declared.refusal.Refusal.{Refusal}
-use Rattle.refusals.specs.declared.refusal.Refusal.TheVariants.{Memory, DiskRead, DiskWrite, Corrupt, Missing, Damaged}
-use Rattle.store_model.specs.Collisions.{ByteSet, IsIn, IsOf, OpensAs}
+use Rattle.refusals.specs.declared.refusal.Refusal.TheVariants.{Corrupt, Missing}
+use Rattle.store_model.specs.Collisions.{IsIn, IsOf, OpensAs}
 use Rattle.store_model.specs.Files.{Files, Stored}
-use Rattle.store_model.specs.Freeing.{FreesSome, FreesTo, IsPartlyFreed, SameButGates, with_all_freed}
-use Rattle.store_model.specs.Image.{Store, Encodes, names_of}
 use Rattle.store_model.specs.Reserve.{IsReachable}
-use Rattle.store_model.specs.Slots.{Copy, IsIndexOf, free_slots, key_set_of, newest}
+use Rattle.store_model.specs.Slots.{key_set_of, newest}
 use Rattle.store_model.proofs.Counted.{indexed_keys, of_index}
-use Rattle.store_model.proofs.Lookups.{partial_of}
 use Rattle.store_model.specs.Standing.{IsStoreOf}
 use Rattle.store_model.proofs.FreedFiles.{freed_stands, partly_opens}
-use Rattle.store_model.proofs.Once.{store_once}
-use Rattle.store_state.specs.declared.open_store.OpenStore.{OpenStore}
-use Rattle.store_state.specs.Refused.{blames}
-use Rattle.store_state.specs.State.{Represents}
-use Rattle.read_steps.specs.Visiting.{HasPlace, IsVisitRefusal, IsVisited, VisitsRoots}
-use Rattle.read_steps.specs.Walking.{WasRead}
-use Rattle.read_steps.proofs.Visited.{held_start, needed_visited, read_earlier, roots_wider, visited_needed}
-use Rattle.recovery.specs.Making.{IsMakeRefusal, IsWalkedFirst, MakesNoRoom, MakesRoom}
-use Rattle.recovery.specs.Marking.{AllHeld, IsStuckAmong}
-use Rattle.recovery.specs.Opening.{IsFound, cell_refusal}
-use Rattle.recovery.specs.Room.{FreesAfterAll, IsNotFull, IsRoomRefusal, IsShort, IsStuck, ReadsStore, RoomMade, RoomUnmade}
-use Rattle.recovery.specs.Slots.{IsSlotsRefusal}
+use Rattle.read_steps.proofs.Visited.{held_start, needed_visited, read_earlier, visited_needed}
+use Rattle.recovery.specs.Making.{IsMakeRefusal, IsWalkedFirst}
+use Rattle.recovery.specs.Room.{FreesAfterAll, IsNotFull, IsRoomRefusal, IsShort, IsStuck, ReadsStore}
 use Rattle.recovery.proofs.Marks.{among_since}
 use Rattle.recovery.proofs.Rooms.{leaves_since}
 use Rattle.recovery.proofs.Spare.{all_by, frees_all, some_by}

@@ -1,7 +1,5 @@
 -- Slots, and one more after them.
-use Rattle.std.proofs.Common.{◌≢◌, ℕ, ◌+◌, List, [], ◌∷◌, ◌++◌, length, Option, Some, None, sym, subst, arith}
-use Rattle.container_meta.specs.Spelling.{HeaderValue}
-use Rattle.store_model.specs.Slots.{HoldsSlot, HoldSlots, IsUnusedId, DifferentIds}
+use Rattle.recovery.proofs.Prelude.{◌≢◌, ℕ, ◌+◌, List, [], ◌∷◌, ◌++◌, length, Option, Some, None, sym, subst, arith, HeaderValue, HoldsSlot, HoldSlots, IsUnusedId, DifferentIds}
 
 pub hold-push : (slot : ℕ) (held : List (Option HeaderValue)) (c : Option HeaderValue) (image : List ℕ) → HoldSlots slot held image → HoldsSlot image (slot + length held) c →
     HoldSlots slot (held ++ c ∷ []) image

@@ -1,23 +1,15 @@
 -- Slots that are read one after the other.
-use Rattle.std.proofs.Common.{◌≡◌, ◌≢◌, inl, inr, ℕ, zero, suc, ◌+◌, ◌<◌, List, [], ◌∷◌, ◌++◌, length, Option, None, Some, refl, sym, ap, ◌∙◌, subst, arith, length-append}
+use Rattle.recovery.proofs.Prelude.{◌≢◌, inl, inr, ℕ, zero, suc, ◌+◌, ◌<◌, List, [], ◌∷◌, ◌++◌, length, Option, None, Some, refl, sym, ap, ◌∙◌, subst, arith, length-append, range, Field, slot_at, DiskView, OnlyReads, Shows, always, weaker, until, since, HeaderValue, IsHeader, Refusal, Memory, DiskRead, Damaged, HoldsSlot, HoldSlots, AreHeaders, IsUnusedId, DifferentIds, fails, AreSlots, IsSlotDamage, HoldsDamage, IsSlotsRefusal}
+use Rattle.std.proofs.Common.{◌≡◌}
 use Rattle.std.specs.Prelude.{IsTrue}
-use Rattle.base_model.specs.Bytes.{range}
 use Rattle.disk_format.specs.declared.numbers.TheConstants.{HEADER_BYTES}
-use Rattle.disk_format.specs.declared.why.Why.TheVariants.{Field}
-use Rattle.disk_format.specs.Layout.{slot_at}
-use Rattle.dd_disk.specs.View.{DiskView, OnlyReads}
-use Rattle.dd_disk.specs.Shows.{Shows}
-use Rattle.dd_disk.proofs.Shows.{always, weaker, both, until, since}
-use Rattle.container_meta.specs.Spelling.{HeaderValue, IsHeader, header_spelling}
-use Rattle.refusals.specs.declared.refusal.Refusal.{Refusal}
-use Rattle.refusals.specs.declared.refusal.Refusal.TheVariants.{Memory, DiskRead, Damaged}
-use Rattle.store_model.specs.Slots.{HoldsSlot, HoldSlots, AreHeaders, IsUnusedId, DifferentIds}
+use Rattle.dd_disk.proofs.Shows.{both}
+use Rattle.container_meta.specs.Spelling.{header_spelling}
 use Rattle.store_model.proofs.Once.{slots_once}
 use Rattle.store_model.proofs.Spellings.{gate_of_header}
 use Rattle.store_state.specs.declared.containers.Containers.{Containers}
 use Rattle.store_state.specs.Containers.{RepresentsContainers}
-use Rattle.store_state.specs.Refused.{fails}
-use Rattle.recovery.specs.Slots.{AreSlots, MayFollow, BreaksHeader, IsSlotDamage, HoldsDamage, IsSlotRefusal, IsSlotsRefusal}
+use Rattle.recovery.specs.Slots.{MayFollow, BreaksHeader, IsSlotRefusal}
 use Rattle.recovery.proofs.Pushed.{hold-push, different-push, different-push-none}
 
 -- ---- a slot among others

@@ -1,31 +1,13 @@
 -- Room that is made, or not: the walk of all trees, and then containers that are given back.
-use Rattle.std.proofs.Common.{◌≡◌, ◌⊎◌, inl, inr, ℕ, zero, suc, Bool, true, false, List, [], length, replicate, get_or, Some, Result, Ok, Err, OnOk, OnErr, IfErr, IsTrue, refl, sym, ◌∙◌, ap, subst, arith}
+use Rattle.recovery.proofs.Prelude.{◌⊎◌, inl, inr, ℕ, zero, suc, Bool, true, false, List, [], length, get_or, Some, Result, Ok, Err, OnOk, OnErr, refl, sym, ◌∙◌, ap, subst, arith, Place, PlaceMap, CountsFault, Reads, ending, ending_of, DiskView, IsLater, IsDurable, OnlyReads, counts_on, later_on, leaves_on, reads_leave, size_of, Top, NamedRoot, listing_of, Refusal, DiskWrite, IsPartlyFreed, Store, IsValidFor, names_of, Copy, IsIndexOf, free_slots, ids_of, partial_of, OpenStore, blames, fails, Represents, HasPlace, IsVisited, VisitsRoots, WasRead, roots_wider, IsMarked, MarksAll, IsMarkRefusal, WhereHeld, AllHeld, IsReady, LeavesFreed, GivesBack, StopsGiving, MakesRoom, MakesNoRoom}
+use Rattle.std.proofs.Common.{◌≡◌, replicate, IfErr, IsTrue}
 use Rattle.std.specs.Prelude.{option_map}
 use Rattle.std.specs.FinMap as finite
-use Rattle.container_meta.specs.declared.place.Place.{Place}
-use Rattle.container_meta.specs.Places.{PlaceMap}
-use Rattle.dd_disk.specs.Ending.{CountsFault, Reads, ending, ending_of}
-use Rattle.dd_disk.specs.View.{DiskView, IsLater, IsDurable, OnlyReads}
-use Rattle.dd_disk.proofs.Ended.{counts_on}
-use Rattle.dd_disk.proofs.Later.{later_on, leaves_on, reads_leave}
-use Rattle.disk_format.specs.Layout.{size_of}
-use Rattle.merkle_file.specs.declared.top.Top.{Top}
-use Rattle.namespace.specs.Listing.{NamedRoot, listing_of}
-use Rattle.refusals.specs.declared.refusal.Refusal.{Refusal}
-use Rattle.refusals.specs.declared.refusal.Refusal.TheVariants.{DiskWrite}
-use Rattle.store_model.specs.Freeing.{IsPartlyFreed}
-use Rattle.store_model.specs.Image.{Store, IsValidFor, names_of}
-use Rattle.store_model.specs.Slots.{Copy, IsIndexOf, free_slots, ids_of}
-use Rattle.store_model.proofs.Lookups.{finds, partial_of}
+use Rattle.store_model.proofs.Lookups.{finds}
 use Rattle.store_model.proofs.Free.{as_many}
-use Rattle.store_state.specs.declared.open_store.OpenStore.{OpenStore}
-use Rattle.store_state.specs.Refused.{blames, fails}
-use Rattle.store_state.specs.State.{Represents}
-use Rattle.read_steps.specs.Visiting.{HasPlace, IsVisited, VisitsRoots}
-use Rattle.read_steps.specs.Walking.{WasRead}
-use Rattle.read_steps.proofs.Visited.{read_wider, roots_wider}
-use Rattle.recovery.specs.Marking.{IsMarked, MarksAll, MarksFor, IsMarkRefusal, WhereHeld, AllHeld}
-use Rattle.recovery.specs.Making.{AreMarks, IsReady, LeavesFreed, GivesBack, StopsGiving, MakesRoom, MakesNoRoom}
+use Rattle.read_steps.proofs.Visited.{read_wider}
+use Rattle.recovery.specs.Marking.{MarksFor}
+use Rattle.recovery.specs.Making.{AreMarks}
 use Rattle.recovery.proofs.Giving.{part_none}
 
 -- ---- marks

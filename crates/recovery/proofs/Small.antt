@@ -1,29 +1,22 @@
 -- What is found on an image is less than a count can hold.
-use Rattle.std.proofs.Common.{◌≡◌, ℕ, zero, suc, ◌+◌, ◌*◌, ◌-◌, ◌^◌, ◌≤◌, ◌<◌, Bool, true, false, cond, ◌==◌, nat_le, List, [], ◌∷◌, ◌++◌, length, Option, None, Some, Result, Ok, Err, refl, sym, ap, subst, ◌∙◌, arith, length-append}
+use Rattle.recovery.proofs.Prelude.{ℕ, zero, suc, ◌+◌, ◌*◌, ◌-◌, ◌^◌, ◌≤◌, ◌<◌, Bool, true, false, cond, List, [], ◌∷◌, ◌++◌, length, Option, None, Some, Result, Ok, Err, refl, sym, ap, subst, ◌∙◌, arith, length-append, leb-true, range, byte_at, w64, HeaderValue, CONTAINER_GATE, RECORD_GATE, cell_at, slot_at, Found, nothing, and_then, cell_with, Damage, Counts, Tally, image_found, nothing_counted, AreCounted}
+use Rattle.std.proofs.Common.{◌≡◌, ◌==◌, nat_le}
 use Rattle.std.specs.Option.{option_to_list}
-use Rattle.std.proofs.lemmas.Bool.{leb-true}
-use Rattle.base_model.specs.Bytes.{range, byte_at}
 use Rattle.base_model.specs.Checks.{checked, passes, ◌>>=◌}
 use Rattle.base_model.specs.Numbers.{number_at}
-use Rattle.std.specs.Int.{w32, w64}
+use Rattle.std.specs.Int.{w32}
 use Rattle.base_model.proofs.Checks.{bind_ok, both, checked_ok, ok_is}
 use Rattle.container_meta.specs.declared.entry.Entry.{Entry}
 use Rattle.container_meta.specs.declared.fault.MetaFault.{MetaFault}
 use Rattle.container_meta.specs.declared.kind.Kind.{Kind}
 use Rattle.container_meta.specs.Reading.{count_at, digest_checks, end_checks, entries_at, field_checks, header_at, kind_at, next_read, opening_checks}
-use Rattle.container_meta.specs.Spelling.{HeaderValue}
 use Rattle.container_log.specs.Inspecting.{copies_found, copy_found, header_damage, header_found, header_in, id_damage, ids_with, slot_bytes, slot_found, slots_found}
 use Rattle.disk_format.specs.Cells.{SelectorValue}
-use Rattle.disk_format.specs.declared.numbers.TheConstants.{CONTAINER_GATE, RECORD_GATE}
-use Rattle.disk_format.specs.Layout.{cell_at, half_cells, selector_at, slot_at}
-use Rattle.inspection.specs.Found.{Found, nothing, and_then, cell_with, copy_with, only_damage}
-use Rattle.inspection.specs.declared.damage.Damage.{Damage}
+use Rattle.disk_format.specs.Layout.{half_cells, selector_at}
+use Rattle.inspection.specs.Found.{copy_with, only_damage}
 use Rattle.journal_cells.specs.Inspecting.{after_cell, damage_in, damage_of, first_past, half_found, is_open, journal_found, none_open, past_found, records_found, right_one, says_half, selector_found, selectors_found}
 use Rattle.journal_cells.specs.Records.{Replay, first_open, nothing_yet, open_cell, record_in}
 use Rattle.journal_cells.specs.Heads.{selector_in, selectors_in}
-use Rattle.inspection.specs.Handing.{Counts}
-use Rattle.inspection.specs.declared.tally.Tally.{Tally}
-use Rattle.recovery.specs.Inspecting.{image_found, nothing_counted, AreCounted}
 
 -- all three counts together
 abbrev weight : Found → ℕ

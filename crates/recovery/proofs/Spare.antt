@@ -1,21 +1,13 @@
 -- Slots that may be given back, by the ids and the marks of all.
-use Rattle.std.proofs.Common.{◌≡◌, ◌≢◌, inl, inr, ℕ, zero, suc, ◌+◌, ◌-◌, ◌^◌, ◌<◌, ◌≤◌, Bool, true, false, List, [], ◌∷◌, ◌++◌, length, get_or, slice_set, Option, Some, None, refl, sym, ◌∙◌, ap, subst, arith}
-use Rattle.std.specs.List.{slice_get}
-use Rattle.std.proofs.lemmas.Bool.{leb-true}
+use Rattle.recovery.proofs.Prelude.{◌≢◌, inl, inr, ℕ, zero, suc, ◌+◌, ◌-◌, ◌^◌, ◌<◌, ◌≤◌, Bool, true, false, List, [], ◌∷◌, ◌++◌, length, get_or, slice_set, Option, Some, None, refl, sym, ◌∙◌, ap, subst, arith, slice_get, leb-true, HeaderValue, IsHeader, RESERVE, Top, IsLeastSpare, FreesSome, FreesTo, with_all_freed, Store, AreHeaders, free_slots, ids_of, some_same, IsVisited, IsLeastIn, IsLeastOf, IsReady}
+use Rattle.std.proofs.Common.{◌≡◌}
 use Rattle.std.specs.Prelude.{nat_le}
 use Rattle.base_model.proofs.Checks.{both}
-use Rattle.container_meta.specs.Spelling.{HeaderValue, IsHeader}
-use Rattle.disk_format.specs.declared.numbers.TheConstants.{RESERVE}
-use Rattle.merkle_file.specs.declared.top.Top.{Top}
-use Rattle.store_model.specs.Freeing.{IsLeastSpare, FreesSome, FreesTo, with_freed, with_all_freed}
-use Rattle.store_model.specs.Image.{Store}
+use Rattle.store_model.specs.Freeing.{with_freed}
 use Rattle.store_model.specs.Reserve.{HoldsNone}
-use Rattle.store_model.specs.Slots.{AreHeaders, free_slots, ids_of}
-use Rattle.store_model.proofs.Copies.{some_same}
 use Rattle.store_model.proofs.Freed.{free_freed, ids_freed, valid_freed}
 use Rattle.store_model.proofs.FreedTrees.{none_after, none_before}
-use Rattle.read_steps.specs.Visiting.{IsVisited}
-use Rattle.recovery.specs.Making.{IsSpareIn, IsLeastIn, IsLeastOf, IsReady, IsEnough}
+use Rattle.recovery.specs.Making.{IsSpareIn, IsEnough}
 
 -- ---- ids of slots
 

@@ -1,32 +1,24 @@
 -- The steps of an opening, one after the other.
-use Rattle.std.proofs.Common.{◌≡◌, inl, inr, ℕ, ◌≤◌, List, Result, Ok, Err, refl, sym, ◌∙◌, subst, arith}
+use Rattle.recovery.proofs.Prelude.{inl, inr, ℕ, ◌≤◌, List, Result, Ok, Err, refl, sym, ◌∙◌, subst, arith, range, CELL_BYTES, IsSlotCount, size_of, DiskView, OnlyReads, ending_of, Reads, Shows, weaker, until, since, CellFault, Refusal, Memory, DiskRead, DiskWrite, Damaged, Store, OpenStore, blames, fails, AreSlots, IsSlotsRefusal, IsFound, IsOpenRefusal, IsFormatRefusal, cell_refusal}
+use Rattle.std.proofs.Common.{◌≡◌}
 use Rattle.std.specs.Prelude.{IsTrue}
 use Rattle.std.specs.Result.{IsErrAnd}
-use Rattle.base_model.specs.Bytes.{range}
-use Rattle.disk_format.specs.declared.numbers.TheConstants.{CELL_BYTES, LEAST_SIZE}
+use Rattle.disk_format.specs.declared.numbers.TheConstants.{LEAST_SIZE}
 use Rattle.disk_format.specs.declared.why.Why.{Why}
-use Rattle.disk_format.specs.Layout.{IsSlotCount, size_of}
-use Rattle.dd_disk.specs.View.{DiskView, OnlyReads}
-use Rattle.dd_disk.specs.Ending.{ending_of, Reads}
-use Rattle.dd_disk.specs.Shows.{Shows}
-use Rattle.dd_disk.proofs.Shows.{weaker, also, until, since, both}
+use Rattle.dd_disk.proofs.Shows.{also, both}
 use Rattle.dd_disk.proofs.Ended.{reads_blamed}
 use Rattle.namespace.specs.Names.{NameMap}
-use Rattle.journal_cells.specs.declared.fault.CellFault.{CellFault}
 use Rattle.journal_cells.specs.declared.fault.CellFault.TheVariants as cell
 use Rattle.journal_cells.specs.Faults as cells
 use Rattle.journal_cells.specs.Faults.{IsFormatBreak, IsJournalBreak, IsReadFault, IsCellFault}
 use Rattle.journal_cells.specs.Heads.{format_in}
 use Rattle.journal_cells.specs.Journal.{JournalValue, IsScanned, journal_in}
-use Rattle.refusals.specs.declared.refusal.Refusal.{Refusal}
-use Rattle.refusals.specs.declared.refusal.Refusal.TheVariants.{Memory, DiskRead, DiskWrite, Full, Damaged, WrongSize}
+use Rattle.refusals.specs.declared.refusal.Refusal.TheVariants.{Full, WrongSize}
 use Rattle.store_model.specs.Journal.{KnowsOther}
-use Rattle.store_model.specs.Image.{Store, HasFormat}
+use Rattle.store_model.specs.Image.{HasFormat}
 use Rattle.store_model.proofs.Spellings.{same_format}
-use Rattle.store_state.specs.declared.open_store.OpenStore.{OpenStore}
-use Rattle.store_state.specs.Refused.{blames, fails}
-use Rattle.recovery.specs.Slots.{AreSlots, IsDamagedSlot, IsSlotsRefusal}
-use Rattle.recovery.specs.Opening.{IsSized, IsFound, Opens, IsBeginRefusal, IsOpenRefusal, IsFormatRefusal, BreaksFormat, BreaksJournal, BreaksSlots, cell_refusal}
+use Rattle.recovery.specs.Slots.{IsDamagedSlot}
+use Rattle.recovery.specs.Opening.{IsSized, Opens, IsBeginRefusal, BreaksFormat, BreaksJournal, BreaksSlots}
 
 -- ---- a refusal that says nothing of the image
 

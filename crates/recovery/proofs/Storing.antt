@@ -1,23 +1,12 @@
 -- How an empty store is written, on a disk whose content is blank.
-use Rattle.std.proofs.Common.{◌≡◌, ◌≢◌, ◌⊎◌, inl, inr, ℕ, List, Some, option_map, refl, sym, ◌∙◌, ap, subst}
-use Rattle.base_model.specs.Bytes.{byte_at, written}
-use Rattle.base_model.specs.Known.{Known, KnownWith}
-use Rattle.disk_format.specs.declared.numbers.TheConstants.{FORMAT_GATE}
-use Rattle.disk_format.specs.Layout.{IsSlotCount, size_of}
-use Rattle.disk_format.specs.Cells.{format_cell}
-use Rattle.dd_disk.specs.View.{DiskView, OnlyReads, IsDurable, CrashLeaves, SteppedFrom}
-use Rattle.dd_disk.specs.Ending.{Ending, Done, Refused, Unread, Broken, CountsFault, Reads}
-use Rattle.dd_disk.specs.Shows.{Shows}
-use Rattle.dd_disk.specs.Writes.{Puts, Writes, Written}
-use Rattle.dd_disk.specs.Gated.{TornFrom}
+use Rattle.recovery.proofs.Prelude.{◌≢◌, ◌⊎◌, inl, inr, ℕ, List, Some, refl, sym, ◌∙◌, ap, subst, byte_at, written, Known, KnownWith, FORMAT_GATE, IsSlotCount, size_of, format_cell, DiskView, OnlyReads, IsDurable, CrashLeaves, SteppedFrom, Done, Broken, CountsFault, Reads, Shows, Puts, Writes, TornFrom, counts_on, later_on, leaves_on, leaves_weaker, reads_leave, shown_content, IsBlankOf, IsFormatted, IsBlankOrFormatted, StaysBlank}
+use Rattle.std.proofs.Common.{◌≡◌, option_map}
+use Rattle.dd_disk.specs.Ending.{Ending, Refused, Unread}
+use Rattle.dd_disk.specs.Writes.{Written}
 use Rattle.dd_disk.specs.Moves.{Acts, Ends}
-use Rattle.dd_disk.proofs.Ended.{counts_on}
-use Rattle.dd_disk.proofs.Later.{later_on, leaves_on, leaves_weaker, reads_leave, reads_on, durable_reads}
-use Rattle.dd_disk.proofs.Shows.{shown_content}
+use Rattle.dd_disk.proofs.Later.{reads_on, durable_reads}
 use Rattle.dd_disk.proofs.Writes.{IsUnrefused, writes_on}
-use Rattle.store_model.specs.Image.{IsBlankOf}
-use Rattle.store_model.specs.Standing.{IsFormatted}
-use Rattle.recovery.specs.Formatting.{IsBlankOrFormatted, IsLeftByFormat, StaysBlank, laid_out}
+use Rattle.recovery.specs.Formatting.{IsLeftByFormat, laid_out}
 use Rattle.recovery.proofs.Formatted.{is_formatted, blank_or_formatted}
 
 -- each image that a crash may leave has no store

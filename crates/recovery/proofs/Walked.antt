@@ -1,14 +1,13 @@
 -- A walk that comes to a tree walks it whole before it goes on beside it.
-use Rattle.std.proofs.Common.{◌≡◌, ◌⊎◌, inl, inr, ℕ, zero, suc, ◌-◌, ◌<◌, ◌≤◌, List, [], ◌∷◌, ◌++◌, map, refl, sym, ◌∙◌, ap, subst, append_assoc, arith}
-use Rattle.std.specs.List.{AllByRecursion, Contains}
-use Rattle.std.proofs.lemmas.List.{map-append}
-use Rattle.std.proofs.lemmas.List.Elements.{Contains-append_left, Contains-append_right}
+use Rattle.recovery.proofs.Prelude.{◌⊎◌, inl, inr, ℕ, zero, suc, ◌-◌, ◌<◌, ◌≤◌, List, [], ◌∷◌, ◌++◌, map, refl, sym, ◌∙◌, ap, subst, arith, Contains, map-append, Contains-append_left, Top, IsVisited, Visits, VisitsTo, top_key}
+use Rattle.std.proofs.Common.{◌≡◌, append_assoc}
+use Rattle.std.specs.List.{AllByRecursion}
+use Rattle.std.proofs.lemmas.List.Elements.{Contains-append_right}
 use Rattle.merkle_file.specs.declared.node.Child.{Child}
-use Rattle.merkle_file.specs.declared.top.Top.{Top}
 use Rattle.merkle_file.specs.Reading.{contents_in}
 use Rattle.merkle_file.specs.Walk.{below, opened}
-use Rattle.read_steps.specs.Visiting.{IsVisited, Visits, VisitsTo, VisitsTop}
-use Rattle.read_steps.specs.Walking.{IsNodeRead, top_key}
+use Rattle.read_steps.specs.Visiting.{VisitsTop}
+use Rattle.read_steps.specs.Walking.{IsNodeRead}
 
 -- all of these are of a level below one
 abbrev pub AreBelow : ℕ → List Top → Type 0

@@ -1,24 +1,11 @@
 -- Why a step of a collection is refused, where nothing is damaged or missing.
-use Rattle.std.proofs.Common.{◌≡◌, inl, inr, ◌<◌, ◌≤◌, ℕ, Option, sym, subst}
-use Rattle.container_meta.specs.Places.{PlaceMap}
-use Rattle.dd_disk.specs.View.{DiskView}
+use Rattle.script_runner.proofs.Prelude.{◌≡◌, inl, inr, ◌<◌, ◌≤◌, ℕ, Option, sym, subst, PlaceMap, DiskView, ScanFault, IsHeaderRefusal, step_refusal, IsStepRefusal, Moment, Stage, Mark, Filter, Select, Next, Copy, Flush, Release, End, IsFlushStepRefusal, Phase, Refusal, SlotTable, Tables}
 use Rattle.disk_format.specs.declared.numbers.TheConstants.{LAST_ID}
-use Rattle.gc_enumerate.specs.declared.fault.ScanFault.{ScanFault}
 use Rattle.gc_enumerate.specs.declared.fault.ScanFault.TheVariants as faults
-use Rattle.copy_forward.specs.Headers.{IsHeaderRefusal}
-use Rattle.gc_steps.specs.Scanning.{step_refusal}
-use Rattle.gc_steps.specs.Stepping.{IsStepRefusal, Moment, answer_at, phase_at}
-use Rattle.gc_steps.specs.declared.collection.Stage.{Stage}
-use Rattle.gc_steps.specs.declared.collection.Stage.TheVariants.{Mark, Filter, Select, Sweep}
+use Rattle.gc_steps.specs.Stepping.{answer_at, phase_at}
+use Rattle.gc_steps.specs.declared.collection.Stage.TheVariants.{Sweep}
 use Rattle.gc_steps.specs.declared.phase.StepDone.TheVariants.{Did}
-use Rattle.gc_sweep.specs.declared.sweep.Next.{Next}
-use Rattle.gc_sweep.specs.declared.sweep.Next.TheVariants.{Copy, Flush, Release, End}
-use Rattle.gc_sweep.specs.Flushing.{IsFlushStepRefusal}
-use Rattle.refusals.specs.declared.refusal.Phase.{Phase}
-use Rattle.refusals.specs.declared.refusal.Refusal.{Refusal}
 use Rattle.refusals.specs.declared.refusal.Refusal.TheVariants as refusals
-use Rattle.store_state.specs.declared.slot_table.SlotTable.{SlotTable}
-use Rattle.store_state.specs.declared.tables.Tables.{Tables}
 use Rattle.store_core.specs.Sound.{IsHarmless}
 use Rattle.script_runner.proofs.CopyRefused.{IsCopyCause, copying_cause}
 

@@ -1,35 +1,20 @@
 -- What actors have pinned is held still after a step of a collection.
-use Rattle.std.proofs.Common.{◌≡◌, inr, ◌<◌, ℕ, List, [], Some, Result, sym, ◌∙◌, subst}
+use Rattle.script_runner.proofs.Prelude.{◌≡◌, inr, ◌<◌, ℕ, List, [], Some, Result, sym, ◌∙◌, subst, PlaceMap, KindSegment, segment_key, slot_at, ACTORS, Pin, Answer, PinMap, pin_of, Refusal, Stored, Store, HasKey, IsStoreOf, FileEvent, IsAt, CoreState}
 use Rattle.std.specs.FinMap as finite
-use Rattle.container_meta.specs.Places.{PlaceMap}
-use Rattle.container_meta.specs.Segments.{KindSegment, segment_key}
-use Rattle.disk_format.specs.Layout.{slot_at}
-use Rattle.actor_parts.specs.declared.actor.TheConstants.{ACTORS}
 use Rattle.actor_parts.specs.declared.part.Part.TheVariants as core_parts
 use Rattle.actor_parts.specs.declared.part.Part as core_part
-use Rattle.actor_parts.specs.declared.pins.Pin.{Pin}
-use Rattle.actor_parts.specs.declared.step.Answer.{Answer}
 use Rattle.actor_parts.specs.Parts.{part_of}
-use Rattle.actor_parts.specs.PinMap.{PinMap}
-use Rattle.actor_parts.specs.Segments.{pin_of}
 use Rattle.actor_parts.specs.StepValue as asked
-use Rattle.refusals.specs.declared.refusal.Refusal.{Refusal}
 use Rattle.gc_steps.specs.Roots.{IsPartKey}
 use Rattle.gc_steps.specs.Safety.{IsNeeded}
 use Rattle.gc_steps.proofs.PinnedTrees.{pinned_whole}
 use Rattle.segment_index.specs.Changes.{SameBefore}
-use Rattle.store_model.specs.Files.{Stored}
-use Rattle.store_model.specs.Image.{Store}
-use Rattle.store_model.specs.Slots.{HasKey}
-use Rattle.store_model.specs.Standing.{IsStoreOf}
 use Rattle.store_model.specs.Trees.{HasNewest}
 use Rattle.store_model.proofs.FramedTrees.{newest_framed}
 use Rattle.store_model.proofs.SameIndex.{same_copies}
 use Rattle.store_state.specs.Invariant.{HoldsPart}
 use Rattle.store_state.specs.Settled.{IsSettled}
 use Rattle.store_core.specs.Keeping.{IsHeldIn}
-use Rattle.store_core.specs.Runs.{FileEvent, IsAt}
-use Rattle.store_core.specs.State.{CoreState}
 use Rattle.store_core.proofs.Leading.{Leads}
 use Rattle.store_core.proofs.OwnParts.{all_part}
 use Rattle.store_core.proofs.Sealing.{one_map}

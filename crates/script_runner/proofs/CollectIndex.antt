@@ -1,16 +1,9 @@
 -- A step of a collection that is refused leaves the map of the index, where the store runs on.
-use Rattle.std.proofs.Common.{◌≡◌}
-use Rattle.refusals.specs.declared.refusal.Refusal.{Refusal}
+use Rattle.script_runner.proofs.Prelude.{◌≡◌, Refusal, Collection, Stage, Mark, Filter, Select, Next, Copy, Flush, Release, End, Tables, at_moment, CoreState}
 use Rattle.refusals.specs.declared.refusal.Refusal.TheVariants as refusals
-use Rattle.gc_steps.specs.declared.collection.Collection.{Collection}
-use Rattle.gc_steps.specs.declared.collection.Stage.{Stage}
-use Rattle.gc_steps.specs.declared.collection.Stage.TheVariants.{Mark, Filter, Select, Sweep}
+use Rattle.gc_steps.specs.declared.collection.Stage.TheVariants.{Sweep}
 use Rattle.gc_steps.specs.Stepping.{Keeps}
-use Rattle.gc_sweep.specs.declared.sweep.Next.{Next}
-use Rattle.gc_sweep.specs.declared.sweep.Next.TheVariants.{Copy, Flush, Release, End}
-use Rattle.store_state.specs.declared.tables.Tables.{Tables}
-use Rattle.store_core.specs.Collecting.{IsNotMade, at_moment}
-use Rattle.store_core.specs.State.{CoreState}
+use Rattle.store_core.specs.Collecting.{IsNotMade}
 use Rattle.script_runner.proofs.CollectCauses.{IsCauseAt, IsRestCause}
 
 no_release : (refusal : Refusal) → IsRestCause refusal → refusal ≡ refusals.DiskWrite → ⊥

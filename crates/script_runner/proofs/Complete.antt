@@ -1,21 +1,12 @@
 -- Why what can be done is done.
-use Rattle.std.proofs.Common.{◌≡◌, ◌⊎◌, inl, inr, ◌∙◌, ℕ, true, List, [], ◌∷◌, ◌++◌, Some, refl, sym, ap, subst}
-use Rattle.std.specs.List.{AllByRecursion}
+use Rattle.script_runner.proofs.Prelude.{◌≡◌, ◌⊎◌, inl, inr, ◌∙◌, ℕ, true, List, [], ◌∷◌, ◌++◌, Some, refl, sym, ap, subst, AllByRecursion, LineValue, ReplyValue, HasNoCollisions, Piece, Data, Node, Lines, Replied, ends, run_of, Running, of_files, IsUnblamed, MayReply, FileDesk, Traced}
 use Rattle.refusals.specs.declared.refusal.Refusal.TheVariants as refusals
-use Rattle.script_lines.specs.Grammar.{LineValue}
 use Rattle.script_lines.specs.Grammar as lines
-use Rattle.script_lines.specs.ReplyValue.{ReplyValue}
 use Rattle.script_lines.specs.ReplyValue as replies
-use Rattle.store_model.specs.Collisions.{HasNoCollisions}
-use Rattle.store_model.specs.Pieces.{Piece, Data, Node}
-use Rattle.store_machine.specs.Commands.{Lines, Replied, desk, ends, run_of, run_on}
-use Rattle.store_machine.specs.Machine.{Running}
+use Rattle.store_machine.specs.Commands.{desk, run_on}
 use Rattle.store_machine.specs.Twins.{IsGivenIn, UnpinnedByTwins}
-use Rattle.store_machine.specs.Values.{of_files}
 use Rattle.store_machine.proofs.TwinLines.{file_reads, unpinned_has_twins}
-use Rattle.script_runner.specs.Complete.{EndByReopen, EndsUnopened, IsNodeIn, IsUnblamed, MayReply, WhatCanBeDoneIsDone}
-use Rattle.script_runner.specs.LinesAreFileRuns.{FileDesk}
-use Rattle.script_runner.specs.LinesAreRuns.{Traced}
+use Rattle.script_runner.specs.Complete.{EndByReopen, EndsUnopened, IsNodeIn, WhatCanBeDoneIsDone}
 use Rattle.script_runner.proofs.CompleteLines.{Tells, says, tells_on}
 use Rattle.script_runner.proofs.CompleteNodes.{PieceAmong}
 use Rattle.script_runner.proofs.CompleteTrace.{Content, DoesAmong, Step, on_the_way, traced_as, traced_parts}

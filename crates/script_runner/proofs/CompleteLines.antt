@@ -1,36 +1,19 @@
 -- Why a line is refused, where no call of the disk fails and nothing has twins or clashes; and that the machine runs on.
-use Rattle.std.proofs.Common.{◌≡◌, ◌⊎◌, inl, inr, ◌∙◌, ℕ, List, [], ◌∷◌, ◌++◌, Some, None, Result, Ok, Err, refl, sym, ap, subst}
-use Rattle.container_meta.specs.declared.kind.Kind.TheVariants.{Tree}
-use Rattle.container_meta.specs.Segments.{KindSegment}
-use Rattle.refusals.specs.declared.refusal.Refusal.{Refusal}
+use Rattle.script_runner.proofs.Prelude.{◌≡◌, ◌⊎◌, inl, inr, ◌∙◌, ℕ, List, [], ◌∷◌, ◌++◌, Some, None, Result, Ok, Err, refl, sym, ap, subst, Tree, KindSegment, Refusal, LineValue, pushed_bytes, ReplyValue, HasNoCollisions, Piece, Node, IsPieceOf, Asked, FileMachine, HasSegment, Legal, AreDid, AreTurns, Ends, IsDueStep, Says, Session, reply_of, step_of, Running, Stopped, Run, of_files, IsNoOpening, IsLeft, IsUnblamed, MayReply, FileDesk, Traced}
 use Rattle.refusals.specs.declared.refusal.Refusal.TheVariants as refusals
 use Rattle.script_lines.specs.declared.reply.Turned.TheVariants as turned
-use Rattle.script_lines.specs.Grammar.{LineValue, pushed_bytes}
 use Rattle.script_lines.specs.Grammar as lines
-use Rattle.script_lines.specs.ReplyValue.{ReplyValue}
 use Rattle.script_lines.specs.ReplyValue as replies
-use Rattle.store_model.specs.Collisions.{HasNoCollisions}
-use Rattle.store_model.specs.Pieces.{Piece, Node, IsPieceOf}
-use Rattle.store_machine.specs.Asked.{Asked}
 use Rattle.store_machine.specs.Asked as asked
-use Rattle.store_machine.specs.ByMap.{FileMachine}
 use Rattle.store_machine.specs.Done.{Done}
 use Rattle.store_machine.specs.Done as done
-use Rattle.store_machine.specs.Ingests.{HasSegment}
-use Rattle.store_machine.specs.Legal.{Legal}
-use Rattle.store_machine.specs.Lines.{Acts, Admits, AreDid, AreTurns, Bars, Ends, IsDueStep, IsStep, Says, Session, StopsAfter, TurnsStop, reply_of, session_of, step_of}
-use Rattle.store_machine.specs.Machine.{Running, Stopped}
+use Rattle.store_machine.specs.Lines.{Acts, Admits, Bars, IsStep, StopsAfter, TurnsStop, session_of}
 use Rattle.store_machine.specs.Opening.{Reopens}
-use Rattle.store_machine.specs.Runs.{Run}
 use Rattle.store_machine.specs.Twins.{GivesTwins, IsGivenAt}
-use Rattle.store_machine.specs.Values.{of_files}
 use Rattle.store_machine.proofs.IngestStore.{IsRefusal, unrefused}
 use Rattle.store_machine.proofs.Quiet.{told_ok}
 use Rattle.store_machine.proofs.TwinSteps.{due_opens}
-use Rattle.store_machine.proofs.Writers.{IsNoOpening, IsOther, no_opening}
-use Rattle.script_runner.specs.Complete.{IsLeft, IsUnblamed, MayReply}
-use Rattle.script_runner.specs.LinesAreFileRuns.{FileDesk}
-use Rattle.script_runner.specs.LinesAreRuns.{Traced}
+use Rattle.store_machine.proofs.Writers.{IsOther, no_opening}
 use Rattle.script_runner.proofs.CompleteNodes.{PieceAmong, due_node, no_clash, no_twins}
 use Rattle.script_runner.proofs.CompleteSteps.{Left, NoClash, opening_left, step_left, step_runs}
 use Rattle.script_runner.proofs.CompleteTrace.{Content, DoesAmong, Made, Step, made_as, made_parts}

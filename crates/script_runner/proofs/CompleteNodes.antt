@@ -1,36 +1,19 @@
 -- Where no two different nodes on the way have one digest, nothing that is given has twins, and no copy that is held clashes with it.
-use Rattle.std.proofs.Common.{◌≡◌, ◌∙◌, ℕ, Bool, List, [], ◌∷◌, ◌++◌, Option, Some, None, slice_get, append-nil, refl, sym, ap, subst, arith, length}
-use Rattle.std.specs.List.{AllByRecursion}
+use Rattle.script_runner.proofs.Prelude.{◌≡◌, ◌∙◌, ℕ, Bool, List, [], ◌∷◌, ◌++◌, Option, Some, None, refl, sym, ap, subst, arith, length, AllByRecursion, byte_at, Kind, Leaf, Tree, Contents, KindSegment, Segment, segment_key, Difference, HasNoCollisions, Piece, Data, Node, HasPieceOf, IsPieceOf, open_of, History, HasHistory, turn_of, IsItem, IsOffered, SessionState, turn_node, opens_are_pieces, turns_are_pieces, one_of, Asked, HasSegment, IsDueStep, Session, of_files, ClashesWith, IsHeldNode}
+use Rattle.std.proofs.Common.{slice_get, append-nil}
 use Rattle.sha2.specs.Sha256.{sha256}
-use Rattle.base_model.specs.Bytes.{byte_at, key_of}
-use Rattle.container_meta.specs.declared.kind.Kind.{Kind}
-use Rattle.container_meta.specs.declared.kind.Kind.TheVariants.{Leaf, Tree}
-use Rattle.container_meta.specs.Segments.{Contents, KindSegment, Segment, segment_key}
+use Rattle.base_model.specs.Bytes.{key_of}
 use Rattle.merkle_file.specs.Node as node
 use Rattle.merkle_file.specs.Node.{spelling}
-use Rattle.refusals.specs.declared.refusal.Difference.{Difference}
 use Rattle.refusals.specs.declared.refusal.Difference.TheVariants.{Length, Byte}
-use Rattle.store_model.specs.Collisions.{HasNoCollisions}
-use Rattle.store_model.specs.Pieces.{Piece, Data, Node, HasPieceOf, IsPieceOf, piece_bytes, piece_key}
+use Rattle.store_model.specs.Pieces.{piece_bytes, piece_key}
 use Rattle.store_model.specs.Slots.{newest}
 use Rattle.store_model.specs.Trees.{bytes_at}
 use Rattle.ingest_session.specs.declared.due.Due.TheVariants as dues
-use Rattle.ingest_session.specs.Due.{open_of}
-use Rattle.ingest_session.specs.History.{History, HasHistory, turn_of}
-use Rattle.ingest_session.specs.Moving.{IsItem, IsOffered}
-use Rattle.ingest_session.specs.State.{SessionState, turn_node}
-use Rattle.ingest_session.proofs.Facts.{opens_are_pieces, turns_are_pieces}
-use Rattle.ingest_session.proofs.Members.{one_of}
 use Rattle.ingest_session.proofs.Waiting as waiting
-use Rattle.store_machine.specs.Asked.{Asked}
 use Rattle.store_machine.specs.Asked as asked
-use Rattle.store_machine.specs.Ingests.{HasSegment}
 use Rattle.store_machine.specs.Legal.{DifferBy}
-use Rattle.store_machine.specs.Lines.{IsDueStep, Session}
 use Rattle.store_machine.specs.Twins.{HasTwins, IsOfGiven}
-use Rattle.store_machine.specs.Values.{of_files}
-use Rattle.core_machine.specs.Bytes.{ClashesWith}
-use Rattle.script_runner.specs.Complete.{IsHeldNode}
 
 -- ---- a node that a step has
 

@@ -1,23 +1,15 @@
 -- Why a step of a machine that runs is refused, where no call of the disk fails and nothing clashes; and that it runs on.
-use Rattle.std.proofs.Common.{◌≡◌, ◌⊎◌, inl, inr, ◌∙◌, ℕ, List, [], ◌∷◌, Result, Ok, Err, refl, ap, subst}
-use Rattle.container_meta.specs.Segments.{Contents, KindSegment}
-use Rattle.refusals.specs.declared.refusal.Difference.{Difference}
-use Rattle.refusals.specs.declared.refusal.Refusal.{Refusal}
+use Rattle.script_runner.proofs.Prelude.{◌≡◌, ◌⊎◌, inl, inr, ◌∙◌, ℕ, List, [], ◌∷◌, Result, Ok, Err, refl, ap, subst, Contents, KindSegment, Difference, Refusal, Asked, FileMachine, HasSegment, Answers, ByState, Legal, RunState, Running, of_files, IsNoOpening, ClashesWith, IsLeft, IsUnblamed}
 use Rattle.refusals.specs.declared.refusal.Refusal.TheVariants as refusals
 use Rattle.script_lines.specs.ReplyValue as replies
-use Rattle.store_machine.specs.Asked.{Asked}
 use Rattle.store_machine.specs.Asked as asked
-use Rattle.store_machine.specs.ByMap.{FileMachine}
 use Rattle.store_machine.specs.Done.{Done}
 use Rattle.store_machine.specs.Done as done
-use Rattle.store_machine.specs.Ingests.{HasSegment}
-use Rattle.store_machine.specs.Legal.{Answers, ByState, Does, Legal, Refuses, RefusesClaim, RefusesCommit, RefusesDelete, RefusesGcStep, RefusesOn, RefusesSeal}
-use Rattle.store_machine.specs.Machine.{RunState, Running}
+use Rattle.store_machine.specs.Legal.{Does, Refuses, RefusesClaim, RefusesCommit, RefusesDelete, RefusesGcStep, RefusesOn, RefusesSeal}
 use Rattle.store_machine.specs.Opening.{MayRefuseOpening}
-use Rattle.store_machine.specs.Values.{StaysAt, of_files}
-use Rattle.store_machine.proofs.Writers.{IsNoOpening, by_state}
-use Rattle.core_machine.specs.Bytes.{BytesOf, ClashesWith}
-use Rattle.script_runner.specs.Complete.{IsLeft, IsUnblamed}
+use Rattle.store_machine.specs.Values.{StaysAt}
+use Rattle.store_machine.proofs.Writers.{by_state}
+use Rattle.core_machine.specs.Bytes.{BytesOf}
 
 -- ---- a step that is done
 

@@ -1,15 +1,8 @@
 -- What is told of the steps of a run is told of its parts.
-use Rattle.std.proofs.Common.{◌≡◌, inl, inr, ℕ, List, [], ◌∷◌, ◌++◌, Option, refl, sym, subst}
+use Rattle.script_runner.proofs.Prelude.{◌≡◌, inl, inr, ℕ, List, [], ◌∷◌, ◌++◌, Option, refl, sym, subst, KnownWith, FileMachine, Stepped, Run, of_files, ChangesBytes, IsHeldNode, Traced}
 use Rattle.std.proofs.Math.Path.{subst⁻¹, subst⁻¹-subst}
-use Rattle.base_model.specs.Known.{KnownWith}
-use Rattle.store_machine.specs.ByMap.{FileMachine}
 use Rattle.store_machine.specs.Commands.{run_on}
-use Rattle.store_machine.specs.Machine.{Stepped}
-use Rattle.store_machine.specs.Runs.{Run}
-use Rattle.store_machine.specs.Values.{of_files}
-use Rattle.core_machine.specs.Bytes.{ChangesBytes}
-use Rattle.script_runner.specs.Complete.{IsHeldIn, IsHeldNode}
-use Rattle.script_runner.specs.LinesAreRuns.{Traced}
+use Rattle.script_runner.specs.Complete.{IsHeldIn}
 
 abbrev pub Step : Type 0
 Step = Stepped (List ℕ)

@@ -1,20 +1,12 @@
 -- What a source is not copied for, and copies are not written for, on any disk.
-use Rattle.std.proofs.Common.{inl, inr, ℕ, List, [], ◌∷◌, drop, Option}
-use Rattle.container_meta.specs.declared.entry.Entry.{Entry}
-use Rattle.container_meta.specs.Places.{PlaceMap}
-use Rattle.container_meta.specs.Segments.{Contents}
+use Rattle.script_runner.proofs.Prelude.{inl, inr, ℕ, List, [], ◌∷◌, Option, Entry, PlaceMap, Contents, IsHeaderRefusal, Shows, DiskView, LiveKeys, Refusal, Memory, SlotTable}
+use Rattle.std.proofs.Common.{drop}
 use Rattle.copy_forward.specs.Copying.{IsCopyRefusal, IsSourceRefusal}
 use Rattle.copy_forward.specs.Entries.{IsRemoveRefusal}
-use Rattle.copy_forward.specs.Headers.{IsHeaderRefusal}
 use Rattle.copy_forward.specs.Planning.{IsOneRefusal, IsPlanRefusal, IsStuck, Planned, Source, planned, source_of}
-use Rattle.dd_disk.specs.Shows.{Shows}
-use Rattle.dd_disk.specs.View.{DiskView}
-use Rattle.gc_enumerate.specs.Live.{LiveKeys}
 use Rattle.gc_sweep.specs.declared.sweep.Sweep.{Sweep}
 use Rattle.gc_sweep.specs.Copying.{CopiesNothing, IsCopyStepRefusal}
-use Rattle.refusals.specs.declared.refusal.Refusal.{Refusal}
-use Rattle.refusals.specs.declared.refusal.Refusal.TheVariants.{Corrupt, Damaged, DiskRead, DiskWrite, Memory}
-use Rattle.store_state.specs.declared.slot_table.SlotTable.{SlotTable}
+use Rattle.refusals.specs.declared.refusal.Refusal.TheVariants.{Corrupt, Damaged, DiskRead, DiskWrite}
 
 -- no memory, a call of the disk that failed, or damage: of a header, of a copy, or of the index
 abbrev pub IsCopyCause : Refusal → Type 0

@@ -1,40 +1,21 @@
 -- Lines that begin, finish or abort a file, as lines of a machine that fits the core.
-use Rattle.std.proofs.Common.{◌≡◌, ◌≢◌, ◌==◌, inl, inr, ◌∙◌, ◌<◌, ℕ, Bool, true, false, List, [], ◌∷◌, length, Option, Some, None, Result, Ok, Err, refl, sym, ap, subst, arith}
-use Rattle.std.proofs.lemmas.Bool.{eqb-true, eqb-false}
-use Rattle.std.proofs.lemmas.List.{get_or-set_other, length-set, set-get_or}
-use Rattle.actor_parts.specs.declared.actor.TheConstants.{ACTORS}
+use Rattle.script_runner.proofs.Prelude.{◌≡◌, ◌≢◌, ◌==◌, inl, inr, ◌∙◌, ◌<◌, ℕ, Bool, true, false, List, [], ◌∷◌, length, Option, Some, None, Result, Ok, Err, refl, sym, ap, subst, arith, eqb-true, eqb-false, get_or-set_other, length-set, set-get_or, ACTORS, Answer, StepValue, PartKind, Refusal, kept, History, HasHistory, no_history, SessionState, bytes_are_counted, LineValue, ReplyValue, BeginRow, CoreState, Event, IsRunning, running_step, takes, Desk, Session, reply_of, step_of, Machine, answered_by, RefusesStep, RunnerState, Kept, SameSession, SameSessions, WritersGive, Sessions, has_ended, kind_by, kind_in, with_session}
 use Rattle.actor_parts.specs.declared.part.Part as core_part
 use Rattle.actor_parts.specs.declared.part.Part.TheVariants as core_parts
-use Rattle.actor_parts.specs.declared.step.Answer.{Answer}
 use Rattle.actor_parts.specs.declared.step.Answer.TheVariants as answers
 use Rattle.actor_parts.specs.Kinds as core_kinds
 use Rattle.actor_parts.specs.Parts.{part_of}
 use Rattle.actor_parts.specs.StepValue as steps
-use Rattle.actor_parts.specs.StepValue.{StepValue}
-use Rattle.refusals.specs.declared.refusal.PartKind.{PartKind}
 use Rattle.refusals.specs.declared.refusal.PartKind.TheVariants as kinds
-use Rattle.refusals.specs.declared.refusal.Refusal.{Refusal}
-use Rattle.ingest_session.specs.Facts.{kept}
-use Rattle.ingest_session.specs.History.{History, HasHistory, no_history}
-use Rattle.ingest_session.specs.State.{SessionState}
-use Rattle.ingest_session.proofs.Ends.{bytes_are_counted}
-use Rattle.script_lines.specs.Grammar.{LineValue}
 use Rattle.script_lines.specs.Grammar as lines
-use Rattle.script_lines.specs.ReplyValue.{ReplyValue}
 use Rattle.script_lines.specs.ReplyValue as replies
-use Rattle.store_core.specs.Core.{AbortRow, BeginRow}
-use Rattle.store_core.specs.State.{CoreState, Event, IsRunning}
-use Rattle.store_core.proofs.CoreRuns.{running_step}
-use Rattle.store_machine.specs.Lines.{takes}
+use Rattle.store_core.specs.Core.{AbortRow}
 use Rattle.store_machine.specs.Asked as asked
 use Rattle.store_machine.specs.Done.{Done}
 use Rattle.store_machine.specs.Lines as machine
-use Rattle.store_machine.specs.Lines.{Desk, Session, new_session, reply_of, step_of}
-use Rattle.store_machine.specs.Machine.{Machine}
-use Rattle.core_machine.specs.Refines.{answered_by}
-use Rattle.script_runner.specs.Acts.{Acts, Admits, RefusesStep, RunnerState}
-use Rattle.script_runner.specs.LinesAreRuns.{Kept, SameSession, SameSessions, WritersGive}
-use Rattle.script_runner.specs.Sessions.{Sessions, has_ended, kind_by, kind_in, session_of, with_session}
+use Rattle.store_machine.specs.Lines.{new_session}
+use Rattle.script_runner.specs.Acts.{Acts, Admits}
+use Rattle.script_runner.specs.Sessions.{session_of}
 use Rattle.script_runner.proofs.DeskParts.{same_wrote}
 use Rattle.script_runner.proofs.DeskRuns.{ran_none}
 use Rattle.script_runner.proofs.DeskSessions.{DeskSession, desk_session, gives_on, is_put, put_quiet, same_on, same_put}

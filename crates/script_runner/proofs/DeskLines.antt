@@ -1,36 +1,20 @@
 -- Each line that is run is one of a machine that fits the core; and so of the machine of roots, on any disk.
-use Rattle.std.proofs.Common.{◌≡◌, inl, inr, ◌∙◌, ℕ, Bool, zero, suc, false, List, [], ◌∷◌, ◌++◌, length, slice_index_or, replicate, Option, Some, None, refl, sym, ap, subst}
-use Rattle.std.proofs.lemmas.List.{length-replicate}
-use Rattle.disk_format.specs.Cells.{Root}
-use Rattle.dd_disk.specs.View.{DiskView}
-use Rattle.merkle_file.specs.declared.top.Top.{Top}
-use Rattle.actor_parts.specs.declared.actor.TheConstants.{ACTORS}
+use Rattle.script_runner.proofs.Prelude.{◌≡◌, inl, inr, ◌∙◌, ℕ, Bool, zero, suc, false, List, [], ◌∷◌, ◌++◌, length, replicate, Option, Some, None, refl, sym, ap, subst, length-replicate, Root, DiskView, Top, ACTORS, StepValue, SessionState, LineValue, ReplyValue, Stop, CoreState, Event, Replied, Asked, Legal, Desk, Session, step_of, Machine, RunState, Running, Stepped, Stopped, answered_by, asked_as, IsOfActor, RunnerState, RunsLine, Kept, SameSessions, AreOfActors, RunsLines}
+use Rattle.std.proofs.Common.{slice_index_or}
 use Rattle.actor_parts.specs.declared.part.Part as core_part
 use Rattle.actor_parts.specs.declared.part.Part.TheVariants as core_parts
 use Rattle.actor_parts.specs.Kinds as core_kinds
 use Rattle.actor_parts.specs.Parts.{part_of}
 use Rattle.actor_parts.specs.StepValue as steps
-use Rattle.actor_parts.specs.StepValue.{StepValue}
-use Rattle.ingest_session.specs.State.{SessionState}
-use Rattle.script_lines.specs.Grammar.{LineValue}
 use Rattle.script_lines.specs.Grammar as lines
-use Rattle.script_lines.specs.ReplyValue.{ReplyValue}
-use Rattle.store_core.specs.declared.stop.Stop.{Stop}
-use Rattle.store_core.specs.State.{CoreState, Event}
-use Rattle.store_machine.specs.Commands.{Replied}
-use Rattle.store_machine.specs.Asked.{Asked}
 use Rattle.store_machine.specs.Asked as asked
-use Rattle.store_machine.specs.Legal.{Legal}
 use Rattle.store_machine.specs.Lines as machine
-use Rattle.store_machine.specs.Lines.{Desk, Session, step_of}
-use Rattle.store_machine.specs.Machine.{Idle, Machine, Part, Reading, RunState, Running, Stepped, Stopped, Writing, kind_of}
+use Rattle.store_machine.specs.Machine.{Idle, Part, Reading, Writing, kind_of}
 use Rattle.store_machine.specs.Values.{of_roots}
-use Rattle.core_machine.specs.Refines.{SamePart, SameParts, SameStop, answered_by, asked_as, asked_by}
+use Rattle.core_machine.specs.Refines.{SamePart, SameParts, SameStop, asked_by}
 use Rattle.core_machine.proofs.Opened.{opened_refines, unopened_refines}
 use Rattle.core_machine.proofs.Refined.{core_refines}
-use Rattle.script_runner.specs.Acts.{IsOfActor, RunnerState, RunsLine}
-use Rattle.script_runner.specs.LinesAreRuns.{AllLeadTo, BeginsAtDesk, Kept, LinesAreRuns, RootDesk, SameSessions, ScriptsAreRuns, beside_roots}
-use Rattle.script_runner.specs.Scripts.{AreOfActors, RunsLines}
+use Rattle.script_runner.specs.LinesAreRuns.{AllLeadTo, BeginsAtDesk, LinesAreRuns, RootDesk, ScriptsAreRuns, beside_roots}
 use Rattle.script_runner.proofs.DeskGiving.{abort_acts, begin_acts, finish_acts}
 use Rattle.script_runner.proofs.DeskReopens.{idle_give, reopen_line}
 use Rattle.script_runner.proofs.DeskRuns.{lines_done, ran_none}

@@ -1,28 +1,16 @@
 -- What a step leaves of who gives a file.
-use Rattle.std.proofs.Common.{◌≡◌, ◌≢◌, ◌∙◌, ℕ, List, Option, Some, None, Result, Ok, Err, refl, sym, ap, subst}
-use Rattle.disk_format.specs.Cells.{Root}
-use Rattle.merkle_file.specs.declared.top.Top.{Top}
+use Rattle.script_runner.proofs.Prelude.{◌≡◌, ◌≢◌, ◌∙◌, ℕ, List, Option, Some, None, Result, Ok, Err, refl, sym, ap, subst, Root, Top, Answer, StepValue, apart, Refusal, Stop, CoreStep, DeleteRow, EndRow, ReadRow, Row, StepsOr, GcRow, StartRow, CoreState, Event, row_one, WritersGive, Sessions}
 use Rattle.actor_parts.specs.declared.part.Part as core_part
 use Rattle.actor_parts.specs.declared.part.Part.TheVariants as core_parts
-use Rattle.actor_parts.specs.declared.step.Answer.{Answer}
 use Rattle.actor_parts.specs.declared.step.Answer.TheVariants as answers
 use Rattle.actor_parts.specs.Kinds.{kind_of}
 use Rattle.actor_parts.specs.Parts.{part_of, with_part}
 use Rattle.actor_parts.specs.StepValue as steps
-use Rattle.actor_parts.specs.StepValue.{StepValue}
-use Rattle.actor_parts.proofs.Apart.{apart}
 use Rattle.refusals.specs.declared.refusal.PartKind.TheVariants as kinds
-use Rattle.refusals.specs.declared.refusal.Refusal.{Refusal}
 use Rattle.refusals.specs.declared.refusal.Refusal.TheVariants as refusals
 use Rattle.read_steps.specs.Readers as readers
 use Rattle.read_steps.specs.Readers.{IsReadRefusal}
-use Rattle.store_core.specs.declared.stop.Stop.{Stop}
-use Rattle.store_core.specs.Core.{CoreStep, DeleteRow, EndRow, ListRow, OpenRow, ReadRow, Row, StatRow, StepsOr}
-use Rattle.store_core.specs.Collecting.{GcRow, StartRow}
-use Rattle.store_core.specs.State.{CoreState, Event}
-use Rattle.store_core.proofs.Stepping.{row_one}
-use Rattle.script_runner.specs.LinesAreRuns.{WritersGive}
-use Rattle.script_runner.specs.Sessions.{Sessions}
+use Rattle.store_core.specs.Core.{ListRow, OpenRow, StatRow}
 use Rattle.script_runner.proofs.DeskSessions.{gives_on, put_quiet}
 
 -- ---- the parts of the others

@@ -1,36 +1,21 @@
 -- `reopen` as a line of a machine that fits the core.
-use Rattle.std.proofs.Common.{◌≡◌, ◌⊎◌, ◌≤◌, inl, inr, ◌∙◌, ℕ, zero, suc, List, [], ◌∷◌, length, slice_index_or, replicate, Option, None, Result, Ok, Err, refl, sym, ap, subst, arith}
-use Rattle.std.proofs.lemmas.List.{length-replicate}
+use Rattle.script_runner.proofs.Prelude.{◌≡◌, ◌⊎◌, ◌≤◌, inl, inr, ◌∙◌, ℕ, zero, suc, List, [], ◌∷◌, length, replicate, Option, None, Result, Ok, Err, refl, sym, ap, subst, arith, length-replicate, ACTORS, DiskView, leaves_on, Refusal, SessionState, ReplyValue, IsReadFrom, OpensCore, StaysOrStops, CoreState, Event, IsRunning, new_runs, Answers, Legal, Desk, all_none, step_of, Machine, answered_by, ActsReopen, RefusesReopen, RunnerState, Kept, SameSessions, WritersGive, Sessions, running_step}
+use Rattle.std.proofs.Common.{slice_index_or}
 use Rattle.std.specs.FinMap as finite
-use Rattle.actor_parts.specs.declared.actor.TheConstants.{ACTORS}
 use Rattle.actor_parts.specs.declared.part.Part as core_part
 use Rattle.actor_parts.specs.declared.part.Part.TheVariants as core_parts
 use Rattle.actor_parts.specs.Kinds as core_kinds
 use Rattle.actor_parts.specs.Parts.{part_of}
 use Rattle.actor_parts.specs.StepValue as steps
-use Rattle.dd_disk.specs.View.{DiskView}
-use Rattle.dd_disk.proofs.Later.{leaves_on}
-use Rattle.refusals.specs.declared.refusal.Refusal.{Refusal}
-use Rattle.ingest_session.specs.State.{SessionState}
 use Rattle.script_lines.specs.Grammar as lines
-use Rattle.script_lines.specs.ReplyValue.{ReplyValue}
 use Rattle.script_lines.specs.ReplyValue as replies
-use Rattle.store_core.specs.Opening.{IsReadFrom, OpensCore, StaysOrStops}
-use Rattle.store_core.specs.State.{CoreState, Event, IsRunning}
-use Rattle.store_core.proofs.Opened.{new_runs, stays_runs}
+use Rattle.store_core.proofs.Opened.{stays_runs}
 use Rattle.store_machine.specs.Asked as asked
 use Rattle.store_machine.specs.Done.{Done}
 use Rattle.store_machine.specs.Done as done
-use Rattle.store_machine.specs.Legal.{Answers, Legal}
-use Rattle.store_machine.specs.Lines.{Desk, all_none, step_of}
-use Rattle.store_machine.specs.Machine.{Machine}
 use Rattle.store_machine.specs.Opening as opening
-use Rattle.core_machine.specs.Refines.{answered_by}
-use Rattle.script_runner.specs.Acts.{ActsReopen, RefusesReopen, Reopens, RunnerState, counted}
-use Rattle.script_runner.specs.LinesAreRuns.{Kept, SameSessions, WritersGive}
-use Rattle.script_runner.specs.Sessions.{Sessions}
+use Rattle.script_runner.specs.Acts.{Reopens, counted}
 use Rattle.script_runner.proofs.DeskParts.{quiet_gives}
-use Rattle.store_core.proofs.CoreRuns.{running_step}
 use Rattle.script_runner.proofs.DeskRuns.{Ran, ran_step, ran_still}
 use Rattle.script_runner.proofs.DeskSessions.{same_none, same_on}
 use Rattle.script_runner.proofs.DeskSteps.{answers_so, makes}

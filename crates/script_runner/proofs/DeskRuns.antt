@@ -1,14 +1,8 @@
 -- Runs of a machine that fits a core, one after the other, with what a crash leaves within them and what they do to the content.
-use Rattle.std.proofs.Common.{◌≡◌, ◌⊎◌, inl, inr, ◌≤◌, ℕ, List, [], ◌∷◌, ◌++◌, Option, refl, sym, subst, arith}
-use Rattle.dd_disk.specs.View.{CrashLeaves, DiskView}
-use Rattle.dd_disk.proofs.Later.{leaves_on, leaves_weaker, reads_here, reads_leave}
-use Rattle.store_machine.specs.Commands.{Lines, Replied, run_of, run_on}
-use Rattle.store_machine.specs.Legal.{Legal}
-use Rattle.store_machine.specs.Lines.{Desk, Line}
-use Rattle.store_machine.specs.Machine.{Machine, Stepped}
-use Rattle.store_machine.specs.Runs.{Run}
-use Rattle.store_machine.specs.Values.{Values}
-use Rattle.script_runner.specs.LinesAreRuns.{Beside, IsDone, Passes, Traced}
+use Rattle.script_runner.proofs.Prelude.{◌≡◌, ◌⊎◌, inl, inr, ◌≤◌, ℕ, List, [], ◌∷◌, ◌++◌, Option, refl, sym, subst, arith, CrashLeaves, DiskView, leaves_on, leaves_weaker, reads_here, reads_leave, Lines, Replied, run_of, Legal, Desk, Machine, Stepped, Run, Values, Beside, Traced}
+use Rattle.store_machine.specs.Commands.{run_on}
+use Rattle.store_machine.specs.Lines.{Line}
+use Rattle.script_runner.specs.LinesAreRuns.{IsDone, Passes}
 use Rattle.script_runner.proofs.Fitting.{Fitted, LeavesEither}
 
 -- ---- machines that a run passes

@@ -1,19 +1,13 @@
 -- The sessions of a desk beside those of a runner, and what actors are at.
-use Rattle.std.proofs.Common.{◌≡◌, ◌≢◌, ◌∙◌, ◌==◌, ◌<◌, inl, inr, ℕ, zero, suc, Bool, true, false, if◌then◌else◌, List, [], ◌∷◌, length, slice_index_or, slice_set, replicate, Option, Some, None, refl, sym, ap, subst, arith}
-use Rattle.std.proofs.lemmas.Bool.{cases_lt, eqb-true, eqb-false}
-use Rattle.std.proofs.lemmas.List.{get_or-set_same, get_or_past, length-set}
+use Rattle.script_runner.proofs.Prelude.{◌≡◌, ◌≢◌, ◌∙◌, ◌==◌, ◌<◌, inl, inr, ℕ, zero, suc, Bool, true, false, if◌then◌else◌, List, [], ◌∷◌, length, slice_set, replicate, Option, Some, None, refl, sym, ap, subst, arith, cases_lt, eqb-true, eqb-false, get_or-set_same, get_or_past, length-set, PartKind, kept, SessionState, Session, all_none, IsSessionOf, Kept, SameSession, SameSessions, WritersGive, Sessions, has_ended, kind_by, with_session}
+use Rattle.std.proofs.Common.{slice_index_or}
 use Rattle.actor_parts.specs.declared.part.Part as core_part
 use Rattle.actor_parts.specs.declared.part.Part.TheVariants as core_parts
 use Rattle.actor_parts.specs.Kinds as core_kinds
 use Rattle.actor_parts.specs.Parts.{part_of, with_part}
-use Rattle.refusals.specs.declared.refusal.PartKind.{PartKind}
 use Rattle.refusals.specs.declared.refusal.PartKind.TheVariants as kinds
-use Rattle.ingest_session.specs.Facts.{kept}
-use Rattle.ingest_session.specs.State.{SessionState}
 use Rattle.store_machine.specs.Lines as machine
-use Rattle.store_machine.specs.Lines.{Session, all_none}
-use Rattle.script_runner.specs.LinesAreRuns.{IsSessionOf, Kept, SameSession, SameSessions, WritersGive}
-use Rattle.script_runner.specs.Sessions.{Sessions, has_ended, kind_by, session_of, with_session}
+use Rattle.script_runner.specs.Sessions.{session_of}
 
 -- ---- lists of sessions
 

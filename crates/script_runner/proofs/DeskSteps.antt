@@ -1,31 +1,16 @@
 -- A step of the core as one of a machine that fits it; and lines that are one step, or are barred.
-use Rattle.std.proofs.Common.{◌≡◌, ◌≢◌, ◌⊎◌, ◌==◌, inl, inr, ◌∙◌, ◌+◌, ◌-◌, ◌^◌, ◌<◌, min, ℕ, suc, Bool, true, false, List, [], ◌∷◌, length, slice_index_or, Option, Some, None, Result, refl, sym, ap, subst, arith}
-use Rattle.std.proofs.lemmas.Bool.{eqb-true, eqb-false}
-use Rattle.actor_parts.specs.declared.step.Answer.{Answer}
+use Rattle.script_runner.proofs.Prelude.{◌≡◌, ◌≢◌, ◌⊎◌, ◌==◌, inl, inr, ◌∙◌, ◌+◌, ◌-◌, ◌^◌, ◌<◌, min, ℕ, suc, Bool, true, false, List, [], ◌∷◌, length, Option, Some, None, Result, refl, sym, ap, subst, arith, eqb-true, eqb-false, Answer, StepValue, PartKind, Refusal, LineValue, ReplyValue, Stop, CoreStep, CoreState, Event, IsRunning, step_later, Asked, Answers, ByState, Legal, Desk, Ends, Says, step_of, Machine, RunState, Running, Stepped, part_in, Values, answered_by, asked_as, ActsOrNot, BarsBy, RunnerState, Kept, SameSessions, WritersGive, Sessions, kind_in}
+use Rattle.std.proofs.Common.{slice_index_or}
 use Rattle.actor_parts.specs.Parts.{part_of}
-use Rattle.actor_parts.specs.StepValue.{StepValue}
-use Rattle.refusals.specs.declared.refusal.PartKind.{PartKind}
-use Rattle.refusals.specs.declared.refusal.Refusal.{Refusal}
-use Rattle.script_lines.specs.Grammar.{LineValue}
 use Rattle.script_lines.specs.Grammar as lines
-use Rattle.script_lines.specs.ReplyValue.{ReplyValue}
 use Rattle.script_lines.specs.ReplyValue as replies
-use Rattle.store_core.specs.declared.stop.Stop.{Stop}
-use Rattle.store_core.specs.Core.{CoreStep}
-use Rattle.store_core.specs.State.{CoreState, Event, IsRunning}
 use Rattle.store_core.proofs.RunningOn.{step_runs}
-use Rattle.store_core.proofs.Stepping.{step_later}
-use Rattle.store_machine.specs.Asked.{Asked}
 use Rattle.store_machine.specs.Done.{Done}
-use Rattle.store_machine.specs.Legal.{Answers, ByState, Legal}
 use Rattle.store_machine.specs.Lines as machine
-use Rattle.store_machine.specs.Lines.{Desk, Ends, IsStep, Says, kind_at, step_of}
-use Rattle.store_machine.specs.Machine.{Machine, RunState, Running, Stepped, kind_of, part_in}
-use Rattle.store_machine.specs.Values.{Values}
-use Rattle.core_machine.specs.Refines.{answered_by, asked_as}
-use Rattle.script_runner.specs.Acts.{Acts, ActsOrNot, Admits, BarsBy, RunnerState}
-use Rattle.script_runner.specs.LinesAreRuns.{Kept, SameSessions, WritersGive}
-use Rattle.script_runner.specs.Sessions.{Sessions, kind_in, session_of}
+use Rattle.store_machine.specs.Lines.{IsStep, kind_at}
+use Rattle.store_machine.specs.Machine.{kind_of}
+use Rattle.script_runner.specs.Acts.{Acts, Admits}
+use Rattle.script_runner.specs.Sessions.{session_of}
 use Rattle.script_runner.proofs.DeskParts.{IsQuiet, others_stay, quiet_gives}
 use Rattle.script_runner.proofs.DeskRuns.{Ran, ran_none, ran_step}
 use Rattle.script_runner.proofs.DeskSessions.{same_at, same_kind, same_on}

@@ -1,25 +1,14 @@
 -- Lines that make one step and leave sessions as they are, and sweeps, as lines of a machine that fits the core.
-use Rattle.std.proofs.Common.{◌≡◌, inl, inr, ◌∙◌, ◌+◌, ◌-◌, ◌^◌, min, ℕ, List, [], ◌∷◌, ◌++◌, Result, Ok, Err, refl, sym, ap, subst}
-use Rattle.actor_parts.specs.declared.step.Answer.{Answer}
+use Rattle.script_runner.proofs.Prelude.{◌≡◌, inl, inr, ◌∙◌, ◌+◌, ◌-◌, ◌^◌, min, ℕ, List, [], ◌∷◌, ◌++◌, Result, Ok, Err, refl, sym, ap, subst, Answer, Phase, Refusal, ReplyValue, DeleteRow, EndRow, CoreState, Event, IsRunning, running_step, Answers, ByState, Legal, AreDid, Desk, reply_of, step_of, Machine, RunState, Stepped, answered_by, CollectionRun, DoesStep, RunnerState, Sweeps, Kept, WritersGive}
 use Rattle.actor_parts.specs.declared.step.Answer.TheVariants as answers
 use Rattle.actor_parts.specs.StepValue as steps
-use Rattle.refusals.specs.declared.refusal.Phase.{Phase}
-use Rattle.refusals.specs.declared.refusal.Refusal.{Refusal}
 use Rattle.refusals.specs.declared.refusal.Refusal.TheVariants as refusals
 use Rattle.script_lines.specs.Grammar as lines
-use Rattle.script_lines.specs.ReplyValue.{ReplyValue}
 use Rattle.script_lines.specs.ReplyValue as replies
-use Rattle.store_core.specs.Core.{DeleteRow, EndRow}
-use Rattle.store_core.specs.State.{CoreState, Event, IsRunning}
-use Rattle.store_core.proofs.CoreRuns.{running_step}
 use Rattle.store_machine.specs.Asked as asked
 use Rattle.store_machine.specs.Done.{Done}
-use Rattle.store_machine.specs.Legal.{Answers, ByState, Legal}
-use Rattle.store_machine.specs.Lines.{AreDid, Desk, IsLast, reply_of, step_of}
-use Rattle.store_machine.specs.Machine.{Machine, RunState, Stepped}
-use Rattle.core_machine.specs.Refines.{answered_by}
-use Rattle.script_runner.specs.Acts.{Acts, Admits, CollectionRun, DoesStep, RunnerState, Sweeps}
-use Rattle.script_runner.specs.LinesAreRuns.{Kept, WritersGive}
+use Rattle.store_machine.specs.Lines.{IsLast}
+use Rattle.script_runner.specs.Acts.{Acts, Admits}
 use Rattle.script_runner.proofs.DeskParts.{quiet_gives}
 use Rattle.script_runner.proofs.DeskRuns.{Ran, ran_none, ran_on, ran_still}
 use Rattle.script_runner.proofs.DeskSteps.{Acted, all_keep, answers_so, desk_after, makes, number_so, step_line}

@@ -1,51 +1,25 @@
 -- A turn, a push and a commit as lines of a machine that fits the core.
-use Rattle.std.proofs.Common.{◌≡◌, ◌≢◌, inl, inr, ◌∙◌, ◌+◌, ◌-◌, ◌^◌, ◌<◌, ◌≤◌, min, ℕ, Bool, true, false, List, [], ◌∷◌, ◌++◌, length, Option, Some, None, Result, Ok, Err, refl, sym, ap, subst, arith, length-append}
-use Rattle.disk_format.specs.Cells.{Root}
-use Rattle.disk_format.specs.declared.numbers.TheConstants.{MOST_FILE}
-use Rattle.actor_parts.specs.declared.actor.TheConstants.{ACTORS}
+use Rattle.script_runner.proofs.Prelude.{◌≡◌, ◌≢◌, inl, inr, ◌∙◌, ◌+◌, ◌-◌, ◌^◌, ◌<◌, ◌≤◌, min, ℕ, Bool, true, false, List, [], ◌∷◌, ◌++◌, length, Option, Some, None, Result, Ok, Err, refl, sym, ap, subst, arith, length-append, Root, MOST_FILE, ACTORS, Answer, Refusal, due_in, IsDueFor, History, HasHistory, SessionState, all_is_kept, bytes_are_counted, pushed_bytes, ReplyValue, root_of, Stop, CommitRow, StepsOr, CoreState, Event, IsRunning, running_step, takes, Asked, Answers, AreTurns, Desk, Session, reply_of, step_of, Machine, Values, answered_by, asked_as, Feeds, TakesTurn, TurnRun, turns_stay, DoesStep, IsReady, RefusesPut, RefusesStep, RunnerState, StepOf, IsSessionOf, Kept, has_ended, kind_by, with_session}
 use Rattle.actor_parts.specs.declared.part.Part as core_part
 use Rattle.actor_parts.specs.declared.part.Part.TheVariants as core_parts
-use Rattle.actor_parts.specs.declared.step.Answer.{Answer}
 use Rattle.actor_parts.specs.declared.step.Answer.TheVariants as answers
 use Rattle.actor_parts.specs.Kinds as core_kinds
 use Rattle.actor_parts.specs.Parts.{part_of}
 use Rattle.actor_parts.specs.StepValue as steps
 use Rattle.refusals.specs.declared.refusal.PartKind.TheVariants as kinds
-use Rattle.refusals.specs.declared.refusal.Refusal.{Refusal}
 use Rattle.refusals.specs.declared.refusal.Refusal.TheVariants as refusals
 use Rattle.ingest_session.specs.declared.due.Due.TheVariants as dues
-use Rattle.ingest_session.specs.Due.{due_in}
-use Rattle.ingest_session.specs.DueFor.{IsDueFor}
-use Rattle.ingest_session.specs.History.{History, HasHistory}
-use Rattle.ingest_session.specs.State.{SessionState}
-use Rattle.ingest_session.proofs.Ends.{all_is_kept, bytes_are_counted}
 use Rattle.ingest_session.proofs.Waiting as waiting
 use Rattle.script_lines.specs.declared.reply.Turned.{Turned}
 use Rattle.script_lines.specs.declared.reply.Turned.TheVariants as turns
-use Rattle.script_lines.specs.Grammar.{pushed_bytes}
 use Rattle.script_lines.specs.Grammar as lines
-use Rattle.script_lines.specs.ReplyValue.{ReplyValue}
 use Rattle.script_lines.specs.ReplyValue as replies
-use Rattle.store_model.specs.Trees.{root_of}
-use Rattle.store_core.specs.declared.stop.Stop.{Stop}
-use Rattle.store_core.specs.Core.{CommitRow, StepsOr}
-use Rattle.store_core.specs.State.{CoreState, Event, IsRunning}
-use Rattle.store_core.proofs.CoreRuns.{running_step}
-use Rattle.store_machine.specs.Lines.{takes}
-use Rattle.store_machine.specs.Asked.{Asked}
 use Rattle.store_machine.specs.Asked as asked
 use Rattle.store_machine.specs.Done.{Done}
-use Rattle.store_machine.specs.Legal.{Answers}
 use Rattle.store_machine.specs.Lines as machine
-use Rattle.store_machine.specs.Lines.{AreTurns, Desk, NothingIsDue, Session, reply_of, step_of}
-use Rattle.store_machine.specs.Machine.{Machine}
-use Rattle.store_machine.specs.Values.{Values}
-use Rattle.core_machine.specs.Refines.{answered_by, asked_as}
-use Rattle.session_turns.specs.Turns.{Feeds, TakesTurn, TurnRun}
-use Rattle.session_turns.proofs.TurnRuns.{turns_stay}
-use Rattle.script_runner.specs.Acts.{Acts, Admits, DoesStep, IsReady, RefusesPut, RefusesStep, RunnerState, StepOf, turned}
-use Rattle.script_runner.specs.LinesAreRuns.{IsSessionOf, Kept}
-use Rattle.script_runner.specs.Sessions.{has_ended, kind_by, session_of, with_session}
+use Rattle.store_machine.specs.Lines.{NothingIsDue}
+use Rattle.script_runner.specs.Acts.{Acts, Admits, turned}
+use Rattle.script_runner.specs.Sessions.{session_of}
 use Rattle.script_runner.proofs.DeskGiving.{desk_put, gives_still}
 use Rattle.script_runner.proofs.DeskRuns.{Ran, ran_none, ran_on}
 use Rattle.script_runner.proofs.DeskSessions.{DeskSession, desk_session, put_quiet, session_on}

@@ -1,31 +1,16 @@
 -- Turns of a session as steps of a machine that fits the core, each as it was due.
-use Rattle.std.proofs.Common.{◌≡◌, ◌≢◌, ◌⊎◌, inl, inr, ◌∙◌, ℕ, Bool, List, [], ◌∷◌, ◌++◌, Some, None, Result, Ok, Err, refl, sym, ap, subst}
-use Rattle.actor_parts.specs.declared.step.Answer.{Answer}
+use Rattle.script_runner.proofs.Prelude.{◌≡◌, ◌≢◌, ◌⊎◌, inl, inr, ◌∙◌, ℕ, Bool, List, [], ◌∷◌, ◌++◌, Some, None, Result, Ok, Err, refl, sym, ap, subst, Answer, StepValue, Refusal, Due, due_in, open_of, IsDueFor, HasHistory, answered, SessionState, ReplyValue, Event, IsRunning, Asked, AreTurns, IsDueStep, Session, reply_of, step_of, Machine, Stepped, Values, answered_by, asked_as, Asks, IsPaused, IsRefusedTurn, TurnRun, TurnsStopped, IsSessionOf, Kept}
 use Rattle.actor_parts.specs.declared.step.Answer.TheVariants as answers
 use Rattle.actor_parts.specs.Parts.{part_of}
 use Rattle.actor_parts.specs.StepValue as steps
-use Rattle.actor_parts.specs.StepValue.{StepValue}
-use Rattle.refusals.specs.declared.refusal.Refusal.{Refusal}
 use Rattle.refusals.specs.declared.refusal.Refusal.TheVariants as refusals
-use Rattle.ingest_session.specs.declared.due.Due.{Due}
 use Rattle.ingest_session.specs.declared.due.Due.TheVariants as dues
-use Rattle.ingest_session.specs.Due.{due_in, open_of}
-use Rattle.ingest_session.specs.DueFor.{IsDueFor}
-use Rattle.ingest_session.specs.History.{HasHistory, answered}
-use Rattle.ingest_session.specs.State.{SessionState}
 use Rattle.ingest_session.specs.Told.{IsAnswerFor, IsSettled}
-use Rattle.script_lines.specs.ReplyValue.{ReplyValue}
 use Rattle.script_lines.specs.ReplyValue as replies
-use Rattle.store_core.specs.State.{Event, IsRunning}
-use Rattle.store_machine.specs.Asked.{Asked}
 use Rattle.store_machine.specs.Lines as machine
-use Rattle.store_machine.specs.Lines.{AreTurns, IsDueStep, Session, StopsAfter, answer_of, reply_of, step_of}
-use Rattle.store_machine.specs.Machine.{Machine, Stepped}
-use Rattle.store_machine.specs.Values.{Values}
-use Rattle.core_machine.specs.Refines.{answered_by, asked_as}
-use Rattle.session_turns.specs.Turns.{AreForRoom, Asks, IsCrowded, IsPaused, IsRefusedTurn, IsTurn, StopForRoom, TurnRun, TurnsStopped}
+use Rattle.store_machine.specs.Lines.{StopsAfter, answer_of}
+use Rattle.session_turns.specs.Turns.{AreForRoom, IsCrowded, IsTurn, StopForRoom}
 use Rattle.session_turns.proofs.Told.{told}
-use Rattle.script_runner.specs.LinesAreRuns.{IsSessionOf, Kept}
 use Rattle.script_runner.proofs.DeskRuns.{Ran, ran_none, ran_on}
 use Rattle.script_runner.proofs.DeskSessions.{session_on}
 use Rattle.script_runner.proofs.DeskSteps.{Makes, makes}

@@ -1,41 +1,19 @@
 -- What lines leave of the disk: it is the same one, later, and its count of faults tells what was refused.
 use Rattle.actor_parts.specs.declared.step.Answer.TheVariants as answers
-use Rattle.std.proofs.Common.{◌≡◌, ◌⊎◌, inl, inr, ◌+◌, ◌≤◌, ℕ, Bool, true, false, if◌then◌else◌, List, [], ◌∷◌, Option, Some, None, Result, Ok, Err, refl, sym, ap, subst, arith}
-use Rattle.std.specs.Prelude.{nat_lt}
+use Rattle.script_runner.proofs.Prelude.{◌≡◌, ◌⊎◌, inl, inr, ◌+◌, ◌≤◌, ℕ, Bool, true, false, if◌then◌else◌, List, [], ◌∷◌, Option, Some, None, Result, Ok, Err, refl, sym, ap, subst, arith, nat_lt, MOST_FILE, DiskView, IsLater, later_here, later_on, Answer, StepValue, Refusal, LineValue, pushed_bytes, ReplyValue, Due, Claim, Seal, Nothing, IsPushAnswer, due_in, SessionState, Stop, CoreStep, Effect, StepsOr, OpensCore, OpensNone, CoreState, Event, step_later, Asks, Feeds, IsPaused, IsRefusedTurn, TakesTurn, TurnRun, TurnsStopped, ActsReopen, ActsOrNot, BarsBy, RefusesPut, RefusesStep, RunnerState, RunsLine, CollectionRun, Sweeps, Sessions, Phase}
 use Rattle.base_model.specs.Fault.{Rose}
-use Rattle.disk_format.specs.declared.numbers.TheConstants.{MOST_FILE}
 use Rattle.dd_disk.specs.Ending.{Ending, Done, Refused, CountsFault, ending, ending_of}
-use Rattle.dd_disk.specs.View.{DiskView, IsLater}
-use Rattle.dd_disk.proofs.Later.{later_here, later_on}
-use Rattle.actor_parts.specs.declared.step.Answer.{Answer}
 use Rattle.actor_parts.specs.Counts.{Counts}
 use Rattle.actor_parts.specs.StepValue as asked
-use Rattle.actor_parts.specs.StepValue.{StepValue}
-use Rattle.refusals.specs.declared.refusal.Refusal.{Refusal}
 use Rattle.refusals.specs.declared.refusal.Refusal.TheVariants as refusals
 use Rattle.refusals.specs.declared.refusal.PartKind.TheVariants as kinds
-use Rattle.script_lines.specs.Grammar.{LineValue, pushed_bytes}
 use Rattle.script_lines.specs.Grammar as lines
 use Rattle.script_lines.specs.ReplyValue as replies
-use Rattle.script_lines.specs.ReplyValue.{ReplyValue}
 use Rattle.store_state.specs.Refused.{blames}
-use Rattle.ingest_session.specs.declared.due.Due.{Due}
-use Rattle.ingest_session.specs.declared.due.Due.TheVariants.{Claim, Seal, Nothing}
-use Rattle.ingest_session.specs.Calls.{IsPushAnswer}
-use Rattle.ingest_session.specs.Due.{due_in}
-use Rattle.ingest_session.specs.State.{SessionState}
-use Rattle.store_core.specs.declared.stop.Stop.{Stop}
 use Rattle.recovery.specs.Room.{RoomMade}
-use Rattle.store_core.specs.Core.{CoreStep, Effect, StepsOr}
-use Rattle.store_core.specs.Opening.{OpensCore, OpensNone}
-use Rattle.store_core.specs.State.{CoreState, Event}
-use Rattle.store_core.proofs.Stepping.{step_later}
-use Rattle.session_turns.specs.Turns.{Asks, Feeds, IsPaused, IsRefusedTurn, TakesTurn, TurnRun, TurnsStopped}
-use Rattle.script_runner.specs.Acts.{Acts, ActsReopen, ActsOrNot, BarsBy, RefusesPut, RefusesStep, RunnerState, RunsLine, CollectionRun, Sweeps}
+use Rattle.script_runner.specs.Acts.{Acts}
 use Rattle.script_runner.specs.AnyDisk.{LinesGoOn}
 use Rattle.script_runner.specs.Named.{tells_fault}
-use Rattle.script_runner.specs.Sessions.{Sessions}
-use Rattle.refusals.specs.declared.refusal.Phase.{Phase}
 
 -- The same disk, later, whose count of faults tells how calls ended.
 pub record Went (by : Ending) (old new : DiskView) : Type 0 where

@@ -1,68 +1,30 @@
 -- The machine of files fits a core whose disk tells its content; and so lines over such a core are lines of it.
-use Rattle.std.proofs.Common.{◌≡◌, ◌⊎◌, ◌∙◌, ◌<◌, ◌≤◌, inl, inr, ℕ, zero, suc, Bool, List, [], ◌∷◌, ◌++◌, length, slice_index_or, replicate, Option, Some, None, Result, Ok, Err, refl, sym, ap, subst, arith}
-use Rattle.std.proofs.lemmas.List.{length-replicate}
+use Rattle.script_runner.proofs.Prelude.{◌≡◌, ◌⊎◌, ◌∙◌, ◌<◌, ◌≤◌, inl, inr, ℕ, zero, suc, Bool, List, [], ◌∷◌, ◌++◌, length, replicate, Option, Some, None, Result, Ok, Err, refl, sym, ap, subst, arith, length-replicate, AllByRecursion, DiskView, OnlyReads, leaves_weaker, Root, MOST_FILE, Top, KnownWith, ACTORS, Answer, StepValue, apart, Kind, Leaf, Tree, Contents, KindSegment, Segment, Refusal, Due, due_in, open_of, kept, History, answered, no_history, turn_of, IsItem, IsOffered, SessionState, turn_node, all_is_kept, bytes_are_counted, opens_are_pieces, turns_are_pieces, all_of, in_none, one_of, ByteSet, HasNoCollisions, Data, HasPieceOf, IsPieceOf, Node, piece_segment, root_of, Stop, BeginRow, CoreStep, Row, StepsOr, kept_by, StaysOrStops, FileEvent, FileStep, IsNoGcStep, IsRootOf, CoreState, Event, running_step, Replied, Asked, step_of, FileMachine, RunState, Running, Stopped, of_files, Store, ChangesBytes, IsAtFiles, IsReady, FileDesk, HoldsKept, Kept, SameSessions, of_kind}
+use Rattle.std.proofs.Common.{slice_index_or}
 use Rattle.std.specs.FinMap as finite
-use Rattle.std.specs.List.{AllByRecursion}
-use Rattle.dd_disk.specs.View.{DiskView, OnlyReads}
-use Rattle.dd_disk.proofs.Later.{leaves_weaker}
-use Rattle.disk_format.specs.Cells.{Root}
-use Rattle.disk_format.specs.declared.numbers.TheConstants.{MOST_FILE}
-use Rattle.merkle_file.specs.declared.top.Top.{Top}
 use Rattle.merkle_file.specs.Node as node
-use Rattle.base_model.specs.Known.{KnownWith}
-use Rattle.actor_parts.specs.declared.actor.TheConstants.{ACTORS}
 use Rattle.actor_parts.specs.declared.part.Part as core_part
 use Rattle.actor_parts.specs.declared.part.Part.TheVariants as core_parts
-use Rattle.actor_parts.specs.declared.step.Answer.{Answer}
 use Rattle.actor_parts.specs.declared.step.Answer.TheVariants as answers
 use Rattle.actor_parts.specs.Kinds as core_kinds
 use Rattle.actor_parts.specs.Parts.{part_of}
 use Rattle.actor_parts.specs.StepValue as steps
-use Rattle.actor_parts.specs.StepValue.{IsStep, StepValue}
-use Rattle.actor_parts.proofs.Apart.{apart}
-use Rattle.container_meta.specs.declared.kind.Kind.{Kind}
-use Rattle.container_meta.specs.declared.kind.Kind.TheVariants.{Leaf, Tree}
-use Rattle.container_meta.specs.Segments.{Contents, KindSegment, Segment}
-use Rattle.refusals.specs.declared.refusal.Refusal.{Refusal}
+use Rattle.actor_parts.specs.StepValue.{IsStep}
 use Rattle.refusals.specs.declared.refusal.Refusal.TheVariants as refusals
-use Rattle.ingest_session.specs.declared.due.Due.{Due}
 use Rattle.ingest_session.specs.declared.due.Due.TheVariants as dues
-use Rattle.ingest_session.specs.Due.{due_in, open_of}
-use Rattle.ingest_session.specs.Facts.{MayFollow, kept}
-use Rattle.ingest_session.specs.History.{History, answered, no_history, turn_of}
-use Rattle.ingest_session.specs.Moving.{IsItem, IsOffered}
-use Rattle.ingest_session.specs.State.{SessionState, turn_node}
-use Rattle.ingest_session.proofs.Ends.{all_is_kept, bytes_are_counted}
-use Rattle.ingest_session.proofs.Facts.{opens_are_pieces, turns_are_pieces}
-use Rattle.ingest_session.proofs.Members.{all_of, in_none, one_of}
-use Rattle.store_model.specs.Collisions.{ByteSet, HasNoCollisions, IsAmong, IsIn}
-use Rattle.store_model.specs.Pieces.{Data, HasPieceOf, IsPieceOf, Node, piece_segment}
-use Rattle.store_model.specs.Trees.{root_of}
-use Rattle.store_core.specs.declared.stop.Stop.{Stop}
-use Rattle.store_core.specs.Core.{BeginRow, CoreStep, Row, StepsOr}
-use Rattle.store_core.specs.Keeping.{IsHeldIn, kept_by}
-use Rattle.store_core.specs.Opening.{StaysOrStops}
-use Rattle.store_core.specs.Runs.{FileEvent, FileStep, IsGivenRight, IsNoGcStep, IsRightCommit, IsRootOf}
-use Rattle.store_core.specs.State.{CoreState, Event}
-use Rattle.store_core.proofs.CoreRuns.{running_step}
-use Rattle.store_machine.specs.Commands.{Replied}
-use Rattle.store_machine.specs.Asked.{Asked}
+use Rattle.ingest_session.specs.Facts.{MayFollow}
+use Rattle.store_model.specs.Collisions.{IsAmong, IsIn}
+use Rattle.store_core.specs.Keeping.{IsHeldIn}
+use Rattle.store_core.specs.Runs.{IsGivenRight, IsRightCommit}
 use Rattle.store_machine.specs.Asked as asked_of
-use Rattle.store_machine.specs.Lines.{step_of}
-use Rattle.store_machine.specs.ByMap.{FileMachine}
 use Rattle.store_machine.specs.Forgetting.{SameParts, SameState}
-use Rattle.store_machine.specs.Machine.{Found, Idle, Part, Reading, RunState, Running, Stopped, Writing, kind_of}
-use Rattle.store_machine.specs.Values.{of_files}
-use Rattle.store_model.specs.Image.{Store}
-use Rattle.core_machine.specs.Bytes.{ChangesBytes}
-use Rattle.core_machine.specs.Files.{FitsBy, IsAtFiles, IsFileMachine, IsOfFile, IsOfFound, MayStand}
+use Rattle.store_machine.specs.Machine.{Found, Idle, Part, Reading, Writing, kind_of}
+use Rattle.core_machine.specs.Files.{FitsBy, IsFileMachine, IsOfFile, IsOfFound, MayStand}
 use Rattle.core_machine.proofs.FileCrashes.{stands_found}
 use Rattle.core_machine.proofs.FileOpened.{files_opened, files_reopened_not}
 use Rattle.core_machine.proofs.FileStands.{disk_stands}
 use Rattle.core_machine.proofs.FilesRefined.{refined}
-use Rattle.script_runner.specs.Acts.{IsReady}
-use Rattle.script_runner.specs.LinesAreFileRuns.{BeginsAtFileDesk, FileDesk, HoldsKept, IsCutBy, IsCutOf, LinesAreFileRuns, OpenedIsAtDesk, OwnsKept, ScriptsAreFileRuns, beside_files}
-use Rattle.script_runner.specs.LinesAreRuns.{Kept, SameSessions}
+use Rattle.script_runner.specs.LinesAreFileRuns.{BeginsAtFileDesk, IsCutBy, IsCutOf, LinesAreFileRuns, OpenedIsAtDesk, OwnsKept, ScriptsAreFileRuns, beside_files}
 use Rattle.script_runner.proofs.DeskLines.{AllowedBy, line_runs, part_kinds, runs_by, script_runs, stops_by}
 use Rattle.script_runner.proofs.DeskParts.{KeepsWriting, others_stay, quiet_keeps, refused_keeps}
 use Rattle.script_runner.proofs.DeskReopens.{idle_give, opened_parts, opened_runs}
@@ -71,7 +33,7 @@ use Rattle.script_runner.proofs.FileHeld.{held_by, holds_on, kept_then}
 use Rattle.script_runner.proofs.FileTurns.{turned_then}
 use Rattle.script_runner.proofs.Fitting.{Fitted, Fitting, HasTaken, IsAskedFor, IsOfGiven, IsUnmade, Keeps}
 use Rattle.script_runner.proofs.StillHeld.{still_held}
-use Rattle.ingest_session.proofs.KeptPieces.{data_piece, of_kind}
+use Rattle.ingest_session.proofs.KeptPieces.{data_piece}
 use Rattle.script_runner.proofs.RightRoot.{right_root}
 
 -- what is offered is a piece of the file

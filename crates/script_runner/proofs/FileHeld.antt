@@ -1,28 +1,17 @@
 -- What actors have kept of files is held still after a step of a core that is at files.
-use Rattle.std.proofs.Common.{◌≡◌, inl, inr, ◌∙◌, ◌<◌, ℕ, [], ◌∷◌, Some, None, refl, subst}
+use Rattle.script_runner.proofs.Prelude.{◌≡◌, inl, inr, ◌∙◌, ◌<◌, ℕ, [], ◌∷◌, Some, None, refl, subst, AllByRecursion, ACTORS, StepValue, Kind, KindSegment, Segment, segment_key, ByteSet, HasNoCollisions, CoreStep, kept_by, FileEvent, FileStep, IsNoGcStep, CoreState, Event, FileMachine, IsAtFiles, HoldsKept, Kept}
 use Rattle.std.proofs.lemmas.List.{append-nil}
 use Rattle.std.specs.FinMap as finite
-use Rattle.std.specs.List.{AllByRecursion}
-use Rattle.actor_parts.specs.declared.actor.TheConstants.{ACTORS}
 use Rattle.actor_parts.specs.Parts.{part_of}
 use Rattle.actor_parts.specs.StepValue as steps
-use Rattle.actor_parts.specs.StepValue.{StepValue}
-use Rattle.container_meta.specs.declared.kind.Kind.{Kind}
-use Rattle.container_meta.specs.Segments.{KindSegment, Segment, segment_key}
-use Rattle.store_model.specs.Collisions.{ByteSet, HasNoCollisions, IsIn}
+use Rattle.store_model.specs.Collisions.{IsIn}
 use Rattle.store_state.specs.Settled.{IsSettled}
-use Rattle.store_core.specs.Core.{CoreStep}
-use Rattle.store_core.specs.Keeping.{IsHeldIn, kept_by}
-use Rattle.store_core.specs.Runs.{FileEvent, FileStep, IsNoGcStep}
-use Rattle.store_core.specs.State.{CoreState, Event}
+use Rattle.store_core.specs.Keeping.{IsHeldIn}
 use Rattle.store_core.proofs.KeepingSegments.{keeps_segments, stays_held, stays_settled}
 use Rattle.store_core.proofs.Leading.{Leads}
 use Rattle.store_core.proofs.Releasing.{leads}
-use Rattle.store_machine.specs.ByMap.{FileMachine}
-use Rattle.core_machine.specs.Files.{IsAtFiles, stored_in}
+use Rattle.core_machine.specs.Files.{stored_in}
 use Rattle.core_machine.proofs.FileSteps.{by_gc}
-use Rattle.script_runner.specs.LinesAreFileRuns.{HoldsKept}
-use Rattle.script_runner.specs.LinesAreRuns.{Kept}
 use Rattle.script_runner.proofs.CollectHolds.{gc_event}
 use Rattle.script_runner.proofs.CollectHolds.{needed_held}
 use Rattle.script_runner.proofs.CollectHolds.{pin_needed}

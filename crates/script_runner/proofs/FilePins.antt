@@ -1,19 +1,11 @@
 -- Keys that are pinned, where more are.
-use Rattle.std.proofs.Common.{◌≡◌, ◌∙◌, ℕ, zero, suc, Bool, true, false, cond, List, [], ◌∷◌, Some, refl, sym, ap, subst}
+use Rattle.script_runner.proofs.Prelude.{◌≡◌, ◌∙◌, ℕ, zero, suc, Bool, true, false, cond, List, [], ◌∷◌, Some, refl, sym, ap, subst, slice_cmp, nat_list_cmp_total, nat_cmp, eq_by_cmp, Kind, Segment, segment_key, Pin, PinMap, with_pins, in_none, ◌≡◌, ◌∙◌, ℕ, zero, suc, Bool, true, false, cond, List, [], ◌∷◌, Some, refl, sym, ap, in_none}
 use Rattle.std.specs.FinMap as finite
-use Rattle.std.specs.Cmp.Lexicographic.{slice_cmp, nat_list_cmp_total}
-use Rattle.std.specs.Ordering.{nat_cmp, eq_by_cmp}
-use Rattle.container_meta.specs.declared.kind.Kind.{Kind}
-use Rattle.container_meta.specs.Segments.{Segment, segment_key}
-use Rattle.actor_parts.specs.declared.pins.Pin.{Pin}
-use Rattle.actor_parts.specs.PinMap.{PinMap}
 use Rattle.actor_parts.specs.Segments.{pin_by}
-use Rattle.ingest_steps.specs.Pinning.{with_pins}
-use Rattle.ingest_session.proofs.Members.{IsIn, in_none}
-use Rattle.std.proofs.Common.{◌≡◌, ◌∙◌, ℕ, zero, suc, Bool, true, false, cond, List, [], ◌∷◌, Some, refl, sym, ap}
+use Rattle.ingest_session.proofs.Members.{IsIn}
 use Rattle.std.proofs.lemmas.Slice.Eq.{bytes_eq-Decides}
 use Rattle.store_model.proofs.Indexing.{tied}
-use Rattle.ingest_session.proofs.Members.{IsIn, in_none}
+use Rattle.ingest_session.proofs.Members.{IsIn}
 
 same_key : (key : List ℕ) → eq_by_cmp (slice_cmp nat_cmp) key key ≡ true
 same_key key = tied key key ∙ (bytes_eq-Decides key key).1 refl

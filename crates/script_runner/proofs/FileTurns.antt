@@ -1,46 +1,22 @@
 -- What an actor has kept of a file is held and pinned still, once the answer to a turn is told.
-use Rattle.std.proofs.Common.{◌≡◌, ◌∙◌, ◌<◌, inl, inr, ℕ, List, length, Ok, refl, sym, ap, subst, arith}
+use Rattle.script_runner.proofs.Prelude.{◌≡◌, ◌∙◌, ◌<◌, inl, inr, ℕ, List, length, Ok, refl, sym, ap, subst, arith, AllByRecursion, Kind, Contents, KindSegment, Segment, segment_key, ACTORS, Answer, PinMap, pin_of, StepValue, apart, with_pins, Due, due_in, open_of, kept, History, answered, IsOffered, SessionState, turn_node, one_of, Row, kept_by, CoreState, HoldsKept, item_is, kept_absent, kept_held, kept_sealed, of_kind, one_item, ◌≡◌, inl, inr, ◌∙◌, ◌<◌, ℕ, List, [], ◌∷◌, Ok, refl, sym, ap, subst, arith, pin_of, Claim, Seal, Nothing, due_in, open_of, History, answered, one_of, item_is, kept_absent, kept_held, kept_sealed, of_kind, one_item}
 use Rattle.std.specs.FinMap as finite
-use Rattle.std.specs.List.{AllByRecursion}
-use Rattle.container_meta.specs.declared.kind.Kind.{Kind}
-use Rattle.container_meta.specs.Segments.{Contents, KindSegment, Segment, segment_key}
-use Rattle.actor_parts.specs.declared.actor.TheConstants.{ACTORS}
 use Rattle.actor_parts.specs.declared.part.Part as core_part
 use Rattle.actor_parts.specs.declared.part.Part.TheVariants as core_parts
-use Rattle.actor_parts.specs.declared.step.Answer.{Answer}
 use Rattle.actor_parts.specs.declared.step.Answer.TheVariants as answers
 use Rattle.actor_parts.specs.Parts.{part_of, with_part}
-use Rattle.actor_parts.specs.PinMap.{PinMap}
-use Rattle.actor_parts.specs.Segments.{pin_of}
 use Rattle.actor_parts.specs.StepValue as steps
-use Rattle.actor_parts.specs.StepValue.{StepValue}
-use Rattle.actor_parts.proofs.Apart.{apart}
 use Rattle.ingest_steps.specs.Claiming.{key_of_seg}
-use Rattle.ingest_steps.specs.Pinning.{with_pins}
-use Rattle.ingest_session.specs.declared.due.Due.{Due}
 use Rattle.ingest_session.specs.declared.due.Due.TheVariants as dues
-use Rattle.ingest_session.specs.Due.{due_in, open_of}
-use Rattle.ingest_session.specs.Facts.{kept}
-use Rattle.ingest_session.specs.History.{History, answered, item_if}
+use Rattle.ingest_session.specs.History.{item_if}
 use Rattle.ingest_session.specs.Items.{item_of}
-use Rattle.ingest_session.specs.Moving.{IsOffered}
-use Rattle.ingest_session.specs.State.{SessionState, turn_node}
-use Rattle.ingest_session.proofs.Members.{IsIn, one_of}
-use Rattle.store_core.specs.Core.{Row}
-use Rattle.store_core.specs.Keeping.{IsHeldIn, kept_by}
-use Rattle.store_core.specs.State.{CoreState}
-use Rattle.script_runner.specs.LinesAreFileRuns.{HoldsKept}
+use Rattle.ingest_session.proofs.Members.{IsIn}
+use Rattle.store_core.specs.Keeping.{IsHeldIn}
 use Rattle.script_runner.proofs.FilePins.{HasPin, pin_now, pin_on, pins_now, pins_on}
 use Rattle.script_runner.proofs.Fitting.{IsAskedFor}
-use Rattle.ingest_session.proofs.KeptPieces.{item_is, kept_absent, kept_held, kept_sealed, of_kind, one_item}
-use Rattle.std.proofs.Common.{◌≡◌, inl, inr, ◌∙◌, ◌<◌, ℕ, List, [], ◌∷◌, map, Ok, refl, sym, ap, subst, arith}
-use Rattle.actor_parts.specs.Segments.{pin_of}
+use Rattle.std.proofs.Common.{map}
 use Rattle.store_core.specs.Keeping.{IsHeldIn}
-use Rattle.ingest_session.specs.declared.due.Due.TheVariants.{Claim, Seal, Nothing}
-use Rattle.ingest_session.specs.Due.{due_in, open_of}
-use Rattle.ingest_session.specs.History.{History, answered}
-use Rattle.ingest_session.proofs.Members.{IsIn, one_of}
-use Rattle.ingest_session.proofs.KeptPieces.{item_is, kept_absent, kept_held, kept_sealed, of_kind, one_item}
+use Rattle.ingest_session.proofs.Members.{IsIn}
 
 unmapped : {A B : Type 0} (P : B → Type 0) (f : A → B) (xs : List A) → AllByRecursion P (map f xs) → AllByRecursion (λ x. P (f x)) xs
 unmapped P f [] all = tt

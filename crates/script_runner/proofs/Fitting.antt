@@ -1,42 +1,17 @@
 -- What a relation of machines and cores is to give for lines over a core to be lines of the machine.
-use Rattle.std.proofs.Common.{◌≡◌, ◌≢◌, ◌⊎◌, ◌<◌, ℕ, Bool, List, Some, None, Ok, Err}
+use Rattle.script_runner.proofs.Prelude.{◌≡◌, ◌≢◌, ◌⊎◌, ◌<◌, ℕ, Bool, List, Some, None, Ok, Err, CrashLeaves, DiskView, ACTORS, Answer, StepValue, Kind, Refusal, Memory, Due, due_in, open_of, kept, History, HasHistory, answered, no_history, IsOffered, SessionState, root_of, Stop, CoreStep, OpensCore, OpensNone, StaysOrStops, CoreState, Event, IsRunning, Asked, Legal, LineValue, ReplyValue, Desk, step_of, Machine, Running, Stopped, part_in, Values, answered_by, asked_as, IsReady, RunnerState, Beside, Kept}
 use Rattle.std.specs.FinMap as finite
-use Rattle.dd_disk.specs.View.{CrashLeaves, DiskView}
-use Rattle.actor_parts.specs.declared.actor.TheConstants.{ACTORS}
-use Rattle.actor_parts.specs.declared.step.Answer.{Answer}
 use Rattle.actor_parts.specs.Kinds as core_kinds
 use Rattle.actor_parts.specs.Parts.{part_of}
 use Rattle.actor_parts.specs.StepValue as steps
-use Rattle.actor_parts.specs.StepValue.{IsStep, StepValue}
-use Rattle.container_meta.specs.declared.kind.Kind.{Kind}
-use Rattle.refusals.specs.declared.refusal.Refusal.{Refusal}
-use Rattle.refusals.specs.declared.refusal.Refusal.TheVariants.{Memory}
-use Rattle.ingest_session.specs.declared.due.Due.{Due}
+use Rattle.actor_parts.specs.StepValue.{IsStep}
 use Rattle.ingest_session.specs.declared.due.Due.TheVariants as dues
-use Rattle.ingest_session.specs.Due.{due_in, open_of}
-use Rattle.ingest_session.specs.Facts.{kept}
-use Rattle.ingest_session.specs.History.{History, HasHistory, answered, no_history}
-use Rattle.ingest_session.specs.Moving.{IsOffered}
-use Rattle.ingest_session.specs.State.{SessionState}
 use Rattle.ingest_session.specs.Told.{told_by}
-use Rattle.store_model.specs.Trees.{root_of}
-use Rattle.store_core.specs.declared.stop.Stop.{Stop}
-use Rattle.store_core.specs.Core.{CoreStep}
-use Rattle.store_core.specs.Opening.{OpensCore, OpensNone, StaysOrStops}
-use Rattle.store_core.specs.State.{CoreState, Event, IsRunning}
-use Rattle.store_machine.specs.Asked.{Asked}
 use Rattle.store_machine.specs.Asked as asked
 use Rattle.store_machine.specs.Done.{Done}
 use Rattle.store_machine.specs.Done as done
-use Rattle.store_machine.specs.Legal.{Legal}
-use Rattle.script_lines.specs.Grammar.{LineValue}
-use Rattle.script_lines.specs.ReplyValue.{ReplyValue}
-use Rattle.store_machine.specs.Lines.{Desk, step_of}
-use Rattle.store_machine.specs.Machine.{Machine, Running, Stopped, kind_of, part_in}
-use Rattle.store_machine.specs.Values.{Values}
-use Rattle.core_machine.specs.Refines.{answered_by, asked_as}
-use Rattle.script_runner.specs.Acts.{IsReady, RunnerState}
-use Rattle.script_runner.specs.LinesAreRuns.{Beside, IsAtDesk, Kept, LeadsTo}
+use Rattle.store_machine.specs.Machine.{kind_of}
+use Rattle.script_runner.specs.LinesAreRuns.{IsAtDesk, LeadsTo}
 use Rattle.script_runner.proofs.DeskParts.{IsQuiet}
 
 -- the session took these bytes, all of the file or not yet, which are allowed, and P holds of what is kept

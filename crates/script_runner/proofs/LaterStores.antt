@@ -1,16 +1,13 @@
 -- A store that is found where the containers of another stay has them.
-use Rattle.std.proofs.Common.{◌≡◌, ℕ, zero, suc, ◌+◌, ◌<◌, ◌≤◌, List, [], ◌∷◌, get_or, Option, Some, None, refl, sym, ◌∙◌, ap, subst, arith}
+use Rattle.script_runner.proofs.Prelude.{◌≡◌, ℕ, zero, suc, ◌+◌, ◌<◌, ◌≤◌, List, [], ◌∷◌, Option, Some, None, refl, sym, ◌∙◌, ap, subst, arith, byte_at, slot_at, HeaderValue, Store, Encodes, KeepsContainers}
+use Rattle.std.proofs.Common.{get_or}
 use Rattle.std.specs.Prelude.{slice_get}
 use Rattle.std.proofs.lemmas.Option.{slice_get-get_or}
-use Rattle.base_model.specs.Bytes.{range, byte_at}
+use Rattle.base_model.specs.Bytes.{range}
 use Rattle.base_model.proofs.Ranges.{byte-range}
 use Rattle.disk_format.specs.declared.numbers.TheConstants.{CONTAINER_GATE, SLOT_BYTES}
-use Rattle.disk_format.specs.Layout.{slot_at}
-use Rattle.container_meta.specs.Spelling.{HeaderValue}
-use Rattle.store_model.specs.Image.{Store, Encodes}
 use Rattle.store_model.specs.Slots.{HoldsSlot, HoldSlots}
 use Rattle.store_model.proofs.Spellings.{gate_of_header}
-use Rattle.store_core.specs.Frame.{KeepsContainers}
 
 -- ---- bytes
 

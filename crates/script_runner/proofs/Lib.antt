@@ -31,6 +31,7 @@ pub mod NamedNames
 pub mod NamedSteps
 pub mod NamedTaking
 pub mod NeedsLive
+mod Prelude
 pub mod PushRefused
 pub mod Replied
 pub mod RightRoot

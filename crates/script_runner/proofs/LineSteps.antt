@@ -1,27 +1,11 @@
 -- A line but `reopen` makes steps of the core, or none.
-use Rattle.store_core.proofs.KeepingSegments.{all_on}
-use Rattle.std.proofs.Common.{◌≡◌, ◌≢◌, ◌⊎◌, inl, inr, ℕ, ◌+◌, ◌≤◌, List, [], ◌∷◌, ◌++◌, Option, Some, None, Result, Ok, Err, refl, ap, subst, arith}
-use Rattle.actor_parts.specs.declared.step.Answer.{Answer}
+use Rattle.script_runner.proofs.Prelude.{all_on, ◌≡◌, ◌≢◌, ◌⊎◌, inl, inr, ℕ, ◌+◌, ◌≤◌, List, [], ◌∷◌, ◌++◌, Option, Some, None, Result, Ok, Err, refl, ap, subst, arith, Answer, StepValue, Refusal, Memory, Due, Claim, Seal, Nothing, due_in, open_of, SessionState, pushed_bytes, ReplyValue, CoreStep, commands_in, CoreRun, AreNoGcSteps, IsNoGcStep, CoreState, Event, Asks, Feeds, IsPaused, IsRefusedTurn, TakesTurn, TurnRun, TurnsStopped, IsNoSweep, commands_of_line, ActsOrNot, DoesStep, RefusesPut, RefusesStep, RunnerState, RunsLine}
 use Rattle.actor_parts.specs.declared.step.Answer.TheVariants as answers
 use Rattle.actor_parts.specs.StepValue as asked
-use Rattle.actor_parts.specs.StepValue.{StepValue}
-use Rattle.refusals.specs.declared.refusal.Refusal.{Refusal}
-use Rattle.refusals.specs.declared.refusal.Refusal.TheVariants.{Memory}
-use Rattle.ingest_session.specs.declared.due.Due.{Due}
-use Rattle.ingest_session.specs.declared.due.Due.TheVariants.{Claim, Seal, Nothing}
-use Rattle.ingest_session.specs.Due.{due_in, open_of}
-use Rattle.ingest_session.specs.State.{SessionState}
 use Rattle.script_lines.specs.Grammar as lines
-use Rattle.script_lines.specs.Grammar.{pushed_bytes}
 use Rattle.script_lines.specs.ReplyValue as replies
-use Rattle.script_lines.specs.ReplyValue.{ReplyValue}
-use Rattle.store_core.specs.Core.{CoreStep}
-use Rattle.store_core.specs.Frame.{commands_in, commands_of}
-use Rattle.store_core.specs.Runs.{CoreRun, AreNoGcSteps, IsNoGcStep}
-use Rattle.store_core.specs.State.{CoreState, Event}
-use Rattle.session_turns.specs.Turns.{Asks, Feeds, IsPaused, IsRefusedTurn, TakesTurn, TurnRun, TurnsStopped}
-use Rattle.script_runner.specs.Frame.{IsNoSweep, commands_of_line}
-use Rattle.script_runner.specs.Acts.{Acts, ActsOrNot, DoesStep, RefusesPut, RefusesStep, RunnerState, RunsLine, counted}
+use Rattle.store_core.specs.Frame.{commands_of}
+use Rattle.script_runner.specs.Acts.{Acts, counted}
 
 -- steps of a core, one after the other, none of a collection, of which so many at most give a name a root or take it away
 abbrev pub MakesSteps : (C : Type 0) → (C → CoreState) → ℕ → C → C → Type 0

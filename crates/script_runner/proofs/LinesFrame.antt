@@ -1,36 +1,23 @@
 -- Lines one after the other keep what was written before them.
-use Rattle.store_core.proofs.KeepingSegments.{all_on}
-use Rattle.std.proofs.Common.{◌≡◌, ◌≢◌, inl, inr, ℕ, ◌+◌, ◌≤◌, true, List, [], ◌∷◌, ◌++◌, Some, refl, sym, ◌∙◌, subst, arith}
-use Rattle.disk_format.specs.Layout.{half_cells}
-use Rattle.base_model.specs.Known.{KnownWith}
+use Rattle.script_runner.proofs.Prelude.{all_on, ◌≡◌, ◌≢◌, inl, inr, ℕ, ◌+◌, ◌≤◌, true, List, [], ◌∷◌, ◌++◌, Some, refl, sym, ◌∙◌, subst, arith, half_cells, KnownWith, Shows, CrashLeaves, DiskView, OnlyReads, leaves_on, leaves_weaker, reads_here, reads_leave, IsShort, Refusal, LineValue, ReplyValue, Store, Encodes, KeepsContainers, commands_in, IsReadFrom, OpensCore, CoreRun, AreNoGcSteps, IsNoGcStep, CoreState, Event, Replied, ends, ActsReopen, RefusesReopen, RunnerState, RunsLine, IsNoSweep, commands_of_line, RunsLines}
 use Rattle.dd_disk.specs.Ending.{Done, Reads}
-use Rattle.dd_disk.specs.Shows.{Shows}
-use Rattle.dd_disk.specs.View.{CrashLeaves, DiskView, IsDurable, OnlyReads}
-use Rattle.dd_disk.proofs.Later.{leaves_on, leaves_weaker, reads_here, reads_leave}
+use Rattle.dd_disk.specs.View.{IsDurable}
 use Rattle.dd_disk.proofs.Shows.{shown_content}
 use Rattle.actor_parts.specs.StepValue as asked
-use Rattle.recovery.specs.Room.{IsShort}
-use Rattle.refusals.specs.declared.refusal.Refusal.{Refusal}
 use Rattle.script_lines.specs.Grammar as lines
-use Rattle.script_lines.specs.Grammar.{LineValue}
 use Rattle.script_lines.specs.ReplyValue as replies
-use Rattle.script_lines.specs.ReplyValue.{ReplyValue}
-use Rattle.store_model.specs.Image.{Store, Encodes, IsValidFor}
+use Rattle.store_model.specs.Image.{IsValidFor}
 use Rattle.store_model.specs.Slots.{free_slots}
 use Rattle.store_model.specs.Steps.{HasCellsFor}
 use Rattle.disk_format.specs.declared.numbers.TheConstants.{RESERVE}
-use Rattle.store_core.specs.Frame.{HadContainer, HasReserveIn, IsOn, KeepsBytes, KeepsContainers, commands_in}
-use Rattle.store_core.specs.Opening.{IsNew, IsReadFrom, OpensCore}
-use Rattle.store_core.specs.Runs.{CoreRun, AreNoGcSteps, IsNoGcStep}
-use Rattle.store_core.specs.State.{CoreState, Event}
+use Rattle.store_core.specs.Frame.{HadContainer, HasReserveIn, IsOn, KeepsBytes}
+use Rattle.store_core.specs.Opening.{IsNew}
 use Rattle.store_core.proofs.CoreRuns.{run_later}
 use Rattle.store_core.proofs.Frames.{written_stays}
 use Rattle.store_core.proofs.Reserves.{reserve_stays}
 use Rattle.store_core.proofs.Opened.{durable_settled}
-use Rattle.store_machine.specs.Commands.{Replied, ends}
-use Rattle.script_runner.specs.Acts.{ActsReopen, RefusesReopen, RunnerState, RunsLine, counted}
-use Rattle.script_runner.specs.Frame.{IsOnContent, LinesKeepWritten, IsNoSweep, NeedNoCheckpoint, NeverReopens, NeverSweeps, OpenedIsOn, commands_among, commands_of_line}
-use Rattle.script_runner.specs.Scripts.{RunsLines}
+use Rattle.script_runner.specs.Acts.{counted}
+use Rattle.script_runner.specs.Frame.{IsOnContent, LinesKeepWritten, NeedNoCheckpoint, NeverReopens, NeverSweeps, OpenedIsOn, commands_among}
 use Rattle.script_runner.proofs.LaterStores.{keeps_on}
 use Rattle.script_runner.proofs.LineSteps.{MakesSteps, commands-append, does, line_steps, run_on}
 

@@ -1,9 +1,6 @@
 -- Lists with an item for each actor: one is set, and then looked up.
-use Rattle.std.proofs.Common.{◌≡◌, ◌≢◌, ◌<◌, ◌≤◌, inl, inr, ◌∙◌, ℕ, List, length, slice_index_or, slice_set, replicate, refl, sym}
-use Rattle.std.proofs.lemmas.Bool.{cases_lt}
-use Rattle.std.proofs.lemmas.List.{get_or-set_same, get_or-set_other, get_or_past, length-set, set-get_or}
-use Rattle.std.proofs.lemmas.List.{get_or-replicate}
-use Rattle.actor_parts.specs.declared.actor.TheConstants.{ACTORS}
+use Rattle.script_runner.proofs.Prelude.{◌≡◌, ◌≢◌, ◌<◌, ◌≤◌, inl, inr, ◌∙◌, ℕ, List, length, slice_set, replicate, refl, sym, cases_lt, get_or-set_same, get_or-set_other, get_or_past, length-set, set-get_or, get_or-replicate, ACTORS}
+use Rattle.std.proofs.Common.{slice_index_or}
 use Rattle.actor_parts.specs.declared.part.Part.TheVariants as core_parts
 use Rattle.actor_parts.specs.Parts.{part_of}
 

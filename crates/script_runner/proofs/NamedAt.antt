@@ -1,31 +1,19 @@
 -- What a runner has of what lines and their replies tell (specs/Named.antt).
-use Rattle.std.proofs.Common.{◌≡◌, ◌≢◌, inl, inr, ◌∙◌, ◌<◌, ℕ, Bool, true, false, List, length, replicate, slice_index_or, Option, Some, None, refl, sym, ap, subst, arith}
+use Rattle.script_runner.proofs.Prelude.{◌≡◌, ◌≢◌, inl, inr, ◌∙◌, ◌<◌, ℕ, Bool, true, false, List, length, replicate, Option, Some, None, refl, sym, ap, subst, arith, get_or-replicate, length-replicate, Top, ACTORS, apart, PartKind, Refusal, History, HasHistory, SessionState, LineValue, ReplyValue, Store, reading, CoreState, IsRunning, takes, RunnerState, Account, AreNamed, Doing, IsGiving, doing_of, opened, with_doing, Sessions, has_ended, kind_by, with_session}
+use Rattle.std.proofs.Common.{slice_index_or}
 use Rattle.std.proofs.lemmas.Bool.{cases_eq}
-use Rattle.std.proofs.lemmas.List.{get_or-replicate, length-replicate}
-use Rattle.merkle_file.specs.declared.top.Top.{Top}
-use Rattle.actor_parts.specs.declared.actor.TheConstants.{ACTORS}
 use Rattle.actor_parts.specs.declared.part.Part.TheVariants as core_parts
 use Rattle.actor_parts.specs.declared.part.Part as core_part
 use Rattle.actor_parts.specs.Kinds as core_kinds
 use Rattle.actor_parts.specs.Parts.{part_of, with_part}
-use Rattle.actor_parts.proofs.Apart.{apart}
-use Rattle.refusals.specs.declared.refusal.PartKind.{PartKind}
 use Rattle.refusals.specs.declared.refusal.PartKind.TheVariants as kinds
-use Rattle.refusals.specs.declared.refusal.Refusal.{Refusal}
 use Rattle.refusals.specs.declared.refusal.Refusal.TheVariants as refusals
-use Rattle.ingest_session.specs.History.{History, HasHistory}
-use Rattle.ingest_session.specs.State.{SessionState}
-use Rattle.script_lines.specs.Grammar.{LineValue}
 use Rattle.script_lines.specs.Grammar as lines
 use Rattle.script_lines.specs.ReplyValue as replies
-use Rattle.script_lines.specs.ReplyValue.{ReplyValue}
-use Rattle.store_model.specs.Image.{Store}
-use Rattle.read_steps.specs.Readers.{reading}
-use Rattle.store_core.specs.State.{CoreState, IsRunning}
-use Rattle.store_machine.specs.Lines.{actor_of, takes}
-use Rattle.script_runner.specs.Acts.{Admits, RunnerState}
-use Rattle.script_runner.specs.Named.{Account, AreNamed, Doing, Idle, Writing, Finished, Reading, IsAtRightPart, IsGiving, Refuses, RefusesOn, TellsRunning, doing_of, kind_of, opened, with_doing}
-use Rattle.script_runner.specs.Sessions.{Sessions, has_ended, kind_by, session_of, with_session}
+use Rattle.store_machine.specs.Lines.{actor_of}
+use Rattle.script_runner.specs.Acts.{Admits}
+use Rattle.script_runner.specs.Named.{Idle, Writing, Finished, Reading, IsAtRightPart, Refuses, RefusesOn, TellsRunning, kind_of}
+use Rattle.script_runner.specs.Sessions.{session_of}
 use Rattle.script_runner.proofs.Lists.{idle_part}
 use Rattle.script_runner.proofs.Lists.{OneSet, none_set, one_set, set_here}
 use Rattle.script_runner.proofs.NamedSteps.{Gives, IsTold, IsWriting, Keeps, Quiet, Stands, quiet_here}

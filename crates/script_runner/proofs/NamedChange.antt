@@ -1,23 +1,17 @@
 -- What the change of a name makes of the tables, as the account has it.
-use Rattle.std.proofs.Common.{◌≡◌, inl, inr, ◌∙◌, ◌<◌, ◌≤◌, ◌+◌, ◌-◌, ◌^◌, min, Bool, true, false, ℕ, suc, List, [], ◌∷◌, ◌++◌, length, if◌then◌else◌, Ok, sym, ap, subst, arith, length-append, None}
-use Rattle.std.specs.Prelude.{nat_lt}
+use Rattle.script_runner.proofs.Prelude.{◌≡◌, inl, inr, ◌∙◌, ◌<◌, ◌≤◌, ◌+◌, ◌-◌, ◌^◌, min, Bool, true, false, ℕ, suc, List, [], ◌∷◌, ◌++◌, length, if◌then◌else◌, Ok, sym, ap, subst, arith, length-append, None, nat_lt, half_cells, Answer, NameMap, Store, names_of, Tables, NamesOne, CoreState, IsUp, Account, IsNumber}
 use Rattle.std.proofs.lemmas.Bool.{le-ltb, lt-ltb}
 use Rattle.std.specs.FinMap as finite
 use Rattle.disk_format.specs.Cells.{Change}
-use Rattle.disk_format.specs.Layout.{half_cells}
-use Rattle.actor_parts.specs.declared.step.Answer.{Answer}
-use Rattle.namespace.specs.Names.{NameMap, names_changed}
+use Rattle.namespace.specs.Names.{names_changed}
 use Rattle.namespace.proofs.Puts.{length-puts}
-use Rattle.store_model.specs.Image.{Store, last_sequence, names_of}
+use Rattle.store_model.specs.Image.{last_sequence}
 use Rattle.store_model.specs.Steps.{CanChangeName, record_of, with_cell, with_change}
 use Rattle.store_model.proofs.Cells.{with_cell_is}
 use Rattle.store_model.proofs.NameChanges.{last_changed, names_after_change}
-use Rattle.store_state.specs.declared.tables.Tables.{Tables}
 use Rattle.store_state.specs.Tables.{RepresentsNames, Runs}
 use Rattle.ingest_steps.specs.Naming as naming
-use Rattle.store_core.specs.Core.{NamesOne}
-use Rattle.store_core.specs.State.{CoreState, IsUp}
-use Rattle.script_runner.specs.Named.{Account, HasNumbers, IsNumber, LacksNumbers, with_record}
+use Rattle.script_runner.specs.Named.{HasNumbers, LacksNumbers, with_record}
 
 -- ---- numbers
 

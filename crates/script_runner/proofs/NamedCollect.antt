@@ -1,46 +1,22 @@
 -- Lines of a collection leave what is named, on any disk.
-use Rattle.std.proofs.Common.{◌≡◌, inl, inr, ℕ, List, [], ◌∷◌, length, false, Option, Some, None, Result, Ok, Err, refl, sym, ◌∙◌, ap, subst, arith}
+use Rattle.script_runner.proofs.Prelude.{◌≡◌, inl, inr, ℕ, List, [], ◌∷◌, length, false, Option, Some, None, Result, Ok, Err, refl, sym, ◌∙◌, ap, subst, arith, Answer, DiskView, ScanFault, IsHeaderRefusal, step_refusal, IsStepRefusal, Moment, TablesAfter, Collection, Stage, Mark, Filter, Select, Next, Copy, Flush, Release, End, IsFlushStepRefusal, PlaceMap, Phase, Refusal, ReplyValue, Tables, SlotTable, GcRow, StartRow, at_moment, CoreStep, Steps, CoreState, Event, IsRunning, running_step, CollectionRun, Collects, RunnerState, Sweeps, Account, stops, ◌≡◌, inl, inr, ℕ, List, [], ◌∷◌, false, Option, Some, None, Result, Ok, Err, refl, sym, ◌∙◌, ap, subst, arith, TablesAfter, GcRow, at_moment, CoreStep, Steps, CoreState}
 use Rattle.actor_parts.specs.declared.part.Part as core_part
-use Rattle.actor_parts.specs.declared.step.Answer.{Answer}
 use Rattle.actor_parts.specs.declared.step.Answer.TheVariants as answers
 use Rattle.actor_parts.specs.Parts.{part_of}
 use Rattle.actor_parts.specs.StepValue as asked
-use Rattle.dd_disk.specs.View.{DiskView}
-use Rattle.gc_enumerate.specs.declared.fault.ScanFault.{ScanFault}
 use Rattle.gc_enumerate.specs.declared.fault.ScanFault.TheVariants as faults
-use Rattle.copy_forward.specs.Headers.{IsHeaderRefusal}
-use Rattle.gc_steps.specs.Scanning.{step_refusal}
-use Rattle.gc_steps.specs.Stepping.{IsStepRefusal, Moment, TablesAfter}
-use Rattle.gc_steps.specs.declared.collection.Collection.{Collection}
-use Rattle.gc_steps.specs.declared.collection.Stage.{Stage}
-use Rattle.gc_steps.specs.declared.collection.Stage.TheVariants.{Mark, Filter, Select, Sweep}
-use Rattle.gc_sweep.specs.declared.sweep.Next.{Next}
-use Rattle.gc_sweep.specs.declared.sweep.Next.TheVariants.{Copy, Flush, Release, End}
-use Rattle.gc_sweep.specs.Flushing.{IsFlushStepRefusal}
-use Rattle.container_meta.specs.Places.{PlaceMap}
-use Rattle.refusals.specs.declared.refusal.Phase.{Phase}
-use Rattle.refusals.specs.declared.refusal.Refusal.{Refusal}
+use Rattle.gc_steps.specs.declared.collection.Stage.TheVariants.{Sweep}
 use Rattle.refusals.specs.declared.refusal.Refusal.TheVariants as refusals
 use Rattle.script_lines.specs.Grammar as lines
 use Rattle.script_lines.specs.ReplyValue as replies
-use Rattle.script_lines.specs.ReplyValue.{ReplyValue}
-use Rattle.store_state.specs.declared.tables.Tables.{Tables}
-use Rattle.store_state.specs.declared.slot_table.SlotTable.{SlotTable}
-use Rattle.store_core.specs.Collecting.{GcRow, StartRow, at_moment}
-use Rattle.store_core.specs.Core.{CoreStep, Steps, StopsAfter}
-use Rattle.store_core.specs.State.{CoreState, Event, IsRunning}
-use Rattle.store_core.proofs.CoreRuns.{running_step}
+use Rattle.store_core.specs.Core.{StopsAfter}
 use Rattle.store_core.proofs.RunningOn.{step_runs}
-use Rattle.script_runner.specs.Acts.{Acts, Admits, CollectionRun, Collects, RunnerState, Starts, Sweeps}
-use Rattle.script_runner.specs.Named.{Account, IsOfCollection, IsOfStart, stops}
+use Rattle.script_runner.specs.Acts.{Acts, Admits, Starts}
+use Rattle.script_runner.specs.Named.{IsOfCollection, IsOfStart}
 use Rattle.script_runner.proofs.CopyRefused.{IsCopyCause, copying_cause}
 use Rattle.script_runner.proofs.NamedAt.{At, Told, no_actor, refuses, still, still_runs, told}
 use Rattle.script_runner.proofs.NamedSteps.{IsTold, Quiet, SameNames, Stands, done_stands, quiet_here, quiet_on, quiet_step, refused_stands}
-use Rattle.std.proofs.Common.{◌≡◌, inl, inr, ℕ, List, [], ◌∷◌, false, Option, Some, None, Result, Ok, Err, refl, sym, ◌∙◌, ap, subst, arith}
-use Rattle.gc_steps.specs.Stepping.{TablesAfter}
-use Rattle.store_core.specs.Collecting.{GcRow, at_moment}
-use Rattle.store_core.specs.Core.{CoreStep, Steps, counted}
-use Rattle.store_core.specs.State.{CoreState}
+use Rattle.store_core.specs.Core.{counted}
 
 -- ---- what a collection leaves
 

@@ -1,46 +1,25 @@
 -- What is told by lines of an actor that gives a file, on any disk.
-use Rattle.std.proofs.Common.{◌≡◌, inl, inr, ◌∙◌, ◌<◌, ◌≤◌, ◌+◌, ◌-◌, ◌^◌, min, ℕ, true, false, List, [], ◌∷◌, ◌++◌, length, Option, Some, None, Result, Ok, Err, refl, sym, ap, subst, length-append, arith}
+use Rattle.script_runner.proofs.Prelude.{◌≡◌, inl, inr, ◌∙◌, ◌<◌, ◌≤◌, ◌+◌, ◌-◌, ◌^◌, min, ℕ, true, false, List, [], ◌∷◌, ◌++◌, length, Option, Some, None, Result, Ok, Err, refl, sym, ap, subst, length-append, arith, Root, MOST_FILE, ACTORS, Answer, apart, StepValue, NameMap, Refusal, History, HasHistory, no_history, SessionState, all_is_kept, bytes_are_counted, LineValue, pushed_bytes, ReplyValue, root_of, BeginRow, CommitRow, NamesOne, Steps, StepsOr, IsNoGcStep, CoreState, Event, IsRunning, IsUp, running_step, length_on, other_part, up_of, row_one, one_more, takes, DoesStep, IsReady, RefusesPut, RunnerState, Account, Doing, IsGiving, IsNumber, IsOfTurn, doing_of, stops, with_doing, with_session, Feeds, TakesTurn, TurnRun}
 use Rattle.std.specs.FinMap as finite
-use Rattle.disk_format.specs.Cells.{Root}
 use Rattle.disk_format.specs.Cells.Change.{Put}
-use Rattle.disk_format.specs.declared.numbers.TheConstants.{MOST_FILE}
-use Rattle.actor_parts.specs.declared.actor.TheConstants.{ACTORS}
 use Rattle.actor_parts.specs.declared.part.Part.TheVariants as core_parts
 use Rattle.actor_parts.specs.declared.part.Part as core_part
-use Rattle.actor_parts.specs.declared.step.Answer.{Answer}
 use Rattle.actor_parts.specs.declared.step.Answer.TheVariants as answers
 use Rattle.actor_parts.specs.Kinds as core_kinds
 use Rattle.actor_parts.specs.Parts.{part_of, with_part}
 use Rattle.actor_parts.specs.StepValue as asked
-use Rattle.actor_parts.proofs.Apart.{apart}
-use Rattle.actor_parts.specs.StepValue.{StepValue}
-use Rattle.namespace.specs.Names.{HasRoom, IsFull, NameMap}
+use Rattle.namespace.specs.Names.{HasRoom, IsFull}
 use Rattle.refusals.specs.declared.refusal.PartKind.TheVariants as kinds
-use Rattle.refusals.specs.declared.refusal.Refusal.{Refusal}
 use Rattle.refusals.specs.declared.refusal.Refusal.TheVariants as refusals
-use Rattle.ingest_session.specs.History.{History, HasHistory, no_history}
-use Rattle.ingest_session.specs.State.{SessionState}
-use Rattle.ingest_session.proofs.Ends.{all_is_kept, bytes_are_counted}
 use Rattle.ingest_steps.specs.Writers.{IsCommitRefusal}
-use Rattle.script_lines.specs.Grammar.{LineValue, pushed_bytes}
 use Rattle.script_lines.specs.Grammar as lines
 use Rattle.script_lines.specs.ReplyValue as replies
-use Rattle.script_lines.specs.ReplyValue.{ReplyValue}
-use Rattle.store_model.specs.Trees.{root_of}
-use Rattle.store_core.specs.Core.{BeginRow, CommitRow, NamesOne, Steps, StepsOr, counted}
-use Rattle.store_core.specs.Runs.{IsNoGcStep}
-use Rattle.store_core.specs.State.{CoreState, Event, IsRunning, IsUp}
-use Rattle.store_core.proofs.CoreRuns.{running_step}
-use Rattle.store_core.proofs.GivingFiles.{length_on, other_part}
-use Rattle.store_core.proofs.Making.{up_of}
+use Rattle.store_core.specs.Core.{counted}
 use Rattle.store_core.proofs.RunningOn.{step_runs}
-use Rattle.store_core.proofs.Stepping.{ChangesOne, row_one}
-use Rattle.store_machine.specs.Machine.{one_more}
-use Rattle.store_machine.specs.Lines.{takes}
-use Rattle.script_runner.specs.Acts.{Acts, Admits, DoesStep, IsReady, RefusesPut, RunnerState}
-use Rattle.script_runner.specs.Named.{Account, Doing, Idle, Writing, Finished, IsGiving, IsNumber, IsOfTurn, MayName, RefusesOn, doing_of, kind_of, stops, with_doing, with_name}
-use Rattle.script_runner.specs.Sessions.{session_of, with_session}
-use Rattle.session_turns.specs.Turns.{Feeds, TakesTurn, TurnRun}
+use Rattle.store_core.proofs.Stepping.{ChangesOne}
+use Rattle.script_runner.specs.Acts.{Acts, Admits}
+use Rattle.script_runner.specs.Named.{Idle, Writing, Finished, MayName, RefusesOn, kind_of, with_name}
+use Rattle.script_runner.specs.Sessions.{session_of}
 use Rattle.session_turns.proofs.TurnRuns.{no_turns}
 use Rattle.script_runner.proofs.PushRefused.{why_long}
 use Rattle.script_runner.proofs.Lists.{one_set}

@@ -1,36 +1,20 @@
 -- Lines over a core that was opened give what is named, on any disk.
-use Rattle.std.proofs.Common.{◌≡◌, ◌⊎◌, inl, inr, ◌∙◌, ◌≤◌, ℕ, Bool, true, false, List, [], ◌∷◌, Option, Some, None, Ok, refl, sym, ap, subst}
+use Rattle.script_runner.proofs.Prelude.{◌≡◌, ◌⊎◌, inl, inr, ◌∙◌, ◌≤◌, ℕ, Bool, true, false, List, [], ◌∷◌, Option, Some, None, Ok, refl, sym, ap, subst, AllByRecursion, Shows, DiskView, IsLater, later_here, later_on, NameMap, Refusal, LineValue, ReplyValue, Store, Encodes, names_of, Tables, IsShort, Stop, IsReadFrom, OpensCore, OpensNone, CoreState, Event, IsRunning, IsUp, UnlessStopped, running_step, up_of, new_runs, Replied, ActsOrNot, ActsReopen, BarsBy, IsOfActor, RefusesReopen, RunnerState, RunsLine, Account, doing_of, opened, stops, AreOfActors, RunsLines, Sessions, kind_in}
 use Rattle.std.specs.FinMap as finite
-use Rattle.std.specs.List.{AllByRecursion}
-use Rattle.dd_disk.specs.Shows.{Shows}
-use Rattle.dd_disk.specs.View.{DiskView, IsLater}
-use Rattle.dd_disk.proofs.Later.{later_here, later_on}
 use Rattle.dd_disk.proofs.Shows.{until}
 use Rattle.actor_parts.specs.Parts.{part_of}
 use Rattle.actor_parts.specs.StepValue as asked
-use Rattle.namespace.specs.Names.{NameMap}
-use Rattle.refusals.specs.declared.refusal.Refusal.{Refusal}
 use Rattle.refusals.specs.declared.refusal.Refusal.TheVariants as refusals
-use Rattle.script_lines.specs.Grammar.{LineValue}
 use Rattle.script_lines.specs.Grammar as lines
 use Rattle.script_lines.specs.ReplyValue as replies
-use Rattle.script_lines.specs.ReplyValue.{ReplyValue}
-use Rattle.store_model.specs.Image.{Store, Encodes, names_of}
-use Rattle.store_state.specs.declared.tables.Tables.{Tables}
 use Rattle.recovery.specs.Opening.{IsOpenRefusal}
-use Rattle.recovery.specs.Room.{IsRoomRefusal, IsShort}
-use Rattle.store_core.specs.declared.stop.Stop.{Stop}
-use Rattle.store_core.specs.Opening.{IsKept, IsReadFrom, OpensCore, OpensNone, StopsUnopened}
-use Rattle.store_core.specs.State.{CoreState, Event, IsRunning, IsUp, UnlessStopped}
-use Rattle.store_core.proofs.CoreRuns.{running_step}
-use Rattle.store_core.proofs.Making.{up_of}
-use Rattle.store_core.proofs.Opened.{kept_runs, new_runs}
-use Rattle.store_machine.specs.Commands.{Replied}
-use Rattle.script_runner.specs.Acts.{Acts, ActsOrNot, ActsReopen, Admits, BarsBy, IsOfActor, RefusesReopen, Reopens, RunnerState, RunsLine, counted}
+use Rattle.recovery.specs.Room.{IsRoomRefusal}
+use Rattle.store_core.specs.Opening.{IsKept, StopsUnopened}
+use Rattle.store_core.proofs.Opened.{kept_runs}
+use Rattle.script_runner.specs.Acts.{Acts, Admits, Reopens, counted}
 use Rattle.script_runner.specs.AnyDisk.{LinesGiveWhatIsNamed}
-use Rattle.script_runner.specs.Named.{Account, AllTell, IsOfReopen, Refuses, Tells, TellsBy, WasShown, doing_of, kind_of, opened, stops}
-use Rattle.script_runner.specs.Scripts.{AreOfActors, RunsLines}
-use Rattle.script_runner.specs.Sessions.{Sessions, kind_in, session_of}
+use Rattle.script_runner.specs.Named.{AllTell, IsOfReopen, Refuses, Tells, TellsBy, WasShown, kind_of}
+use Rattle.script_runner.specs.Sessions.{session_of}
 use Rattle.script_runner.proofs.FaultsCounted.{line_went}
 use Rattle.script_runner.proofs.NamedAt.{At, Told, at_opened, at_still, going, part_kind}
 use Rattle.script_runner.proofs.NamedCollect.{gc_told, step_told, sweep_told}

@@ -1,30 +1,20 @@
 -- What is told by lines that delete a name and that list the names, on any disk.
-use Rattle.std.proofs.Common.{◌≡◌, inl, inr, ◌∙◌, ◌<◌, ◌+◌, ◌-◌, ◌^◌, min, ℕ, false, List, IsSome, None, Result, Ok, Err, refl, ap, subst, arith}
+use Rattle.script_runner.proofs.Prelude.{◌≡◌, inl, inr, ◌∙◌, ◌<◌, ◌+◌, ◌-◌, ◌^◌, min, ℕ, false, List, None, Result, Ok, Err, refl, ap, subst, arith, ACTORS, Answer, StepValue, NameMap, Refusal, ReplyValue, CoreStep, NamesOne, Steps, CoreState, Event, running_step, up_of, one_more, DoesStep, RunnerState, Account, stops}
+use Rattle.std.proofs.Common.{IsSome}
 use Rattle.std.specs.FinMap as finite
 use Rattle.disk_format.specs.Cells.Change.{Delete}
-use Rattle.actor_parts.specs.declared.actor.TheConstants.{ACTORS}
 use Rattle.actor_parts.specs.declared.part.Part as core_part
-use Rattle.actor_parts.specs.declared.step.Answer.{Answer}
 use Rattle.actor_parts.specs.declared.step.Answer.TheVariants as answers
 use Rattle.actor_parts.specs.Parts.{part_of}
 use Rattle.actor_parts.specs.StepValue as asked
-use Rattle.actor_parts.specs.StepValue.{StepValue}
 use Rattle.ingest_steps.specs.Naming as naming
 use Rattle.namespace.specs.Listing.{NamedRoot, listing_of}
-use Rattle.namespace.specs.Names.{NameMap}
-use Rattle.refusals.specs.declared.refusal.Refusal.{Refusal}
 use Rattle.refusals.specs.declared.refusal.Refusal.TheVariants as refusals
 use Rattle.script_lines.specs.Grammar as lines
 use Rattle.script_lines.specs.ReplyValue as replies
-use Rattle.script_lines.specs.ReplyValue.{ReplyValue}
-use Rattle.store_core.specs.Core.{CoreStep, NamesOne, Steps}
-use Rattle.store_core.specs.State.{CoreState, Event}
-use Rattle.store_core.proofs.CoreRuns.{running_step}
-use Rattle.store_core.proofs.Making.{up_of}
 use Rattle.store_core.proofs.RunningOn.{step_runs}
-use Rattle.store_machine.specs.Machine.{one_more}
-use Rattle.script_runner.specs.Acts.{Acts, Admits, DoesStep, Lists, RefusesDelete, RunnerState}
-use Rattle.script_runner.specs.Named.{Account, MayDelete, RefusesOn, stops, without_name}
+use Rattle.script_runner.specs.Acts.{Acts, Admits, Lists, RefusesDelete}
+use Rattle.script_runner.specs.Named.{MayDelete, RefusesOn, without_name}
 use Rattle.script_runner.proofs.NamedAt.{At, Told, at_still, no_actor, no_memory, refuses, still, still_runs, told}
 use Rattle.script_runner.proofs.NamedChange.{generation_now, last_now, names_now, no_numbers_so, number_so, numbers_so, records_now}
 use Rattle.script_runner.proofs.NamedSteps.{done_stands, quiet_step, refused_stands}

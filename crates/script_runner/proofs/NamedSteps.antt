@@ -1,48 +1,19 @@
 -- What steps leave as it is, on any disk: the names, what other actors are at, and what a session was given.
-use Rattle.std.proofs.Common.{◌≡◌, ◌≢◌, ◌⊎◌, inl, inr, ◌∙◌, ◌<◌, ℕ, Bool, true, false, List, [], ◌∷◌, ◌++◌, length, Option, Some, None, Result, Ok, Err, refl, sym, ap, subst}
-use Rattle.container_meta.specs.Places.{PlaceMap}
-use Rattle.container_meta.specs.Segments.{Contents, KindSegment}
+use Rattle.script_runner.proofs.Prelude.{◌≡◌, ◌≢◌, ◌⊎◌, inl, inr, ◌∙◌, ◌<◌, ℕ, Bool, true, false, List, [], ◌∷◌, ◌++◌, length, Option, Some, None, Result, Ok, Err, refl, sym, ap, subst, PlaceMap, Contents, KindSegment, Answer, PinMap, StepValue, apart, Refusal, Tables, Due, Claim, Seal, Nothing, due_in, open_of, History, HasHistory, SessionState, Stop, CoreStep, Effect, IsCount, Row, Steps, StepsOr, IsNoGcStep, CoreState, Event, IsRunning, IsUp, running_step, length_on, other_part, up_of, row_one, Asks, IsPaused, IsRefusedTurn, TurnRun, TurnsStopped, turns_stay, IsOfTurn, stops, ◌≡◌, ◌≢◌, ◌⊎◌, inl, inr, ◌∙◌, ◌<◌, ℕ, List, Some, None, refl, sym, ap, subst, KindSegment, PartKind, CoreState, Claim, Seal, History}
 use Rattle.actor_parts.specs.declared.part.Part.{Part}
 use Rattle.actor_parts.specs.declared.part.Part.TheVariants as core_parts
-use Rattle.actor_parts.specs.declared.step.Answer.{Answer}
 use Rattle.actor_parts.specs.declared.step.Answer.TheVariants as answers
 use Rattle.actor_parts.specs.Kinds as core_kinds
 use Rattle.actor_parts.specs.Parts.{part_of, with_part}
-use Rattle.actor_parts.specs.PinMap.{PinMap}
 use Rattle.actor_parts.specs.StepValue as asked
-use Rattle.actor_parts.specs.StepValue.{StepValue}
-use Rattle.actor_parts.proofs.Apart.{apart}
 use Rattle.refusals.specs.declared.refusal.PartKind.TheVariants as kinds
-use Rattle.refusals.specs.declared.refusal.Refusal.{Refusal}
 use Rattle.refusals.specs.declared.refusal.Refusal.TheVariants as refusals
-use Rattle.store_state.specs.declared.tables.Tables.{Tables}
-use Rattle.ingest_session.specs.declared.due.Due.{Due}
-use Rattle.ingest_session.specs.declared.due.Due.TheVariants.{Claim, Seal, Nothing}
-use Rattle.ingest_session.specs.Due.{due_in, open_of}
-use Rattle.ingest_session.specs.History.{History, HasHistory}
-use Rattle.ingest_session.specs.State.{SessionState}
-use Rattle.store_core.specs.declared.stop.Stop.{Stop}
-use Rattle.store_core.specs.Core.{ClaimRow, CoreStep, Effect, IsCount, IsUnclaimed, IsUnsealed, KeepsUnlessBroken, Row, SealRow, Steps, StepsOr, StopsAfter, counted}
-use Rattle.store_core.specs.Runs.{IsNoGcStep}
-use Rattle.store_core.specs.State.{CoreState, Event, IsRunning, IsUp}
-use Rattle.store_core.proofs.CoreRuns.{running_step}
-use Rattle.store_core.proofs.GivingFiles.{length_on, other_part}
-use Rattle.store_core.proofs.Making.{up_of}
+use Rattle.store_core.specs.Core.{ClaimRow, IsUnclaimed, IsUnsealed, KeepsUnlessBroken, SealRow, StopsAfter, counted}
 use Rattle.store_core.proofs.RunningOn.{seal_kept, step_runs}
-use Rattle.store_core.proofs.Stepping.{row_one}
-use Rattle.session_turns.specs.Turns.{Asks, IsPaused, IsRefusedTurn, TurnRun, TurnsStopped}
-use Rattle.session_turns.proofs.TurnRuns.{turns_stay}
-use Rattle.script_runner.specs.Named.{IsOfTurn, stops}
-use Rattle.std.proofs.Common.{◌≡◌, ◌≢◌, ◌⊎◌, inl, inr, ◌∙◌, ◌<◌, ℕ, List, Some, None, refl, sym, ap, subst}
-use Rattle.container_meta.specs.Segments.{KindSegment}
 use Rattle.actor_parts.specs.declared.part.Part as core_part
 use Rattle.actor_parts.specs.Kinds.{kind_of}
 use Rattle.actor_parts.specs.Parts.{part_of}
-use Rattle.refusals.specs.declared.refusal.PartKind.{PartKind}
 use Rattle.ingest_steps.specs.Writers.{IsWrongPart}
-use Rattle.store_core.specs.State.{CoreState}
-use Rattle.ingest_session.specs.declared.due.Due.TheVariants.{Claim, Seal}
-use Rattle.ingest_session.specs.History.{History}
 
 -- a part is not of another kind than that it has
 pub no_other : (taken : PartKind) (part : core_part.Part) (refusal : Refusal) → kind_of part ≡ taken → IsWrongPart taken part refusal → ⊥

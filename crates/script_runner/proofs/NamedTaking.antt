@@ -1,38 +1,25 @@
 -- What is told by lines of an actor that takes a file, and by counts, on any disk.
-use Rattle.std.proofs.Common.{◌≡◌, ◌∙◌, ◌<◌, ℕ, true, List, [], ◌∷◌, ◌++◌, take, None, Result, Ok, Err, refl, sym, ap, subst, arith}
+use Rattle.script_runner.proofs.Prelude.{◌≡◌, ◌∙◌, ◌<◌, ℕ, true, List, [], ◌∷◌, ◌++◌, take, None, Result, Ok, Err, refl, sym, ap, subst, arith, Root, Top, ACTORS, Answer, StepValue, NameMap, Refusal, reading, ReplyValue, CoreStep, EndRow, IsCount, ReadRow, IsNoGcStep, CoreState, Event, IsUp, running_step, up_of, takes, DoesStep, RunnerState, Account, AreNamed, Doing, doing_of, stops, Sessions}
 use Rattle.std.specs.FinMap as finite
-use Rattle.disk_format.specs.Cells.{IsName, Root}
-use Rattle.merkle_file.specs.declared.top.Top.{Top}
+use Rattle.disk_format.specs.Cells.{IsName}
 use Rattle.merkle_file.specs.Walk.{start_of}
-use Rattle.actor_parts.specs.declared.actor.TheConstants.{ACTORS}
 use Rattle.actor_parts.specs.declared.part.Part.TheVariants as core_parts
 use Rattle.actor_parts.specs.declared.part.Part as core_part
-use Rattle.actor_parts.specs.declared.step.Answer.{Answer}
 use Rattle.actor_parts.specs.declared.step.Answer.TheVariants as answers
 use Rattle.actor_parts.specs.Parts.{part_of, with_part}
 use Rattle.actor_parts.specs.StepValue as asked
-use Rattle.actor_parts.specs.StepValue.{StepValue}
-use Rattle.namespace.specs.Names.{NameMap}
-use Rattle.refusals.specs.declared.refusal.Refusal.{Refusal}
 use Rattle.refusals.specs.declared.refusal.Refusal.TheVariants as refusals
 use Rattle.read_steps.specs.Opening.{HasRoot, top_of}
-use Rattle.read_steps.specs.Readers.{IsOpenRefusal, IsReading, reading}
+use Rattle.read_steps.specs.Readers.{IsOpenRefusal, IsReading}
 use Rattle.read_steps.specs.Walking.{AnyBytes, GivesAll, IsNextRefusal, IsTopRefusal, Walked, WasRead}
 use Rattle.read_steps.proofs.Walks.{all_given, all_walked, reads_are_whole, walked_none}
 use Rattle.script_lines.specs.declared.reply.Holdings.{Holdings}
 use Rattle.script_lines.specs.Grammar as lines
 use Rattle.script_lines.specs.ReplyValue as replies
-use Rattle.script_lines.specs.ReplyValue.{ReplyValue}
-use Rattle.store_core.specs.Core.{CoreStep, EndRow, IsCount, ReadRow}
-use Rattle.store_core.specs.Runs.{IsNoGcStep}
-use Rattle.store_core.specs.State.{CoreState, Event, IsUp}
-use Rattle.store_core.proofs.CoreRuns.{running_step}
 use Rattle.store_core.proofs.OwnParts.{same_reader}
-use Rattle.store_core.proofs.Making.{up_of}
-use Rattle.store_machine.specs.Lines.{takes}
-use Rattle.script_runner.specs.Acts.{Acts, Admits, DoesStep, RunnerState, counted}
-use Rattle.script_runner.specs.Named.{Account, AreNamed, Doing, Idle, IsOfNext, Reading, RefusesOn, doing_of, kind_of, stops}
-use Rattle.script_runner.specs.Sessions.{Sessions, session_of}
+use Rattle.script_runner.specs.Acts.{Acts, Admits, counted}
+use Rattle.script_runner.specs.Named.{Idle, IsOfNext, Reading, RefusesOn, kind_of}
+use Rattle.script_runner.specs.Sessions.{session_of}
 use Rattle.script_runner.proofs.NamedAt.{At, AtPart, Told, changes, own_at, part_now, refuses, right_part, same_sessions, stays, still, still_runs, taken, told}
 use Rattle.script_runner.proofs.NamedSteps.{MeetsNone, Quiet, Stands, done_stands, quiet_step, refused_stands}
 

@@ -1,13 +1,8 @@
 -- Why a push of a file that goes on is refused.
-use Rattle.std.proofs.Common.{◌≡◌, ◌∙◌, ◌<◌, ◌+◌, ℕ, Bool, true, false, if◌then◌else◌, Some, None, Err, refl, sym, ap}
-use Rattle.std.specs.Prelude.{nat_lt}
+use Rattle.script_runner.proofs.Prelude.{◌≡◌, ◌∙◌, ◌<◌, ◌+◌, ℕ, Bool, true, false, if◌then◌else◌, Some, None, Err, refl, sym, ap, nat_lt, MOST_FILE, Refusal, IsPushAnswer, SessionState}
 use Rattle.std.proofs.lemmas.Bool.{ltb-true}
-use Rattle.disk_format.specs.declared.numbers.TheConstants.{MOST_FILE}
 use Rattle.refusals.specs.declared.refusal.PartKind.TheVariants as kinds
-use Rattle.refusals.specs.declared.refusal.Refusal.{Refusal}
 use Rattle.refusals.specs.declared.refusal.Refusal.TheVariants as refusals
-use Rattle.ingest_session.specs.Calls.{IsPushAnswer}
-use Rattle.ingest_session.specs.State.{SessionState}
 
 -- of a file that goes on a push is refused where it would be too long
 pub why_long : (s : SessionState) (n : ℕ) (refusal : Refusal) (ended : Bool) → s.ended ≡ false → s.ended ≡ ended → IsPushAnswer s n (Err refusal) →

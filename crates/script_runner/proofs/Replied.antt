@@ -1,14 +1,9 @@
 -- A line but `reopen` is taken or not, and replied to.
-use Rattle.std.proofs.Common.{◌≡◌, ◌≢◌, inl, inr, ℕ, List, Result, Ok, Err, IfOk, refl}
-use Rattle.refusals.specs.declared.refusal.Refusal.{Refusal}
-use Rattle.script_lines.specs.Grammar.{LineValue}
+use Rattle.script_runner.proofs.Prelude.{◌≡◌, ◌≢◌, inl, inr, ℕ, List, Result, Ok, Err, IfOk, refl, Refusal, LineValue, reply_line, ReplyValue, CoreState, ActsOrNot, RunnerState, RunsLine, ActsWith, IsAcknowledged, Prints}
 use Rattle.script_lines.specs.Grammar as lines
-use Rattle.script_lines.specs.ReplyText.{reply_line}
-use Rattle.script_lines.specs.ReplyValue.{ReplyValue}
 use Rattle.script_lines.specs.ReplyValue as replies
-use Rattle.store_core.specs.State.{CoreState}
-use Rattle.script_runner.specs.Acts.{Acts, ActsOrNot, Admits, Bars, RunnerState, RunsLine}
-use Rattle.script_runner.specs.Runner.{ActsWith, IsAcknowledged, IsPlain, MakesReply, Prints}
+use Rattle.script_runner.specs.Acts.{Acts, Admits, Bars}
+use Rattle.script_runner.specs.Runner.{IsPlain, MakesReply}
 
 -- what was printed of a reply that acknowledges nothing
 pub printed : {T E : Type 0} (items : T → List ℕ) (result : Result T E) (reply : ReplyValue) → ¬ (IsAcknowledged reply) → IfOk result (λ t. items t ≡ reply_line reply) →

@@ -1,16 +1,12 @@
 -- A store of some files has as many names as there are files.
-use Rattle.std.proofs.Common.{◌≡◌, ℕ, suc, Bool, Ordering, true, false, cond, List, [], ◌∷◌, length, Option, Some, None, option_map, is_some, T, refl, sym, ◌∙◌, ap, subst}
-use Rattle.std.specs.Prelude.{◌&&◌}
+use Rattle.script_runner.proofs.Prelude.{◌≡◌, ℕ, suc, Bool, true, false, cond, List, [], ◌∷◌, length, Option, Some, None, refl, sym, ◌∙◌, ap, subst, ◌&&◌, nat_list_cmp_total, slice_cmp, nat_cmp, eq_by_cmp, HeaderValue, Files, Store, names_of, IsStoreOf}
+use Rattle.std.proofs.Common.{Ordering, option_map, is_some, T}
 use Rattle.std.specs.Cmp.{IsTotalOrder}
-use Rattle.std.specs.Cmp.Lexicographic.{nat_list_cmp_total, slice_cmp}
-use Rattle.std.specs.Ordering.{nat_cmp, is_lt, eq_by_cmp}
+use Rattle.std.specs.Ordering.{is_lt}
 use Rattle.std.specs.FinMap as finite
 use Rattle.std.specs.FinMap.Entries.{find, is_sorted, below_all}
-use Rattle.container_meta.specs.Spelling.{HeaderValue}
 use Rattle.namespace.specs.declared.record.Named.{Named}
-use Rattle.store_model.specs.Files.{Files}
-use Rattle.store_model.specs.Image.{Store, names_of}
-use Rattle.store_model.specs.Standing.{IsFileOf, IsStoreOf}
+use Rattle.store_model.specs.Standing.{IsFileOf}
 
 -- ---- maps of the same keys
 

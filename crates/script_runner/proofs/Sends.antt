@@ -1,14 +1,9 @@
 -- What is sent of a reply.
-use Rattle.std.proofs.Common.{◌≡◌, inl, ℕ, false, List, Result, Ok, Err, refl, subst}
+use Rattle.script_runner.proofs.Prelude.{◌≡◌, inl, ℕ, false, List, Result, Ok, Err, refl, subst, Memory, LineValue, reply_line, ReplyValue, ends, IsAcknowledged}
 use Rattle.dd_io.specs.Flow.{SinkView}
 use Rattle.reply_text.specs.declared.ending.Ending.{Ending}
 use Rattle.reply_text.specs.declared.ending.Ending.TheVariants as endings
-use Rattle.refusals.specs.declared.refusal.Refusal.TheVariants.{Memory}
-use Rattle.script_lines.specs.Grammar.{LineValue}
-use Rattle.script_lines.specs.ReplyText.{reply_line}
-use Rattle.script_lines.specs.ReplyValue.{ReplyValue}
-use Rattle.store_machine.specs.Commands.{ends}
-use Rattle.script_runner.specs.Runner.{IsAcknowledged, SendsReply, Sent, Tells}
+use Rattle.script_runner.specs.Runner.{SendsReply, Sent, Tells}
 
 -- of a line that doesn't end the script
 pub sent_so : (line : LineValue) (reply : ReplyValue) (text : List ℕ) (result : Result (Unit {0}) Ending) (sink sink_now : SinkView) → ends line reply ≡ false →

@@ -1,13 +1,11 @@
 -- Lists of sessions: one is taken, and given back.
-use Rattle.std.proofs.Common.{◌≡◌, ◌∙◌, ℕ, false, Option, Some, None, Err, refl, sym, ap}
-use Rattle.std.proofs.lemmas.List.{set-set, set-get_or}
-use Rattle.refusals.specs.declared.refusal.Refusal.{Refusal}
-use Rattle.refusals.specs.declared.refusal.Refusal.TheVariants.{Memory, WrongPart}
+use Rattle.script_runner.proofs.Prelude.{◌≡◌, ◌∙◌, ℕ, false, Option, Some, None, Err, refl, sym, ap, set-get_or, Refusal, Memory, SessionState, Sessions, with_session}
+use Rattle.std.proofs.lemmas.List.{set-set}
+use Rattle.refusals.specs.declared.refusal.Refusal.TheVariants.{WrongPart}
 use Rattle.refusals.specs.declared.refusal.PartKind.TheVariants.{Finished}
 use Rattle.ingest_session.specs.Calls.{IsFinishAnswer}
-use Rattle.ingest_session.specs.State.{SessionState}
 use Rattle.script_runner.specs.Acts.{Replaces}
-use Rattle.script_runner.specs.Sessions.{Sessions, session_of, with_session}
+use Rattle.script_runner.specs.Sessions.{session_of}
 
 -- a session that is taken and given back as another replaces it
 pub replaced : (actor : ℕ) (s t : SessionState) (sessions left now : Sessions) → Some s ≡ session_of sessions actor → left ≡ with_session sessions actor None

@@ -1,13 +1,6 @@
 -- A segment that is held is so still, where the core only read.
-use Rattle.std.proofs.Common.{◌≡◌, Option, sym, ◌∙◌, subst}
-use Rattle.dd_disk.specs.View.{OnlyReads}
-use Rattle.container_meta.specs.Places.{PlaceMap}
-use Rattle.container_meta.specs.Segments.{KindSegment}
-use Rattle.store_model.specs.Image.{Store}
-use Rattle.store_state.specs.declared.tables.Tables.{Tables}
-use Rattle.store_state.specs.Tables.{Represents}
+use Rattle.script_runner.proofs.Prelude.{◌≡◌, Option, sym, ◌∙◌, subst, OnlyReads, PlaceMap, KindSegment, Store, Tables, Represents, CoreState}
 use Rattle.store_core.specs.Keeping.{IsHeldIn}
-use Rattle.store_core.specs.State.{CoreState}
 
 module _ (old new : CoreState) (reads : OnlyReads old.disk new.disk) (tables_are : new.tables ≡ old.tables) (index_is : new.known ≡ old.known) where
   as_before : (store : Store) → Represents store new.known new.tables → Represents store old.known old.tables

@@ -1,18 +1,13 @@
 -- How many steps a sweep still makes at most.
-use Rattle.std.proofs.Common.{◌≡◌, ◌<◌, ℕ, List, [], ◌∷◌, ◌++◌, length, max, Option, Some, None, Ok, refl, sym, ap, subst, arith}
+use Rattle.script_runner.proofs.Prelude.{◌≡◌, ◌<◌, ℕ, List, [], ◌∷◌, ◌++◌, length, Option, Some, None, Ok, refl, sym, ap, subst, arith, Phase, SlotTable, Collection, CoreState, Event, IsRunning, IsUp, UnlessStopped, Stop, running_step, CollectionRun, Collects}
+use Rattle.std.proofs.Common.{max}
 use Rattle.actor_parts.specs.declared.step.Answer.TheVariants as answers
 use Rattle.actor_parts.specs.StepValue as asked
-use Rattle.refusals.specs.declared.refusal.Phase.{Phase}
-use Rattle.store_state.specs.declared.slot_table.SlotTable.{SlotTable}
-use Rattle.gc_steps.specs.declared.collection.Collection.{Collection}
 use Rattle.gc_steps.specs.FewSources.{HasFewSources}
 use Rattle.gc_steps.specs.StepsToCome.{old_from, steps_to_come}
 use Rattle.gc_steps.proofs.FewSources.{few_step}
 use Rattle.store_core.specs.Collecting.{GoesOn}
-use Rattle.store_core.specs.State.{CoreState, Event, IsRunning, IsUnderWayIn, IsUp, UnlessStopped}
-use Rattle.store_core.specs.declared.stop.Stop.{Stop}
-use Rattle.store_core.proofs.CoreRuns.{running_step}
-use Rattle.script_runner.specs.Acts.{CollectionRun, Collects}
+use Rattle.store_core.specs.State.{IsUnderWayIn}
 
 -- ---- the sources, and the steps that come
 

@@ -1,20 +1,15 @@
 -- A session of which nothing is due is settled, once whose turn it is was found.
-use Rattle.std.proofs.Common.{◌≡◌, ◌∙◌, ℕ, Bool, true, false, if◌then◌else◌, List, [], ◌∷◌, ◌++◌, Option, Some, None, refl, sym, ap, subst}
-use Rattle.std.specs.Prelude.{not, ◌&&◌}
+use Rattle.script_runner.proofs.Prelude.{◌≡◌, ◌∙◌, ℕ, Bool, true, false, if◌then◌else◌, List, [], ◌∷◌, ◌++◌, Option, Some, None, refl, sym, ap, subst, ◌&&◌, Kind, Leaf, Tree, KindSegment, leaf_key, node_key, Due, Claim, Seal, Nothing, due_in, open_of, History, HasHistory, SessionState, turn_node}
+use Rattle.std.specs.Prelude.{not}
 use Rattle.merkle_file.specs.Node as node
-use Rattle.container_meta.specs.declared.kind.Kind.{Kind}
-use Rattle.container_meta.specs.declared.kind.Kind.TheVariants.{Leaf, Tree}
-use Rattle.container_meta.specs.Segments.{KindSegment, has_key}
+use Rattle.container_meta.specs.Segments.{has_key}
 use Rattle.actor_parts.specs.Segments.{child_kind}
-use Rattle.store_model.specs.Trees.{leaf_key, node_key}
-use Rattle.ingest_session.specs.declared.due.Due.{Due}
-use Rattle.ingest_session.specs.declared.due.Due.TheVariants.{Claim, Seal, Nothing}
 use Rattle.ingest_session.specs.Child.{has_child_of}
-use Rattle.ingest_session.specs.Due.{HasTurn, due_in, due_node, item_due, item_is_there, item_kind, open_of, queue_due, queue_is_there, turn_in}
-use Rattle.ingest_session.specs.History.{History, HasHistory, Moved}
+use Rattle.ingest_session.specs.Due.{HasTurn, due_node, item_due, item_is_there, item_kind, queue_due, queue_is_there, turn_in}
+use Rattle.ingest_session.specs.History.{Moved}
 use Rattle.ingest_session.specs.Settling.{Turned}
 use Rattle.ingest_session.specs.Sound.{IsSession}
-use Rattle.ingest_session.specs.State.{SessionState, is_last, rest_after, turn_node}
+use Rattle.ingest_session.specs.State.{is_last, rest_after}
 use Rattle.ingest_session.specs.Told.{IsSettled}
 use Rattle.ingest_session.proofs.Waiting.{on_and_off}
 

@@ -1,15 +1,7 @@
 -- What a crash leaves while turns are made: the files stay as they are.
-use Rattle.std.proofs.Common.{◌≡◌, ◌⊎◌, inl, inr, ◌≤◌, ℕ, List, subst, arith}
+use Rattle.script_runner.proofs.Prelude.{◌≡◌, ◌⊎◌, inl, inr, ◌≤◌, ℕ, List, subst, arith, DiskView, CrashLeaves, leaves_on, leaves_weaker, reads_here, reads_leave, Stored, Store, CoreStep, IsAt, CoreState, Event, step_later}
 use Rattle.store_model.specs.Collisions.{OpensAs}
-use Rattle.dd_disk.specs.View.{DiskView, CrashLeaves}
-use Rattle.dd_disk.proofs.Later.{leaves_on, leaves_weaker, reads_here, reads_leave}
-use Rattle.store_model.specs.Files.{Stored}
-use Rattle.store_model.specs.Image.{Store}
-use Rattle.store_core.specs.Core.{CoreStep}
-use Rattle.store_core.specs.Runs.{IsAt}
-use Rattle.store_core.specs.State.{CoreState, Event}
 use Rattle.store_core.proofs.Crashes.{image_at}
-use Rattle.store_core.proofs.Stepping.{step_later}
 
 -- At its end, and at each moment between, a crash leaves an image of these files, or one that it might have left before.
 pub record KeepsStored (S : List ℕ → Type 0) (stored : Stored) (old new : DiskView) : Type 0 where

@@ -1,21 +1,11 @@
 -- Steps of a run, those of a collection among them.
 use Rattle.actor_parts.specs.StepValue as asked
-use Rattle.actor_parts.specs.declared.step.Answer.{Answer}
-use Rattle.store_core.specs.Runs.{AreChangesBy, AreChangesOf, AreNoGcSteps, FileEvent, FileStep, IsAt, IsNoGcStep, KeepsFiles, changes_by, changes_of, events_of, stored_by}
-use Rattle.store_model.specs.Collisions.{ByteSet, HasNoCollisions, IsIn}
-use Rattle.store_core.specs.State.{CoreState}
-use Rattle.store_core.specs.Core.{IndexesAll, Steps}
+use Rattle.store_core.proofs.Prelude.{Answer, AreChangesBy, AreChangesOf, AreNoGcSteps, FileEvent, FileStep, IsAt, IsNoGcStep, changes_by, changes_of, events_of, stored_by, ByteSet, HasNoCollisions, IsIn, CoreState, IndexesAll, Steps, [], List, None, Result, ap, refl, subst, sym, ◌++◌, ◌∙◌, ◌∷◌, ◌≡◌, ◌⊎◌, inl, inr, ℕ, Refusal, StepValue, Store, StoreChange, Stored, Part}
+use Rattle.store_core.specs.Runs.{KeepsFiles}
 use Rattle.store_core.proofs.Leading.{Leads, IsSpared}
-use Rattle.std.proofs.Common.{[], List, None, Result, ap, refl, subst, sym, ◌++◌, ◌∙◌, ◌∷◌, ◌≡◌, ◌⊎◌, inl, inr, ℕ}
-use Rattle.refusals.specs.declared.refusal.Refusal.{Refusal}
-use Rattle.actor_parts.specs.StepValue.{StepValue}
-use Rattle.store_model.specs.Image.{Store}
-use Rattle.store_model.specs.Steps.{StoreChange}
-use Rattle.store_model.specs.Files.{Stored}
 use Rattle.store_core.proofs.KeepingFiles.{chain_on, file_step, run_running, NextOn}
 use Rattle.store_core.proofs.GcSteps.{gc_led}
 use Rattle.store_core.proofs.CoreRuns.{running_step, was_running}
-use Rattle.actor_parts.specs.declared.part.Part.{Part}
 
 -- each step is one of a collection, or it isn't
 pub gc_or_not : (step : StepValue) → (step ≡ asked.GcStep) ⊎ IsNoGcStep step

@@ -1,13 +1,5 @@
 -- What holds of a core that is at a store: its tables show the store, and its disk stands for the files.
-use Rattle.std.proofs.Common.{ℕ, List, Option, Some, refl, subst}
-use Rattle.container_meta.specs.Places.{PlaceMap}
-use Rattle.store_model.specs.Files.{Stored}
-use Rattle.store_model.specs.Image.{Store}
-use Rattle.store_model.specs.Slots.{IsPartialIndexOf}
-use Rattle.store_model.specs.Standing.{IsStoreOf}
-use Rattle.store_state.specs.Tables.{Represents}
-use Rattle.store_core.specs.Runs.{IsAt}
-use Rattle.store_core.specs.State.{CoreState}
+use Rattle.store_core.proofs.Prelude.{ℕ, List, Option, Some, refl, subst, PlaceMap, Stored, Store, IsPartialIndexOf, IsStoreOf, Represents, IsAt, CoreState}
 
 module _ (S : List ℕ → Type 0) (s : Store) (stored : Stored) (c : CoreState) (at : IsAt S s stored c) where
   pub shows_here : Represents s (Some at.index) c.tables

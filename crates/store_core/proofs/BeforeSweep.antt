@@ -1,27 +1,10 @@
 -- What a step of a collection that has not begun to sweep does to a core: it only reads.
-use Rattle.std.proofs.Common.{◌≡◌, ◌⊎◌, inl, inr, ℕ, Option, Some, None, Result, Ok, Err, sym, ◌∙◌, ap, subst}
-use Rattle.actor_parts.specs.declared.step.Answer.{Answer}
+use Rattle.store_core.proofs.Prelude.{◌≡◌, ◌⊎◌, inl, inr, ℕ, Option, Some, None, Result, Ok, Err, sym, ◌∙◌, ap, subst, Answer, StepValue, Ending, ending, DiskView, OnlyReads, SweepValue, Collection, Stage, Filter, Mark, Select, KeepsMarks, Scans, Keeps, Moment, StepsTo, TablesAfter, Touches, Phase, Refusal, blames, Tables, Stop, GcEffect, GcRow, GoesOn, IsNotMade, TouchesBy, at_moment, Effect, KeepsTables, Row, StepsOr, IsNoSweep, CoreState}
 use Rattle.actor_parts.specs.declared.step.Answer.TheVariants as answers
-use Rattle.actor_parts.specs.StepValue.{StepValue}
-use Rattle.dd_disk.specs.Ending.{Ending, ending}
-use Rattle.dd_disk.specs.View.{DiskView, OnlyReads}
 use Rattle.gc_sweep.specs.declared.sweep.Next.{Next}
-use Rattle.gc_sweep.specs.declared.sweep.Sweep.{Sweep as SweepValue}
-use Rattle.gc_steps.specs.declared.collection.Collection.{Collection}
-use Rattle.gc_steps.specs.declared.collection.Stage.{Stage}
-use Rattle.gc_steps.specs.declared.collection.Stage.TheVariants.{Filter, Mark, Select, Sweep}
-use Rattle.gc_steps.specs.Marking.{KeepsMarks, Scans}
-use Rattle.gc_steps.specs.Stepping.{Keeps, Moment, StepsTo, TablesAfter, Touches}
-use Rattle.refusals.specs.declared.refusal.Phase.{Phase}
-use Rattle.refusals.specs.declared.refusal.Refusal.{Refusal}
+use Rattle.gc_steps.specs.declared.collection.Stage.TheVariants.{Sweep}
 use Rattle.refusals.specs.declared.refusal.Refusal.TheVariants as refusals
-use Rattle.store_state.specs.Refused.{blames}
-use Rattle.store_state.specs.declared.tables.Tables.{Tables}
-use Rattle.store_core.specs.declared.stop.Stop.{Stop}
-use Rattle.store_core.specs.Collecting.{GcEffect, GcRow, GoesOn, IsNotMade, TouchesBy, at_moment}
-use Rattle.store_core.specs.Core.{Effect, KeepsTables, Row, StepsOr}
-use Rattle.store_core.specs.Finding.{IsNoSweep, OnlyReadsBeforeSweep}
-use Rattle.store_core.specs.State.{CoreState}
+use Rattle.store_core.specs.Finding.{OnlyReadsBeforeSweep}
 
 pub same_running : (a b : Collection) (o : Option Collection) → o ≡ Some a → o ≡ Some b → a ≡ b
 same_running a b o one two = let both : Some a ≡ Some b = sym one ∙ two in cc

@@ -1,35 +1,16 @@
 -- How many steps a collection takes.
-use Rattle.std.proofs.Common.{◌≡◌, ◌≤◌, ℕ, ◌+◌, ◌*◌, List, [], ◌∷◌, length, Option, Some, None, Result, Ok, Err, Vec, Global, refl, sym, ◌∙◌, ap, subst, arith}
-use Rattle.actor_parts.specs.declared.step.Answer.{Answer}
+use Rattle.store_core.proofs.Prelude.{◌≡◌, ◌≤◌, ℕ, ◌+◌, ◌*◌, List, [], ◌∷◌, length, Option, Some, None, Result, Ok, Err, Vec, Global, refl, sym, ◌∙◌, ap, subst, arith, Answer, StepValue, header_of, LiveKeys, Collection, Stage, Filter, Mark, Select, Flush, Release, End, Did, IsToChoose, Keeps, StepsTo, Nears, steps_to_come, IsUnderWay, Refusal, first_free, IsFirstFree, SlotTable, Tables, Stop, IsNoEnd, NoneEnds, starts, Collects, GcRow, GoesOn, IsKeptKey, MarksIn, StartRow, at_moment, Effect, KeepsTables, Row, Steps, StepsOr, next_id, CoreRun, CoreState, Event, IsRunning, IsUnderWayIn, IsUp, UnlessStopped}
 use Rattle.actor_parts.specs.declared.step.Answer.TheVariants as answers
 use Rattle.actor_parts.specs.StepValue as asked
-use Rattle.actor_parts.specs.StepValue.{StepValue}
 use Rattle.container_meta.specs.Segments.{Contents}
-use Rattle.container_meta.specs.Spelling.{header_of}
-use Rattle.gc_enumerate.specs.Live.{LiveKeys}
-use Rattle.gc_steps.specs.declared.collection.Collection.{Collection}
-use Rattle.gc_steps.specs.declared.collection.Stage.{Stage}
-use Rattle.gc_steps.specs.declared.collection.Stage.TheVariants.{Filter, Mark, Select, Sweep}
+use Rattle.gc_steps.specs.declared.collection.Stage.TheVariants.{Sweep}
 use Rattle.gc_sweep.specs.declared.sweep.Next.{Next}
-use Rattle.gc_sweep.specs.declared.sweep.Next.TheVariants.{Copy, Flush, Release, End}
-use Rattle.gc_steps.specs.declared.phase.StepDone.TheVariants.{Did}
-use Rattle.gc_steps.specs.FewSources.{IsToChoose}
-use Rattle.gc_steps.specs.Stepping.{Keeps, StepsTo}
-use Rattle.gc_steps.specs.StepsToCome.{Nears, old_from, steps_to_come, trees_from}
-use Rattle.gc_steps.specs.UnderWay.{IsUnderWay}
+use Rattle.gc_sweep.specs.declared.sweep.Next.TheVariants.{Copy}
+use Rattle.gc_steps.specs.StepsToCome.{old_from, trees_from}
 use Rattle.gc_steps.proofs.NoNearer.{as_many}
-use Rattle.refusals.specs.declared.refusal.Refusal.{Refusal}
 use Rattle.refusals.specs.declared.refusal.Refusal.TheVariants as refusals
-use Rattle.store_model.specs.Slots.{first_free}
-use Rattle.store_state.specs.Tables.{IsFirstFree}
-use Rattle.store_state.specs.declared.slot_table.SlotTable.{SlotTable}
-use Rattle.store_state.specs.declared.tables.Tables.{Tables}
-use Rattle.store_core.specs.declared.stop.Stop.{Stop}
-use Rattle.store_core.specs.Bounds.{BoundsSteps, IsNoEnd, NoneEnds, made_by, made_in, starts}
-use Rattle.store_core.specs.Collecting.{Begins, Collects, GcRow, GoesOn, IsKeptKey, MarksIn, StartRow, at_moment}
-use Rattle.store_core.specs.Core.{Effect, KeepsTables, Row, Steps, StepsOr, next_id}
-use Rattle.store_core.specs.Runs.{CoreRun}
-use Rattle.store_core.specs.State.{CoreState, Event, IsRunning, IsUnderWayIn, IsUp, UnlessStopped}
+use Rattle.store_core.specs.Bounds.{BoundsSteps, made_by, made_in}
+use Rattle.store_core.specs.Collecting.{Begins}
 use Rattle.store_core.proofs.Counted.{refused_live}
 use Rattle.store_core.proofs.CoreRuns.{running_step}
 use Rattle.store_core.proofs.RunningOn.{commit_held, delete_held, first_closed, first_within, step_runs, tables_kept}

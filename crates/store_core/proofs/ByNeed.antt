@@ -1,58 +1,22 @@
 -- Which containers a collection that ran alone gave back and copied from, by what files need.
-use Rattle.std.proofs.Common.{◌≡◌, ◌⊎◌, inl, inr, ℕ, zero, suc, ◌*◌, ◌<◌, ◌≤◌, Bool, true, false, List, [], ◌∷◌, length, get_or, Option, Some, None, refl, sym, ◌∙◌, ap, subst, arith}
-use Rattle.std.specs.Prelude.{◌||◌, ◌==◌, nat_lt, filter, if◌then◌else◌, slice_get, Contains}
-use Rattle.std.specs.List.{AllByRecursion}
-use Rattle.std.specs.Str.{bytes_eq}
-use Rattle.std.proofs.lemmas.Bool.{eq-eqb, eqb-true, lt-ltb, ltb-true}
-use Rattle.std.proofs.lemmas.Bool.Decides.{eqb_tells, leb_tells}
-use Rattle.std.proofs.lemmas.Slice.Eq.{bytes_eq-Decides}
+use Rattle.store_core.proofs.Prelude.{◌≡◌, ◌⊎◌, inl, inr, ℕ, zero, suc, ◌*◌, ◌<◌, ◌≤◌, Bool, true, false, List, [], ◌∷◌, length, Option, Some, None, refl, sym, ◌∙◌, ap, subst, arith, ◌||◌, nat_lt, if◌then◌else◌, AllByRecursion, bytes_eq, eqb-true, lt-ltb, ltb-true, eqb_tells, leb_tells, bytes_eq-Decides, Entry, Kind, Place, PlaceMap, HeaderValue, SumsLive, MOST_LEVEL, LiveKeys, IsLiveAt, ContainerLiveness, IsSelectedId, Collection, Stage, SweepStage, IsToChoose, IsSafeAt, IsWithin, chosen_which, id_below, level_early, IsLive, is_old, at_copy, copy_at, copy_of, id_at, one_header, one_slot, listed, ByteSet, IsIn, Stored, Store, IsReachable, DifferentIds, HasKey, IsPartialIndexOf, ids_held, newest, place_of, IsStoreOf, StoreChange, headers_of_right, some_same, last_within, CoreInvariant, Tables, starts, HasEnded, Steps, Collected, copied_keys, ends_with, ChangesTo, FileEvent, FileRun, IsAt, IsSafeIn, stored_after, CoreState}
+use Rattle.std.proofs.Common.{get_or}
+use Rattle.std.specs.Prelude.{◌==◌, filter, slice_get, Contains}
+use Rattle.std.proofs.lemmas.Bool.{eq-eqb}
 use Rattle.base_model.proofs.Checks.{both, both_true}
-use Rattle.container_meta.specs.declared.entry.Entry.{Entry}
-use Rattle.container_meta.specs.declared.kind.Kind.{Kind}
-use Rattle.container_meta.specs.declared.place.Place.{Place}
-use Rattle.container_meta.specs.Places.{PlaceMap}
-use Rattle.container_meta.specs.Spelling.{HeaderValue, bytes_of}
-use Rattle.copy_forward.specs.Entries.{IsLiveCopy, SumsLive}
-use Rattle.disk_format.specs.declared.numbers.TheConstants.{MOST_LEVEL}
-use Rattle.gc_enumerate.specs.Live.{LiveKeys, IsLiveAt}
-use Rattle.gc_select.specs.declared.liveness.ContainerLiveness.{ContainerLiveness}
-use Rattle.gc_select.specs.Selecting.{IsSelectedId, ids_of, is_selected}
-use Rattle.gc_steps.specs.declared.collection.Collection.{Collection}
-use Rattle.gc_steps.specs.declared.collection.Stage.{Stage}
-use Rattle.gc_steps.specs.declared.collection.Stage.TheVariants.{Sweep as SweepStage}
-use Rattle.gc_steps.specs.FewSources.{IsToChoose}
-use Rattle.gc_steps.specs.Safety.{IsSafeAt}
-use Rattle.gc_steps.specs.Sparing.{IsWithin}
+use Rattle.container_meta.specs.Spelling.{bytes_of}
+use Rattle.copy_forward.specs.Entries.{IsLiveCopy}
+use Rattle.gc_select.specs.Selecting.{ids_of, is_selected}
 use Rattle.gc_steps.specs.SweepIsSafe.{SweepIsSafe}
-use Rattle.gc_steps.proofs.Chosen.{chosen_which}
-use Rattle.gc_steps.proofs.FirstStage.{id_below, old_there}
-use Rattle.gc_steps.proofs.Lone.{IsLoneAt, IsOfSource, IsTold, SweepsAlone, begun_lone, level_early}
+use Rattle.gc_steps.proofs.FirstStage.{old_there}
+use Rattle.gc_steps.proofs.Lone.{IsLoneAt, IsOfSource, IsTold, SweepsAlone, begun_lone}
 use Rattle.gc_steps.proofs.NeededKeys.{reachable_has}
-use Rattle.gc_sweep.specs.Holding.{IsLive}
-use Rattle.gc_sweep.specs.UnderWay.{is_old}
-use Rattle.gc_sweep.proofs.InSlots.{at_copy, copy_at, copy_of, id_at, live_anywhere, of_each, one_header, one_slot}
-use Rattle.gc_sweep.proofs.KeyLists.{listed}
-use Rattle.store_model.specs.Collisions.{ByteSet, IsIn}
-use Rattle.store_model.specs.Files.{Stored}
-use Rattle.store_model.specs.Image.{Store}
+use Rattle.gc_sweep.proofs.InSlots.{live_anywhere, of_each}
 use Rattle.store_model.specs.Indexing.{entry_key}
 use Rattle.store_model.specs.Needed.{IsNeededCopy, Needs, SumsNeeded}
-use Rattle.store_model.specs.Reserve.{IsReachable}
-use Rattle.store_model.specs.Slots.{Copy, DifferentIds, HasKey, IsPartialIndexOf, ids_of as ids_held, newest, place_of}
-use Rattle.store_model.specs.Standing.{IsStoreOf}
-use Rattle.store_model.specs.Steps.{StoreChange}
-use Rattle.store_model.proofs.Copies.{headers_of_right, some_same}
-use Rattle.store_model.proofs.Sound.{last_within}
-use Rattle.store_state.specs.Invariant.{CoreInvariant}
-use Rattle.store_state.specs.declared.tables.Tables.{Tables}
-use Rattle.store_core.specs.Bounds.{starts}
+use Rattle.store_model.specs.Slots.{Copy}
 use Rattle.store_core.specs.Chosen.{Chooses, CollectsByNeed, IsChosen, IsLittle}
-use Rattle.store_core.specs.Collecting.{Begins, HasEnded}
-use Rattle.store_core.specs.Core.{Steps}
-use Rattle.store_core.specs.Finished.{Collected, copied_keys}
-use Rattle.store_core.specs.Releases.{ends_with}
-use Rattle.store_core.specs.Runs.{ChangesTo, FileEvent, FileRun, IsAt, IsSafeIn, stored_after}
-use Rattle.store_core.specs.State.{CoreState}
+use Rattle.store_core.specs.Collecting.{Begins}
 use Rattle.store_core.proofs.AnySteps.{any_step}
 use Rattle.store_core.proofs.CopiesOnce.{listed_of}
 use Rattle.store_core.proofs.CoreRuns.{running_step, was_running}

@@ -1,27 +1,15 @@
 -- What a reader gives on any disk is what the tree of the opened root names.
-use Rattle.std.proofs.Common.{◌≡◌, ◌<◌, ◌==◌, ℕ, Bool, true, false, List, [], ◌∷◌, ◌++◌, length, take, sum_by, Option, Some, None, Result, Ok, Err, refl, sym, ◌∙◌, ap, subst}
-use Rattle.std.proofs.lemmas.Bool.{eqb-true, eqb-false}
-use Rattle.disk_format.specs.Cells.{Root}
-use Rattle.merkle_file.specs.declared.top.Top.{Top}
+use Rattle.store_core.proofs.Prelude.{◌≡◌, ◌<◌, ℕ, Bool, true, false, List, [], ◌∷◌, ◌++◌, length, take, Option, Some, None, Result, Ok, Err, refl, sym, ◌∙◌, ap, subst, eqb-true, eqb-false, Root, Top, Part, Answer, StepValue, apart, Refusal, NameMap, top_of, reading, Stop, ReadRow, Row, Steps, StepsOr, CoreRun, ReadsAlone, IsReadNext, opens, CoreState, Event}
+use Rattle.std.proofs.Common.{◌==◌, sum_by}
 use Rattle.merkle_file.specs.Walk.{start_of}
-use Rattle.actor_parts.specs.declared.part.Part.{Part}
-use Rattle.actor_parts.specs.declared.step.Answer.{Answer}
 use Rattle.actor_parts.specs.declared.step.Answer.TheVariants as answers
 use Rattle.actor_parts.specs.Parts.{part_of, with_part}
 use Rattle.actor_parts.specs.StepValue as asked
-use Rattle.actor_parts.specs.StepValue.{StepValue}
-use Rattle.actor_parts.proofs.Apart.{apart}
-use Rattle.refusals.specs.declared.refusal.Refusal.{Refusal}
 use Rattle.refusals.specs.declared.refusal.Refusal.TheVariants as refusals
-use Rattle.namespace.specs.Names.{NameMap}
-use Rattle.read_steps.specs.Opening.{top_of, HasRoot}
-use Rattle.read_steps.specs.Readers.{reading}
+use Rattle.read_steps.specs.Opening.{HasRoot}
 use Rattle.read_steps.specs.Walking.{WasRead, Walked, GivesAll, AnyBytes}
 use Rattle.read_steps.proofs.Walks.{walked_none, all_walked, all_given, reads_are_whole}
-use Rattle.store_core.specs.declared.stop.Stop.{Stop}
-use Rattle.store_core.specs.Core.{ReadRow, Row, Steps, StepsOr}
-use Rattle.store_core.specs.Runs.{CoreRun, ReadsAlone, IsReadNext, GivesAsNamed, GivesByTree, ReadsAreChecked, EndsAreWhole, given_by, given_to, opens, ends}
-use Rattle.store_core.specs.State.{CoreState, Event}
+use Rattle.store_core.specs.Runs.{GivesAsNamed, GivesByTree, ReadsAreChecked, EndsAreWhole, given_by, given_to, ends}
 use Rattle.store_core.proofs.GivingFiles.{other_part, length_on}
 use Rattle.store_core.proofs.OwnParts.{same_reader}
 use Rattle.store_core.proofs.Stepping.{ChangesOne, row_one}

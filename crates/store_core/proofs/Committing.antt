@@ -1,30 +1,16 @@
 -- What a commit or a delete makes of a core.
-use Rattle.std.proofs.Common.{◌≡◌, ◌≤◌, ℕ, List, Option, Some, Ok, sym, ◌∙◌, subst, ap, arith, None}
-use Rattle.base_model.specs.Known.{Known, KnownWith}
+use Rattle.store_core.proofs.Prelude.{◌≡◌, ◌≤◌, ℕ, List, Option, Some, Ok, sym, ◌∙◌, subst, ap, arith, None, Known, KnownWith, Change, Root, Delete, Put, PlaceMap, IsLater, IsDurable, Done, Reads, Answer, Store, Encodes, IsValidFor, HasKey, AnyKey, ChangeName, KeepsCopies, with_change, Tables, Represents, Runs, record_alone, IndexesAll, Made, NamesOne, CoreState}
 use Rattle.std.specs.FinMap as finite
-use Rattle.disk_format.specs.Cells.{Change, Root}
-use Rattle.disk_format.specs.Cells.Change.{Delete, Put}
-use Rattle.container_meta.specs.Places.{PlaceMap}
-use Rattle.dd_disk.specs.View.{IsLater, IsDurable}
-use Rattle.dd_disk.specs.Ending.{Done, Reads}
 use Rattle.dd_disk.specs.Moves.{Acts}
-use Rattle.actor_parts.specs.declared.step.Answer.{Answer}
 use Rattle.actor_parts.specs.declared.step.Answer.TheVariants as answers
 use Rattle.actor_parts.specs.StepValue as asked
-use Rattle.store_model.specs.Image.{Store, Encodes, IsValidFor}
-use Rattle.store_model.specs.Slots.{HasKey}
-use Rattle.store_model.specs.Steps.{AnyKey, ChangeName, KeepsCopies, with_change}
 use Rattle.store_model.proofs.Journaled.{newest_on}
 use Rattle.store_model.proofs.Valid.{valid_change}
-use Rattle.store_state.specs.declared.tables.Tables.{Tables}
-use Rattle.store_state.specs.Tables.{Represents, Runs}
 use Rattle.ingest_steps.specs.Naming.{IsChanged, IsDeleted, ChangesName, ChangesJournalAlone}
 use Rattle.ingest_steps.specs.Recording.{KeepsButRecord}
-use Rattle.ingest_steps.proofs.RecordFrames.{record_alone}
 use Rattle.ingest_steps.specs.Writers.{IsCommitted}
 use Rattle.read_steps.specs.Readers as readers
-use Rattle.store_core.specs.Core.{IndexesAll, Makes, Made, NamesOne, GivesHeld}
-use Rattle.store_core.specs.State.{CoreState}
+use Rattle.store_core.specs.Core.{Makes, GivesHeld}
 use Rattle.store_core.proofs.Sealing.{one_map}
 
 module _ (old new : CoreState) (name : List ℕ) (change : Change) (sequence : ℕ) (named : IsChanged old.tables name change new.tables sequence) (later : IsLater old.disk new.disk)

@@ -1,48 +1,13 @@
 -- Where a collection copies from, step by step: each key that it copies had its copy in one of its sources when it began.
-use Rattle.std.proofs.Common.{◌≡◌, ◌⊎◌, inl, inr, ℕ, ◌<◌, ◌≤◌, true, List, [], ◌∷◌, ◌++◌, map, Option, Some, refl, sym, ◌∙◌, ap, subst, arith}
+use Rattle.store_core.proofs.Prelude.{◌≡◌, ◌⊎◌, inl, inr, ℕ, ◌<◌, ◌≤◌, true, List, [], ◌∷◌, ◌++◌, map, Option, Some, refl, sym, ◌∙◌, ap, subst, arith, Contains-append_cases, Contains-get_or, Kind, Place, PlaceMap, Segment, entries_from, has_key, segment_key, HeaderValue, header_of, LiveKeys, Collection, Stage, Filter, Mark, Select, SweepStage, Flushes, StepsTo, moment, HoldsAt, IsUnderWay, copied_leaves, entry_none, IsFlushing, IsStoreAfter, at_stage, Flush, Release, End, SweepValue, CopiesSource, IsLive, slot_in_turn, HasNext, IsSweeping, no_key, LeavesHeld, copy_of, IsReadOf, ByteSet, IsIn, Stored, with_freed, Store, with_entries, HeldCopy, IsPartialIndexOf, first_free, free_slots, newest, StoreChange, SealContainer, ChangeName, FlushContainer, FreeContainer, with_change, with_sealed, put_none, at_moment, copied_keys, sealed_keys, IsAt, CoreState}
 use Rattle.std.specs.Prelude.{slice_get, Contains}
 use Rattle.std.specs.FinMap as finite
-use Rattle.std.proofs.lemmas.List.Elements.{Contains-append_cases, Contains-get_or}
-use Rattle.container_meta.specs.declared.kind.Kind.{Kind}
-use Rattle.container_meta.specs.declared.place.Place.{Place}
-use Rattle.container_meta.specs.Places.{PlaceMap}
-use Rattle.container_meta.specs.Segments.{Contents, Segment, entries_from, has_key, keys_of, segment_key}
-use Rattle.container_meta.specs.Spelling.{HeaderValue, header_of}
-use Rattle.gc_enumerate.specs.Live.{LiveKeys}
-use Rattle.gc_steps.specs.declared.collection.Collection.{Collection}
-use Rattle.gc_steps.specs.declared.collection.Stage.{Stage}
-use Rattle.gc_steps.specs.declared.collection.Stage.TheVariants.{Filter, Mark, Select, Sweep as SweepStage}
-use Rattle.gc_steps.specs.Stepping.{Flushes, StepsTo, moment}
-use Rattle.gc_steps.specs.SweepIsSafe.{HoldsAt}
-use Rattle.gc_steps.specs.UnderWay.{IsUnderWay}
+use Rattle.container_meta.specs.Segments.{Contents, keys_of}
 use Rattle.gc_steps.proofs.CopiedOn.{keys_so, live_so}
-use Rattle.gc_steps.proofs.SparingStages.{came, copied_leaves, entry_none, read}
-use Rattle.gc_steps.proofs.StepSafe.{IsFlushing, IsStoreAfter}
-use Rattle.gc_steps.proofs.UnderWay.{at_stage}
+use Rattle.gc_steps.proofs.SparingStages.{came, read}
 use Rattle.gc_sweep.specs.declared.sweep.Next.{Next}
-use Rattle.gc_sweep.specs.declared.sweep.Next.TheVariants.{Copy, Flush, Release, End}
-use Rattle.gc_sweep.specs.declared.sweep.Sweep.{Sweep as SweepValue}
-use Rattle.gc_sweep.specs.Copying.{CopiesSource}
-use Rattle.gc_sweep.specs.Holding.{IsLive}
-use Rattle.gc_sweep.specs.InTurn.{slot_in_turn}
-use Rattle.gc_sweep.specs.UnderWay.{HasNext, IsSweeping}
-use Rattle.gc_sweep.proofs.Holds.{no_key}
-use Rattle.gc_sweep.proofs.HoldsCopied.{LeavesHeld}
-use Rattle.gc_sweep.proofs.InSlots.{copy_of}
+use Rattle.gc_sweep.specs.declared.sweep.Next.TheVariants.{Copy}
 use Rattle.gc_sweep.proofs.KeyLists.{listed_so}
-use Rattle.gc_sweep.proofs.SourceRead.{IsReadOf}
-use Rattle.store_model.specs.Collisions.{ByteSet, IsIn}
-use Rattle.store_model.specs.Files.{Stored}
-use Rattle.store_model.specs.Freeing.{with_freed}
-use Rattle.store_model.specs.Image.{Store}
-use Rattle.store_model.specs.Indexing.{with_entries}
-use Rattle.store_model.specs.Slots.{Copy as HeldCopy, IsPartialIndexOf, first_free, free_slots, newest}
-use Rattle.store_model.specs.Steps.{StoreChange, SealContainer, ChangeName, FlushContainer, FreeContainer, with_change, with_sealed}
-use Rattle.store_model.proofs.Indexing.{put_none}
-use Rattle.store_core.specs.Collecting.{at_moment}
-use Rattle.store_core.specs.Finished.{copied_keys, sealed_keys}
-use Rattle.store_core.specs.Runs.{IsAt}
-use Rattle.store_core.specs.State.{CoreState}
 use Rattle.store_core.proofs.AtStore.{AtStore, at_store}
 use Rattle.store_core.proofs.Counted.{changed_by}
 use Rattle.store_core.proofs.CopiesOnce.{HoldsNewer, keys_then, listed_found, listed_of, newer_on, not_old}

@@ -1,27 +1,13 @@
 -- A key that a collection copied is not copied again: its newest copy lies in a container that came after the collection began.
-use Rattle.std.proofs.Common.{◌≡◌, ℕ, zero, suc, ◌+◌, ◌≤◌, Bool, true, false, cond, List, [], ◌∷◌, ◌++◌, length, map, Option, Some, None, find, option_map, refl, sym, ◌∙◌, ap, subst, arith}
-use Rattle.std.specs.Prelude.{◌||◌, Contains, if◌then◌else◌, nat_lt, slice_get}
-use Rattle.std.specs.List.{AllByRecursion, IsDistinct}
-use Rattle.std.specs.Str.{bytes_eq}
-use Rattle.std.proofs.lemmas.Bool.{ltb-true, ltb-false}
+use Rattle.store_core.proofs.Prelude.{◌≡◌, ℕ, zero, suc, ◌+◌, ◌≤◌, Bool, true, false, cond, List, [], ◌∷◌, ◌++◌, length, map, Option, Some, None, refl, sym, ◌∙◌, ap, subst, arith, ◌||◌, if◌then◌else◌, nat_lt, AllByRecursion, bytes_eq, ltb-true, ltb-false, bytes_eq-Decides, sha256, key_of, Entry, Kind, kind_byte, PlaceMap, Segment, entries_from, segment_key, HeaderValue, copy_of, listed, Store, IsPartialIndexOf, newest, place_of, StoreChange, SealContainer, ChangeName, FlushContainer, FreeContainer, some_same, copied_keys}
+use Rattle.std.proofs.Common.{find, option_map}
+use Rattle.std.specs.Prelude.{Contains, slice_get}
+use Rattle.std.specs.List.{IsDistinct}
 use Rattle.std.proofs.lemmas.Option.{slice_get-get_or}
-use Rattle.std.proofs.lemmas.Slice.Eq.{bytes_eq-Decides}
-use Rattle.sha2.specs.Sha256.{sha256}
-use Rattle.base_model.specs.Bytes.{key_of}
-use Rattle.container_meta.specs.declared.entry.Entry.{Entry}
-use Rattle.container_meta.specs.declared.kind.Kind.{Kind}
-use Rattle.container_meta.specs.Format.{kind_byte}
-use Rattle.container_meta.specs.Places.{PlaceMap}
-use Rattle.container_meta.specs.Segments.{Segment, entries_from, segment_key}
-use Rattle.container_meta.specs.Spelling.{HeaderValue}
 use Rattle.gc_steps.proofs.CopiedOn.{LiesOld}
-use Rattle.gc_sweep.proofs.InSlots.{copy_of}
-use Rattle.gc_sweep.proofs.KeyLists.{listed, listed_left, listed_one, listed_right}
-use Rattle.store_model.specs.Image.{Store}
-use Rattle.store_model.specs.Slots.{Copy, IsPartialIndexOf, copy_in, newer, newest, place_of}
-use Rattle.store_model.specs.Steps.{StoreChange, SealContainer, ChangeName, FlushContainer, FreeContainer}
-use Rattle.store_model.proofs.Copies.{lies, some_same}
-use Rattle.store_core.specs.Finished.{copied_keys}
+use Rattle.gc_sweep.proofs.KeyLists.{listed_left, listed_one, listed_right}
+use Rattle.store_model.specs.Slots.{Copy, copy_in, newer}
+use Rattle.store_model.proofs.Copies.{lies}
 use Rattle.store_core.proofs.FinishedStores.{Sweeps, all_then, stands_on}
 
 -- ---- lists of keys

@@ -1,11 +1,6 @@
 -- Steps of a core one after the other, whatever they are given.
-use Rattle.std.proofs.Common.{◌≡◌, ℕ, List, [], ◌∷◌, Option, Some, None, refl, sym, ◌∙◌, subst}
-use Rattle.dd_disk.specs.View.{IsLater, OnlyReads}
-use Rattle.dd_disk.proofs.Later.{later_here, later_on, reads_here, reads_on}
-use Rattle.store_core.specs.declared.stop.Stop.{Stop}
-use Rattle.store_core.specs.Core.{CoreStep, Steps, StepsOr}
-use Rattle.store_core.specs.Runs.{CoreRun, FileEvent, FileRun, events_of}
-use Rattle.store_core.specs.State.{CoreState, Event}
+use Rattle.store_core.proofs.Prelude.{◌≡◌, ℕ, List, [], ◌∷◌, Option, Some, None, refl, sym, ◌∙◌, subst, IsLater, OnlyReads, later_here, reads_here, reads_on, Stop, CoreStep, Steps, StepsOr, CoreRun, FileEvent, FileRun, events_of, CoreState, Event}
+use Rattle.dd_disk.proofs.Later.{later_on}
 use Rattle.store_core.proofs.Stepping.{step_later}
 
 -- a core that isn't stopped afterwards wasn't before

@@ -1,30 +1,13 @@
 -- What a collection counts: the containers that it gave back, and the segments that it copied.
-use Rattle.std.proofs.Common.{◌≡◌, inl, inr, ℕ, ◌+◌, List, [], ◌∷◌, ◌++◌, length, Option, Some, None, sym, ◌∙◌, ap, subst, arith}
-use Rattle.container_meta.specs.declared.kind.Kind.{Kind}
-use Rattle.container_meta.specs.Places.{PlaceMap}
+use Rattle.store_core.proofs.Prelude.{◌≡◌, inl, inr, ℕ, ◌+◌, List, [], ◌∷◌, ◌++◌, length, Option, Some, None, sym, ◌∙◌, ap, subst, arith, Kind, PlaceMap, Plan, DiskView, LiveKeys, Flush, Release, End, CopiesSource, TakesBy, slot_in_turn, Collection, Stage, Filter, Mark, Select, SweepStage, IsToChoose, Keeps, StepsTo, Refusal, StoreChange, SealContainer, ChangeName, FlushContainer, FreeContainer, SlotTable, at_moment, copied_in, freed_in, CoreState}
 use Rattle.container_meta.specs.Segments.{Contents}
 use Rattle.copy_forward.specs.Copying.{PlansSource}
-use Rattle.copy_forward.specs.declared.plan.Plan.{Plan}
-use Rattle.dd_disk.specs.View.{DiskView}
-use Rattle.gc_enumerate.specs.Live.{LiveKeys}
 use Rattle.gc_sweep.specs.declared.sweep.Next.{Next}
-use Rattle.gc_sweep.specs.declared.sweep.Next.TheVariants.{Copy, Flush, Release, End}
+use Rattle.gc_sweep.specs.declared.sweep.Next.TheVariants.{Copy}
 use Rattle.gc_sweep.specs.declared.sweep.Sweep.{Sweep}
 use Rattle.gc_sweep.specs.Beginning.{Begins}
-use Rattle.gc_sweep.specs.Copying.{CopiesSource, IsFilling, TakesBy}
-use Rattle.gc_sweep.specs.InTurn.{slot_in_turn}
-use Rattle.gc_steps.specs.declared.collection.Collection.{Collection}
-use Rattle.gc_steps.specs.declared.collection.Stage.{Stage}
-use Rattle.gc_steps.specs.declared.collection.Stage.TheVariants.{Filter, Mark, Select, Sweep as SweepStage}
-use Rattle.gc_steps.specs.FewSources.{IsToChoose}
-use Rattle.gc_steps.specs.Stepping.{Keeps, StepsTo}
-use Rattle.refusals.specs.declared.refusal.Refusal.{Refusal}
+use Rattle.gc_sweep.specs.Copying.{IsFilling}
 use Rattle.refusals.specs.declared.refusal.Refusal.TheVariants as refusals
-use Rattle.store_model.specs.Steps.{StoreChange, SealContainer, ChangeName, FlushContainer, FreeContainer}
-use Rattle.store_state.specs.declared.slot_table.SlotTable.{SlotTable}
-use Rattle.store_core.specs.Collecting.{at_moment}
-use Rattle.store_core.specs.Releases.{copied_in, freed_in}
-use Rattle.store_core.specs.State.{CoreState}
 
 -- ---- what changes count
 

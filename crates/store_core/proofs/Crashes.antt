@@ -1,69 +1,29 @@
 -- What a crash leaves at any moment of a run.
-use Rattle.std.proofs.Common.{◌≡◌, ◌⊎◌, inl, inr, ℕ, false, List, [], ◌∷◌, ◌+◌, ◌<◌, ◌≤◌, Option, Some, None, Result, Ok, Err, refl, sym, ◌∙◌, subst, arith, ap, suc}
-use Rattle.dd_disk.specs.View.{OnlyReads, CrashLeaves, SteppedFrom}
-use Rattle.dd_disk.proofs.Later.{reads_here, reads_leave, leaves_on, leaves_weaker}
+use Rattle.store_core.proofs.Prelude.{◌≡◌, ◌⊎◌, inl, inr, ℕ, false, List, [], ◌∷◌, ◌+◌, ◌<◌, ◌≤◌, Option, Some, None, Result, Ok, Err, refl, sym, ◌∙◌, subst, arith, ap, suc, OnlyReads, CrashLeaves, SteppedFrom, reads_here, reads_leave, leaves_on, leaves_weaker, Change, Root, Delete, Put, Answer, StepValue, IsStep, Refusal, HasNoCollisions, ByteSet, IsIn, Stands, Store, last_sequence, with_sealed, with_change, Files, Stored, with_stored, without_stored, last_changed, Stop, Effect, SealsOne, NamesOne, StepsOr, StopsAfter, next_id, FileEvent, FileStep, FileRun, IsAt, IsGivenRight, stored_with, stored_by, stored_after, events_of, IsSafeIn, CoreState, IsUnderWayIn, Mark, Filter, Select, SweepStage, CopyNext, Flush, Release, End, Changes, SameBefore, Collection, HoldsAt, HasStage, IsUnderWay, HoldsSweep, slot_in_turn, IsSweeping, IsSafeAt, PlaceMap, Represents, Stage, Touches, TouchesBy, blames, ending, Ending, slot_at, with_freed, RESERVE, header_of, HasKey, free_slots, free_less, StandsSealed, free_reserve, reserve_by, headers_of_right, reached_less, reached_put, HasReserve, IsReachable, CanBeOpened, CoreInvariant, IndexesFiles}
 use Rattle.container_meta.specs.Segments.{Contents}
-use Rattle.disk_format.specs.Cells.{Change, Root}
-use Rattle.disk_format.specs.Cells.Change.{Delete, Put}
-use Rattle.actor_parts.specs.declared.step.Answer.{Answer}
 use Rattle.actor_parts.specs.StepValue as asked
-use Rattle.actor_parts.specs.StepValue.{StepValue, IsStep}
-use Rattle.refusals.specs.declared.refusal.Refusal.{Refusal}
 use Rattle.refusals.specs.declared.refusal.Refusal.TheVariants as refusals
-use Rattle.store_model.specs.Collisions.{HasNoCollisions, ByteSet, IsIn, Stands, OpensAs}
-use Rattle.store_model.specs.Image.{Store, last_sequence}
-use Rattle.store_model.specs.Steps.{with_cell, with_other, with_sealed, with_change}
+use Rattle.store_model.specs.Collisions.{OpensAs}
+use Rattle.store_model.specs.Steps.{with_cell, with_other}
 use Rattle.store_model.proofs.Cells.{last_with_cell}
 use Rattle.ingest_steps.specs.Naming.{FilesStandStill}
-use Rattle.store_model.specs.Files.{Files, Stored, with_file, with_stored, without_file, without_stored}
+use Rattle.store_model.specs.Files.{with_file, without_file}
 use Rattle.store_model.specs.Files as files
-use Rattle.store_model.proofs.NameChanges.{last_changed}
-use Rattle.store_core.specs.declared.stop.Stop.{Stop}
-use Rattle.store_core.specs.Core.{Effect, SealsOne, NamesOne, StepsOr, StopsAfter, next_id}
-use Rattle.store_core.specs.Runs.{FileEvent, FileStep, FileRun, IsAt, IsOnTheWay, IsGivenRight, IsRootOf, SurvivesCrashes, SurvivesSince, KeepsAcknowledged, stored_with, stored_by, stored_after, stored_tried, stored_tried_by, events_of, EndsWithAll, IsSafeIn}
-use Rattle.store_core.specs.State.{CoreState, IsUnderWayIn}
+use Rattle.store_core.specs.Runs.{IsOnTheWay, IsRootOf, SurvivesCrashes, SurvivesSince, KeepsAcknowledged, stored_tried, stored_tried_by, EndsWithAll}
 use Rattle.store_core.proofs.CoreRuns.{stopped_reads, core_run}
-use Rattle.gc_steps.specs.declared.collection.Stage.TheVariants.{Mark, Filter, Select, Sweep as SweepStage}
 use Rattle.gc_sweep.specs.declared.sweep.Next.{Next}
-use Rattle.gc_sweep.specs.declared.sweep.Next.TheVariants.{Copy as CopyNext, Flush, Release, End}
 use Rattle.store_core.proofs.AnySteps.{any_step, keeps_files}
 use Rattle.store_core.proofs.KeepingFiles.{may_seal_all}
 use Rattle.store_core.proofs.Stepping.{step_later}
-use Rattle.segment_index.specs.Changes.{Changes, SameBefore}
-use Rattle.gc_steps.specs.declared.collection.Collection.{Collection}
 use Rattle.gc_sweep.specs.Releasing.{GivesBack}
 use Rattle.gc_sweep.specs.Releasing.{HasNoEntryIn}
-use Rattle.gc_steps.specs.SweepIsSafe.{HoldsAt}
-use Rattle.gc_steps.specs.UnderWay.{HasStage, IsUnderWay}
-use Rattle.gc_sweep.specs.Holding.{HoldsSweep}
-use Rattle.gc_sweep.specs.InTurn.{slot_in_turn}
-use Rattle.gc_sweep.specs.UnderWay.{IsSweeping}
 use Rattle.gc_sweep.proofs.Holds.{in_turn}
 use Rattle.gc_sweep.proofs.HoldsRoom.{are_newest, may_flush}
 use Rattle.store_core.proofs.Flushed.{opens_flushed}
-use Rattle.gc_steps.specs.Safety.{IsSafeAt}
-use Rattle.container_meta.specs.Places.{PlaceMap}
-use Rattle.store_state.specs.Tables.{Represents}
-use Rattle.gc_steps.specs.declared.collection.Stage.{Stage}
-use Rattle.gc_steps.specs.Stepping.{Touches}
-use Rattle.store_core.specs.Collecting.{TouchesBy}
-use Rattle.store_state.specs.Refused.{blames}
-use Rattle.dd_disk.specs.Ending.{ending, Ending}
-use Rattle.disk_format.specs.Layout.{slot_at}
 use Rattle.store_model.proofs.FramedTrees.{stands_framed}
-use Rattle.store_model.specs.Freeing.{with_freed}
-use Rattle.disk_format.specs.declared.numbers.TheConstants.{RESERVE}
-use Rattle.container_meta.specs.Spelling.{header_of}
-use Rattle.store_model.specs.Slots.{HasKey, free_slots}
-use Rattle.store_model.proofs.Filled.{free_less}
-use Rattle.ingest_steps.specs.Sealing.{SealsIndexed, StandsSealed}
+use Rattle.ingest_steps.specs.Sealing.{SealsIndexed}
 use Rattle.gc_sweep.proofs.Released.{none_held}
-use Rattle.store_model.proofs.FreedFiles.{free_reserve, reserve_by, reserve_freed}
-use Rattle.store_model.proofs.Copies.{headers_of_right}
-use Rattle.store_model.proofs.Reached.{reached_less, reached_put}
-use Rattle.store_model.specs.Reserve.{HasReserve, IsReachable}
-use Rattle.store_model.specs.Standing.{CanBeOpened}
-use Rattle.store_state.specs.Invariant.{CoreInvariant, IndexesFiles}
+use Rattle.store_model.proofs.FreedFiles.{reserve_freed}
 
 -- the last number of the store
 pub last_at : (S : List ℕ → Type 0) (s : Store) (stored : Stored) (c : CoreState) → IsAt S s stored c → last_sequence s ≡ stored.last

@@ -1,60 +1,30 @@
 -- No step of a run finds damage, and names are found as they are.
-use Rattle.std.proofs.Common.{◌≡◌, ◌≢◌, ◌<◌, ℕ, zero, suc, List, [], ◌∷◌, length, get_or, Option, Some, None, IsSome, option_map, Result, Ok, Err, IfErr, refl, sym, ◌∙◌, ap, subst, arith, rules}
+use Rattle.store_core.proofs.Prelude.{◌≡◌, ◌≢◌, ◌<◌, ℕ, zero, suc, List, [], ◌∷◌, length, Option, Some, None, Result, Ok, Err, refl, sym, ◌∙◌, ap, subst, arith, AllByRecursion, sha256, key_of, Shows, shown_content, Kind, Place, kind_byte, Segment, KindSegment, Root, Top, NameMap, Named, Answer, StepValue, Refusal, HasNoCollisions, ByteSet, IsIn, IsAmong, Stands, Files, Stored, Store, names_of, newest, bytes_at, root_of, copy_digest, newest_so, IsNodeEntry, nodes_so, IsAmongThese, among_so, Stop, Row, ClaimRow, SealRow, CommitRow, OpenRow, ReadRow, EndRow, DeleteRow, ListRow, IsNotGiven, StepsOr, FileEvent, FileStep, FileRun, IsAt, IsGivenRight, stored_after, IsSafeIn, CoreState, IsUnderWayIn, Collection, Filter, Mark, Select, GcRow, IsNotMade, StartRow, IsSafeAt, PlaceMap, Represents, Stage, moment, IsStepRefusal}
+use Rattle.std.proofs.Common.{get_or, IsSome, option_map, IfErr, rules}
 use Rattle.std.specs.FinMap as finite
-use Rattle.std.specs.List.{AllByRecursion}
-use Rattle.sha2.specs.Sha256.{sha256}
-use Rattle.base_model.specs.Bytes.{key_of}
-use Rattle.dd_disk.specs.Shows.{Shows}
-use Rattle.dd_disk.proofs.Shows.{shown_content}
-use Rattle.container_meta.specs.declared.kind.Kind.{Kind}
 use Rattle.container_meta.specs.declared.kind.Kind.TheVariants as kinds
-use Rattle.container_meta.specs.declared.place.Place.{Place}
-use Rattle.container_meta.specs.Format.{kind_byte}
-use Rattle.container_meta.specs.Segments.{Segment, KindSegment, Contents, segment_at}
-use Rattle.disk_format.specs.Cells.{Root}
-use Rattle.merkle_file.specs.declared.top.Top.{Top}
+use Rattle.container_meta.specs.Segments.{Contents, segment_at}
 use Rattle.namespace.specs.Listing.{listing_of}
-use Rattle.namespace.specs.Names.{NameMap}
-use Rattle.namespace.specs.declared.record.Named.{Named}
-use Rattle.actor_parts.specs.declared.step.Answer.{Answer}
 use Rattle.actor_parts.specs.declared.step.Answer.TheVariants as answers
 use Rattle.actor_parts.specs.StepValue as asked
-use Rattle.actor_parts.specs.StepValue.{StepValue}
 use Rattle.refusals.specs.declared.refusal.PartKind.{PartKind}
 use Rattle.refusals.specs.declared.refusal.PartKind.TheVariants as part
 use Rattle.refusals.specs.declared.refusal.Difference.TheVariants.{Length, Byte}
-use Rattle.refusals.specs.declared.refusal.Refusal.{Refusal}
 use Rattle.refusals.specs.declared.refusal.Refusal.TheVariants as refusals
-use Rattle.store_model.specs.Collisions.{HasNoCollisions, ByteSet, IsIn, IsAmong, Stands}
-use Rattle.store_model.specs.Files.{Files, Stored}
-use Rattle.store_model.specs.Image.{Store, names_of}
-use Rattle.store_model.specs.Slots.{Copy, newest}
+use Rattle.store_model.specs.Slots.{Copy}
 use Rattle.store_model.specs.Standing.{IsFileOf}
-use Rattle.store_model.specs.Trees.{bytes_at, root_of}
-use Rattle.store_model.proofs.Copies.{copy_digest}
-use Rattle.store_model.proofs.HeldSlots.{newest_so, IsNodeEntry, nodes_so, IsAmongThese, among_so}
 use Rattle.store_model.proofs.Listed.{listed_as_files}
 use Rattle.store_model.proofs.Roots.{length_of_copy}
 use Rattle.store_state.specs.Comparing.{IsUnlike}
 use Rattle.read_steps.specs.Readers.{IsStuck}
 use Rattle.read_steps.specs.Walking.{IsHeldAnswer}
-use Rattle.store_core.specs.declared.stop.Stop.{Stop}
-use Rattle.store_core.specs.Core.{Row, ClaimRow, SealRow, CommitRow, OpenRow, ReadRow, EndRow, DeleteRow, ListRow, IsAtOther, IsNotGiven, StepsOr}
-use Rattle.store_core.specs.Runs.{FileEvent, FileStep, FileRun, IsAt, IsGivenRight, stored_after, IsSafeIn}
+use Rattle.store_core.specs.Core.{IsAtOther}
 use Rattle.store_core.specs.Sound.{HasTwin, IsTwin, MayClash, IsHarmless, NeverDamaged, FindsFile, FindsFiles}
-use Rattle.store_core.specs.State.{CoreState, IsUnderWayIn}
 use Rattle.store_core.proofs.AnySteps.{keeps_files}
 use Rattle.store_core.proofs.OwnParts.{stuck_held}
-use Rattle.gc_steps.specs.declared.collection.Collection.{Collection}
-use Rattle.gc_steps.specs.declared.collection.Stage.TheVariants.{Filter, Mark, Select, Sweep}
+use Rattle.gc_steps.specs.declared.collection.Stage.TheVariants.{Sweep}
 use Rattle.store_core.proofs.Unbegun.{unbegun_memory}
-use Rattle.store_core.specs.Collecting.{GcRow, IsNotMade, StartRow}
 use Rattle.gc_steps.proofs.NoDamage.{IsClean, no_damage, IsMarked}
-use Rattle.gc_steps.specs.Safety.{IsSafeAt}
-use Rattle.container_meta.specs.Places.{PlaceMap}
-use Rattle.store_state.specs.Tables.{Represents}
-use Rattle.gc_steps.specs.declared.collection.Stage.{Stage}
-use Rattle.gc_steps.specs.Stepping.{moment, IsStepRefusal}
 
 some_one : {A : Type 0} (x y : A) → Some x ≡ Some y → x ≡ y
 some_one x y same = cc

@@ -1,35 +1,13 @@
 -- Which keys a collection found once it has marked, step by step.
-use Rattle.std.proofs.Common.{◌≡◌, ◌⊎◌, inl, inr, ℕ, ◌≤◌, List, [], ◌∷◌, Option, Some, None, Result, refl, sym, ◌∙◌, subst, arith}
-use Rattle.actor_parts.specs.declared.step.Answer.{Answer}
+use Rattle.store_core.proofs.Prelude.{◌≡◌, ◌⊎◌, inl, inr, ℕ, ◌≤◌, List, [], ◌∷◌, Option, Some, None, Result, refl, sym, ◌∙◌, subst, arith, Answer, StepValue, PlaceMap, DiskView, IsLater, OnlyReads, reads_here, reads_on, Collection, Stage, Filter, Mark, Select, KeepsMarks, Scans, HasMarkedAll, HeadersAreApart, RootKeys, roots_of, AreFound, HasStage, IsUnderWay, Refusal, Store, AreHeaders, IsPartialIndexOf, last_within, RepresentsSlots, Tables, Stop, starts, GcEffect, GcRow, CoreStep, Effect, KeepsTables, Row, Steps, StepsOr, IsNoSweep, CoreRun, CoreState, Event, IsRunning, IsUnderWayIn, IsUp, UnlessStopped}
 use Rattle.actor_parts.specs.StepValue as asked
-use Rattle.actor_parts.specs.StepValue.{StepValue}
-use Rattle.container_meta.specs.Places.{PlaceMap}
-use Rattle.dd_disk.specs.View.{DiskView, IsLater, OnlyReads}
-use Rattle.dd_disk.proofs.Later.{reads_here, reads_on}
 use Rattle.dd_disk.proofs.Shows.{since, until}
-use Rattle.gc_steps.specs.declared.collection.Collection.{Collection}
-use Rattle.gc_steps.specs.declared.collection.Stage.{Stage}
-use Rattle.gc_steps.specs.declared.collection.Stage.TheVariants.{Filter, Mark, Select, Sweep}
-use Rattle.gc_steps.specs.Marking.{KeepsMarks, Scans}
-use Rattle.gc_steps.specs.Finding.{FindsAll, HasMarkedAll, HeadersAreApart}
-use Rattle.gc_steps.specs.Roots.{RootKeys, roots_of}
-use Rattle.gc_steps.specs.Starting.{AreFound}
-use Rattle.gc_steps.specs.UnderWay.{HasStage, IsUnderWay}
+use Rattle.gc_steps.specs.declared.collection.Stage.TheVariants.{Sweep}
+use Rattle.gc_steps.specs.Finding.{FindsAll}
 use Rattle.gc_steps.proofs.AllFound.{IsFinding, begins_finding, found_all, refusal_finds, scan_finds}
 use Rattle.gc_steps.proofs.RootKeys.{root_live}
-use Rattle.refusals.specs.declared.refusal.Refusal.{Refusal}
-use Rattle.store_model.specs.Image.{Store}
-use Rattle.store_model.specs.Slots.{AreHeaders, IsPartialIndexOf}
-use Rattle.store_model.proofs.Sound.{last_within}
-use Rattle.store_state.specs.Tables.{RepresentsSlots}
-use Rattle.store_state.specs.declared.tables.Tables.{Tables}
-use Rattle.store_core.specs.declared.stop.Stop.{Stop}
-use Rattle.store_core.specs.Bounds.{starts}
-use Rattle.store_core.specs.Collecting.{Begins, GcEffect, GcRow}
-use Rattle.store_core.specs.Core.{CoreStep, Effect, KeepsTables, Row, Steps, StepsOr}
-use Rattle.store_core.specs.Finding.{AreItsSteps, FindsKeys, IsIndexed, IsNoSweep}
-use Rattle.store_core.specs.Runs.{CoreRun}
-use Rattle.store_core.specs.State.{CoreState, Event, IsRunning, IsUnderWayIn, IsUp, UnlessStopped}
+use Rattle.store_core.specs.Collecting.{Begins}
+use Rattle.store_core.specs.Finding.{AreItsSteps, FindsKeys, IsIndexed}
 use Rattle.store_core.proofs.CoreRuns.{running_step}
 use Rattle.store_core.proofs.BeforeSweep.{gc_goes, has_not_scanned, has_scanned, only_read, same_running}
 use Rattle.store_core.proofs.RunningOn.{step_runs}

@@ -1,66 +1,34 @@
 -- Which keys a collection has found until it sweeps, whatever steps others made meanwhile.
-use Rattle.std.proofs.Common.{◌≡◌, ◌⊎◌, inl, inr, ℕ, suc, ◌<◌, ◌≤◌, ◌&&◌, Bool, true, false, not, List, [], ◌∷◌, ◌++◌, length, map, Option, Some, None, Result, Ok, Err, refl, sym, ◌∙◌, ap, subst, arith}
-use Rattle.std.specs.Prelude.{◌==◌, get_or, nat_le, nat_lt, slice_get}
+use Rattle.store_core.proofs.Prelude.{◌≡◌, ◌⊎◌, inl, inr, ℕ, suc, ◌<◌, ◌≤◌, Bool, true, false, List, [], ◌∷◌, ◌++◌, length, map, Option, Some, None, Result, Ok, Err, refl, sym, ◌∙◌, ap, subst, arith, nat_le, nat_lt, ltb-true, ACTORS, Part, Writing, Answer, PinMap, AreStepSegments, IsStepSegment, pin_of, IsStep, StepValue, Kind, PlaceMap, KindSegment, Segment, segment_key, HeaderValue, IsHeader, header_of, IsLater, Change, Root, Delete, Put, LiveKeys, with_pins, NameMap, Refusal, IsValidFor, Store, last_sequence, names_of, AreHeaders, DifferentIds, HasFree, HasKey, IsPartialIndexOf, first_free, CanSeal, SealContainer, with_change, with_sealed, last_within, Represents, SlotTable, Tables, Collection, Stage, Filter, Mark, Select, HasMarkedAll, HeadersAreApart, Keeps, StepsTo, KeepsMarks, Scans, IsPartKey, IsRoot, Marks, RootKeys, roots_of, AreFound, HasRoom, HasStage, IsUnderWay, is_old_slot, one_more, id_there, contains_first, contains_none, marks_none, Stop, starts, Collects, GcEffect, GcRow, IsKeptKey, MarksIn, StartRow, at_moment, ClaimRow, CommitRow, DeleteRow, Effect, KeepsTables, NamesOne, Rests, Row, SealRow, SealsOne, Steps, StopsAfter, next_id, IsNoSweep, CoreRun, CoreState, Event, IsRunning, IsUnderWayIn, IsUp, UnlessStopped}
+use Rattle.std.proofs.Common.{◌&&◌, not}
+use Rattle.std.specs.Prelude.{◌==◌, get_or, slice_get}
 use Rattle.std.specs.FinMap as finite
 use Rattle.std.specs.List.{Contains}
-use Rattle.std.proofs.lemmas.Bool.{leb-true, ltb-true}
+use Rattle.std.proofs.lemmas.Bool.{leb-true}
 use Rattle.std.proofs.lemmas.List.Elements.{All-contains, All-from_recursion, All-map}
-use Rattle.actor_parts.specs.declared.actor.TheConstants.{ACTORS}
-use Rattle.actor_parts.specs.declared.part.Part.{Part}
-use Rattle.actor_parts.specs.declared.part.Part.TheVariants.{Writing}
-use Rattle.actor_parts.specs.declared.step.Answer.{Answer}
 use Rattle.actor_parts.specs.declared.step.Answer.TheVariants as answers
 use Rattle.actor_parts.specs.Parts.{part_of}
-use Rattle.actor_parts.specs.PinMap.{PinMap}
-use Rattle.actor_parts.specs.Segments.{AreStepSegments, IsStepSegment, children_by, children_of, first_not_in, pin_of}
+use Rattle.actor_parts.specs.Segments.{children_by, children_of, first_not_in}
 use Rattle.actor_parts.specs.StepValue as asked
-use Rattle.actor_parts.specs.StepValue.{IsStep, StepValue}
-use Rattle.container_meta.specs.declared.kind.Kind.{Kind}
-use Rattle.container_meta.specs.Places.{PlaceMap}
-use Rattle.container_meta.specs.Segments.{Contents, KindSegment, Segment, segment_key}
-use Rattle.container_meta.specs.Spelling.{HeaderValue, IsHeader, header_of}
-use Rattle.dd_disk.specs.View.{IsLater}
-use Rattle.disk_format.specs.Cells.{Change, Root}
-use Rattle.disk_format.specs.Cells.Change.{Delete, Put}
-use Rattle.gc_enumerate.specs.Live.{LiveKeys}
+use Rattle.container_meta.specs.Segments.{Contents}
 use Rattle.ingest_steps.specs.Claiming.{MayClaim}
-use Rattle.ingest_steps.specs.Pinning.{MayKeep, first_unpinned_of, or_else, with_pins}
+use Rattle.ingest_steps.specs.Pinning.{MayKeep, first_unpinned_of, or_else}
 use Rattle.ingest_steps.proofs.Pinned.{all_pinned}
-use Rattle.namespace.specs.Names.{NameMap, names_changed}
-use Rattle.refusals.specs.declared.refusal.Refusal.{Refusal}
+use Rattle.namespace.specs.Names.{names_changed}
 use Rattle.refusals.specs.declared.refusal.Refusal.TheVariants as refusals
-use Rattle.store_model.specs.Image.{IsValidFor, Store, last_sequence, names_of}
-use Rattle.store_model.specs.Slots.{AreHeaders, DifferentIds, HasFree, HasKey, IsPartialIndexOf, IsUnusedId, first_free, ids_of}
-use Rattle.store_model.specs.Steps.{CanSeal, SealContainer, with_change, with_sealed}
+use Rattle.store_model.specs.Slots.{IsUnusedId, ids_of}
 use Rattle.store_model.proofs.Free.{as_many}
 use Rattle.store_model.proofs.NameChanges.{names_after_change}
-use Rattle.store_model.proofs.Sound.{last_within}
-use Rattle.store_state.specs.Tables.{Represents}
-use Rattle.store_state.specs.declared.slot_table.SlotTable.{SlotTable}
-use Rattle.store_state.specs.declared.tables.Tables.{Tables}
-use Rattle.gc_steps.specs.declared.collection.Collection.{Collection}
-use Rattle.gc_steps.specs.declared.collection.Stage.{Stage}
-use Rattle.gc_steps.specs.declared.collection.Stage.TheVariants.{Filter, Mark, Select, Sweep}
-use Rattle.gc_steps.specs.Finding.{FindsTrees, HasChildren, HasMarkedAll, HeadersAreApart, IsDataKey}
-use Rattle.gc_steps.specs.Stepping.{Keeps, StepsTo}
-use Rattle.gc_steps.specs.Marking.{KeepsMarks, Scans}
-use Rattle.gc_steps.specs.Roots.{IsPartKey, IsRoot, Marks, RootKeys, roots_of}
-use Rattle.gc_steps.specs.Starting.{AreFound}
-use Rattle.gc_steps.specs.UnderWay.{HasRoom, HasStage, IsUnderWay}
-use Rattle.gc_steps.specs.Stages.{is_old_slot, is_tree, is_tree_slot}
-use Rattle.gc_steps.proofs.ClaimedPin.{one_more, one_or_other}
-use Rattle.gc_steps.proofs.FirstStage.{id_there}
+use Rattle.gc_steps.specs.declared.collection.Stage.TheVariants.{Sweep}
+use Rattle.gc_steps.specs.Finding.{FindsTrees, HasChildren, IsDataKey}
+use Rattle.gc_steps.specs.Stages.{is_tree, is_tree_slot}
+use Rattle.gc_steps.proofs.ClaimedPin.{one_or_other}
 use Rattle.gc_steps.proofs.FoundMeanwhile.{FindsSoFar, Gains, begins, found_trees, gain_finds, marked_on, pinned_node, refusal_finds, scan_finds}
-use Rattle.gc_steps.proofs.Marked.{contains_first, contains_none, marks_none}
 use Rattle.gc_steps.proofs.RootsAfter.{committed_root, deleted_root, part_root}
 use Rattle.gc_steps.proofs.SealedPins.{decided, stays_there, with_there}
-use Rattle.store_core.specs.declared.stop.Stop.{Stop}
-use Rattle.store_core.specs.Bounds.{starts}
-use Rattle.store_core.specs.Collecting.{Begins, Collects, GcEffect, GcRow, IsKeptKey, MarksIn, StartRow, at_moment}
-use Rattle.store_core.specs.Core.{ClaimRow, CommitRow, DeleteRow, Effect, KeepsTables, Makes, NamesOne, Rests, Row, SealRow, SealsOne, Steps, StopsAfter, next_id}
-use Rattle.store_core.specs.Finding.{FindsKeysMeanwhile, IsNoSweep, RunBeforeSweep}
-use Rattle.store_core.specs.Runs.{CoreRun}
-use Rattle.store_core.specs.State.{CoreState, Event, IsRunning, IsUnderWayIn, IsUp, UnlessStopped}
+use Rattle.store_core.specs.Collecting.{Begins}
+use Rattle.store_core.specs.Core.{Makes}
+use Rattle.store_core.specs.Finding.{FindsKeysMeanwhile, RunBeforeSweep}
 use Rattle.store_core.proofs.CoreRuns.{running_step, runs_before, was_running}
 use Rattle.store_core.proofs.BeforeSweep.{HasGoneOn, HasNotGoneOn, gc_goes, has_not_scanned, has_scanned, same_running}
 use Rattle.store_core.proofs.Rooms.{free_held}

@@ -1,63 +1,28 @@
 -- What a collection has done once it has ended, whatever steps of others came between its own.
-use Rattle.std.proofs.Common.{◌≡◌, inl, inr, ℕ, ◌<◌, ◌≤◌, true, false, List, [], ◌∷◌, ◌++◌, append-nil, append_assoc, length, get_or, Option, Some, None, Result, Ok, Err, Vec, Global, refl, sym, ◌∙◌, ap, subst, arith, ◌⊎◌, ◌+◌}
+use Rattle.store_core.proofs.Prelude.{◌≡◌, inl, inr, ℕ, ◌<◌, ◌≤◌, true, false, List, [], ◌∷◌, ◌++◌, length, Option, Some, None, Result, Ok, Err, Vec, Global, refl, sym, ◌∙◌, ap, subst, arith, ◌⊎◌, ◌+◌, MOST_LEVEL, is_old_slot, HeaderValue, header_of, PlaceMap, bytes_eq, AllByRecursion, get_or_default_zero, Contains-get_or, Answer, StepValue, Kind, Segment, has_key, IsLater, IsLiveAt, LiveKeys, ContainerLiveness, IsSelectedId, selected, sources_of, Collection, Stage, Filter, Mark, Select, SweepStage, IsToChoose, Keeps, StepsTo, moment, phase_at, HoldsAt, HasStage, IsUnderWay, old_ids, chosen_which, level_early, held_at, IsStoreAfter, Flush, Release, End, slot_in_turn, HasNext, IsSweeping, sources_before, no_key, listed, Phase, Refusal, HasNoCollisions, ByteSet, IsIn, Stored, Store, first_free, ids_held, StoreChange, FreeContainer, Stop, IsNoEnd, NoneEnds, starts, Collects, GcEffect, GcRow, GoesOn, HasEnded, IsKeptKey, IsNotMade, MarksIn, StartRow, TouchesBy, at_moment, CoreStep, Row, Steps, StepsOr, StopsAfter, next_id, AreCopiesOf, Collected, IsDid, IsOfCopies, WasRecorded, WereCopies, copied_keys, AreGcSteps, copied_in, ends_with, freed_in, AreChangesBy, AreChangesOf, ChangesTo, FileEvent, FileRun, FileStep, IsAt, IsNoGcStep, IsSafeIn, changes_by, events_of, stored_after, stored_by, stored_with, CoreState, Event, IsUnderWayIn}
+use Rattle.std.proofs.Common.{append-nil, append_assoc, get_or}
 use Rattle.store_core.proofs.KeyFates.{KeepsFates, KeepsKeys, fates_left, fates_made, fates_none, fates_then, keys_other, keys_same, lies_first, none_selected, refused_unmarked, written_at_end}
 use Rattle.store_core.proofs.RecordedAll.{old_same}
 use Rattle.store_core.proofs.RecordedSums.{RecordsAll, RecordsOn, records_on, records_then}
 use Rattle.store_core.proofs.WrittenCopies.{WritesCopies, copies_then}
-use Rattle.disk_format.specs.declared.numbers.TheConstants.{MOST_LEVEL}
-use Rattle.gc_steps.specs.Stages.{first_slot, is_old_slot}
-use Rattle.container_meta.specs.Spelling.{HeaderValue, header_of}
-use Rattle.container_meta.specs.Places.{PlaceMap}
-use Rattle.std.specs.Str.{bytes_eq}
+use Rattle.gc_steps.specs.Stages.{first_slot}
 use Rattle.std.specs.Prelude.{Contains}
-use Rattle.std.specs.List.{AllByRecursion, IsDistinct}
-use Rattle.std.proofs.lemmas.Grind.{get_or_default_zero}
-use Rattle.std.proofs.lemmas.List.Elements.{Contains-get_or}
-use Rattle.actor_parts.specs.declared.step.Answer.{Answer}
+use Rattle.std.specs.List.{IsDistinct}
 use Rattle.actor_parts.specs.declared.step.Answer.TheVariants as answers
 use Rattle.actor_parts.specs.StepValue as asked
-use Rattle.actor_parts.specs.StepValue.{StepValue}
-use Rattle.container_meta.specs.declared.kind.Kind.{Kind}
-use Rattle.container_meta.specs.Segments.{Segment, has_key, keys_of}
-use Rattle.dd_disk.specs.View.{IsLater}
-use Rattle.gc_enumerate.specs.Live.{IsLiveAt, LiveKeys}
-use Rattle.gc_select.specs.declared.liveness.ContainerLiveness.{ContainerLiveness}
-use Rattle.gc_select.specs.Selecting.{IsSelectedId, selected, sources_of, ids_of}
-use Rattle.gc_steps.specs.declared.collection.Collection.{Collection}
-use Rattle.gc_steps.specs.declared.collection.Stage.{Stage}
-use Rattle.gc_steps.specs.declared.collection.Stage.TheVariants.{Filter, Mark, Select, Sweep as SweepStage}
-use Rattle.gc_steps.specs.FewSources.{IsToChoose}
-use Rattle.gc_steps.specs.Stepping.{Keeps, StepsTo, moment, phase_at}
-use Rattle.gc_steps.specs.SweepIsSafe.{HoldsAt}
-use Rattle.gc_steps.specs.UnderWay.{HasChosen, HasStage, IsUnderWay, old_ids}
-use Rattle.gc_steps.proofs.Chosen.{chosen_which, whole}
+use Rattle.container_meta.specs.Segments.{keys_of}
+use Rattle.gc_select.specs.Selecting.{ids_of}
+use Rattle.gc_steps.specs.UnderWay.{HasChosen}
+use Rattle.gc_steps.proofs.Chosen.{whole}
 use Rattle.gc_steps.proofs.CopiedOn.{GoesWell, IsCounted, begun_counted, goes_well}
-use Rattle.gc_steps.proofs.Lone.{filter_early, level_early, mark_early}
-use Rattle.gc_steps.proofs.Sparing.{held_at}
-use Rattle.gc_steps.proofs.StepSafe.{IsStoreAfter}
+use Rattle.gc_steps.proofs.Lone.{filter_early, mark_early}
 use Rattle.gc_sweep.specs.declared.sweep.Next.{Next}
-use Rattle.gc_sweep.specs.declared.sweep.Next.TheVariants.{Copy, Flush, Release, End}
-use Rattle.gc_sweep.specs.InTurn.{slot_in_turn}
-use Rattle.gc_sweep.specs.UnderWay.{HasNext, IsSweeping, sources_before}
-use Rattle.gc_sweep.proofs.Holds.{no_key}
-use Rattle.gc_sweep.proofs.KeyLists.{listed, none_distinct}
-use Rattle.refusals.specs.declared.refusal.Phase.{Phase}
+use Rattle.gc_sweep.specs.declared.sweep.Next.TheVariants.{Copy}
+use Rattle.gc_sweep.proofs.KeyLists.{none_distinct}
 use Rattle.refusals.specs.declared.refusal.Phase.TheVariants as phases
-use Rattle.refusals.specs.declared.refusal.Refusal.{Refusal}
 use Rattle.refusals.specs.declared.refusal.Refusal.TheVariants as refusals
-use Rattle.store_model.specs.Collisions.{HasNoCollisions, ByteSet, IsIn}
-use Rattle.store_model.specs.Files.{Stored}
-use Rattle.store_model.specs.Image.{Store}
-use Rattle.store_model.specs.Slots.{first_free, ids_of as ids_held}
-use Rattle.store_model.specs.Steps.{StoreChange, FreeContainer}
-use Rattle.store_core.specs.declared.stop.Stop.{Stop}
-use Rattle.store_core.specs.Bounds.{IsNoEnd, NoneEnds, starts}
-use Rattle.store_core.specs.Collecting.{Begins, Collects, GcEffect, GcRow, GoesOn, HasEnded, IsKeptKey, IsNotMade, MarksIn, StartRow, TouchesBy, at_moment}
-use Rattle.store_core.specs.Core.{CoreStep, Row, Steps, StepsOr, StopsAfter, next_id}
-use Rattle.store_core.specs.Finished.{AreCopiesOf, Collected, CollectsInAll, IsDid, IsOfCopies, WasRecorded, WereCopies, copied_keys}
-use Rattle.store_core.specs.Releases.{AreGcSteps, copied_in, ends_with, freed_in}
-use Rattle.store_core.specs.Runs.{AreChangesBy, AreChangesOf, ChangesTo, FileEvent, FileRun, FileStep, IsAt, IsNoGcStep, IsSafeIn, changes_by, events_of, stored_after, stored_by, stored_with}
-use Rattle.store_core.specs.State.{CoreState, Event, IsUnderWayIn}
+use Rattle.store_core.specs.Collecting.{Begins}
+use Rattle.store_core.specs.Finished.{CollectsInAll}
 use Rattle.store_core.proofs.AnySteps.{any_step, changes_only, gc_or_not, with_step}
 use Rattle.store_core.proofs.CopiedFrom.{CopiesAllFrom, CopiesFrom, from_left, from_made, from_then, source_first}
 use Rattle.store_core.proofs.CopiesOnce.{HoldsNewer, IsNoneOf, distinct_then, keys_then, listed_found, newer_on, none_listed, not_old}

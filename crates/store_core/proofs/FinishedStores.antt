@@ -1,18 +1,6 @@
 -- The containers of a store while a collection sweeps: where changes lead that give back only its sources.
-use Rattle.std.proofs.Common.{◌≡◌, ◌≢◌, ◌⊎◌, inl, inr, ℕ, ◌≤◌, List, [], ◌∷◌, ◌++◌, Option, Some, None, sym, ◌∙◌, ap, subst}
+use Rattle.store_core.proofs.Prelude.{◌≡◌, ◌≢◌, ◌⊎◌, inl, inr, ℕ, ◌≤◌, List, [], ◌∷◌, ◌++◌, Option, Some, None, sym, ◌∙◌, ap, subst, AllByRecursion, eqb_tells, Kind, Segment, HeaderValue, header_of, with_freed, Store, first_free, free_slots, with_slot, StoreChange, SealContainer, ChangeName, FlushContainer, FreeContainer, with_change, with_sealed, some_same, other_there, there_before, IsAdded}
 use Rattle.std.specs.Prelude.{Contains, slice_get}
-use Rattle.std.specs.List.{AllByRecursion}
-use Rattle.std.proofs.lemmas.Bool.Decides.{eqb_tells}
-use Rattle.container_meta.specs.declared.kind.Kind.{Kind}
-use Rattle.container_meta.specs.Segments.{Segment}
-use Rattle.container_meta.specs.Spelling.{HeaderValue, header_of}
-use Rattle.store_model.specs.Freeing.{with_freed}
-use Rattle.store_model.specs.Image.{Store}
-use Rattle.store_model.specs.Slots.{first_free, free_slots, with_slot}
-use Rattle.store_model.specs.Steps.{StoreChange, SealContainer, ChangeName, FlushContainer, FreeContainer, with_change, with_sealed}
-use Rattle.store_model.proofs.Copies.{some_same}
-use Rattle.store_model.proofs.Freed.{other_there, there_before}
-use Rattle.store_core.specs.Finished.{IsAdded}
 use Rattle.store_core.proofs.Frames.{first_none, first_with, other_with}
 
 -- P holds of each of two lists

@@ -1,37 +1,15 @@
 -- A container of copies that stands on the disk, whether or not the tables have it: the store with it can be opened.
-use Rattle.std.proofs.Common.{◌≡◌, ◌≢◌, ◌⊎◌, inl, inr, ℕ, zero, suc, ◌+◌, ◌<◌, ◌≤◌, true, false, List, [], ◌∷◌, get_or, Option, Some, None, refl, sym, ◌∙◌, ap, subst, arith}
-use Rattle.std.specs.Prelude.{Contains, nat_le, slice_get}
-use Rattle.std.proofs.lemmas.Bool.Decides.{leb_tells}
-use Rattle.std.proofs.lemmas.List.Elements.{Contains-append_left, Contains-get_or}
-use Rattle.container_meta.specs.Places.{PlaceMap}
-use Rattle.container_meta.specs.Segments.{entries_from}
-use Rattle.container_meta.specs.Spelling.{HeaderValue, IsHeader, header_of}
-use Rattle.gc_enumerate.specs.Live.{LiveKeys}
+use Rattle.store_core.proofs.Prelude.{◌≡◌, ◌≢◌, ◌⊎◌, inl, inr, ℕ, zero, suc, ◌+◌, ◌<◌, ◌≤◌, true, false, List, [], ◌∷◌, Option, Some, None, refl, sym, ◌∙◌, ap, subst, arith, nat_le, leb_tells, Contains-append_left, Contains-get_or, PlaceMap, entries_from, HeaderValue, IsHeader, header_of, LiveKeys, Flush, Release, HoldsSweep, HasNext, IsSweeping, free_in, sources_before, taken_from, RESERVE, Files, Store, with_entries, HasReserve, IsReachable, IsSpare, AreHeaders, HasKey, IsPartialIndexOf, first_free, free_slots, last_id, with_slot, CanBeOpened, with_sealed, some_same, free_less, reserve_by, IndexesFiles, RepresentsSlots, SlotTable}
+use Rattle.std.proofs.Common.{get_or}
+use Rattle.std.specs.Prelude.{Contains, slice_get}
 use Rattle.gc_sweep.specs.declared.sweep.Next.{Next}
-use Rattle.gc_sweep.specs.declared.sweep.Next.TheVariants.{Flush, Release}
 use Rattle.gc_sweep.specs.declared.sweep.Sweep.{Sweep}
 use Rattle.gc_sweep.specs.Flushing.{HasFlushed}
-use Rattle.gc_sweep.specs.Holding.{HoldsSweep}
-use Rattle.gc_sweep.specs.UnderWay.{HasNext, IsSweeping, free_in, sources_before, taken_from}
 use Rattle.gc_sweep.proofs.HoldsFlushed.{holds_flushed, keys_flushed}
 use Rattle.gc_sweep.proofs.HoldsRoom.{none_newest}
 use Rattle.gc_sweep.proofs.InSlots.{IsSourceIn, stands_in}
-use Rattle.disk_format.specs.declared.numbers.TheConstants.{RESERVE}
-use Rattle.store_model.specs.Files.{Files}
-use Rattle.store_model.specs.Image.{Store}
-use Rattle.store_model.specs.Indexing.{with_entries}
-use Rattle.store_model.specs.Reserve.{HasReserve, IsReachable, IsSpare}
-use Rattle.store_model.specs.Slots.{AreHeaders, HasKey, IsPartialIndexOf, first_free, free_slots, last_id, with_slot}
-use Rattle.store_model.specs.Standing.{CanBeOpened}
-use Rattle.store_model.specs.Steps.{with_sealed}
-use Rattle.store_model.proofs.Copies.{some_same}
-use Rattle.store_model.proofs.Filled.{free_less}
 use Rattle.store_model.proofs.Free.{first_closed, some_free}
-use Rattle.store_model.proofs.FreedFiles.{reserve_by}
 use Rattle.store_model.proofs.Indexing.{partial_with}
-use Rattle.store_state.specs.Invariant.{IndexesFiles}
-use Rattle.store_state.specs.Tables.{RepresentsSlots}
-use Rattle.store_state.specs.declared.slot_table.SlotTable.{SlotTable}
 use Rattle.store_core.proofs.Frames.{first_with, other_with}
 use Rattle.store_core.proofs.Rooms.{free_held}
 

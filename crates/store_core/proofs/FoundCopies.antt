@@ -1,55 +1,24 @@
 -- What a step that copies finds: just the keys that it finds come to be filled, beside those that were.
-use Rattle.std.proofs.Common.{◌≡◌, ◌⊎◌, inl, inr, ℕ, zero, suc, ◌+◌, ◌<◌, Bool, true, false, List, [], ◌∷◌, ◌++◌, length, drop, take, map, get_or, Option, Some, None, refl, sym, ◌∙◌, ap, subst, arith, ◌≤◌}
-use Rattle.std.specs.Prelude.{◌||◌, slice_get}
+use Rattle.store_core.proofs.Prelude.{◌≡◌, ◌⊎◌, inl, inr, ℕ, zero, suc, ◌+◌, ◌<◌, Bool, true, false, List, [], ◌∷◌, ◌++◌, length, take, map, Option, Some, None, refl, sym, ◌∙◌, ap, subst, arith, ◌≤◌, ◌||◌, AllByRecursion, bytes_eq, eqb-true, bytes_eq-Decides, key_of, Entry, Kind, kind_byte, PlaceMap, Segment, has_key, segment_key, HeaderValue, Plan, Planned, Source, planned, source_of, Shows, shown_content, IsLiveAt, Collection, Stage, SweepStage, StepsTo, HoldsAt, held_at, at_stage, Flush, Release, End, CopiesSource, TakesBy, HasNext, IsSweeping, sources_before, at_copy, copy_at, one_header, one_slot, listed, IsReadOf, ByteSet, IsIn, Stored, Store, HoldsSlot, place_of, some_same, SlotTable, at_moment, FindsLive, IsAt, IsSafeIn, CoreState, IsUnderWayIn}
+use Rattle.std.proofs.Common.{drop, get_or}
+use Rattle.std.specs.Prelude.{slice_get}
 use Rattle.std.specs.FinMap as finite
-use Rattle.std.specs.List.{AllByRecursion}
-use Rattle.std.specs.Str.{bytes_eq}
-use Rattle.std.proofs.lemmas.Bool.{eqb-true}
 use Rattle.std.proofs.lemmas.Option.{slice_get_within}
-use Rattle.std.proofs.lemmas.Slice.Eq.{bytes_eq-Decides}
-use Rattle.base_model.specs.Bytes.{key_of}
-use Rattle.container_meta.specs.declared.entry.Entry.{Entry}
-use Rattle.container_meta.specs.declared.kind.Kind.{Kind}
-use Rattle.container_meta.specs.Format.{kind_byte}
-use Rattle.container_meta.specs.Places.{PlaceMap}
-use Rattle.container_meta.specs.Segments.{Contents, Segment, has_key, keys_of, segment_key}
-use Rattle.container_meta.specs.Spelling.{HeaderValue}
-use Rattle.copy_forward.specs.declared.plan.Plan.{Plan}
+use Rattle.container_meta.specs.Segments.{Contents, keys_of}
 use Rattle.copy_forward.specs.Copying.{PlansBy}
 use Rattle.copy_forward.specs.Entries.{is_copy, without_keys}
-use Rattle.copy_forward.specs.Planning.{HasLiveKey, IsLiveIn, IsPlan, Planned, Source, Takes, TakesOne, planned, source_of}
-use Rattle.dd_disk.specs.Shows.{Shows}
-use Rattle.dd_disk.proofs.Shows.{shown_content}
-use Rattle.gc_enumerate.specs.Live.{IsLiveAt}
-use Rattle.gc_steps.specs.declared.collection.Collection.{Collection}
-use Rattle.gc_steps.specs.declared.collection.Stage.{Stage}
-use Rattle.gc_steps.specs.declared.collection.Stage.TheVariants.{Sweep as SweepStage}
-use Rattle.gc_steps.specs.Stepping.{StepsTo}
-use Rattle.gc_steps.specs.SweepIsSafe.{HoldsAt}
-use Rattle.gc_steps.proofs.Sparing.{held_at}
-use Rattle.gc_steps.proofs.UnderWay.{at_stage}
+use Rattle.copy_forward.specs.Planning.{HasLiveKey, IsLiveIn, IsPlan, Takes, TakesOne}
 use Rattle.gc_sweep.specs.declared.sweep.Next.{Next}
-use Rattle.gc_sweep.specs.declared.sweep.Next.TheVariants.{Copy, Flush, Release, End}
-use Rattle.gc_sweep.specs.Copying.{CopiesSource, EndsBy, TakesBy}
+use Rattle.gc_sweep.specs.declared.sweep.Next.TheVariants.{Copy}
+use Rattle.gc_sweep.specs.Copying.{EndsBy}
 use Rattle.gc_sweep.specs.Next.{IsNext}
 use Rattle.gc_sweep.specs.declared.sweep.Sweep.{Sweep}
-use Rattle.gc_sweep.specs.UnderWay.{HasNext, IsSweeping, entry_in, sources_before}
+use Rattle.gc_sweep.specs.UnderWay.{entry_in}
 use Rattle.gc_sweep.proofs.Gains.{takes_gain}
-use Rattle.gc_sweep.proofs.InSlots.{at_copy, copy_at, one_header, one_slot}
-use Rattle.gc_sweep.proofs.KeyLists.{keys_append, listed, listed_either}
+use Rattle.gc_sweep.proofs.KeyLists.{keys_append, listed_either}
 use Rattle.gc_sweep.proofs.PlannedKeys.{filled_on, filled_was, keys_stay, passed_copied}
-use Rattle.gc_sweep.proofs.SourceRead.{IsReadOf, not_other, read_of}
-use Rattle.store_model.specs.Collisions.{ByteSet, IsIn}
-use Rattle.store_model.specs.Files.{Stored}
-use Rattle.store_model.specs.Image.{Store}
+use Rattle.gc_sweep.proofs.SourceRead.{not_other, read_of}
 use Rattle.store_model.specs.Indexing.{entry_key}
-use Rattle.store_model.specs.Slots.{HoldsSlot, place_of}
-use Rattle.store_model.proofs.Copies.{some_same}
-use Rattle.store_state.specs.declared.slot_table.SlotTable.{SlotTable}
-use Rattle.store_core.specs.Collecting.{at_moment}
-use Rattle.store_core.specs.Finished.{FindsLive}
-use Rattle.store_core.specs.Runs.{IsAt, IsSafeIn}
-use Rattle.store_core.specs.State.{CoreState, IsUnderWayIn}
 use Rattle.store_core.proofs.AtStore.{AtStore, at_store}
 use Rattle.store_core.proofs.SparedRest.{same_some}
 

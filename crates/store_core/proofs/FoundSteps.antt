@@ -1,29 +1,12 @@
 -- What the steps of a collection find to copy, one after the other: just that is filled, and then written.
-use Rattle.std.proofs.Common.{◌≡◌, ◌⊎◌, inl, inr, ℕ, true, false, List, [], ◌∷◌, ◌++◌, Some, Ok, refl, sym, ◌∙◌, ap, subst, arith, length}
+use Rattle.store_core.proofs.Prelude.{◌≡◌, ◌⊎◌, inl, inr, ℕ, true, false, List, [], ◌∷◌, ◌++◌, Some, Ok, refl, sym, ◌∙◌, ap, subst, arith, length, Contains-append_cases, Contains-append_left, Contains-append_right, Segment, has_key, Collection, Stage, Filter, Mark, Select, SweepStage, IsToChoose, StepsTo, phase_at, Flush, Release, End, SweepValue, slot_in_turn, no_key, Phase, ByteSet, IsIn, Stored, Store, StoreChange, FreeContainer, at_moment, FindsLive, IsDid, copied_keys, FileEvent, FileRun, IsAt, CoreState}
 use Rattle.std.specs.Prelude.{Contains}
-use Rattle.std.proofs.lemmas.List.Elements.{Contains-append_cases, Contains-append_left, Contains-append_right}
 use Rattle.actor_parts.specs.declared.step.Answer.TheVariants as answers
-use Rattle.container_meta.specs.Segments.{Contents, Segment, has_key, keys_of}
-use Rattle.gc_steps.specs.declared.collection.Collection.{Collection}
-use Rattle.gc_steps.specs.declared.collection.Stage.{Stage}
-use Rattle.gc_steps.specs.declared.collection.Stage.TheVariants.{Filter, Mark, Select, Sweep as SweepStage}
-use Rattle.gc_steps.specs.FewSources.{IsToChoose}
-use Rattle.gc_steps.specs.Stepping.{StepsTo, phase_at}
+use Rattle.container_meta.specs.Segments.{Contents, keys_of}
 use Rattle.gc_sweep.specs.declared.sweep.Next.{Next}
-use Rattle.gc_sweep.specs.declared.sweep.Next.TheVariants.{Copy, Flush, Release, End}
-use Rattle.gc_sweep.specs.declared.sweep.Sweep.{Sweep as SweepValue}
-use Rattle.gc_sweep.specs.InTurn.{slot_in_turn}
-use Rattle.gc_sweep.proofs.Holds.{no_key}
-use Rattle.refusals.specs.declared.refusal.Phase.{Phase}
+use Rattle.gc_sweep.specs.declared.sweep.Next.TheVariants.{Copy}
 use Rattle.refusals.specs.declared.refusal.Phase.TheVariants as phases
-use Rattle.store_model.specs.Collisions.{ByteSet, IsIn}
-use Rattle.store_model.specs.Files.{Stored}
-use Rattle.store_model.specs.Image.{Store}
-use Rattle.store_model.specs.Steps.{StoreChange, FreeContainer}
-use Rattle.store_core.specs.Collecting.{at_moment}
-use Rattle.store_core.specs.Finished.{FindsLive, IsDid, IsDidOnRun, WasFound, copied_keys}
-use Rattle.store_core.specs.Runs.{FileEvent, FileRun, IsAt}
-use Rattle.store_core.specs.State.{CoreState}
+use Rattle.store_core.specs.Finished.{IsDidOnRun, WasFound}
 use Rattle.store_core.proofs.CopiesOnce.{keys_then, listed_of}
 use Rattle.store_core.proofs.Counted.{IsQuiet, changed_by}
 use Rattle.store_core.proofs.FoundCopies.{filled_found, filled_still, finds_filled}

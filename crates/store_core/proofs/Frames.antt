@@ -1,56 +1,25 @@
 -- What a run leaves of the bytes of the disk, whatever these are.
-use Rattle.std.proofs.Common.{◌≡◌, ◌≢◌, inl, inr, ℕ, zero, suc, ◌+◌, ◌<◌, ◌≤◌, Bool, true, false, List, [], ◌∷◌, length, Option, Some, None, Result, Ok, Err, refl, sym, ◌∙◌, ap, subst, arith, length-append}
-use Rattle.std.specs.Prelude.{nat_lt, slice_get}
-use Rattle.std.proofs.lemmas.Bool.{ltb-true, ltb-false, lt-ltb}
-use Rattle.base_model.specs.Bytes.{range}
-use Rattle.base_model.specs.Frames.{SameOutside}
-use Rattle.base_model.specs.Known.{KnownWith}
-use Rattle.disk_format.specs.declared.numbers.TheConstants.{CELL_BYTES, SLOT_BYTES, FIRST_HALF, FIRST_SLOT}
-use Rattle.disk_format.specs.Cells.{Change, SelectorValue}
-use Rattle.disk_format.specs.Cells.Change.{Delete, Put}
-use Rattle.disk_format.specs.Layout.{half_cells, cell_at, slot_at}
-use Rattle.dd_disk.specs.Ending.{ending_of}
-use Rattle.dd_disk.specs.View.{DiskView, IsLater, OnlyReads, CrashLeaves, SteppedFrom}
-use Rattle.dd_disk.specs.Moves.{StandsFor}
-use Rattle.dd_disk.specs.Writes.{Both}
-use Rattle.dd_disk.proofs.Later.{reads_here, reads_leave, leaves_on, leaves_weaker}
+use Rattle.store_core.proofs.Prelude.{◌≡◌, ◌≢◌, inl, inr, ℕ, zero, suc, ◌+◌, ◌<◌, ◌≤◌, Bool, true, false, List, [], ◌∷◌, length, Option, Some, None, Result, Ok, Err, refl, sym, ◌∙◌, ap, subst, arith, nat_lt, ltb-true, ltb-false, lt-ltb, range, SameOutside, KnownWith, SLOT_BYTES, Change, Delete, Put, half_cells, slot_at, ending_of, DiskView, IsLater, OnlyReads, CrashLeaves, SteppedFrom, StandsFor, Both, reads_here, reads_leave, leaves_on, leaves_weaker, PlaceMap, HeaderValue, header_of, SameBefore, Answer, StepValue, JournalValue, Refusal, Stored, Store, IsValidFor, free_slots, first_free, with_slot, StoreChange, SealContainer, ChangeName, FlushContainer, FreeContainer, changed, with_change, free_less, Tables, blames, IsSettled, Left, Represents, ChangesSlotAlone, SameButSlotOf, ChangesBytes, record_alone, Stop, CoreStep, Steps, StepsOr, StopsAfter, Row, Effect, Rests, SealsOne, NamesOne, KeepsTables, IsOn, KeepsBytes, ChangesTo, CoreRun, FileEvent, IsAt, changes_by, changes_of, events_of, AreNoGcSteps, IsNoGcStep, CoreState, Event}
+use Rattle.std.proofs.Common.{length-append}
+use Rattle.std.specs.Prelude.{slice_get}
+use Rattle.disk_format.specs.declared.numbers.TheConstants.{CELL_BYTES, FIRST_HALF, FIRST_SLOT}
+use Rattle.disk_format.specs.Cells.{SelectorValue}
+use Rattle.disk_format.specs.Layout.{cell_at}
 use Rattle.dd_disk.proofs.Moves.{stands_content, stands_weaker}
-use Rattle.container_meta.specs.Places.{PlaceMap}
 use Rattle.container_meta.specs.Segments.{Contents}
-use Rattle.container_meta.specs.Spelling.{HeaderValue, header_of}
-use Rattle.segment_index.specs.Changes.{SameBefore}
-use Rattle.actor_parts.specs.declared.step.Answer.{Answer}
 use Rattle.actor_parts.specs.declared.step.Answer.TheVariants as answers
 use Rattle.actor_parts.specs.StepValue as asked
-use Rattle.actor_parts.specs.StepValue.{StepValue}
 use Rattle.journal_cells.specs.Appending.{SameButNext}
-use Rattle.journal_cells.specs.Journal.{JournalValue}
-use Rattle.refusals.specs.declared.refusal.Refusal.{Refusal}
 use Rattle.refusals.specs.declared.refusal.Refusal.TheVariants as refusals
-use Rattle.store_model.specs.Files.{Stored}
-use Rattle.store_model.specs.Image.{Store, IsValidFor}
-use Rattle.store_model.specs.Slots.{free_slots, first_free, with_slot}
 use Rattle.store_model.specs.Standing.{HasJournal}
-use Rattle.store_model.specs.Steps.{HasCellsFor, StoreChange, SealContainer, ChangeName, FlushContainer, FreeContainer, appended, changed, record_of, with_change}
+use Rattle.store_model.specs.Steps.{HasCellsFor, appended, record_of}
 use Rattle.store_model.specs.Steps.{has_cell as store_has_cell}
 use Rattle.store_model.proofs.Cells.{cell_here, cell_anew, with_cell_is}
-use Rattle.store_model.proofs.Filled.{free_less}
 use Rattle.store_model.proofs.Frames.{SameTo}
 use Rattle.store_model.proofs.Journaled.{SameButJournal, has_kept}
-use Rattle.store_state.specs.declared.tables.Tables.{Tables}
-use Rattle.store_state.specs.Refused.{blames}
-use Rattle.store_state.specs.Settled.{IsSettled, Left}
-use Rattle.store_state.specs.Tables.{Represents}
-use Rattle.ingest_steps.specs.Sealing.{ChangesSlotAlone, SameButSlotOf}
-use Rattle.ingest_steps.specs.Naming.{ChangesBytes}
 use Rattle.ingest_steps.specs.Recording.{SameButRecord, SameButRecordBy, has_cell}
 use Rattle.ingest_steps.proofs.Recorded.{count_of_cell, same_cell}
-use Rattle.ingest_steps.proofs.RecordFrames.{record_alone}
-use Rattle.store_core.specs.declared.stop.Stop.{Stop}
-use Rattle.store_core.specs.Core.{CoreStep, Steps, StepsOr, StopsAfter, Row, Effect, Rests, SealsOne, NamesOne, KeepsTables}
-use Rattle.store_core.specs.Frame.{IsOn, HadContainer, KeepsJournal, KeepsBytes, AddsBytes, KeepsWritten, AddsAlone, WrittenStays, commands_in, commands_of}
-use Rattle.store_core.specs.Runs.{ChangesTo, CoreRun, FileEvent, IsAt, changes_by, changes_of, events_of, AreNoGcSteps, IsNoGcStep}
-use Rattle.store_core.specs.State.{CoreState, Event}
+use Rattle.store_core.specs.Frame.{HadContainer, KeepsJournal, AddsBytes, KeepsWritten, AddsAlone, WrittenStays, commands_in, commands_of}
 use Rattle.store_core.proofs.CoreRuns.{was_running, running_step, runs_before, run_later, stopped_reads}
 use Rattle.store_core.proofs.KeepingFiles.{only_reads, chain_on}
 use Rattle.store_core.proofs.KeepingSegments.{effect_settled}

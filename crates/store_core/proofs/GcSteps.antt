@@ -1,49 +1,16 @@
 -- Where a step of a collection leads.
-use Rattle.store_state.specs.Refused.{blames}
+use Rattle.store_core.proofs.Prelude.{blames, ACTORS, Answer, AreChangesBy, ChangesTo, FileEvent, IsAt, IsSafeIn, ByteSet, IsIn, Stands, Collection, HasKey, CoreInvariant, CoreState, IsUnderWayIn, Did, Done, Ending, Reads, ending_of, Filter, Mark, Select, SweepStage, Flush, Release, End, slot_in_turn, [], Err, List, None, Ok, Option, Result, Some, ap, arith, length, refl, subst, sym, ℕ, ◌∙◌, ◌∷◌, ◌≡◌, ◌≤◌, FlushContainer, FreeContainer, StoreChange, GcEffect, GcRow, IsNotMade, TouchesBy, GoesOn, HasEnded, at_moment, HasNewest, DiskView, IsLater, OnlyReads, IsNeeded, IsSafe, IsStoreAfter, step_safe, IsStoreOf, IsUnderWay, IsValidFor, Store, JournalValue, Part, Phase, PlaceMap, Refusal, Represents, Stage, StandsFor, IsStepRefusal, Keeps, Moment, StepsTo, TablesAfter, Touches, answer_at, moment, phase_at, StopsAfter, Stored, Tables, stands_reads}
 use Rattle.store_core.proofs.SafeSteps.{one_list, one_map_at}
 use Rattle.refusals.specs.declared.refusal.Refusal.TheVariants as refusals
 use Rattle.actor_parts.specs.declared.step.Answer.TheVariants as answers
 use Rattle.actor_parts.specs.StepValue as asked
-use Rattle.actor_parts.specs.declared.actor.TheConstants.{ACTORS}
-use Rattle.actor_parts.specs.declared.step.Answer.{Answer}
-use Rattle.store_core.specs.Runs.{AreChangesBy, ChangesTo, FileEvent, IsAt, IsSafeIn}
-use Rattle.store_model.specs.Collisions.{ByteSet, IsIn, Stands}
-use Rattle.gc_steps.specs.declared.collection.Collection.{Collection}
-use Rattle.store_model.specs.Slots.{HasKey}
-use Rattle.store_state.specs.Invariant.{CoreInvariant}
-use Rattle.store_core.specs.State.{CoreState, IsUnderWayIn}
-use Rattle.gc_steps.specs.declared.phase.StepDone.TheVariants.{Did}
-use Rattle.dd_disk.specs.Ending.{Done, Ending, Reads, ending_of}
-use Rattle.gc_steps.specs.declared.collection.Stage.TheVariants.{Filter, Mark, Select, Sweep as SweepStage}
 use Rattle.gc_sweep.specs.declared.sweep.Next.{Next}
-use Rattle.gc_sweep.specs.declared.sweep.Next.TheVariants.{Copy, Flush, Release, End}
+use Rattle.gc_sweep.specs.declared.sweep.Next.TheVariants.{Copy}
 use Rattle.gc_sweep.specs.declared.sweep.Sweep.{Sweep}
-use Rattle.gc_sweep.specs.InTurn.{slot_in_turn}
-use Rattle.std.proofs.Common.{[], Err, List, None, Ok, Option, Result, Some, ap, arith, length, refl, subst, sym, ℕ, ◌∙◌, ◌∷◌, ◌≡◌, ◌≤◌}
-use Rattle.store_model.specs.Steps.{FlushContainer, FreeContainer, StoreChange}
-use Rattle.store_core.specs.Collecting.{GcEffect, GcRow, IsNotMade, NoneRuns, TouchesBy, GoesOn, HasEnded, at_moment}
-use Rattle.store_model.specs.Trees.{HasNewest}
-use Rattle.dd_disk.specs.View.{DiskView, IsLater, OnlyReads}
-use Rattle.gc_steps.specs.Safety.{IsNeeded, IsSafe}
-use Rattle.gc_steps.proofs.StepSafe.{IsStoreAfter, step_safe}
-use Rattle.store_model.specs.Standing.{IsStoreOf}
-use Rattle.gc_steps.specs.UnderWay.{IsUnderWay}
-use Rattle.store_model.specs.Image.{IsValidFor, Store}
-use Rattle.journal_cells.specs.Journal.{JournalValue}
+use Rattle.store_core.specs.Collecting.{NoneRuns}
 use Rattle.store_core.proofs.Leading.{Leads}
-use Rattle.actor_parts.specs.declared.part.Part.{Part}
-use Rattle.refusals.specs.declared.refusal.Phase.{Phase}
-use Rattle.container_meta.specs.Places.{PlaceMap}
-use Rattle.refusals.specs.declared.refusal.Refusal.{Refusal}
-use Rattle.store_state.specs.Tables.{Represents}
-use Rattle.gc_steps.specs.declared.collection.Stage.{Stage}
-use Rattle.dd_disk.specs.Moves.{StandsFor}
-use Rattle.gc_steps.specs.Stepping.{IsStepRefusal, Keeps, Moment, StepsTo, TablesAfter, Touches, answer_at, answer_of, moment, phase_at}
-use Rattle.store_core.specs.Core.{StopsAfter}
-use Rattle.store_model.specs.Files.{Stored}
-use Rattle.store_state.specs.declared.tables.Tables.{Tables}
+use Rattle.gc_steps.specs.Stepping.{answer_of}
 use Rattle.gc_steps.proofs.RefusedSafe.{refused_safe}
-use Rattle.dd_disk.proofs.Moves.{stands_reads}
 
 -- ---- the store
 

@@ -1,55 +1,27 @@
 -- A file that was opened is given as it was then, whatever steps others make.
-use Rattle.store_model.proofs.SameFiles.{FitsFile, files_fit}
-use Rattle.disk_format.specs.declared.numbers.TheConstants.{MOST_FILE}
+use Rattle.store_core.proofs.Prelude.{FitsFile, files_fit, MOST_FILE, ◌≤◌, ◌≡◌, ◌≢◌, ◌<◌, ℕ, Bool, true, false, List, [], ◌∷◌, length, Option, Some, None, Result, Ok, Err, refl, sym, ◌∙◌, ap, subst, arith, ◌⊎◌, inl, inr, eqb-true, eqb-false, Root, Top, PlaceMap, Part, Answer, StepValue, apart, Refusal, HasNoCollisions, ByteSet, IsIn, Stored, Store, key_set, tree_keys, HasKey, KeepsCopies, file_tree, root_of, contained, reading, SegmentsAhead, Stop, ReadRow, Row, Steps, StepsOr, FileEvent, FileStep, FileRun, IsAt, ReadsAlone, IsReadNext, events_of, stored_by, opens, IsNoGcStep, CoreState, Event, ACTORS, AllByRecursion, HoldsRest, IsNeeded, IsPartKey, Reader, root_key, root_of_tree, top_of}
 use Rattle.merkle_file.specs.Tree as tree
-use Rattle.std.proofs.Common.{◌≤◌, ◌≡◌, ◌≢◌, ◌<◌, ◌==◌, ℕ, Bool, true, false, List, [], ◌∷◌, length, Option, Some, None, Result, Ok, Err, refl, sym, ◌∙◌, ap, subst, arith, ◌⊎◌, inl, inr}
+use Rattle.std.proofs.Common.{◌==◌}
 use Rattle.std.specs.FinMap as finite
-use Rattle.std.proofs.lemmas.Bool.{eqb-true, eqb-false}
-use Rattle.disk_format.specs.Cells.{Root}
-use Rattle.merkle_file.specs.declared.top.Top.{Top}
-use Rattle.container_meta.specs.Places.{PlaceMap}
-use Rattle.actor_parts.specs.declared.part.Part.{Part}
-use Rattle.actor_parts.specs.declared.step.Answer.{Answer}
 use Rattle.actor_parts.specs.declared.step.Answer.TheVariants as answers
 use Rattle.actor_parts.specs.Parts.{part_of, with_part}
 use Rattle.actor_parts.specs.StepValue as asked
-use Rattle.actor_parts.specs.StepValue.{StepValue}
-use Rattle.actor_parts.proofs.Apart.{apart}
-use Rattle.refusals.specs.declared.refusal.Refusal.{Refusal}
 use Rattle.refusals.specs.declared.refusal.Refusal.TheVariants as refusals
 use Rattle.segmenter.specs.Segments.{segments_of}
-use Rattle.store_model.specs.Collisions.{HasNoCollisions, ByteSet, IsIn}
-use Rattle.store_model.specs.Files.{Stored}
-use Rattle.store_model.specs.Image.{Store}
-use Rattle.store_model.specs.Reserve.{key_set, tree_keys}
-use Rattle.store_model.specs.Slots.{HasKey}
-use Rattle.store_model.specs.Steps.{KeepsCopies}
-use Rattle.store_model.specs.Trees.{file_tree, HoldsTree, root_of}
-use Rattle.store_model.proofs.Counted.{contained, in_set, tree_on}
-use Rattle.read_steps.specs.Readers.{reading}
-use Rattle.read_steps.specs.Walking.{IsIndexed, SegmentsAhead}
+use Rattle.store_model.specs.Trees.{HoldsTree}
+use Rattle.store_model.proofs.Counted.{in_set, tree_on}
+use Rattle.read_steps.specs.Walking.{IsIndexed}
 use Rattle.read_steps.proofs.Openings.{segments_on}
-use Rattle.store_core.specs.declared.stop.Stop.{Stop}
-use Rattle.store_core.specs.Core.{ReadRow, Row, Steps, StepsOr}
-use Rattle.store_core.specs.Runs.{FileEvent, FileStep, FileRun, IsAt, ReadsAlone, IsReadNext, GivesOne, GivesInOrder, GivesTheFile, events_of, stored_by, opens, IsNoGcStep}
-use Rattle.store_core.specs.State.{CoreState, Event}
+use Rattle.store_core.specs.Runs.{GivesOne, GivesInOrder, GivesTheFile}
 use Rattle.store_core.proofs.KeepingFiles.{file_step, run_running}
 use Rattle.store_core.proofs.OwnParts.{same_reader}
 use Rattle.store_core.proofs.Stepping.{ChangesOne, row_one}
-use Rattle.actor_parts.specs.declared.actor.TheConstants.{ACTORS}
-use Rattle.std.specs.List.{AllByRecursion, Contains}
-use Rattle.store_state.specs.Invariant.{HoldsRest}
-use Rattle.gc_steps.specs.Safety.{IsNeeded}
-use Rattle.gc_steps.specs.Roots.{IsPartKey}
+use Rattle.std.specs.List.{Contains}
 use Rattle.store_core.proofs.Leading.{IsSpared, Leads}
 use Rattle.merkle_file.specs.Walk.{IsTree, trees_in}
-use Rattle.actor_parts.specs.declared.part.Reader.{Reader}
 use Rattle.store_core.proofs.AnySteps.{any_step, gc_or_not, spared_other}
 use Rattle.merkle_file.specs.Tree.{of_segment, Tree}
 use Rattle.gc_steps.proofs.ReaderNeeds.{reader_needs}
-use Rattle.store_model.specs.Refusals.{root_key}
-use Rattle.store_model.proofs.Unfolding.{root_of_tree}
-use Rattle.read_steps.specs.Opening.{top_of}
 
 -- the actor takes a file of which these segments, which the store holds, are to come
 pub record IsReader (actor : ℕ) (store : Store) (segments : List (List ℕ)) (c : CoreState) : Type 0 where

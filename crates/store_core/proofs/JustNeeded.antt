@@ -1,48 +1,15 @@
 -- A collection of all that isn't live, which runs alone, leaves just what the files need.
-use Rattle.std.proofs.Common.{◌≡◌, inl, inr, ℕ, ◌<◌, List, [], ◌∷◌, Option, Some, None, Result, Ok, Err, refl, sym, ◌∙◌, ap, subst, arith}
-use Rattle.actor_parts.specs.declared.step.Answer.{Answer}
+use Rattle.store_core.proofs.Prelude.{◌≡◌, inl, inr, ℕ, ◌<◌, List, [], ◌∷◌, Option, Some, None, Result, Ok, Err, refl, sym, ◌∙◌, ap, subst, arith, Answer, StepValue, PlaceMap, HeaderValue, IsLater, MOST_LEVEL, Collection, Stage, Filter, Mark, Select, SweepStage, Spares, mark_level, Keeps, StepsTo, moment, HoldsAt, held_at, Flush, Release, End, copy_of, Phase, Refusal, HasNoCollisions, ByteSet, IsIn, Stored, Store, IsReachable, last_id, IsStoreOf, StoreChange, headers_of_right, store_once, last_within, Tables, Represents, starts, GcEffect, GcRow, GoesOn, HasEnded, IsNotMade, TouchesBy, at_moment, Steps, StopsAfter, AreGcSteps, ends_with, AreChangesBy, ChangesTo, FileEvent, FileRun, FileStep, IsAt, IsSafeIn, CoreState, IsUnderWayIn}
 use Rattle.actor_parts.specs.declared.step.Answer.TheVariants as answers
 use Rattle.actor_parts.specs.StepValue as asked
-use Rattle.actor_parts.specs.StepValue.{StepValue}
-use Rattle.container_meta.specs.Places.{PlaceMap}
-use Rattle.container_meta.specs.Spelling.{HeaderValue}
-use Rattle.dd_disk.specs.View.{IsLater}
-use Rattle.disk_format.specs.declared.numbers.TheConstants.{MOST_LEVEL}
-use Rattle.gc_steps.specs.declared.collection.Collection.{Collection}
-use Rattle.gc_steps.specs.declared.collection.Stage.{Stage}
-use Rattle.gc_steps.specs.declared.collection.Stage.TheVariants.{Filter, Mark, Select, Sweep as SweepStage}
-use Rattle.gc_steps.specs.Sparing.{Spares}
-use Rattle.gc_steps.specs.Stages.{mark_level}
-use Rattle.gc_steps.specs.Stepping.{Keeps, StepsTo, moment}
-use Rattle.gc_steps.specs.SweepIsSafe.{HoldsAt}
 use Rattle.gc_steps.specs.Taking.{TakesAll}
-use Rattle.gc_steps.proofs.Sparing.{held_at}
 use Rattle.gc_steps.proofs.WholeCopies.{begun_takes, ended_whole, takes_live, takes_step}
 use Rattle.gc_sweep.specs.declared.sweep.Next.{Next}
-use Rattle.gc_sweep.specs.declared.sweep.Next.TheVariants.{Copy, Flush, Release, End}
-use Rattle.gc_sweep.proofs.InSlots.{copy_of}
-use Rattle.refusals.specs.declared.refusal.Phase.{Phase}
-use Rattle.refusals.specs.declared.refusal.Refusal.{Refusal}
+use Rattle.gc_sweep.specs.declared.sweep.Next.TheVariants.{Copy}
 use Rattle.refusals.specs.declared.refusal.Refusal.TheVariants as refusals
-use Rattle.store_model.specs.Collisions.{HasNoCollisions, ByteSet, IsIn}
-use Rattle.store_model.specs.Files.{Stored}
-use Rattle.store_model.specs.Image.{Store}
-use Rattle.store_model.specs.Reserve.{HoldsJustNeeded, IsReachable}
-use Rattle.store_model.specs.Slots.{last_id}
-use Rattle.store_model.specs.Standing.{IsStoreOf}
-use Rattle.store_model.specs.Steps.{StoreChange}
-use Rattle.store_model.proofs.Copies.{headers_of_right}
-use Rattle.store_model.proofs.Once.{store_once}
-use Rattle.store_model.proofs.Sound.{last_within}
-use Rattle.store_state.specs.declared.tables.Tables.{Tables}
-use Rattle.store_state.specs.Tables.{Represents}
-use Rattle.store_core.specs.Bounds.{starts}
-use Rattle.store_core.specs.Collecting.{Begins, GcEffect, GcRow, GoesOn, HasEnded, IsNotMade, TouchesBy, at_moment}
-use Rattle.store_core.specs.Core.{Steps, StopsAfter}
+use Rattle.store_model.specs.Reserve.{HoldsJustNeeded}
+use Rattle.store_core.specs.Collecting.{Begins}
 use Rattle.store_core.specs.Finished.{LeavesJustNeeded}
-use Rattle.store_core.specs.Releases.{AreGcSteps, ends_with}
-use Rattle.store_core.specs.Runs.{AreChangesBy, ChangesTo, FileEvent, FileRun, FileStep, IsAt, IsSafeIn}
-use Rattle.store_core.specs.State.{CoreState, IsUnderWayIn}
 use Rattle.store_core.proofs.AnySteps.{any_step, with_step}
 use Rattle.store_core.proofs.CoreRuns.{running_step, was_running}
 use Rattle.store_core.proofs.Finished.{ended_runs}

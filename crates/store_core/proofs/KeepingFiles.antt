@@ -1,58 +1,22 @@
 -- A core that isn't stopped has the stored of the commits that it acknowledged, and its invariant holds.
-use Rattle.std.proofs.Common.{◌≡◌, ◌⊎◌, inl, inr, ℕ, List, [], ◌∷◌, ◌++◌, Option, Some, None, Result, Ok, Err, refl, sym, ◌∙◌, subst, ap, suc, length, arith}
-use Rattle.std.specs.List.{AllByRecursion}
-use Rattle.disk_format.specs.Cells.{Root}
-use Rattle.disk_format.specs.Cells.Change.{Delete, Put}
-use Rattle.dd_disk.specs.View.{DiskView, IsLater, OnlyReads}
-use Rattle.dd_disk.specs.Ending.{ending, ending_of}
-use Rattle.dd_disk.specs.Moves.{StandsFor, Moved, Arrives, Ends}
-use Rattle.dd_disk.proofs.Moves.{stands_reads}
-use Rattle.container_meta.specs.declared.kind.Kind.{Kind}
+use Rattle.store_core.proofs.Prelude.{◌≡◌, ◌⊎◌, inl, inr, ℕ, List, [], ◌∷◌, ◌++◌, Option, Some, None, Result, Ok, Err, refl, sym, ◌∙◌, subst, ap, suc, length, arith, AllByRecursion, Root, Delete, Put, DiskView, IsLater, OnlyReads, ending, ending_of, StandsFor, stands_reads, Kind, PlaceMap, Segment, KindSegment, Part, Idle, Answer, IsStepSegment, AreStepSegments, StepValue, IsStep, Refusal, HasNoCollisions, ByteSet, IsIn, IsAmong, Stands, Stored, with_stored, without_stored, Store, IsValidFor, last_sequence, names_of, HasFree, HasKey, IsPartialIndexOf, HasReserve, free_reserve, free_sealed, reached_less, reached_put, AnyKey, StoreChange, SealContainer, ChangeName, KeepsCopies, changed, with_sealed, with_change, Tables, CoreInvariant, HoldsPart, IndexesFiles, blames, Represents, Runs, last_changed, StandsSealed, Stop, IndexesAll, Row, Effect, Rests, SealsOne, KeepsTables, StopsAfter, StepsOr, next_id, FileEvent, FileStep, FileRun, IsAt, ChangesTo, changes_by, events_of, IsGivenRight, stored_with, stored_by, IsNoGcStep, IsSafeIn, CoreState, IsUnderWayIn, ACTORS, Collection, Collects, KeepsBoth, Known, apart}
+use Rattle.dd_disk.specs.Moves.{Moved, Arrives, Ends}
 use Rattle.container_meta.specs.declared.kind.Kind.TheVariants as kind
-use Rattle.container_meta.specs.Places.{PlaceMap}
-use Rattle.container_meta.specs.Segments.{Segment, KindSegment, Contents}
-use Rattle.actor_parts.specs.declared.part.Part.{Part}
-use Rattle.actor_parts.specs.declared.part.Part.TheVariants.{Idle}
-use Rattle.actor_parts.specs.declared.step.Answer.{Answer}
+use Rattle.container_meta.specs.Segments.{Contents}
 use Rattle.actor_parts.specs.declared.step.Answer.TheVariants as answers
 use Rattle.actor_parts.specs.Parts.{part_of}
-use Rattle.actor_parts.specs.Segments.{IsStepSegment, AreStepSegments}
 use Rattle.actor_parts.specs.StepValue as asked
-use Rattle.actor_parts.specs.StepValue.{StepValue, IsStep}
-use Rattle.refusals.specs.declared.refusal.Refusal.{Refusal}
 use Rattle.refusals.specs.declared.refusal.Refusal.TheVariants as refusals
-use Rattle.store_model.specs.Collisions.{HasNoCollisions, ByteSet, IsIn, IsAmong, Stands}
-use Rattle.store_model.specs.Files.{Stored, with_stored, without_stored}
 use Rattle.store_model.specs.Files as files
-use Rattle.store_model.specs.Image.{Store, IsValidFor, last_sequence, names_of}
-use Rattle.store_model.specs.Slots.{HasFree, HasKey, IsPartialIndexOf}
-use Rattle.store_model.specs.Reserve.{HasReserve}
-use Rattle.store_model.proofs.FreedFiles.{free_reserve}
-use Rattle.store_model.proofs.Valid.{free_sealed}
-use Rattle.store_model.proofs.Reached.{reached_less, reached_put}
-use Rattle.store_model.specs.Steps.{AnyKey, StoreChange, SealContainer, ChangeName, MaySeal, KeepsCopies, changed, with_sealed, with_change}
-use Rattle.store_state.specs.declared.tables.Tables.{Tables}
-use Rattle.store_state.specs.Invariant.{CoreInvariant, HoldsPart, IndexesFiles}
-use Rattle.store_state.specs.Refused.{blames}
-use Rattle.store_state.specs.Tables.{Represents, Runs}
-use Rattle.store_model.proofs.NameChanges.{last_changed}
+use Rattle.store_model.specs.Steps.{MaySeal}
 use Rattle.store_state.proofs.Parts.{part_kept, parts_kept}
-use Rattle.ingest_steps.specs.Sealing.{KeepsHeld, StandsSealed, sealing_compared}
-use Rattle.store_core.specs.declared.stop.Stop.{Stop}
-use Rattle.store_core.specs.Core.{IndexesAll, Row, Effect, Rests, SealsOne, Makes, KeepsTables, StopsAfter, StepsOr, next_id}
-use Rattle.store_core.specs.Runs.{FileEvent, FileStep, FileRun, IsAt, ChangesTo, changes_by, events_of, IsGivenRight, stored_with, stored_by, IsNoGcStep, IsSafeIn}
-use Rattle.store_core.specs.State.{CoreState, IsUnderWayIn}
+use Rattle.ingest_steps.specs.Sealing.{KeepsHeld, sealing_compared}
+use Rattle.store_core.specs.Core.{Makes}
 use Rattle.store_core.proofs.CoreRuns.{runs_before, core_run}
 use Rattle.store_core.proofs.OwnParts.{all_part, all_own, own_begin, own_claim, own_abort, own_open, own_read, own_drop, own_set, own_stat, own_list, own_refused}
 use Rattle.store_core.proofs.Stepping.{ChangesOne, row_one}
-use Rattle.actor_parts.specs.declared.actor.TheConstants.{ACTORS}
-use Rattle.gc_steps.specs.declared.collection.Collection.{Collection}
-use Rattle.store_core.specs.Collecting.{Collects}
 use Rattle.store_core.proofs.RootsKept.{abort_none, begin_none, end_none, list_none, open_none, read_none, stat_none}
 use Rattle.store_core.proofs.SafeSteps.{IsSafeFor, begun_safe, claim_safe, committed_safe, deleted_safe, none_rested, runs_alone, sealed_safe_in, start_parts, still_rested, unchanged_safe, unsealed_safe}
-use Rattle.gc_steps.proofs.Carried.{KeepsBoth}
-use Rattle.base_model.specs.Known.{Known}
-use Rattle.actor_parts.proofs.Apart.{apart}
 use Rattle.store_core.proofs.RunningOn.{seal_kept, under_way_on}
 
 -- where a step leads, by these changes

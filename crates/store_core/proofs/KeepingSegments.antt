@@ -1,60 +1,29 @@
 -- The segments that the steps of a run kept are held at its end.
-use Rattle.std.proofs.Common.{◌≡◌, inl, inr, ℕ, List, [], ◌∷◌, ◌++◌, map, Some, None, Result, Ok, Err, refl, sym, ◌∙◌, ap, subst, Option}
-use Rattle.std.proofs.lemmas.Bool.{eqb-true}
+use Rattle.store_core.proofs.Prelude.{◌≡◌, inl, inr, ℕ, List, [], ◌∷◌, ◌++◌, map, Some, None, Result, Ok, Err, refl, sym, ◌∙◌, ap, subst, Option, eqb-true, AllByRecursion, sha256, slot_at, size_of, ending_of, Done, Ending, OnlyReads, IsDurable, shown_content, Kind, Place, PlaceMap, Segment, KindSegment, segment_key, SameBefore, Changes, Answer, pin_of, StepValue, IsStep, Refusal, HasNoCollisions, ByteSet, IsIn, IsAmong, Stands, Files, Stored, Store, HasKey, newest, StoreChange, SealContainer, ChangeName, FlushContainer, FreeContainer, with_sealed, with_change, HasNewest, bytes_at, copy_digest, headers_of_right, IsAmongThese, IsNodeEntry, among_so, newest_so, nodes_so, blames, IsSettled, Left, Row, ClaimRow, SealRow, Effect, StopsAfter, next_id, Steps, FileEvent, FileStep, FileRun, IsAt, IsGivenRight, ChangesTo, changes_by, stored_by, stored_after, AreNoGcSteps, IsNoGcStep, events_of, CoreState, Mark, Filter, Select, SweepStage, CopyNext, Flush, Release, End, Collection, GcEffect, GcRow, TouchesBy, at_moment, Stage, StepsTo, Touches, IsStepRefusal, with_freed}
 use Rattle.std.proofs.lemmas.List.{append-nil, append_assoc}
-use Rattle.std.specs.List.{AllByRecursion}
-use Rattle.sha2.specs.Sha256.{sha256}
-use Rattle.disk_format.specs.Layout.{slot_at, size_of}
-use Rattle.dd_disk.specs.Ending.{ending_of, Done, Ending}
-use Rattle.dd_disk.specs.View.{OnlyReads, IsDurable}
-use Rattle.dd_disk.proofs.Shows.{shown_content}
-use Rattle.container_meta.specs.declared.kind.Kind.{Kind}
 use Rattle.container_meta.specs.declared.kind.Kind.TheVariants.{Leaf, Tree}
-use Rattle.container_meta.specs.declared.place.Place.{Place}
-use Rattle.container_meta.specs.Places.{PlaceMap}
-use Rattle.container_meta.specs.Segments.{Segment, KindSegment, Contents, segment_key}
-use Rattle.segment_index.specs.Changes.{SameBefore, Changes}
-use Rattle.actor_parts.specs.declared.step.Answer.{Answer}
+use Rattle.container_meta.specs.Segments.{Contents}
 use Rattle.actor_parts.specs.declared.step.Answer.TheVariants as answers
-use Rattle.actor_parts.specs.Segments.{IsOfKind, pin_of}
+use Rattle.actor_parts.specs.Segments.{IsOfKind}
 use Rattle.actor_parts.specs.StepValue as asked
-use Rattle.actor_parts.specs.StepValue.{StepValue, IsStep}
-use Rattle.refusals.specs.declared.refusal.Refusal.{Refusal}
 use Rattle.refusals.specs.declared.refusal.Refusal.TheVariants as refusals
-use Rattle.store_model.specs.Collisions.{HasNoCollisions, ByteSet, IsIn, IsAmong, Stands}
-use Rattle.store_model.specs.Files.{Files, Stored}
-use Rattle.store_model.specs.Image.{Store}
-use Rattle.store_model.specs.Slots.{Copy, HasKey, newest}
-use Rattle.store_model.specs.Steps.{StoreChange, SealContainer, ChangeName, FlushContainer, FreeContainer, with_sealed, with_change}
-use Rattle.store_model.specs.Trees.{HasNewest, bytes_at}
-use Rattle.store_model.proofs.Copies.{copy_digest, headers_of_right}
+use Rattle.store_model.specs.Slots.{Copy}
 use Rattle.store_model.proofs.FramedTrees.{newest_framed}
-use Rattle.store_model.proofs.HeldSlots.{HasLevel, IsAmongThese, IsNodeEntry, among_so, levels_so, newest_so, nodes_so}
+use Rattle.store_model.proofs.HeldSlots.{HasLevel, levels_so}
 use Rattle.store_model.proofs.Lookups.{finds}
 use Rattle.store_model.proofs.OneNode.{one_level}
 use Rattle.store_model.proofs.SameIndex.{same_copies}
 use Rattle.store_state.specs.Comparing.{FitsBytes}
-use Rattle.store_state.specs.Refused.{blames}
-use Rattle.store_state.specs.Settled.{IsSettled, KeepsWhatCounts, Left}
+use Rattle.store_state.specs.Settled.{KeepsWhatCounts}
 use Rattle.ingest_steps.proofs.HeldPins.{node_of}
-use Rattle.store_core.specs.Core.{Row, ClaimRow, SealRow, Effect, StopsAfter, next_id, Steps}
 use Rattle.store_core.specs.Keeping.{kept_by, kept_of, IsHeldIn, KeepsSegments, StaysHeld, StaysSettled}
-use Rattle.store_core.specs.Runs.{FileEvent, FileStep, FileRun, IsAt, IsGivenRight, ChangesTo, changes_by, stored_by, stored_after, AreNoGcSteps, IsNoGcStep, events_of}
-use Rattle.store_core.specs.State.{CoreState}
 use Rattle.store_core.proofs.CoreRuns.{running_step}
-use Rattle.gc_steps.specs.declared.collection.Stage.TheVariants.{Mark, Filter, Select, Sweep as SweepStage}
 use Rattle.gc_sweep.specs.declared.sweep.Next.{Next}
-use Rattle.gc_sweep.specs.declared.sweep.Next.TheVariants.{Copy as CopyNext, Flush, Release, End}
 use Rattle.store_core.proofs.AnySteps.{any_step, gc_or_not, other_leads, with_step}
 use Rattle.store_core.proofs.GcSteps.{end_reads}
 use Rattle.store_core.proofs.Leading.{Leads}
 use Rattle.store_core.proofs.KeepingFiles.{file_step, run_running, only_reads, seal_holds, NextOn}
 use Rattle.store_core.proofs.Sealing.{one_map}
-use Rattle.gc_steps.specs.declared.collection.Collection.{Collection}
-use Rattle.store_core.specs.Collecting.{GcEffect, GcRow, TouchesBy, at_moment}
-use Rattle.gc_steps.specs.declared.collection.Stage.{Stage}
-use Rattle.gc_steps.specs.Stepping.{StepsTo, Touches, IsStepRefusal}
-use Rattle.store_model.specs.Freeing.{with_freed}
 
 -- ---- lists
 

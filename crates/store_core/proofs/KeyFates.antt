@@ -1,69 +1,21 @@
 -- What becomes of a key whose copy a collection found in a container, step by step: it lies there still, or was written, or it was dead.
-use Rattle.std.proofs.Common.{◌≡◌, ◌≢◌, ◌⊎◌, inl, inr, ℕ, zero, suc, ◌-◌, Bool, true, false, List, [], ◌∷◌, ◌++◌, append_assoc, get_or, map, Option, Some, None, Result, Ok, Err, refl, sym, ◌∙◌, ap, subst, arith}
-use Rattle.std.specs.Prelude.{◌||◌, slice_get, option_map, Contains}
+use Rattle.store_core.proofs.Prelude.{◌≡◌, ◌≢◌, ◌⊎◌, inl, inr, ℕ, zero, suc, Bool, true, false, List, [], ◌∷◌, ◌++◌, map, Option, Some, None, Result, Ok, Err, refl, sym, ◌∙◌, ap, subst, arith, ◌||◌, AllByRecursion, bytes_eq, get_or_default_zero, Contains-append_left, Contains-append_right, bytes_eq-Decides, Part, Answer, StepValue, Change, Delete, Put, Kind, Place, PlaceMap, KindSegment, Segment, entries_from, segment_key, HeaderValue, header_of, DiskView, LiveKeys, IsLiveAt, IsSelectedId, selected, sources_of, Collection, Stage, Filter, Mark, Select, SweepStage, IsRoot, IsSafeAt, Flushes, Keeps, StepsTo, moment, HoldsAt, IsUnderWay, chosen_which, copied_leaves, entry_none, IsFlushing, IsStoreAfter, at_stage, Flush, Release, End, CopiesSource, HoldsSweep, slot_in_turn, IsSweeping, LeavesHeld, listed, NameMap, Refusal, ByteSet, IsIn, Stored, Store, names_of, with_entries, HeldCopy, HasKey, newest, StoreChange, SealContainer, ChangeName, FlushContainer, FreeContainer, other_there, put_none, SlotTable, Collects, IsKeptKey, MarksIn, StartRow, at_moment, ClaimRow, Effect, KeepsUnlessBroken, NamesOne, Row, SealRow, SealsOne, StopsAfter, copied_keys, sealed_keys, IsAt, IsNoGcStep, IsSafeIn, changes_by, CoreState}
+use Rattle.std.proofs.Common.{◌-◌, append_assoc, get_or}
+use Rattle.std.specs.Prelude.{slice_get, option_map, Contains}
 use Rattle.std.specs.FinMap as finite
-use Rattle.std.specs.List.{AllByRecursion}
-use Rattle.std.specs.Str.{bytes_eq}
-use Rattle.std.proofs.lemmas.Grind.{get_or_default_zero}
-use Rattle.std.proofs.lemmas.List.Elements.{Contains-append_left, Contains-append_right, recursion_from_All}
-use Rattle.std.proofs.lemmas.Slice.Eq.{bytes_eq-Decides}
-use Rattle.actor_parts.specs.declared.part.Part.{Part}
-use Rattle.actor_parts.specs.declared.step.Answer.{Answer}
+use Rattle.std.proofs.lemmas.List.Elements.{recursion_from_All}
 use Rattle.actor_parts.specs.declared.step.Answer.TheVariants as answers
 use Rattle.actor_parts.specs.StepValue as asked
-use Rattle.actor_parts.specs.StepValue.{StepValue}
-use Rattle.disk_format.specs.Cells.{Change}
-use Rattle.disk_format.specs.Cells.Change.{Delete, Put}
-use Rattle.container_meta.specs.declared.kind.Kind.{Kind}
-use Rattle.container_meta.specs.declared.place.Place.{Place}
-use Rattle.container_meta.specs.Places.{PlaceMap}
-use Rattle.container_meta.specs.Segments.{Contents, KindSegment, Segment, entries_from, segment_key}
-use Rattle.container_meta.specs.Spelling.{HeaderValue, header_of}
-use Rattle.dd_disk.specs.View.{DiskView}
+use Rattle.container_meta.specs.Segments.{Contents}
 use Rattle.gc_enumerate.specs.Copies.{IsPlaceOf}
-use Rattle.gc_enumerate.specs.Live.{LiveKeys, IsLiveAt}
 use Rattle.gc_enumerate.specs.Scanning.{keys_of}
 use Rattle.gc_enumerate.proofs.LiveChildren.{among_keys}
-use Rattle.gc_select.specs.Selecting.{IsSelectedId, selected, sources_of}
-use Rattle.gc_steps.specs.declared.collection.Collection.{Collection}
-use Rattle.gc_steps.specs.declared.collection.Stage.{Stage}
-use Rattle.gc_steps.specs.declared.collection.Stage.TheVariants.{Filter, Mark, Select, Sweep as SweepStage}
 use Rattle.gc_steps.specs.Marking.{ScansEntries, ScansSome}
-use Rattle.gc_steps.specs.Roots.{IsRoot}
-use Rattle.gc_steps.specs.Safety.{IsSafeAt}
-use Rattle.gc_steps.specs.Stepping.{Flushes, Keeps, StepsTo, moment}
-use Rattle.gc_steps.specs.SweepIsSafe.{HoldsAt}
-use Rattle.gc_steps.specs.UnderWay.{IsUnderWay}
-use Rattle.gc_steps.proofs.Chosen.{chosen_which}
-use Rattle.gc_steps.proofs.SparingStages.{copied_leaves, entry_none}
-use Rattle.gc_steps.proofs.StepSafe.{IsFlushing, IsFreeing, IsStoreAfter}
-use Rattle.gc_steps.proofs.UnderWay.{at_stage}
+use Rattle.gc_steps.proofs.StepSafe.{IsFreeing}
 use Rattle.gc_sweep.specs.declared.sweep.Next.{Next}
-use Rattle.gc_sweep.specs.declared.sweep.Next.TheVariants.{Copy, Flush, Release, End}
-use Rattle.gc_sweep.specs.Copying.{CopiesSource}
-use Rattle.gc_sweep.specs.Holding.{HoldsSweep}
-use Rattle.gc_sweep.specs.InTurn.{slot_in_turn}
-use Rattle.gc_sweep.specs.UnderWay.{IsSweeping}
+use Rattle.gc_sweep.specs.declared.sweep.Next.TheVariants.{Copy}
 use Rattle.gc_sweep.proofs.Holds.{none_left}
-use Rattle.gc_sweep.proofs.HoldsCopied.{LeavesHeld}
-use Rattle.gc_sweep.proofs.KeyLists.{listed}
-use Rattle.namespace.specs.Names.{NameMap}
-use Rattle.refusals.specs.declared.refusal.Refusal.{Refusal}
 use Rattle.refusals.specs.declared.refusal.Refusal.TheVariants as refusals
-use Rattle.store_model.specs.Collisions.{ByteSet, IsIn}
-use Rattle.store_model.specs.Files.{Stored}
-use Rattle.store_model.specs.Image.{Store, names_of}
-use Rattle.store_model.specs.Indexing.{with_entries}
-use Rattle.store_model.specs.Slots.{Copy as HeldCopy, HasKey, newest}
-use Rattle.store_model.specs.Steps.{StoreChange, SealContainer, ChangeName, FlushContainer, FreeContainer}
-use Rattle.store_model.proofs.Freed.{other_there}
-use Rattle.store_model.proofs.Indexing.{put_none}
-use Rattle.store_state.specs.declared.slot_table.SlotTable.{SlotTable}
-use Rattle.store_core.specs.Collecting.{Collects, IsKeptKey, MarksIn, StartRow, at_moment}
-use Rattle.store_core.specs.Core.{ClaimRow, Effect, KeepsUnlessBroken, NamesOne, Row, SealRow, SealsOne, StopsAfter}
-use Rattle.store_core.specs.Finished.{copied_keys, sealed_keys}
-use Rattle.store_core.specs.Runs.{IsAt, IsNoGcStep, IsSafeIn, changes_by}
-use Rattle.store_core.specs.State.{CoreState}
 use Rattle.store_core.proofs.AtStore.{AtStore, at_store}
 use Rattle.store_core.proofs.Counted.{changed_by}
 use Rattle.store_core.proofs.CopiesOnce.{keys_then}

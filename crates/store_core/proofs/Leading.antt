@@ -1,19 +1,7 @@
 -- Where a step of a run leads, and what it may not lose.
 use Rattle.actor_parts.specs.StepValue as asked
-use Rattle.store_core.specs.Runs.{AreChangesBy, FileEvent, IsNoGcStep}
-use Rattle.store_core.specs.State.{CoreState}
-use Rattle.store_model.specs.Slots.{HasKey}
-use Rattle.store_model.specs.Trees.{HasNewest}
-use Rattle.store_core.specs.Core.{IndexesAll}
-use Rattle.gc_steps.specs.Safety.{IsNeeded}
-use Rattle.std.proofs.Common.{List, Some, ℕ, ◌≡◌}
+use Rattle.store_core.proofs.Prelude.{AreChangesBy, FileEvent, IsNoGcStep, CoreState, HasKey, HasNewest, IndexesAll, IsNeeded, List, Some, ℕ, ◌≡◌, Part, PlaceMap, StepValue, Store, StoreChange, Stored}
 use Rattle.store_core.proofs.KeepingFiles.{Next}
-use Rattle.actor_parts.specs.declared.part.Part.{Part}
-use Rattle.container_meta.specs.Places.{PlaceMap}
-use Rattle.actor_parts.specs.StepValue.{StepValue}
-use Rattle.store_model.specs.Image.{Store}
-use Rattle.store_model.specs.Steps.{StoreChange}
-use Rattle.store_model.specs.Files.{Stored}
 
 -- a key that a step may not lose: for a collection each that is needed, and else each
 abbrev pub IsSpared : StepValue → Store → List Part → List ℕ → List ℕ → Type 0

@@ -33,6 +33,7 @@ pub mod MarkedSteps
 pub mod Marks
 pub mod Opened
 pub mod OwnParts
+mod Prelude
 pub mod RunningOn
 pub mod Releasing
 pub mod RecordedAll

@@ -1,43 +1,13 @@
 -- A collection that runs alone: step by step it gives back what is spare, and it writes just what is live of its sources.
-use Rattle.std.proofs.Common.{◌≡◌, ◌⊎◌, inl, inr, ℕ, List, [], ◌++◌, append-nil, Option, Some, None, Result, Ok, Err, refl, sym, ◌∙◌, ap, subst}
-use Rattle.actor_parts.specs.declared.step.Answer.{Answer}
+use Rattle.store_core.proofs.Prelude.{◌≡◌, ◌⊎◌, inl, inr, ℕ, List, [], ◌++◌, Option, Some, None, Result, Ok, Err, refl, sym, ◌∙◌, ap, subst, Answer, StepValue, PlaceMap, IsLater, Collection, Stage, Filter, Mark, Select, SweepStage, Spares, Keeps, StepsTo, moment, phase_at, HoldsAt, IsUnderWay, held_at, ready_is_spare, IsStoreAfter, at_stage, Flush, Release, End, slot_in_turn, Phase, Refusal, ByteSet, IsIn, Stored, Store, IsReachable, IsStoreOf, StoreChange, CoreInvariant, Represents, GcEffect, GcRow, GoesOn, IsNotMade, TouchesBy, at_moment, Steps, StopsAfter, copied_keys, SweepsSpare, AreChangesBy, ChangesTo, FileEvent, FileStep, IsAt, IsSafeIn, stored_by, stored_with, CoreState, IsUnderWayIn}
+use Rattle.std.proofs.Common.{append-nil}
 use Rattle.actor_parts.specs.declared.step.Answer.TheVariants as answers
 use Rattle.actor_parts.specs.StepValue as asked
-use Rattle.actor_parts.specs.StepValue.{StepValue}
-use Rattle.container_meta.specs.Places.{PlaceMap}
 use Rattle.container_meta.specs.Segments.{keys_of}
-use Rattle.dd_disk.specs.View.{IsLater}
-use Rattle.gc_steps.specs.declared.collection.Collection.{Collection}
-use Rattle.gc_steps.specs.declared.collection.Stage.{Stage}
-use Rattle.gc_steps.specs.declared.collection.Stage.TheVariants.{Filter, Mark, Select, Sweep as SweepStage}
-use Rattle.gc_steps.specs.Sparing.{Spares}
-use Rattle.gc_steps.specs.Stepping.{Keeps, StepsTo, moment, phase_at}
-use Rattle.gc_steps.specs.SweepIsSafe.{HoldsAt}
-use Rattle.gc_steps.specs.UnderWay.{IsUnderWay}
 use Rattle.gc_steps.proofs.Lone.{IsLone, keys_after, lone_step, marked_lone}
-use Rattle.gc_steps.proofs.Sparing.{held_at, ready_is_spare}
-use Rattle.gc_steps.proofs.StepSafe.{IsStoreAfter}
-use Rattle.gc_steps.proofs.UnderWay.{at_stage}
 use Rattle.gc_sweep.specs.declared.sweep.Next.{Next}
-use Rattle.gc_sweep.specs.declared.sweep.Next.TheVariants.{Copy, Flush, Release, End}
-use Rattle.gc_sweep.specs.InTurn.{slot_in_turn}
-use Rattle.refusals.specs.declared.refusal.Phase.{Phase}
-use Rattle.refusals.specs.declared.refusal.Refusal.{Refusal}
+use Rattle.gc_sweep.specs.declared.sweep.Next.TheVariants.{Copy}
 use Rattle.refusals.specs.declared.refusal.Refusal.TheVariants as refusals
-use Rattle.store_model.specs.Collisions.{ByteSet, IsIn}
-use Rattle.store_model.specs.Files.{Stored}
-use Rattle.store_model.specs.Image.{Store}
-use Rattle.store_model.specs.Reserve.{IsReachable}
-use Rattle.store_model.specs.Standing.{IsStoreOf}
-use Rattle.store_model.specs.Steps.{StoreChange}
-use Rattle.store_state.specs.Invariant.{CoreInvariant}
-use Rattle.store_state.specs.Tables.{Represents}
-use Rattle.store_core.specs.Collecting.{GcEffect, GcRow, GoesOn, IsNotMade, TouchesBy, at_moment}
-use Rattle.store_core.specs.Core.{Steps, StopsAfter}
-use Rattle.store_core.specs.Finished.{copied_keys}
-use Rattle.store_core.specs.Releases.{SweepsSpare}
-use Rattle.store_core.specs.Runs.{AreChangesBy, ChangesTo, FileEvent, FileStep, IsAt, IsSafeIn, stored_by, stored_with}
-use Rattle.store_core.specs.State.{CoreState, IsUnderWayIn}
 use Rattle.store_core.proofs.AnySteps.{with_step}
 use Rattle.store_core.proofs.CopiesOnce.{keys_then}
 use Rattle.store_core.proofs.CoreRuns.{running_step, was_running}

@@ -1,16 +1,8 @@
 -- A step of a core that runs, from what one of its functions did.
-use Rattle.std.proofs.Common.{◌≡◌, ℕ, List, Option, None, Result, Ok, refl, sym, ◌∙◌, subst}
-use Rattle.dd_disk.proofs.Later.{reads_here}
-use Rattle.actor_parts.specs.declared.step.Answer.{Answer}
+use Rattle.store_core.proofs.Prelude.{◌≡◌, ℕ, List, Option, None, Result, Ok, refl, sym, ◌∙◌, subst, reads_here, Answer, StepValue, Refusal, Stop, Made, StopsAfter, StepsOr, CoreStep, counted, CoreState, Event, IsUp, UnlessStopped, IsRunning, Collection, Collects, IsKeptKey, MarksIn}
 use Rattle.actor_parts.specs.StepValue as asked
-use Rattle.actor_parts.specs.StepValue.{StepValue}
-use Rattle.refusals.specs.declared.refusal.Refusal.{Refusal}
-use Rattle.store_core.specs.declared.stop.Stop.{Stop}
-use Rattle.store_core.specs.Core.{IsCount, Made, StopsAfter, StepsOr, CoreStep, counted}
-use Rattle.store_core.specs.State.{CoreState, Event, IsUp, UnlessStopped, IsRunning}
+use Rattle.store_core.specs.Core.{IsCount}
 use Rattle.store_core.proofs.RunningOn.{step_runs}
-use Rattle.gc_steps.specs.declared.collection.Collection.{Collection}
-use Rattle.store_core.specs.Collecting.{Collects, IsKeptKey, MarksIn}
 
 -- the same step, by another name
 pub made_of : (value other : StepValue) → value ≡ other → (actor : ℕ) (answer : Result Answer Refusal) (buf : List ℕ) (old new : CoreState) → Made other actor answer buf old new

@@ -1,43 +1,22 @@
 -- What the steps of a collection make of a core.
-use Rattle.std.proofs.Common.{◌≡◌, inl, inr, ℕ, List, [], ◌∷◌, Option, Some, None, Result, Ok, Err, refl, sym, ◌∙◌, subst}
+use Rattle.store_core.proofs.Prelude.{◌≡◌, inl, inr, ℕ, List, [], ◌∷◌, Option, Some, None, Result, Ok, Err, refl, sym, ◌∙◌, subst, Done, ending, ending_of, Shows, DiskView, later_here, reads_here, PlaceMap, Entry, Planned, Source, planned, source_of, Answer, Phase, Refusal, LiveKeys, Flush, Release, End, Collection, Stage, Filter, Mark, Select, Did, IsStepRefusal, Moment, StepsTo, TablesAfter, Touches, answer_at, phase_at, Nears, steps_to_come, HasRoom, IsUnderWay, blames, Tables, SlotTable, GcRow, IsNotMade, TouchesBy, at_moment, Made, CoreState, IsUnderWayIn, Stop}
 use Rattle.std.specs.Prelude.{drop}
-use Rattle.dd_disk.specs.Ending.{Done, ending, ending_of}
-use Rattle.dd_disk.specs.Shows.{Shows}
-use Rattle.dd_disk.specs.View.{DiskView}
-use Rattle.dd_disk.proofs.Later.{later_here, reads_here}
-use Rattle.container_meta.specs.Places.{PlaceMap}
 use Rattle.container_meta.specs.Segments.{Contents}
-use Rattle.container_meta.specs.declared.entry.Entry.{Entry}
 use Rattle.copy_forward.specs.Copying.{IsCopyRefusal}
-use Rattle.copy_forward.specs.Planning.{IsStuck, Planned, Source, planned, source_of}
-use Rattle.actor_parts.specs.declared.step.Answer.{Answer}
+use Rattle.copy_forward.specs.Planning.{IsStuck}
 use Rattle.actor_parts.specs.declared.step.Answer.TheVariants as answers
 use Rattle.actor_parts.specs.StepValue as asked
-use Rattle.refusals.specs.declared.refusal.Phase.{Phase}
-use Rattle.refusals.specs.declared.refusal.Refusal.{Refusal}
 use Rattle.refusals.specs.declared.refusal.Refusal.TheVariants as refusals
-use Rattle.gc_enumerate.specs.Live.{LiveKeys}
 use Rattle.gc_enumerate.specs.declared.fault.ScanFault.{ScanFault}
 use Rattle.gc_enumerate.specs.declared.fault.ScanFault.TheVariants as faults
 use Rattle.gc_sweep.specs.declared.sweep.Next.{Next}
-use Rattle.gc_sweep.specs.declared.sweep.Next.TheVariants.{Copy, Flush, Release, End}
-use Rattle.gc_steps.specs.declared.collection.Collection.{Collection}
-use Rattle.gc_steps.specs.declared.collection.Stage.{Stage}
-use Rattle.gc_steps.specs.declared.collection.Stage.TheVariants.{Filter, Mark, Select, Sweep}
+use Rattle.gc_sweep.specs.declared.sweep.Next.TheVariants.{Copy}
+use Rattle.gc_steps.specs.declared.collection.Stage.TheVariants.{Sweep}
 use Rattle.gc_steps.specs.declared.phase.StepDone.{StepDone}
-use Rattle.gc_steps.specs.declared.phase.StepDone.TheVariants.{Did, Done as EndsWith}
+use Rattle.gc_steps.specs.declared.phase.StepDone.TheVariants.{Done as EndsWith}
 use Rattle.gc_steps.specs.Marking.{IsMarkRefusal}
 use Rattle.gc_steps.specs.Scanning.{step_refusal}
-use Rattle.gc_steps.specs.Stepping.{GoesBy, IsStepRefusal, Makes, Moment, Refuses, StepsTo, TablesAfter, Touches, answer_at, phase_at}
-use Rattle.gc_steps.specs.StepsToCome.{Nears, steps_to_come}
-use Rattle.gc_steps.specs.UnderWay.{HasRoom, IsUnderWay}
-use Rattle.store_state.specs.Refused.{blames}
-use Rattle.store_state.specs.declared.tables.Tables.{Tables}
-use Rattle.store_state.specs.declared.slot_table.SlotTable.{SlotTable}
-use Rattle.store_core.specs.Collecting.{GcRow, IsNotMade, TouchesBy, at_moment}
-use Rattle.store_core.specs.Core.{Made}
-use Rattle.store_core.specs.State.{CoreState, IsUnderWayIn}
-use Rattle.store_core.specs.declared.stop.Stop.{Stop}
+use Rattle.gc_steps.specs.Stepping.{GoesBy, Makes, Refuses}
 use Rattle.store_core.proofs.Rooms.{room_ended}
 
 -- ---- the end

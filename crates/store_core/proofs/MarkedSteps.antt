@@ -1,22 +1,16 @@
 -- What a claim or a seal makes of a core, where what it keeps becomes live, too.
-use Rattle.std.proofs.Common.{◌≡◌, ◌↔◌, ℕ, Bool, true, false, List, Option, Result, Ok, Err, IsErr, IsTrue, refl, sym, subst, map}
+use Rattle.store_core.proofs.Prelude.{◌≡◌, ◌↔◌, ℕ, Bool, true, false, List, Option, Result, Ok, Err, refl, sym, subst, map, KindSegment, segment_key, reads_here, Answer, Refusal, StoreChange, SealContainer, Collection, IsKeptKey, MarksIn, Restores, ClaimRow, KeepsTables, KeepsUnlessBroken, Made, SealRow, SealsOne, next_id, CoreState, Stop}
+use Rattle.std.proofs.Common.{IsErr, IsTrue}
 use Rattle.std.specs.List.{Contains}
 use Rattle.std.specs.Result.{is_ok}
-use Rattle.container_meta.specs.Segments.{Contents, KindSegment, segment_key}
-use Rattle.dd_disk.proofs.Later.{reads_here}
-use Rattle.actor_parts.specs.declared.step.Answer.{Answer}
+use Rattle.container_meta.specs.Segments.{Contents}
 use Rattle.actor_parts.specs.declared.step.Answer.TheVariants as answers
 use Rattle.actor_parts.specs.StepValue as asked
-use Rattle.refusals.specs.declared.refusal.Refusal.{Refusal}
 use Rattle.refusals.specs.declared.refusal.Refusal.TheVariants as refusals
-use Rattle.store_model.specs.Steps.{StoreChange, SealContainer}
-use Rattle.gc_steps.specs.declared.collection.Collection.{Collection}
 use Rattle.ingest_steps.proofs.AfterReads.{seals_refused_by}
 use Rattle.ingest_steps.proofs.StepRefusals.{steps_here}
-use Rattle.store_core.specs.Collecting.{IsHeldAnswer, IsKeptKey, MarksIn, Restores}
-use Rattle.store_core.specs.Core.{ClaimRow, KeepsTables, KeepsUnlessBroken, Made, Makes, SealRow, SealsOne, next_id}
-use Rattle.store_core.specs.State.{CoreState}
-use Rattle.store_core.specs.declared.stop.Stop.{Stop}
+use Rattle.store_core.specs.Collecting.{IsHeldAnswer}
+use Rattle.store_core.specs.Core.{Makes}
 
 -- ---- a step that is so whatever collection runs
 

@@ -1,19 +1,11 @@
 -- What becomes live where a collection runs.
-use Rattle.std.proofs.Common.{◌≡◌, ◌↔◌, ◌⊎◌, ◌≤◌, ◌+◌, inl, inr, ℕ, List, [], ◌∷◌, length, map, take, Option, Some, None, Result, Ok, Err, OnOk, OnErr, IfOk, refl, sym, ◌∙◌, ap, subst}
+use Rattle.store_core.proofs.Prelude.{◌≡◌, ◌↔◌, ◌⊎◌, ◌≤◌, ◌+◌, inl, inr, ℕ, List, [], ◌∷◌, length, map, take, Option, Some, None, Result, Ok, Err, refl, sym, ◌∙◌, ap, subst, key_of, Entry, Kind, kind_byte, Segment, entries_from, segment_key, IsLiveAt, LiveKeys, Collection, Marks, contains_none, marks_none, MarksIn, Restores}
+use Rattle.std.proofs.Common.{OnOk, OnErr, IfOk}
 use Rattle.std.specs.List.{Contains}
 use Rattle.std.proofs.lemmas.List.{take_all}
-use Rattle.base_model.specs.Bytes.{key_of}
-use Rattle.container_meta.specs.declared.entry.Entry.{Entry}
-use Rattle.container_meta.specs.declared.kind.Kind.{Kind}
-use Rattle.container_meta.specs.Format.{kind_byte}
-use Rattle.container_meta.specs.Segments.{Segment, entries_from, segment_key}
-use Rattle.gc_enumerate.specs.Live.{IsLiveAt, LiveKeys}
-use Rattle.gc_steps.specs.declared.collection.Collection.{Collection}
 use Rattle.gc_steps.specs.Fresh.{AreFresh, IsAsLive, Unmarks}
-use Rattle.gc_steps.specs.Roots.{Marks}
 use Rattle.gc_steps.proofs.FreshMarks.{unmarked_fresh}
-use Rattle.gc_steps.proofs.Marked.{contains_more, contains_none, marks_as, marks_none}
-use Rattle.store_core.specs.Collecting.{MarksIn, Restores}
+use Rattle.gc_steps.proofs.Marked.{contains_more, marks_as}
 
 -- a list of one key has it alone
 pub contains_one : (key k : List ℕ) → Contains (key ∷ []) k ↔ (k ≡ key)

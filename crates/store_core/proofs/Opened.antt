@@ -1,42 +1,16 @@
 -- A core that was opened runs, and runs can begin at it; one that was not opened again runs on.
-use Rattle.std.proofs.Common.{◌≡◌, ℕ, zero, suc, Bool, true, false, List, [], length, Option, None, Some, Ok, Err, replicate, refl, sym, ◌∙◌, ap, subst, inl, inr, arith}
+use Rattle.store_core.proofs.Prelude.{◌≡◌, ℕ, zero, suc, Bool, true, false, List, [], length, Option, None, Some, Ok, Err, refl, sym, ◌∙◌, ap, subst, inl, inr, arith, AllByRecursion, Done, Reads, Shows, DiskView, IsDurable, reads_here, shown_content, slot_at, SameBefore, PlaceMap, ACTORS, Idle, Part, Refusal, Memory, IsIn, Stands, Stored, Store, Encodes, IsValidFor, HasKey, last_id, free_reserve, store_once, Tables, HoldsPart, IndexesFiles, IsSettled, Represents, Runs, Stop, IndexesAll, LeavesUnread, IsSafeIn, CoreState, IsUnderWayIn, IsUp, UnlessStopped, IsRunning}
+use Rattle.std.proofs.Common.{replicate}
 use Rattle.std.proofs.lemmas.List.{length-replicate}
-use Rattle.std.specs.List.{AllByRecursion}
-use Rattle.dd_disk.specs.Ending.{Done, Reads}
-use Rattle.dd_disk.specs.Shows.{Shows}
-use Rattle.dd_disk.specs.View.{DiskView, IsDurable}
-use Rattle.dd_disk.proofs.Later.{reads_here}
-use Rattle.dd_disk.proofs.Shows.{shown_content}
-use Rattle.disk_format.specs.Layout.{slot_at}
-use Rattle.segment_index.specs.Changes.{SameBefore}
-use Rattle.container_meta.specs.Places.{PlaceMap}
-use Rattle.actor_parts.specs.declared.actor.TheConstants.{ACTORS}
-use Rattle.actor_parts.specs.declared.part.Part.TheVariants.{Idle}
-use Rattle.actor_parts.specs.declared.part.Part.{Part}
 use Rattle.disk_format.specs.declared.why.Why.{Why}
 use Rattle.recovery.specs.Opening.{IsOpened}
 use Rattle.recovery.specs.Room.{FromRoom, LeavesOf, Opening, ReadsStore, RoomMade}
-use Rattle.refusals.specs.declared.refusal.Refusal.{Refusal}
-use Rattle.refusals.specs.declared.refusal.Refusal.TheVariants.{Memory}
-use Rattle.store_model.specs.Collisions.{IsIn, Stands, IsOf}
-use Rattle.store_model.specs.Files.{Stored}
-use Rattle.store_model.specs.Image.{Store, Encodes, IsValidFor}
-use Rattle.store_model.specs.Slots.{HasKey, last_id}
-use Rattle.store_model.proofs.FreedFiles.{free_reserve}
+use Rattle.store_model.specs.Collisions.{IsOf}
 use Rattle.store_model.proofs.Lookups.{indexed_by}
 use Rattle.store_model.proofs.Reached.{reached_held}
-use Rattle.store_model.proofs.Once.{store_once}
 use Rattle.store_state.specs.declared.open_store.OpenStore.{OpenStore}
-use Rattle.store_state.specs.declared.tables.Tables.{Tables}
-use Rattle.store_state.specs.Invariant.{HoldsPart, IndexesFiles}
-use Rattle.store_state.specs.Settled.{IsSettled}
 use Rattle.store_state.specs.State as opened
-use Rattle.store_state.specs.Tables.{Represents, Runs}
-use Rattle.store_core.specs.declared.stop.Stop.{Stop}
-use Rattle.store_core.specs.Core.{IndexesAll}
-use Rattle.store_core.specs.Opening.{IsNew, IsKept, BeginsAt, IsNewAt, IsNotRead, IsReadFrom, LeavesUnread, OpensCore, OpensNone, StaysOrStops, WritesUnread}
-use Rattle.store_core.specs.Runs.{IsSafeIn}
-use Rattle.store_core.specs.State.{CoreState, IsUnderWayIn, IsUp, UnlessStopped, IsRunning}
+use Rattle.store_core.specs.Opening.{IsNew, IsKept, BeginsAt, IsNewAt, IsNotRead, IsReadFrom, OpensCore, OpensNone, StaysOrStops, WritesUnread}
 use Rattle.store_core.proofs.Rooms.{has_room}
 use Rattle.store_core.proofs.SafeSteps.{alone}
 

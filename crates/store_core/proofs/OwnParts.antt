@@ -1,38 +1,17 @@
 -- What the actor of a step is at afterwards is held.
-use Rattle.std.proofs.Common.{◌≡◌, ◌≤◌, ℕ, zero, suc, List, [], ◌∷◌, length, Some, None, Result, Ok, Err, refl, sym, ◌∙◌, ap, subst}
+use Rattle.store_core.proofs.Prelude.{◌≡◌, ◌≤◌, ℕ, zero, suc, List, [], ◌∷◌, length, Some, None, Result, Ok, Err, refl, sym, ◌∙◌, ap, subst, AllByRecursion, Root, PlaceMap, KindSegment, Top, Part, Idle, Writing, Answer, Refusal, SegmentsAhead, HasNoCollisions, ByteSet, IsIn, IsAmong, Stands, Files, Store, names_of, MOST_FILE, FitsFile, files_fit, root_of_tree, top_of, key_set, tree_keys, HasKey, IsPartialIndexOf, file_tree, contained, HoldsPart, HoldsRest, IndexesFiles, BeginRow, ClaimRow, AbortRow, OpenRow, ReadRow, EndRow, StatRow, ListRow, IsNotGiven, CoreState}
 use Rattle.std.specs.FinMap as finite
 use Rattle.std.specs.Ordering.{nat_cmp}
 use Rattle.std.specs.Cmp.Lexicographic.{slice_cmp}
-use Rattle.std.specs.List.{AllByRecursion}
-use Rattle.disk_format.specs.Cells.{Root}
-use Rattle.container_meta.specs.Places.{PlaceMap}
-use Rattle.container_meta.specs.Segments.{KindSegment}
-use Rattle.merkle_file.specs.declared.top.Top.{Top}
 use Rattle.merkle_file.specs.Tree.{Tree}
 use Rattle.merkle_file.specs.Walk.{segments_in}
-use Rattle.actor_parts.specs.declared.part.Part.{Part}
-use Rattle.actor_parts.specs.declared.part.Part.TheVariants.{Idle, Reading, Writing}
-use Rattle.actor_parts.specs.declared.step.Answer.{Answer}
+use Rattle.actor_parts.specs.declared.part.Part.TheVariants.{Reading}
 use Rattle.actor_parts.specs.declared.step.Answer.TheVariants as answers
 use Rattle.actor_parts.specs.Parts.{part_of, with_part}
-use Rattle.refusals.specs.declared.refusal.Refusal.{Refusal}
 use Rattle.refusals.specs.declared.refusal.Refusal.TheVariants as refusals
 use Rattle.read_steps.specs.Readers as readers
-use Rattle.read_steps.specs.Walking.{IsIndexed, SegmentsAhead, IsHeldAnswer}
-use Rattle.store_model.specs.Collisions.{HasNoCollisions, ByteSet, IsIn, IsAmong, Stands}
-use Rattle.store_model.specs.Files.{Files}
-use Rattle.store_model.specs.Image.{Store, names_of}
-use Rattle.disk_format.specs.declared.numbers.TheConstants.{MOST_FILE}
-use Rattle.store_model.proofs.SameFiles.{FitsFile, files_fit}
-use Rattle.store_model.proofs.Unfolding.{root_of_tree}
-use Rattle.read_steps.specs.Opening.{top_of}
-use Rattle.store_model.specs.Reserve.{key_set, tree_keys}
-use Rattle.store_model.specs.Slots.{HasKey, IsPartialIndexOf}
-use Rattle.store_model.specs.Trees.{file_tree}
-use Rattle.store_model.proofs.Counted.{contained}
-use Rattle.store_state.specs.Invariant.{HoldsPart, HoldsRest, IndexesFiles}
-use Rattle.store_core.specs.Core.{BeginRow, ClaimRow, AbortRow, OpenRow, ReadRow, EndRow, StatRow, ListRow, IsGiven, IsNotGiven}
-use Rattle.store_core.specs.State.{CoreState}
+use Rattle.read_steps.specs.Walking.{IsIndexed, IsHeldAnswer}
+use Rattle.store_core.specs.Core.{IsGiven}
 
 -- a part that takes a file says of which root, and what is to come
 abbrev root_in : Root → Part → Root

@@ -1,13 +1,7 @@
 -- What a collection recorded: each container that was there when it began.
-use Rattle.std.proofs.Common.{◌≡◌, ℕ, ◌≤◌, Bool, true, false, cond, List, [], ◌∷◌, Option, Some, None, refl, ◌∙◌, ap, arith}
-use Rattle.std.specs.Prelude.{◌&&◌, ◌==◌, nat_lt, not}
-use Rattle.std.proofs.lemmas.Bool.{ltb-true}
-use Rattle.container_meta.specs.Spelling.{HeaderValue, header_of}
-use Rattle.gc_steps.specs.UnderWay.{old_ids}
-use Rattle.gc_sweep.specs.UnderWay.{is_old}
-use Rattle.store_model.specs.Image.{Store}
-use Rattle.store_model.specs.Slots.{first_free, ids_of, with_slot}
-use Rattle.store_model.specs.Steps.{StoreChange, SealContainer, ChangeName, FlushContainer, FreeContainer, with_change, with_sealed}
+use Rattle.store_core.proofs.Prelude.{◌≡◌, ℕ, ◌≤◌, Bool, true, false, cond, List, [], ◌∷◌, Option, Some, None, refl, ◌∙◌, ap, arith, nat_lt, ltb-true, HeaderValue, header_of, old_ids, is_old, Store, first_free, with_slot, StoreChange, SealContainer, ChangeName, FlushContainer, FreeContainer, with_change, with_sealed}
+use Rattle.std.specs.Prelude.{◌&&◌, ◌==◌, not}
+use Rattle.store_model.specs.Slots.{ids_of}
 use Rattle.store_core.proofs.FinishedStores.{Sweeps}
 
 -- ---- the containers that were there

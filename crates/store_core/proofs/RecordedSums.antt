@@ -1,38 +1,19 @@
 -- What the steps of a collection record of containers, one after the other.
-use Rattle.std.proofs.Common.{◌≡◌, ◌⊎◌, inl, inr, ℕ, ◌<◌, ◌≤◌, List, [], ◌∷◌, ◌++◌, append_assoc, length, get_or, Option, Some, refl, sym, ◌∙◌, ap, subst, arith}
+use Rattle.store_core.proofs.Prelude.{◌≡◌, ◌⊎◌, inl, inr, ℕ, ◌<◌, ◌≤◌, List, [], ◌∷◌, ◌++◌, length, Option, Some, refl, sym, ◌∙◌, ap, subst, arith, AllByRecursion, HeaderValue, SumsLive, shown_content, ContainerLiveness, Collection, Stage, Filter, Mark, Select, SweepStage, StepsTo, phase_at, HasStage, Flush, Release, End, id_at, ByteSet, IsIn, Stored, with_freed, Store, HoldsSlot, IsStoreOf, StoreChange, SealContainer, ChangeName, FlushContainer, FreeContainer, with_change, with_sealed, RepresentsSlots, at_moment, IsAdded, IsDid, WasRecorded, FileEvent, FileRun, IsAt, CoreState}
+use Rattle.std.proofs.Common.{append_assoc, get_or}
 use Rattle.std.specs.Prelude.{slice_get}
-use Rattle.std.specs.List.{AllByRecursion}
-use Rattle.container_meta.specs.Spelling.{HeaderValue}
-use Rattle.copy_forward.specs.Entries.{SumsLive}
-use Rattle.dd_disk.proofs.Shows.{shown_content}
-use Rattle.gc_select.specs.declared.liveness.ContainerLiveness.{ContainerLiveness}
-use Rattle.gc_steps.specs.declared.collection.Collection.{Collection}
-use Rattle.gc_steps.specs.declared.collection.Stage.{Stage}
-use Rattle.gc_steps.specs.declared.collection.Stage.TheVariants.{Filter, Mark, Select, Sweep as SweepStage}
 use Rattle.gc_steps.specs.Filtering.{Records, recorded, recorded_by}
-use Rattle.gc_steps.specs.Stepping.{StepsTo, phase_at}
-use Rattle.gc_steps.specs.UnderWay.{HasStage}
 use Rattle.gc_steps.proofs.SparingStages.{recorded_id_by, recorded_live_by}
 use Rattle.gc_steps.proofs.WholeCopies.{count_there}
 use Rattle.gc_sweep.specs.declared.sweep.Next.{Next}
-use Rattle.gc_sweep.specs.declared.sweep.Next.TheVariants.{Copy, Flush, Release, End}
-use Rattle.gc_sweep.proofs.InSlots.{id_at, old_id}
+use Rattle.gc_sweep.specs.declared.sweep.Next.TheVariants.{Copy}
+use Rattle.gc_sweep.proofs.InSlots.{old_id}
 use Rattle.gc_sweep.proofs.SourceRead.{header_in}
 use Rattle.refusals.specs.declared.refusal.Phase.TheVariants as phases
-use Rattle.store_model.specs.Collisions.{ByteSet, IsIn}
-use Rattle.store_model.specs.Files.{Stored}
-use Rattle.store_model.specs.Freeing.{with_freed}
-use Rattle.store_model.specs.Image.{Store}
-use Rattle.store_model.specs.Slots.{HoldsSlot}
-use Rattle.store_model.specs.Standing.{IsStoreOf}
-use Rattle.store_model.specs.Steps.{StoreChange, SealContainer, ChangeName, FlushContainer, FreeContainer, with_change, with_sealed}
 use Rattle.store_model.proofs.Free.{as_many}
-use Rattle.store_state.specs.Tables.{RepresentsSlots, count_of}
+use Rattle.store_state.specs.Tables.{count_of}
 use Rattle.store_state.specs.declared.slot_table.SlotCount.{SlotCount}
-use Rattle.store_core.specs.Collecting.{at_moment}
-use Rattle.store_core.specs.Finished.{IsAdded, IsDid, IsRecordOf, WasRecorded}
-use Rattle.store_core.specs.Runs.{FileEvent, FileRun, IsAt}
-use Rattle.store_core.specs.State.{CoreState}
+use Rattle.store_core.specs.Finished.{IsRecordOf}
 use Rattle.store_core.proofs.FinishedStores.{Sweeps, stood}
 
 -- ---- a step

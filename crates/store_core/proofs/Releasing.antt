@@ -1,44 +1,18 @@
 -- What the steps of a collection give back, where no other steps come between them.
-use Rattle.std.proofs.Common.{◌≡◌, ℕ, ◌+◌, List, [], ◌∷◌, ◌++◌, Option, Some, None, Result, Ok, Err, refl, sym, ◌∙◌, ap, ap₂, subst}
-use Rattle.actor_parts.specs.declared.step.Answer.{Answer}
+use Rattle.store_core.proofs.Prelude.{◌≡◌, ℕ, ◌+◌, List, [], ◌∷◌, ◌++◌, Option, Some, None, Result, Ok, Err, refl, sym, ◌∙◌, ap, subst, Answer, StepValue, PlaceMap, IsLater, Collection, Stage, Filter, Mark, Select, SweepStage, Flush, Release, End, slot_in_turn, Spares, phase_at, ready_is_spare, IsStoreAfter, Phase, Refusal, HasNoCollisions, ByteSet, IsIn, Stored, with_freed, Store, IsReachable, IsSpare, StoreChange, SealContainer, ChangeName, FlushContainer, FreeContainer, with_sealed, starts, GcEffect, GcRow, GoesOn, HasEnded, IsNotMade, TouchesBy, Steps, StopsAfter, AreGcSteps, SweepsSpare, ends_with, freed_in, AreChangesBy, ChangesTo, FileEvent, FileRun, FileStep, IsAt, stored_by, stored_with, CoreState, store_once, CoreInvariant}
+use Rattle.std.proofs.Common.{ap₂}
 use Rattle.actor_parts.specs.declared.step.Answer.TheVariants as answers
 use Rattle.actor_parts.specs.StepValue as asked
-use Rattle.actor_parts.specs.StepValue.{StepValue}
-use Rattle.container_meta.specs.Places.{PlaceMap}
-use Rattle.dd_disk.specs.View.{IsLater}
-use Rattle.gc_steps.specs.declared.collection.Collection.{Collection}
-use Rattle.gc_steps.specs.declared.collection.Stage.{Stage}
-use Rattle.gc_steps.specs.declared.collection.Stage.TheVariants.{Filter, Mark, Select, Sweep as SweepStage}
 use Rattle.gc_sweep.specs.declared.sweep.Next.{Next}
-use Rattle.gc_sweep.specs.declared.sweep.Next.TheVariants.{Copy, Flush, Release, End}
-use Rattle.gc_sweep.specs.InTurn.{slot_in_turn}
-use Rattle.gc_steps.specs.Sparing.{Spares}
-use Rattle.gc_steps.specs.Stepping.{phase_at}
-use Rattle.gc_steps.proofs.Sparing.{ready_is_spare}
-use Rattle.gc_steps.proofs.StepSafe.{IsStoreAfter}
-use Rattle.refusals.specs.declared.refusal.Phase.{Phase}
+use Rattle.gc_sweep.specs.declared.sweep.Next.TheVariants.{Copy}
 use Rattle.refusals.specs.declared.refusal.Phase.TheVariants as phases
-use Rattle.refusals.specs.declared.refusal.Refusal.{Refusal}
 use Rattle.refusals.specs.declared.refusal.Refusal.TheVariants as refusals
-use Rattle.store_model.specs.Collisions.{HasNoCollisions, ByteSet, IsIn}
-use Rattle.store_model.specs.Files.{Stored}
-use Rattle.store_model.specs.Freeing.{with_freed}
-use Rattle.store_model.specs.Image.{Store}
-use Rattle.store_model.specs.Reserve.{IsReachable, IsSpare}
-use Rattle.store_model.specs.Steps.{StoreChange, SealContainer, ChangeName, FlushContainer, FreeContainer, with_sealed}
-use Rattle.store_core.specs.Bounds.{starts}
-use Rattle.store_core.specs.Collecting.{GcEffect, GcRow, GoesOn, HasEnded, IsNotMade, TouchesBy}
-use Rattle.store_core.specs.Core.{Steps, StopsAfter}
-use Rattle.store_core.specs.Releases.{AreGcSteps, LeavesNoneSpare, ReleasesSpare, SweepsSpare, ends_with, freed_in, released_by}
-use Rattle.store_core.specs.Runs.{AreChangesBy, ChangesTo, FileEvent, FileRun, FileStep, IsAt, stored_by, stored_with}
-use Rattle.store_core.specs.State.{CoreState}
+use Rattle.store_core.specs.Releases.{LeavesNoneSpare, ReleasesSpare, released_by}
 use Rattle.store_core.proofs.AnySteps.{any_step, with_step}
 use Rattle.store_core.proofs.Counted.{freed_then}
 use Rattle.store_core.proofs.CoreRuns.{running_step, was_running}
 use Rattle.store_core.proofs.KeepingFiles.{run_running}
 use Rattle.store_core.proofs.SafeSteps.{one_map_at}
-use Rattle.store_model.proofs.Once.{store_once}
-use Rattle.store_state.specs.Invariant.{CoreInvariant}
 use Rattle.store_core.proofs.GcSteps.{phase_of}
 use Rattle.store_core.proofs.Leading.{Leads}
 use Rattle.store_core.proofs.SparedRest.{begun_spares, did_spares, ended_spares, led_to, refused_known, refused_spares}

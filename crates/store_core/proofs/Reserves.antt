@@ -1,39 +1,16 @@
 -- Two slots stay closed over steps that are none of a collection.
-use Rattle.std.proofs.Common.{◌≡◌, ◌≢◌, inl, inr, ℕ, zero, suc, ◌+◌, ◌<◌, ◌≤◌, List, [], ◌∷◌, length, Option, Some, None, Result, Ok, Err, refl, sym, ◌∙◌, ap, subst, arith}
+use Rattle.store_core.proofs.Prelude.{◌≡◌, ◌≢◌, inl, inr, ℕ, zero, suc, ◌+◌, ◌<◌, ◌≤◌, List, [], ◌∷◌, length, Option, Some, None, Result, Ok, Err, refl, sym, ◌∙◌, ap, subst, arith, range, KnownWith, HeaderValue, OnlyReads, SteppedFrom, Change, Delete, Put, half_cells, size_of, slot_at, RESERVE, SLOT_BYTES, Answer, StepValue, JournalValue, Refusal, Store, Encodes, with_freed, HoldsSlot, first_free, free_slots, without_slot, StoreChange, SealContainer, ChangeName, FlushContainer, FreeContainer, with_change, with_sealed, free_sealed, IsSettled, ChangesBytes, ChangesSlotAlone, HasSlot, record_alone, Stop, CoreStep, Effect, NamesOne, Row, SealsOne, Steps, StepsOr, StopsAfter, IsOn, KeepsBytes, AreNoGcSteps, ChangesTo, CoreRun, IsNoGcStep, changes_by, CoreState, Event}
 use Rattle.std.specs.Prelude.{slice_get}
-use Rattle.base_model.specs.Bytes.{byte_at, range}
-use Rattle.base_model.specs.Known.{KnownWith}
+use Rattle.base_model.specs.Bytes.{byte_at}
 use Rattle.base_model.proofs.Ranges.{byte-range}
-use Rattle.container_meta.specs.Spelling.{HeaderValue}
 use Rattle.container_meta.proofs.Again.{small_count}
 use Rattle.container_meta.proofs.Parts.{parts_of_spelling}
-use Rattle.dd_disk.specs.View.{OnlyReads, SteppedFrom}
-use Rattle.disk_format.specs.Cells.{Change}
-use Rattle.disk_format.specs.Cells.Change.{Delete, Put}
-use Rattle.disk_format.specs.Layout.{half_cells, size_of, slot_at}
-use Rattle.disk_format.specs.declared.numbers.TheConstants.{HEADER_BYTES, RESERVE, SLOT_BYTES}
-use Rattle.actor_parts.specs.declared.step.Answer.{Answer}
+use Rattle.disk_format.specs.declared.numbers.TheConstants.{HEADER_BYTES}
 use Rattle.actor_parts.specs.declared.step.Answer.TheVariants as answers
 use Rattle.actor_parts.specs.StepValue as asked
-use Rattle.actor_parts.specs.StepValue.{StepValue}
-use Rattle.journal_cells.specs.Journal.{JournalValue}
-use Rattle.refusals.specs.declared.refusal.Refusal.{Refusal}
 use Rattle.refusals.specs.declared.refusal.Refusal.TheVariants as refusals
-use Rattle.store_model.specs.Image.{Store, Encodes}
-use Rattle.store_model.specs.Freeing.{with_freed}
-use Rattle.store_model.specs.Slots.{HoldsSlot, first_free, free_slots, without_slot}
-use Rattle.store_model.specs.Steps.{StoreChange, SealContainer, ChangeName, FlushContainer, FreeContainer, with_change, with_sealed}
-use Rattle.store_model.proofs.Valid.{free_sealed}
 use Rattle.store_model.proofs.Freed.{slot_held}
-use Rattle.store_state.specs.Settled.{IsSettled}
-use Rattle.ingest_steps.specs.Naming.{ChangesBytes}
-use Rattle.ingest_steps.specs.Sealing.{ChangesSlotAlone, HasSlot}
-use Rattle.ingest_steps.proofs.RecordFrames.{record_alone}
-use Rattle.store_core.specs.declared.stop.Stop.{Stop}
-use Rattle.store_core.specs.Core.{CoreStep, Effect, NamesOne, Row, SealsOne, Steps, StepsOr, StopsAfter}
-use Rattle.store_core.specs.Frame.{HasReserveIn, IsOn, KeepsBytes, ReserveStays}
-use Rattle.store_core.specs.Runs.{AreNoGcSteps, ChangesTo, CoreRun, IsNoGcStep, changes_by}
-use Rattle.store_core.specs.State.{CoreState, Event}
+use Rattle.store_core.specs.Frame.{HasReserveIn, ReserveStays}
 use Rattle.store_core.proofs.CoreRuns.{running_step, stopped_reads, was_running}
 use Rattle.store_core.proofs.Frames.{Leads, begins, keeps_counted, keeps_here, keeps_record, keeps_sealed, some_not_none, step_leads}
 

@@ -1,18 +1,10 @@
 -- Where the slots of the reserve are closed by the table.
-use Rattle.std.proofs.Common.{◌≡◌, ℕ, ◌+◌, ◌≤◌, List, count_by, Option, ap, subst, ◌∙◌, arith}
+use Rattle.store_core.proofs.Prelude.{◌≡◌, ℕ, ◌+◌, ◌≤◌, List, Option, ap, subst, ◌∙◌, arith, HeaderValue, RESERVE, End, IsSweeping, free_in, taken_from, Collection, HasRoom, HasStage, IsUnderWay, AreHeaders, free_slots, RepresentsSlots, SlotTable}
+use Rattle.std.proofs.Common.{count_by}
 use Rattle.std.specs.Prelude.{◌==◌}
-use Rattle.container_meta.specs.Spelling.{HeaderValue}
-use Rattle.disk_format.specs.declared.numbers.TheConstants.{RESERVE}
 use Rattle.gc_sweep.specs.declared.sweep.Next.{Next}
-use Rattle.gc_sweep.specs.declared.sweep.Next.TheVariants.{End}
-use Rattle.gc_sweep.specs.UnderWay.{IsSweeping, free_in, taken_from}
-use Rattle.gc_steps.specs.declared.collection.Collection.{Collection}
 use Rattle.gc_steps.specs.declared.collection.Stage.TheVariants.{Sweep}
-use Rattle.gc_steps.specs.UnderWay.{HasRoom, HasStage, IsUnderWay}
-use Rattle.store_model.specs.Slots.{AreHeaders, free_slots}
 use Rattle.store_model.proofs.Free.{zeros_free}
-use Rattle.store_state.specs.Tables.{RepresentsSlots}
-use Rattle.store_state.specs.declared.slot_table.SlotTable.{SlotTable}
 
 -- as many slots are closed by the table as the store has
 pub free_held : (held : List (Option HeaderValue)) (t : SlotTable) → RepresentsSlots held t → AreHeaders held → free_in t ≡ free_slots held

@@ -1,23 +1,11 @@
 -- Steps that change the part of one actor alone, and bring no root.
-use Rattle.std.proofs.Common.{◌≡◌, ℕ, zero, suc, ◌<◌, List, [], ◌∷◌, length, Some, Result, Ok, Err, refl, sym, ◌∙◌, subst, arith}
+use Rattle.store_core.proofs.Prelude.{◌≡◌, ℕ, zero, suc, ◌<◌, List, [], ◌∷◌, length, Some, Result, Ok, Err, refl, sym, ◌∙◌, subst, arith, ACTORS, Part, Idle, Writing, Reader, Answer, Top, Named, NameMap, Refusal, IsRoot, AbortRow, BeginRow, EndRow, ListRow, OpenRow, ReadRow, StatRow, CoreState}
 use Rattle.std.specs.FinMap as finite
-use Rattle.actor_parts.specs.declared.actor.TheConstants.{ACTORS}
-use Rattle.actor_parts.specs.declared.part.Part.{Part}
-use Rattle.actor_parts.specs.declared.part.Part.TheVariants.{Idle, Writing}
-use Rattle.actor_parts.specs.declared.part.Reader.{Reader}
-use Rattle.actor_parts.specs.declared.step.Answer.{Answer}
 use Rattle.actor_parts.specs.declared.step.Answer.TheVariants as answers
 use Rattle.actor_parts.specs.Parts.{part_of, with_part}
-use Rattle.merkle_file.specs.declared.top.Top.{Top}
-use Rattle.namespace.specs.declared.record.Named.{Named}
-use Rattle.namespace.specs.Names.{NameMap}
 use Rattle.read_steps.specs.Readers as readers
-use Rattle.refusals.specs.declared.refusal.Refusal.{Refusal}
 use Rattle.refusals.specs.declared.refusal.Refusal.TheVariants as refusals
-use Rattle.gc_steps.specs.Roots.{IsRoot}
 use Rattle.gc_steps.proofs.RootsAfter.{begun_root, idle_root, opened_root, reading_root}
-use Rattle.store_core.specs.Core.{AbortRow, BeginRow, EndRow, ListRow, OpenRow, ReadRow, StatRow}
-use Rattle.store_core.specs.State.{CoreState}
 
 -- an actor that is at something is one that there is
 pub within_parts : (parts : List Part) (actor : ℕ) → (part_of parts actor ≡ Idle → ⊥) → actor < length parts

@@ -1,41 +1,16 @@
 -- A core that runs runs on, or is stopped.
 use Rattle.gc_steps.proofs.Sealed.{room_on, sealed}
 use Rattle.actor_parts.specs.declared.step.Answer.TheVariants as answers
-use Rattle.std.proofs.Common.{◌≡◌, ℕ, List, [], ◌∷◌, length, Option, Some, None, Result, Ok, Err, refl, sym, ◌∙◌, ap, subst, arith, ◌<◌, ◌≤◌, slice_get}
-use Rattle.dd_disk.specs.View.{IsLater}
-use Rattle.actor_parts.specs.declared.actor.TheConstants.{ACTORS}
-use Rattle.actor_parts.specs.declared.part.Part.{Part}
-use Rattle.actor_parts.specs.declared.step.Answer.{Answer}
+use Rattle.store_core.proofs.Prelude.{◌≡◌, ℕ, List, [], ◌∷◌, length, Option, Some, None, Result, Ok, Err, refl, sym, ◌∙◌, ap, subst, arith, ◌<◌, ◌≤◌, IsLater, ACTORS, Part, Answer, StepValue, apart, Refusal, KindSegment, Tables, Runs, IsFirstFree, Stop, Effect, KeepsTables, KeepsUnlessBroken, StopsAfter, Steps, StepsOr, CoreStep, CommitRow, DeleteRow, NamesOne, Rests, Row, SealRow, SealsOne, next_id, CoreState, Event, IsUp, UnlessStopped, IsRunning, IsUnderWayIn, Collection, Collects, GcRow, IsKeptKey, MarksIn, StartRow, at_moment, free_slots, first_free, Delete, Put, Filter, Mark, Select, SweepStage, CopyNext, Flush, Release, End, free_in, RESERVE, HeaderValue, header_of, Root, Store, SealContainer, SlotTable, Stage, TablesAfter}
+use Rattle.std.proofs.Common.{slice_get}
 use Rattle.actor_parts.specs.StepValue as asked
-use Rattle.actor_parts.specs.StepValue.{StepValue}
-use Rattle.actor_parts.proofs.Apart.{apart}
-use Rattle.refusals.specs.declared.refusal.Refusal.{Refusal}
 use Rattle.refusals.specs.declared.refusal.Refusal.TheVariants as refusals
-use Rattle.container_meta.specs.Segments.{Contents, KindSegment}
-use Rattle.store_state.specs.declared.tables.Tables.{Tables}
-use Rattle.store_state.specs.Tables.{Runs, IsFirstFree}
-use Rattle.store_core.specs.declared.stop.Stop.{Stop}
-use Rattle.store_core.specs.Core.{Effect, KeepsTables, KeepsUnlessBroken, StopsAfter, Steps, StepsOr, CoreStep, CommitRow, DeleteRow, Makes, MakesAlone, NamesOne, Rests, Row, SealRow, SealsOne, next_id}
+use Rattle.container_meta.specs.Segments.{Contents}
+use Rattle.store_core.specs.Core.{Makes, MakesAlone}
 use Rattle.store_core.specs.Runs.{RunsOn}
-use Rattle.store_core.specs.State.{CoreState, Event, IsUp, UnlessStopped, IsRunning, IsUnderWayIn}
 use Rattle.store_core.proofs.Rooms.{free_held}
 use Rattle.store_core.proofs.Stepping.{ChangesOne, row_one}
-use Rattle.gc_steps.specs.declared.collection.Collection.{Collection}
-use Rattle.store_core.specs.Collecting.{Collects, GcRow, IsKeptKey, MarksIn, StartRow, at_moment}
-use Rattle.store_model.specs.Slots.{free_slots, first_free}
-use Rattle.disk_format.specs.Cells.Change.{Delete, Put}
-use Rattle.gc_steps.specs.declared.collection.Stage.TheVariants.{Filter, Mark, Select, Sweep as SweepStage}
 use Rattle.gc_sweep.specs.declared.sweep.Next.{Next}
-use Rattle.gc_sweep.specs.declared.sweep.Next.TheVariants.{Copy as CopyNext, Flush, Release, End}
-use Rattle.gc_sweep.specs.UnderWay.{free_in}
-use Rattle.disk_format.specs.declared.numbers.TheConstants.{RESERVE}
-use Rattle.container_meta.specs.Spelling.{HeaderValue, header_of}
-use Rattle.disk_format.specs.Cells.{Root}
-use Rattle.store_model.specs.Image.{Store}
-use Rattle.store_model.specs.Steps.{SealContainer}
-use Rattle.store_state.specs.declared.slot_table.SlotTable.{SlotTable}
-use Rattle.gc_steps.specs.declared.collection.Stage.{Stage}
-use Rattle.gc_steps.specs.Stepping.{TablesAfter}
 use Rattle.gc_steps.proofs.UnderWay.{live_on}
 
 many_on : (actor : ℕ) (old new : List Part) → ChangesOne actor old new → length old ≡ ACTORS → length new ≡ ACTORS

@@ -1,54 +1,24 @@
 -- Steps keep what holds of the collection that runs.
 use Rattle.std.specs.FinMap as finite
 use Rattle.gc_steps.proofs.SealedPins.{sealed_safe}
-use Rattle.store_model.specs.Refusals.{root_key}
+use Rattle.store_core.proofs.Prelude.{root_key, ClaimRow, CommitRow, Rests, SealRow, SealsOne, next_id, AllByRecursion, Answer, ByteSet, IsIn, Collection, Collects, IsKeptKey, MarksIn, StartRow, HasKey, CoreInvariant, CoreState, IsUnderWayIn, Delete, Put, Filter, Mark, Select, [], Err, List, None, Ok, Option, Result, Some, ap, arith, map, refl, subst, true, ℕ, ◌<◌, ◌↔◌, ◌∙◌, ◌∷◌, ◌≡◌, ◌≢◌, ◌⊎◌, suc, inl, inr, sym, length, Idle, Writing, IsAt, IsSafeIn, IsLiveAt, LiveKeys, IsPartKey, Marks, IsSafe, IsSafeAt, IsStoreOf, KeepsBoth, KeepsCopies, with_change, with_sealed, Kind, KindSegment, Segment, segment_key, Part, PinMap, Place, PlaceMap, Refusal, Represents, Runs, Root, Stage, Store, names_of, Stored, Tables, one_more, contains_first, contains_none, pin_of, with_pins}
 use Rattle.ingest_steps.specs.Writers.{IsStored}
 use Rattle.refusals.specs.declared.refusal.Refusal.TheVariants as refusals
 use Rattle.actor_parts.specs.declared.step.Answer.TheVariants as answers
 use Rattle.actor_parts.specs.StepValue as asked
-use Rattle.store_core.specs.Core.{ClaimRow, CommitRow, Rests, SealRow, SealsOne, next_id}
-use Rattle.std.specs.List.{AllByRecursion, Contains}
-use Rattle.actor_parts.specs.declared.step.Answer.{Answer}
-use Rattle.store_model.specs.Collisions.{ByteSet, IsIn}
-use Rattle.gc_steps.specs.declared.collection.Collection.{Collection}
-use Rattle.store_core.specs.Collecting.{Collects, IsKeptKey, MarksIn, StartRow}
-use Rattle.store_model.specs.Slots.{HasKey}
-use Rattle.store_state.specs.Invariant.{CoreInvariant}
-use Rattle.store_core.specs.State.{CoreState, IsUnderWayIn}
-use Rattle.disk_format.specs.Cells.Change.{Delete, Put}
-use Rattle.gc_steps.specs.declared.collection.Stage.TheVariants.{Filter, Mark, Select, Sweep}
-use Rattle.std.proofs.Common.{[], Err, List, None, Ok, Option, Result, Some, ap, arith, map, refl, subst, true, ℕ, ◌<◌, ◌↔◌, ◌∙◌, ◌∷◌, ◌≡◌, ◌≢◌, ◌⊎◌, suc, inl, inr, sym, length}
-use Rattle.actor_parts.specs.declared.part.Part.TheVariants.{Idle, Writing}
-use Rattle.store_core.specs.Runs.{IsAt, IsSafeIn}
-use Rattle.gc_enumerate.specs.Live.{IsLiveAt, LiveKeys}
-use Rattle.gc_steps.specs.Roots.{IsPartKey, Marks}
-use Rattle.gc_steps.specs.Safety.{IsSafe, IsSafeAt}
-use Rattle.store_model.specs.Standing.{IsStoreOf}
-use Rattle.gc_steps.proofs.Carried.{KeepsBoth}
-use Rattle.store_model.specs.Steps.{KeepsCopies, with_change, with_sealed}
-use Rattle.container_meta.specs.declared.kind.Kind.{Kind}
-use Rattle.container_meta.specs.Segments.{KindSegment, Segment, segment_key, Contents}
-use Rattle.actor_parts.specs.declared.part.Part.{Part}
-use Rattle.actor_parts.specs.PinMap.{PinMap, has_pin}
-use Rattle.container_meta.specs.declared.place.Place.{Place}
-use Rattle.container_meta.specs.Places.{PlaceMap}
-use Rattle.refusals.specs.declared.refusal.Refusal.{Refusal}
-use Rattle.store_state.specs.Tables.{Represents, Runs}
-use Rattle.disk_format.specs.Cells.{Root}
-use Rattle.gc_steps.specs.declared.collection.Stage.{Stage}
-use Rattle.store_model.specs.Image.{Store, names_of}
-use Rattle.store_model.specs.Files.{Stored}
-use Rattle.store_state.specs.declared.tables.Tables.{Tables}
-use Rattle.gc_steps.proofs.ClaimedPin.{claimed_key, one_more}
-use Rattle.gc_steps.proofs.Marked.{contains_first, contains_head, contains_next, contains_none}
+use Rattle.std.specs.List.{Contains}
+use Rattle.gc_steps.specs.declared.collection.Stage.TheVariants.{Sweep}
+use Rattle.container_meta.specs.Segments.{Contents}
+use Rattle.actor_parts.specs.PinMap.{has_pin}
+use Rattle.gc_steps.proofs.ClaimedPin.{claimed_key}
+use Rattle.gc_steps.proofs.Marked.{contains_head, contains_next}
 use Rattle.gc_steps.proofs.FewerRoots.{fewer_roots}
 use Rattle.gc_steps.proofs.OtherSteps.{deleted, kept, committed}
 use Rattle.store_core.proofs.RootsKept.{BringsNone, none_same, within_parts}
 use Rattle.gc_steps.proofs.Unseen.{marked_unseen}
 use Rattle.actor_parts.specs.Parts.{part_of, with_part}
-use Rattle.actor_parts.specs.Segments.{pin_by, pin_of}
+use Rattle.actor_parts.specs.Segments.{pin_by}
 use Rattle.gc_steps.proofs.Safe.{start_safe}
-use Rattle.ingest_steps.specs.Pinning.{with_pins}
 
 -- the tables of a core that is at a store, alone
 pub alone : (store : Store) (known : Option PlaceMap) (t : Tables) → Represents store known t → Represents store None t

@@ -1,34 +1,19 @@
 -- What a seal makes of a core.
-use Rattle.std.proofs.Common.{◌≡◌, ◌≢◌, ◌+◌, ℕ, [], ◌∷◌, length, List, Option, Some, None, Ok, Err, refl, sym, ◌∙◌, ap, subst, arith}
-use Rattle.std.specs.List.{AllByRecursion}
-use Rattle.container_meta.specs.Places.{PlaceMap}
-use Rattle.sha2.specs.Sha256.{sha256}
-use Rattle.base_model.specs.Bytes.{key_of}
-use Rattle.container_meta.specs.declared.entry.Entry.{Entry}
-use Rattle.container_meta.specs.Format.{kind_byte}
-use Rattle.container_meta.specs.Segments.{Contents, Segment, entries_from, segment_key}
-use Rattle.dd_disk.specs.View.{IsLater}
-use Rattle.dd_disk.specs.Ending.{Done, ending_of}
+use Rattle.store_core.proofs.Prelude.{◌≡◌, ◌≢◌, ◌+◌, ℕ, [], ◌∷◌, length, List, Option, Some, None, Ok, Err, refl, sym, ◌∙◌, ap, subst, arith, AllByRecursion, PlaceMap, sha256, key_of, Entry, kind_byte, Segment, entries_from, segment_key, IsLater, Done, ending_of, Refusal, IsValidFor, with_entries, HasKey, first_free, SealContainer, CanSeal, with_sealed, put_none, blames, Represents, Runs, HasSlot, Made, KeepsUnlessBroken, next_id, CoreState}
+use Rattle.container_meta.specs.Segments.{Contents}
 use Rattle.actor_parts.specs.declared.step.Answer.TheVariants as answers
 use Rattle.actor_parts.specs.StepValue as asked
-use Rattle.refusals.specs.declared.refusal.Refusal.{Refusal}
 use Rattle.refusals.specs.declared.refusal.Refusal.TheVariants as refusals
-use Rattle.store_model.specs.Image.{IsValidFor}
-use Rattle.store_model.specs.Indexing.{with_entries}
-use Rattle.store_model.specs.Slots.{HasKey, IsIndexOf, first_free}
-use Rattle.store_model.specs.Steps.{SealContainer, CanSeal, with_sealed}
+use Rattle.store_model.specs.Slots.{IsIndexOf}
 use Rattle.std.specs.FinMap as finite
-use Rattle.store_model.proofs.Indexing.{has_segments, put_none, still_has}
+use Rattle.store_model.proofs.Indexing.{has_segments, still_has}
 use Rattle.store_model.proofs.NewestSealed.{none_found}
 use Rattle.store_model.proofs.IndexSize.{index_sealed}
 use Rattle.store_model.proofs.Valid.{valid_sealed}
-use Rattle.store_state.specs.Refused.{blames}
 use Rattle.store_state.specs.Settled as settled
-use Rattle.store_state.specs.Tables.{Represents, Runs}
-use Rattle.ingest_steps.specs.Sealing.{HasSlot, HasSealed, HasPlacesOf, SealsCompared, KeepsMap, places_with}
+use Rattle.ingest_steps.specs.Sealing.{HasSealed, HasPlacesOf, SealsCompared, KeepsMap, places_with}
 use Rattle.ingest_steps.specs.SealStep.{IsSealedFor, KeepsSealed}
-use Rattle.store_core.specs.Core.{Makes, Made, KeepsUnlessBroken, IsUnsealed, next_id}
-use Rattle.store_core.specs.State.{CoreState}
+use Rattle.store_core.specs.Core.{Makes, IsUnsealed}
 
 pub one_map : (a b : PlaceMap) → Some a ≡ Some b → a ≡ b
 one_map a b is = cc

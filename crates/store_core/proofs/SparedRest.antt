@@ -1,48 +1,21 @@
 -- A collection that runs alone: only keys that files need are live, and it spares just the containers that hold copies of these.
-use Rattle.std.proofs.Common.{◌≡◌, ◌≤◌, inl, inr, ℕ, List, Option, Some, Ok, refl, sym, ◌∙◌, ap, subst, arith, length}
+use Rattle.store_core.proofs.Prelude.{◌≡◌, ◌≤◌, inl, inr, ℕ, List, Option, Some, Ok, refl, sym, ◌∙◌, ap, subst, arith, length, ACTORS, PlaceMap, Collection, Stage, Filter, Mark, Select, Flush, Release, End, IsSafe, IsRoot, mark_level, IsLater, MOST_LEVEL, IsWithin, Spares, IsStepRefusal, Keeps, StepsTo, TablesAfter, moment, IsUnderWay, held_at, IsStoreAfter, step_safe, NameMap, Phase, Refusal, ByteSet, IsIn, Stored, Store, names_of, IsReachable, IsSpare, HeldCopy, IsStoreOf, headers_of_right, store_once, last_within, Represents, Tables, GoesOn, HasEnded, IsNotMade, TouchesBy, at_moment, IsAt, IsSafeIn, CoreState, IsUnderWayIn}
 use Rattle.std.specs.List.{Contains}
-use Rattle.actor_parts.specs.declared.actor.TheConstants.{ACTORS}
 use Rattle.actor_parts.specs.declared.step.Answer.TheVariants as answers
-use Rattle.container_meta.specs.Places.{PlaceMap}
 use Rattle.gc_enumerate.specs.Scanning.{child_keys}
-use Rattle.gc_steps.specs.declared.collection.Collection.{Collection}
-use Rattle.gc_steps.specs.declared.collection.Stage.{Stage}
-use Rattle.gc_steps.specs.declared.collection.Stage.TheVariants.{Filter, Mark, Select, Sweep}
+use Rattle.gc_steps.specs.declared.collection.Stage.TheVariants.{Sweep}
 use Rattle.gc_sweep.specs.declared.sweep.Next.{Next}
-use Rattle.gc_sweep.specs.declared.sweep.Next.TheVariants.{Copy, Flush, Release, End}
+use Rattle.gc_sweep.specs.declared.sweep.Next.TheVariants.{Copy}
 use Rattle.gc_steps.specs.LiveTrees.{HoldsNode}
-use Rattle.gc_steps.specs.Safety.{IsSafe}
-use Rattle.gc_steps.specs.Roots.{IsActorKey, IsNameKey, IsRoot}
-use Rattle.gc_steps.specs.Stages.{mark_level}
-use Rattle.dd_disk.specs.View.{IsLater}
-use Rattle.disk_format.specs.declared.numbers.TheConstants.{MOST_LEVEL}
-use Rattle.gc_steps.specs.Sparing.{IsWithin, Spares}
-use Rattle.gc_steps.specs.Stepping.{IsStepRefusal, Keeps, StepsTo, TablesAfter, moment}
-use Rattle.gc_steps.specs.UnderWay.{IsUnderWay}
+use Rattle.gc_steps.specs.Roots.{IsActorKey, IsNameKey}
 use Rattle.gc_steps.proofs.FileKeys.{name_reachable, reachable_closed}
-use Rattle.gc_steps.proofs.Sparing.{held_at, spares_begun, spares_ended, spares_refused, spares_step}
-use Rattle.gc_steps.proofs.StepSafe.{IsStoreAfter, LeavesSafe, step_safe}
+use Rattle.gc_steps.proofs.Sparing.{spares_begun, spares_ended, spares_refused, spares_step}
+use Rattle.gc_steps.proofs.StepSafe.{LeavesSafe}
 use Rattle.merkle_file.specs.Node.{Contents}
-use Rattle.namespace.specs.Names.{NameMap}
-use Rattle.refusals.specs.declared.refusal.Phase.{Phase}
-use Rattle.refusals.specs.declared.refusal.Refusal.{Refusal}
 use Rattle.refusals.specs.declared.refusal.Refusal.TheVariants as refusals
-use Rattle.store_model.specs.Collisions.{ByteSet, IsIn}
-use Rattle.store_model.specs.Files.{Stored}
-use Rattle.store_model.specs.Image.{Store, names_of}
-use Rattle.store_model.specs.Reserve.{IsReachable, IsSpare}
-use Rattle.store_model.specs.Slots.{Copy as HeldCopy}
-use Rattle.store_model.specs.Standing.{IsStoreOf}
 use Rattle.store_model.specs.Trees.{node_key}
-use Rattle.store_model.proofs.Copies.{headers_of_right}
-use Rattle.store_model.proofs.Once.{store_once}
-use Rattle.store_model.proofs.Sound.{last_within}
-use Rattle.store_state.specs.Tables.{Represents}
-use Rattle.store_state.specs.declared.tables.Tables.{Tables}
 use Rattle.store_core.proofs.SafeSteps.{one_map_at}
-use Rattle.store_core.specs.Collecting.{Begins, GoesOn, HasEnded, IsNotMade, TouchesBy, at_moment}
-use Rattle.store_core.specs.Runs.{IsAt, IsSafeIn}
-use Rattle.store_core.specs.State.{CoreState, IsUnderWayIn}
+use Rattle.store_core.specs.Collecting.{Begins}
 
 pub same_some : (a b : Collection) (o : Option Collection) → o ≡ Some a → o ≡ Some b → a ≡ b
 same_some a b o one two = let both : Some a ≡ Some b = sym one ∙ two in cc

@@ -1,55 +1,18 @@
 -- A container that stands in its slot at the beginning of steps and at their end has the same bytes: ids only rise, so that it stood there
 -- throughout; and no step writes a slot whose container stays.
-use Rattle.std.proofs.Common.{◌≡◌, ◌≢◌, ◌⊎◌, inl, inr, ℕ, ◌+◌, ◌<◌, ◌≤◌, Bool, true, false, List, [], ◌∷◌, length, get_or, Option, Some, None, Result, Ok, Err, refl, sym, ◌∙◌, ap, subst, arith}
-use Rattle.std.specs.Prelude.{nat_lt, slice_get}
-use Rattle.std.proofs.lemmas.Bool.{ltb-true, ltb-false}
-use Rattle.base_model.specs.Bytes.{range}
-use Rattle.base_model.specs.Frames.{SameOutside}
-use Rattle.disk_format.specs.declared.numbers.TheConstants.{SLOT_BYTES}
-use Rattle.disk_format.specs.Cells.{Change}
-use Rattle.disk_format.specs.Cells.Change.{Delete, Put}
-use Rattle.disk_format.specs.Layout.{slot_at}
-use Rattle.dd_disk.specs.Ending.{Done, ending_of}
-use Rattle.dd_disk.specs.View.{OnlyReads, SteppedFrom}
-use Rattle.dd_disk.specs.Writes.{Both}
+use Rattle.store_core.proofs.Prelude.{◌≡◌, ◌≢◌, ◌⊎◌, inl, inr, ℕ, ◌+◌, ◌<◌, ◌≤◌, Bool, true, false, List, [], ◌∷◌, length, Option, Some, None, Result, Ok, Err, refl, sym, ◌∙◌, ap, subst, arith, nat_lt, ltb-true, ltb-false, range, SameOutside, SLOT_BYTES, Change, Delete, Put, slot_at, Done, ending_of, OnlyReads, SteppedFrom, Both, HeaderValue, header_of, SameBefore, Answer, StepValue, Phase, Refusal, Collection, Stage, Filter, Mark, Select, SweepStage, IsStepRefusal, TablesAfter, Touches, id_below, id_there, IsStoreAfter, Flush, Release, End, ByteSet, HasNoCollisions, IsIn, Stored, Store, HasFree, first_free, last_id, with_slot, without_slot, StoreChange, with_change, there_before, store_once, Tables, blames, IsSettled, Left, ChangesBytes, ChangesSlotAlone, SameButSlotOf, record_alone, GcEffect, GcRow, GoesOn, IsNotMade, TouchesBy, at_moment, Effect, NamesOne, Rests, Row, SealsOne, Steps, StopsAfter, AreChangesBy, ChangesTo, FileEvent, FileRun, FileStep, IsAt, IsNoGcStep, changes_by, stored_after, stored_by, stored_with, CoreState}
+use Rattle.std.proofs.Common.{get_or}
+use Rattle.std.specs.Prelude.{slice_get}
 use Rattle.container_meta.specs.Segments.{Contents}
-use Rattle.container_meta.specs.Spelling.{HeaderValue, header_of}
-use Rattle.segment_index.specs.Changes.{SameBefore}
-use Rattle.actor_parts.specs.declared.step.Answer.{Answer}
 use Rattle.actor_parts.specs.declared.step.Answer.TheVariants as answers
 use Rattle.actor_parts.specs.StepValue as asked
-use Rattle.actor_parts.specs.StepValue.{StepValue}
-use Rattle.refusals.specs.declared.refusal.Phase.{Phase}
-use Rattle.refusals.specs.declared.refusal.Refusal.{Refusal}
 use Rattle.refusals.specs.declared.refusal.Refusal.TheVariants as refusals
-use Rattle.gc_steps.specs.declared.collection.Collection.{Collection}
-use Rattle.gc_steps.specs.declared.collection.Stage.{Stage}
-use Rattle.gc_steps.specs.declared.collection.Stage.TheVariants.{Filter, Mark, Select, Sweep as SweepStage}
-use Rattle.gc_steps.specs.Stepping.{IsStepRefusal, TablesAfter, Touches}
-use Rattle.gc_steps.proofs.FirstStage.{id_below, id_there}
 use Rattle.gc_steps.proofs.Sparing.{held_within}
-use Rattle.gc_steps.proofs.StepSafe.{IsStoreAfter}
 use Rattle.gc_sweep.specs.Flushing.{WritesCopies}
 use Rattle.gc_sweep.specs.declared.sweep.Next.{Next}
-use Rattle.gc_sweep.specs.declared.sweep.Next.TheVariants.{Copy, Flush, Release, End}
-use Rattle.store_model.specs.Collisions.{ByteSet, HasNoCollisions, IsIn}
-use Rattle.store_model.specs.Files.{Stored}
-use Rattle.store_model.specs.Image.{Store}
-use Rattle.store_model.specs.Slots.{HasFree, first_free, ids_of, last_id, with_slot, without_slot}
-use Rattle.store_model.specs.Steps.{StoreChange, with_change}
-use Rattle.store_model.proofs.Freed.{there_before}
-use Rattle.store_model.proofs.Once.{store_once}
-use Rattle.store_state.specs.declared.tables.Tables.{Tables}
-use Rattle.store_state.specs.Refused.{blames}
-use Rattle.store_state.specs.Settled.{IsSettled, Left}
-use Rattle.ingest_steps.specs.Naming.{ChangesBytes}
-use Rattle.ingest_steps.specs.Sealing.{ChangesSlotAlone, SameButSlotOf}
-use Rattle.ingest_steps.proofs.RecordFrames.{record_alone}
-use Rattle.store_core.specs.Collecting.{GcEffect, GcRow, GoesOn, IsNotMade, TouchesBy, at_moment}
-use Rattle.store_core.specs.Core.{Effect, NamesOne, Rests, Row, SealsOne, Steps, StopsAfter}
+use Rattle.gc_sweep.specs.declared.sweep.Next.TheVariants.{Copy}
+use Rattle.store_model.specs.Slots.{ids_of}
 use Rattle.store_core.specs.Frame.{ContainersStay, KeepsStanding}
-use Rattle.store_core.specs.Runs.{AreChangesBy, ChangesTo, FileEvent, FileRun, FileStep, IsAt, IsNoGcStep, changes_by, stored_after, stored_by, stored_with}
-use Rattle.store_core.specs.State.{CoreState}
 use Rattle.store_core.proofs.AnySteps.{any_step, changes_only, gc_or_not, with_step}
 use Rattle.store_core.proofs.CoreRuns.{running_step, was_running}
 use Rattle.store_core.proofs.FinishedStores.{was_or_is}

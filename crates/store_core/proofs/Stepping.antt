@@ -1,22 +1,11 @@
 -- What each step does, whichever it is.
-use Rattle.std.proofs.Common.{◌≡◌, ℕ, List, Option, Some, None, Result, Ok, Err, sym, ◌∙◌}
-use Rattle.disk_format.specs.Cells.{Root}
-use Rattle.container_meta.specs.Segments.{KindSegment, Contents}
-use Rattle.dd_disk.specs.View.{IsLater}
-use Rattle.actor_parts.specs.declared.part.Part.{Part}
-use Rattle.actor_parts.specs.declared.step.Answer.{Answer}
+use Rattle.store_core.proofs.Prelude.{◌≡◌, ℕ, List, Option, Some, None, Result, Ok, Err, sym, ◌∙◌, Root, KindSegment, IsLater, Part, Answer, StepValue, apart, Refusal, Row, BeginRow, ClaimRow, SealRow, CommitRow, AbortRow, OpenRow, ReadRow, EndRow, StatRow, DeleteRow, ListRow, Effect, StepsOr, Stop, CoreState, Event, GcRow, StartRow}
+use Rattle.container_meta.specs.Segments.{Contents}
 use Rattle.actor_parts.specs.declared.step.Answer.TheVariants as answers
 use Rattle.actor_parts.specs.Parts.{part_of, with_part}
 use Rattle.actor_parts.specs.StepValue as asked
-use Rattle.actor_parts.specs.StepValue.{StepValue}
-use Rattle.actor_parts.proofs.Apart.{apart}
-use Rattle.refusals.specs.declared.refusal.Refusal.{Refusal}
 use Rattle.refusals.specs.declared.refusal.Refusal.TheVariants as refusals
 use Rattle.read_steps.specs.Readers as readers
-use Rattle.store_core.specs.Core.{Row, BeginRow, ClaimRow, SealRow, CommitRow, AbortRow, OpenRow, ReadRow, EndRow, StatRow, DeleteRow, ListRow, Effect, StepsOr}
-use Rattle.store_core.specs.declared.stop.Stop.{Stop}
-use Rattle.store_core.specs.State.{CoreState, Event}
-use Rattle.store_core.specs.Collecting.{GcRow, StartRow}
 
 -- ---- parts
 

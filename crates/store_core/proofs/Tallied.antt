@@ -1,22 +1,9 @@
 -- A collection that runs alone answers what it gave back and copied.
-use Rattle.std.proofs.Common.{◌≡◌, List, [], ◌∷◌, Some, None, Result, Ok, refl, sym, ◌∙◌, ap, subst}
-use Rattle.actor_parts.specs.declared.step.Answer.{Answer}
+use Rattle.store_core.proofs.Prelude.{◌≡◌, List, [], ◌∷◌, Some, None, Result, Ok, refl, sym, ◌∙◌, ap, subst, Answer, StepValue, Collection, Refusal, HasNoCollisions, ByteSet, IsIn, Stored, Store, IsReachable, StoreChange, IsNoEnd, NoneEnds, starts, GcRow, HasEnded, Steps, AreGcSteps, SweepsSpare, ends_with, ChangesTo, FileEvent, FileRun, IsAt, events_of, stored_after, stored_by, stored_with, CoreState}
 use Rattle.actor_parts.specs.declared.step.Answer.TheVariants as answers
 use Rattle.actor_parts.specs.StepValue as asked
-use Rattle.actor_parts.specs.StepValue.{StepValue}
-use Rattle.gc_steps.specs.declared.collection.Collection.{Collection}
-use Rattle.refusals.specs.declared.refusal.Refusal.{Refusal}
-use Rattle.store_model.specs.Collisions.{HasNoCollisions, ByteSet, IsIn}
-use Rattle.store_model.specs.Files.{Stored}
-use Rattle.store_model.specs.Image.{Store}
-use Rattle.store_model.specs.Reserve.{IsReachable}
-use Rattle.store_model.specs.Steps.{StoreChange}
-use Rattle.store_core.specs.Bounds.{IsNoEnd, NoneEnds, starts}
-use Rattle.store_core.specs.Collecting.{Begins, GcRow, HasEnded}
-use Rattle.store_core.specs.Core.{Steps}
-use Rattle.store_core.specs.Releases.{AreGcSteps, CollectsAsAnswered, SweepsSpare, ends_with}
-use Rattle.store_core.specs.Runs.{ChangesTo, FileEvent, FileRun, IsAt, events_of, stored_after, stored_by, stored_with}
-use Rattle.store_core.specs.State.{CoreState}
+use Rattle.store_core.specs.Collecting.{Begins}
+use Rattle.store_core.specs.Releases.{CollectsAsAnswered}
 use Rattle.store_core.proofs.AnySteps.{any_step, with_step}
 use Rattle.store_core.proofs.CoreRuns.{running_step, was_running}
 use Rattle.store_core.proofs.Finished.{CollectedSo, collects_so}

@@ -1,18 +1,8 @@
 -- Where a collection of a core at a store does not begin, memory ran out: the index has each root at its level.
-use Rattle.std.proofs.Common.{◌≡◌, ℕ, List, Option, Some, subst}
-use Rattle.std.specs.List.{AllByRecursion}
-use Rattle.container_meta.specs.Places.{PlaceMap}
-use Rattle.namespace.specs.Names.{NameMap}
-use Rattle.refusals.specs.declared.refusal.Refusal.{Refusal}
-use Rattle.refusals.specs.declared.refusal.Refusal.TheVariants.{Memory}
-use Rattle.store_model.specs.Files.{Stored}
-use Rattle.store_model.specs.Image.{Store, names_of}
-use Rattle.gc_steps.specs.Roots.{roots_of}
+use Rattle.store_core.proofs.Prelude.{◌≡◌, ℕ, List, Option, Some, subst, AllByRecursion, PlaceMap, NameMap, Refusal, Memory, Stored, Store, names_of, roots_of, IsAt, CoreState}
 use Rattle.gc_steps.specs.Starting.{IsFound, IsStartRefusal}
 use Rattle.gc_steps.proofs.RootsFound.{begins_by_memory, roots_found}
 use Rattle.store_core.specs.Collecting.{IsUnbegun}
-use Rattle.store_core.specs.Runs.{IsAt}
-use Rattle.store_core.specs.State.{CoreState}
 
 pub unbegun_memory : (S : List ℕ → Type 0) (s : Store) (stored : Stored) (old new : CoreState) → IsAt S s stored old → (refusal : Refusal) → IsUnbegun refusal old new
     → refusal ≡ Memory

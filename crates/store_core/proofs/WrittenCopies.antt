@@ -1,14 +1,7 @@
 -- What the steps of a collection write as copies, one after the other.
-use Rattle.std.proofs.Common.{◌≡◌, inl, inr, ℕ, List, ◌∷◌, ◌++◌, refl}
-use Rattle.std.specs.List.{AllByRecursion}
-use Rattle.container_meta.specs.declared.kind.Kind.{Kind}
-use Rattle.container_meta.specs.Segments.{Segment}
+use Rattle.store_core.proofs.Prelude.{◌≡◌, inl, inr, ℕ, List, ◌∷◌, ◌++◌, refl, AllByRecursion, Kind, Segment, StoreChange, SealContainer, ChangeName, FlushContainer, FreeContainer, AreCopiesOf, IsDid, IsOfCopies, WereCopies, FileEvent, FileRun, CoreState}
 use Rattle.gc_sweep.proofs.KeyLists.{each_so}
 use Rattle.refusals.specs.declared.refusal.Phase.TheVariants as phases
-use Rattle.store_model.specs.Steps.{StoreChange, SealContainer, ChangeName, FlushContainer, FreeContainer}
-use Rattle.store_core.specs.Finished.{AreCopiesOf, IsDid, IsOfCopies, WereCopies}
-use Rattle.store_core.specs.Runs.{FileEvent, FileRun}
-use Rattle.store_core.specs.State.{CoreState}
 use Rattle.store_core.proofs.FinishedStores.{all_then}
 
 -- A step writes these, which the core before it had in the buffer of its collection.

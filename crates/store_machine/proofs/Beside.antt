@@ -1,25 +1,11 @@
 -- What steps that are none of a collection leave of one, and of the containers.
-use Rattle.std.proofs.Common.{◌≡◌, ◌≢◌, ◌⊎◌, ◌<◌, inl, inr, ℕ, suc, List, [], ◌∷◌, ◌++◌, Option, Some, None, Result, Ok, Err, refl, sym, ◌∙◌, ap, subst}
+use Rattle.store_machine.proofs.Prelude.{◌≡◌, ◌≢◌, ◌⊎◌, ◌<◌, inl, inr, ℕ, suc, [], ◌∷◌, ◌++◌, Option, Some, None, Result, Ok, Err, refl, sym, ◌∙◌, ap, subst, pin_of, KindSegment, segment_key, HeaderValue, header_of, Put, Gone, RESERVE, Refusal, Store, first_free, free_slots, with_slot, with_change, Asked, IsSealOf, Done, Answers, ByState, Claims, Does, Legal, LegalBy, Refuses, Seals, with_name, without_name, RefusesClaim, RefusesCommit, RefusesDelete, RefusesGcStep, RefusesOn, RefusesRead, RefusesSeal, Collection, Machine, Idle, Writing, Reading, RunState, Running, Stopped, Stepped, keeping, one_more, put_at, keys_of, Values}
+use Rattle.std.proofs.Common.{List}
 use Rattle.std.specs.FinMap as finite
-use Rattle.actor_parts.specs.Segments.{pin_of}
-use Rattle.container_meta.specs.Segments.{Contents, KindSegment, segment_key}
-use Rattle.container_meta.specs.Spelling.{HeaderValue, header_of}
-use Rattle.disk_format.specs.Cells.Change.{Put, Delete as Gone}
-use Rattle.disk_format.specs.declared.numbers.TheConstants.{RESERVE}
-use Rattle.refusals.specs.declared.refusal.Refusal.{Refusal}
+use Rattle.container_meta.specs.Segments.{Contents}
 use Rattle.refusals.specs.declared.refusal.Refusal.TheVariants as refusals
-use Rattle.store_model.specs.Image.{Store}
-use Rattle.store_model.specs.Slots.{first_free, free_slots, with_slot}
-use Rattle.store_model.specs.Steps.{with_change}
-use Rattle.store_machine.specs.Asked.{Asked}
 use Rattle.store_machine.specs.Asked as asked
-use Rattle.store_machine.specs.Collected.{IsSealOf}
-use Rattle.store_machine.specs.Done.{Done}
 use Rattle.store_machine.specs.Done as done
-use Rattle.store_machine.specs.Legal.{Answers, ByState, Claims, Does, Legal, LegalBy, Refuses, Seals, with_name, without_name, RefusesClaim, RefusesCommit, RefusesDelete, RefusesGcStep, RefusesOn, RefusesRead, RefusesSeal}
-use Rattle.store_machine.specs.Machine.{Collection, Machine, Idle, Writing, Reading, RunState, Running, Stopped, Stepped, keeping, one_more, put_at}
-use Rattle.store_machine.specs.Needs.{keys_of}
-use Rattle.store_machine.specs.Values.{Values}
 
 module _ {V R : Type 0} where
   -- the containers stay, the last id and the collection

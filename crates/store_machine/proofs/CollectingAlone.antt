@@ -1,33 +1,16 @@
 -- The lines of a `collect` keep the names, choose by what they need, and give back only what they don't need.
-use Rattle.std.proofs.Common.{◌≡◌, ◌≢◌, ◌⊎◌, inl, inr, ℕ, zero, suc, List as ListOf, [], ◌∷◌, ◌++◌, length, Contains, Some, None, Result, Ok, Err, refl, sym, ◌∙◌, ap, subst}
+use Rattle.store_machine.proofs.Prelude.{◌≡◌, ◌≢◌, ◌⊎◌, inl, inr, ℕ, zero, suc, ListOf, [], ◌∷◌, ◌++◌, length, Contains, Some, None, Result, Ok, Err, refl, sym, ◌∙◌, ap, subst, Refusal, LineValue, ReplyValue, Store, last_id, StoreChange, Asked, FileMachine, AreBetween, HasIds, IsCollecting, freed_in, keys_written, marking, marks_of, Sweeps, Collect, Follows, IsDone, Replied, text_of, Done, Answers, ByState, Does, Legal, RefusesGcStep, RefusesOn, AreDid, Line, reply_of, step_of, Found, Idle, RunState, Running, Stopped, keys_kept, values_read, MayBeFound, Run, of_files}
 use Rattle.std.specs.FinMap as finite
 use Rattle.refusals.specs.declared.refusal.Phase.TheVariants as phases
-use Rattle.refusals.specs.declared.refusal.Refusal.{Refusal}
 use Rattle.refusals.specs.declared.refusal.Refusal.TheVariants as refusals
-use Rattle.script_lines.specs.Grammar.{LineValue}
 use Rattle.script_lines.specs.Grammar as lines
 use Rattle.script_lines.specs.ReplyText.{reply_line}
-use Rattle.script_lines.specs.ReplyValue.{ReplyValue}
 use Rattle.script_lines.specs.ReplyValue as replies
-use Rattle.store_model.specs.Image.{Store}
-use Rattle.store_model.specs.Slots.{last_id}
-use Rattle.store_model.specs.Steps.{StoreChange}
-use Rattle.store_machine.specs.Asked.{Asked}
 use Rattle.store_machine.specs.Asked as asked
-use Rattle.store_machine.specs.ByMap.{FileMachine}
-use Rattle.store_machine.specs.Collected.{AreBetween, HasIds}
-use Rattle.store_machine.specs.Collecting.{Ends as EndsCollection, IsCollecting, freed_in, keys_written, marking, marks_of}
-use Rattle.store_machine.specs.CollectsAlone.{CollectRefusal, CollectedAlone, CollectsByMap, HasBroken, HasSwept, Sweeps, SweptSoFar}
-use Rattle.store_machine.specs.Commands.{Collect, Follows, IsDone, Replied, text_of}
-use Rattle.store_machine.specs.Done.{Done}
+use Rattle.store_machine.specs.Collecting.{Ends as EndsCollection}
+use Rattle.store_machine.specs.CollectsAlone.{CollectRefusal, CollectedAlone, CollectsByMap, HasBroken, HasSwept, SweptSoFar}
 use Rattle.store_machine.specs.Done as done
-use Rattle.store_machine.specs.Legal.{Answers, ByState, Does, Legal, RefusesGcStep, RefusesOn}
-use Rattle.store_machine.specs.Lines.{AreDid, Ends, IsLast, Line, reply_of, step_of}
-use Rattle.store_machine.specs.Machine.{Found, Idle, RunState, Running, Stopped}
-use Rattle.store_machine.specs.Needs.{keys_kept, values_read}
-use Rattle.store_machine.specs.Opening.{MayBeFound}
-use Rattle.store_machine.specs.Runs.{Run}
-use Rattle.store_machine.specs.Values.{of_files}
+use Rattle.store_machine.specs.Lines.{Ends, IsLast}
 use Rattle.store_machine.proofs.Ended.{collects_what_it_selected}
 use Rattle.store_machine.proofs.Ingesting.{run_one, run_parts}
 use Rattle.store_machine.proofs.Passing.{sure_found}

@@ -1,28 +1,14 @@
 -- The lines of a `delete` take the name away, or nothing.
-use Rattle.std.proofs.Common.{◌≡◌, ◌⊎◌, inl, inr, ◌<◌, ◌-◌, ◌^◌, true, ℕ, List as ListOf, [], ◌∷◌, ◌++◌, Option, Some, None, is_some, Result, Ok, Err, refl, sym, ◌∙◌, ap, subst}
+use Rattle.store_machine.proofs.Prelude.{◌≡◌, ◌⊎◌, inl, inr, ◌<◌, ◌-◌, ◌^◌, true, ℕ, ListOf, [], ◌∷◌, ◌++◌, Option, Some, None, is_some, Result, Ok, Err, refl, sym, ◌∙◌, ap, subst, IsName, Gone, Refusal, LineValue, ReplyValue, Store, CanRise, with_change, Asked, FileMachine, IsGone, RunsWith, Delete, EndsWith, Follows, IsDone, Replied, text_of, Done, Answers, Does, HasName, HasNumbers, Refuses, RefusesDelete, broken_by, without_name, Line, reply_of, Found, Idle, Running, Stopped, MayBeFound, of_files}
 use Rattle.std.specs.FinMap as finite
-use Rattle.disk_format.specs.Cells.{IsName}
-use Rattle.disk_format.specs.Cells.Change.{Delete as Gone}
-use Rattle.refusals.specs.declared.refusal.Refusal.{Refusal}
 use Rattle.refusals.specs.declared.refusal.Refusal.TheVariants as refusals
 use Rattle.reply_text.specs.Text.{deleted_line}
-use Rattle.script_lines.specs.Grammar.{LineValue}
 use Rattle.script_lines.specs.Grammar as lines
-use Rattle.script_lines.specs.ReplyValue.{ReplyValue}
 use Rattle.script_lines.specs.ReplyValue as replies
-use Rattle.store_model.specs.Image.{Store}
-use Rattle.store_model.specs.Steps.{CanRise, with_change}
-use Rattle.store_machine.specs.Asked.{Asked}
 use Rattle.store_machine.specs.Asked as asked
-use Rattle.store_machine.specs.ByMap.{DeleteRefusal, DeletedName, DeletesByMap, DeletesIn, FileMachine, IsGone, RunsWith}
-use Rattle.store_machine.specs.Commands.{Delete, EndsWith, Follows, IsDone, Replied, text_of}
-use Rattle.store_machine.specs.Done.{Done}
+use Rattle.store_machine.specs.ByMap.{DeleteRefusal, DeletedName, DeletesByMap, DeletesIn}
 use Rattle.store_machine.specs.Done as done
-use Rattle.store_machine.specs.Legal.{Answers, Does, HasName, HasNumbers, Refuses, RefusesDelete, broken_by, without_name}
-use Rattle.store_machine.specs.Lines.{Ends, Line, reply_of}
-use Rattle.store_machine.specs.Machine.{Found, Idle, Running, Stopped}
-use Rattle.store_machine.specs.Opening.{MayBeFound}
-use Rattle.store_machine.specs.Values.{of_files}
+use Rattle.store_machine.specs.Lines.{Ends}
 use Rattle.store_machine.proofs.Passing.{sure_found}
 use Rattle.store_machine.proofs.Quiet.{running_sure}
 use Rattle.store_machine.proofs.Stepwise.{At, Desks, IsFailure, NotOpened, Over, Step, WasOpened, ends_from, ends_over, ends_so, last_from, lines_after, no_actor, not_barred, one_step, opened_store, unopened_ends, unopened_found, unopened_printed, unopened_refusal, unopened_same, unopened_store, unopened_undone}

@@ -1,27 +1,15 @@
 -- A collection from its beginning to its end, whatever steps come between.
-use Rattle.std.proofs.Common.{◌≡◌, ◌≢◌, ◌⊎◌, ◌↔◌, ◌<◌, inl, inr, ⊎_elim, ℕ, zero, suc, List, [], ◌∷◌, ◌++◌, get_or, length, Contains, Some, Result, Ok, Err, refl, sym, ◌∙◌, ap, subst, arith}
+use Rattle.store_machine.proofs.Prelude.{◌≡◌, ◌≢◌, ◌⊎◌, ◌↔◌, ◌<◌, inl, inr, ⊎_elim, ℕ, zero, suc, [], ◌∷◌, ◌++◌, get_or, length, Contains, Some, Result, Ok, Err, refl, sym, ◌∙◌, ap, subst, arith, HeaderValue, header_of, RESERVE, Store, first_free, free_slots, with_slot, Phase, Refusal, Asked, AreBetween, EachOnce, HasContainer, HasIds, IsSealOf, TakesKey, Begins, GoesOn, freed_in, keys_written, marking, marks_of, sources_in, Done, ByState, Does, Legal, LegalBy, Collection, Machine, RunState, Running, Stepped, Stopped, Sweep, Sweeping, keys_kept, values_read, Run, Values}
+use Rattle.std.proofs.Common.{List}
 use Rattle.std.specs.FinMap as finite
 use Rattle.std.proofs.lemmas.Grind.{get_or_default_zero}
-use Rattle.container_meta.specs.Spelling.{HeaderValue, header_of}
-use Rattle.disk_format.specs.declared.numbers.TheConstants.{RESERVE}
-use Rattle.store_model.specs.Image.{Store}
-use Rattle.store_model.specs.Slots.{first_free, free_slots, with_slot}
 use Rattle.gc_select.specs.Selecting.{selected}
 use Rattle.gc_select.proofs.Chosen.{sources_many}
-use Rattle.refusals.specs.declared.refusal.Phase.{Phase}
 use Rattle.refusals.specs.declared.refusal.Phase.TheVariants as phases
-use Rattle.refusals.specs.declared.refusal.Refusal.{Refusal}
-use Rattle.store_machine.specs.Asked.{Asked}
 use Rattle.store_machine.specs.Asked as asked
-use Rattle.store_machine.specs.Collected.{AreBetween, EachOnce, Collected, CollectsWhatItSelected, HasContainer, HasIds, IsBetween, IsSealOf, IsSealedBy, TakesKey, WasTaken}
-use Rattle.store_machine.specs.Collecting.{Begins, Ends, Goes, GoesOn, Went, freed_in, keys_written, marking, marks_of, sources_in}
-use Rattle.store_machine.specs.Done.{Done}
+use Rattle.store_machine.specs.Collected.{Collected, CollectsWhatItSelected, IsBetween, IsSealedBy, WasTaken}
+use Rattle.store_machine.specs.Collecting.{Ends, Goes, Went}
 use Rattle.store_machine.specs.Done as done
-use Rattle.store_machine.specs.Legal.{ByState, Does, Legal, LegalBy}
-use Rattle.store_machine.specs.Machine.{Collection, Machine, RunState, Running, Stepped, Stopped, Sweep, Sweeping}
-use Rattle.store_machine.specs.Needs.{keys_kept, values_read}
-use Rattle.store_machine.specs.Runs.{Run}
-use Rattle.store_machine.specs.Values.{Values}
 use Rattle.store_machine.proofs.Beside.{SameStore, same_of, step_beside, step_state}
 use Rattle.store_machine.proofs.Running.{Since, Steps, chosen, copied_by, flushed, kept, marked, recorded_one, released, sealed, still}
 use Rattle.store_machine.proofs.Swept.{AtStage, SweepsSince, filled_at, none_filled, none_in}

@@ -1,38 +1,20 @@
 -- A step of the machine of files is one of the machine of roots, once all but the roots is forgotten.
-use Rattle.std.proofs.Common.{◌≡◌, inl, inr, ◌≤◌, ◌<◌, ◌-◌, ◌^◌, ℕ, suc, true, false, List, [], ◌∷◌, ◌++◌, length, map, Contains, slice_get, is_some, Option, Some, None, option_map, Result, Ok, Err, refl, sym, ◌∙◌, ap, subst}
+use Rattle.store_machine.proofs.Prelude.{◌≡◌, inl, inr, ◌≤◌, ◌<◌, ◌-◌, ◌^◌, ℕ, suc, true, false, [], ◌∷◌, ◌++◌, length, map, Contains, is_some, Option, Some, None, option_map, Result, Ok, Err, refl, sym, ◌∙◌, ap, subst, ACTORS, PinMap, pin_of, KindSegment, segment_key, Root, Put, Gone, half_cells, LAST_ID, MOST_NAMES, RESERVE, Top, start_of, PartKind, Phase, Refusal, Store, free_slots, last_id, with_freed, CanRise, CanSeal, with_change, with_sealed, Asked, Begins, GoesOn, IsCollecting, Makes, MayBreak, last_by, marking, marks_of, phase_in, swept_by, Done, Forgets, Rests, SameNow, SamePart, SameState, asked_of, forget_collection, Answers, ByState, Claims, Deletes, Does, GivesBytes, GivesUp, HasName, HasNumbers, HasRoom, HasSlot, IsAtEnd, IsAtRightPart, IsUnkept, broken_by, Keeps, LacksNumbers, MayCommit, OpensValue, Refuses, RefusesClaim, RefusesCommit, RefusesDelete, RefusesGcStep, RefusesOn, RefusesRead, RefusesSeal, Seals, LegalBy, counted, with_name, without_name, Collection, Found, Idle, Writing, Reading, RunState, Running, Stopped, all_idle, keeping, kind_of, one_more, part_in, put_at, forgotten_beside, keys_kept, keys_of, values_read, with_pins, MayBeFound, MayRefuseOpening, Reopens, freeing, IsStuck, of_files, of_roots, top_of}
+use Rattle.std.proofs.Common.{List, slice_get}
 use Rattle.std.specs.FinMap as finite
-use Rattle.actor_parts.specs.declared.actor.TheConstants.{ACTORS}
-use Rattle.actor_parts.specs.PinMap.{PinMap}
-use Rattle.actor_parts.specs.Segments.{pin_of}
-use Rattle.container_meta.specs.Segments.{KindSegment, Contents, segment_key}
-use Rattle.disk_format.specs.Cells.{Root}
-use Rattle.disk_format.specs.Cells.Change.{Put, Delete as Gone}
-use Rattle.disk_format.specs.Layout.{half_cells}
-use Rattle.disk_format.specs.declared.numbers.TheConstants.{LAST_ID, MOST_NAMES, RESERVE}
-use Rattle.merkle_file.specs.declared.top.Top.{Top}
-use Rattle.merkle_file.specs.Walk.{start_of}
-use Rattle.refusals.specs.declared.refusal.PartKind.{PartKind}
+use Rattle.container_meta.specs.Segments.{Contents}
 use Rattle.refusals.specs.declared.refusal.PartKind.TheVariants as kinds
-use Rattle.refusals.specs.declared.refusal.Phase.{Phase}
 use Rattle.refusals.specs.declared.refusal.Phase.TheVariants as phases
-use Rattle.refusals.specs.declared.refusal.Refusal.{Refusal}
 use Rattle.refusals.specs.declared.refusal.Refusal.TheVariants as refusals
-use Rattle.store_model.specs.Image.{Store}
-use Rattle.store_model.specs.Slots.{free_slots, last_id, newest}
-use Rattle.store_model.specs.Freeing.{with_freed}
-use Rattle.store_model.specs.Steps.{CanRise, CanSeal, with_change, with_sealed}
+use Rattle.store_model.specs.Slots.{newest}
 use Rattle.store_model.specs.Trees.{root_of}
-use Rattle.store_machine.specs.Asked.{Asked}
 use Rattle.store_machine.specs.Asked as asked
-use Rattle.store_machine.specs.Collecting.{Begins, Ends, GoesOn, IsCollecting, Makes, MayBreak, last_by, marking, marks_of, phase_in, swept_by}
-use Rattle.store_machine.specs.Done.{Done}
+use Rattle.store_machine.specs.Collecting.{Ends}
 use Rattle.store_machine.specs.Done as done
-use Rattle.store_machine.specs.Forgetting.{Forgets, Rests, SameNow, SamePart, SameState, RunsAreForgotten, StepsAreForgotten, asked_of, forget_collection}
-use Rattle.store_machine.specs.Legal.{Answers, ByState, Claims, Commits, Deletes, Does, GivesBytes, GivesUp, HasName, HasNumbers, HasRoom, HasSlot, IsAtEnd, IsAtRightPart, IsLacked, IsUnkept, broken_by, Keeps, LacksNumbers, MayCommit, OpensValue, Refuses, RefusesClaim, RefusesCommit, RefusesDelete, RefusesGcStep, RefusesOn, RefusesRead, RefusesSeal, Seals, LegalBy, counted, taken_by, with_name, without_name}
-use Rattle.store_machine.specs.Machine.{Collection, Found, Idle, Writing, Reading, RunState, Running, Stopped, all_idle, keeping, kind_of, one_more, part_in, put_at}
-use Rattle.store_machine.specs.Needs.{HasLength, forgotten_beside, keys_kept, keys_of, values_read, with_pins}
-use Rattle.store_machine.specs.Opening.{MayBeFound, MayRefuseOpening, Opens, Reopens, freeing}
-use Rattle.store_machine.specs.Values.{IsStuck, of_files, of_roots, top_of}
+use Rattle.store_machine.specs.Forgetting.{RunsAreForgotten, StepsAreForgotten}
+use Rattle.store_machine.specs.Legal.{Commits, IsLacked, taken_by}
+use Rattle.store_machine.specs.Needs.{HasLength}
+use Rattle.store_machine.specs.Opening.{Opens}
 use Rattle.store_machine.proofs.ForgottenCollection.{goes_same}
 use Rattle.store_machine.proofs.Parts.{F, G, FilePart, RootPart, part_at, set_at, all_same, kind_same, idle_same, writing_same, reading_same, kept_map, keys_same, read_same, map_two, collecting, some_left}
 use Rattle.store_machine.proofs.SameNames.{gone_same, knows_same, len_same, listing_same, none_same, put_same, some_same, values_same}

@@ -1,16 +1,8 @@
 -- A step of a collection of the machine of files is one of a collection of roots, once all but the roots is forgotten.
-use Rattle.std.proofs.Common.{◌≡◌, inl, inr, ℕ, suc, List, [], ◌∷◌, ◌++◌, slice_get, Some, sym, ◌∙◌, ap, subst}
-use Rattle.refusals.specs.declared.refusal.Phase.{Phase}
+use Rattle.store_machine.proofs.Prelude.{◌≡◌, inl, inr, ℕ, suc, [], ◌∷◌, ◌++◌, Some, sym, ◌∙◌, ap, subst, Phase, ContainerLiveness, ids_of, Store, FlushContainer, Chooses, Copies, Flushes, IsRecordOf, JustGoes, Marks, Records, Releases, ids_before, next_of, no_sweep, sources_in, Forgets, forget_collection, Collection, Sweeping, forgotten_beside, of_files, of_roots}
+use Rattle.std.proofs.Common.{List, slice_get}
 use Rattle.refusals.specs.declared.refusal.Phase.TheVariants as phases
-use Rattle.gc_select.specs.declared.liveness.ContainerLiveness.{ContainerLiveness}
-use Rattle.gc_select.specs.Selecting.{ids_of}
-use Rattle.store_model.specs.Image.{Store}
-use Rattle.store_model.specs.Steps.{FlushContainer}
-use Rattle.store_machine.specs.Collecting.{Chooses, Copies, Flushes, Goes, IsRecordOf, JustGoes, Marks, Records, Releases, Went, ids_before, next_of, no_sweep, sources_in}
-use Rattle.store_machine.specs.Forgetting.{Forgets, forget_collection}
-use Rattle.store_machine.specs.Machine.{Collection, Sweeping}
-use Rattle.store_machine.specs.Needs.{forgotten_beside}
-use Rattle.store_machine.specs.Values.{of_files, of_roots}
+use Rattle.store_machine.specs.Collecting.{Goes, Went}
 use Rattle.store_machine.proofs.Parts.{F, G}
 
 module _ (m : F) (r : G) (same : Forgets m r) where

@@ -1,19 +1,11 @@
 -- The steps that the lines of an `ingest` make are such, with the file that was given.
-use Rattle.std.proofs.Common.{◌≡◌, ◌⊎◌, inl, inr, true, ℕ, List, [], ◌∷◌, ◌++◌, Some, Result, Ok, Err, refl, sym, ◌∙◌, ap, subst}
-use Rattle.refusals.specs.declared.refusal.Refusal.{Refusal}
-use Rattle.script_lines.specs.Grammar.{LineValue, pushed_bytes}
+use Rattle.store_machine.proofs.Prelude.{◌≡◌, ◌⊎◌, inl, inr, true, ℕ, [], ◌∷◌, ◌++◌, Some, Result, Ok, Err, refl, sym, ◌∙◌, ap, subst, Refusal, LineValue, pushed_bytes, ReplyValue, Asked, AllFollow, AreLinesOf, Follows, Ingest, IsPush, Lines, Replied, given_after, given_by, run_of, Done, Line, Pushes, Session, TurnsStop, reply_of, step_of, Found, Running, desk, of_files}
+use Rattle.std.proofs.Common.{List}
 use Rattle.script_lines.specs.Grammar as lines
-use Rattle.script_lines.specs.ReplyValue.{ReplyValue}
 use Rattle.script_lines.specs.ReplyValue as replies
-use Rattle.store_machine.specs.Asked.{Asked}
 use Rattle.store_machine.specs.Asked as asked
-use Rattle.store_machine.specs.Commands.{AllFollow, AreLinesOf, Follows, Ingest, IsPush, Lines, Replied, given_after, given_by, run_of}
-use Rattle.store_machine.specs.Done.{Done}
 use Rattle.store_machine.specs.Ingests.{IngestsThrough}
-use Rattle.store_machine.specs.Lines.{Commits, Line, Pushes, Session, TurnsStop, reply_of, step_of}
-use Rattle.store_machine.specs.Machine.{Found, Running}
-use Rattle.store_machine.specs.Commands.{desk}
-use Rattle.store_machine.specs.Values.{of_files}
+use Rattle.store_machine.specs.Lines.{Commits}
 use Rattle.store_machine.proofs.Ingesting.{D, Gives, Stage, Went, begin_went, commit_put, opened_went, pushes, reply_by, run_one}
 use Rattle.store_machine.proofs.Passing.{AllOk, Good, IsFine, fine_of, ok_good, passes, turns_ok}
 use Rattle.store_machine.proofs.Quiet.{F, Step, due_is_quiet}

@@ -1,39 +1,19 @@
 -- What the lines of an `ingest` are refused by, and what they print.
-use Rattle.std.proofs.Common.{◌≡◌, ◌≢◌, ◌⊎◌, inl, inr, ◌≤◌, ◌<◌, ℕ, suc, Bool, true, false, List, [], ◌∷◌, ◌++◌, length, slice_get, slice_index_or, slice_set, Option, Some, None, Result, Ok, Err, refl, sym, ◌∙◌, ap, subst}
+use Rattle.store_machine.proofs.Prelude.{◌≡◌, ◌≢◌, ◌⊎◌, inl, inr, ◌≤◌, ◌<◌, ℕ, suc, Bool, true, false, [], ◌∷◌, ◌++◌, length, slice_index_or, slice_set, Option, Some, None, Result, Ok, Err, refl, sym, ◌∙◌, ap, subst, PinMap, first_unpinned, Kind, KindSegment, Segment, IsName, LAST_ID, MOST_FILE, MOST_NAMES, RESERVE, PartKind, Refusal, LineValue, pushed_bytes, ReplyValue, root_key, free_slots, Asked, AfterOpening, AllFollow, EndsRefused, EndsWith, Follows, Ingest, IsDone, IsPush, Lines, Replied, desk, given_after, given_by, last_of, printed, text_of, Done, AddsIn, IsDueOf, Answers, ByState, Does, HasRoom, LacksNumbers, Legal, Refuses, RefusesClaim, RefusesCommit, RefusesSeal, AreTurns, Bars, Finishes, IsDueStep, Line, Pushes, Session, TurnsStop, actor_of, kind_at, kind_by, reply_of, session_of, step_of, takes, Found, Part, Idle, RunState, Running, Stopped, Writing, kind_of, part_in, first_unkept, or_else, Reopens, Run, of_files}
+use Rattle.std.proofs.Common.{List, slice_get}
 use Rattle.std.specs.FinMap as finite
 use Rattle.std.proofs.lemmas.List.{append-nil}
-use Rattle.actor_parts.specs.PinMap.{PinMap}
-use Rattle.actor_parts.specs.Segments.{first_unpinned}
-use Rattle.container_meta.specs.declared.kind.Kind.{Kind}
-use Rattle.container_meta.specs.Segments.{KindSegment, Segment}
-use Rattle.disk_format.specs.Cells.{IsName}
-use Rattle.disk_format.specs.declared.numbers.TheConstants.{LAST_ID, MOST_FILE, MOST_NAMES, RESERVE}
-use Rattle.refusals.specs.declared.refusal.PartKind.{PartKind}
 use Rattle.refusals.specs.declared.refusal.PartKind.TheVariants as kinds
-use Rattle.refusals.specs.declared.refusal.Refusal.{Refusal}
 use Rattle.refusals.specs.declared.refusal.Refusal.TheVariants as refusals
 use Rattle.reply_text.specs.Text.{stored_line}
-use Rattle.script_lines.specs.Grammar.{LineValue, pushed_bytes}
 use Rattle.script_lines.specs.Grammar as lines
-use Rattle.script_lines.specs.ReplyValue.{ReplyValue}
 use Rattle.script_lines.specs.ReplyValue as replies
-use Rattle.store_model.specs.Refusals.{root_key}
-use Rattle.store_model.specs.Slots.{free_slots}
 use Rattle.store_model.specs.Trees.{root_of}
-use Rattle.store_machine.specs.Asked.{Asked}
 use Rattle.store_machine.specs.Asked as asked
-use Rattle.store_machine.specs.ByMap.{AfterOpening}
-use Rattle.store_machine.specs.Commands.{AllFollow, EndsRefused, EndsWith, Follows, Ingest, IsDone, IsPush, Lines, Replied, desk, given_after, given_by, last_of, printed, text_of}
-use Rattle.store_machine.specs.Done.{Done}
 use Rattle.store_machine.specs.Done as done
-use Rattle.store_machine.specs.Ingests.{AddsIn, IngestRefusal, Ingested, IngestsByMap, IsDueOf}
-use Rattle.store_machine.specs.Legal.{Answers, ByState, Does, HasRoom, IsClash, IsKept, LacksNumbers, Legal, Refuses, RefusesClaim, RefusesCommit, RefusesSeal}
-use Rattle.store_machine.specs.Lines.{AreTurns, Bars, Commits, Finishes, IsDueStep, Line, Pushes, Session, TurnsStop, actor_of, kind_at, kind_by, reply_of, session_of, step_of, takes}
-use Rattle.store_machine.specs.Machine.{Found, Part, Idle, RunState, Running, Stopped, Writing, kind_of, part_in}
-use Rattle.store_machine.specs.Needs.{first_unkept, or_else}
-use Rattle.store_machine.specs.Opening.{Reopens}
-use Rattle.store_machine.specs.Runs.{Run}
-use Rattle.store_machine.specs.Values.{of_files}
+use Rattle.store_machine.specs.Ingests.{IngestRefusal, Ingested, IngestsByMap}
+use Rattle.store_machine.specs.Legal.{IsClash, IsKept}
+use Rattle.store_machine.specs.Lines.{Commits}
 use Rattle.store_machine.proofs.IngestStore.{IsRefusal, IsTurn, due_is_turn, stored_so, unrefused}
 use Rattle.store_machine.proofs.Ingesting.{D, Gives, Next, Ready, Stage, Went, ingests_kept, next, opened_went, reply_by, run_one, run_parts, same_session}
 use Rattle.store_machine.proofs.Passing.{sure_found}

@@ -1,32 +1,17 @@
 -- What the lines of an `ingest` add to the store: containers of the file, and then the name's record.
-use Rattle.std.proofs.Common.{◌≡◌, ◌⊎◌, inl, inr, ℕ, None, suc, Bool, true, false, List, [], ◌∷◌, ◌++◌, Some, Result, Ok, Err, refl, sym, ◌∙◌, ap, subst}
-use Rattle.std.specs.List.{AllByRecursion}
+use Rattle.store_machine.proofs.Prelude.{◌≡◌, ◌⊎◌, inl, inr, ℕ, None, suc, Bool, true, false, [], ◌∷◌, ◌++◌, Some, Result, Ok, Err, refl, sym, ◌∙◌, ap, subst, AllByRecursion, KindSegment, Put, Refusal, LineValue, pushed_bytes, ReplyValue, Store, ChangeName, FlushContainer, FreeContainer, SealContainer, StoreChange, with_change, with_sealed, Asked, AfterOpening, IsNotOpened, OnceOpened, Makes, AllFollow, Follows, Ingest, IsDone, IsPush, Lines, Replied, given_after, given_by, Done, AddsIn, IsDueOf, broken_by, with_name, Answers, ByState, Does, Legal, Refuses, RefusesClaim, RefusesCommit, RefusesSeal, Bars, AreTurns, IsDueStep, Line, Pushes, Session, TurnsStop, reply_of, step_of, Found, RunState, Running, Stopped, Run, of_files}
+use Rattle.std.proofs.Common.{List}
 use Rattle.std.proofs.lemmas.List.{append-nil, append_assoc}
-use Rattle.container_meta.specs.Segments.{Contents, KindSegment}
-use Rattle.disk_format.specs.Cells.Change.{Put}
+use Rattle.container_meta.specs.Segments.{Contents}
 use Rattle.ingest_session.specs.declared.due.Due.TheVariants as dues
-use Rattle.refusals.specs.declared.refusal.Refusal.{Refusal}
 use Rattle.refusals.specs.declared.refusal.Refusal.TheVariants as refusals
-use Rattle.script_lines.specs.Grammar.{LineValue, pushed_bytes}
 use Rattle.script_lines.specs.Grammar as lines
-use Rattle.script_lines.specs.ReplyValue.{ReplyValue}
 use Rattle.script_lines.specs.ReplyValue as replies
-use Rattle.store_model.specs.Image.{Store}
-use Rattle.store_model.specs.Steps.{ChangeName, FlushContainer, FreeContainer, SealContainer, StoreChange, with_change, with_sealed}
 use Rattle.store_model.specs.Trees.{root_of}
-use Rattle.store_machine.specs.Asked.{Asked}
 use Rattle.store_machine.specs.Asked as asked
-use Rattle.store_machine.specs.ByMap.{AfterOpening, IsNotOpened, OnceOpened}
-use Rattle.store_machine.specs.Collecting.{Makes}
-use Rattle.store_machine.specs.Commands.{AllFollow, Follows, Ingest, IsDone, IsPush, Lines, Replied, given_after, given_by}
-use Rattle.store_machine.specs.Done.{Done}
 use Rattle.store_machine.specs.Done as done
-use Rattle.store_machine.specs.Ingests.{AddsIn, IsBroken, IsDueOf, IsSealFor}
-use Rattle.store_machine.specs.Legal.{broken_by, with_name, Answers, ByState, Does, Legal, Refuses, RefusesClaim, RefusesCommit, RefusesSeal}
-use Rattle.store_machine.specs.Lines.{Bars, AreTurns, Commits, IsDueStep, Line, Pushes, Session, TurnsStop, reply_of, step_of}
-use Rattle.store_machine.specs.Machine.{Found, RunState, Running, Stopped}
-use Rattle.store_machine.specs.Runs.{Run}
-use Rattle.store_machine.specs.Values.{of_files}
+use Rattle.store_machine.specs.Ingests.{IsBroken, IsSealFor}
+use Rattle.store_machine.specs.Lines.{Commits}
 use Rattle.store_machine.proofs.Ingesting.{D, Gives, Next, Ready, Stage, Went, next, run_one, run_parts, same_session}
 use Rattle.store_machine.proofs.Quiet.{F, Step, answers, by_of, due_is_quiet, step_done, told_ok, turns_go}
 use Rattle.store_machine.proofs.Stepwise.{Opened, ends_from, ends_so, last_from, opened_store}

@@ -1,26 +1,12 @@
 -- The lines of an `ingest` put the file that was given under its name, and do nothing else of the names: what may be found at their end.
-use Rattle.std.proofs.Common.{◌≡◌, ◌⊎◌, inl, inr, ◌≤◌, ◌<◌, ◌-◌, ◌^◌, ℕ, Bool, true, false, List, [], ◌∷◌, ◌++◌, length, slice_index_or, slice_set, Option, Some, None, Result, Ok, Err, refl, sym, ◌∙◌, ap, subst, arith}
-use Rattle.disk_format.specs.declared.numbers.TheConstants.{MOST_FILE}
-use Rattle.refusals.specs.declared.refusal.Refusal.{Refusal}
+use Rattle.store_machine.proofs.Prelude.{◌≡◌, ◌⊎◌, inl, inr, ◌≤◌, ◌<◌, ◌-◌, ◌^◌, ℕ, Bool, true, false, [], ◌∷◌, ◌++◌, length, slice_index_or, slice_set, Option, Some, None, Result, Ok, Err, refl, sym, ◌∙◌, ap, subst, arith, MOST_FILE, Refusal, LineValue, pushed_bytes, ReplyValue, Store, Asked, AllFollow, AreLinesOf, EndsRefused, EndsWith, Follows, Ingest, IsDone, IsPush, Lines, Replied, given_after, given_by, Done, HasRoomFor, IsPut, Answers, ByState, Does, HasNumbers, Legal, MayCommit, Refuses, RefusesCommit, with_name, Acts, Desk, Finishes, Line, Pushes, Session, TurnsStop, all_none, new_session, reply_of, session_of, step_of, unless_refused, Found, RunState, Running, Stopped, MayBeFound, Reopens, freeing, desk, Run, of_files}
+use Rattle.std.proofs.Common.{List}
 use Rattle.refusals.specs.declared.refusal.Refusal.TheVariants as refusals
-use Rattle.script_lines.specs.Grammar.{LineValue, pushed_bytes}
 use Rattle.script_lines.specs.Grammar as lines
-use Rattle.script_lines.specs.ReplyValue.{ReplyValue}
 use Rattle.script_lines.specs.ReplyValue as replies
-use Rattle.store_model.specs.Image.{Store}
-use Rattle.store_machine.specs.Asked.{Asked}
 use Rattle.store_machine.specs.Asked as asked
-use Rattle.store_machine.specs.Commands.{AllFollow, AreLinesOf, EndsRefused, EndsWith, Follows, Ingest, IsDone, IsPush, Lines, Replied, given_after, given_by}
-use Rattle.store_machine.specs.Done.{Done}
 use Rattle.store_machine.specs.Done as done
-use Rattle.store_machine.specs.Ingests.{HasRoomFor, IsPut}
-use Rattle.store_machine.specs.Legal.{Answers, ByState, Does, HasNumbers, Legal, MayCommit, Refuses, RefusesCommit, with_name}
-use Rattle.store_machine.specs.Lines.{Acts, Commits, Desk, Finishes, Line, Pushes, Session, TurnsStop, all_none, new_session, reply_of, session_of, step_of, unless_refused, with_session}
-use Rattle.store_machine.specs.Machine.{Found, RunState, Running, Stopped}
-use Rattle.store_machine.specs.Opening.{MayBeFound, Reopens, freeing}
-use Rattle.store_machine.specs.Commands.{desk}
-use Rattle.store_machine.specs.Runs.{Run}
-use Rattle.store_machine.specs.Values.{of_files}
+use Rattle.store_machine.specs.Lines.{Commits, with_session}
 use Rattle.store_machine.proofs.Quiet.{IsSure, running_sure, F, Goes, Quiet, Step, due_is_quiet, quiet_of, step_quiet, turns_go}
 
 abbrev pub D : Type 0

@@ -1,41 +1,24 @@
 -- Where what is kept of a file is pinned, a child that lacks its pin has a twin; and so has a root.
-use Rattle.std.proofs.Common.{◌≡◌, ◌≢◌, inl, inr, ◌∙◌, ◌≤◌, ℕ, ◌==◌, Bool, true, false, if◌then◌else◌, List, [], ◌∷◌, ◌++◌, length, Option, Some, None, append-nil, refl, sym, ap, subst, arith}
-use Rattle.std.specs.List.{AllByRecursion}
-use Rattle.disk_format.specs.declared.numbers.TheConstants.{MOST_FILE}
-use Rattle.container_meta.specs.declared.kind.Kind.{Kind}
+use Rattle.store_machine.proofs.Prelude.{◌≡◌, ◌≢◌, inl, inr, ◌∙◌, ◌≤◌, ℕ, ◌==◌, Bool, true, false, [], ◌∷◌, ◌++◌, length, Option, Some, None, refl, sym, ap, subst, arith, AllByRecursion, MOST_FILE, Kind, KindSegment, Segment, segment_key, ByCount, room_of, MayBeFile, nodes_of, of_segment, tree_of, nodes_are_right, segments_of, are_few, have_right_lengths, lengths_add_up, take_all, Pin, PinMap, pin_by, pin_of, Piece, IsPieceOf, piece_key, piece_segment, root_key, Claim, Nothing, due_in, open_of, History, HasHistory, SessionState, turn_node, IsSettled, of_kind, first_unkept, or_else, HasTwins}
+use Rattle.std.proofs.Common.{if◌then◌else◌, List, append-nil}
 use Rattle.container_meta.specs.declared.kind.Kind.TheVariants.{Leaf, Tree}
-use Rattle.container_meta.specs.Segments.{KindSegment, Segment, segment_key}
-use Rattle.merkle_file.specs.Form.{ByCount, room_of}
 use Rattle.merkle_file.specs.Node as node
-use Rattle.merkle_file.specs.Roots.{MayBeFile}
-use Rattle.merkle_file.specs.Tree.{nodes_of, of_segment, tree_of}
-use Rattle.merkle_file.proofs.RootLaws.{nodes_are_right, spellings_tell_nodes}
-use Rattle.segmenter.specs.Segments.{segments_of}
-use Rattle.segmenter.proofs.LengthLemmas.{are_few, have_right_lengths, lengths_add_up}
+use Rattle.merkle_file.proofs.RootLaws.{spellings_tell_nodes}
 use Rattle.sha2.specs.Sha256.{sha256}
-use Rattle.std.proofs.lemmas.List.{take_all}
 use Rattle.std.proofs.Common.{slice_get}
 use Rattle.ingest_session.proofs.Members.{one_of}
-use Rattle.actor_parts.specs.declared.pins.Pin.{Pin}
-use Rattle.actor_parts.specs.PinMap.{PinMap, is_pin, has_pin}
-use Rattle.actor_parts.specs.Segments.{KeyPin, children_by, children_of, first_not_in, node_segment, pin_by, pin_of}
-use Rattle.store_model.specs.Pieces.{Piece, Data, Node, IsPieceOf, nodes_of_file, piece_bytes, piece_key, piece_segment}
-use Rattle.store_model.specs.Refusals.{root_key}
+use Rattle.actor_parts.specs.PinMap.{is_pin, has_pin}
+use Rattle.actor_parts.specs.Segments.{KeyPin, children_by, children_of, first_not_in, node_segment}
+use Rattle.store_model.specs.Pieces.{Data, Node, nodes_of_file, piece_bytes}
 use Rattle.store_model.specs.Trees.{root_of}
-use Rattle.ingest_session.specs.declared.due.Due.TheVariants.{Claim, Nothing}
-use Rattle.ingest_session.specs.Due.{due_in, open_of}
 use Rattle.ingest_session.specs.Facts.{IsKept, IsKeptChild}
-use Rattle.ingest_session.specs.History.{History, HasHistory}
 use Rattle.ingest_session.specs.Moving.{IsItem}
-use Rattle.ingest_session.specs.State.{SessionState, turn_node}
-use Rattle.ingest_session.specs.Told.{IsSettled}
 use Rattle.ingest_session.proofs.Ends.{all_is_kept, bytes_are_counted}
 use Rattle.ingest_session.proofs.Facts.{children_come_first, open_nodes_have_children}
-use Rattle.ingest_session.proofs.KeptPieces.{data_piece, kept_pieces, node_piece, of_kind}
+use Rattle.ingest_session.proofs.KeptPieces.{data_piece, kept_pieces, node_piece}
 use Rattle.ingest_session.proofs.Waiting.{claimed_turn}
 use Rattle.store_machine.specs.Legal as legal
-use Rattle.store_machine.specs.Needs.{first_unkept, or_else}
-use Rattle.store_machine.specs.Twins.{HasTwins, IsOfGiven}
+use Rattle.store_machine.specs.Twins.{IsOfGiven}
 use Rattle.store_machine.proofs.Pins.{HasPinOf}
 use Rattle.store_machine.proofs.RootPieces.{HasRootPiece, root_piece}
 

@@ -1,24 +1,14 @@
 -- The lines of a `list` print the names, and change nothing.
-use Rattle.std.proofs.Common.{◌≡◌, ◌⊎◌, inl, inr, ℕ, List as ListOf, [], ◌∷◌, ◌++◌, Some, None, Result, Ok, Err, refl, sym, ◌∙◌, ap, subst}
-use Rattle.refusals.specs.declared.refusal.Refusal.{Refusal}
+use Rattle.store_machine.proofs.Prelude.{◌≡◌, ◌⊎◌, inl, inr, ℕ, ListOf, [], ◌∷◌, ◌++◌, Some, None, Result, Ok, Err, refl, sym, ◌∙◌, ap, subst, Refusal, LineValue, ReplyValue, Store, Asked, FileMachine, RunsWith, Follows, IsDone, Replied, text_of, Done, Answers, Does, Refuses, listing, Line, reply_of, Found, Idle, MayBeFound, of_files}
 use Rattle.refusals.specs.declared.refusal.Refusal.TheVariants as refusals
 use Rattle.reply_text.specs.Text.{listing_text}
-use Rattle.script_lines.specs.Grammar.{LineValue}
 use Rattle.script_lines.specs.Grammar as lines
-use Rattle.script_lines.specs.ReplyValue.{ReplyValue}
 use Rattle.script_lines.specs.ReplyValue as replies
-use Rattle.store_model.specs.Image.{Store}
-use Rattle.store_machine.specs.Asked.{Asked}
 use Rattle.store_machine.specs.Asked as asked
-use Rattle.store_machine.specs.ByMap.{FileMachine, ListRefusal, ListedNames, ListsByMap, RunsWith}
-use Rattle.store_machine.specs.Commands.{Follows, IsDone, List, Replied, text_of}
-use Rattle.store_machine.specs.Done.{Done}
+use Rattle.store_machine.specs.ByMap.{ListRefusal, ListedNames, ListsByMap}
+use Rattle.store_machine.specs.Commands.{List}
 use Rattle.store_machine.specs.Done as done
-use Rattle.store_machine.specs.Legal.{Answers, Does, Refuses, listing}
-use Rattle.store_machine.specs.Lines.{Ends, Line, reply_of}
-use Rattle.store_machine.specs.Machine.{Found, Idle}
-use Rattle.store_machine.specs.Opening.{MayBeFound}
-use Rattle.store_machine.specs.Values.{of_files}
+use Rattle.store_machine.specs.Lines.{Ends}
 use Rattle.store_machine.proofs.Passing.{sure_found}
 use Rattle.store_machine.proofs.Quiet.{running_sure}
 use Rattle.store_machine.proofs.Stepwise.{At, Desks, Fresh, IsFailure, NotOpened, Over, Step, WasOpened, ends_from, ends_over, ends_so, lines_after, no_actor, not_barred, one_step, opened_store, unopened_ends, unopened_found, unopened_printed, unopened_refusal, unopened_store, unopened_undone}

@@ -1,26 +1,16 @@
 -- What may be found at each moment of a `restore`, a `delete` or a `list`: each line is one step, and at most the last changes a name.
-use Rattle.std.proofs.Common.{◌≡◌, ◌⊎◌, ◌≤◌, ◌<◌, ◌-◌, ◌^◌, inl, inr, ℕ, List as ListOf, [], ◌∷◌, ◌++◌, Some, Result, Ok, Err, refl, sym, ◌∙◌, ap, subst}
+use Rattle.store_machine.proofs.Prelude.{◌≡◌, ◌⊎◌, ◌≤◌, ◌<◌, ◌-◌, ◌^◌, inl, inr, ℕ, ListOf, [], ◌∷◌, ◌++◌, Some, Result, Ok, Err, refl, sym, ◌∙◌, ap, subst, IsName, Refusal, LineValue, ReplyValue, Asked, FileMachine, IsGone, IsStill, AllFollow, AreLinesOf, Collect, Command, Delete, Follows, Lines, Replied, Restore, desk, run_of, Done, Answers, ByState, Does, HasName, HasNumbers, Legal, Refuses, RefusesDelete, without_name, AreDid, Line, reply_of, step_of, Found, RunState, Running, MayBeFound, of_files}
 use Rattle.std.specs.FinMap as finite
 use Rattle.std.proofs.lemmas.List.{append-nil}
-use Rattle.disk_format.specs.Cells.{IsName}
-use Rattle.refusals.specs.declared.refusal.Refusal.{Refusal}
 use Rattle.refusals.specs.declared.refusal.Refusal.TheVariants as refusals
-use Rattle.script_lines.specs.Grammar.{LineValue}
 use Rattle.script_lines.specs.Grammar as lines
-use Rattle.script_lines.specs.ReplyValue.{ReplyValue}
 use Rattle.script_lines.specs.ReplyValue as replies
-use Rattle.store_machine.specs.Asked.{Asked}
 use Rattle.store_machine.specs.Asked as asked
-use Rattle.store_machine.specs.ByMap.{DeletesThrough, FileMachine, IsGone, IsStill, ListsThrough, RestoresThrough}
+use Rattle.store_machine.specs.ByMap.{DeletesThrough, ListsThrough, RestoresThrough}
 use Rattle.store_machine.specs.CollectsAlone.{CollectsThrough}
-use Rattle.store_machine.specs.Commands.{AllFollow, AreLinesOf, Collect, Command, Delete, Follows, Lines, List, Replied, Restore, desk, run_of}
-use Rattle.store_machine.specs.Done.{Done}
+use Rattle.store_machine.specs.Commands.{List}
 use Rattle.store_machine.specs.Done as done
-use Rattle.store_machine.specs.Legal.{Answers, ByState, Does, HasName, HasNumbers, Legal, Refuses, RefusesDelete, without_name}
-use Rattle.store_machine.specs.Lines.{AreDid, Ends, Line, reply_of, step_of}
-use Rattle.store_machine.specs.Machine.{Found, RunState, Running}
-use Rattle.store_machine.specs.Opening.{MayBeFound}
-use Rattle.store_machine.specs.Values.{of_files}
+use Rattle.store_machine.specs.Lines.{Ends}
 use Rattle.store_machine.proofs.Deleting.{has_file}
 use Rattle.store_machine.proofs.Ingesting.{run_one}
 use Rattle.store_machine.proofs.Passing.{AllOk, GoodTo, IsFine, IsTold, ok_good_to, passes_to, sure_found}

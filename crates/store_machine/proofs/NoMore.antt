@@ -1,31 +1,14 @@
 -- What the content of a disk adds is so of each step of the machine of files: it adds no more than that needs.
-use Rattle.std.proofs.Common.{◌≡◌, inl, inr, ◌<◌, ℕ, suc, List, [], ◌∷◌, ◌++◌, length, Some, None, option_map, Result, Ok, Err, refl, sym, ◌∙◌, ap, subst, arith}
+use Rattle.store_machine.proofs.Prelude.{◌≡◌, inl, inr, ◌<◌, ℕ, suc, [], ◌∷◌, ◌++◌, length, Some, None, option_map, Result, Ok, Err, refl, sym, ◌∙◌, ap, subst, arith, AllByRecursion, Kind, Segment, Root, PartKind, Phase, Refusal, Store, IsSpare, FreesTo, FlushContainer, FreeContainer, Asked, GoesOn, GoesOver, IsRecordOf, MayBreak, Done, Forgets, SameNow, SamePart, SameState, forget_collection, Answers, ByState, Does, GivesBytes, LegalBy, Refuses, RefusesOn, RefusesRead, Collection, Found, Reading, RunState, Running, Stopped, Sweep, Sweeping, part_in, IsNeeded, NamesNeed, Reopens, freeing, AddsBy, AddsToAnswer, AddsToDone, AddsToOpening, AddsToPhase, AddsToRefused, AddsToStep, ComesNext, StaysAt, of_files, of_roots}
+use Rattle.std.proofs.Common.{List}
 use Rattle.std.proofs.lemmas.List.{append-nil, append_cancel_left}
-use Rattle.std.specs.List.{AllByRecursion}
-use Rattle.container_meta.specs.declared.kind.Kind.{Kind}
-use Rattle.container_meta.specs.Segments.{Segment}
-use Rattle.disk_format.specs.Cells.{Root}
-use Rattle.refusals.specs.declared.refusal.PartKind.{PartKind}
-use Rattle.refusals.specs.declared.refusal.Phase.{Phase}
 use Rattle.refusals.specs.declared.refusal.Phase.TheVariants as phases
-use Rattle.refusals.specs.declared.refusal.Refusal.{Refusal}
 use Rattle.refusals.specs.declared.refusal.Refusal.TheVariants as refusals
-use Rattle.store_model.specs.Image.{Store}
-use Rattle.store_model.specs.Reserve.{IsSpare}
-use Rattle.store_model.specs.Freeing.{FreesTo}
-use Rattle.store_model.specs.Steps.{FlushContainer, FreeContainer}
-use Rattle.store_machine.specs.Asked.{Asked}
 use Rattle.store_machine.specs.Asked as asked
-use Rattle.store_machine.specs.Collecting.{Goes, GoesOn, GoesOver, IsCopyOf, IsRecordOf, MayBreak, Went}
-use Rattle.store_machine.specs.Done.{Done}
+use Rattle.store_machine.specs.Collecting.{Goes, IsCopyOf, Went}
 use Rattle.store_machine.specs.Done as done
-use Rattle.store_machine.specs.Forgetting.{Forgets, SameNow, SamePart, SameState, forget_collection}
-use Rattle.store_machine.specs.Legal.{Answers, ByState, Does, GivesBytes, LegalBy, Refuses, RefusesOn, RefusesRead}
-use Rattle.store_machine.specs.Machine.{Collection, Found, Reading, RunState, Running, Stopped, Sweep, Sweeping, part_in}
-use Rattle.store_machine.specs.Needs.{IsNeeded, NamesNeed}
-use Rattle.store_machine.specs.Opening.{IsGivenBack, Reopens, freeing}
-use Rattle.store_machine.specs.Remembering.{AddsBy, AddsNoMore, AddsToAnswer, AddsToDone, AddsToOpening, AddsToPhase, AddsToRefused, AddsToStep, ComesNext, IsReady}
-use Rattle.store_machine.specs.Values.{StaysAt, of_files, of_roots}
+use Rattle.store_machine.specs.Opening.{IsGivenBack}
+use Rattle.store_machine.specs.Remembering.{AddsNoMore, IsReady}
 use Rattle.store_machine.proofs.Parts.{F, G, FilePart, part_at, put_told}
 
 -- ---- by which stores it may be found, where it is stopped

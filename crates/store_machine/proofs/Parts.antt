@@ -1,16 +1,9 @@
 -- Parts and collections of a machine of files and of one of roots that has forgotten the rest.
-use Rattle.std.proofs.Common.{◌≡◌, ℕ, zero, suc, true, List, [], ◌∷◌, ◌++◌, map, replicate, slice_index_or, slice_set, is_some, Option, Some, None, option_map, refl, sym, ◌∙◌, ap, subst}
+use Rattle.store_machine.proofs.Prelude.{◌≡◌, ℕ, zero, suc, true, [], ◌∷◌, ◌++◌, map, replicate, slice_index_or, slice_set, is_some, Option, Some, None, option_map, refl, sym, ◌∙◌, ap, subst, PinMap, Root, Top, Phase, Store, IsCollecting, Rests, SamePart, forget_collection, Collection, Machine, Part, Idle, Writing, Reading, keeping, kind_of, keys_kept, values_read}
+use Rattle.std.proofs.Common.{List}
 use Rattle.std.specs.FinMap as finite
-use Rattle.actor_parts.specs.PinMap.{PinMap}
-use Rattle.disk_format.specs.Cells.{Root}
-use Rattle.merkle_file.specs.declared.top.Top.{Top}
-use Rattle.refusals.specs.declared.refusal.Phase.{Phase}
-use Rattle.store_model.specs.Image.{Store}
 use Rattle.store_model.specs.Trees.{root_of}
-use Rattle.store_machine.specs.Collecting.{IsCollecting}
-use Rattle.store_machine.specs.Forgetting.{Rests, SamePart, SameParts, forget_collection}
-use Rattle.store_machine.specs.Machine.{Collection, Machine, Part, Idle, Writing, Reading, keeping, kind_of}
-use Rattle.store_machine.specs.Needs.{keys_kept, values_read}
+use Rattle.store_machine.specs.Forgetting.{SameParts}
 
 abbrev pub F : Type 0
 F = Machine (List ℕ) (List (List ℕ))

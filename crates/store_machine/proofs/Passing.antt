@@ -1,21 +1,10 @@
 -- What a crash may find at any moment of an `ingest`: the steps that its lines make are quiet, but for one commit at their end.
-use Rattle.disk_format.specs.declared.numbers.TheConstants.{MOST_FILE}
-use Rattle.std.proofs.Common.{length, ◌≤◌, ◌<◌, ◌-◌, ◌^◌, ◌≡◌, ◌⊎◌, inl, inr, ℕ, List, [], ◌∷◌, ◌++◌, Some, None, Result, Ok, Err, refl, ◌∙◌, ap, subst, sym}
-use Rattle.actor_parts.specs.declared.step.Answer.{Answer}
-use Rattle.refusals.specs.declared.refusal.Refusal.{Refusal}
+use Rattle.store_machine.proofs.Prelude.{MOST_FILE, length, ◌≤◌, ◌<◌, ◌-◌, ◌^◌, ◌≡◌, ◌⊎◌, inl, inr, ℕ, [], ◌∷◌, ◌++◌, Some, None, Result, Ok, Err, refl, ◌∙◌, ap, subst, sym, Answer, Refusal, Asked, Done, IsStill, HasRoomFor, IsPut, Answers, ByState, Does, HasNumbers, Legal, MayCommit, Refuses, RefusesCommit, RefusesGcStep, RefusesOn, with_name, AreTurns, Session, answer_of, Found, Idle, Reading, RunState, Running, Stopped, put_at, MayBeFound, Reopens, freeing, Run, of_files}
+use Rattle.std.proofs.Common.{List}
 use Rattle.refusals.specs.declared.refusal.Refusal.TheVariants as refusals
-use Rattle.store_machine.specs.Asked.{Asked}
 use Rattle.store_machine.specs.Asked as asked
-use Rattle.store_machine.specs.Done.{Done}
 use Rattle.store_machine.specs.Done as done
-use Rattle.store_machine.specs.ByMap.{IsStill}
-use Rattle.store_machine.specs.Ingests.{HasRoomFor, IsPut}
-use Rattle.store_machine.specs.Legal.{Answers, ByState, Does, HasNumbers, Legal, MayCommit, Refuses, RefusesCommit, RefusesGcStep, RefusesOn, with_name}
-use Rattle.store_machine.specs.Lines.{AreTurns, Session, answer_of}
-use Rattle.store_machine.specs.Machine.{Found, Idle, Reading, RunState, Running, Stopped, put_at}
-use Rattle.store_machine.specs.Opening.{MayBeFound, Reopens, freeing}
-use Rattle.store_machine.specs.Runs.{IsPassedFrom, Run}
-use Rattle.store_machine.specs.Values.{of_files}
+use Rattle.store_machine.specs.Runs.{IsPassedFrom}
 use Rattle.store_machine.proofs.Quiet.{IsSure, running_sure, F, Goes, IsQuiet, Quiet, Step, due_is_quiet, quiet_of, step_done, step_quiet}
 
 -- ---- lists of steps

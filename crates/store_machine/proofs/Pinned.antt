@@ -1,34 +1,22 @@
 -- All that is kept of what an actor gives it has pinned: so it is as more is given, and after each turn.
-use Rattle.std.proofs.Common.{◌≡◌, inl, inr, ◌∙◌, ℕ, Bool, true, false, List, [], ◌∷◌, ◌++◌, Some, append_assoc, refl, sym, ap, subst}
+use Rattle.store_machine.proofs.Prelude.{◌≡◌, inl, inr, ◌∙◌, ℕ, Bool, true, false, [], ◌∷◌, ◌++◌, Some, refl, sym, ap, subst, Kind, KindSegment, Segment, segment_key, segments_of, Answer, PinMap, first_unpinned, pin_of, root_key, Claim, Nothing, due_in, open_of, IsDueFor, History, HasHistory, SessionState, turn_node, IsSettled, of_kind, IsIn, Session, new_session, first_unkept, with_pins, HasTwins}
+use Rattle.std.proofs.Common.{List, append_assoc}
 use Rattle.std.specs.FinMap as finite
-use Rattle.container_meta.specs.declared.kind.Kind.{Kind}
 use Rattle.container_meta.specs.declared.kind.Kind.TheVariants.{Leaf, Tree}
-use Rattle.container_meta.specs.Segments.{KindSegment, Segment, segment_key}
-use Rattle.segmenter.specs.Segments.{segments_of}
-use Rattle.actor_parts.specs.declared.step.Answer.{Answer}
 use Rattle.actor_parts.specs.declared.step.Answer.TheVariants as answers
-use Rattle.actor_parts.specs.PinMap.{PinMap}
-use Rattle.actor_parts.specs.Segments.{first_unpinned, pin_of}
-use Rattle.store_model.specs.Refusals.{root_key}
 use Rattle.store_model.specs.Trees.{root_of}
 use Rattle.ingest_session.specs.declared.due.Due.{Due}
-use Rattle.ingest_session.specs.declared.due.Due.TheVariants.{Claim, Seal, Nothing}
-use Rattle.ingest_session.specs.Due.{due_in, item_kind, open_of}
-use Rattle.ingest_session.specs.DueFor.{IsDueFor}
+use Rattle.ingest_session.specs.declared.due.Due.TheVariants.{Seal}
+use Rattle.ingest_session.specs.Due.{item_kind}
 use Rattle.ingest_session.specs.Facts.{IsKept, MayFollow}
-use Rattle.ingest_session.specs.History.{History, HasHistory, answered}
+use Rattle.ingest_session.specs.History.{answered}
 use Rattle.ingest_session.specs.Items.{item_of}
 use Rattle.ingest_session.specs.Moving.{IsOffered}
-use Rattle.ingest_session.specs.State.{SessionState, turn_node}
-use Rattle.ingest_session.specs.Told.{IsAnswerFor, IsSettled}
+use Rattle.ingest_session.specs.Told.{IsAnswerFor}
 use Rattle.ingest_session.proofs.KeptOn.{KeptBy, after_kept, here_kept, kept_after, kept_here, none_kept}
-use Rattle.ingest_session.proofs.KeptPieces.{held_kept, item_in, item_is, kept_absent, kept_held, kept_sealed, kept_still, of_kind, one_item, sealed_kept}
-use Rattle.ingest_session.proofs.Members.{IsIn}
+use Rattle.ingest_session.proofs.KeptPieces.{held_kept, item_in, item_is, kept_absent, kept_held, kept_sealed, kept_still, one_item, sealed_kept}
 use Rattle.ingest_session.proofs.Waiting as waiting
 use Rattle.store_machine.specs.Legal as legal
-use Rattle.store_machine.specs.Lines.{Session, new_session}
-use Rattle.store_machine.specs.Needs.{first_unkept, with_pins}
-use Rattle.store_machine.specs.Twins.{HasTwins}
 use Rattle.store_machine.proofs.Lacking.{claim_twins, root_twins, seal_twins}
 use Rattle.store_machine.proofs.Pins.{HasPinOf, next_pin, last_pin, pin_still, pins_more, pins_still}
 

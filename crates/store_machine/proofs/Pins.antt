@@ -1,16 +1,10 @@
 -- Which keys are pinned, with what is said of a segment that is kept: where more are.
-use Rattle.std.proofs.Common.{◌≡◌, ◌∙◌, ℕ, zero, suc, Bool, true, false, cond, List, [], ◌∷◌, Some, refl, sym, ap}
+use Rattle.store_machine.proofs.Prelude.{◌≡◌, ◌∙◌, ℕ, zero, suc, Bool, true, false, cond, [], ◌∷◌, Some, refl, sym, ap, slice_cmp, nat_list_cmp_total, nat_cmp, eq_by_cmp, PinMap, pin_by, Kind, Segment, segment_key, IsIn, with_pins}
+use Rattle.std.proofs.Common.{List}
 use Rattle.std.specs.FinMap as finite
-use Rattle.std.specs.Cmp.Lexicographic.{slice_cmp, nat_list_cmp_total}
-use Rattle.std.specs.Ordering.{nat_cmp, eq_by_cmp}
 use Rattle.std.proofs.lemmas.Slice.Eq.{bytes_eq-Decides}
-use Rattle.actor_parts.specs.PinMap.{PinMap}
-use Rattle.actor_parts.specs.Segments.{pin_by}
-use Rattle.container_meta.specs.declared.kind.Kind.{Kind}
-use Rattle.container_meta.specs.Segments.{Segment, segment_key}
-use Rattle.ingest_session.proofs.Members.{IsIn, in_none, in_rest}
+use Rattle.ingest_session.proofs.Members.{in_none, in_rest}
 use Rattle.store_model.proofs.Indexing.{tied}
-use Rattle.store_machine.specs.Needs.{with_pins}
 
 -- the key has the pin of a segment of which K holds
 abbrev pub HasPinOf : (Kind → Segment → Type 0) → PinMap → List ℕ → Type 0

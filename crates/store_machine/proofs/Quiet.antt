@@ -1,19 +1,10 @@
 -- Steps that change no name, and turns.
-use Rattle.std.proofs.Common.{◌≡◌, ℕ, List, [], ◌∷◌, ◌++◌, Some, None, Result, Ok, Err, refl, sym, ◌∙◌, ap, subst}
-use Rattle.actor_parts.specs.declared.step.Answer.{Answer}
+use Rattle.store_machine.proofs.Prelude.{◌≡◌, ℕ, [], ◌∷◌, ◌++◌, Some, None, Result, Ok, Err, refl, sym, ◌∙◌, ap, subst, Answer, Refusal, Store, Asked, Done, Answers, ByState, Does, Legal, Refuses, RefusesClaim, RefusesOn, RefusesSeal, AreTurns, IsDueStep, Session, answer_of, Machine, RunState, Running, Stopped, Stepped, Run, of_files}
+use Rattle.std.proofs.Common.{List}
 use Rattle.ingest_session.specs.declared.due.Due.TheVariants as dues
-use Rattle.refusals.specs.declared.refusal.Refusal.{Refusal}
 use Rattle.refusals.specs.declared.refusal.Refusal.TheVariants as refusals
-use Rattle.store_model.specs.Image.{Store}
-use Rattle.store_machine.specs.Asked.{Asked}
 use Rattle.store_machine.specs.Asked as asked
-use Rattle.store_machine.specs.Done.{Done}
 use Rattle.store_machine.specs.Done as done
-use Rattle.store_machine.specs.Legal.{Answers, ByState, Does, Legal, Refuses, RefusesClaim, RefusesOn, RefusesSeal}
-use Rattle.store_machine.specs.Lines.{AreTurns, IsDueStep, Session, answer_of}
-use Rattle.store_machine.specs.Machine.{Machine, RunState, Running, Stopped, Stepped}
-use Rattle.store_machine.specs.Runs.{Run}
-use Rattle.store_machine.specs.Values.{of_files}
 
 abbrev pub F : Type 0
 F = Machine (List ℕ) (List (List ℕ))

@@ -1,23 +1,11 @@
 -- What is so of the machine of roots is so of a machine of files that it has forgotten, where the roots tell it.
-use Rattle.std.proofs.Common.{◌≡◌, inl, inr, ◌≤◌, ◌<◌, ◌-◌, ◌^◌, ℕ, true, List, length, is_some, Option, Some, None, option_map, sym, ◌∙◌, ap, subst}
-use Rattle.actor_parts.specs.PinMap.{PinMap}
+use Rattle.store_machine.proofs.Prelude.{◌≡◌, inl, inr, ◌≤◌, ◌<◌, ◌-◌, ◌^◌, ℕ, true, length, is_some, Option, Some, None, option_map, sym, ◌∙◌, ap, subst, PinMap, Root, half_cells, LAST_ID, MOST_NAMES, RESERVE, Top, Phase, Store, free_slots, CanRise, IsCollecting, Forgets, SamePart, SameState, forget_collection, HasName, HasNumbers, HasRoom, HasSlot, IsUnkept, Keeps, LacksNumbers, MayCommit, Collection, Found, Idle, Writing, Reading, Stopped, keeping, kind_of, part_in, put_at, of_files, of_roots}
+use Rattle.std.proofs.Common.{List}
 use Rattle.container_meta.specs.Segments.{Contents}
-use Rattle.disk_format.specs.Cells.{Root}
-use Rattle.disk_format.specs.Layout.{half_cells}
-use Rattle.disk_format.specs.declared.numbers.TheConstants.{LAST_ID, MOST_NAMES, RESERVE}
-use Rattle.merkle_file.specs.declared.top.Top.{Top}
-use Rattle.refusals.specs.declared.refusal.Phase.{Phase}
-use Rattle.store_model.specs.Image.{Store}
-use Rattle.store_model.specs.Slots.{free_slots}
-use Rattle.store_model.specs.Steps.{CanRise}
 use Rattle.store_model.specs.Trees.{root_of}
-use Rattle.store_machine.specs.Collecting.{IsCollecting}
-use Rattle.store_machine.specs.Forgetting.{Forgets, SamePart, SameState, forget_collection}
-use Rattle.store_machine.specs.Legal.{HasName, HasNumbers, HasRoom, HasSlot, HasSlotAndId, IsUnkept, Keeps, LacksNumbers, MayCommit}
-use Rattle.store_machine.specs.Machine.{Collection, Found, Idle, Writing, Reading, Stopped, keeping, kind_of, part_in, put_at}
+use Rattle.store_machine.specs.Legal.{HasSlotAndId}
 use Rattle.store_machine.proofs.Parts.{F, G, FilePart, RootPart, ReadsFile, part_at, set_at, kind_same, idle_back, writing_back, reading_back, kept_map, collecting_back, none_left, one_left, some_back}
 use Rattle.store_machine.proofs.SameNames.{knows_same, len_same}
-use Rattle.store_machine.specs.Values.{of_files, of_roots}
 
 module _ (m : F) (r : G) (same : Forgets m r) where
   -- ---- parts, the store, the collection

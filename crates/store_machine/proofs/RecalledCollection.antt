@@ -1,17 +1,8 @@
 -- A step of a collection of the machine of roots is one of that of files.
-use Rattle.std.proofs.Common.{◌≡◌, inl, inr, ℕ, suc, List, [], ◌∷◌, ◌++◌, length, slice_get, Some, None, refl, sym, ◌∙◌, ap, subst}
-use Rattle.disk_format.specs.Cells.{Root}
-use Rattle.gc_select.specs.Selecting.{ids_of}
-use Rattle.refusals.specs.declared.refusal.Phase.{Phase}
+use Rattle.store_machine.proofs.Prelude.{◌≡◌, inl, inr, ℕ, suc, [], ◌∷◌, ◌++◌, length, Some, None, refl, sym, ◌∙◌, ap, subst, Root, ids_of, Phase, Store, FlushContainer, StoreChange, Begins, Chooses, Copies, Flushes, GoesOn, GoesOver, JustGoes, Makes, Marks, Records, Releases, freed_in, ids_before, keys_written, last_by, next_of, no_sweep, phase_in, sources_in, swept_by, Forgets, forget_collection, Collection, Sweeping, forgotten_beside, AddsToPhase, AddsToStep, of_files, of_roots}
+use Rattle.std.proofs.Common.{List, slice_get}
 use Rattle.refusals.specs.declared.refusal.Phase.TheVariants as phases
-use Rattle.store_model.specs.Image.{Store}
-use Rattle.store_model.specs.Steps.{FlushContainer, StoreChange}
-use Rattle.store_machine.specs.Collecting.{Begins, Chooses, Copies, Ends, Flushes, Goes, GoesOn, GoesOver, JustGoes, Makes, Marks, Records, Releases, Went, freed_in, ids_before, keys_written, last_by, next_of, no_sweep, phase_in, sources_in, swept_by}
-use Rattle.store_machine.specs.Forgetting.{Forgets, forget_collection}
-use Rattle.store_machine.specs.Machine.{Collection, Sweeping}
-use Rattle.store_machine.specs.Needs.{forgotten_beside}
-use Rattle.store_machine.specs.Remembering.{AddsToPhase, AddsToStep}
-use Rattle.store_machine.specs.Values.{of_files, of_roots}
+use Rattle.store_machine.specs.Collecting.{Ends, Goes, Went}
 use Rattle.store_machine.proofs.Forgotten.{started, root_started, begun_same}
 use Rattle.store_machine.proofs.Parts.{F, G}
 use Rattle.store_machine.proofs.Recalled.{Recalls, goes, none_runs, on_store, one_runs}

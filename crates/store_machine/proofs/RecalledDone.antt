@@ -1,23 +1,11 @@
 -- A step that the machine of roots does, no step of a collection, is one that the machine of files does.
-use Rattle.std.proofs.Common.{◌≡◌, ℕ, suc, List, [], ◌∷◌, Contains, refl, sym, ◌∙◌, ap, subst}
-use Rattle.std.specs.List.{AllByRecursion}
+use Rattle.store_machine.proofs.Prelude.{◌≡◌, ℕ, suc, [], ◌∷◌, Contains, refl, sym, ◌∙◌, ap, subst, AllByRecursion, PinMap, pin_of, KindSegment, segment_key, Root, Put, Gone, start_of, PartKind, segments_of, CanSeal, with_change, with_sealed, Forgets, Rests, SamePart, Claims, Deletes, GivesBytes, GivesUp, IsAtEnd, OpensValue, Seals, with_name, without_name, Idle, Writing, Reading, keeping, one_more, part_in, put_at, HasCopy, forgotten_beside, keys_of, with_pins, ComesNext, of_files, of_roots, top_of}
+use Rattle.std.proofs.Common.{List}
 use Rattle.std.specs.FinMap as finite
-use Rattle.actor_parts.specs.PinMap.{PinMap}
-use Rattle.actor_parts.specs.Segments.{pin_of}
-use Rattle.container_meta.specs.Segments.{Contents, KindSegment, segment_key}
-use Rattle.disk_format.specs.Cells.{Root}
-use Rattle.disk_format.specs.Cells.Change.{Put, Delete as Gone}
-use Rattle.merkle_file.specs.Walk.{start_of}
-use Rattle.refusals.specs.declared.refusal.PartKind.{PartKind}
-use Rattle.segmenter.specs.Segments.{segments_of}
-use Rattle.store_model.specs.Steps.{CanSeal, with_change, with_sealed}
+use Rattle.container_meta.specs.Segments.{Contents}
 use Rattle.store_model.specs.Trees.{root_of}
-use Rattle.store_machine.specs.Forgetting.{Forgets, Rests, SamePart}
-use Rattle.store_machine.specs.Legal.{Claims, Commits, Deletes, Fits, GivesBytes, GivesUp, IsAtEnd, OpensValue, Seals, with_name, without_name}
-use Rattle.store_machine.specs.Machine.{Idle, Writing, Reading, keeping, one_more, part_in, put_at}
-use Rattle.store_machine.specs.Needs.{HasCopy, forgotten_beside, keys_of, with_pins}
-use Rattle.store_machine.specs.Remembering.{ComesNext, IsWhole}
-use Rattle.store_machine.specs.Values.{of_files, of_roots, top_of}
+use Rattle.store_machine.specs.Legal.{Commits, Fits}
+use Rattle.store_machine.specs.Remembering.{IsWhole}
 use Rattle.store_machine.proofs.Parts.{F, G, set_at, set_told}
 use Rattle.store_machine.proofs.Recalled.{Recalls, goes, stays, put, idle, kept_now, keeps_back, kind_is, knows, may_commit, numbers, reading}
 use Rattle.store_machine.proofs.SameNames.{file_back, gone_same, put_same}

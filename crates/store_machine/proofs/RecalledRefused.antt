@@ -1,22 +1,11 @@
 -- What the machine of roots refuses the machine of files refuses, where its content tells it.
-use Rattle.std.proofs.Common.{◌≡◌, inl, inr, ◌<◌, ◌≤◌, ℕ, suc, List, [], ◌∷◌, Some, None, refl, sym, ◌∙◌, ap, subst}
-use Rattle.container_meta.specs.Segments.{Contents, KindSegment}
-use Rattle.disk_format.specs.Cells.Change.{Put, Delete as Gone}
-use Rattle.disk_format.specs.declared.numbers.TheConstants.{LAST_ID, MOST_NAMES}
-use Rattle.merkle_file.specs.declared.top.Top.{Top}
+use Rattle.store_machine.proofs.Prelude.{◌≡◌, inl, inr, ◌<◌, ◌≤◌, ℕ, suc, [], ◌∷◌, Some, None, refl, sym, ◌∙◌, ap, subst, KindSegment, Put, Gone, LAST_ID, MOST_NAMES, Top, Refusal, free_slots, with_sealed, Asked, Forgets, Rests, SamePart, asked_of, IsAtRightPart, Refuses, RefusesClaim, RefusesCommit, RefusesDelete, RefusesGcStep, RefusesOn, RefusesRead, RefusesSeal, broken_by, with_name, without_name, Reading, part_in, put_at, AddsToRefused, IsStuck, StaysAt, of_files, of_roots}
+use Rattle.std.proofs.Common.{List}
+use Rattle.container_meta.specs.Segments.{Contents}
 use Rattle.refusals.specs.declared.refusal.Phase.TheVariants as phases
-use Rattle.refusals.specs.declared.refusal.Refusal.{Refusal}
 use Rattle.refusals.specs.declared.refusal.Refusal.TheVariants as refusals
-use Rattle.store_model.specs.Slots.{free_slots}
-use Rattle.store_model.specs.Steps.{with_sealed}
 use Rattle.store_model.specs.Trees.{root_of}
-use Rattle.store_machine.specs.Asked.{Asked}
 use Rattle.store_machine.specs.Asked as asked
-use Rattle.store_machine.specs.Forgetting.{Forgets, Rests, SamePart, asked_of}
-use Rattle.store_machine.specs.Legal.{IsAtRightPart, Refuses, RefusesClaim, RefusesCommit, RefusesDelete, RefusesGcStep, RefusesOn, RefusesRead, RefusesSeal, broken_by, with_name, without_name}
-use Rattle.store_machine.specs.Machine.{Reading, part_in, put_at}
-use Rattle.store_machine.specs.Remembering.{AddsToRefused}
-use Rattle.store_machine.specs.Values.{IsStuck, StaysAt, of_files, of_roots}
 use Rattle.store_machine.proofs.Forgotten.{taken_same}
 use Rattle.store_machine.proofs.Parts.{F, G, put_told, set_told}
 use Rattle.store_machine.proofs.Recalled.{Recalls, goes, stays, stop, id_back, keeps_back, kind_is, knows, may_commit, no_numbers, none_runs, numbers, on_id, on_store, reading, rooms, runs, slot_back, some_runs, unkept_back, writing}

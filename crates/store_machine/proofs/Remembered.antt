@@ -1,22 +1,13 @@
 -- A step of the machine of roots is one of the machine of files, where what the content of a disk adds is so.
-use Rattle.std.proofs.Common.{inl, inr, ℕ, false, List, [], Some, None, Result, Ok, Err, refl, ◌∙◌, ap, subst}
+use Rattle.store_machine.proofs.Prelude.{inl, inr, ℕ, false, [], Some, None, Result, Ok, Err, refl, ◌∙◌, ap, subst, ACTORS, Root, Refusal, last_id, Asked, Done, Forgets, SameNow, SameState, asked_of, Answers, ByState, Does, LegalBy, counted, Writing, RunState, Running, Stopped, all_idle, put_at, Reopens, freeing, AddsBy, AddsToAnswer, AddsToDone, AddsToOpening, of_files, of_roots}
+use Rattle.std.proofs.Common.{List}
 use Rattle.std.specs.FinMap as finite
-use Rattle.actor_parts.specs.declared.actor.TheConstants.{ACTORS}
-use Rattle.disk_format.specs.Cells.{Root}
 use Rattle.refusals.specs.declared.refusal.PartKind.TheVariants as kinds
-use Rattle.refusals.specs.declared.refusal.Refusal.{Refusal}
 use Rattle.refusals.specs.declared.refusal.Refusal.TheVariants as refusals
-use Rattle.store_model.specs.Slots.{last_id}
-use Rattle.store_machine.specs.Asked.{Asked}
 use Rattle.store_machine.specs.Asked as asked
-use Rattle.store_machine.specs.Done.{Done}
 use Rattle.store_machine.specs.Done as done
-use Rattle.store_machine.specs.Forgetting.{Forgets, SameNow, SameState, asked_of}
-use Rattle.store_machine.specs.Legal.{Answers, ByState, Does, LegalBy, counted}
-use Rattle.store_machine.specs.Machine.{Writing, RunState, Running, Stopped, all_idle, put_at}
-use Rattle.store_machine.specs.Opening.{Opens, Reopens, freeing}
-use Rattle.store_machine.specs.Remembering.{AddsBy, AddsToAnswer, AddsToDone, AddsToOpening, FindsFiles, StepsAreRemembered}
-use Rattle.store_machine.specs.Values.{of_files, of_roots}
+use Rattle.store_machine.specs.Opening.{Opens}
+use Rattle.store_machine.specs.Remembering.{FindsFiles, StepsAreRemembered}
 use Rattle.store_machine.proofs.Forgotten.{still_same}
 use Rattle.store_machine.proofs.Parts.{F, G, all_same}
 use Rattle.store_machine.proofs.Recalled.{Recalls, goes, stays, put, idle, keeps_back}

@@ -1,29 +1,17 @@
 -- The lines of a `restore` print the file of the name, or a first part of it, and change nothing.
-use Rattle.std.proofs.Common.{◌≡◌, ◌⊎◌, inl, inr, ◌<◌, ℕ, List as ListOf, [], ◌∷◌, ◌++◌, length, slice_index_or, slice_set, Option, Some, None, Result, Ok, Err, refl, sym, ◌∙◌, ap, subst, arith}
+use Rattle.store_machine.proofs.Prelude.{◌≡◌, ◌⊎◌, inl, inr, ◌<◌, ℕ, ListOf, [], ◌∷◌, ◌++◌, length, slice_index_or, slice_set, Option, Some, None, Result, Ok, Err, refl, sym, ◌∙◌, ap, subst, arith, Refusal, LineValue, ReplyValue, Store, Asked, FileMachine, RunsWith, Follows, IsDone, Replied, Restore, text_of, Done, Answers, Does, Refuses, Line, Session, reply_of, Found, Part, Idle, Reading, kind_of, part_in, put_at, MayBeFound, StaysAt, of_files, Run}
 use Rattle.std.specs.List.{concat}
 use Rattle.std.specs.FinMap as finite
 use Rattle.std.proofs.lemmas.List.{append-nil, append_assoc}
 use Rattle.refusals.specs.declared.refusal.PartKind.TheVariants as kinds
-use Rattle.refusals.specs.declared.refusal.Refusal.{Refusal}
 use Rattle.refusals.specs.declared.refusal.Refusal.TheVariants as refusals
 use Rattle.segmenter.proofs.SegmentLemmas.{segments_of-laws}
-use Rattle.script_lines.specs.Grammar.{LineValue}
 use Rattle.script_lines.specs.Grammar as lines
-use Rattle.script_lines.specs.ReplyValue.{ReplyValue}
 use Rattle.script_lines.specs.ReplyValue as replies
-use Rattle.store_model.specs.Image.{Store}
-use Rattle.store_machine.specs.Asked.{Asked}
 use Rattle.store_machine.specs.Asked as asked
-use Rattle.store_machine.specs.ByMap.{FileMachine, IsPartOfFile, RestoreRefusal, RestoredFile, RestoresByMap, RunsWith}
-use Rattle.store_machine.specs.Commands.{Follows, IsDone, Replied, Restore, text_of}
-use Rattle.store_machine.specs.Done.{Done}
+use Rattle.store_machine.specs.ByMap.{IsPartOfFile, RestoreRefusal, RestoredFile, RestoresByMap}
 use Rattle.store_machine.specs.Done as done
-use Rattle.store_machine.specs.Legal.{Answers, Does, Refuses}
-use Rattle.store_machine.specs.Lines.{Ends, Line, Session, reply_of}
-use Rattle.store_machine.specs.Machine.{Found, Part, Idle, Reading, kind_of, part_in, put_at}
-use Rattle.store_machine.specs.Opening.{MayBeFound}
-use Rattle.store_machine.specs.Values.{StaysAt, of_files}
-use Rattle.store_machine.specs.Runs.{Run}
+use Rattle.store_machine.specs.Lines.{Ends}
 use Rattle.store_machine.proofs.Passing.{sure_found}
 use Rattle.store_machine.proofs.Quiet.{running_sure}
 use Rattle.store_machine.proofs.Stepwise.{At, Desks, Fresh, IsFailure, NotOpened, Over, Step, WasOpened, ends_over, ends_so, first_actor, lines_after, not_barred, one_step, opened_store, unopened_ends, unopened_found, unopened_printed, unopened_refusal, unopened_store, unopened_undone}

@@ -1,27 +1,17 @@
 -- The root of a file is that of the empty one, or says what is said of a piece of the file.
-use Rattle.std.proofs.Common.{◌≡◌, ◌⊎◌, inl, inr, ◌≤◌, ◌==◌, ℕ, Bool, false, List, [], ◌∷◌, length, refl, sym, ◌∙◌, ap, subst, arith}
+use Rattle.store_machine.proofs.Prelude.{◌≡◌, ◌⊎◌, inl, inr, ◌≤◌, ◌==◌, ℕ, Bool, false, [], ◌∷◌, length, refl, sym, ◌∙◌, ap, subst, arith, take_all, MOST_FILE, Root, ByCount, room_of, IsNode, MayBeFile, Trees, Empty, leaves, nodes_of, of_segment, tree_of, nodes_are_right, segments_of, are_few, have_right_lengths, lengths_add_up, Pin, pin_of, Piece, IsPieceOf, piece_key, piece_segment, root_key, IsIn}
+use Rattle.std.proofs.Common.{List}
 use Rattle.std.specs.Prelude.{if◌then◌else◌, slice_get}
-use Rattle.std.proofs.lemmas.List.{take_all}
 use Rattle.base_model.specs.Bytes.{key_of}
-use Rattle.disk_format.specs.declared.numbers.TheConstants.{MOST_FILE}
-use Rattle.disk_format.specs.Cells.{Root}
-use Rattle.merkle_file.specs.Form.{ByCount, room_of}
-use Rattle.merkle_file.specs.Node.{Contents, IsNode, node_digest, total}
-use Rattle.merkle_file.specs.Roots.{MayBeFile}
-use Rattle.merkle_file.specs.Tree.{Tree, Trees, Empty, Leaf, Node, child_of, children_of, leaves, level_of, nodes_below, nodes_of, of_segment, tree_of}
+use Rattle.merkle_file.specs.Node.{Contents, node_digest, total}
+use Rattle.merkle_file.specs.Tree.{Tree, Leaf, Node, child_of, children_of, level_of, nodes_below}
 use Rattle.merkle_file.proofs.InPlace.{read_again}
-use Rattle.merkle_file.proofs.RootLaws.{nodes_are_right, roots_are_right}
+use Rattle.merkle_file.proofs.RootLaws.{roots_are_right}
 use Rattle.merkle_file.proofs.TreeLaws.{leaves_are_segments}
-use Rattle.segmenter.specs.Segments.{segments_of}
-use Rattle.segmenter.proofs.LengthLemmas.{are_few, have_right_lengths, lengths_add_up}
-use Rattle.actor_parts.specs.declared.pins.Pin.{Pin}
-use Rattle.actor_parts.specs.Segments.{pin_of}
 use Rattle.store_model.specs.Pieces as pieces
-use Rattle.store_model.specs.Pieces.{Piece, IsPieceOf, piece_key, piece_segment}
-use Rattle.store_model.specs.Refusals.{root_key}
 use Rattle.store_model.specs.Trees.{file_tree, root_of}
 use Rattle.store_machine.specs.Legal.{empty_root}
-use Rattle.ingest_session.proofs.Members.{IsIn, in_right, one_of}
+use Rattle.ingest_session.proofs.Members.{in_right, one_of}
 
 -- what is said of the segment of a root
 abbrev pub pin_of_root : Root → Pin

@@ -1,25 +1,14 @@
 -- A collection that runs, step by step: what held of it since it began holds after each step; and at its end it has done what it selected.
-use Rattle.std.proofs.Common.{◌≡◌, ◌≢◌, ◌⊎◌, ◌↔◌, ◌<◌, ◌≤◌, ◌+◌, inl, inr, ⊎_elim, ℕ, zero, suc, List, [], ◌∷◌, ◌++◌, get_or, length, Contains, Some, refl, sym, ◌∙◌, ap, subst, arith, true, nat_lt, ◌&&◌, Bool, false}
-use Rattle.std.proofs.lemmas.Bool.{cases_eq, ltb-true}
-use Rattle.std.proofs.lemmas.List.Elements.{Contains-append_cases, Contains-append_left, Contains-append_right, Contains-push, Contains-push_cases, Contains-get_or}
+use Rattle.store_machine.proofs.Prelude.{◌≡◌, ◌≢◌, ◌⊎◌, ◌↔◌, ◌<◌, ◌≤◌, ◌+◌, inl, inr, ⊎_elim, ℕ, zero, suc, [], ◌∷◌, ◌++◌, get_or, length, Contains, Some, refl, sym, ◌∙◌, ap, subst, arith, true, nat_lt, Bool, false, cases_eq, Contains-append_cases, Contains-append_left, Contains-push, Contains-push_cases, AllByRecursion, Kind, Segment, segment_key, HeaderValue, header_of, ContainerLiveness, Phase, Store, first_free, free_slots, with_slot, FlushContainer, FreeContainer, StoreChange, EachOnce, HasIds, IsWrittenBy, TakesKey, Chooses, Copies, Flushes, GoesOver, Makes, last_by, Marks, Records, Releases, freed_in, keys_written, marking, next_of, no_sweep, sources_in, Collection, Machine, Marking, Recording, Sweeping, Sweep, keys_of, Values}
+use Rattle.std.proofs.Common.{List, ◌&&◌}
+use Rattle.std.proofs.lemmas.Bool.{ltb-true}
+use Rattle.std.proofs.lemmas.List.Elements.{Contains-append_right, Contains-get_or}
 use Rattle.std.proofs.lemmas.List.{length_push}
-use Rattle.std.specs.List.{AllByRecursion}
-use Rattle.container_meta.specs.declared.kind.Kind.{Kind}
-use Rattle.container_meta.specs.Segments.{Segment, segment_key}
-use Rattle.container_meta.specs.Spelling.{HeaderValue, header_of}
-use Rattle.gc_select.specs.declared.liveness.ContainerLiveness.{ContainerLiveness}
 use Rattle.gc_select.specs.Selecting.{IsSelectedId, is_selected}
 use Rattle.gc_select.proofs.Chosen.{chosen_which}
-use Rattle.refusals.specs.declared.refusal.Phase.{Phase}
 use Rattle.refusals.specs.declared.refusal.Phase.TheVariants as phases
-use Rattle.store_model.specs.Image.{Store}
-use Rattle.store_model.specs.Slots.{first_free, free_slots, with_slot}
-use Rattle.store_model.specs.Steps.{FlushContainer, FreeContainer, StoreChange}
-use Rattle.store_machine.specs.Collected.{EachOnce, HasIds, IsWrittenBy, TakesKey}
-use Rattle.store_machine.specs.Collecting.{Chooses, Copies, Flushes, GoesOver, Makes, last_by, Marks, Records, Releases, Went, freed_in, keys_written, marking, next_of, no_sweep, sources_in}
-use Rattle.store_machine.specs.Machine.{Collection, Machine, Stage, Marking, Recording, Sweeping, Sweep}
-use Rattle.store_machine.specs.Needs.{keys_of}
-use Rattle.store_machine.specs.Values.{Values}
+use Rattle.store_machine.specs.Collecting.{Went}
+use Rattle.store_machine.specs.Machine.{Stage}
 use Rattle.store_machine.proofs.Beside.{SameStore}
 use Rattle.store_machine.proofs.Since.{HoldsSince, less_since, one_since, same_since}
 use Rattle.store_machine.proofs.Swept.{Adds, in_tail, AtStage, SweepsSince, none_ready, by_more, ends_by, filled_at, freed_more, in_cases, none_filled, none_in, once_both, takes_all, written_more}

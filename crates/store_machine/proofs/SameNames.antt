@@ -1,18 +1,12 @@
 -- Names with the roots of their files are as many, and are listed the same.
-use Rattle.std.proofs.Common.{◌≡◌, ◌≤◌, ℕ, suc, Bool, Ordering, true, false, cond, List, [], ◌∷◌, length, map, Option, Some, None, option_map, is_some, T, refl, sym, ◌∙◌, ap, subst}
+use Rattle.store_machine.proofs.Prelude.{◌≡◌, ◌≤◌, ℕ, suc, Bool, true, false, cond, [], ◌∷◌, length, map, Option, Some, None, option_map, is_some, refl, sym, ◌∙◌, ap, subst, nat_list_cmp_total, slice_cmp, nat_cmp, eq_by_cmp, Root, MOST_FILE, SameNow, listing, with_name, without_name, Found, of_files, of_roots}
+use Rattle.std.proofs.Common.{Ordering, List, T}
 use Rattle.std.specs.Prelude.{◌&&◌}
-use Rattle.std.specs.Cmp.Lexicographic.{nat_list_cmp_total, slice_cmp}
-use Rattle.std.specs.Ordering.{nat_cmp, is_lt, eq_by_cmp}
+use Rattle.std.specs.Ordering.{is_lt}
 use Rattle.std.specs.FinMap as finite
 use Rattle.std.specs.FinMap.Entries.{find, is_sorted, below_all}
-use Rattle.disk_format.specs.Cells.{Root}
-use Rattle.disk_format.specs.declared.numbers.TheConstants.{MOST_FILE}
 use Rattle.namespace.specs.Listing.{NamedRoot}
 use Rattle.store_model.specs.Trees.{root_of}
-use Rattle.store_machine.specs.Forgetting.{SameNow}
-use Rattle.store_machine.specs.Legal.{listing, with_name, without_name}
-use Rattle.store_machine.specs.Machine.{Found}
-use Rattle.store_machine.specs.Values.{of_files, of_roots}
 
 -- ---- maps whose values are changed
 

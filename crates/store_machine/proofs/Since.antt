@@ -1,13 +1,9 @@
 -- What holds of a collection that runs, since it began, whatever steps came between.
-use Rattle.std.proofs.Common.{◌≡◌, ◌≢◌, ◌⊎◌, ◌↔◌, ◌<◌, ◌≤◌, inl, inr, ⊎_elim, ℕ, zero, suc, List, [], ◌∷◌, ◌++◌, length, slice_get, Contains, Option, Some, None, refl, sym, ◌∙◌, ap, subst, arith}
-use Rattle.std.proofs.lemmas.Bool.{cases_eq}
-use Rattle.std.proofs.lemmas.List.Elements.{Contains-append_left, Contains-push, Contains-push_cases}
-use Rattle.container_meta.specs.Spelling.{HeaderValue}
-use Rattle.store_model.specs.Slots.{first_free, free_slots, with_slot, without_slot}
+use Rattle.store_machine.proofs.Prelude.{◌≡◌, ◌≢◌, ◌⊎◌, ◌↔◌, ◌<◌, ◌≤◌, inl, inr, ⊎_elim, ℕ, zero, suc, [], ◌∷◌, ◌++◌, length, Contains, Option, Some, None, refl, sym, ◌∙◌, ap, subst, arith, cases_eq, Contains-append_left, Contains-push, Contains-push_cases, HeaderValue, first_free, free_slots, with_slot, there_before, HasContainer, HasIds, Machine}
+use Rattle.std.proofs.Common.{List, slice_get}
+use Rattle.store_model.specs.Slots.{without_slot}
 use Rattle.store_model.proofs.Free.{first_closed, some_free}
-use Rattle.store_model.proofs.Freed.{there_before, other_there}
-use Rattle.store_machine.specs.Collected.{HasContainer, HasIds}
-use Rattle.store_machine.specs.Machine.{Machine}
+use Rattle.store_model.proofs.Freed.{other_there}
 
 -- ---- containers of slots
 

@@ -1,28 +1,14 @@
 -- Commands of which each line is one step of the first actor: what is so after each line, and so at the end.
-use Rattle.std.proofs.Common.{◌≡◌, ◌⊎◌, inl, inr, ◌<◌, ℕ, true, false, List as ListOf, [], ◌∷◌, ◌++◌, length, Option, Some, None, Result, Ok, Err, refl, sym, ◌∙◌, ap, subst, arith}
+use Rattle.store_machine.proofs.Prelude.{◌≡◌, ◌⊎◌, inl, inr, ◌<◌, ℕ, true, false, ListOf, [], ◌∷◌, ◌++◌, length, Option, Some, None, Result, Ok, Err, refl, sym, ◌∙◌, ap, subst, arith, Refusal, LineValue, ReplyValue, FreesTo, Store, last_id, Asked, AfterOpening, FileMachine, IsNotOpened, MakesRoom, OnceOpened, AllFollow, AreLinesOf, Command, EndsRefused, EndsWith, Follows, IsDone, Lines, Replied, desk, last_of, printed, text_of, Done, Answers, ByState, Legal, Bars, Desk, Line, Session, actor_of, all_none, kind_at, kind_by, reply_of, session_of, step_of, takes, unless_refused, Found, Part, Idle, RunState, Running, Stopped, Stepped, all_idle, kind_of, part_in, NamesNeed, MayBeFound, MayRefuseOpening, Reopens, freeing, Run, of_files}
 use Rattle.std.proofs.lemmas.List.{append-nil, append_assoc}
-use Rattle.refusals.specs.declared.refusal.Refusal.{Refusal}
 use Rattle.refusals.specs.declared.refusal.Refusal.TheVariants as refusals
-use Rattle.script_lines.specs.Grammar.{LineValue}
 use Rattle.script_lines.specs.Grammar as lines
-use Rattle.script_lines.specs.ReplyValue.{ReplyValue}
 use Rattle.script_lines.specs.ReplyValue as replies
-use Rattle.store_model.specs.Freeing.{FreesTo}
-use Rattle.store_model.specs.Image.{Store}
-use Rattle.store_model.specs.Slots.{last_id}
-use Rattle.store_machine.specs.Asked.{Asked}
 use Rattle.store_machine.specs.Asked as asked
-use Rattle.store_machine.specs.ByMap.{AfterOpening, FileMachine, IsNotOpened, MakesRoom, OnceOpened}
-use Rattle.store_machine.specs.Commands.{AllFollow, AreLinesOf, Command, EndsRefused, EndsWith, Follows, IsDone, IsEnded, Lines, MayGoOn, Replied, desk, last_of, printed, text_of}
-use Rattle.store_machine.specs.Done.{Done}
+use Rattle.store_machine.specs.Commands.{IsEnded, MayGoOn}
 use Rattle.store_machine.specs.Done as done
-use Rattle.store_machine.specs.Legal.{Answers, ByState, Legal}
-use Rattle.store_machine.specs.Lines.{Bars, Desk, Ends, Line, Session, actor_of, all_none, kind_at, kind_by, reply_of, session_of, step_of, takes, unless_refused}
-use Rattle.store_machine.specs.Machine.{Found, Part, Idle, RunState, Running, Stopped, Stepped, all_idle, kind_of, part_in}
-use Rattle.store_machine.specs.Needs.{NamesNeed}
-use Rattle.store_machine.specs.Opening.{MayBeFound, MayRefuseOpening, Reopens, Stands, freeing}
-use Rattle.store_machine.specs.Runs.{Run}
-use Rattle.store_machine.specs.Values.{of_files}
+use Rattle.store_machine.specs.Lines.{Ends}
+use Rattle.store_machine.specs.Opening.{Stands}
 use Rattle.store_machine.proofs.Ingesting.{reply_by, run_one}
 use Rattle.store_machine.proofs.Passing.{sure_found}
 use Rattle.store_machine.proofs.Quiet.{IsSure, running_sure}

@@ -1,19 +1,10 @@
 -- What holds of a collection since it began, whatever steps came between; and so, at its end, what it has done.
-use Rattle.std.proofs.Common.{◌≡◌, ◌⊎◌, ◌↔◌, ◌<◌, ◌≤◌, ◌+◌, inl, inr, ⊎_elim, ℕ, zero, suc, true, false, Bool, nat_lt, List, [], ◌∷◌, ◌++◌, get_or, length, Contains, Option, refl, sym, ◌∙◌, ap, subst, arith, if◌then◌else◌}
+use Rattle.store_machine.proofs.Prelude.{◌≡◌, ◌⊎◌, ◌↔◌, ◌<◌, ◌≤◌, ◌+◌, inl, inr, ⊎_elim, ℕ, zero, suc, true, false, Bool, nat_lt, [], ◌∷◌, ◌++◌, get_or, length, Contains, Option, refl, sym, ◌∙◌, ap, subst, arith, Contains-append_cases, Contains-append_left, Contains-push_cases, Entry, Kind, HeaderValue, Phase, Store, FlushContainer, FreeContainer, StoreChange, EachOnce, IsWrittenBy, Gathered, TakesAll, TakesOne, freed_in, keys_written, marking, sources_in, Collection, Marking, Recording, Sweeping, Sweep, keys_of, Values}
+use Rattle.std.proofs.Common.{List, if◌then◌else◌}
 use Rattle.std.proofs.lemmas.Bool.{ltb-false}
-use Rattle.std.proofs.lemmas.List.Elements.{Contains-append_cases, Contains-append_left, Contains-push_cases}
-use Rattle.container_meta.specs.declared.entry.Entry.{Entry}
-use Rattle.container_meta.specs.declared.kind.Kind.{Kind}
-use Rattle.container_meta.specs.Spelling.{HeaderValue}
-use Rattle.refusals.specs.declared.refusal.Phase.{Phase}
 use Rattle.refusals.specs.declared.refusal.Phase.TheVariants as phases
-use Rattle.store_model.specs.Image.{Store}
-use Rattle.store_model.specs.Steps.{FlushContainer, FreeContainer, StoreChange}
-use Rattle.store_machine.specs.Collected.{EachOnce, IsWrittenBy}
-use Rattle.store_machine.specs.Collecting.{Gathered, TakesAll, TakesOne, freed_in, keys_written, marking, next_by, sources_in}
-use Rattle.store_machine.specs.Machine.{Collection, Stage, Marking, Recording, Sweeping, Sweep}
-use Rattle.store_machine.specs.Needs.{keys_of}
-use Rattle.store_machine.specs.Values.{Values}
+use Rattle.store_machine.specs.Collecting.{next_by}
+use Rattle.store_machine.specs.Machine.{Stage}
 
 -- ---- lists
 

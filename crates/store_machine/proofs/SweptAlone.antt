@@ -1,38 +1,16 @@
 -- A collection, no other step of which comes between: what it recorded and changed since the store was opened.
-use Rattle.std.proofs.Common.{◌≡◌, ◌≤◌, inl, inr, ⊎_elim, ℕ, zero, suc, List as ListOf, [], ◌∷◌, ◌++◌, Contains, slice_get, Option, Some, None, Result, Ok, sym, ◌∙◌, ap, subst, arith}
+use Rattle.store_machine.proofs.Prelude.{◌≡◌, ◌≤◌, inl, inr, ⊎_elim, ℕ, zero, suc, ListOf, [], ◌∷◌, ◌++◌, Contains, Option, Some, None, Result, Ok, sym, ◌∙◌, ap, subst, arith, AllByRecursion, Contains-push_cases, Entry, Kind, Segment, segment_key, HeaderValue, ContainerLiveness, ids_of, Phase, Refusal, FreesTo, with_freed, Store, IsSpare, last_id, ChangeName, FlushContainer, FreeContainer, SealContainer, StoreChange, there_before, Asked, FileMachine, MakesRoom, HasContainer, HasIds, Gathered, GoesOn, IsRecordOf, Makes, TakesAll, TakesOne, ids_before, keys_written, marking, Sweeps, Done, ByState, Legal, AreDid, Collection, Found, RunState, Running, Marking, Recording, Sweep, Sweeping, HasCopy, IsNeeded, NamesNeed, keys_of, Run, of_files}
+use Rattle.std.proofs.Common.{slice_get}
 use Rattle.std.specs.FinMap as finite
-use Rattle.std.specs.List.{AllByRecursion}
-use Rattle.std.proofs.lemmas.List.Elements.{Contains-push_cases}
-use Rattle.container_meta.specs.declared.entry.Entry.{Entry}
-use Rattle.container_meta.specs.declared.kind.Kind.{Kind}
-use Rattle.container_meta.specs.Segments.{Segment, segment_key}
-use Rattle.container_meta.specs.Spelling.{HeaderValue}
-use Rattle.gc_select.specs.declared.liveness.ContainerLiveness.{ContainerLiveness}
-use Rattle.gc_select.specs.Selecting.{ids_of}
-use Rattle.refusals.specs.declared.refusal.Phase.{Phase}
 use Rattle.refusals.specs.declared.refusal.Phase.TheVariants as phases
-use Rattle.refusals.specs.declared.refusal.Refusal.{Refusal}
-use Rattle.store_model.specs.Freeing.{FreesTo, with_freed}
-use Rattle.store_model.specs.Image.{Store}
 use Rattle.store_model.specs.Needed.{SumsNeeded}
-use Rattle.store_model.specs.Reserve.{IsSpare}
-use Rattle.store_model.specs.Slots.{last_id}
-use Rattle.store_model.specs.Steps.{ChangeName, FlushContainer, FreeContainer, SealContainer, StoreChange, changed}
-use Rattle.store_model.proofs.Freed.{there_before}
-use Rattle.store_machine.specs.Asked.{Asked}
+use Rattle.store_model.specs.Steps.{changed}
 use Rattle.store_machine.specs.Asked as asked
-use Rattle.store_machine.specs.ByMap.{FileMachine, MakesRoom}
-use Rattle.store_machine.specs.Collected.{HasContainer, HasIds}
-use Rattle.store_machine.specs.Collecting.{Gathered, Goes, GoesOn, IsRecordOf, Makes, TakesAll, TakesOne, Went, ids_before, keys_written, marking}
-use Rattle.store_machine.specs.CollectsAlone.{HasChosen, IsNeededCopy, IsOfSweep, IsRecorded, KeepsNeeded, Sweeps}
-use Rattle.store_machine.specs.Done.{Done}
+use Rattle.store_machine.specs.Collecting.{Goes, Went}
+use Rattle.store_machine.specs.CollectsAlone.{HasChosen, IsNeededCopy, IsOfSweep, IsRecorded, KeepsNeeded}
 use Rattle.store_machine.specs.Done as done
-use Rattle.store_machine.specs.Legal.{ByState, Legal}
-use Rattle.store_machine.specs.Lines.{AreDid}
-use Rattle.store_machine.specs.Machine.{Collection, Found, RunState, Running, Stage, Marking, Recording, Sweep, Sweeping}
-use Rattle.store_machine.specs.Needs.{HasCopy, IsNeeded, NamesNeed, NeededSince, OneNeeds, keys_of}
-use Rattle.store_machine.specs.Runs.{Run}
-use Rattle.store_machine.specs.Values.{of_files}
+use Rattle.store_machine.specs.Machine.{Stage}
+use Rattle.store_machine.specs.Needs.{NeededSince, OneNeeds}
 use Rattle.store_machine.proofs.Stepwise.{Step}
 use Rattle.store_machine.proofs.Swept.{filled_at, head_of, in_tail, none_filled, none_in}
 

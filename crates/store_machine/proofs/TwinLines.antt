@@ -1,31 +1,18 @@
 -- In lines a segment lacks a pin only where there are twins.
-use Rattle.std.proofs.Common.{◌≡◌, ◌⊎◌, ◌<◌, ◌≤◌, inl, inr, ◌∙◌, ℕ, zero, suc, Bool, true, false, List, [], ◌∷◌, ◌++◌, length, if◌then◌else◌, slice_index_or, slice_set, replicate, Option, Some, None, Result, Ok, Err, refl, sym, ap, subst, arith}
+use Rattle.store_machine.proofs.Prelude.{◌≡◌, ◌⊎◌, ◌<◌, ◌≤◌, inl, inr, ◌∙◌, ℕ, zero, suc, Bool, true, false, [], ◌∷◌, ◌++◌, length, slice_index_or, slice_set, replicate, Option, Some, None, Result, Ok, Err, refl, sym, ap, subst, arith, cases_lt, get_or-set_other, get_or_past, length-set, ACTORS, Top, Refusal, LineValue, pushed_bytes, ReplyValue, Asked, Lines, Replied, desk, Done, Does, Legal, RefusesOn, Acts, AreDid, AreTurns, NothingIsDue, Bars, Desk, IsDueStep, Session, TurnsStop, all_none, kind_at, kind_by, new_session, reply_of, session_of, step_of, takes, unless_refused, Machine, Part, Idle, Writing, Stepped, kind_of, part_in, MayRefuseOpening, Reopens, Run, HasTwins, Values, of_files, of_roots}
+use Rattle.std.proofs.Common.{List, if◌then◌else◌}
 use Rattle.std.specs.FinMap as finite
-use Rattle.std.proofs.lemmas.Bool.{cases_lt}
-use Rattle.std.proofs.lemmas.List.{get_or-replicate, get_or-set_other, get_or_past, length-replicate, length-set, set-get_or}
-use Rattle.actor_parts.specs.declared.actor.TheConstants.{ACTORS}
-use Rattle.merkle_file.specs.declared.top.Top.{Top}
+use Rattle.std.proofs.lemmas.List.{get_or-replicate, length-replicate, set-get_or}
 use Rattle.refusals.specs.declared.refusal.PartKind.TheVariants as kinds
-use Rattle.refusals.specs.declared.refusal.Refusal.{Refusal}
 use Rattle.refusals.specs.declared.refusal.Refusal.TheVariants as refusals
-use Rattle.script_lines.specs.Grammar.{LineValue, pushed_bytes}
 use Rattle.script_lines.specs.Grammar as lines
 use Rattle.script_lines.specs.declared.reply.Turned.TheVariants as turns
-use Rattle.script_lines.specs.ReplyValue.{ReplyValue}
 use Rattle.script_lines.specs.ReplyValue as replies
 use Rattle.store_model.specs.Trees.{root_of}
-use Rattle.store_machine.specs.Asked.{Asked}
 use Rattle.store_machine.specs.Asked as asked
-use Rattle.store_machine.specs.Commands.{Lines, Replied, desk}
-use Rattle.store_machine.specs.Done.{Done}
 use Rattle.store_machine.specs.Done as done
-use Rattle.store_machine.specs.Legal.{Does, Legal, RefusesOn}
-use Rattle.store_machine.specs.Lines.{Acts, Admits, AreDid, AreTurns, NothingIsDue, Bars, Desk, Ends, IsDueStep, IsStep, Says, Session, StopsAfter, TurnsStop, all_none, kind_at, kind_by, new_session, reply_of, session_of, step_of, takes, unless_refused}
-use Rattle.store_machine.specs.Machine.{Machine, Part, Idle, Writing, Stepped, kind_of, part_in}
-use Rattle.store_machine.specs.Opening.{MayRefuseOpening, Reopens}
-use Rattle.store_machine.specs.Runs.{Run}
-use Rattle.store_machine.specs.Twins.{GivesTwins, HasTwins, UnpinnedByTwins, UnpinnedHasTwins}
-use Rattle.store_machine.specs.Values.{Values, of_files, of_roots}
+use Rattle.store_machine.specs.Lines.{Admits, Ends, IsStep, Says, StopsAfter}
+use Rattle.store_machine.specs.Twins.{GivesTwins, UnpinnedByTwins, UnpinnedHasTwins}
 use Rattle.store_machine.proofs.IngestStore.{IsRefusal, unrefused}
 use Rattle.store_machine.proofs.Pinned.{new_pinned, pinned_ended, pinned_more}
 use Rattle.store_machine.proofs.TwinSteps.{Beside, WentOn, Writes, beside_here, beside_on, commit_lacks, due_opens, keeps_beside, lacks_of, puts_beside, same_some, turn_lacks, turns_on, writes_on}

@@ -1,29 +1,15 @@
 -- What the steps of a session leave pinned, and where one of them lacks a pin.
-use Rattle.std.proofs.Common.{◌≡◌, ◌≢◌, ◌<◌, ◌∙◌, ℕ, true, List, [], ◌∷◌, ◌++◌, length, slice_set, Some, Result, Ok, Err, sym, ap, subst}
+use Rattle.store_machine.proofs.Prelude.{◌≡◌, ◌≢◌, ◌<◌, ◌∙◌, ℕ, true, [], ◌∷◌, ◌++◌, length, slice_set, Some, Result, Ok, Err, sym, ap, subst, Answer, PinMap, pin_of, KindSegment, segment_key, open_of, IsDueFor, Refusal, root_key, Asked, Done, ByState, Claims, Does, Legal, RefusesOn, Seals, AreTurns, IsDueStep, NothingIsDue, Session, answer_of, Machine, Part, RunState, Running, Stopped, Stepped, Writing, part_in, first_unkept, with_pins, Run, HasTwins, Values}
+use Rattle.std.proofs.Common.{List}
 use Rattle.std.specs.FinMap as finite
-use Rattle.actor_parts.specs.declared.step.Answer.{Answer}
 use Rattle.actor_parts.specs.declared.step.Answer.TheVariants as answers
-use Rattle.actor_parts.specs.PinMap.{PinMap}
-use Rattle.actor_parts.specs.Segments.{pin_of}
-use Rattle.container_meta.specs.Segments.{Contents, KindSegment, segment_key}
+use Rattle.container_meta.specs.Segments.{Contents}
 use Rattle.ingest_session.specs.declared.due.Due.TheVariants as dues
-use Rattle.ingest_session.specs.Due.{open_of}
-use Rattle.ingest_session.specs.DueFor.{IsDueFor}
-use Rattle.refusals.specs.declared.refusal.Refusal.{Refusal}
 use Rattle.refusals.specs.declared.refusal.Refusal.TheVariants as refusals
-use Rattle.store_model.specs.Refusals.{root_key}
 use Rattle.store_model.specs.Trees.{root_of}
-use Rattle.store_machine.specs.Asked.{Asked}
 use Rattle.store_machine.specs.Asked as asked
-use Rattle.store_machine.specs.Done.{Done}
 use Rattle.store_machine.specs.Done as done
-use Rattle.store_machine.specs.Legal.{ByState, Claims, Does, IsKept, Legal, RefusesOn, Seals}
-use Rattle.store_machine.specs.Lines.{AreTurns, IsDueStep, NothingIsDue, Session, answer_of}
-use Rattle.store_machine.specs.Machine.{Machine, Part, RunState, Running, Stopped, Stepped, Writing, part_in}
-use Rattle.store_machine.specs.Needs.{first_unkept, with_pins}
-use Rattle.store_machine.specs.Runs.{Run}
-use Rattle.store_machine.specs.Twins.{HasTwins}
-use Rattle.store_machine.specs.Values.{Values}
+use Rattle.store_machine.specs.Legal.{IsKept}
 use Rattle.store_machine.proofs.Pinned.{Pinned, absent_pinned, claim_lacks, held_pinned, root_lacks, same_told, seal_lacks, sealed_pinned, told_of}
 use Rattle.store_machine.proofs.Quiet.{told_ok}
 use Rattle.store_machine.proofs.Writers.{IsNoOpening, KeepsWriters, by_state, does_of, puts}

@@ -1,22 +1,18 @@
 -- A file that is read by its segments is read by the tree of its root: what comes next of the one comes next of the other.
-use Rattle.std.proofs.Common.{◌≡◌, ℕ, ◌+◌, ◌≤◌, ◌==◌, Bool, true, false, if◌then◌else◌, List, [], ◌∷◌, ◌++◌, length, map, drop, Ok, refl, sym, ◌∙◌, ap, subst, arith}
+use Rattle.store_machine.proofs.Prelude.{◌≡◌, ℕ, ◌+◌, ◌≤◌, ◌==◌, Bool, true, false, [], ◌∷◌, ◌++◌, length, map, Ok, refl, sym, ◌∙◌, ap, subst, arith, AllByRecursion, MOST_FILE, Top, IsNode, Trees, Empty, leaves, of_segment, start_of, segments_of, Rests, top_of}
+use Rattle.std.proofs.Common.{if◌then◌else◌, List, drop}
 use Rattle.std.proofs.lemmas.Bool.{eqb-true}
-use Rattle.std.specs.List.{AllByRecursion}
 use Rattle.std.proofs.lemmas.List.Concat.{flat_map-cons}
-use Rattle.disk_format.specs.declared.numbers.TheConstants.{MOST_FILE}
-use Rattle.merkle_file.specs.declared.top.Top.{Top}
-use Rattle.merkle_file.specs.Node.{Contents, IsNode, spelling}
+use Rattle.merkle_file.specs.Node.{Contents, spelling}
 use Rattle.merkle_file.specs.Reading.{contents_in, any_node}
-use Rattle.merkle_file.specs.Tree.{Tree, Trees, Empty, Leaf, Node, NoTree, Then, children_of, leaves, of_segment, root_of}
-use Rattle.merkle_file.specs.Walk.{Ahead, IsNamed, IsTree, SpellsNext, contents_of, list_of, opened, segments_in, start_of, trees_in}
+use Rattle.merkle_file.specs.Tree.{Tree, Leaf, Node, NoTree, Then, children_of, root_of}
+use Rattle.merkle_file.specs.Walk.{Ahead, IsNamed, IsTree, SpellsNext, contents_of, list_of, opened, segments_in, trees_in}
 use Rattle.merkle_file.proofs.Nodes.{node_again}
 use Rattle.merkle_file.proofs.Unfolding.{walk_law}
-use Rattle.segmenter.specs.Segments.{segments_of}
 use Rattle.store_model.specs.Trees.{file_tree}
 use Rattle.store_model.specs.Trees as store
 use Rattle.store_model.proofs.Unfolding.{right_file, leaves_of_file, root_of_tree}
-use Rattle.store_machine.specs.Forgetting.{Rests}
-use Rattle.store_machine.specs.Values.{GivesLeaf, IsNodeNext, Opens, top_of}
+use Rattle.store_machine.specs.Values.{GivesLeaf, IsNodeNext, Opens}
 
 -- ---- what comes first of trees
 

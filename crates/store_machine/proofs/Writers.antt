@@ -1,21 +1,13 @@
 -- What steps leave of what actors are at that write.
-use Rattle.std.proofs.Common.{◌≡◌, ◌≢◌, ◌⊎◌, ◌<◌, inl, inr, ◌∙◌, ℕ, zero, suc, List, length, slice_index_or, slice_set, Option, Some, None, Result, Ok, Err, refl, sym, ap, subst, arith}
+use Rattle.store_machine.proofs.Prelude.{◌≡◌, ◌≢◌, ◌⊎◌, ◌<◌, inl, inr, ◌∙◌, ℕ, zero, suc, length, slice_index_or, slice_set, Option, Some, None, Result, Ok, Err, refl, sym, ap, subst, arith, cases_lt, get_or-set_other, get_or_past, length-set, PinMap, KindSegment, Refusal, Store, Asked, Done, ByState, Does, Legal, Refuses, RefusesClaim, RefusesCommit, RefusesDelete, RefusesGcStep, RefusesOn, RefusesSeal, Found, Machine, Part, Idle, Writing, Reading, RunState, Running, Stopped, kind_of, part_in, Values}
+use Rattle.std.proofs.Common.{List}
 use Rattle.std.specs.FinMap as finite
-use Rattle.std.proofs.lemmas.Bool.{cases_lt}
-use Rattle.std.proofs.lemmas.List.{get_or-set_same, get_or-set_other, get_or_past, length-set}
-use Rattle.actor_parts.specs.PinMap.{PinMap}
-use Rattle.container_meta.specs.Segments.{Contents, KindSegment}
+use Rattle.std.proofs.lemmas.List.{get_or-set_same}
+use Rattle.container_meta.specs.Segments.{Contents}
 use Rattle.refusals.specs.declared.refusal.PartKind.TheVariants as kinds
-use Rattle.refusals.specs.declared.refusal.Refusal.{Refusal}
 use Rattle.refusals.specs.declared.refusal.Refusal.TheVariants as refusals
-use Rattle.store_model.specs.Image.{Store}
-use Rattle.store_machine.specs.Asked.{Asked}
 use Rattle.store_machine.specs.Asked as asked
-use Rattle.store_machine.specs.Done.{Done}
 use Rattle.store_machine.specs.Done as done
-use Rattle.store_machine.specs.Legal.{ByState, Does, Legal, Refuses, RefusesClaim, RefusesCommit, RefusesDelete, RefusesGcStep, RefusesOn, RefusesSeal}
-use Rattle.store_machine.specs.Machine.{Found, Machine, Part, Idle, Writing, Reading, RunState, Running, Stopped, kind_of, part_in}
-use Rattle.store_machine.specs.Values.{Values}
 
 -- ---- numbers, and lists with an item for each actor
 

@@ -1,11 +1,9 @@
 -- A store with a free cell: what is so of it still, after a checkpoint too.
-use Rattle.std.proofs.Common.{◌≡◌, ℕ, ◌-◌, ◌^◌, ◌<◌, ◌≤◌, Bool, true, false, length, if◌then◌else◌, refl, sym, ◌∙◌, ap, subst, arith}
-use Rattle.std.proofs.lemmas.Bool.{ltb-true, ltb-false}
+use Rattle.store_model.proofs.Prelude.{◌≡◌, ℕ, ◌-◌, ◌^◌, ◌<◌, ◌≤◌, Bool, true, false, length, refl, sym, ◌∙◌, ap, subst, arith, ltb-true, ltb-false, half_cells, Store, IsValidFor, names_of, last_sequence, with_cell}
+use Rattle.std.proofs.Common.{if◌then◌else◌}
 use Rattle.std.specs.FinMap as finite
-use Rattle.disk_format.specs.Layout.{half_cells}
 use Rattle.store_model.specs.Journal.{Follow}
-use Rattle.store_model.specs.Image.{Store, IsValidFor, names_of, last_sequence}
-use Rattle.store_model.specs.Steps.{CanRise, has_cell, with_cell, with_checkpoint}
+use Rattle.store_model.specs.Steps.{CanRise, has_cell, with_checkpoint}
 use Rattle.store_model.proofs.Puts.{puts_follow, puts_leave, puts_last, puts_room, last_below}
 
 -- by whether a cell is free

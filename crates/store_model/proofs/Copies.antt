@@ -1,23 +1,10 @@
 -- Where the newest copy of a key lies.
-use Rattle.std.proofs.Common.{◌≡◌, ◌⊎◌, inl, inr, ℕ, zero, suc, ◌+◌, ◌<◌, ◌≤◌, Bool, true, false, cond, List, [], ◌∷◌, ◌++◌, length, get_or, Option, Some, None, find, option_map, refl, sym, ◌∙◌, ap, subst, arith}
-use Rattle.std.specs.Prelude.{nat_lt, nat_le, ◌&&◌, ◌==◌, ◌*◌, if◌then◌else◌}
-use Rattle.std.specs.List.{AllByRecursion}
-use Rattle.std.specs.Str.{bytes_eq}
-use Rattle.std.proofs.lemmas.Bool.{leb-true, eqb-true}
-use Rattle.std.proofs.lemmas.List.Sums.{sum_by-append, sum_by-cons}
-use Rattle.std.proofs.lemmas.Slice.Eq.{bytes_eq-Decides}
-use Rattle.sha2.specs.Sha256.{sha256}
-use Rattle.base_model.specs.Bytes.{range, key_of}
+use Rattle.store_model.proofs.Prelude.{◌≡◌, ◌⊎◌, inl, inr, ℕ, zero, suc, ◌+◌, ◌<◌, ◌≤◌, Bool, true, false, cond, List, [], ◌∷◌, ◌++◌, length, get_or, Option, Some, None, find, option_map, refl, sym, ◌∙◌, ap, subst, arith, nat_lt, nat_le, ◌==◌, AllByRecursion, bytes_eq, leb-true, eqb-true, sum_by-append, sum_by-cons, bytes_eq-Decides, sha256, range, key_of, data_at, Entry, Kind, kind_byte, is_level, HeaderValue, IsHeader, bytes_of, HoldSlots, AreHeaders, Copy, place_of, copy_in, newer, newest, Store, Encodes, AreCopies, bytes_at}
+use Rattle.std.specs.Prelude.{◌&&◌, ◌*◌, if◌then◌else◌}
 use Rattle.disk_format.specs.declared.numbers.TheConstants.{MOST_CHILDREN, MOST_LEVEL}
-use Rattle.disk_format.specs.Layout.{data_at}
-use Rattle.container_meta.specs.declared.entry.Entry.{Entry}
-use Rattle.container_meta.specs.declared.kind.Kind.{Kind}
 use Rattle.container_meta.specs.declared.kind.Kind.TheVariants.{Leaf, Tree}
-use Rattle.container_meta.specs.Format.{kind_byte, is_length, is_level, is_within, child_count}
-use Rattle.container_meta.specs.Spelling.{HeaderValue, IsHeader, Follow, bytes_of}
-use Rattle.store_model.specs.Slots.{HoldSlots, AreHeaders, Copy, place_of, copy_in, newer, newest}
-use Rattle.store_model.specs.Image.{Store, Encodes, AreCopies}
-use Rattle.store_model.specs.Trees.{bytes_at}
+use Rattle.container_meta.specs.Format.{is_length, is_within, child_count}
+use Rattle.container_meta.specs.Spelling.{Follow}
 
 -- two that are there and the same
 pub some_same : {A : Type 0} (a b : A) → Some a ≡ Some b → a ≡ b

@@ -1,11 +1,5 @@
 -- The ids of copies: none is above the last.
-use Rattle.std.proofs.Common.{◌≡◌, inl, inr, ℕ, ◌+◌, ◌≤◌, List, [], ◌∷◌, Option, Some, None, find, option_map, ap, arith}
-use Rattle.std.specs.Str.{bytes_eq}
-use Rattle.base_model.specs.Bytes.{key_of}
-use Rattle.container_meta.specs.declared.entry.Entry.{Entry}
-use Rattle.container_meta.specs.Format.{kind_byte}
-use Rattle.container_meta.specs.Spelling.{HeaderValue}
-use Rattle.store_model.specs.Slots.{Copy, place_of, copy_in, newest, last_id}
+use Rattle.store_model.proofs.Prelude.{◌≡◌, inl, inr, ℕ, ◌+◌, ◌≤◌, List, [], ◌∷◌, Option, Some, None, find, option_map, ap, arith, bytes_eq, key_of, Entry, kind_byte, HeaderValue, Copy, place_of, copy_in, newest, last_id}
 use Rattle.store_model.proofs.Copies.{some_same, one_of}
 
 copy_id : (slot : ℕ) (c : Option HeaderValue) (cs : List (Option HeaderValue)) (key : List ℕ) (copy : Copy) → copy_in slot c key ≡ Some copy → copy.id ≤ last_id (c ∷ cs)

@@ -1,23 +1,11 @@
 -- Trees that are held, and whose keys count.
-use Rattle.std.proofs.Common.{◌≡◌, ◌<◌, ℕ, zero, suc, Bool, true, false, List, [], ◌∷◌, length, Option, Some, None, arith, refl, sym, ap, subst}
-use Rattle.std.specs.Prelude.{◌||◌, is_some, slice_index_or}
+use Rattle.store_model.proofs.Prelude.{◌≡◌, ◌<◌, ℕ, zero, suc, Bool, true, false, List, [], ◌∷◌, length, Option, Some, None, arith, refl, sym, ap, subst, ◌||◌, is_some, slice_index_or, AllByRecursion, Contains, bytes_eq, Contains-append_cases, bytes_eq-Decides, Place, PlaceMap, HeaderValue, Trees, contents_of, Store, AllKeys, keys_below, tree_keys, Copy, HasKey, IsIndexOf, newest, KeepsCopies, HoldsTree, HoldsTrees, leaf_key, node_key}
 use Rattle.std.specs.FinMap as finite
-use Rattle.std.specs.List.{AllByRecursion, Contains}
-use Rattle.std.specs.Str.{bytes_eq}
-use Rattle.std.proofs.lemmas.List.Elements.{Contains-append_cases}
-use Rattle.std.proofs.lemmas.Slice.Eq.{bytes_eq-Decides}
-use Rattle.container_meta.specs.declared.place.Place.{Place}
-use Rattle.container_meta.specs.Places.{PlaceMap}
-use Rattle.container_meta.specs.Spelling.{HeaderValue}
 use Rattle.merkle_file.specs.Tree as tree
-use Rattle.merkle_file.specs.Tree.{Tree, Trees}
-use Rattle.merkle_file.specs.Walk.{contents_of}
+use Rattle.merkle_file.specs.Tree.{Tree}
 use Rattle.store_model.specs.Collisions.{IsIn}
-use Rattle.store_model.specs.Image.{Store}
-use Rattle.store_model.specs.Reserve.{AllKeys, HoldsCounted, key_set, keys_below, tree_keys}
-use Rattle.store_model.specs.Slots.{Copy, HasKey, IsIndexOf, key_set_of, newest}
-use Rattle.store_model.specs.Steps.{KeepsCopies}
-use Rattle.store_model.specs.Trees.{HoldsTree, HoldsTrees, leaf_key, node_key}
+use Rattle.store_model.specs.Reserve.{HoldsCounted, key_set}
+use Rattle.store_model.specs.Slots.{key_set_of}
 use Rattle.store_model.proofs.FreedTrees.{in_head, in_tail, needed_tree}
 use Rattle.store_model.proofs.Lookups.{indexed_by}
 use Rattle.store_model.proofs.TreeKeys.{at_head, either_part, none_there}

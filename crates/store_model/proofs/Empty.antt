@@ -1,19 +1,12 @@
 -- An image with all of an empty store is one.
-use Rattle.std.proofs.Common.{◌≡◌, ◌≢◌, inl, ℕ, zero, suc, ◌+◌, ◌<◌, IsTrue, false, List, length, replicate, Option, None, refl, sym, ap, arith, subst}
+use Rattle.store_model.proofs.Prelude.{◌≡◌, ◌≢◌, inl, ℕ, zero, suc, ◌+◌, ◌<◌, IsTrue, false, List, length, Option, None, refl, sym, ap, arith, subst, nat_cmp, slice_cmp, range, byte_at, slot_at, cell_at, half_cells, selector_cell, CONTAINER_GATE, RECORD_GATE, SELECTOR_GATE, HeaderValue, Named, HoldSlots, DifferentIds, free_slots, HasFormat, AreCopies, AreNodes, IsFileOf, AreFilesOf}
+use Rattle.std.proofs.Common.{replicate}
 use Rattle.std.proofs.lemmas.List.{length-replicate}
-use Rattle.std.specs.Ordering.{nat_cmp}
-use Rattle.std.specs.Cmp.Lexicographic.{slice_cmp}
 use Rattle.std.specs.FinMap as finite
-use Rattle.base_model.specs.Bytes.{range, byte_at}
-use Rattle.disk_format.specs.Layout.{IsSlotCount, size_of, slot_at, cell_at, half_cells}
-use Rattle.disk_format.specs.Cells.{selector_cell, first_selector}
-use Rattle.disk_format.specs.declared.numbers.TheConstants.{CONTAINER_GATE, RECORD_GATE, SELECTOR_GATE}
-use Rattle.container_meta.specs.Spelling.{HeaderValue}
-use Rattle.namespace.specs.declared.record.Named.{Named}
+use Rattle.disk_format.specs.Layout.{IsSlotCount, size_of}
+use Rattle.disk_format.specs.Cells.{first_selector}
 use Rattle.store_model.specs.Files.{no_files}
-use Rattle.store_model.specs.Slots.{HoldSlots, DifferentIds, free_slots}
-use Rattle.store_model.specs.Image.{HasFormat, AreCopies}
-use Rattle.store_model.specs.Standing.{AreNodes, IsFileOf, AreFilesOf, IsFormatted}
+use Rattle.store_model.specs.Standing.{IsFormatted}
 
 -- so many closed slots
 abbrev none_held : ℕ → List (Option HeaderValue)

@@ -1,7 +1,5 @@
 -- Slots, once a container is in the first that is closed.
-use Rattle.std.proofs.Common.{◌≡◌, ◌≢◌, ℕ, zero, suc, ◌<◌, ◌≤◌, List, [], ◌∷◌, length, max, Option, Some, None, refl, ◌∙◌, ap, arith}
-use Rattle.container_meta.specs.Spelling.{HeaderValue, IsHeader}
-use Rattle.store_model.specs.Slots.{AreHeaders, IsUnusedId, DifferentIds, last_id, free_slots, first_free, with_slot}
+use Rattle.store_model.proofs.Prelude.{◌≡◌, ◌≢◌, ℕ, zero, suc, ◌<◌, ◌≤◌, List, [], ◌∷◌, length, max, Option, Some, None, refl, ◌∙◌, ap, arith, HeaderValue, IsHeader, AreHeaders, IsUnusedId, DifferentIds, last_id, free_slots, first_free, with_slot}
 
 -- there are as many slots as before
 pub length-with_slot : (slot : ℕ) (h : HeaderValue) (held : List (Option HeaderValue)) → length (with_slot slot h held) ≡ length held

@@ -1,21 +1,9 @@
 -- What a store of files by their trees keeps where an image changes outside of its containers.
-use Rattle.std.proofs.Common.{◌≡◌, ℕ, ◌+◌, List, length, Option, Some, None, refl, ◌∙◌, arith}
+use Rattle.store_model.proofs.Prelude.{◌≡◌, ℕ, ◌+◌, List, length, Option, Some, None, refl, ◌∙◌, arith, SameOutside, FIRST_SLOT, SLOT_BYTES, slot_at, HeaderValue, spelling, Trees, contents_of, Named, Files, HoldsSlot, HoldSlots, AreHeaders, DifferentIds, first_free, Store, Encodes, AreCopies, names_of, AreNodes, IsFileOf, AreFilesOf, AreAmong, Stands, leaf_key, node_key, HasNewest, HoldsTree, HoldsTrees}
 use Rattle.std.specs.FinMap as finite
-use Rattle.base_model.specs.Frames.{SameOutside}
-use Rattle.disk_format.specs.declared.numbers.TheConstants.{FIRST_SLOT, SLOT_BYTES}
-use Rattle.disk_format.specs.Layout.{slot_at}
-use Rattle.container_meta.specs.Spelling.{HeaderValue}
-use Rattle.merkle_file.specs.Node.{spelling}
 use Rattle.merkle_file.specs.Tree as tree
-use Rattle.merkle_file.specs.Tree.{Tree, Trees}
-use Rattle.merkle_file.specs.Walk.{contents_of}
-use Rattle.namespace.specs.declared.record.Named.{Named}
-use Rattle.store_model.specs.Files.{Files}
-use Rattle.store_model.specs.Slots.{HoldsSlot, HoldSlots, AreHeaders, DifferentIds, first_free}
-use Rattle.store_model.specs.Image.{Store, Encodes, AreCopies, names_of}
-use Rattle.store_model.specs.Standing.{AreNodes, IsFileOf, AreFilesOf}
-use Rattle.store_model.specs.Collisions.{AreAmong, Stands}
-use Rattle.store_model.specs.Trees.{file_tree, leaf_key, node_key, HasNewest, HoldsTree, HoldsTrees}
+use Rattle.merkle_file.specs.Tree.{Tree}
+use Rattle.store_model.specs.Trees.{file_tree}
 use Rattle.store_model.proofs.Copies.{headers_of_right}
 use Rattle.store_model.proofs.Frames.{SameTo, SameSlots, format_kept, journal_kept, other_kept, slots_kept, copies_kept}
 use Rattle.store_model.proofs.HeldSlots.{SameHeld, all_held, others_held, newest_still, IsNodeEntry, IsAmongThese, so_still, nodes_so, so_nodes, among_so, so_among}

@@ -1,20 +1,9 @@
 -- What an image keeps of a store where parts of it are as they were.
-use Rattle.std.proofs.Common.{◌≡◌, inl, inr, ℕ, ◌+◌, ◌-◌, ◌<◌, ◌≤◌, Bool, List, [], ◌∷◌, ◌++◌, length, Option, Some, None, sym, ◌∙◌, ap, arith}
-use Rattle.std.specs.List.{AllByRecursion}
-use Rattle.std.proofs.lemmas.List.Sums.{sum_by-append, sum_by-cons}
-use Rattle.sha2.specs.Sha256.{sha256}
-use Rattle.base_model.specs.Bytes.{range, byte_at}
+use Rattle.store_model.proofs.Prelude.{◌≡◌, inl, inr, ℕ, ◌+◌, ◌-◌, ◌<◌, ◌≤◌, Bool, List, [], ◌∷◌, ◌++◌, length, Option, Some, None, sym, ◌∙◌, ap, arith, AllByRecursion, sum_by-append, sum_by-cons, sha256, range, byte_at, FIRST_SLOT, SLOT_BYTES, RecordValue, SelectorValue, slot_at, data_at, selector_at, cell_at, half_cells, Entry, Kind, HeaderValue, IsHeader, bytes_of, HoldsSelector, IsOlder, KnowsOther, StandFrom, HoldsSlot, HoldSlots, AreHeaders, Copy, newest, HasFormat, AreCopies, bytes_at}
 use Rattle.base_model.proofs.ByteAt.{byte_of_range}
-use Rattle.disk_format.specs.declared.numbers.TheConstants.{FIRST_HALF, FIRST_SLOT, SLOT_BYTES}
-use Rattle.disk_format.specs.Cells.{RecordValue, SelectorValue}
-use Rattle.disk_format.specs.Layout.{slot_at, data_at, selector_at, cell_at, half_cells}
-use Rattle.container_meta.specs.declared.entry.Entry.{Entry}
-use Rattle.container_meta.specs.declared.kind.Kind.{Kind}
-use Rattle.container_meta.specs.Spelling.{HeaderValue, IsHeader, Follow, bytes_of}
-use Rattle.store_model.specs.Journal.{HoldsSelector, IsOlder, KnowsOther, StandFrom, HoldsJournal, ClosedFrom}
-use Rattle.store_model.specs.Slots.{HoldsSlot, HoldSlots, AreHeaders, Copy, newest}
-use Rattle.store_model.specs.Image.{HasFormat, AreCopies}
-use Rattle.store_model.specs.Trees.{bytes_at}
+use Rattle.disk_format.specs.declared.numbers.TheConstants.{FIRST_HALF}
+use Rattle.container_meta.specs.Spelling.{Follow}
+use Rattle.store_model.specs.Journal.{HoldsJournal, ClosedFrom}
 use Rattle.store_model.proofs.Copies.{data_within, newest_within}
 
 -- the bytes before a place are as they were

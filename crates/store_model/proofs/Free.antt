@@ -1,17 +1,10 @@
 -- Closed slots, by the id in each slot: 0 where it is closed; and the first of them on the disk.
-use Rattle.std.proofs.Common.{◌≡◌, ◌≢◌, ℕ, ◌+◌, ◌-◌, ◌^◌, ◌<◌, ◌≤◌, Bool, true, false, cond, List, [], ◌∷◌, length, Option, Some, None, refl, sym, ap, subst, ◌∙◌, arith}
-use Rattle.std.specs.Prelude.{◌==◌, ◌&&◌, nat_le, nat_lt}
-use Rattle.std.specs.List.{count_by, position, position_or_len, slice_get}
-use Rattle.std.proofs.lemmas.Bool.{leb-true, ltb-false, eqb-true}
+use Rattle.store_model.proofs.Prelude.{◌≡◌, ◌≢◌, ℕ, ◌+◌, ◌-◌, ◌^◌, ◌<◌, ◌≤◌, Bool, true, false, cond, List, [], ◌∷◌, length, Option, Some, None, refl, sym, ap, subst, ◌∙◌, arith, ◌==◌, nat_le, nat_lt, slice_get, leb-true, ltb-false, eqb-true, byte_at, CONTAINER_GATE, slot_at, HeaderValue, IsHeader, HoldsSlot, HoldSlots, AreHeaders, ids_of, free_slots, first_free, Store, Encodes}
+use Rattle.std.specs.Prelude.{◌&&◌}
+use Rattle.std.specs.List.{count_by, position, position_or_len}
 use Rattle.std.proofs.lemmas.List.Quantifiers.{position-Some}
 use Rattle.std.proofs.lemmas.List.Sums.{position_or_len_is}
 use Rattle.std.proofs.lemmas.List.Recursion.{is_count_by, is_position_or_len}
-use Rattle.base_model.specs.Bytes.{byte_at}
-use Rattle.disk_format.specs.declared.numbers.TheConstants.{CONTAINER_GATE}
-use Rattle.disk_format.specs.Layout.{slot_at}
-use Rattle.container_meta.specs.Spelling.{HeaderValue, IsHeader}
-use Rattle.store_model.specs.Slots.{HoldsSlot, HoldSlots, AreHeaders, ids_of, free_slots, first_free}
-use Rattle.store_model.specs.Image.{Store, Encodes}
 
 abbrev pub is_zero : ℕ → Bool
 is_zero id = id == 0

@@ -1,18 +1,8 @@
 -- Slots once one of them is closed, and the image whose gate was cleared.
-use Rattle.std.proofs.Common.{◌≡◌, ◌≢◌, ◌⊎◌, inl, inr, ℕ, zero, suc, ◌+◌, ◌<◌, ◌≤◌, List, [], ◌∷◌, ◌++◌, length, get_or, slice_set, Option, Some, None, refl, sym, ◌∙◌, ap, subst, arith}
-use Rattle.std.specs.List.{slice_get}
+use Rattle.store_model.proofs.Prelude.{◌≡◌, ◌≢◌, ◌⊎◌, inl, inr, ℕ, zero, suc, ◌+◌, ◌<◌, ◌≤◌, List, [], ◌∷◌, ◌++◌, length, get_or, Option, Some, None, refl, sym, ◌∙◌, ap, subst, arith, slice_get, range, byte_at, SameOutside, byte-range, FIRST_SLOT, SLOT_BYTES, slot_at, HeaderValue, with_freed, HasNoGate, SameButGates, IsPartlyFreed, Store, Encodes, IsValidFor, HoldsSlot, HoldSlots, AreHeaders, IsUnusedId, DifferentIds, free_slots, ids_of, without_slot, HasJournal}
+use Rattle.std.proofs.Common.{slice_set}
 use Rattle.std.proofs.lemmas.List.{ext_get_or}
-use Rattle.base_model.specs.Bytes.{range, byte_at}
-use Rattle.base_model.specs.Frames.{SameOutside}
 use Rattle.base_model.proofs.Frames.{byte_before, byte_after}
-use Rattle.base_model.proofs.Ranges.{byte-range}
-use Rattle.disk_format.specs.declared.numbers.TheConstants.{FIRST_SLOT, SLOT_BYTES}
-use Rattle.disk_format.specs.Layout.{slot_at}
-use Rattle.container_meta.specs.Spelling.{HeaderValue}
-use Rattle.store_model.specs.Freeing.{with_freed, HasNoGate, SameButGates, IsPartlyFreed}
-use Rattle.store_model.specs.Image.{Store, Encodes, IsValidFor}
-use Rattle.store_model.specs.Slots.{HoldsSlot, HoldSlots, AreHeaders, IsUnusedId, DifferentIds, free_slots, ids_of, without_slot}
-use Rattle.store_model.specs.Standing.{HasJournal}
 use Rattle.store_model.proofs.Copies.{some_same}
 use Rattle.store_model.proofs.Frames.{SameTo, slot_kept, slots_kept}
 use Rattle.store_model.proofs.FramedTrees.{before_slots, encodes_on}

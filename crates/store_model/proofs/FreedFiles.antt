@@ -1,24 +1,13 @@
 -- Files, and the reserve of slots, once containers that no file needs are given back.
-use Rattle.std.proofs.Common.{◌≡◌, ◌≢◌, ◌⊎◌, inl, inr, ℕ, zero, suc, ◌+◌, ◌<◌, ◌≤◌, List, [], ◌∷◌, length, take, Option, Some, None, refl, sym, ◌∙◌, ap, subst, arith}
+use Rattle.store_model.proofs.Prelude.{◌≡◌, ◌≢◌, ◌⊎◌, inl, inr, ℕ, zero, suc, ◌+◌, ◌<◌, ◌≤◌, List, [], ◌∷◌, length, take, Option, Some, None, refl, sym, ◌∙◌, ap, subst, arith, AllByRecursion, slice_get, eqb_tells, sha256, SLOT_BYTES, slot_at, Entry, Kind, HeaderValue, SameOutside, AreAmong, Stands, Files, with_freed, HasNoGate, SameButGates, IsPartlyFreed, Store, Encodes, AreCopies, names_of, last_sequence, IsReachable, HoldsNone, AreHeaders, HoldsSlot, newest, free_slots, first_free, without_slot, KeepsCopies, AreFilesOf, IsStoreOf, StandsFor, HasNewest}
 use Rattle.std.specs.FinMap as finite
-use Rattle.std.specs.List.{AllByRecursion, slice_get}
-use Rattle.std.proofs.lemmas.Bool.Decides.{eqb_tells, leb_tells}
-use Rattle.sha2.specs.Sha256.{sha256}
-use Rattle.disk_format.specs.declared.numbers.TheConstants.{RESERVE, SLOT_BYTES}
-use Rattle.disk_format.specs.Layout.{slot_at}
-use Rattle.container_meta.specs.declared.entry.Entry.{Entry}
-use Rattle.container_meta.specs.declared.kind.Kind.{Kind}
-use Rattle.container_meta.specs.Spelling.{HeaderValue}
-use Rattle.base_model.specs.Frames.{SameOutside}
-use Rattle.store_model.specs.Collisions.{AreAmong, IsOf, OpensAs, Stands}
-use Rattle.store_model.specs.Files.{Files, Stored}
-use Rattle.store_model.specs.Freeing.{with_freed, with_all_freed, FreesTo, FreesSome, HasNoGate, SameButGates, IsPartlyFreed}
-use Rattle.store_model.specs.Image.{Store, Encodes, AreCopies, names_of, last_sequence}
-use Rattle.store_model.specs.Reserve.{IsReachable, HoldsNone, IsSpare, IsGivable, HasReserve}
-use Rattle.store_model.specs.Slots.{AreHeaders, HoldsSlot, newest, free_slots, first_free, without_slot}
-use Rattle.store_model.specs.Steps.{KeepsCopies}
-use Rattle.store_model.specs.Standing.{AreFilesOf, IsStoreOf, CanBeOpened, StandsFor}
-use Rattle.store_model.specs.Trees.{HasNewest}
+use Rattle.std.proofs.lemmas.Bool.Decides.{leb_tells}
+use Rattle.disk_format.specs.declared.numbers.TheConstants.{RESERVE}
+use Rattle.store_model.specs.Collisions.{IsOf, OpensAs}
+use Rattle.store_model.specs.Files.{Stored}
+use Rattle.store_model.specs.Freeing.{with_all_freed, FreesTo, FreesSome}
+use Rattle.store_model.specs.Reserve.{IsSpare, IsGivable, HasReserve}
+use Rattle.store_model.specs.Standing.{CanBeOpened}
 use Rattle.store_model.proofs.Copies.{headers_of_right}
 use Rattle.store_model.proofs.Frames.{SameSlot}
 use Rattle.store_model.proofs.Free.{first_closed, some_free}

@@ -1,25 +1,10 @@
 -- The newest copy of each key that is needed, and the trees of such keys, once a slot is closed that has none of these copies.
-use Rattle.std.proofs.Common.{◌≡◌, ◌≢◌, ℕ, zero, suc, ◌+◌, ◌≤◌, Bool, true, false, List, [], ◌∷◌, max, Option, Some, None, find, option_map, refl, sym, ◌∙◌, ap, arith}
-use Rattle.std.specs.Prelude.{nat_lt, if◌then◌else◌}
+use Rattle.store_model.proofs.Prelude.{◌≡◌, ◌≢◌, ℕ, zero, suc, ◌+◌, ◌≤◌, Bool, true, false, List, [], ◌∷◌, max, Option, Some, None, find, option_map, refl, sym, ◌∙◌, ap, arith, nat_lt, Contains, bytes_eq, ltb-true, ltb-false, Contains-append_left, Contains-append_right, key_of, Entry, kind_byte, HeaderValue, spelling, Trees, contents_of, Named, Files, HoldsNone, IsReachable, tree_keys, keys_below, Copy, place_of, copy_in, newer, newest, without_slot, IsFileOf, leaf_key, node_key, HasNewest, HoldsTree, HoldsTrees}
+use Rattle.std.specs.Prelude.{if◌then◌else◌}
 use Rattle.std.specs.FinMap as finite
-use Rattle.std.specs.List.{Contains}
-use Rattle.std.specs.Str.{bytes_eq}
-use Rattle.std.proofs.lemmas.Bool.{ltb-true, ltb-false}
-use Rattle.std.proofs.lemmas.List.Elements.{Contains-append_left, Contains-append_right}
-use Rattle.base_model.specs.Bytes.{key_of}
-use Rattle.container_meta.specs.declared.entry.Entry.{Entry}
-use Rattle.container_meta.specs.Format.{kind_byte}
-use Rattle.container_meta.specs.Spelling.{HeaderValue}
-use Rattle.merkle_file.specs.Node.{spelling}
 use Rattle.merkle_file.specs.Tree as tree
-use Rattle.merkle_file.specs.Tree.{Tree, Trees}
-use Rattle.merkle_file.specs.Walk.{contents_of}
-use Rattle.namespace.specs.declared.record.Named.{Named}
-use Rattle.store_model.specs.Files.{Files}
-use Rattle.store_model.specs.Reserve.{HoldsNone, IsReachable, tree_keys, keys_below}
-use Rattle.store_model.specs.Slots.{Copy, place_of, copy_in, newer, newest, without_slot}
-use Rattle.store_model.specs.Standing.{IsFileOf}
-use Rattle.store_model.specs.Trees.{file_tree, leaf_key, node_key, HasNewest, HoldsTree, HoldsTrees}
+use Rattle.merkle_file.specs.Tree.{Tree}
+use Rattle.store_model.specs.Trees.{file_tree}
 use Rattle.store_model.proofs.Copies.{some_same}
 
 -- ---- the newer of two copies

@@ -1,19 +1,8 @@
 -- What an image keeps of the segments that a store holds, where the slots are as they were.
-use Rattle.std.proofs.Common.{◌≡◌, ℕ, ◌+◌, ◌≤◌, List, [], ◌∷◌, ◌++◌, length, Option, Some, None, sym, ◌∙◌, subst, arith}
-use Rattle.std.specs.List.{AllByRecursion}
-use Rattle.std.proofs.lemmas.List.Sums.{sum_by-append, sum_by-cons}
-use Rattle.container_meta.specs.declared.entry.Entry.{Entry}
-use Rattle.container_meta.specs.declared.kind.Kind.{Kind}
-use Rattle.container_meta.specs.Spelling.{HeaderValue, IsHeader, Follow, bytes_of}
-use Rattle.merkle_file.specs.Node.{spelling}
+use Rattle.store_model.proofs.Prelude.{◌≡◌, ℕ, ◌+◌, ◌≤◌, List, [], ◌∷◌, ◌++◌, length, Option, Some, None, sym, ◌∙◌, subst, arith, AllByRecursion, sum_by-append, sum_by-cons, Entry, Kind, HeaderValue, IsHeader, bytes_of, spelling, Trees, contents_of, Named, AreHeaders, leaf_key, node_key, HasNewest, HoldsTree, HoldsTrees, entry_bytes, IsOfKind, AreNodes, IsFileOf, IsAmong, AreAmong}
+use Rattle.container_meta.specs.Spelling.{Follow}
 use Rattle.merkle_file.specs.Tree as tree
-use Rattle.merkle_file.specs.Tree.{Tree, Trees}
-use Rattle.merkle_file.specs.Walk.{contents_of}
-use Rattle.namespace.specs.declared.record.Named.{Named}
-use Rattle.store_model.specs.Slots.{AreHeaders}
-use Rattle.store_model.specs.Trees.{leaf_key, node_key, HasNewest, HoldsTree, HoldsTrees}
-use Rattle.store_model.specs.Standing.{entry_bytes, IsOfKind, AreNodes, IsFileOf}
-use Rattle.store_model.specs.Collisions.{IsAmong, AreAmong}
+use Rattle.merkle_file.specs.Tree.{Tree}
 use Rattle.store_model.proofs.Copies.{data_within, newest_within}
 use Rattle.store_model.proofs.Frames.{SameSlot, SameSlots, place_kept, copy_kept}
 

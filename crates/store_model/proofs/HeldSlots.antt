@@ -1,21 +1,7 @@
 -- What is so of each entry of the containers of a store, and stays so where the slots that have one are as they were.
-use Rattle.std.proofs.Common.{◌≡◌, ℕ, zero, suc, ◌+◌, ◌≤◌, Bool, true, false, cond, List, [], ◌∷◌, ◌++◌, length, get_or, Option, Some, None, find, refl, sym, ◌∙◌, ap, subst, arith}
-use Rattle.std.specs.List.{AllByRecursion}
-use Rattle.std.proofs.lemmas.Slice.Eq.{bytes_eq-Decides}
-use Rattle.std.proofs.lemmas.List.Sums.{sum_by-append, sum_by-cons}
-use Rattle.base_model.specs.Bytes.{key_of}
-use Rattle.base_model.specs.Frames.{SameOutside}
-use Rattle.disk_format.specs.declared.numbers.TheConstants.{SLOT_BYTES}
-use Rattle.disk_format.specs.Layout.{slot_at}
-use Rattle.container_meta.specs.declared.entry.Entry.{Entry}
-use Rattle.container_meta.specs.declared.kind.Kind.{Kind}
+use Rattle.store_model.proofs.Prelude.{◌≡◌, ℕ, zero, suc, ◌+◌, ◌≤◌, Bool, true, false, cond, List, [], ◌∷◌, ◌++◌, length, get_or, Option, Some, None, find, refl, sym, ◌∙◌, ap, subst, arith, AllByRecursion, bytes_eq-Decides, sum_by-append, sum_by-cons, key_of, SameOutside, SLOT_BYTES, slot_at, Entry, Kind, kind_byte, is_level, HeaderValue, IsHeader, bytes_of, AreHeaders, Copy, newest, first_free, with_slot, entry_bytes, IsOfKind, AreNodes, IsAmong, AreAmong, bytes_at, HasNewest}
 use Rattle.container_meta.specs.declared.kind.Kind.TheVariants.{Leaf, Tree}
-use Rattle.container_meta.specs.Format.{kind_byte, is_level}
-use Rattle.container_meta.specs.Spelling.{HeaderValue, IsHeader, Follow, bytes_of}
-use Rattle.store_model.specs.Slots.{AreHeaders, Copy, newest, first_free, with_slot}
-use Rattle.store_model.specs.Standing.{entry_bytes, IsOfKind, AreNodes}
-use Rattle.store_model.specs.Collisions.{IsAmong, AreAmong}
-use Rattle.store_model.specs.Trees.{bytes_at, HasNewest}
+use Rattle.container_meta.specs.Spelling.{Follow}
 use Rattle.store_model.proofs.Copies.{some_same, lies, data_within}
 use Rattle.store_model.proofs.Frames.{SameSlot, SameSlots, copy_kept, place_kept}
 use Rattle.store_model.proofs.Kept.{other_same}

@@ -1,10 +1,6 @@
 -- A tree is held where the newest copies of its leaves and nodes are.
-use Rattle.std.proofs.Common.{ℕ, List, [], ◌∷◌, ◌++◌, Option}
-use Rattle.std.specs.List.{AllByRecursion}
-use Rattle.container_meta.specs.Spelling.{HeaderValue}
-use Rattle.merkle_file.specs.Node.{Contents, spelling}
-use Rattle.merkle_file.specs.Tree.{Tree, Trees, Empty, Leaf, Node, NoTree, Then, leaves, leaves_below, nodes_of, nodes_below, of_segment}
-use Rattle.store_model.specs.Trees.{leaf_key, node_key, HasNewest, HoldsTree, HoldsTrees}
+use Rattle.store_model.proofs.Prelude.{ℕ, List, [], ◌∷◌, ◌++◌, Option, AllByRecursion, HeaderValue, Contents, spelling, Trees, Empty, Node, NoTree, Then, leaves, leaves_below, nodes_of, nodes_below, of_segment, leaf_key, node_key, HasNewest, HoldsTree, HoldsTrees}
+use Rattle.merkle_file.specs.Tree.{Tree, Leaf}
 
 -- what is so of each of two lists
 pub all_first : {X : Type 0} (P : X → Type 0) (xs ys : List X) → AllByRecursion P (xs ++ ys) → AllByRecursion P xs

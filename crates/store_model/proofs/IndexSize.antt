@@ -1,25 +1,13 @@
 -- How many keys an index has, and how much a store holds.
-use Rattle.std.proofs.Common.{◌≡◌, ◌⊎◌, inl, inr, ℕ, suc, ◌+◌, ◌-◌, ◌*◌, ◌≤◌, Bool, true, false, cond, List, [], ◌∷◌, length, map, take, Option, Some, None, option_map, refl, sym, ◌∙◌, ap, arith, length-append, length-take}
-use Rattle.std.specs.Prelude.{◌&&◌, ◌||◌, is_some, nat_le}
+use Rattle.store_model.proofs.Prelude.{◌≡◌, ◌⊎◌, inl, inr, ℕ, suc, ◌+◌, ◌-◌, ◌≤◌, Bool, true, false, cond, List, [], ◌∷◌, length, map, take, Option, Some, None, option_map, refl, sym, ◌∙◌, ap, arith, length-append, ◌||◌, is_some, nat_le, bytes_eq, slice_cmp, nat_list_cmp_total, nat_cmp, eq_by_cmp, leb-true, list_any-append, Entry, Kind, Place, PlaceMap, Segment, entries_from, HeaderValue, IsHeader, header_of, entry_key, with_entries, Copy, AreHeaders, IsIndexOf, IsPartialIndexOf, place_of, copy_in, newer, newest, free_slots, first_free, with_slot, Store, CanHold, with_sealed}
+use Rattle.std.proofs.Common.{◌*◌, length-take}
+use Rattle.std.specs.Prelude.{◌&&◌}
 use Rattle.std.specs.List.{list_any}
-use Rattle.std.specs.Str.{bytes_eq}
-use Rattle.std.specs.Cmp.Lexicographic.{slice_cmp, nat_list_cmp_total}
 use Rattle.std.specs.FinMap as finite
-use Rattle.std.specs.Ordering.{nat_cmp, eq_by_cmp}
-use Rattle.std.proofs.lemmas.Bool.{leb-true}
 use Rattle.std.proofs.lemmas.List.{length-map}
-use Rattle.std.proofs.lemmas.List.Folds.{list_any-append}
 use Rattle.disk_format.specs.declared.numbers.TheConstants.{MOST_ENTRIES}
-use Rattle.container_meta.specs.declared.entry.Entry.{Entry}
-use Rattle.container_meta.specs.declared.kind.Kind.{Kind}
-use Rattle.container_meta.specs.declared.place.Place.{Place}
-use Rattle.container_meta.specs.Places.{PlaceMap}
-use Rattle.container_meta.specs.Segments.{Segment, bytes_in, entries_from}
-use Rattle.container_meta.specs.Spelling.{HeaderValue, IsHeader, header_of}
-use Rattle.store_model.specs.Indexing.{entry_key, with_entries, keys_in, entries_in, bytes_in_slots}
-use Rattle.store_model.specs.Slots.{Copy, AreHeaders, IsIndexOf, IsPartialIndexOf, place_of, copy_in, newer, newest, free_slots, first_free, with_slot}
-use Rattle.store_model.specs.Image.{Store}
-use Rattle.store_model.specs.Steps.{CanHold, with_sealed}
+use Rattle.container_meta.specs.Segments.{bytes_in}
+use Rattle.store_model.specs.Indexing.{keys_in, entries_in, bytes_in_slots}
 use Rattle.store_model.proofs.Indexing.{tied, entry_of, index_with, partial_with}
 
 -- ---- a map whose keys are among some

@@ -1,26 +1,11 @@
 -- An index, once a container is in the first slot that is closed, and each of its entries was put into the index.
-use Rattle.std.proofs.Common.{◌≡◌, ℕ, ◌+◌, ◌<◌, ◌≤◌, Bool, true, false, cond, List, [], ◌∷◌, ◌++◌, length, Option, Some, None, find, option_map, refl, sym, ◌∙◌, ap, arith}
-use Rattle.std.specs.Prelude.{nat_lt, ◌||◌, if◌then◌else◌}
-use Rattle.std.specs.Str.{bytes_eq}
+use Rattle.store_model.proofs.Prelude.{◌≡◌, ℕ, ◌+◌, ◌<◌, ◌≤◌, Bool, true, false, cond, List, [], ◌∷◌, ◌++◌, length, Option, Some, None, find, option_map, refl, sym, ◌∙◌, ap, arith, nat_lt, ◌||◌, bytes_eq, slice_cmp, nat_list_cmp_total, AllByRecursion, nat_cmp, eq_by_cmp, ltb-true, ltb-false, list_any-append, bytes_eq-Decides, sha256, Place, Entry, Kind, PlaceMap, Segment, entries_from, segment_key, HeaderValue, IsHeader, has_digest, entry_key, with_entries, Copy, IsIndexOf, IsPartialIndexOf, HasKey, place_of, copy_in, newer, newest, last_id, free_slots, first_free, with_slot}
+use Rattle.std.specs.Prelude.{if◌then◌else◌}
 use Rattle.std.specs.Cmp.{eq_by_cmp_equiv}
-use Rattle.std.specs.Cmp.Lexicographic.{slice_cmp, nat_list_cmp_total}
 use Rattle.std.specs.FinMap as finite
-use Rattle.std.specs.List.{AllByRecursion}
-use Rattle.std.specs.Ordering.{nat_cmp, eq_by_cmp}
 use Rattle.std.proofs.Math.Bool.{or-true}
-use Rattle.std.proofs.lemmas.Bool.{ltb-true, ltb-false}
-use Rattle.std.proofs.lemmas.List.Folds.{list_any-append}
 use Rattle.std.proofs.lemmas.Map.Text.{is_eq-slice_cmp}
-use Rattle.std.proofs.lemmas.Slice.Eq.{bytes_eq-Decides}
-use Rattle.sha2.specs.Sha256.{sha256}
-use Rattle.container_meta.specs.declared.place.Place.{Place}
-use Rattle.container_meta.specs.declared.entry.Entry.{Entry}
-use Rattle.container_meta.specs.declared.kind.Kind.{Kind}
-use Rattle.container_meta.specs.Places.{PlaceMap}
-use Rattle.container_meta.specs.Segments.{Segment, entries_from, segment_key}
-use Rattle.container_meta.specs.Spelling.{HeaderValue, IsHeader, Follow, has_digest}
-use Rattle.store_model.specs.Indexing.{entry_key, with_entries}
-use Rattle.store_model.specs.Slots.{Copy, IsIndexOf, IsPartialIndexOf, HasKey, place_of, copy_in, newer, newest, last_id, free_slots, first_free, with_slot}
+use Rattle.container_meta.specs.Spelling.{Follow}
 use Rattle.store_model.proofs.Copies.{some_same}
 use Rattle.store_model.proofs.CopyIds.{newest_id}
 

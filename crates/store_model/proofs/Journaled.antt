@@ -1,18 +1,9 @@
 -- What an image stands for where the journal alone has changed: the same files, or those after a command.
-use Rattle.std.proofs.Common.{◌≡◌, ℕ, ◌≤◌, Bool, List, length, sym, ◌∙◌, arith, subst}
+use Rattle.store_model.proofs.Prelude.{◌≡◌, ℕ, ◌≤◌, Bool, List, length, sym, ◌∙◌, arith, subst, range, FIRST_SLOT, RecordValue, SelectorValue, NameMap, names_after, Files, Command, files_after, AreHeaders, Store, Encodes, names_of, HasNewest, HoldsTree, AreFilesOf, HasJournal, Stands, HoldsFor, appended, change_of, name_of}
 use Rattle.std.specs.FinMap as finite
-use Rattle.base_model.specs.Bytes.{range}
-use Rattle.disk_format.specs.declared.numbers.TheConstants.{FIRST_SLOT}
-use Rattle.disk_format.specs.Cells.{RecordValue, SelectorValue}
 use Rattle.merkle_file.specs.Tree.{Tree}
-use Rattle.namespace.specs.Names.{NameMap, names_after}
-use Rattle.store_model.specs.Files.{Files, Command, Put, Delete, files_after}
-use Rattle.store_model.specs.Slots.{AreHeaders}
-use Rattle.store_model.specs.Image.{Store, Encodes, names_of}
-use Rattle.store_model.specs.Trees.{file_tree, HasNewest, HoldsTree}
-use Rattle.store_model.specs.Standing.{AreFilesOf, HasJournal}
-use Rattle.store_model.specs.Collisions.{Stands}
-use Rattle.store_model.specs.Steps.{HoldsFor, appended, change_of, name_of}
+use Rattle.store_model.specs.Files.{Put, Delete}
+use Rattle.store_model.specs.Trees.{file_tree}
 use Rattle.store_model.proofs.Copies.{headers_of_right}
 use Rattle.store_model.proofs.Frames.{SameTo, SameSlots, slots_kept, copies_kept, other_kept, journal_kept}
 use Rattle.store_model.proofs.HeldKept.{nodes_kept, among_kept, newest_kept, tree_held, file_held}

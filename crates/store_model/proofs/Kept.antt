@@ -1,13 +1,5 @@
 -- What slots hold, and the copies in them, once the first that was closed was written to.
-use Rattle.std.proofs.Common.{◌≡◌, ◌≢◌, ◌⊎◌, inl, inr, ℕ, ◌+◌, ◌<◌, ◌≤◌, true, false, List, [], ◌∷◌, length, Option, Some, None, refl, ◌∙◌, subst, arith}
-use Rattle.std.specs.Prelude.{nat_lt}
-use Rattle.std.proofs.lemmas.Bool.{ltb-true, ltb-false}
-use Rattle.base_model.specs.Frames.{SameOutside}
-use Rattle.disk_format.specs.declared.numbers.TheConstants.{SLOT_BYTES}
-use Rattle.disk_format.specs.Layout.{slot_at}
-use Rattle.container_meta.specs.Spelling.{HeaderValue}
-use Rattle.store_model.specs.Slots.{HoldsSlot, HoldSlots, AreHeaders, first_free, with_slot}
-use Rattle.store_model.specs.Image.{AreCopies}
+use Rattle.store_model.proofs.Prelude.{◌≡◌, ◌≢◌, ◌⊎◌, inl, inr, ℕ, ◌+◌, ◌<◌, ◌≤◌, true, false, List, [], ◌∷◌, length, Option, Some, None, refl, ◌∙◌, subst, arith, nat_lt, ltb-true, ltb-false, SameOutside, SLOT_BYTES, slot_at, HeaderValue, HoldsSlot, HoldSlots, AreHeaders, first_free, with_slot, AreCopies}
 use Rattle.store_model.proofs.Frames.{SameSlot, SameSlots, HaveDigests, slot_kept, digests_kept, slots_kept, copies_kept}
 
 -- two numbers that differ

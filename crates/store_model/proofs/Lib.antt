@@ -23,6 +23,7 @@ pub mod NameChanges
 pub mod NewestSealed
 pub mod Once
 pub mod OneNode
+mod Prelude
 pub mod Puts
 pub mod Reached
 pub mod Records

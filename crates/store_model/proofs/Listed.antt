@@ -1,19 +1,13 @@
 -- The names of a store are listed as its files are.
-use Rattle.std.proofs.Common.{◌≡◌, ℕ, Bool, true, false, cond, ◌&&◌, List, [], ◌∷◌, map, Option, Some, None, option_map, refl, sym, ap, ◌∙◌}
+use Rattle.store_model.proofs.Prelude.{◌≡◌, ℕ, Bool, true, false, cond, List, [], ◌∷◌, map, Option, Some, None, option_map, refl, sym, ap, ◌∙◌, nat_cmp, slice_cmp, nat_list_cmp_total, Root, HeaderValue, Named, NameMap, Files, IsFileOf, AreFilesOf, root_of}
+use Rattle.std.proofs.Common.{◌&&◌}
 use Rattle.std.specs.Prelude.{T}
-use Rattle.std.specs.Ordering.{nat_cmp, is_lt, is_eq}
-use Rattle.std.specs.Cmp.Lexicographic.{slice_cmp, nat_list_cmp_total}
+use Rattle.std.specs.Ordering.{is_lt, is_eq}
 use Rattle.std.specs.FinMap as finite
 use Rattle.std.specs.FinMap.Entries.{below_all}
 use Rattle.std.proofs.lemmas.Map.Lookups.{exact_bytes}
-use Rattle.disk_format.specs.Cells.{Root}
-use Rattle.container_meta.specs.Spelling.{HeaderValue}
-use Rattle.namespace.specs.declared.record.Named.{Named}
 use Rattle.namespace.specs.Listing.{NamedRoot, named_root, listing_of}
-use Rattle.namespace.specs.Names.{NameMap}
-use Rattle.store_model.specs.Files.{Files}
-use Rattle.store_model.specs.Standing.{IsFileOf, AreFilesOf, file_listing}
-use Rattle.store_model.specs.Trees.{root_of}
+use Rattle.store_model.specs.Standing.{file_listing}
 
 -- ---- a map with its values changed
 

@@ -1,11 +1,6 @@
 -- What an index of a store answers.
-use Rattle.std.proofs.Common.{◌≡◌, ℕ, List, Option, Some, None, option_map, refl, sym, ◌∙◌, ap}
+use Rattle.store_model.proofs.Prelude.{◌≡◌, ℕ, List, Option, Some, None, option_map, refl, sym, ◌∙◌, ap, Place, PlaceMap, HeaderValue, Copy, HasKey, newest, IsIndexOf, IsPartialIndexOf, Store}
 use Rattle.std.specs.FinMap as finite
-use Rattle.container_meta.specs.declared.place.Place.{Place}
-use Rattle.container_meta.specs.Places.{PlaceMap}
-use Rattle.container_meta.specs.Spelling.{HeaderValue}
-use Rattle.store_model.specs.Slots.{Copy, HasKey, newest, IsIndexOf, IsPartialIndexOf}
-use Rattle.store_model.specs.Image.{Store}
 
 none_of : (copy : Option Copy) → option_map (λ (c : Copy). c.place) copy ≡ None → copy ≡ None
 none_of None none = refl

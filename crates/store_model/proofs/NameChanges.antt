@@ -1,19 +1,9 @@
 -- What a change of a name makes of the last sequence number, of the names and of the files.
-use Rattle.std.proofs.Common.{◌≡◌, ℕ, suc, ◌-◌, ◌^◌, ◌<◌, max, Bool, true, false, cond, List, Option, None, Some, refl, sym, ◌∙◌, ap, arith, subst}
+use Rattle.store_model.proofs.Prelude.{◌≡◌, ℕ, suc, ◌-◌, ◌^◌, ◌<◌, max, Bool, true, false, cond, List, Option, None, Some, refl, sym, ◌∙◌, ap, arith, subst, nat_cmp, eq_by_cmp, slice_cmp, nat_list_cmp_total, Change, IsChange, IsName, IsRecord, HeaderValue, Named, NameMap, names_changed, Files, Command, files_after, last_of, Store, names_of, last_sequence, root_of, IsFileOf, AreFilesOf, HoldsFor, appended, change_of, name_of, record_of, with_cell, with_change}
 use Rattle.std.proofs.Math.Nat.{le-max_left, le-max_right, max-eq_right}
-use Rattle.std.specs.Ordering.{nat_cmp, eq_by_cmp}
-use Rattle.std.specs.Cmp.Lexicographic.{slice_cmp, nat_list_cmp_total}
 use Rattle.std.specs.FinMap as finite
-use Rattle.disk_format.specs.Cells.{Change, IsChange, IsName, IsRecord}
-use Rattle.container_meta.specs.Spelling.{HeaderValue}
-use Rattle.namespace.specs.declared.record.Named.{Named}
-use Rattle.namespace.specs.Names.{NameMap, names_changed}
-use Rattle.store_model.specs.Files.{Files, Command, Put, Delete, files_after}
-use Rattle.store_model.specs.Journal.{Follow, last_of}
-use Rattle.store_model.specs.Image.{Store, names_of, last_sequence}
-use Rattle.store_model.specs.Trees.{root_of}
-use Rattle.store_model.specs.Standing.{IsFileOf, AreFilesOf}
-use Rattle.store_model.specs.Steps.{HoldsFor, appended, change_of, name_of, record_of, with_cell, with_change}
+use Rattle.store_model.specs.Files.{Put, Delete}
+use Rattle.store_model.specs.Journal.{Follow}
 use Rattle.store_model.proofs.Cells.{last_with_cell, names_with_cell}
 use Rattle.store_model.proofs.Records.{last_of_push, names_after_push}
 

@@ -1,16 +1,8 @@
 -- The newest copy of each key, once a container is in the first slot that is closed.
-use Rattle.std.proofs.Common.{◌≡◌, ◌≢◌, ℕ, ◌+◌, ◌<◌, ◌≤◌, Bool, true, false, cond, List, [], ◌∷◌, ◌++◌, Option, Some, None, find, option_map, refl, sym, ◌∙◌, ap, subst, append_assoc, arith}
-use Rattle.std.specs.Prelude.{nat_lt, if◌then◌else◌}
-use Rattle.std.specs.List.{AllByRecursion}
-use Rattle.std.specs.Str.{bytes_eq}
-use Rattle.std.proofs.lemmas.Bool.{ltb-true, ltb-false, or_parts}
-use Rattle.std.proofs.lemmas.Slice.Eq.{bytes_eq-Decides}
-use Rattle.base_model.specs.Bytes.{key_of}
-use Rattle.container_meta.specs.declared.entry.Entry.{Entry}
-use Rattle.container_meta.specs.declared.kind.Kind.{Kind}
-use Rattle.container_meta.specs.Format.{kind_byte}
-use Rattle.container_meta.specs.Spelling.{HeaderValue, IsHeader, Follow, has_digest}
-use Rattle.store_model.specs.Slots.{Copy, place_of, copy_in, newer, newest, last_id, free_slots, first_free, with_slot}
+use Rattle.store_model.proofs.Prelude.{◌≡◌, ◌≢◌, ℕ, ◌+◌, ◌<◌, ◌≤◌, Bool, true, false, cond, List, [], ◌∷◌, ◌++◌, Option, Some, None, find, option_map, refl, sym, ◌∙◌, ap, subst, append_assoc, arith, nat_lt, AllByRecursion, bytes_eq, ltb-true, ltb-false, bytes_eq-Decides, key_of, Entry, Kind, kind_byte, HeaderValue, IsHeader, has_digest, Copy, place_of, copy_in, newer, newest, last_id, free_slots, first_free, with_slot}
+use Rattle.std.specs.Prelude.{if◌then◌else◌}
+use Rattle.std.proofs.lemmas.Bool.{or_parts}
+use Rattle.container_meta.specs.Spelling.{Follow}
 use Rattle.store_model.proofs.Copies.{some_same}
 use Rattle.store_model.proofs.CopyIds.{newest_id}
 

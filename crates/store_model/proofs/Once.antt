@@ -1,17 +1,7 @@
 -- An image holds one store at most.
-use Rattle.std.proofs.Common.{◌≡◌, ◌≢◌, inl, inr, ℕ, suc, ◌+◌, ◌-◌, ◌<◌, ◌≤◌, Bool, true, false, IsTrue, List, [], ◌∷◌, length, Option, Some, None, refl, sym, ◌∙◌, ap, subst, arith}
-use Rattle.std.proofs.lemmas.Bool.Decides.{eqb_tells}
+use Rattle.store_model.proofs.Prelude.{◌≡◌, ◌≢◌, inl, inr, ℕ, suc, ◌+◌, ◌-◌, ◌<◌, ◌≤◌, Bool, true, false, IsTrue, List, [], ◌∷◌, length, Option, Some, None, refl, sym, ◌∙◌, ap, subst, arith, eqb_tells, range, byte_at, byte-range, RECORD_GATE, SELECTOR_GATE, slot_at, selector_at, cell_at, half_cells, RecordValue, SelectorValue, HeaderValue, NameMap, names_with, HoldsSelector, IsOlder, KnowsOther, StandFrom, HoldsSlot, HoldSlots, Store, Encodes}
 use Rattle.std.specs.FinMap as finite
-use Rattle.base_model.specs.Bytes.{range, byte_at}
-use Rattle.base_model.proofs.Ranges.{byte-range}
-use Rattle.disk_format.specs.declared.numbers.TheConstants.{RECORD_GATE, SELECTOR_GATE}
-use Rattle.disk_format.specs.Layout.{slot_at, selector_at, cell_at, half_cells}
-use Rattle.disk_format.specs.Cells.{RecordValue, SelectorValue}
-use Rattle.container_meta.specs.Spelling.{HeaderValue}
-use Rattle.namespace.specs.Names.{NameMap, names_with}
-use Rattle.store_model.specs.Journal.{HoldsSelector, IsOlder, KnowsOther, Follow, StandFrom, HoldsRecords}
-use Rattle.store_model.specs.Slots.{HoldsSlot, HoldSlots}
-use Rattle.store_model.specs.Image.{Store, Encodes}
+use Rattle.store_model.specs.Journal.{Follow, HoldsRecords}
 use Rattle.store_model.proofs.Spellings.{same_format, same_selector, gate_of_selector, same_record, gate_of_record, same_header, gate_of_header}
 
 no_truth : IsTrue false → ⊥

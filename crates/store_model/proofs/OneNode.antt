@@ -1,6 +1,5 @@
 -- Bytes are one node at most, so they have one level at most.
-use Rattle.std.proofs.Common.{◌≡◌, ℕ, List, sym, ◌∙◌, ap, arith}
-use Rattle.merkle_file.specs.Node.{Contents, IsNode, spelling}
+use Rattle.store_model.proofs.Prelude.{◌≡◌, ℕ, List, sym, ◌∙◌, ap, arith, Contents, IsNode, spelling}
 use Rattle.merkle_file.specs.Reading.{contents_in, any_node, IsAsked, IsWithin}
 use Rattle.merkle_file.proofs.Nodes.{node_again}
 use Rattle.store_model.specs.Trees.{IsNodeOf}

@@ -1,12 +1,10 @@
 -- The puts of the names that records leave: they follow each other, and leave the same names.
-use Rattle.std.proofs.Common.{◌≡◌, ℕ, ◌^◌, ◌<◌, ◌≤◌, List, [], ◌∷◌, length, refl, subst, arith}
+use Rattle.store_model.proofs.Prelude.{◌≡◌, ℕ, ◌^◌, ◌<◌, ◌≤◌, List, [], ◌∷◌, length, refl, subst, arith, RecordValue, Change, IsName, IsRecord, half_cells, NameMap, HasPlace, names_changed, names_with, names_after, last_of}
 use Rattle.std.specs.FinMap as finite
 use Rattle.std.specs.List.{All}
 use Rattle.std.proofs.lemmas.List.Elements.{All-nil, All-cons, All-head, All-tail}
-use Rattle.disk_format.specs.Cells.{RecordValue, Change, IsName, IsRecord}
 use Rattle.disk_format.specs.Cells.Change.{Put, Delete}
-use Rattle.disk_format.specs.Layout.{half_cells}
-use Rattle.namespace.specs.Names.{NameMap, AreNames, AreTaken, HasPlace, names_changed, names_with, names_after}
+use Rattle.namespace.specs.Names.{AreNames, AreTaken}
 use Rattle.namespace.specs.Numbers.{Rise, AreNumbered, AreInOrder}
 use Rattle.namespace.specs.Numbers.{last_of as last_number}
 use Rattle.namespace.specs.Puts.{puts_of}
@@ -14,7 +12,7 @@ use Rattle.namespace.proofs.Again.{IsOf, IsPutOf, each_put}
 use Rattle.namespace.proofs.Kept.{no_names, with_put, without}
 use Rattle.namespace.proofs.Numbered.{none_numbered, numbered_after}
 use Rattle.namespace.proofs.Puts.{puts_moved, puts_in_order, puts_named, length-puts}
-use Rattle.store_model.specs.Journal.{Follow, last_of}
+use Rattle.store_model.specs.Journal.{Follow}
 use Rattle.store_model.proofs.Roots.{no_roots, roots_after}
 
 -- ---- what records that follow each other leave

@@ -1,15 +1,7 @@
 -- The keys that files need, once a command changed them.
-use Rattle.std.proofs.Common.{◌≡◌, Bool, true, false, cond, List, ℕ, Option, Some, None, sym, ◌∙◌, subst}
-use Rattle.std.specs.Cmp.Lexicographic.{slice_cmp, nat_list_cmp_total}
+use Rattle.store_model.proofs.Prelude.{◌≡◌, Bool, true, false, cond, List, ℕ, Option, Some, None, sym, ◌∙◌, subst, slice_cmp, nat_list_cmp_total, Contains, nat_cmp, eq_by_cmp, Named, Files, Store, names_of, AllKeys, IsReachable, tree_keys, Copy, newest, AreFilesOf, IsFileOf}
 use Rattle.std.specs.FinMap as finite
-use Rattle.std.specs.List.{Contains}
-use Rattle.std.specs.Ordering.{nat_cmp, eq_by_cmp}
-use Rattle.namespace.specs.declared.record.Named.{Named}
-use Rattle.store_model.specs.Files.{Files, with_file, without_file}
-use Rattle.store_model.specs.Image.{Store, names_of}
-use Rattle.store_model.specs.Reserve.{AllKeys, IsReachable, tree_keys}
-use Rattle.store_model.specs.Slots.{Copy, newest}
-use Rattle.store_model.specs.Standing.{AreFilesOf, IsFileOf}
+use Rattle.store_model.specs.Files.{with_file, without_file}
 use Rattle.store_model.specs.Trees.{file_tree}
 use Rattle.store_model.proofs.Counted.{held_keys}
 

@@ -1,8 +1,5 @@
 -- Records, and one more after them.
-use Rattle.std.proofs.Common.{◌≡◌, ℕ, List, [], ◌∷◌, ◌++◌, refl}
-use Rattle.disk_format.specs.Cells.{RecordValue}
-use Rattle.namespace.specs.Names.{NameMap, names_with, names_after}
-use Rattle.store_model.specs.Journal.{last_of}
+use Rattle.store_model.proofs.Prelude.{◌≡◌, ℕ, List, [], ◌∷◌, ◌++◌, refl, RecordValue, NameMap, names_with, names_after, last_of}
 
 -- the last sequence number is that of the new one
 pub last_of_push : (previous : ℕ) (rs : List RecordValue) (r : RecordValue) → last_of previous (rs ++ r ∷ []) ≡ r.sequence

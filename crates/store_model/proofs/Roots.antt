@@ -1,19 +1,9 @@
 -- The roots that the names of a store have, and how long its copies are.
-use Rattle.std.proofs.Common.{◌≡◌, ℕ, ◌+◌, Bool, true, false, cond, List, [], ◌∷◌, length, Option, Some, None, sym, ◌∙◌, subst, arith}
-use Rattle.std.specs.Ordering.{nat_cmp, eq_by_cmp}
-use Rattle.std.specs.Cmp.Lexicographic.{slice_cmp, nat_list_cmp_total}
+use Rattle.store_model.proofs.Prelude.{◌≡◌, ℕ, ◌+◌, Bool, true, false, cond, List, [], ◌∷◌, length, Option, Some, None, sym, ◌∙◌, subst, arith, nat_cmp, eq_by_cmp, slice_cmp, nat_list_cmp_total, data_at, Root, Change, RecordValue, IsRoot, IsChange, Named, NameMap, names_with, names_changed, names_after, Copy, newest, Store, Encodes, IsValidFor, bytes_at, HasRoot}
 use Rattle.std.specs.FinMap as finite
 use Rattle.base_model.proofs.Ranges.{length-range}
-use Rattle.disk_format.specs.Layout.{data_at}
-use Rattle.disk_format.specs.Cells.{Root, Change, RecordValue, IsRoot, IsChange}
 use Rattle.disk_format.specs.Cells.Change.{Put, Delete}
-use Rattle.namespace.specs.declared.record.Named.{Named}
-use Rattle.namespace.specs.Names.{NameMap, names_with, names_changed, names_after}
 use Rattle.store_model.specs.Journal.{Follow}
-use Rattle.store_model.specs.Slots.{Copy, newest}
-use Rattle.store_model.specs.Image.{Store, Encodes, IsValidFor}
-use Rattle.store_model.specs.Trees.{bytes_at}
-use Rattle.store_model.specs.Refusals.{HasRoot}
 use Rattle.store_model.proofs.Copies.{some_same, headers_of_right, copy_within}
 
 -- ---- each root is one that a file may have

@@ -1,23 +1,12 @@
 -- An image is a store of one map of files at most, and the file of a name is that of its root.
-use Rattle.std.proofs.Common.{◌≡◌, ℕ, Bool, true, false, ◌<◌, ◌≤◌, List, [], length, Option, Some, None, refl, sym, ◌∙◌, ap, subst}
-use Rattle.std.specs.Prelude.{◌&&◌, nat_le}
+use Rattle.store_model.proofs.Prelude.{◌≡◌, ℕ, Bool, true, false, ◌<◌, ◌≤◌, List, [], length, Option, Some, None, refl, sym, ◌∙◌, ap, subst, nat_le, nat_list_cmp_total, leb-true, sha256, MOST_FILE, Root, IsRoot, HeaderValue, Named, ByCount, Empty, of_segment, tree_of, Files, Store, Encodes, names_of, last_sequence, HasRoot, IsFileOf, IsStoreOf, StandsFor, root_of, HoldsTree}
+use Rattle.std.specs.Prelude.{◌&&◌}
 use Rattle.std.specs.FinMap as finite
-use Rattle.std.specs.Cmp.Lexicographic.{nat_list_cmp_total}
-use Rattle.std.proofs.lemmas.Bool.{leb-true}
-use Rattle.sha2.specs.Sha256.{sha256}
-use Rattle.disk_format.specs.declared.numbers.TheConstants.{LEAST_SEGMENT, MOST_FILE}
-use Rattle.disk_format.specs.Cells.{Root, IsRoot}
-use Rattle.container_meta.specs.Spelling.{HeaderValue}
-use Rattle.namespace.specs.declared.record.Named.{Named}
-use Rattle.merkle_file.specs.Form.{ByCount}
+use Rattle.disk_format.specs.declared.numbers.TheConstants.{LEAST_SEGMENT}
 use Rattle.merkle_file.specs.Tree as tree
-use Rattle.merkle_file.specs.Tree.{Tree, Empty, Leaf, of_segment, tree_of}
+use Rattle.merkle_file.specs.Tree.{Tree, Leaf}
 use Rattle.segmenter.proofs.SegmentLemmas.{segments_of-none}
-use Rattle.store_model.specs.Files.{Files}
-use Rattle.store_model.specs.Image.{Store, Encodes, names_of, last_sequence}
-use Rattle.store_model.specs.Refusals.{HasRoot}
-use Rattle.store_model.specs.Standing.{IsFileOf, IsStoreOf, StandsFor}
-use Rattle.store_model.specs.Trees.{root_of, file_tree, HoldsTree}
+use Rattle.store_model.specs.Trees.{file_tree}
 use Rattle.store_model.proofs.Once.{store_once}
 use Rattle.store_model.proofs.Roots.{root_of_name}
 use Rattle.store_model.proofs.Sound.{sound_of_right}

@@ -1,11 +1,5 @@
 -- Stores of one index have the same copies of the keys that it has.
-use Rattle.std.proofs.Common.{◌≡◌, ℕ, List, Some, sym, ◌∙◌, ap}
-use Rattle.container_meta.specs.declared.place.Place.{Place}
-use Rattle.container_meta.specs.Places.{PlaceMap}
-use Rattle.store_model.specs.Image.{Store}
-use Rattle.store_model.specs.Slots.{Copy, HasKey, IsPartialIndexOf}
-use Rattle.store_model.specs.Steps.{KeepsCopies}
-use Rattle.store_model.specs.Trees.{bytes_at}
+use Rattle.store_model.proofs.Prelude.{◌≡◌, ℕ, List, Some, sym, ◌∙◌, ap, Place, PlaceMap, Store, Copy, HasKey, IsPartialIndexOf, KeepsCopies, bytes_at}
 use Rattle.store_model.proofs.Lookups.{finds}
 
 one_copy : (a b : Copy) → Some a ≡ Some b → a ≡ b

@@ -1,35 +1,14 @@
 -- What an image stands for once a container was sealed in its first closed slot. A segment of it whose key was held
 -- already becomes the newest copy of that key: it is the same segment.
-use Rattle.std.proofs.Common.{◌<◌, ◌≡◌, ◌≢◌, ℕ, ◌+◌, ◌≤◌, true, List, [], ◌∷◌, length, Option, Some, None, find, refl, sym, ◌∙◌, ap, subst, arith}
+use Rattle.store_model.proofs.Prelude.{◌<◌, ◌≡◌, ◌≢◌, ℕ, ◌+◌, ◌≤◌, true, List, [], ◌∷◌, length, Option, Some, None, find, refl, sym, ◌∙◌, ap, subst, arith, AllByRecursion, Contains, eqb-true, Contains-append_left, Contains-append_right, bytes_eq-Decides, sha256, key_of, SameOutside, SLOT_BYTES, slot_at, data_at, Entry, Kind, kind_byte, is_level, Segment, segment_key, entries_from, HeaderValue, header_of, spelling, Trees, contents_of, Named, IsAmong, AreAmong, Stands, Files, AreHeaders, Copy, newest, last_id, free_slots, first_free, Store, Encodes, AreCopies, names_of, entry_bytes, IsOfKind, AreNodes, IsFileOf, with_sealed, CanHold, IsReachable, tree_keys, keys_below, bytes_at, leaf_key, node_key, HasNewest, HoldsTree, HoldsTrees}
 use Rattle.std.specs.FinMap as finite
-use Rattle.std.specs.List.{AllByRecursion, Contains}
-use Rattle.std.proofs.lemmas.Bool.{eqb-true}
-use Rattle.std.proofs.lemmas.List.Elements.{Contains-append_left, Contains-append_right}
-use Rattle.std.proofs.lemmas.Slice.Eq.{bytes_eq-Decides}
-use Rattle.sha2.specs.Sha256.{sha256}
-use Rattle.base_model.specs.Bytes.{key_of}
-use Rattle.base_model.specs.Frames.{SameOutside}
-use Rattle.disk_format.specs.declared.numbers.TheConstants.{SLOT_BYTES}
-use Rattle.disk_format.specs.Layout.{slot_at, data_at}
-use Rattle.container_meta.specs.declared.entry.Entry.{Entry}
-use Rattle.container_meta.specs.declared.kind.Kind.{Kind}
 use Rattle.container_meta.specs.declared.kind.Kind.TheVariants.{Leaf, Tree}
-use Rattle.container_meta.specs.Format.{kind_byte, is_level}
-use Rattle.container_meta.specs.Segments.{Segment, segment_key, entries_from}
-use Rattle.container_meta.specs.Spelling.{HeaderValue, header_of}
-use Rattle.merkle_file.specs.Node.{spelling}
 use Rattle.merkle_file.specs.Tree as tree
-use Rattle.merkle_file.specs.Tree.{Tree as TreeOf, Trees}
-use Rattle.merkle_file.specs.Walk.{contents_of}
-use Rattle.namespace.specs.declared.record.Named.{Named}
-use Rattle.store_model.specs.Collisions.{HasNoCollisions, IsAmong, AreAmong, Stands}
-use Rattle.store_model.specs.Files.{Files}
-use Rattle.store_model.specs.Slots.{HoldsContainer, StandAt, AreHeaders, Copy, newest, last_id, free_slots, first_free}
-use Rattle.store_model.specs.Image.{Store, Encodes, AreCopies, names_of}
-use Rattle.store_model.specs.Standing.{entry_bytes, IsOfKind, AreNodes, IsFileOf}
-use Rattle.store_model.specs.Steps.{with_sealed, CanHold, MaySeal, FitsHeld}
-use Rattle.store_model.specs.Reserve.{IsReachable, tree_keys, keys_below}
-use Rattle.store_model.specs.Trees.{bytes_at, file_tree, leaf_key, node_key, HasNewest, HoldsTree, HoldsTrees}
+use Rattle.merkle_file.specs.Tree.{Tree as TreeOf}
+use Rattle.store_model.specs.Collisions.{HasNoCollisions}
+use Rattle.store_model.specs.Slots.{HoldsContainer, StandAt}
+use Rattle.store_model.specs.Steps.{MaySeal, FitsHeld}
+use Rattle.store_model.specs.Trees.{file_tree}
 use Rattle.store_model.proofs.Copies.{some_same, headers_of_right, copy_digest}
 use Rattle.store_model.proofs.Filled.{length-with_slot, different_with}
 use Rattle.store_model.proofs.FramedTrees.{before_slots, encodes_on, stands_on}

@@ -1,10 +1,6 @@
 -- What is so of a store that an image of some size holds.
-use Rattle.std.proofs.Common.{◌≡◌, ℕ, ◌-◌, ◌^◌, ◌≤◌, Bool, true, false, List, [], ◌∷◌, Option, Some, None, length, sym, ◌∙◌, arith}
-use Rattle.std.specs.Prelude.{◌&&◌, nat_le}
-use Rattle.std.proofs.lemmas.Bool.{leb-true}
-use Rattle.container_meta.specs.Spelling.{HeaderValue, IsHeader}
-use Rattle.store_model.specs.Slots.{AreHeaders, last_id}
-use Rattle.store_model.specs.Image.{Store, Encodes, IsValidFor}
+use Rattle.store_model.proofs.Prelude.{◌≡◌, ℕ, ◌-◌, ◌^◌, ◌≤◌, Bool, true, false, List, [], ◌∷◌, Option, Some, None, length, sym, ◌∙◌, arith, nat_le, leb-true, HeaderValue, IsHeader, AreHeaders, last_id, Store, Encodes, IsValidFor}
+use Rattle.std.specs.Prelude.{◌&&◌}
 use Rattle.store_model.proofs.Copies.{headers_of_right}
 
 -- a store that an image of this size holds is one that such an image may hold

@@ -1,22 +1,18 @@
 -- No two values have one spelling.
-use Rattle.std.proofs.Common.{◌≡◌, ℕ, ◌-◌, ◌*◌, ◌^◌, ◌<◌, ◌≤◌, true, List, [], ◌∷◌, ◌++◌, length, take, drop, get_or, Some, refl, sym, ◌∙◌, ap, subst, arith, append_assoc, length-append}
-use Rattle.std.specs.Prelude.{nat_le}
+use Rattle.store_model.proofs.Prelude.{◌≡◌, ℕ, ◌-◌, ◌^◌, ◌<◌, ◌≤◌, true, List, [], ◌∷◌, ◌++◌, length, take, get_or, Some, refl, sym, ◌∙◌, ap, subst, arith, append_assoc, length-append, nat_le, leb-true, sha256, byte_at, SELECTOR_GATE, RECORD_GATE, CONTAINER_GATE, MOST_FILE, selector_cell, Root, Change, RecordValue, IsRecord, IsChange, SelectorValue, Entry, Kind, kind_byte, HeaderValue, IsHeader}
+use Rattle.std.proofs.Common.{◌*◌, drop}
 use Rattle.std.specs.Int.{w16, w32, w64, to_be_bytes, from_be_bytes}
-use Rattle.std.proofs.lemmas.Bool.{leb-true}
 use Rattle.std.proofs.lemmas.List.Concat.{flat_map-cons}
 use Rattle.std.proofs.lemmas.Nat.{from_be_bytes-to_be_bytes_2, from_be_bytes-to_be_bytes_4, from_be_bytes-to_be_bytes_8}
-use Rattle.sha2.specs.Sha256.{sha256}
 use Rattle.sha2.proofs.Facts256.{length-sha256}
-use Rattle.base_model.specs.Bytes.{zeros, byte_at}
+use Rattle.base_model.specs.Bytes.{zeros}
 use Rattle.base_model.proofs.Checks.{both}
 use Rattle.base_model.proofs.Ranges.{length-zeros}
-use Rattle.disk_format.specs.declared.numbers.TheConstants.{FORMAT_GATE, SELECTOR_GATE, RECORD_GATE, CONTAINER_GATE, MOST_FILE}
-use Rattle.disk_format.specs.Cells.{sealed, format_fields, format_cell, selector_fields, selector_cell, Root, Change, RecordValue, IsRecord, IsChange, operation_of, root_in, record_front, record_fields, record_cell, SelectorValue, IsSelector}
+use Rattle.disk_format.specs.declared.numbers.TheConstants.{FORMAT_GATE}
+use Rattle.disk_format.specs.Cells.{sealed, format_fields, format_cell, selector_fields, operation_of, root_in, record_front, record_fields, record_cell, IsSelector}
 use Rattle.disk_format.specs.Cells.Change.{Put, Delete}
-use Rattle.container_meta.specs.declared.entry.Entry.{Entry}
-use Rattle.container_meta.specs.declared.kind.Kind.{Kind}
-use Rattle.container_meta.specs.Format.{is_id, is_count, is_data_length, kind_byte, kind_of}
-use Rattle.container_meta.specs.Spelling.{HeaderValue, IsHeader, Follow, IsNext, entry_spelling, entries_spelling, fields_spelling, front_spelling, header_spelling}
+use Rattle.container_meta.specs.Format.{is_id, is_count, is_data_length, kind_of}
+use Rattle.container_meta.specs.Spelling.{Follow, IsNext, entry_spelling, entries_spelling, fields_spelling, front_spelling, header_spelling}
 use Rattle.store_model.proofs.Copies.{length_within}
 
 -- ---- lists and numbers

@@ -1,12 +1,6 @@
 -- Something holds of each key of a tree.
-use Rattle.std.proofs.Common.{◌≡◌, ◌⊎◌, inl, inr, ◌<◌, ℕ, zero, suc, List, [], ◌∷◌, length, arith, subst}
-use Rattle.std.specs.Prelude.{slice_index_or}
-use Rattle.std.specs.List.{AllByRecursion, Contains}
-use Rattle.std.proofs.lemmas.List.Elements.{Contains-append_cases}
-use Rattle.merkle_file.specs.Tree.{Tree, Trees, Empty, Leaf, Node, NoTree, Then, leaves, leaves_below, nodes_of, nodes_below, of_segment}
-use Rattle.merkle_file.specs.Walk.{contents_of}
-use Rattle.store_model.specs.Reserve.{AllKeys, keys_below, tree_keys}
-use Rattle.store_model.specs.Trees.{leaf_key, node_key}
+use Rattle.store_model.proofs.Prelude.{◌≡◌, ◌⊎◌, inl, inr, ◌<◌, ℕ, zero, suc, List, [], ◌∷◌, length, arith, subst, slice_index_or, AllByRecursion, Contains, Contains-append_cases, Trees, Empty, Node, NoTree, Then, leaves, leaves_below, nodes_of, nodes_below, of_segment, contents_of, AllKeys, keys_below, tree_keys, leaf_key, node_key}
+use Rattle.merkle_file.specs.Tree.{Tree, Leaf}
 use Rattle.store_model.proofs.HeldTrees.{all_first, all_second}
 
 pub either_part : {A B C : Type 0} → (A → C) → (B → C) → A ⊎ B → C

@@ -1,25 +1,18 @@
 -- An image stands for one map of files at most: a tree is told by its level, its digest, and what is held of it.
-use Rattle.std.proofs.Common.{◌≡◌, ℕ, ◌≤◌, List, [], ◌∷◌, length, Option, refl, sym, ◌∙◌, ap, subst, arith}
+use Rattle.store_model.proofs.Prelude.{◌≡◌, ℕ, ◌≤◌, List, [], ◌∷◌, length, Option, refl, sym, ◌∙◌, ap, subst, arith, AllByRecursion, sum_by-cons, sum_by-append, key_of, MOST_FILE, Root, HeaderValue, ByCount, Contents, IsNode, spelling, Trees, Empty, Node, NoTree, Then, leaves, leaves_below, of_segment, tree_of, contents_of, Copy, newest, root_of, bytes_at, HasNewest, HoldsTree, HoldsTrees}
 use Rattle.std.specs.Prelude.{sum_by}
-use Rattle.std.specs.List.{concat, AllByRecursion}
-use Rattle.std.proofs.lemmas.List.Sums.{sum_by-cons, sum_by-append}
-use Rattle.base_model.specs.Bytes.{key_of}
-use Rattle.disk_format.specs.declared.numbers.TheConstants.{MOST_FILE}
-use Rattle.disk_format.specs.Cells.{Root}
-use Rattle.container_meta.specs.Spelling.{HeaderValue}
+use Rattle.std.specs.List.{concat}
 use Rattle.merkle_file.specs.declared.node.Child.{Child}
 use Rattle.merkle_file.specs.declared.top.Top.{Top}
-use Rattle.merkle_file.specs.Form.{ByCount}
-use Rattle.merkle_file.specs.Node.{Contents, IsNode, spelling, node_digest, total}
+use Rattle.merkle_file.specs.Node.{node_digest, total}
 use Rattle.merkle_file.specs.Tree as tree
-use Rattle.merkle_file.specs.Tree.{Tree, Trees, Empty, Leaf, Node, NoTree, Then, leaves, leaves_below, child_of, children_of, level_of, of_segment, tree_of}
-use Rattle.merkle_file.specs.Walk.{IsTree, AreBelow, contents_of, trees_in}
+use Rattle.merkle_file.specs.Tree.{Tree, Leaf, child_of, children_of, level_of}
+use Rattle.merkle_file.specs.Walk.{IsTree, AreBelow, trees_in}
 use Rattle.merkle_file.proofs.TreeLaws.{leaves_are_segments}
 use Rattle.merkle_file.proofs.RightTrees.{trees_are_right}
 use Rattle.segmenter.specs.Segments.{segments_of}
 use Rattle.segmenter.proofs.SegmentLemmas.{segments_of-laws}
-use Rattle.store_model.specs.Slots.{Copy, newest}
-use Rattle.store_model.specs.Trees.{root_of, file_tree, bytes_at, HasNewest, HoldsTree, HoldsTrees}
+use Rattle.store_model.specs.Trees.{file_tree}
 use Rattle.store_model.proofs.Copies.{some_same}
 use Rattle.merkle_file.proofs.RootLaws.{spellings_tell_nodes}
 use Rattle.segmenter.proofs.LengthLemmas.{have_right_lengths, lengths_add_up, are_few}

@@ -1,18 +1,9 @@
 -- What is so of a store still, once a container was sealed or a record was added.
-use Rattle.std.proofs.Common.{◌≡◌, ℕ, suc, ◌<◌, ◌≤◌, List, [], ◌∷◌, ◌++◌, length, refl, sym, ◌∙◌, subst, arith, length-append}
+use Rattle.store_model.proofs.Prelude.{◌≡◌, ℕ, suc, ◌<◌, ◌≤◌, List, [], ◌∷◌, ◌++◌, length, refl, sym, ◌∙◌, subst, arith, length-append, Root, Change, RecordValue, IsChange, IsRecord, IsRoot, Kind, Segment, HeaderValue, header_of, NameMap, HasPlace, names_with, names_after, Files, last_of, last_id, free_slots, first_free, Store, IsValidFor, names_of, HasRoot, IsStoreOf, CanHold, with_sealed, record_of, with_cell, with_change}
 use Rattle.std.specs.FinMap as finite
-use Rattle.disk_format.specs.Cells.{Root, Change, RecordValue, IsChange, IsRecord, IsRoot}
-use Rattle.container_meta.specs.declared.kind.Kind.{Kind}
-use Rattle.container_meta.specs.Segments.{Segment}
-use Rattle.container_meta.specs.Spelling.{HeaderValue, header_of}
-use Rattle.namespace.specs.Names.{NameMap, HasPlace, IsTaken, names_with, names_after}
-use Rattle.store_model.specs.Files.{Files}
-use Rattle.store_model.specs.Journal.{Follow, last_of}
-use Rattle.store_model.specs.Slots.{last_id, free_slots, first_free}
-use Rattle.store_model.specs.Image.{Store, IsValidFor, names_of}
-use Rattle.store_model.specs.Refusals.{HasRoot}
-use Rattle.store_model.specs.Standing.{IsStoreOf}
-use Rattle.store_model.specs.Steps.{CanHold, with_sealed, CanChangeName, record_of, with_cell, with_change}
+use Rattle.namespace.specs.Names.{IsTaken}
+use Rattle.store_model.specs.Journal.{Follow}
+use Rattle.store_model.specs.Steps.{CanChangeName}
 use Rattle.store_model.proofs.Filled.{length-with_slot, free_less, headers_with, last_new, different_with}
 use Rattle.store_model.proofs.Cells.{names_with_cell, last_with_cell, room_with_cell, valid_with_cell}
 use Rattle.store_model.proofs.NameChanges.{record_right, record_rises}

@@ -1,4 +1,4 @@
-use Rattle.std.proofs.Common.{◌∙◌, arith}
+use Rattle.container_meta.proofs.Prelude.{◌∙◌, arith}
 use Rattle.container_meta.proofs.Found.{is_found}
 use Rattle.container_meta.proofs.Digests.{digest_read}
 use Rattle.container_meta.proofs.Again.{header_again}

@@ -1,8 +1,6 @@
-use Rattle.std.proofs.Common.{◌≡◌, ℕ, ◌+◌, ◌-◌, List, [], ◌∷◌, ◌++◌, length, ap, ◌∙◌, sym, subst, Ok, Err, length-append, arith}
+use Rattle.container_meta.proofs.Prelude.{◌≡◌, ℕ, ◌+◌, ◌-◌, List, [], ◌∷◌, ◌++◌, length, ap, ◌∙◌, sym, subst, Ok, Err, length-append, arith, Entry, bytes_of, next_read}
 use Rattle.std.proofs.lemmas.Result.{err_from_is_err_and}
-use Rattle.container_meta.specs.declared.entry.Entry.{Entry}
-use Rattle.container_meta.specs.Spelling.{bytes_of}
-use Rattle.container_meta.specs.Reading.{next_read, entries_at}
+use Rattle.container_meta.specs.Reading.{entries_at}
 use Rattle.container_meta.proofs.Entries.{goes_on, ends, all_read}
 use Rattle.container_meta.proofs.Spelled.{bytes_of-push}
 use Rattle.container_meta.proofs.reading.read_entries.Goals as goal

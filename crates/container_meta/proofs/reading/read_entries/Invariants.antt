@@ -1,5 +1,5 @@
-use Rattle.std.proofs.Common.{◌≡◌, ◌-◌, ◌≤◌, [], length, vec_capacity}
-use Rattle.container_meta.specs.Spelling.{bytes_of}
+use Rattle.container_meta.proofs.Prelude.{◌≡◌, ◌-◌, ◌≤◌, [], length, bytes_of}
+use Rattle.std.proofs.Common.{vec_capacity}
 use Rattle.container_meta.specs.Reading.{entries_at}
 use Rattle.container_meta.proofs.reading.read_entries.Given as goal
 

@@ -1,4 +1,4 @@
-use Rattle.std.proofs.Common.{arith}
+use Rattle.container_meta.proofs.Prelude.{arith}
 use Rattle.container_meta.proofs.Lists.{zeros_in_front-le}
 use Rattle.container_meta.proofs.reading.zeros_end.Goals as goal
 

@@ -1,5 +1,4 @@
-use Rattle.std.proofs.Common.{◌≡◌, ◌+◌, drop}
-use Rattle.container_meta.specs.Reading.{zeros_in_front}
+use Rattle.container_meta.proofs.Prelude.{◌≡◌, ◌+◌, drop, zeros_in_front}
 use Rattle.container_meta.proofs.reading.zeros_in_front.Given as goal
 
 abbrev pub invariant-loop-i : goal.invariant-loop-i

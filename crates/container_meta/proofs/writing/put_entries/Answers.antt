@@ -1,6 +1,5 @@
-use Rattle.std.proofs.Common.{◌≡◌, ◌+◌, ◌*◌, List, [], ◌∷◌, ◌++◌, take, get_or, ap, ◌∙◌, sym, arith}
+use Rattle.container_meta.proofs.Prelude.{◌≡◌, ◌+◌, ◌*◌, List, [], ◌∷◌, ◌++◌, take, get_or, ap, ◌∙◌, sym, arith, Entry}
 use Rattle.std.proofs.lemmas.List.{take_more}
-use Rattle.container_meta.specs.declared.entry.Entry.{Entry}
 use Rattle.container_meta.specs.Spelling.{entries_spelling, entry_spelling}
 use Rattle.container_meta.proofs.Lists.{written_to}
 use Rattle.container_meta.proofs.Spelled.{entries_spelling-nil, entries_spelling-push}

@@ -1,4 +1,4 @@
-use Rattle.std.proofs.Common.{◌≡◌, ◌*◌, take}
+use Rattle.container_meta.proofs.Prelude.{◌≡◌, ◌*◌, take}
 use Rattle.container_meta.specs.Spelling.{entries_spelling}
 use Rattle.container_meta.proofs.writing.put_entries.Given as goal
 

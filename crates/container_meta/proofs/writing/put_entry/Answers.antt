@@ -1,5 +1,4 @@
-use Rattle.std.proofs.Common.{ℕ, ◌+◌, List, [], ◌∷◌, take, refl, arith}
-use Rattle.std.specs.Int.{w32, to_be_bytes}
+use Rattle.container_meta.proofs.Prelude.{ℕ, ◌+◌, List, [], ◌∷◌, take, refl, arith, w32, to_be_bytes}
 use Rattle.base_model.specs.Bytes.{zeros}
 use Rattle.container_meta.proofs.Lists.{written_to, part_written}
 use Rattle.container_meta.proofs.Spelled.{entry_written}

@@ -1,7 +1,4 @@
-use Rattle.std.proofs.Common.{◌≡◌, ℕ, [], ◌∷◌, refl, ap}
-use Rattle.std.specs.Int.{w16, w32, w64, to_be_bytes}
-use Rattle.disk_format.specs.declared.numbers.TheConstants.{CONTAINER_GATE}
-use Rattle.container_meta.specs.Format.{magic, kind_byte}
+use Rattle.container_meta.proofs.Prelude.{◌≡◌, ℕ, [], ◌∷◌, refl, ap, w16, w32, w64, to_be_bytes, CONTAINER_GATE, magic, kind_byte}
 use Rattle.container_meta.proofs.Lists.{part_written}
 use Rattle.container_meta.proofs.Spelled.{fields_written}
 use Rattle.container_meta.proofs.writing.put_fields.Goals as goal

@@ -1,4 +1,4 @@
-use Rattle.std.proofs.Common.{ℕ, List, refl, arith}
+use Rattle.container_meta.proofs.Prelude.{ℕ, List, refl, arith}
 use Rattle.base_model.specs.Bytes.{zeros}
 use Rattle.container_meta.specs.Spelling.{fields_spelling}
 use Rattle.container_meta.proofs.Lists.{written_to, part_written, whole_written}

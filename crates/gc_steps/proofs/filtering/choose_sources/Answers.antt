@@ -1,7 +1,4 @@
-use Rattle.std.proofs.Common.{arith}
-use Rattle.gc_steps.specs.declared.collection.Stage.TheVariants.{Select}
-use Rattle.gc_sweep.specs.UnderWay.{is_old}
-use Rattle.gc_sweep.proofs.OnDisk.{columns, few_slots}
+use Rattle.gc_steps.proofs.Prelude.{arith, Select, is_old, columns, few_slots}
 use Rattle.gc_steps.proofs.Chosen.{all_left, chooses, few_chosen, filter_fewer, first_left, once}
 use Rattle.gc_steps.proofs.UnderWay.{at_stage, chosen}
 use Rattle.gc_steps.proofs.filtering.choose_sources.Goals as goal

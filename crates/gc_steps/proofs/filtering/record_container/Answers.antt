@@ -1,11 +1,5 @@
-use Rattle.std.proofs.Common.{List, ap, subst, arith, ◌∙◌}
-use Rattle.container_meta.specs.Spelling.{view}
-use Rattle.container_meta.specs.declared.entry.Entry.{Entry}
-use Rattle.dd_disk.proofs.Shows.{until}
-use Rattle.copy_forward.specs.Entries.{SumsLive}
+use Rattle.gc_steps.proofs.Prelude.{List, ap, subst, arith, ◌∙◌, view, Entry, until, SumsLive, columns, few_slots, slot_fits, Filter}
 use Rattle.gc_steps.proofs.Recorded.{recorded_as}
-use Rattle.gc_sweep.proofs.OnDisk.{columns, few_slots, slot_fits}
-use Rattle.gc_steps.specs.declared.collection.Stage.TheVariants.{Filter}
 use Rattle.gc_steps.proofs.UnderWay.{at_stage, recorded_on}
 use Rattle.gc_steps.proofs.filtering.record_container.Goals as goal
 

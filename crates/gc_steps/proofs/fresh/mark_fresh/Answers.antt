@@ -1,5 +1,4 @@
-use Rattle.std.proofs.Common.{List, ℕ, subst}
-use Rattle.gc_steps.specs.Fresh.{Unmarks}
+use Rattle.gc_steps.proofs.Prelude.{List, ℕ, subst, Unmarks}
 use Rattle.gc_steps.proofs.FreshMarks.{unmarked_again}
 use Rattle.gc_steps.proofs.fresh.mark_fresh.Goals as goal
 

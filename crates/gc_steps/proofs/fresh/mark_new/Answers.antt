@@ -1,6 +1,4 @@
-use Rattle.std.proofs.Common.{refl, sym, subst}
-use Rattle.gc_enumerate.specs.Live.{LiveKeys}
-use Rattle.gc_steps.specs.Fresh.{HasMarked}
+use Rattle.gc_steps.proofs.Prelude.{refl, sym, subst, LiveKeys, HasMarked}
 use Rattle.gc_steps.proofs.FreshMarks.{marked_some, marked_turn, marked_whole, none_marked, some_turn}
 use Rattle.gc_steps.proofs.fresh.mark_new.Goals as goal
 

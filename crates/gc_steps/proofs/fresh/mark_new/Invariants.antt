@@ -1,4 +1,4 @@
-use Rattle.std.proofs.Common.{take}
+use Rattle.gc_steps.proofs.Prelude.{take}
 use Rattle.gc_steps.proofs.FreshMarks.{AreMarked}
 use Rattle.gc_steps.proofs.fresh.mark_new.Given as goal
 

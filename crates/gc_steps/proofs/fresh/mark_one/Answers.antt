@@ -1,4 +1,4 @@
-use Rattle.std.proofs.Common.{◌≡◌, inl, inr, true, false, sym, ◌∙◌, refl}
+use Rattle.gc_steps.proofs.Prelude.{◌≡◌, inl, inr, true, false, sym, ◌∙◌, refl}
 use Rattle.gc_steps.proofs.FreshMarks.{AddsFresh, TellsFresh, live_any, marked_already, on_err, on_ok}
 use Rattle.gc_steps.proofs.fresh.mark_one.Goals as goal
 

@@ -1,4 +1,4 @@
-use Rattle.std.proofs.Common.{refl}
+use Rattle.gc_steps.proofs.Prelude.{refl}
 use Rattle.gc_enumerate.specs.Live.{SharesMark}
 use Rattle.gc_steps.proofs.FreshMarks.{none_unmarked, unmarked_turn, unmarked_whole}
 use Rattle.gc_steps.proofs.fresh.unmark_keys.Goals as goal

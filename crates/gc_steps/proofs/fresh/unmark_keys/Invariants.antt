@@ -1,5 +1,4 @@
-use Rattle.std.proofs.Common.{take}
-use Rattle.gc_steps.specs.Fresh.{Unmarks}
+use Rattle.gc_steps.proofs.Prelude.{take, Unmarks}
 use Rattle.gc_steps.proofs.fresh.unmark_keys.Given as goal
 
 abbrev pub invariant-loop-key : goal.invariant-loop-key

@@ -1,11 +1,5 @@
-use Rattle.std.proofs.Common.{inr, Err, ap, arith}
-use Rattle.container_meta.specs.Spelling.{view}
-use Rattle.dd_disk.proofs.Shows.{until}
-use Rattle.gc_steps.specs.declared.collection.Collection.{Collection}
-use Rattle.gc_steps.specs.declared.collection.Stage.{Stage}
-use Rattle.gc_sweep.proofs.OnDisk.{columns, few_slots, slot_fits}
+use Rattle.gc_steps.proofs.Prelude.{inr, Err, ap, arith, view, until, Collection, Stage, columns, few_slots, slot_fits, Mark}
 use Rattle.gc_steps.proofs.Scans.{entries_since, some_since, fault_since, keeps_marks}
-use Rattle.gc_steps.specs.declared.collection.Stage.TheVariants.{Mark}
 use Rattle.gc_steps.proofs.UnderWay.{at_stage, marked}
 use Rattle.gc_steps.proofs.marking.mark_container.Goals as goal
 

@@ -1,5 +1,5 @@
 use Rattle.std.proofs.Common.{rules}
-use Rattle.container_meta.specs.Spelling.{view}
+use Rattle.gc_steps.proofs.Prelude.{view}
 use Rattle.gc_steps.proofs.Scans.{some_at, marks_at}
 use Rattle.gc_steps.proofs.marking.scan_lent.Goals as goal
 

@@ -1,5 +1,4 @@
-use Rattle.std.proofs.Common.{[]}
-use Rattle.gc_steps.specs.Roots.{keys_of_pin}
+use Rattle.gc_steps.proofs.Prelude.{[], keys_of_pin}
 use Rattle.gc_steps.proofs.RootKeys.{added}
 use Rattle.gc_steps.proofs.roots.add_pins.Goals as goal
 

@@ -1,6 +1,4 @@
-use Rattle.std.proofs.Common.{◌≡◌, ◌++◌, take}
-use Rattle.std.specs.List.{flat_map}
-use Rattle.gc_steps.specs.Roots.{keys_of_pin}
+use Rattle.gc_steps.proofs.Prelude.{◌≡◌, ◌++◌, take, flat_map, keys_of_pin}
 use Rattle.gc_steps.proofs.roots.add_pins.Given as goal
 
 abbrev pub invariant-loop-key : goal.invariant-loop-key

@@ -1,6 +1,4 @@
-use Rattle.std.proofs.Common.{◌∙◌, ◌++◌, ap}
-use Rattle.std.specs.List.{flat_map}
-use Rattle.gc_steps.specs.Roots.{keys_of_listed}
+use Rattle.gc_steps.proofs.Prelude.{◌∙◌, ◌++◌, ap, flat_map, keys_of_listed}
 use Rattle.gc_steps.proofs.RootKeys.{first_none, first_turn}
 use Rattle.gc_steps.proofs.roots.all_roots.Goals as goal
 

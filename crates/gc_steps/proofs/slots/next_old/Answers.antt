@@ -1,5 +1,4 @@
-use Rattle.std.proofs.Common.{sym, ◌∙◌, arith}
-use Rattle.gc_steps.specs.Stages.{is_old_slot}
+use Rattle.gc_steps.proofs.Prelude.{sym, ◌∙◌, arith, is_old_slot}
 use Rattle.gc_steps.proofs.Scanned.{first_hit, first_miss, first_end}
 use Rattle.gc_steps.proofs.slots.next_old.Goals as goal
 

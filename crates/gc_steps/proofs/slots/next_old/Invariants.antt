@@ -1,5 +1,4 @@
-use Rattle.std.proofs.Common.{◌≡◌}
-use Rattle.gc_steps.specs.Stages.{first_slot, is_old_slot}
+use Rattle.gc_steps.proofs.Prelude.{◌≡◌, first_slot, is_old_slot}
 use Rattle.gc_steps.proofs.slots.next_old.Given as goal
 
 -- none of the slots before is such a one

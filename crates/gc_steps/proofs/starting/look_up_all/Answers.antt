@@ -1,11 +1,7 @@
-use Rattle.std.proofs.Common.{◌≡◌, ◌∙◌, [], get_or, None, Option, subst}
-use Rattle.std.proofs.lemmas.List.{take_all}
+use Rattle.gc_steps.proofs.Prelude.{◌≡◌, ◌∙◌, [], None, Option, subst, take_all, PlaceMap, Done, RootKey, AreFound, IsFound, IsStartRefusal, IsUnfound}
+use Rattle.std.proofs.Common.{get_or}
 use Rattle.base_model.proofs.Outcome.{passed_on}
-use Rattle.container_meta.specs.Places.{PlaceMap}
-use Rattle.dd_disk.specs.Ending.{Done}
 use Rattle.dd_disk.proofs.Ended.{reads_on}
-use Rattle.gc_steps.specs.declared.roots.RootKey.{RootKey}
-use Rattle.gc_steps.specs.Starting.{AreFound, IsFound, IsStartRefusal, IsUnfound}
 use Rattle.gc_steps.proofs.RootKeys.{found_more, stuck_at}
 use Rattle.gc_steps.proofs.starting.look_up_all.Goals as goal
 

@@ -1,6 +1,5 @@
-use Rattle.std.proofs.Common.{◌≡◌, None, take}
-use Rattle.dd_disk.specs.Ending.{Done, Reads}
-use Rattle.gc_steps.specs.Starting.{AreFound}
+use Rattle.gc_steps.proofs.Prelude.{◌≡◌, None, take, Done, AreFound}
+use Rattle.dd_disk.specs.Ending.{Reads}
 use Rattle.gc_steps.proofs.starting.look_up_all.Given as goal
 
 -- those before this one were found, and calls only read

@@ -1,4 +1,4 @@
-use Rattle.std.proofs.Common.{[]}
+use Rattle.gc_steps.proofs.Prelude.{[]}
 use Rattle.gc_steps.proofs.RootKeys.{roots_turn}
 use Rattle.gc_steps.proofs.starting.mark_roots.Goals as goal
 

@@ -1,6 +1,5 @@
-use Rattle.std.proofs.Common.{map, take}
+use Rattle.gc_steps.proofs.Prelude.{map, take, Marks, key_at}
 use Rattle.std.specs.List.{Contains}
-use Rattle.gc_steps.specs.Roots.{Marks, key_at}
 use Rattle.gc_steps.proofs.starting.mark_roots.Given as goal
 
 abbrev pub invariant-loop-root : goal.invariant-loop-root

@@ -1,9 +1,5 @@
-use Rattle.std.proofs.Common.{◌∙◌, ℕ, List, arith, subst}
-use Rattle.gc_sweep.proofs.OnDisk.{columns, few_slots}
-use Rattle.gc_steps.specs.declared.collection.Collection.{Collection}
+use Rattle.gc_steps.proofs.Prelude.{◌∙◌, ℕ, List, arith, subst, columns, few_slots, Collection, Begins, AreFound}
 use Rattle.gc_steps.proofs.Nearer.{begun}
-use Rattle.gc_sweep.specs.Beginning.{Begins}
-use Rattle.gc_steps.specs.Starting.{AreFound}
 use Rattle.gc_steps.proofs.RootKeys.{roots_live}
 use Rattle.gc_steps.proofs.UnderWay.{started}
 use Rattle.gc_steps.proofs.starting.start.Goals as goal

@@ -1,9 +1,6 @@
-use Rattle.std.proofs.Common.{refl}
+use Rattle.gc_steps.proofs.Prelude.{refl, Done, ending_of, blames, GoesBy}
 use Rattle.std.proofs.lemmas.Result.{err_from_is_err_and}
-use Rattle.dd_disk.specs.Ending.{Done, ending_of}
 use Rattle.dd_disk.proofs.Moves.{passed}
-use Rattle.store_state.specs.Refused.{blames}
-use Rattle.gc_steps.specs.Stepping.{GoesBy}
 use Rattle.gc_steps.proofs.SweepSteps.{copy_goes, copy_made, copy_refused}
 use Rattle.gc_steps.proofs.sweeping.copy_next.Goals as goal
 

@@ -1,4 +1,4 @@
-use Rattle.std.proofs.Common.{None, arith, refl}
+use Rattle.gc_steps.proofs.Prelude.{None, arith, refl}
 use Rattle.gc_steps.specs.declared.collection.Stage.TheVariants.{Sweep}
 use Rattle.gc_steps.proofs.SweepSteps.{flush_made, swept}
 use Rattle.gc_steps.proofs.UnderWay.{at_stage, runs_alone, swept_on}

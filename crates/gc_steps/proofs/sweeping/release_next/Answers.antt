@@ -1,5 +1,4 @@
-use Rattle.std.proofs.Common.{None, arith, refl}
-use Rattle.gc_sweep.specs.InTurn.{slot_in_turn}
+use Rattle.gc_steps.proofs.Prelude.{None, arith, refl, slot_in_turn}
 use Rattle.gc_sweep.proofs.Freed.{slot_within}
 use Rattle.gc_steps.specs.declared.collection.Stage.TheVariants.{Sweep}
 use Rattle.gc_steps.proofs.MapKept.{map_kept}

@@ -1,7 +1,4 @@
-use Rattle.std.proofs.Common.{ℕ, List, ap, refl, subst}
-use Rattle.container_meta.specs.Segments.{Contents}
-use Rattle.gc_sweep.specs.declared.sweep.Sweep.{Sweep}
-use Rattle.gc_sweep.specs.Next.{IsNext}
+use Rattle.gc_sweep.proofs.Prelude.{ℕ, List, ap, refl, subst, Contents, Sweep, IsNext}
 use Rattle.gc_sweep.proofs.Begun.{begun_on}
 use Rattle.gc_sweep.proofs.beginning.begin.Goals as goal
 

@@ -1,11 +1,6 @@
-use Rattle.std.proofs.Common.{sym, ◌∙◌, arith}
-use Rattle.std.proofs.lemmas.Grind.{get_or_default_zero}
+use Rattle.gc_sweep.proofs.Prelude.{sym, ◌∙◌, arith, get_or_default_zero, passed, slot_at, blames, IsCopyStepRefusal}
 use Rattle.base_model.proofs.Outcome.{passed_on}
-use Rattle.dd_disk.proofs.Moves.{passed}
-use Rattle.disk_format.specs.Layout.{slot_at}
 use Rattle.segment_index.specs.Changes.{Changes}
-use Rattle.store_state.specs.Refused.{blames}
-use Rattle.gc_sweep.specs.Copying.{IsCopyStepRefusal}
 use Rattle.gc_sweep.proofs.CopyKeeps.{copies_on, here}
 use Rattle.gc_sweep.proofs.Copied.{copied_fits, is_source, step_refused}
 use Rattle.gc_sweep.proofs.OnDisk.{columns, few_slots, slot_fits}

@@ -1,7 +1,6 @@
-use Rattle.std.proofs.Common.{◌+◌}
+use Rattle.gc_sweep.proofs.Prelude.{◌+◌, spared}
 use Rattle.dd_disk.proofs.Later.{reads_here}
 use Rattle.ingest_steps.proofs.AfterReads.{indexed_refused_by}
-use Rattle.gc_sweep.specs.Flushing.{spared}
 use Rattle.gc_sweep.proofs.Written.{flushed_on, writes_copies}
 use Rattle.gc_sweep.proofs.flushing.flush_copies.Goals as goal
 

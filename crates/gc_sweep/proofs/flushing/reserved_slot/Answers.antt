@@ -1,5 +1,5 @@
-use Rattle.std.proofs.Common.{◌<◌, rules}
-use Rattle.disk_format.specs.declared.numbers.TheConstants.{LAST_ID}
+use Rattle.gc_sweep.proofs.Prelude.{◌<◌, LAST_ID}
+use Rattle.std.proofs.Common.{rules}
 use Rattle.gc_sweep.proofs.OnDisk.{few_slots}
 use Rattle.gc_sweep.proofs.Written.{has_slot}
 use Rattle.gc_sweep.proofs.flushing.reserved_slot.Goals as goal

@@ -1,7 +1,5 @@
-use Rattle.dd_disk.specs.Ending.{Done, ending_of}
-use Rattle.dd_disk.proofs.Moves.{passed}
-use Rattle.store_state.specs.Refused.{blames}
-use Rattle.gc_sweep.specs.Releasing.{GivesBack}
+use Rattle.gc_sweep.proofs.Prelude.{Done, passed, blames, GivesBack}
+use Rattle.dd_disk.specs.Ending.{ending_of}
 use Rattle.gc_sweep.proofs.OnDisk.{slot_fits}
 use Rattle.gc_sweep.proofs.Released.{gives_back}
 use Rattle.gc_sweep.proofs.giving_back.give_back.Goals as goal

@@ -1,8 +1,5 @@
-use Rattle.std.proofs.Common.{◌≢◌, ◌<◌, ℕ, length, get_or, subst, sym, arith}
+use Rattle.gc_sweep.proofs.Prelude.{◌≢◌, ◌<◌, ℕ, length, get_or, subst, sym, arith, passed, blames, GivesBack, HasFreed}
 use Rattle.dd_disk.specs.Ending.{ending}
-use Rattle.dd_disk.proofs.Moves.{passed}
-use Rattle.store_state.specs.Refused.{blames}
-use Rattle.gc_sweep.specs.Releasing.{GivesBack, HasFreed}
 use Rattle.gc_sweep.proofs.Freed.{counts_now, freed_on, left, many_now, slot_within, there_is, turn_is}
 use Rattle.gc_sweep.proofs.releasing.release_source.Goals as goal
 

@@ -1,4 +1,4 @@
-use Rattle.std.proofs.Common.{◌≡◌, ◌+◌, ◌≤◌, ◌++◌, length}
+use Rattle.ingest_session.proofs.Prelude.{◌≡◌, ◌+◌, ◌≤◌, ◌++◌, length}
 use Rattle.ingest_session.specs.declared.line.TheConstants.{MOST_LINE}
 use Rattle.ingest_session.proofs.line.line_up.Given as goal
 

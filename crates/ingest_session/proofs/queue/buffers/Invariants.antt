@@ -1,5 +1,5 @@
-use Rattle.std.proofs.Common.{◌≡◌, ◌≤◌, length, vec_capacity}
-use Rattle.std.specs.List.{AllByRecursion}
+use Rattle.ingest_session.proofs.Prelude.{◌≡◌, ◌≤◌, length, AllByRecursion}
+use Rattle.std.proofs.Common.{vec_capacity}
 use Rattle.ingest_session.specs.declared.queue.TheConstants.{BUFFERS}
 use Rattle.ingest_session.specs.Buffers.{IsBuffer}
 use Rattle.ingest_session.proofs.queue.buffers.Given as goal

@@ -1,8 +1,5 @@
-use Rattle.std.proofs.Common.{◌≡◌, ◌∙◌, ap, sym}
+use Rattle.ingest_steps.proofs.Prelude.{◌≡◌, ◌∙◌, ap, sym, Writing, with_part, PinMap}
 use Rattle.std.specs.FinMap as finite
-use Rattle.actor_parts.specs.declared.part.Part.TheVariants.{Writing}
-use Rattle.actor_parts.specs.Parts.{with_part}
-use Rattle.actor_parts.specs.PinMap.{PinMap}
 use Rattle.ingest_steps.proofs.HeldPins.{on_err, same_pins, set_after, taken_back}
 use Rattle.ingest_steps.proofs.claiming.add_pin.Goals as goal
 

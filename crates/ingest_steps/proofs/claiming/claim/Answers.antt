@@ -1,11 +1,5 @@
-use Rattle.std.proofs.Common.{◌≡◌, ℕ, None, subst}
-use Rattle.disk_format.specs.declared.why.Why.{Why}
-use Rattle.refusals.specs.declared.refusal.Refusal.{Refusal}
-use Rattle.base_model.proofs.Outcome.{passed_on}
-use Rattle.dd_disk.specs.Shows.{Shows}
-use Rattle.actor_parts.specs.declared.part.Part.{Part}
-use Rattle.actor_parts.specs.Parts.{part_of}
-use Rattle.ingest_steps.specs.Claiming.{MayClaim, MayNotClaim, IsClaimRefusal, DiffersFrom}
+use Rattle.ingest_steps.proofs.Prelude.{◌≡◌, ℕ, None, subst, Why, Refusal, passed_on, Shows, Part, part_of, MayClaim, MayNotClaim, IsClaimRefusal}
+use Rattle.ingest_steps.specs.Claiming.{DiffersFrom}
 use Rattle.ingest_steps.proofs.HeldPins.{of_part, pin_held, is_claimed, keeps_claimed}
 use Rattle.ingest_steps.proofs.claiming.claim.Goals as goal
 

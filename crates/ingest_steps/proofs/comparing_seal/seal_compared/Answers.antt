@@ -1,11 +1,5 @@
-use Rattle.std.proofs.Common.{◌+◌, ℕ, List, None}
-use Rattle.base_model.proofs.Outcome.{map_err, passed_on}
-use Rattle.dd_disk.specs.Ending.{ending}
-use Rattle.dd_disk.specs.Shows.{Shows}
-use Rattle.refusals.specs.declared.refusal.Refusal.{Refusal}
-use Rattle.store_state.specs.Indexing.{IsChangeRefusal}
+use Rattle.ingest_steps.proofs.Prelude.{◌+◌, ℕ, List, None, map_err, passed_on, ending, Shows, Refusal, IsChangeRefusal, IsCompared, IsSealRefusal, HasPlacesOf, WasCompared}
 use Rattle.store_state.specs.Refused.{blames}
-use Rattle.ingest_steps.specs.Sealing.{IsCompared, IsSealRefusal, HasPlacesOf, WasCompared}
 use Rattle.ingest_steps.proofs.AfterReads.{compared_and_sealed, was_compared, map_on_ok, has_places_before, change_refused, first_refused, map_kept, steps_after, seals_after, seals_refused_by}
 use Rattle.ingest_steps.proofs.Sealed.{slot_in}
 use Rattle.ingest_steps.proofs.comparing_seal.seal_compared.Goals as goal

@@ -1,12 +1,6 @@
-use Rattle.std.proofs.Common.{◌∙◌, ap, subst}
-use Rattle.disk_format.specs.Cells.{RecordValue}
-use Rattle.namespace.specs.Names.{change_value, record_value}
-use Rattle.dd_disk.specs.Ending.{Done, ending_of}
-use Rattle.dd_disk.specs.Writes.{Writes}
-use Rattle.dd_disk.proofs.Moves.{passed}
-use Rattle.ingest_steps.specs.Recording.{Records, IsRecorded}
+use Rattle.ingest_steps.proofs.Prelude.{◌∙◌, ap, subst, RecordValue, record_value, Done, ending_of, Writes, passed, Records, IsRecorded, ChangesName, HasNumbers, tables_with}
+use Rattle.namespace.specs.Names.{change_value}
 use Rattle.store_state.specs.Refused.{blames}
-use Rattle.ingest_steps.specs.Naming.{ChangesName, HasNumbers, tables_with}
 use Rattle.ingest_steps.proofs.Named.{record_is, is_changed, changes_name, unwritten_name}
 use Rattle.ingest_steps.proofs.RecordFrames.{changes_journal, journal_here, unwritten_journal, same_but_record}
 use Rattle.ingest_steps.proofs.naming.change_name.Goals as goal

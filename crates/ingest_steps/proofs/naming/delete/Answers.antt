@@ -1,4 +1,4 @@
-use Rattle.disk_format.specs.Cells.Change.{Delete}
+use Rattle.ingest_steps.proofs.Prelude.{Delete}
 use Rattle.ingest_steps.proofs.RecordFrames.{journal_here}
 use Rattle.ingest_steps.proofs.naming.delete.Goals as goal
 

@@ -1,9 +1,5 @@
-use Rattle.std.proofs.Common.{subst}
-use Rattle.dd_disk.specs.Ending.{ending_of}
-use Rattle.dd_disk.specs.Writes.{Writes}
-use Rattle.namespace.specs.Names.{record_value}
+use Rattle.ingest_steps.proofs.Prelude.{subst, ending_of, Writes, record_value, Records, IsRecorded}
 use Rattle.journal_cells.specs.Faults.{blames}
-use Rattle.ingest_steps.specs.Recording.{Records, IsRecorded}
 use Rattle.ingest_steps.proofs.naming.write_delete.Goals as goal
 
 pub returns-in-Err-clause-writes : goal.returns-in-Err-clause-writes

@@ -1,8 +1,5 @@
-use Rattle.std.proofs.Common.{◌≤◌, List, [], length, get_or, refl, ap, ◌∙◌, arith}
-use Rattle.container_meta.specs.declared.entry.Entry.{Entry}
-use Rattle.container_meta.specs.Spelling.{header_of}
+use Rattle.ingest_steps.proofs.Prelude.{◌≤◌, List, [], length, get_or, refl, ap, ◌∙◌, arith, Entry, header_of, entries_within}
 use Rattle.container_meta.proofs.Cut.{cut}
-use Rattle.store_model.proofs.IndexSize.{entries_within}
 use Rattle.ingest_steps.proofs.PinList.{length_at}
 use Rattle.ingest_steps.proofs.SealedTables.{length-of_entries}
 use Rattle.ingest_steps.proofs.pinning.entry_at.Goals as goal

@@ -1,5 +1,5 @@
-use Rattle.std.proofs.Common.{◌≡◌, drop}
-use Rattle.ingest_steps.specs.Pinning.{first_unpinned_of}
+use Rattle.ingest_steps.proofs.Prelude.{◌≡◌, first_unpinned_of}
+use Rattle.std.proofs.Common.{drop}
 use Rattle.ingest_steps.proofs.pinning.first_unpinned.Given as goal
 
 abbrev pub invariant-loop-i : goal.invariant-loop-i

@@ -1,4 +1,4 @@
-use Rattle.std.proofs.Common.{◌∙◌, sym}
+use Rattle.ingest_steps.proofs.Prelude.{◌∙◌, sym}
 use Rattle.ingest_steps.proofs.pinning.may_keep.Goals as goal
 
 pub returns-in-None-clause-may : goal.returns-in-None-clause-may

@@ -1,12 +1,5 @@
-use Rattle.std.proofs.Common.{◌≡◌, ◌+◌, ◌<◌, ℕ, List, Option, length, take, ap, sym, subst, ◌∙◌, arith}
-use Rattle.std.specs.Prelude.{IfSome}
+use Rattle.ingest_steps.proofs.Prelude.{◌≡◌, ◌+◌, ◌<◌, ℕ, List, Option, length, take, ap, sym, subst, ◌∙◌, arith, IfSome, AllByRecursion, segment_at, segment_key, Pin, PinMap, IsPin, pin_by, WereHad, with_pins}
 use Rattle.std.specs.FinMap as finite
-use Rattle.std.specs.List.{AllByRecursion}
-use Rattle.container_meta.specs.Segments.{segment_at, segment_key}
-use Rattle.actor_parts.specs.declared.pins.Pin.{Pin}
-use Rattle.actor_parts.specs.PinMap.{PinMap, IsPin}
-use Rattle.actor_parts.specs.Segments.{pin_by}
-use Rattle.ingest_steps.specs.Pinning.{WereHad, with_pins}
 use Rattle.ingest_steps.proofs.PinList.{pins_next, had_push, all_push, length-push}
 use Rattle.ingest_steps.proofs.pinning.pin_all.Goals as goal
 

@@ -1,8 +1,5 @@
-use Rattle.std.proofs.Common.{◌≡◌, ◌≤◌, length, take}
-use Rattle.std.specs.Prelude.{IfSome, vec_capacity}
-use Rattle.std.specs.List.{AllByRecursion}
-use Rattle.actor_parts.specs.PinMap.{IsPin}
-use Rattle.ingest_steps.specs.Pinning.{WereHad, with_pins}
+use Rattle.ingest_steps.proofs.Prelude.{◌≡◌, ◌≤◌, length, take, IfSome, AllByRecursion, IsPin, WereHad, with_pins}
+use Rattle.std.specs.Prelude.{vec_capacity}
 use Rattle.ingest_steps.proofs.pinning.pin_all.Given as goal
 
 abbrev pub invariant-loop-i : goal.invariant-loop-i

@@ -1,8 +1,4 @@
-use Rattle.std.proofs.Common.{ℕ, List, ap, sym, subst, ◌∙◌}
-use Rattle.container_meta.specs.declared.kind.Kind.{Kind}
-use Rattle.container_meta.specs.Segments.{segment_at}
-use Rattle.actor_parts.specs.PinMap.{IsPin}
-use Rattle.actor_parts.specs.Segments.{pin_by}
+use Rattle.ingest_steps.proofs.Prelude.{ℕ, List, ap, sym, subst, ◌∙◌, Kind, segment_at, IsPin, pin_by}
 use Rattle.ingest_steps.proofs.PinList.{right_at}
 use Rattle.ingest_steps.proofs.pinning.pin_at.Goals as goal
 

@@ -1,10 +1,5 @@
-use Rattle.std.proofs.Common.{◌≡◌, ◌+◌, ◌-◌, ℕ, List, None, Option, length, take, get_or, ap, ◌∙◌, arith}
+use Rattle.ingest_steps.proofs.Prelude.{◌≡◌, ◌+◌, ◌-◌, ℕ, List, None, Option, length, take, get_or, ap, ◌∙◌, arith, segment_at, segment_key, Pin, PinMap, pin_by, had_again, with_pins}
 use Rattle.std.specs.FinMap as finite
-use Rattle.container_meta.specs.Segments.{segment_at, segment_key}
-use Rattle.actor_parts.specs.declared.pins.Pin.{Pin}
-use Rattle.actor_parts.specs.PinMap.{PinMap}
-use Rattle.actor_parts.specs.Segments.{pin_by}
-use Rattle.ingest_steps.specs.Pinning.{had_again, with_pins}
 use Rattle.ingest_steps.proofs.PinList.{pins_next, there_after, pin_back}
 use Rattle.ingest_steps.proofs.pinning.unpin.Goals as goal
 

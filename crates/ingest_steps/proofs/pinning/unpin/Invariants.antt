@@ -1,6 +1,4 @@
-use Rattle.std.proofs.Common.{◌≡◌, ◌-◌, length, take}
-use Rattle.actor_parts.specs.PinMap.{PinMap}
-use Rattle.ingest_steps.specs.Pinning.{WereHad, with_pins}
+use Rattle.ingest_steps.proofs.Prelude.{◌≡◌, ◌-◌, length, take, PinMap, WereHad, with_pins}
 use Rattle.ingest_steps.proofs.pinning.unpin.Given as goal
 
 abbrev pub invariant-loop-back : goal.invariant-loop-back

@@ -1,13 +1,5 @@
-use Rattle.std.proofs.Common.{◌<◌, false, sym, subst}
-use Rattle.disk_format.specs.Layout.{half_cells}
-use Rattle.dd_disk.specs.Ending.{Done, Broken, ending_of}
-use Rattle.dd_disk.specs.Writes.{Writes}
-use Rattle.dd_disk.proofs.Moves.{passed}
-use Rattle.namespace.specs.Names.{record_value}
-use Rattle.journal_cells.specs.Appending.{Appends, IsAppended}
-use Rattle.journal_cells.specs.Checkpoints.{Checkpoints, IsCheckpointed}
+use Rattle.ingest_steps.proofs.Prelude.{◌<◌, false, sym, subst, half_cells, Done, Broken, ending_of, Writes, passed, record_value, Appends, IsAppended, Checkpoints, IsCheckpointed, RecordsBy, IsRecordedBy}
 use Rattle.journal_cells.specs.Faults.{blames as call_blamed}
-use Rattle.ingest_steps.specs.Recording.{RecordsBy, IsRecordedBy}
 use Rattle.ingest_steps.proofs.Recorded.{both_written, checkpoint_broke}
 use Rattle.ingest_steps.proofs.recording.write_both.Goals as goal
 

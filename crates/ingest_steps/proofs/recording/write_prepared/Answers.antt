@@ -1,5 +1,4 @@
-use Rattle.std.proofs.Common.{true, subst}
-use Rattle.namespace.specs.Names.{record_value}
+use Rattle.ingest_steps.proofs.Prelude.{true, subst, record_value}
 use Rattle.ingest_steps.specs.Recording.{IsCellFor}
 use Rattle.ingest_steps.proofs.Recorded.{cell_of_count, records_by}
 use Rattle.ingest_steps.proofs.recording.write_prepared.Goals as goal

@@ -1,8 +1,4 @@
-use Rattle.std.proofs.Common.{◌≡◌, ap, sym, ◌∙◌}
-use Rattle.actor_parts.specs.declared.part.Part.TheVariants.{Writing}
-use Rattle.actor_parts.specs.Parts.{part_of, with_part}
-use Rattle.actor_parts.specs.PinMap.{PinMap}
-use Rattle.ingest_steps.specs.Pinning.{with_pins}
+use Rattle.ingest_steps.proofs.Prelude.{◌≡◌, ap, sym, ◌∙◌, Writing, part_of, with_part, PinMap, with_pins}
 use Rattle.ingest_steps.proofs.AfterReads.{map_on_ok}
 use Rattle.ingest_steps.proofs.HeldPins.{same_pins, set_after, taken_back}
 use Rattle.ingest_steps.proofs.StepRefusals.{map_on_err}

@@ -1,18 +1,5 @@
-use Rattle.std.proofs.Common.{◌≡◌, ◌+◌, List, ap, sym, subst, ◌∙◌}
-use Rattle.base_model.proofs.Outcome.{passed_on}
-use Rattle.dd_disk.specs.Shows.{Shows}
-use Rattle.dd_disk.proofs.Later.{reads_here}
-use Rattle.dd_disk.proofs.Moves.{passed}
-use Rattle.actor_parts.specs.declared.part.Part.{Part}
-use Rattle.actor_parts.specs.declared.part.Part.TheVariants.{Writing}
-use Rattle.actor_parts.specs.Parts.{part_of, with_part}
-use Rattle.actor_parts.proofs.Apart.{apart}
-use Rattle.refusals.specs.declared.refusal.Refusal.{Refusal}
+use Rattle.ingest_steps.proofs.Prelude.{◌≡◌, ◌+◌, List, ap, sym, subst, ◌∙◌, passed_on, Shows, reads_here, passed, Part, Writing, part_of, with_part, apart, Refusal, Steps, MayKeep, IsUnkept, WereHad, with_pins, IsCompared, IsStepRefusal}
 use Rattle.store_state.specs.Refused.{blames}
-use Rattle.store_state.specs.Settled.{Steps}
-use Rattle.ingest_steps.specs.Pinning.{MayKeep, IsUnkept, WereHad, with_pins}
-use Rattle.ingest_steps.specs.Sealing.{IsCompared}
-use Rattle.ingest_steps.specs.SealStep.{IsStepRefusal}
 use Rattle.ingest_steps.proofs.AfterReads.{seals_refused_by}
 use Rattle.ingest_steps.proofs.SealedPins.{keeps_sealed}
 use Rattle.ingest_steps.proofs.StepRefusals.{of_unkept, of_slot, of_seal, slot_blames, steps_here}

@@ -1,8 +1,4 @@
-use Rattle.std.proofs.Common.{ap, sym, ◌∙◌}
-use Rattle.actor_parts.specs.declared.part.Part.TheVariants.{Writing}
-use Rattle.actor_parts.specs.Parts.{with_part}
-use Rattle.actor_parts.specs.PinMap.{PinMap}
-use Rattle.ingest_steps.specs.Pinning.{with_pins}
+use Rattle.ingest_steps.proofs.Prelude.{ap, sym, ◌∙◌, Writing, with_part, PinMap, with_pins}
 use Rattle.ingest_steps.proofs.HeldPins.{same_pins, set_after}
 use Rattle.ingest_steps.proofs.PinList.{pins_whole}
 use Rattle.ingest_steps.proofs.seal_step.unpin_for.Goals as goal

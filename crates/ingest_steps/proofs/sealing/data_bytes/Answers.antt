@@ -1,6 +1,4 @@
-use Rattle.std.proofs.Common.{[], length, refl, ap, arith}
-use Rattle.container_meta.specs.declared.entry.Entry.{Entry}
-use Rattle.container_meta.specs.Spelling.{header_of}
+use Rattle.ingest_steps.proofs.Prelude.{[], length, refl, ap, arith, Entry, header_of}
 use Rattle.ingest_steps.proofs.SealedTables.{last_of, length-of_entries, few_bytes}
 use Rattle.ingest_steps.proofs.sealing.data_bytes.Goals as goal
 

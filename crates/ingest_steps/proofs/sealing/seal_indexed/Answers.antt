@@ -1,12 +1,5 @@
-use Rattle.std.proofs.Common.{ℕ, ◌+◌, None, ap, refl, sym, subst, ◌∙◌}
-use Rattle.dd_disk.specs.Ending.{Done, ending_of}
-use Rattle.dd_disk.proofs.Moves.{passed}
+use Rattle.ingest_steps.proofs.Prelude.{ℕ, ◌+◌, None, ap, refl, sym, subst, ◌∙◌, Done, ending_of, passed, Steps, Runs, SealsContainer, SealsIndexed, slot_at, SameBefore}
 use Rattle.store_state.specs.Refused.{blames}
-use Rattle.store_state.specs.Settled.{Steps}
-use Rattle.store_state.specs.Tables.{Runs}
-use Rattle.ingest_steps.specs.Sealing.{SealsContainer, SealsIndexed}
-use Rattle.disk_format.specs.Layout.{slot_at}
-use Rattle.segment_index.specs.Changes.{SameBefore}
 use Rattle.ingest_steps.proofs.SealedTables.{place_on_disk, slots_on_disk, steps_refused, steps_on, seals_refused, seals_on, steps_broken, map_on, no_content}
 use Rattle.ingest_steps.proofs.sealing.seal_indexed.Goals as goal
 

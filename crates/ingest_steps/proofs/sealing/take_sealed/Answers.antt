@@ -1,6 +1,4 @@
-use Rattle.std.proofs.Common.{refl, sym, ◌∙◌, arith}
-use Rattle.container_meta.specs.Spelling.{header_of}
-use Rattle.store_model.proofs.IndexSize.{entries_within}
+use Rattle.ingest_steps.proofs.Prelude.{refl, sym, ◌∙◌, arith, header_of, entries_within}
 use Rattle.ingest_steps.proofs.SealedTables.{length-of_entries, slot_in_table, counts_many, same_count, has_sealed}
 use Rattle.ingest_steps.proofs.sealing.take_sealed.Goals as goal
 

@@ -1,9 +1,4 @@
-use Rattle.std.proofs.Common.{subst}
-use Rattle.base_model.proofs.Outcome.{passed_on}
-use Rattle.disk_format.specs.Cells.Change.{Put}
-use Rattle.actor_parts.specs.declared.part.Part.{Part}
-use Rattle.actor_parts.specs.Parts.{part_of}
-use Rattle.ingest_steps.specs.Writers.{IsCommitRefusal}
+use Rattle.ingest_steps.proofs.Prelude.{subst, passed_on, Put, Part, part_of, IsCommitRefusal}
 use Rattle.ingest_steps.proofs.Committed.{uncommitted_refused}
 use Rattle.ingest_steps.proofs.RecordFrames.{journal_here}
 use Rattle.ingest_steps.proofs.writers.commit.Goals as goal

@@ -1,6 +1,5 @@
-use Rattle.std.proofs.Common.{sym, subst}
-use Rattle.base_model.proofs.Outcome.{both_ok, map_err}
-use Rattle.ingest_steps.specs.Writers.{IsUncommitted}
+use Rattle.ingest_steps.proofs.Prelude.{sym, subst, map_err, IsUncommitted}
+use Rattle.base_model.proofs.Outcome.{both_ok}
 use Rattle.ingest_steps.proofs.writers.may_commit.Goals as goal
 
 pub returns-in_ok-may_name-in-Writing-clause-may : goal.returns-in_ok-may_name-in-Writing-clause-may

@@ -1,6 +1,4 @@
-use Rattle.std.proofs.Common.{◌≡◌, ◌*◌, ◌++◌, length, map, drop}
-use Rattle.namespace.specs.Names.{record_value}
-use Rattle.journal_cells.specs.Checkpoints.{cells_of}
+use Rattle.journal_cells.proofs.Prelude.{◌≡◌, ◌*◌, ◌++◌, length, map, drop, record_value, cells_of}
 use Rattle.journal_cells.proofs.checkpoint.cells_of.Given as goal
 
 -- the cells so far and those of the records that are left are all

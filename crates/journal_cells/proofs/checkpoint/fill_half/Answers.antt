@@ -1,4 +1,4 @@
-use Rattle.dd_disk.proofs.Writes.{never_refused}
+use Rattle.journal_cells.proofs.Prelude.{never_refused}
 use Rattle.journal_cells.proofs.Filling.{fills_half}
 use Rattle.journal_cells.proofs.checkpoint.fill_half.Goals as goal
 

@@ -1,9 +1,5 @@
-use Rattle.std.proofs.Common.{◌≤◌, ◌*◌, length, map, ap, refl, sym, subst, ◌∙◌, arith}
+use Rattle.journal_cells.proofs.Prelude.{◌≤◌, ◌*◌, length, map, ap, refl, sym, subst, ◌∙◌, arith, record_value, MOST_NAME, last_of, cells_of}
 use Rattle.std.specs.List.{All}
-use Rattle.namespace.specs.Names.{record_value}
-use Rattle.disk_format.specs.declared.numbers.TheConstants.{MOST_NAME}
-use Rattle.store_model.specs.Journal.{last_of}
-use Rattle.journal_cells.specs.Checkpoints.{cells_of}
 use Rattle.journal_cells.proofs.Prepared.{short, few, half_of}
 use Rattle.journal_cells.proofs.checkpoint.fresh_half.Goals as goal
 

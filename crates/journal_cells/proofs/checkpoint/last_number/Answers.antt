@@ -1,4 +1,4 @@
-use Rattle.std.proofs.Common.{ap, sym, ◌∙◌}
+use Rattle.journal_cells.proofs.Prelude.{ap, sym, ◌∙◌}
 use Rattle.std.specs.Option.{option_copied}
 use Rattle.journal_cells.proofs.Prepared.{last_one}
 use Rattle.journal_cells.proofs.checkpoint.last_number.Goals as goal

@@ -1,5 +1,4 @@
-use Rattle.std.proofs.Common.{◌≡◌, true, false, refl, rules}
-use Rattle.dd_disk.proofs.Writes.{never_refused}
+use Rattle.journal_cells.proofs.Prelude.{◌≡◌, true, false, refl, rules, never_refused}
 use Rattle.journal_cells.proofs.Filling.{replaces_closed, opened_replaces, replaces_opened}
 use Rattle.journal_cells.proofs.checkpoint.replace_half.Goals as goal
 

@@ -1,4 +1,4 @@
-use Rattle.std.proofs.Common.{◌≡◌, length, rules}
+use Rattle.journal_cells.proofs.Prelude.{◌≡◌, length, rules}
 use Rattle.journal_cells.proofs.Filling.{none_written}
 use Rattle.journal_cells.proofs.checkpoint.write_some.Goals as goal
 

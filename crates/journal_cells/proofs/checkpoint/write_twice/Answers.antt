@@ -1,4 +1,4 @@
-use Rattle.std.proofs.Common.{length}
+use Rattle.journal_cells.proofs.Prelude.{length}
 use Rattle.journal_cells.proofs.Filling.{leaves_over}
 use Rattle.journal_cells.proofs.checkpoint.write_twice.Goals as goal
 

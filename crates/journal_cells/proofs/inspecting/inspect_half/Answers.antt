@@ -1,11 +1,6 @@
-use Rattle.std.proofs.Common.{◌∙◌, sym, refl}
-use Rattle.base_model.proofs.Outcome.{passed_on, map_err}
-use Rattle.dd_disk.proofs.Shows.{always}
-use Rattle.disk_format.specs.Layout.{half_cells}
-use Rattle.inspection.specs.Found.{nothing}
-use Rattle.inspection.proofs.Steps.{finds_as, finds_on, finds_shown, reports_nothing, stops_as, stops_on}
+use Rattle.journal_cells.proofs.Prelude.{◌∙◌, sym, refl, passed_on, map_err, always, half_cells, nothing, finds_as, finds_on, finds_shown, reports_nothing, stops_on, nothing_yet}
+use Rattle.inspection.proofs.Steps.{stops_as}
 use Rattle.journal_cells.specs.Inspecting.{half_found, past_found, records_found}
-use Rattle.journal_cells.specs.Records.{nothing_yet}
 use Rattle.journal_cells.proofs.Inspected.{ok_map, half_opened, half_shut}
 use Rattle.journal_cells.proofs.inspecting.inspect_half.Goals as goal
 

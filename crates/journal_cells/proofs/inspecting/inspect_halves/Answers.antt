@@ -1,8 +1,6 @@
-use Rattle.std.proofs.Common.{Bool, subst}
-use Rattle.base_model.proofs.Outcome.{passed_on, map_err}
-use Rattle.inspection.specs.Found.{nothing}
-use Rattle.inspection.specs.Handing.{Finds, StopsAmong}
-use Rattle.inspection.proofs.Steps.{finds_first, finds_on, stops_first, stops_on}
+use Rattle.journal_cells.proofs.Prelude.{Bool, subst, passed_on, map_err, nothing, StopsAmong, finds_on, stops_on}
+use Rattle.inspection.specs.Handing.{Finds}
+use Rattle.inspection.proofs.Steps.{finds_first, stops_first}
 use Rattle.journal_cells.specs.Heads.{selectors_in}
 use Rattle.journal_cells.specs.Inspecting.{half_found, says_half}
 use Rattle.journal_cells.proofs.Inspected.{ok_map}

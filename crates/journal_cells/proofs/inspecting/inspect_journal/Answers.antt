@@ -1,8 +1,5 @@
-use Rattle.base_model.proofs.Outcome.{passed_on, map_err}
-use Rattle.dd_disk.proofs.Shows.{weaker}
-use Rattle.inspection.specs.Found.{nothing}
-use Rattle.inspection.proofs.Steps.{finds_on, finds_shown, stops_on, stops_shown, stops_unread}
-use Rattle.journal_cells.specs.Inspecting.{selectors_found, halves_found, journal_found}
+use Rattle.journal_cells.proofs.Prelude.{passed_on, map_err, weaker, nothing, finds_on, finds_shown, stops_on, stops_shown, stops_unread, halves_found}
+use Rattle.journal_cells.specs.Inspecting.{selectors_found, journal_found}
 use Rattle.journal_cells.proofs.Inspected.{ok_map, journal_of_cells}
 use Rattle.journal_cells.proofs.inspecting.inspect_journal.Goals as goal
 

@@ -1,10 +1,5 @@
-use Rattle.std.proofs.Common.{◌∙◌, ap}
-use Rattle.base_model.proofs.Outcome.{passed_on}
-use Rattle.inspection.specs.Found.{nothing, cell_with}
-use Rattle.inspection.proofs.Steps.{finds_shown, reports_nothing, stops_shown, stops_unread}
+use Rattle.journal_cells.proofs.Prelude.{◌∙◌, ap, passed_on, nothing, cell_with, finds_shown, reports_nothing, stops_shown, stops_unread, Replay, replay}
 use Rattle.journal_cells.specs.Inspecting.{records_found, past_found}
-use Rattle.journal_cells.specs.Records.{Replay}
-use Rattle.journal_cells.specs.Scanning.{replay}
 use Rattle.journal_cells.proofs.Inspected.{after_count, shows_open, shows_closed, stops_by_memory}
 use Rattle.journal_cells.proofs.inspecting.inspect_next.Goals as goal
 

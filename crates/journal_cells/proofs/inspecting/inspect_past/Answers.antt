@@ -1,10 +1,4 @@
-use Rattle.inspection.specs.Found.{nothing, cell_with}
-use Rattle.inspection.proofs.Steps.{finds_shown, reports_nothing, stops_shown, stops_unread}
-use Rattle.std.proofs.Common.{sym, subst, Option, ◌≡◌}
-use Rattle.base_model.proofs.Outcome.{map_err}
-use Rattle.dd_disk.specs.Shows.{Shows}
-use Rattle.inspection.specs.Found.{and_then}
-use Rattle.inspection.specs.declared.damage.Damage.{Damage}
+use Rattle.journal_cells.proofs.Prelude.{nothing, cell_with, finds_shown, reports_nothing, stops_shown, stops_unread, sym, subst, Option, ◌≡◌, map_err, Shows, and_then, Damage}
 use Rattle.journal_cells.specs.Inspecting.{past_found}
 use Rattle.journal_cells.proofs.Inspected.{ok_map, past_uncounted, past_closed, past_open, reads_past, reads_taken}
 use Rattle.journal_cells.proofs.inspecting.inspect_past.Goals as goal

@@ -1,14 +1,8 @@
-use Rattle.std.proofs.Common.{◌≡◌, ◌-◌, suc, Bool, if◌then◌else◌, ap, sym, subst, refl, arith}
-use Rattle.base_model.proofs.Outcome.{passed_on}
-use Rattle.dd_disk.specs.Ending.{Done}
-use Rattle.dd_disk.proofs.Ended.{reads_none, reads_on}
-use Rattle.dd_disk.proofs.Shows.{always}
-use Rattle.disk_format.specs.Layout.{half_cells}
+use Rattle.journal_cells.proofs.Prelude.{◌≡◌, ◌-◌, suc, Bool, ap, sym, subst, refl, arith, passed_on, Done, reads_none, reads_on, always, half_cells, finds_as, finds_on, stops_on, Replay, nothing_yet, replay}
+use Rattle.std.proofs.Common.{if◌then◌else◌}
 use Rattle.inspection.specs.Handing.{Finds}
-use Rattle.inspection.proofs.Steps.{finds_as, finds_none, finds_on, stops_on}
+use Rattle.inspection.proofs.Steps.{finds_none}
 use Rattle.journal_cells.specs.Inspecting.{past_found, records_found}
-use Rattle.journal_cells.specs.Records.{Replay, nothing_yet}
-use Rattle.journal_cells.specs.Scanning.{replay}
 use Rattle.journal_cells.proofs.Inspected.{shows_full}
 use Rattle.journal_cells.proofs.inspecting.inspect_records.Goals as goal
 

@@ -1,10 +1,6 @@
-use Rattle.std.proofs.Common.{◌≡◌, ◌-◌, Bool}
-use Rattle.dd_disk.specs.Ending.{Done, Reads}
-use Rattle.disk_format.specs.Layout.{half_cells}
+use Rattle.journal_cells.proofs.Prelude.{◌≡◌, ◌-◌, Bool, Done, Reads, half_cells, nothing_yet, replay}
 use Rattle.inspection.specs.Handing.{Finds}
 use Rattle.journal_cells.specs.Inspecting.{records_found}
-use Rattle.journal_cells.specs.Records.{nothing_yet}
-use Rattle.journal_cells.specs.Scanning.{replay}
 use Rattle.journal_cells.proofs.inspecting.inspect_records.Given as goal
 
 -- the cells before this one were inspected, and the rest is still to be found

@@ -1,4 +1,4 @@
-use Rattle.base_model.proofs.Outcome.{passed_on, map_err}
+use Rattle.journal_cells.proofs.Prelude.{passed_on, map_err}
 use Rattle.journal_cells.proofs.Inspected.{ok_map, stops_one_selector, stops_other, reports_both, stops_last}
 use Rattle.journal_cells.proofs.inspecting.inspect_selectors.Goals as goal
 

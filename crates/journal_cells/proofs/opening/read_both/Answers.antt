@@ -1,6 +1,6 @@
-use Rattle.std.proofs.Common.{◌∙◌, sym, ap}
+use Rattle.journal_cells.proofs.Prelude.{◌∙◌, sym, ap, weaker}
 use Rattle.base_model.specs.Bytes.{range}
-use Rattle.dd_disk.proofs.Shows.{weaker, both}
+use Rattle.dd_disk.proofs.Shows.{both}
 use Rattle.journal_cells.proofs.opening.read_both.Goals as goal
 
 pub returns-clause-shown : goal.returns-clause-shown

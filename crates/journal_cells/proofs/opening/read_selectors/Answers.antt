@@ -1,10 +1,5 @@
-use Rattle.std.proofs.Common.{◌≡◌, ◌∙◌, ℕ, List, sym, ap}
-use Rattle.disk_format.specs.Layout.{selector_at}
+use Rattle.journal_cells.proofs.Prelude.{◌≡◌, ◌∙◌, ℕ, List, sym, ap, selector_at, always, weaker, Selection, IsSelectorBreak, selectors_read, selection_of, AreSelectorCells}
 use Rattle.base_model.specs.Bytes.{range}
-use Rattle.dd_disk.proofs.Shows.{always, weaker}
-use Rattle.journal_cells.specs.declared.heads.Selection.{Selection}
-use Rattle.journal_cells.specs.Faults.{IsSelectorBreak}
-use Rattle.journal_cells.specs.Heads.{selectors_in as selectors_read, selection_of, AreSelectorCells}
 use Rattle.journal_cells.proofs.Breaks.{selectors_break, selector_of_bytes}
 use Rattle.journal_cells.proofs.Outcomes.{cause_found, reads_found, read_failed}
 use Rattle.journal_cells.proofs.opening.read_selectors.Goals as goal

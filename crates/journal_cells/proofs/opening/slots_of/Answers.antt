@@ -1,6 +1,4 @@
-use Rattle.std.proofs.Common.{◌≡◌, ◌∙◌, ℕ, sym, ap}
-use Rattle.dd_disk.proofs.Shows.{always, weaker}
-use Rattle.journal_cells.specs.Faults.{IsFormatBreak}
+use Rattle.journal_cells.proofs.Prelude.{◌≡◌, ◌∙◌, ℕ, sym, ap, always, weaker, IsFormatBreak}
 use Rattle.journal_cells.specs.Heads.{format_in as format_read}
 use Rattle.journal_cells.proofs.Breaks.{format_break, format_of_bytes}
 use Rattle.journal_cells.proofs.Outcomes.{cause_found, reads_found, read_failed}

@@ -1,9 +1,4 @@
-use Rattle.std.proofs.Common.{◌∙◌, ◌+◌, ◌≤◌, refl, arith, subst}
-use Rattle.dd_disk.specs.Ending.{Done}
-use Rattle.dd_disk.specs.Shows.{Shows}
-use Rattle.dd_disk.proofs.Ended.{reads_none, reads_on}
-use Rattle.disk_format.specs.Layout.{half_cells}
-use Rattle.journal_cells.specs.Scanning.{IsFirstAmong}
+use Rattle.journal_cells.proofs.Prelude.{◌∙◌, ◌+◌, ◌≤◌, refl, arith, subst, Done, Shows, reads_none, reads_on, half_cells, IsFirstAmong}
 use Rattle.journal_cells.proofs.Past.{more_closed, none_looked_at, open_there}
 use Rattle.journal_cells.proofs.scanning.check_closed.Goals as goal
 

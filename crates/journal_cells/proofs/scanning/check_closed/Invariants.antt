@@ -1,9 +1,4 @@
-use Rattle.std.proofs.Common.{◌≡◌, ◌*◌, ◌-◌, ◌≤◌, length}
-use Rattle.dd_disk.specs.Ending.{Done, Reads}
-use Rattle.dd_disk.specs.Shows.{Shows}
-use Rattle.disk_format.specs.Layout.{half_cells}
-use Rattle.disk_format.specs.declared.numbers.TheConstants.{CELL_BYTES}
-use Rattle.journal_cells.specs.Scanning.{AreClosed}
+use Rattle.journal_cells.proofs.Prelude.{◌≡◌, ◌*◌, ◌-◌, ◌≤◌, length, Done, Reads, Shows, half_cells, CELL_BYTES, AreClosed}
 use Rattle.journal_cells.proofs.scanning.check_closed.Given as goal
 
 -- the cells before this one are closed

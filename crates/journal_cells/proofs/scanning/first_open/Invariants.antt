@@ -1,4 +1,4 @@
-use Rattle.journal_cells.specs.Scanning.{AreShut}
+use Rattle.journal_cells.proofs.Prelude.{AreShut}
 use Rattle.journal_cells.proofs.scanning.first_open.Given as goal
 
 abbrev pub invariant-loop-number : goal.invariant-loop-number

@@ -1,5 +1,4 @@
-use Rattle.base_model.proofs.Outcome.{passed_on}
-use Rattle.journal_cells.specs.Scanning.{replay}
+use Rattle.journal_cells.proofs.Prelude.{passed_on, replay}
 use Rattle.journal_cells.proofs.Past.{past_fault, records_fault, whole_half}
 use Rattle.journal_cells.proofs.scanning.read_half.Goals as goal
 

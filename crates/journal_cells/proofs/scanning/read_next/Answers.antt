@@ -1,8 +1,5 @@
-use Rattle.std.proofs.Common.{◌∙◌, sym, ap}
+use Rattle.journal_cells.proofs.Prelude.{◌∙◌, sym, ap, passed_on, weaker, replay}
 use Rattle.base_model.specs.Bytes.{range}
-use Rattle.base_model.proofs.Outcome.{passed_on}
-use Rattle.dd_disk.proofs.Shows.{weaker}
-use Rattle.journal_cells.specs.Scanning.{replay}
 use Rattle.journal_cells.proofs.Scanned.{gate_read, next_fault}
 use Rattle.journal_cells.proofs.scanning.read_next.Goals as goal
 

@@ -1,12 +1,4 @@
-use Rattle.std.proofs.Common.{◌<◌, sym, ap, subst, arith}
-use Rattle.std.specs.Prelude.{option_map}
-use Rattle.base_model.proofs.Outcome.{passed_on}
-use Rattle.disk_format.specs.Layout.{half_cells}
-use Rattle.dd_disk.specs.Ending.{Done}
-use Rattle.dd_disk.specs.Shows.{Shows}
-use Rattle.dd_disk.proofs.Ended.{reads_none, reads_on}
-use Rattle.namespace.specs.Names.{record_value}
-use Rattle.journal_cells.specs.Scanning.{replay, IsNext, IsPart}
+use Rattle.journal_cells.proofs.Prelude.{◌<◌, sym, ap, subst, arith, option_map, passed_on, half_cells, Done, Shows, reads_none, reads_on, record_value, replay, IsNext, IsPart}
 use Rattle.journal_cells.proofs.Scanned.{part_none, part_more, part_read, part_all, part_fault}
 use Rattle.journal_cells.proofs.scanning.read_records.Goals as goal
 

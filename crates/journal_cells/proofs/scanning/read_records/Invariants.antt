@@ -1,7 +1,4 @@
-use Rattle.std.proofs.Common.{◌≡◌}
-use Rattle.dd_disk.specs.Ending.{Done, Reads}
-use Rattle.dd_disk.specs.Shows.{Shows}
-use Rattle.journal_cells.specs.Scanning.{replay, IsPart}
+use Rattle.journal_cells.proofs.Prelude.{◌≡◌, Done, Reads, Shows, replay, IsPart}
 use Rattle.journal_cells.proofs.scanning.read_records.Given as goal
 
 abbrev pub invariant-loop : goal.invariant-loop

@@ -1,11 +1,5 @@
-use Rattle.std.proofs.Common.{◌≡◌, ℕ, sym, ap, subst, Err}
-use Rattle.base_model.proofs.Outcome.{passed_on}
-use Rattle.dd_disk.specs.Shows.{Shows}
-use Rattle.dd_disk.proofs.Shows.{weaker}
-use Rattle.journal_cells.specs.Faults.{IsRecordBreak, IsCellFault}
-use Rattle.journal_cells.specs.Journal.{IsScanned, IsTold, JournalValue}
+use Rattle.journal_cells.proofs.Prelude.{◌≡◌, ℕ, sym, ap, subst, Err, passed_on, Shows, weaker, IsRecordBreak, IsCellFault, IsScanned, IsTold, JournalValue, replay, IsWhole}
 use Rattle.journal_cells.specs.Records.{half_in}
-use Rattle.journal_cells.specs.Scanning.{replay, IsWhole}
 use Rattle.journal_cells.proofs.Outcomes.{failed_on}
 use Rattle.journal_cells.proofs.Whole.{selector_fault, half_fault, scanned, only_one, fails_alone}
 use Rattle.journal_cells.proofs.scanning.scan.Goals as goal

@@ -1,4 +1,4 @@
-use Rattle.std.proofs.Common.{◌≡◌, ◌-◌, length, sym, ap, ◌∙◌, arith}
+use Rattle.journal_cells.proofs.Prelude.{◌≡◌, ◌-◌, length, sym, ap, ◌∙◌, arith}
 use Rattle.base_model.specs.Bytes.{zeros}
 use Rattle.journal_cells.proofs.Parts.{fields_long}
 use Rattle.journal_cells.proofs.spelling.fields.Goals as goal

@@ -1,6 +1,5 @@
-use Rattle.std.proofs.Common.{sym, ap}
+use Rattle.journal_cells.proofs.Prelude.{sym, ap, root_in}
 use Rattle.base_model.specs.Bytes.{zeros}
-use Rattle.disk_format.specs.Cells.{root_in}
 use Rattle.namespace.specs.Names.{change_value}
 use Rattle.journal_cells.proofs.spelling.root_fields.Goals as goal
 

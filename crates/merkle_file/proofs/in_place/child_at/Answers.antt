@@ -1,6 +1,4 @@
-use Rattle.std.proofs.Common.{sym, ap, ◌+◌, ◌∷◌, ◌∙◌, List, ℕ, drop, arith}
-use Rattle.merkle_file.specs.declared.node.Child.{Child}
-use Rattle.merkle_file.specs.Reading.{child_in, contents_in}
+use Rattle.merkle_file.proofs.Prelude.{sym, ap, ◌+◌, ◌∷◌, ◌∙◌, List, ℕ, drop, arith, Child, child_in, contents_in}
 use Rattle.merkle_file.proofs.InPlace.{entry_within, child_found}
 use Rattle.merkle_file.proofs.in_place.child_at.Goals as goal
 

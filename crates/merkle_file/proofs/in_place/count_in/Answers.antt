@@ -1,4 +1,4 @@
-use Rattle.std.proofs.Common.{sym, ◌∙◌, arith}
+use Rattle.merkle_file.proofs.Prelude.{sym, ◌∙◌, arith}
 use Rattle.merkle_file.proofs.InPlace.{node_is_long}
 use Rattle.merkle_file.proofs.in_place.count_in.Goals as goal
 

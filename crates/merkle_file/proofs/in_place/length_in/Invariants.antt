@@ -1,6 +1,4 @@
-use Rattle.std.proofs.Common.{◌≡◌, ◌+◌, drop}
-use Rattle.merkle_file.specs.Node.{total}
-use Rattle.merkle_file.specs.Reading.{contents_in}
+use Rattle.merkle_file.proofs.Prelude.{◌≡◌, ◌+◌, drop, total, contents_in}
 use Rattle.merkle_file.proofs.in_place.length_in.Given as goal
 
 abbrev pub invariant-loop-index : goal.invariant-loop-index

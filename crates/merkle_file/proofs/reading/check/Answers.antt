@@ -1,7 +1,5 @@
-use Rattle.std.proofs.Common.{◌≡◌, Result, Ok, Err, Option, None, refl, sym, ◌∙◌, ap, arith}
-use Rattle.std.specs.Prelude.{OnOk, IsOk}
-use Rattle.merkle_file.specs.declared.fault.FieldFault.{FieldFault}
-use Rattle.merkle_file.specs.Reading.{contents_in, first_fault, found_fault}
+use Rattle.merkle_file.proofs.Prelude.{◌≡◌, Result, Ok, Err, refl, sym, ◌∙◌, ap, arith, OnOk, IsOk, FieldFault, contents_in, first_fault, found_fault}
+use Rattle.std.proofs.Common.{Option, None}
 use Rattle.merkle_file.proofs.Nodes.{node_takes, node_again}
 use Rattle.merkle_file.proofs.reading.check.Goals as goal
 

@@ -1,7 +1,6 @@
-use Rattle.std.proofs.Common.{◌≡◌, Result, Ok, Err, Some, sym, ap, ◌∙◌, arith}
+use Rattle.merkle_file.proofs.Prelude.{◌≡◌, Result, Ok, Err, sym, ap, ◌∙◌, arith, FieldFault, found_fault}
+use Rattle.std.proofs.Common.{Some}
 use Rattle.std.specs.Result.{IsErrAnd}
-use Rattle.merkle_file.specs.declared.fault.FieldFault.{FieldFault}
-use Rattle.merkle_file.specs.Reading.{found_fault}
 use Rattle.merkle_file.proofs.Nodes.{entries_step, entries_stop}
 use Rattle.merkle_file.proofs.reading.check_entries.Goals as goal
 

@@ -1,6 +1,5 @@
-use Rattle.std.proofs.Common.{◌≡◌, ◌+◌, ◌-◌, ◌*◌, ◌≤◌, length}
+use Rattle.merkle_file.proofs.Prelude.{◌≡◌, ◌+◌, ◌-◌, ◌*◌, ◌≤◌, length, MOST_FILE}
 use Rattle.merkle_file.specs.Reading.{entries_fault}
-use Rattle.disk_format.specs.declared.numbers.TheConstants.{MOST_FILE}
 use Rattle.merkle_file.proofs.reading.check_entries.Given as goal
 
 abbrev pub invariant-loop-index : goal.invariant-loop-index

@@ -1,6 +1,5 @@
-use Rattle.std.proofs.Common.{◌+◌, ◌-◌, ◌++◌, ◌∷◌, [], drop, sym, ◌∙◌, ap, List, append_assoc, arith}
-use Rattle.merkle_file.specs.declared.node.Child.{Child}
-use Rattle.merkle_file.specs.Reading.{child_in, children_in}
+use Rattle.merkle_file.proofs.Prelude.{◌+◌, ◌-◌, ◌++◌, ◌∷◌, [], drop, sym, ◌∙◌, ap, List, append_assoc, arith, Child, child_in}
+use Rattle.merkle_file.specs.Reading.{children_in}
 use Rattle.merkle_file.proofs.Nodes.{children_step}
 use Rattle.merkle_file.proofs.reading.read_children.Goals as goal
 

@@ -1,4 +1,4 @@
-use Rattle.std.proofs.Common.{◌≡◌, ◌++◌, ◌-◌, ◌*◌, ◌≤◌, length}
+use Rattle.merkle_file.proofs.Prelude.{◌≡◌, ◌++◌, ◌-◌, ◌*◌, ◌≤◌, length}
 use Rattle.merkle_file.specs.Reading.{children_in}
 use Rattle.merkle_file.proofs.reading.read_children.Given as goal
 

@@ -1,4 +1,4 @@
-use Rattle.std.proofs.Common.{arith}
+use Rattle.merkle_file.proofs.Prelude.{arith}
 use Rattle.merkle_file.proofs.Closing.{clear_step}
 use Rattle.merkle_file.proofs.rows.clear.Goals as goal
 

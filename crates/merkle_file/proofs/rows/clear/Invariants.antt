@@ -1,5 +1,5 @@
-use Rattle.std.proofs.Common.{◌≡◌, take, replicate, []}
-use Rattle.merkle_file.specs.Rows.{items_of}
+use Rattle.merkle_file.proofs.Prelude.{◌≡◌, take, [], items_of}
+use Rattle.std.proofs.Common.{replicate}
 use Rattle.merkle_file.proofs.rows.clear.Given as goal
 
 abbrev pub invariant-loop-row : goal.invariant-loop-row

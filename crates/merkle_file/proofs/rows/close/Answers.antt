@@ -1,8 +1,5 @@
-use Rattle.std.proofs.Common.{◌+◌, List, [], drop, get_or, sym, ◌∙◌, ap, subst}
-use Rattle.std.specs.Option.{option_to_list}
-use Rattle.merkle_file.specs.declared.node.Child.{Child}
-use Rattle.merkle_file.specs.Steps.{close, top_of}
-use Rattle.merkle_file.specs.Rows.{AreNode, CanClose, items_of}
+use Rattle.merkle_file.proofs.Prelude.{◌+◌, List, [], drop, get_or, sym, ◌∙◌, ap, subst, option_to_list, Child, top_of, AreNode, CanClose, items_of}
+use Rattle.merkle_file.specs.Steps.{close}
 use Rattle.merkle_file.proofs.Placing.{front_of}
 use Rattle.merkle_file.proofs.Closing.{are_node, children_at, closing_begins, loop_ends, loop_goes_on}
 use Rattle.merkle_file.proofs.rows.close.Goals as goal

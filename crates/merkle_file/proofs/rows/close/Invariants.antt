@@ -1,7 +1,5 @@
-use Rattle.std.proofs.Common.{[]}
-use Rattle.std.specs.Option.{option_to_list}
+use Rattle.merkle_file.proofs.Prelude.{[], option_to_list, items_of}
 use Rattle.merkle_file.specs.Steps.{close}
-use Rattle.merkle_file.specs.Rows.{items_of}
 use Rattle.merkle_file.proofs.Closing.{IsClosing}
 use Rattle.merkle_file.proofs.rows.close.Given as goal
 

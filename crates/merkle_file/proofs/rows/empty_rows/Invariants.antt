@@ -1,5 +1,5 @@
-use Rattle.std.proofs.Common.{◌≡◌, replicate, []}
-use Rattle.merkle_file.specs.Rows.{items_of}
+use Rattle.merkle_file.proofs.Prelude.{◌≡◌, [], items_of}
+use Rattle.std.proofs.Common.{replicate}
 use Rattle.merkle_file.proofs.rows.empty_rows.Given as goal
 
 abbrev pub invariant-loop : goal.invariant-loop

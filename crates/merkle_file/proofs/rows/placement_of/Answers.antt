@@ -1,7 +1,4 @@
-use Rattle.std.proofs.Common.{◌+◌, List, drop, subst, arith}
-use Rattle.std.proofs.lemmas.List.{drop_all}
-use Rattle.merkle_file.specs.declared.node.Child.{Child}
-use Rattle.merkle_file.specs.Rows.{CanPlace, items_of}
+use Rattle.merkle_file.proofs.Prelude.{◌+◌, List, drop, subst, arith, drop_all, Child, CanPlace, items_of}
 use Rattle.merkle_file.proofs.Placing.{can_not, can_take, length-items, row_at, way_begins, way_ends, way_goes_on}
 use Rattle.merkle_file.proofs.rows.placement_of.Goals as goal
 

@@ -1,5 +1,5 @@
 use Rattle.merkle_file.specs.Steps.{place}
-use Rattle.merkle_file.specs.Rows.{items_of}
+use Rattle.merkle_file.proofs.Prelude.{items_of}
 use Rattle.merkle_file.proofs.Placing.{IsOnWay}
 use Rattle.merkle_file.proofs.rows.placement_of.Given as goal
 

@@ -1,7 +1,8 @@
-use Rattle.std.proofs.Common.{ℕ, Result, Ok, Err, [], replicate, set, ap, ◌∙◌, arith}
+use Rattle.merkle_file.proofs.Prelude.{ℕ, Result, Ok, Err, [], set, ap, ◌∙◌, arith, length-take-le}
+use Rattle.std.proofs.Common.{replicate}
 use Rattle.std.specs.Prelude.{OnErr}
 use Rattle.std.specs.declared.alloc.AllocError.{AllocError}
-use Rattle.std.proofs.lemmas.List.{length-take-le, length-set}
+use Rattle.std.proofs.lemmas.List.{length-set}
 use Rattle.merkle_file.proofs.Placing.{set_same, settled}
 use Rattle.merkle_file.proofs.rows.settle.Goals as goal
 

@@ -1,10 +1,7 @@
-use Rattle.std.proofs.Common.{◌≡◌, ℕ, ◌-◌, ◌++◌, ◌∷◌, List, drop, take, length, map, reverse, vec_len, refl, sym, ap, subst, ◌∙◌, arith}
-use Rattle.std.proofs.lemmas.List.{length-reverse, reverse-append, reverse-reverse}
-use Rattle.merkle_file.specs.declared.top.Top.{Top}
-use Rattle.merkle_file.specs.declared.reading.Asked.{Asked}
-use Rattle.merkle_file.specs.Node.{Contents}
-use Rattle.merkle_file.specs.Reading.{children_in, contents_in, short_number, IsWithin}
-use Rattle.merkle_file.specs.Walk.{HasRoom, below, opened}
+use Rattle.merkle_file.proofs.Prelude.{◌≡◌, ℕ, ◌-◌, ◌++◌, ◌∷◌, List, drop, take, length, map, reverse, refl, sym, ap, subst, ◌∙◌, arith, reverse-append, Top, Asked, Contents, contents_in, IsWithin, HasRoom, below, opened}
+use Rattle.std.proofs.Common.{vec_len}
+use Rattle.std.proofs.lemmas.List.{length-reverse, reverse-reverse}
+use Rattle.merkle_file.specs.Reading.{children_in, short_number}
 use Rattle.merkle_file.proofs.Walking.{is_named, length-children_in, opened_next}
 use Rattle.merkle_file.proofs.stack.open_next.Goals as goal
 

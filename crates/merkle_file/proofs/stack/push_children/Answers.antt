@@ -1,10 +1,5 @@
-use Rattle.std.proofs.Common.{◌≡◌, ℕ, ◌+◌, ◌-◌, ◌*◌, ◌++◌, ◌∷◌, [], List, drop, length, map, reverse, refl, sym, ap, subst, ◌∙◌, arith}
-use Rattle.std.proofs.Math.Seq.{drop-length}
-use Rattle.std.proofs.lemmas.List.{append-nil}
-use Rattle.merkle_file.specs.declared.node.Child.{Child}
-use Rattle.merkle_file.specs.declared.top.Top.{Top}
-use Rattle.merkle_file.specs.Reading.{children_in, child_in}
-use Rattle.merkle_file.specs.Walk.{below}
+use Rattle.merkle_file.proofs.Prelude.{◌≡◌, ℕ, ◌+◌, ◌-◌, ◌*◌, ◌++◌, ◌∷◌, [], List, drop, length, map, reverse, refl, sym, ap, subst, ◌∙◌, arith, drop-length, append-nil, Child, Top, child_in, below}
+use Rattle.merkle_file.specs.Reading.{children_in}
 use Rattle.merkle_file.proofs.Walking.{length-children_in, drop_child, pushed_child}
 use Rattle.merkle_file.proofs.stack.push_children.Goals as goal
 

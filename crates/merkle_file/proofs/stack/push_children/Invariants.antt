@@ -1,6 +1,6 @@
-use Rattle.std.proofs.Common.{◌≡◌, ◌++◌, ◌+◌, ◌≤◌, drop, length, map, reverse, vec_capacity}
+use Rattle.merkle_file.proofs.Prelude.{◌≡◌, ◌++◌, ◌+◌, ◌≤◌, drop, length, map, reverse, below}
+use Rattle.std.proofs.Common.{vec_capacity}
 use Rattle.merkle_file.specs.Reading.{children_in}
-use Rattle.merkle_file.specs.Walk.{below}
 use Rattle.merkle_file.proofs.stack.push_children.Given as goal
 
 abbrev pub invariant-loop-index : goal.invariant-loop-index

@@ -1,6 +1,4 @@
-use Rattle.std.proofs.Common.{◌≡◌, ◌++◌, take}
-use Rattle.std.specs.List.{flat_map}
-use Rattle.merkle_file.specs.Node.{entry}
+use Rattle.merkle_file.proofs.Prelude.{◌≡◌, ◌++◌, take, flat_map, entry}
 use Rattle.merkle_file.proofs.writing.push_entries.Given as goal
 
 abbrev pub invariant-loop-child : goal.invariant-loop-child

@@ -1,5 +1,5 @@
-use Rattle.std.proofs.Common.{ℕ, [], ◌∷◌, option_map, arith, ap, ◌∙◌, refl}
-use Rattle.base_model.specs.Bytes.{written}
+use Rattle.recovery.proofs.Prelude.{ℕ, [], ◌∷◌, arith, ap, ◌∙◌, refl, written}
+use Rattle.std.proofs.Common.{option_map}
 use Rattle.recovery.proofs.Blank.{stays_here, stays_write, stays_on}
 use Rattle.recovery.proofs.Formatted.{none_closed, more_closed}
 use Rattle.recovery.proofs.formatting.close_slots.Goals as goal

@@ -1,5 +1,6 @@
 use Rattle.std.specs.Prelude.{◌≡◌, option_map}
-use Rattle.recovery.specs.Formatting.{with_closed, StaysBlank}
+use Rattle.recovery.proofs.Prelude.{StaysBlank}
+use Rattle.recovery.specs.Formatting.{with_closed}
 use Rattle.recovery.proofs.formatting.close_slots.Given as goal
 
 abbrev pub invariant-loop-slot : goal.invariant-loop-slot

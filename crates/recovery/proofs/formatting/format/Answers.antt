@@ -1,5 +1,4 @@
-use Rattle.dd_disk.specs.Ending.{Done, Broken}
-use Rattle.dd_disk.proofs.Shows.{until, shown_content}
+use Rattle.recovery.proofs.Prelude.{Done, Broken, until, shown_content}
 use Rattle.recovery.proofs.Storing.{blank_content, format_leaves, format_acts, format_left}
 use Rattle.recovery.proofs.formatting.format.Goals as goal
 

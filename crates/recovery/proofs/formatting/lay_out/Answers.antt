@@ -1,8 +1,6 @@
-use Rattle.std.proofs.Common.{length, option_map, arith, ap, ◌∙◌}
+use Rattle.recovery.proofs.Prelude.{length, arith, ap, ◌∙◌, written, length-zeros, FIRST_SELECTOR}
+use Rattle.std.proofs.Common.{option_map}
 use Rattle.std.proofs.lemmas.Result.{on_ok_weaker}
-use Rattle.base_model.specs.Bytes.{written}
-use Rattle.base_model.proofs.Ranges.{length-zeros}
-use Rattle.disk_format.specs.declared.numbers.TheConstants.{FIRST_SELECTOR}
 use Rattle.recovery.specs.Formatting.{with_closed}
 use Rattle.recovery.proofs.Blank.{stays_write, stays_on}
 use Rattle.recovery.proofs.Formatted.{BLANKS, length-first_selector, laid_told}

@@ -1,5 +1,4 @@
-use Rattle.std.proofs.Common.{◌∙◌, sym, arith}
-use Rattle.dd_disk.proofs.Shows.{weaker}
+use Rattle.recovery.proofs.Prelude.{◌∙◌, sym, arith, weaker}
 use Rattle.recovery.proofs.Formatted.{first_byte}
 use Rattle.recovery.proofs.formatting.may_format.Goals as goal
 

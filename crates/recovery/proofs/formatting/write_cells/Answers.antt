@@ -1,7 +1,4 @@
-use Rattle.std.proofs.Common.{length, arith, ap, ◌∙◌}
-use Rattle.dd_disk.specs.Ending.{WriteCall, ending}
-use Rattle.dd_disk.proofs.Moves.{passed}
-use Rattle.dd_disk.proofs.Writes.{never_refused}
+use Rattle.recovery.proofs.Prelude.{length, arith, ap, ◌∙◌, WriteCall, ending, passed, never_refused}
 use Rattle.recovery.proofs.Formatted.{length-format_cell}
 use Rattle.recovery.proofs.Storing.{WritesStore, laid_broken, cell_on}
 use Rattle.recovery.proofs.formatting.write_cells.Goals as goal

@@ -1,6 +1,4 @@
-use Rattle.dd_disk.specs.Ending.{WriteCall, ending}
-use Rattle.dd_disk.proofs.Moves.{passed}
-use Rattle.dd_disk.proofs.Writes.{never_refused}
+use Rattle.recovery.proofs.Prelude.{WriteCall, ending, passed, never_refused}
 use Rattle.recovery.proofs.Storing.{WritesStore, sync_broken, sync_left, all_blank, store_on, store_left}
 use Rattle.recovery.proofs.formatting.write_store.Goals as goal
 

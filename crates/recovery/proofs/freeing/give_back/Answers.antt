@@ -1,9 +1,4 @@
-use Rattle.dd_disk.specs.Ending.{ending_of}
-use Rattle.store_state.specs.Refused.{blames}
-use Rattle.std.proofs.Common.{subst}
-use Rattle.container_log.specs.Writing.{Frees, IsFreed}
-use Rattle.dd_disk.specs.Writes.{Writes}
-use Rattle.refusals.specs.declared.refusal.Refusal.{Refusal}
+use Rattle.recovery.proofs.Prelude.{ending_of, blames, subst, Frees, IsFreed, Writes, Refusal}
 use Rattle.recovery.proofs.Giving.{given_none, no_least, giving_first, giving_more, on_err, stands_cut}
 use Rattle.recovery.proofs.freeing.give_back.Goals as goal
 

@@ -1,5 +1,4 @@
-use Rattle.std.proofs.Common.{◌-◌}
-use Rattle.recovery.specs.Making.{IsGiving}
+use Rattle.recovery.proofs.Prelude.{◌-◌, IsGiving}
 use Rattle.recovery.proofs.freeing.give_back.Given as goal
 
 -- some containers were given back

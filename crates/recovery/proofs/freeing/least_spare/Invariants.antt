@@ -1,4 +1,4 @@
-use Rattle.recovery.specs.Making.{IsLeastOf}
+use Rattle.recovery.proofs.Prelude.{IsLeastOf}
 use Rattle.recovery.proofs.freeing.least_spare.Given as goal
 
 -- of the slots so far

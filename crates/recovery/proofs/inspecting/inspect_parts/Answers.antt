@@ -1,4 +1,4 @@
-use Rattle.base_model.proofs.Outcome.{passed_on, map_err}
+use Rattle.recovery.proofs.Prelude.{passed_on, map_err}
 use Rattle.recovery.proofs.Inspected.{ok_map, stops_at_format, stops_in_journal, finds_all, stops_in_slots}
 use Rattle.recovery.proofs.inspecting.inspect_parts.Goals as goal
 

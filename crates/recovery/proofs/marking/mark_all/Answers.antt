@@ -1,13 +1,5 @@
-use Rattle.std.proofs.Common.{List, [], map, take, drop, ◌+◌, ap, subst, sym, refl, ◌∙◌, arith}
+use Rattle.recovery.proofs.Prelude.{List, [], map, take, drop, ◌+◌, ap, subst, sym, refl, ◌∙◌, arith, length-map, take_all, passed_on, size_of, start_of, ListedName, NamedRoot, listed_value, top_of, WalksRoots, walk_state}
 use Rattle.std.specs.FinMap as finite
-use Rattle.std.proofs.lemmas.List.{length-map, take_all}
-use Rattle.base_model.proofs.Outcome.{passed_on}
-use Rattle.disk_format.specs.Layout.{size_of}
-use Rattle.merkle_file.specs.Walk.{start_of}
-use Rattle.namespace.specs.declared.listing.ListedName.{ListedName}
-use Rattle.namespace.specs.Listing.{NamedRoot, listed_value}
-use Rattle.read_steps.specs.Opening.{top_of}
-use Rattle.recovery.specs.Marking.{WalksRoots, walk_state}
 use Rattle.recovery.proofs.Marks.{file_among, file_taken, marking_all_more, tree_failed, tree_refused, tree_stuck, marking_none}
 use Rattle.recovery.proofs.marking.mark_all.Goals as goal
 

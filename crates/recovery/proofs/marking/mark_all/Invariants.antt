@@ -1,6 +1,4 @@
-use Rattle.std.proofs.Common.{map, take}
-use Rattle.namespace.specs.Listing.{listed_value}
-use Rattle.recovery.specs.Marking.{IsMarkingAll}
+use Rattle.recovery.proofs.Prelude.{map, take, listed_value, IsMarkingAll}
 use Rattle.recovery.proofs.marking.mark_all.Given as goal
 
 abbrev pub invariant-loop-file : goal.invariant-loop-file

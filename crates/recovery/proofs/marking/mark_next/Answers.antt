@@ -1,5 +1,4 @@
-use Rattle.std.proofs.Common.{Ok, ap, sym, subst}
-use Rattle.recovery.specs.Marking.{IsHeld}
+use Rattle.recovery.proofs.Prelude.{Ok, ap, sym, subst, IsHeld}
 use Rattle.recovery.proofs.Marks.{held_past}
 use Rattle.recovery.proofs.marking.mark_next.Goals as goal
 

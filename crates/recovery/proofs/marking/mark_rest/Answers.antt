@@ -1,8 +1,5 @@
-use Rattle.std.proofs.Common.{Bool, subst, ◌∙◌}
-use Rattle.base_model.proofs.Outcome.{passed_on}
-use Rattle.dd_disk.specs.Ending.{Done}
+use Rattle.recovery.proofs.Prelude.{Bool, subst, ◌∙◌, passed_on, Done, Walks, ahead_of, walk_state}
 use Rattle.dd_disk.proofs.Ended.{reads_on}
-use Rattle.recovery.specs.Marking.{Walks, ahead_of, walk_state}
 use Rattle.recovery.proofs.Marks.{indexed_on, walk_stops, walks_next}
 use Rattle.recovery.proofs.marking.mark_rest.Goals as goal
 

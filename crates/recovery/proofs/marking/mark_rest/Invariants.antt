@@ -1,8 +1,6 @@
-use Rattle.std.proofs.Common.{◌≡◌, ◌+◌}
+use Rattle.recovery.proofs.Prelude.{◌+◌, Done, Reads, steps_ahead, IsHeld, Walks, WhereHeld, ahead_of, walk_state}
+use Rattle.std.proofs.Common.{◌≡◌}
 use Rattle.std.specs.Prelude.{if◌then◌else◌}
-use Rattle.dd_disk.specs.Ending.{Done, Reads}
-use Rattle.read_steps.specs.Visiting.{steps_ahead}
-use Rattle.recovery.specs.Marking.{IsHeld, Walks, WhereHeld, ahead_of, walk_state}
 use Rattle.recovery.proofs.marking.mark_rest.Given as goal
 
 abbrev pub invariant-loop-more : goal.invariant-loop-more

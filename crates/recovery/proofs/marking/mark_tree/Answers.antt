@@ -1,9 +1,5 @@
-use Rattle.std.proofs.Common.{◌∙◌, ap, sym, subst}
-use Rattle.base_model.proofs.Outcome.{map_err}
+use Rattle.recovery.proofs.Prelude.{◌∙◌, ap, sym, subst, map_err, start_of, top_of, IsHeld}
 use Rattle.disk_format.specs.Cells.{Root}
-use Rattle.merkle_file.specs.Walk.{start_of}
-use Rattle.read_steps.specs.Opening.{top_of}
-use Rattle.recovery.specs.Marking.{IsHeld}
 use Rattle.recovery.proofs.marking.mark_tree.Goals as goal
 
 pub returns-clause-failed : goal.returns-clause-failed

@@ -1,11 +1,5 @@
-use Rattle.std.proofs.Common.{◌∙◌, sym, subst}
-use Rattle.base_model.proofs.Outcome.{passed_on}
-use Rattle.dd_disk.specs.Ending.{ending_of}
-use Rattle.dd_disk.specs.Shows.{Shows}
-use Rattle.dd_disk.proofs.Shows.{always, weaker, since}
+use Rattle.recovery.proofs.Prelude.{◌∙◌, sym, subst, passed_on, ending_of, Shows, always, weaker, since, blames, IsOpenRefusal, IsFormatRefusal}
 use Rattle.dd_disk.proofs.Ended.{reads_on}
-use Rattle.store_state.specs.Refused.{blames}
-use Rattle.recovery.specs.Opening.{IsOpenRefusal, IsFormatRefusal}
 use Rattle.recovery.proofs.Steps.{begin_fails, is_large, cell_fails, cell_reads, format_refusal, format_alone}
 use Rattle.recovery.proofs.Opens.{cell_not_full}
 use Rattle.recovery.proofs.opening.count_slots.Goals as goal

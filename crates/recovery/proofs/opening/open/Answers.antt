@@ -1,7 +1,4 @@
-use Rattle.std.proofs.Common.{inl, inr, ℕ, sym, subst}
-use Rattle.store_model.specs.Image.{IsValidFor}
-use Rattle.store_state.proofs.Few.{few_ids}
-use Rattle.recovery.specs.Room.{RoomMade, RoomUnmade}
+use Rattle.recovery.proofs.Prelude.{inl, inr, ℕ, sym, subst, IsValidFor, few_ids, RoomMade, RoomUnmade}
 use Rattle.recovery.proofs.Opens.{only_read, reads_opened, room_made, room_unmade}
 use Rattle.recovery.proofs.opening.open.Goals.{in-DiskWrite, in_default-matches}
 use Rattle.recovery.proofs.opening.open.Goals as goal

@@ -1,10 +1,6 @@
-use Rattle.std.proofs.Common.{◌∙◌}
-use Rattle.base_model.proofs.Outcome.{passed_on}
-use Rattle.dd_disk.specs.Ending.{Reads, ending_of}
-use Rattle.dd_disk.proofs.Shows.{weaker, both}
+use Rattle.recovery.proofs.Prelude.{◌∙◌, passed_on, Reads, ending_of, weaker, passed, blames}
+use Rattle.dd_disk.proofs.Shows.{both}
 use Rattle.dd_disk.proofs.Ended.{reads_on}
-use Rattle.dd_disk.proofs.Moves.{passed}
-use Rattle.store_state.specs.Refused.{blames}
 use Rattle.recovery.proofs.Steps.{slots_refusal, found_all, format_slots}
 use Rattle.recovery.proofs.Opens.{slots_not_full}
 use Rattle.recovery.proofs.opening.open_all.Goals as goal

@@ -1,6 +1,4 @@
-use Rattle.std.proofs.Common.{◌∙◌, ap, sym}
-use Rattle.disk_format.specs.Layout.{size_of}
-use Rattle.dd_disk.proofs.Shows.{weaker}
+use Rattle.recovery.proofs.Prelude.{◌∙◌, ap, sym, size_of, weaker}
 use Rattle.recovery.proofs.Steps.{format_slots}
 use Rattle.recovery.proofs.opening.read_format.Goals as goal
 

@@ -1,10 +1,5 @@
-use Rattle.std.proofs.Common.{sym, subst}
-use Rattle.dd_disk.specs.Ending.{ending_of}
-use Rattle.dd_disk.specs.Shows.{Shows}
-use Rattle.dd_disk.proofs.Shows.{weaker, since}
+use Rattle.recovery.proofs.Prelude.{sym, subst, ending_of, Shows, weaker, since, blames, IsOpenRefusal}
 use Rattle.dd_disk.proofs.Ended.{reads_on}
-use Rattle.store_state.specs.Refused.{blames}
-use Rattle.recovery.specs.Opening.{IsOpenRefusal}
 use Rattle.recovery.proofs.Steps.{cell_fails, cell_reads, own_last, scanned_since, journal_refusal}
 use Rattle.recovery.proofs.Opens.{cell_not_full}
 use Rattle.recovery.proofs.opening.read_front.Goals as goal

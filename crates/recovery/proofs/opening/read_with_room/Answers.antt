@@ -1,10 +1,4 @@
-use Rattle.std.proofs.Common.{◌≤◌, ◌∙◌, ap, subst}
-use Rattle.dd_disk.proofs.Shows.{weaker}
-use Rattle.store_model.specs.Image.{Store}
-use Rattle.store_model.specs.Slots.{free_slots}
-use Rattle.store_model.proofs.Once.{store_once}
-use Rattle.store_state.specs.State.{Represents}
-use Rattle.store_state.proofs.Few.{few_ids}
+use Rattle.recovery.proofs.Prelude.{◌≤◌, ◌∙◌, ap, subst, weaker, Store, free_slots, store_once, Represents, few_ids}
 use Rattle.recovery.proofs.Steps.{opens_passed}
 use Rattle.recovery.proofs.opening.read_with_room.Goals as goal
 

@@ -1,11 +1,5 @@
-use Rattle.std.proofs.Common.{List, ◌≤◌, ℕ, length, ap, sym, subst, ◌∙◌}
-use Rattle.base_model.proofs.Outcome.{passed_on}
-use Rattle.disk_format.specs.Layout.{size_of}
+use Rattle.recovery.proofs.Prelude.{List, ◌≤◌, ℕ, length, ap, sym, subst, ◌∙◌, passed_on, size_of, NamedRoot, listing_of, AllHeld, IsMarkRefusal, few_ids, partial_of}
 use Rattle.disk_format.specs.declared.numbers.TheConstants.{MOST_SLOTS}
-use Rattle.namespace.specs.Listing.{NamedRoot, listing_of}
-use Rattle.recovery.specs.Marking.{AllHeld, IsMarkRefusal}
-use Rattle.store_state.proofs.Few.{few_ids}
-use Rattle.store_model.proofs.Lookups.{partial_of}
 use Rattle.store_state.proofs.Serving.{index_serves}
 use Rattle.recovery.proofs.Rooms.{by_given, by_stopped, makes_room, marks_of, size_ids, slots_ids, stops_room, walk_failed}
 use Rattle.recovery.proofs.room.make_room.Goals as goal

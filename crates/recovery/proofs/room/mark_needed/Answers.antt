@@ -1,7 +1,5 @@
-use Rattle.std.proofs.Common.{◌∙◌, sym, subst}
+use Rattle.recovery.proofs.Prelude.{◌∙◌, sym, subst, passed_on, AllHeld}
 use Rattle.std.proofs.lemmas.List.{take_at}
-use Rattle.base_model.proofs.Outcome.{passed_on}
-use Rattle.recovery.specs.Marking.{AllHeld}
 use Rattle.recovery.proofs.Rooms.{marks_for}
 use Rattle.recovery.proofs.room.mark_needed.Goals as goal
 

@@ -1,14 +1,8 @@
-use Rattle.std.proofs.Common.{Option, refl, sym, subst, IfSome}
+use Rattle.recovery.proofs.Prelude.{Option, refl, sym, subst, passed_on, IsHeader, view, Shows, weaker, Field, HoldsSlot, HoldsDamage, IsSlotDamage}
+use Rattle.std.proofs.Common.{IfSome}
 use Rattle.std.specs.Prelude.{option_map}
-use Rattle.base_model.proofs.Outcome.{passed_on}
 use Rattle.container_meta.specs.declared.entry.Meta.{Meta}
-use Rattle.container_meta.specs.Spelling.{IsHeader, view}
-use Rattle.dd_disk.specs.Shows.{Shows}
-use Rattle.dd_disk.proofs.Shows.{weaker}
-use Rattle.disk_format.specs.declared.why.Why.TheVariants.{Field}
-use Rattle.store_model.specs.Slots.{HoldsSlot}
 use Rattle.store_model.proofs.Once.{slot_once}
-use Rattle.recovery.specs.Slots.{HoldsDamage, IsSlotDamage}
 use Rattle.recovery.proofs.Reading.{damage_of, used_id, not_used}
 use Rattle.recovery.proofs.slots.read_next.Goals as goal
 

@@ -1,5 +1,4 @@
-use Rattle.std.proofs.Common.{refl}
-use Rattle.dd_disk.proofs.Shows.{always}
+use Rattle.recovery.proofs.Prelude.{refl, always}
 use Rattle.recovery.proofs.slots.read_one.Goals as goal
 
 pub returns-in-Err-Memory-clause-only : goal.returns-in-Err-Memory-clause-only

@@ -1,15 +1,6 @@
-use Rattle.std.proofs.Common.{ℕ, refl, sym, arith, subst}
+use Rattle.recovery.proofs.Prelude.{ℕ, refl, sym, arith, subst, passed_on, view, Done, Reads, ending_of, Shows, always, reads_none, passed, Memory, blames, AreSlots}
 use Rattle.std.specs.Prelude.{option_map}
-use Rattle.base_model.proofs.Outcome.{passed_on}
-use Rattle.container_meta.specs.Spelling.{view}
-use Rattle.dd_disk.specs.Ending.{Done, Reads, ending_of}
-use Rattle.dd_disk.specs.Shows.{Shows}
-use Rattle.dd_disk.proofs.Shows.{always}
-use Rattle.dd_disk.proofs.Ended.{reads_none, reads_on, reads_then}
-use Rattle.dd_disk.proofs.Moves.{passed}
-use Rattle.refusals.specs.declared.refusal.Refusal.TheVariants.{Memory}
-use Rattle.store_state.specs.Refused.{blames}
-use Rattle.recovery.specs.Slots.{AreSlots}
+use Rattle.dd_disk.proofs.Ended.{reads_on, reads_then}
 use Rattle.recovery.proofs.Reading.{none_yet, more, no_more, refused}
 use Rattle.recovery.proofs.slots.read_slots.Goals as goal
 

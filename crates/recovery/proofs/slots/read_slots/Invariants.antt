@@ -1,6 +1,4 @@
-use Rattle.dd_disk.specs.Ending.{Done, Reads}
-use Rattle.dd_disk.specs.Shows.{Shows}
-use Rattle.recovery.specs.Slots.{AreSlots}
+use Rattle.recovery.proofs.Prelude.{Done, Reads, Shows, AreSlots}
 use Rattle.recovery.proofs.slots.read_slots.Given as goal
 
 abbrev pub invariant-loop-slot : goal.invariant-loop-slot

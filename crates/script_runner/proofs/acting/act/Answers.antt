@@ -1,12 +1,9 @@
-use Rattle.std.proofs.Common.{Result, sym, subst}
-use Rattle.refusals.specs.declared.refusal.Refusal.{Refusal}
+use Rattle.script_runner.proofs.Prelude.{Result, sym, subst, Refusal, line_value, runner_of, by_error}
 use Rattle.script_lines.specs.declared.line.Line.{Line}
 use Rattle.script_lines.specs.declared.reply.Reply.{Reply}
-use Rattle.script_lines.specs.LineValue.{line_value}
 use Rattle.script_lines.specs.ReplyValue as replies
 use Rattle.script_runner.specs.Acts.{Acts}
-use Rattle.script_runner.specs.Runner.{answer_of, runner_of}
-use Rattle.session_turns.proofs.Results.{by_error}
+use Rattle.script_runner.specs.Runner.{answer_of}
 use Rattle.script_runner.proofs.acting.act.Goals as goal
 
 pub returns-in_err-bytes-in-Push-clause-acts : goal.returns-in_err-bytes-in-Push-clause-acts

@@ -1,4 +1,4 @@
-use Rattle.std.proofs.Common.{refl}
+use Rattle.script_runner.proofs.Prelude.{refl}
 use Rattle.script_lines.specs.ReplyValue as replies
 use Rattle.script_runner.proofs.Replied.{printed}
 use Rattle.script_runner.proofs.acting.reply_list.Goals as goal

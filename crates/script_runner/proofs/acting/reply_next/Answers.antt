@@ -1,5 +1,4 @@
-use Rattle.std.proofs.Common.{◌≡◌, ℕ, List, take, Option, Ok, IfOk, refl, subst}
-use Rattle.script_lines.specs.ReplyText.{reply_line}
+use Rattle.script_runner.proofs.Prelude.{◌≡◌, ℕ, List, take, Option, Ok, IfOk, refl, subst, reply_line}
 use Rattle.script_lines.specs.ReplyValue as replies
 use Rattle.script_runner.specs.Acts.{GivesNext}
 use Rattle.script_runner.proofs.Replied.{printed}

@@ -1,5 +1,5 @@
-use Rattle.script_lines.specs.LineValue.{line_value}
-use Rattle.script_runner.specs.Runner.{answer_of, runner_of}
+use Rattle.script_runner.proofs.Prelude.{line_value, runner_of}
+use Rattle.script_runner.specs.Runner.{answer_of}
 use Rattle.script_runner.proofs.Replied.{plain_reply, printed}
 use Rattle.script_runner.proofs.acting.reply_plain.Goals as goal
 

@@ -1,9 +1,6 @@
-use Rattle.std.proofs.Common.{sym, subst}
+use Rattle.script_runner.proofs.Prelude.{sym, subst, line_value, ReplyValue, ActsWith, Prints, runner_of}
 use Rattle.script_lines.specs.declared.line.Line.{Line}
-use Rattle.script_lines.specs.LineValue.{line_value}
-use Rattle.script_lines.specs.ReplyValue.{ReplyValue}
 use Rattle.script_lines.specs.ReplyValue as replies
-use Rattle.script_runner.specs.Runner.{ActsWith, Prints, runner_of}
 use Rattle.script_runner.proofs.Replied.{barred, printed, taken}
 use Rattle.script_runner.proofs.acting.reply_to.Goals as goal
 

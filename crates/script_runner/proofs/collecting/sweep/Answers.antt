@@ -1,8 +1,6 @@
-use Rattle.std.proofs.Common.{◌++◌, ◌∷◌, [], ℕ, Ok, subst}
+use Rattle.script_runner.proofs.Prelude.{◌++◌, ◌∷◌, [], ℕ, Ok, subst, Answer, Collects, StepOf}
 use Rattle.actor_parts.specs.StepValue as asked
-use Rattle.actor_parts.specs.declared.step.Answer.{Answer}
 use Rattle.script_runner.proofs.Sweeping.{most_in, run_then, swept_on}
-use Rattle.script_runner.specs.Acts.{Collects, StepOf}
 use Rattle.script_runner.proofs.collecting.sweep.Goals as goal
 
 pub steps-smaller : goal.steps-smaller

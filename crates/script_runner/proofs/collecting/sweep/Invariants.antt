@@ -1,7 +1,4 @@
-use Rattle.std.proofs.Common.{◌≡◌, List, None}
-use Rattle.refusals.specs.declared.refusal.Phase.{Phase}
-use Rattle.store_core.specs.State.{IsRunning}
-use Rattle.script_runner.specs.Acts.{CollectionRun}
+use Rattle.script_runner.proofs.Prelude.{◌≡◌, List, None, Phase, IsRunning, CollectionRun}
 use Rattle.script_runner.proofs.Sweeping.{IsFewIn, left_in, most_in}
 use Rattle.script_runner.proofs.collecting.sweep.Given as goal
 

@@ -1,8 +1,5 @@
-use Rattle.std.proofs.Common.{◌∙◌, ℕ, Result, refl, ap}
-use Rattle.refusals.specs.declared.refusal.Refusal.{Refusal}
+use Rattle.script_runner.proofs.Prelude.{◌∙◌, ℕ, Result, refl, ap, Refusal, has_ended, by_error}
 use Rattle.script_runner.specs.Acts.{Finishes}
-use Rattle.script_runner.specs.Sessions.{has_ended}
-use Rattle.session_turns.proofs.Results.{by_error}
 use Rattle.script_runner.proofs.SessionLists.{given_back, only_memory, replaced}
 use Rattle.script_runner.proofs.giving.finish.Goals as goal
 

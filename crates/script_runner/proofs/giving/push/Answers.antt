@@ -1,9 +1,5 @@
-use Rattle.std.proofs.Common.{List, ℕ, Result, Ok, Err, subst}
-use Rattle.refusals.specs.declared.refusal.Refusal.{Refusal}
-use Rattle.script_lines.specs.Grammar.{pushed_bytes}
+use Rattle.script_runner.proofs.Prelude.{List, ℕ, Result, Ok, Err, subst, Refusal, pushed_bytes, Feeds, by_error}
 use Rattle.script_runner.specs.Acts.{Pushes}
-use Rattle.session_turns.specs.Turns.{Feeds}
-use Rattle.session_turns.proofs.Results.{by_error}
 use Rattle.script_runner.proofs.SessionLists.{replaced}
 use Rattle.script_runner.proofs.giving.push.Goals as goal
 

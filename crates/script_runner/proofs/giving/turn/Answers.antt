@@ -1,8 +1,7 @@
-use Rattle.std.proofs.Common.{Result, rules}
-use Rattle.refusals.specs.declared.refusal.Refusal.{Refusal}
+use Rattle.script_runner.proofs.Prelude.{Result, Refusal, by_error}
+use Rattle.std.proofs.Common.{rules}
 use Rattle.script_lines.specs.declared.reply.Turned.{Turned}
 use Rattle.script_runner.specs.Acts.{Turns}
-use Rattle.session_turns.proofs.Results.{by_error}
 use Rattle.script_runner.proofs.SessionLists.{replaced}
 use Rattle.script_runner.proofs.giving.turn.Goals as goal
 

@@ -1,4 +1,4 @@
-use Rattle.std.proofs.Common.{◌≡◌, replicate, None}
+use Rattle.script_runner.proofs.Prelude.{◌≡◌, replicate, None}
 use Rattle.script_runner.proofs.sessions.no_sessions.Given as goal
 
 abbrev pub invariant-loop : goal.invariant-loop

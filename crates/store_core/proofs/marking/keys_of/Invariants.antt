@@ -1,4 +1,4 @@
-use Rattle.std.proofs.Common.{◌≡◌, map, take}
+use Rattle.store_core.proofs.Prelude.{◌≡◌, map, take}
 use Rattle.store_core.proofs.Marks.{entry_key}
 use Rattle.store_core.proofs.marking.keys_of.Given as goal
 

@@ -1,4 +1,4 @@
-use Rattle.std.proofs.Common.{◌∙◌}
+use Rattle.store_core.proofs.Prelude.{◌∙◌}
 use Rattle.store_core.proofs.Marks.{contains_same, marks_all, marks_kept, marks_same, restores_ok}
 use Rattle.store_core.proofs.marking.mark_container.Goals as goal
 

@@ -1,4 +1,4 @@
-use Rattle.std.proofs.Common.{[], ◌∷◌}
+use Rattle.store_core.proofs.Prelude.{[], ◌∷◌}
 use Rattle.store_core.proofs.Marks.{contains_one, marks_all, marks_kept, restores_ok}
 use Rattle.store_core.proofs.marking.mark_key.Goals as goal
 

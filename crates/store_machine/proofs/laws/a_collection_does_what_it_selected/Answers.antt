@@ -1,4 +1,4 @@
-use Rattle.store_machine.specs.Values.{of_files}
+use Rattle.store_machine.proofs.Prelude.{of_files}
 use Rattle.store_machine.proofs.Ended.{collects_what_it_selected}
 use Rattle.store_machine.proofs.laws.a_collection_does_what_it_selected.Goals as goal
 

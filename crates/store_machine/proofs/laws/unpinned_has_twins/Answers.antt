@@ -1,5 +1,4 @@
-use Rattle.std.proofs.Common.{refl}
-use Rattle.store_machine.specs.Values.{of_files, of_roots}
+use Rattle.store_machine.proofs.Prelude.{refl, of_files, of_roots}
 use Rattle.store_machine.proofs.TwinLines.{file_reads, root_reads, unpinned_has_twins}
 use Rattle.store_machine.proofs.laws.unpinned_has_twins.Goals as goal
 

@@ -1,6 +1,4 @@
-use Rattle.std.proofs.Common.{◌≡◌, ℕ, List, ap, sym, length, take, drop, ◌∙◌, arith}
-use Rattle.container_meta.specs.declared.entry.Entry.{Entry}
-use Rattle.container_meta.specs.Segments.{Contents}
+use Rattle.container_meta.proofs.Prelude.{◌≡◌, ℕ, List, ap, sym, length, take, drop, ◌∙◌, arith, Entry, Contents}
 use Rattle.container_meta.proofs.Packing.{length-segments_in}
 use Rattle.container_meta.proofs.Cut.{cut_packed}
 use Rattle.container_meta.proofs.container.OpenContainer.bytes_of.Goals as goal

@@ -1,9 +1,5 @@
-use Rattle.std.proofs.Common.{◌≡◌, ℕ, ◌-◌, ◌*◌, List, ◌++◌, refl, ap, sym, subst, length, take, ◌∙◌, arith}
-use Rattle.disk_format.specs.declared.numbers.TheConstants.{DATA_BYTES, HEADER_BYTES}
-use Rattle.sha2.specs.Sha256.{sha256}
-use Rattle.container_meta.specs.declared.entry.Entry.{Entry}
-use Rattle.container_meta.specs.Segments.{Contents, StandFrom}
-use Rattle.container_meta.specs.Spelling.{IsHeader, header_of, container_spelling, header_digest, entries_spelling, fields_spelling, front_spelling}
+use Rattle.container_meta.proofs.Prelude.{◌≡◌, ℕ, ◌-◌, ◌*◌, List, ◌++◌, refl, ap, sym, subst, length, take, ◌∙◌, arith, DATA_BYTES, HEADER_BYTES, sha256, Entry, Contents, StandFrom, IsHeader, header_of, container_spelling}
+use Rattle.container_meta.specs.Spelling.{header_digest, entries_spelling, fields_spelling, front_spelling}
 use Rattle.container_meta.proofs.Packing.{length-segments_in}
 use Rattle.container_meta.proofs.Encoded.{container_written, digest_written, header_allowed}
 use Rattle.container_meta.proofs.Stored.{stand_in_spelling, header-container_spelling}

@@ -1,7 +1,4 @@
-use Rattle.std.proofs.Common.{◌≡◌, ℕ, List, ap, sym, subst, length, ◌∙◌, arith}
-use Rattle.container_meta.specs.declared.entry.Entry.{Entry}
-use Rattle.container_meta.specs.Segments.{Contents}
-use Rattle.container_meta.specs.Spelling.{IsHeader, header_of}
+use Rattle.container_meta.proofs.Prelude.{◌≡◌, ℕ, List, ap, sym, subst, length, ◌∙◌, arith, Entry, Contents, IsHeader, header_of}
 use Rattle.container_meta.proofs.Packing.{length-segments_in}
 use Rattle.container_meta.proofs.Encoded.{header_allowed}
 use Rattle.container_meta.proofs.container.OpenContainer.entries.Goals as goal

@@ -1,9 +1,5 @@
-use Rattle.std.proofs.Common.{◌≡◌, ℕ, ◌<◌, List, ap, sym, length, take, drop, get_or, ◌∙◌, arith, eq-eqb, length-drop}
-use Rattle.std.proofs.lemmas.Bool.{ne_eqb}
-use Rattle.std.proofs.lemmas.List.{take_all}
-use Rattle.std.specs.Prelude.{◌==◌}
-use Rattle.container_meta.specs.declared.entry.Entry.{Entry}
-use Rattle.container_meta.specs.Spelling.{has_digest}
+use Rattle.container_meta.proofs.Prelude.{◌≡◌, ℕ, ◌<◌, List, ap, sym, length, take, drop, get_or, ◌∙◌, arith, eq-eqb, ne_eqb, take_all, ◌==◌, Entry, has_digest}
+use Rattle.std.proofs.Common.{length-drop}
 use Rattle.container_meta.proofs.Packing.{has_key-is, chosen_by, refused_by}
 use Rattle.container_meta.proofs.container.OpenContainer.has.Goals as goal
 

@@ -1,6 +1,4 @@
-use Rattle.std.proofs.Common.{◌≡◌, ℕ, List, ap, sym, length, ◌∙◌, arith}
-use Rattle.container_meta.specs.declared.entry.Entry.{Entry}
-use Rattle.container_meta.specs.Segments.{Contents, bytes_in}
+use Rattle.container_meta.proofs.Prelude.{◌≡◌, ℕ, List, ap, sym, length, ◌∙◌, arith, Entry, Contents, bytes_in}
 use Rattle.container_meta.proofs.Packing.{length-segments_in, bytes_in-segments_in, room_tested, no_room_tested}
 use Rattle.container_meta.proofs.container.OpenContainer.has_room.Goals as goal
 

@@ -1,9 +1,6 @@
-use Rattle.std.proofs.Common.{List, [], ap, sym, ◌∙◌, arith}
-use Rattle.std.specs.Prelude.{Bool, ◌||◌}
-use Rattle.std.specs.List.{list_any}
-use Rattle.std.proofs.lemmas.List.{take_all}
+use Rattle.container_meta.proofs.Prelude.{List, [], ap, sym, ◌∙◌, arith, ◌||◌, list_any, take_all, Segment, is_segment, segment_at}
+use Rattle.std.specs.Prelude.{Bool}
 use Rattle.std.proofs.lemmas.List.Folds.{list_any_at, list_any_more}
-use Rattle.container_meta.specs.Segments.{Segment, is_segment, segment_at}
 use Rattle.container_meta.proofs.container.OpenContainer.holds.Goals as goal
 
 pub loop-i-preserved : goal.loop-i-preserved

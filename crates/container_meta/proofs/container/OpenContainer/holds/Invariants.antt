@@ -1,6 +1,4 @@
-use Rattle.std.proofs.Common.{◌≡◌, false, take}
-use Rattle.std.specs.List.{list_any}
-use Rattle.container_meta.specs.Segments.{is_segment}
+use Rattle.container_meta.proofs.Prelude.{◌≡◌, false, take, list_any, is_segment}
 use Rattle.container_meta.proofs.container.OpenContainer.holds.Given as goal
 
 abbrev pub invariant-loop-i : goal.invariant-loop-i

@@ -1,9 +1,4 @@
-use Rattle.std.proofs.Common.{◌≡◌, ℕ, List, ap, sym, length, ◌∙◌, arith}
-use Rattle.std.proofs.lemmas.Bool.{eqb-true}
-use Rattle.std.specs.Str.{bytes_eq}
-use Rattle.sha2.specs.Sha256.{sha256}
-use Rattle.container_meta.specs.declared.entry.Entry.{Entry}
-use Rattle.container_meta.specs.Segments.{Segment, Contents, segment_at}
+use Rattle.container_meta.proofs.Prelude.{◌≡◌, ℕ, List, ap, sym, length, ◌∙◌, arith, eqb-true, bytes_eq, sha256, Entry, Segment, Contents, segment_at}
 use Rattle.container_meta.proofs.Packing.{length-segments_in}
 use Rattle.container_meta.proofs.Cut.{cut_packed}
 use Rattle.container_meta.proofs.Compared.{same_level, other_level, other_digest}

@@ -1,5 +1,4 @@
-use Rattle.std.proofs.Common.{ap, sym, length, ◌∙◌}
-use Rattle.container_meta.specs.Segments.{Contents}
+use Rattle.container_meta.proofs.Prelude.{ap, sym, length, ◌∙◌, Contents}
 use Rattle.container_meta.proofs.Packing.{length-segments_in}
 use Rattle.container_meta.proofs.container.OpenContainer.len.Goals as goal
 

@@ -1,7 +1,4 @@
-use Rattle.std.proofs.Common.{◌≡◌, ℕ, List, [], ◌∷◌, ◌++◌, refl, ap, sym, subst, length, length-append, ◌∙◌, arith}
-use Rattle.container_meta.specs.declared.entry.Entry.{Entry}
-use Rattle.container_meta.specs.Segments.{Segment, Contents, CanAdd, segments_in, entries_from, bytes_in}
-use Rattle.container_meta.specs.Spelling.{bytes_of, Follow, IsNext}
+use Rattle.container_meta.proofs.Prelude.{◌≡◌, ℕ, List, [], ◌∷◌, ◌++◌, refl, ap, sym, subst, length, length-append, ◌∙◌, arith, Entry, Segment, Contents, CanAdd, segments_in, entries_from, bytes_in, bytes_of, Follow, IsNext}
 use Rattle.container_meta.proofs.Numbers.{same_entry}
 use Rattle.container_meta.proofs.Packing.{length-segments_in, bytes_in-segments_in, room_holds, next_allowed, exact-push, whole-push, segments_in-push, Follow-push, entry_for}
 use Rattle.container_meta.proofs.container.OpenContainer.try_add.Goals as goal

@@ -1,4 +1,4 @@
-use Rattle.std.proofs.Common.{ap, sym, ◌∙◌}
+use Rattle.container_meta.proofs.Prelude.{ap, sym, ◌∙◌}
 use Rattle.std.specs.FinMap as finite
 use Rattle.container_meta.proofs.KeyEntries.{get_seen}
 use Rattle.container_meta.proofs.key_map.KeyMap.get.Goals as goal

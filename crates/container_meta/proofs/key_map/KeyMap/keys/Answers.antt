@@ -1,4 +1,4 @@
-use Rattle.std.proofs.Common.{◌≡◌, ◌++◌, ◌∷◌, [], List, ℕ, map, ap, sym, ◌∙◌, append_assoc}
+use Rattle.container_meta.proofs.Prelude.{◌≡◌, ◌++◌, ◌∷◌, [], List, ℕ, map, ap, sym, ◌∙◌, append_assoc}
 use Rattle.std.specs.FinMap as finite
 use Rattle.container_meta.proofs.KeyEntries.{entries_seen}
 use Rattle.container_meta.proofs.key_map.KeyMap.keys.Goals as goal

@@ -1,4 +1,4 @@
-use Rattle.std.proofs.Common.{◌≡◌, ◌++◌, map}
+use Rattle.container_meta.proofs.Prelude.{◌≡◌, ◌++◌, map}
 use Rattle.std.specs.FinMap as finite
 use Rattle.container_meta.proofs.key_map.KeyMap.keys.Given as goal
 

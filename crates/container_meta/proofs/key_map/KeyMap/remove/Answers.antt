@@ -1,4 +1,4 @@
-use Rattle.std.proofs.Common.{ap, ◌∙◌}
+use Rattle.container_meta.proofs.Prelude.{ap, ◌∙◌}
 use Rattle.std.specs.FinMap as finite
 use Rattle.container_meta.proofs.KeyEntries.{removed_seen}
 use Rattle.container_meta.proofs.key_map.KeyMap.remove.Goals as goal

@@ -1,4 +1,4 @@
-use Rattle.std.proofs.Common.{Bool}
+use Rattle.gc_steps.proofs.Prelude.{Bool}
 use Rattle.gc_steps.proofs.Faulted.{lookup_fault, lookup_counts}
 use Rattle.gc_steps.proofs.copies.LentCopiesCopies.is_copy.Goals as goal
 

@@ -1,5 +1,4 @@
-use Rattle.std.proofs.Common.{Option}
-use Rattle.container_meta.specs.declared.place.Place.{Place}
+use Rattle.gc_steps.proofs.Prelude.{Option, Place}
 use Rattle.gc_steps.proofs.Faulted.{lookup_fault, lookup_counts}
 use Rattle.gc_steps.proofs.copies.LentCopiesCopies.place_of.Goals as goal
 

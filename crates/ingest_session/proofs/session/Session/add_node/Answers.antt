@@ -1,5 +1,4 @@
-use Rattle.std.proofs.Common.{rules}
-use Rattle.ingest_session.specs.Finished.{first_of}
+use Rattle.ingest_session.proofs.Prelude.{rules, first_of}
 use Rattle.ingest_session.proofs.Fitting.{can_add_node}
 use Rattle.ingest_session.proofs.session.Session.add_node.Goals as goal
 

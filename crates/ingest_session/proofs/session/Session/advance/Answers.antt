@@ -1,6 +1,5 @@
-use Rattle.std.proofs.Common.{◌≡◌, None, length, rules}
-use Rattle.merkle_file.specs.Tree.{of_segment}
-use Rattle.ingest_session.specs.contracts.session.Session.{the_view}
+use Rattle.ingest_session.proofs.Prelude.{◌≡◌, length, rules, of_segment, the_view}
+use Rattle.std.proofs.Common.{None}
 use Rattle.ingest_session.proofs.Advancing.{is_advanced}
 use Rattle.ingest_session.proofs.session.Session.advance.Goals as goal
 

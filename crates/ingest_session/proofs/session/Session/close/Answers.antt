@@ -1,5 +1,5 @@
-use Rattle.std.proofs.Common.{◌≡◌, true, IsSome, None, inr, length, rules}
-use Rattle.ingest_session.specs.contracts.session.Session.{the_view}
+use Rattle.ingest_session.proofs.Prelude.{◌≡◌, true, IsSome, inr, length, rules, the_view}
+use Rattle.std.proofs.Common.{None}
 use Rattle.ingest_session.proofs.Advancing.{is_closing}
 use Rattle.ingest_session.proofs.session.Session.close.Goals as goal
 

@@ -1,6 +1,4 @@
-use Rattle.std.proofs.Common.{ap, arith}
-use Rattle.ingest_session.specs.State.{SessionState}
-use Rattle.ingest_session.specs.Work.{to_do}
+use Rattle.ingest_session.proofs.Prelude.{ap, arith, SessionState, to_do}
 use Rattle.ingest_session.proofs.Settled.{asking_keeps, asking_places, settling_keeps, settling_places}
 use Rattle.ingest_session.proofs.Working.{settling_is_no_more}
 use Rattle.ingest_session.proofs.session.Session.due.Goals as goal

@@ -1,6 +1,4 @@
-use Rattle.std.proofs.Common.{◌≡◌, ◌≤◌, ◌∙◌, true, false, length, sym, ap, rules}
-use Rattle.segmenter.specs.Cutting.{Hand, empty_hand}
-use Rattle.ingest_session.specs.contracts.session.Session.{the_view}
+use Rattle.ingest_session.proofs.Prelude.{◌≡◌, ◌≤◌, ◌∙◌, true, false, length, sym, ap, rules, Hand, empty_hand, the_view}
 use Rattle.ingest_session.proofs.AtEnd.{ended_before_last, ended_with_rest}
 use Rattle.ingest_session.proofs.session.Session.end.Goals as goal
 

@@ -1,5 +1,4 @@
-use Rattle.std.proofs.Common.{subst}
-use Rattle.ingest_session.specs.Sound.{IsSession}
+use Rattle.ingest_session.proofs.Prelude.{subst, IsSession}
 use Rattle.ingest_session.proofs.SealsSome.{leaves_are_right, seal_holds_some}
 use Rattle.ingest_session.proofs.session.Session.filled.Goals as goal
 

@@ -1,4 +1,4 @@
-use Rattle.ingest_session.specs.History.{Ended}
+use Rattle.ingest_session.proofs.Prelude.{Ended}
 use Rattle.ingest_session.proofs.session.Session.finish.Goals as goal
 
 pub returns-clause-history : goal.returns-clause-history

@@ -1,4 +1,4 @@
-use Rattle.std.proofs.Common.{refl, rules}
+use Rattle.ingest_session.proofs.Prelude.{refl, rules}
 use Rattle.ingest_session.specs.History.{Begun}
 use Rattle.ingest_session.proofs.Beginning.{new_is_session}
 use Rattle.ingest_session.proofs.session.Session.new.Goals as goal

@@ -1,8 +1,5 @@
-use Rattle.std.proofs.Common.{◌≡◌, ap, arith, false, true, None, IsSome, rules}
-use Rattle.ingest_session.specs.Due.{needs_no_step, turn_in}
-use Rattle.ingest_session.specs.State.{turn_node}
-use Rattle.ingest_session.specs.Settling.{Then, PlacedFront}
-use Rattle.ingest_session.specs.Work.{to_do}
+use Rattle.ingest_session.proofs.Prelude.{◌≡◌, ap, arith, false, true, IsSome, rules, needs_no_step, turn_in, turn_node, Then, PlacedFront, to_do}
+use Rattle.std.proofs.Common.{None}
 use Rattle.ingest_session.proofs.Settled.{settles_closing}
 use Rattle.ingest_session.proofs.Working.{front_is_less, settling_is_no_more}
 use Rattle.ingest_session.proofs.session.Session.pass_front.Goals as goal

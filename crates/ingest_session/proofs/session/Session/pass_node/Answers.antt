@@ -1,7 +1,5 @@
-use Rattle.std.proofs.Common.{◌≡◌, true, IsSome, rules}
-use Rattle.ingest_session.specs.Due.{needs_no_step, turn_in}
-use Rattle.ingest_session.specs.State.{turn_node}
-use Rattle.ingest_session.specs.Settling.{Stays, Then, Spelled, PlacedNode}
+use Rattle.ingest_session.proofs.Prelude.{◌≡◌, true, IsSome, rules, needs_no_step, turn_in, turn_node, Then, Spelled, PlacedNode}
+use Rattle.ingest_session.specs.Settling.{Stays}
 use Rattle.ingest_session.proofs.Settled.{settles_by}
 use Rattle.ingest_session.proofs.session.Session.pass_node.Goals as goal
 

@@ -1,4 +1,4 @@
-use Rattle.ingest_session.specs.Settling.{Turned}
+use Rattle.ingest_session.proofs.Prelude.{Turned}
 use Rattle.ingest_session.proofs.Settled.{settles_by, settles_on}
 use Rattle.ingest_session.proofs.session.Session.pass_one.Goals as goal
 

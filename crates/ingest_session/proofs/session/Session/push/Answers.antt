@@ -1,6 +1,5 @@
-use Rattle.std.proofs.Common.{◌≡◌, false, take, refl, arith, rules}
+use Rattle.ingest_session.proofs.Prelude.{◌≡◌, false, take, refl, arith, rules, Pushed}
 use Rattle.std.proofs.Math.Seq.{take-add}
-use Rattle.ingest_session.specs.History.{Pushed}
 use Rattle.ingest_session.proofs.Cuts.{cuts_few_more}
 use Rattle.ingest_session.proofs.Takes.{takes_more, takes_none}
 use Rattle.ingest_session.proofs.session.Session.push.Goals as goal

@@ -1,7 +1,4 @@
-use Rattle.std.proofs.Common.{◌≡◌, ◌≤◌, ◌+◌, ◌-◌, false, length, take}
-use Rattle.disk_format.specs.declared.numbers.TheConstants.{MOST_FILE}
-use Rattle.ingest_session.specs.Calls.{IsTaking}
-use Rattle.ingest_session.specs.Cuts.{CutsFew}
+use Rattle.ingest_session.proofs.Prelude.{◌≡◌, ◌≤◌, ◌+◌, ◌-◌, false, length, take, MOST_FILE, IsTaking, CutsFew}
 use Rattle.ingest_session.proofs.session.Session.push.Given as goal
 
 abbrev pub invariant-loop-taken : goal.invariant-loop-taken

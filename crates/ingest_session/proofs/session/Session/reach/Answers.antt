@@ -1,4 +1,5 @@
-use Rattle.ingest_session.specs.Settling.{Stays, Advanced}
+use Rattle.ingest_session.proofs.Prelude.{Advanced}
+use Rattle.ingest_session.specs.Settling.{Stays}
 use Rattle.ingest_session.proofs.Settled.{settles_by}
 use Rattle.ingest_session.proofs.session.Session.reach.Goals as goal
 

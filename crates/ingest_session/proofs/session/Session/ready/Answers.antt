@@ -1,7 +1,4 @@
-use Rattle.std.proofs.Common.{◌≡◌, true, sym, subst, rules}
-use Rattle.ingest_session.specs.contracts.session.Session.{the_view}
-use Rattle.ingest_session.specs.History.{HasHistory}
-use Rattle.ingest_session.specs.State.{SessionState}
+use Rattle.ingest_session.proofs.Prelude.{◌≡◌, true, sym, subst, rules, the_view, HasHistory, SessionState}
 use Rattle.ingest_session.proofs.Ends.{ready_root}
 use Rattle.ingest_session.proofs.session.Session.ready.Goals as goal
 

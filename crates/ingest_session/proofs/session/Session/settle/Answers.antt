@@ -1,4 +1,4 @@
-use Rattle.std.proofs.Common.{refl, rules}
+use Rattle.ingest_session.proofs.Prelude.{refl, rules}
 use Rattle.ingest_session.specs.Settling.{Stays}
 use Rattle.ingest_session.proofs.Settled.{settles_on}
 use Rattle.ingest_session.proofs.session.Session.settle.Goals as goal

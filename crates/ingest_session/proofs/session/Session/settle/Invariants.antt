@@ -1,6 +1,5 @@
-use Rattle.std.proofs.Common.{◌≡◌, false}
-use Rattle.ingest_session.specs.Work.{to_do}
-use Rattle.ingest_session.specs.Settling.{Settles, seen}
+use Rattle.ingest_session.proofs.Prelude.{◌≡◌, false, to_do, Settles}
+use Rattle.ingest_session.specs.Settling.{seen}
 use Rattle.ingest_session.proofs.session.Session.settle.Given as goal
 
 abbrev pub invariant-loop : goal.invariant-loop

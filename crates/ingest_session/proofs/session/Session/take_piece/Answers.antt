@@ -1,6 +1,5 @@
-use Rattle.std.proofs.Common.{◌≡◌, true, ◌∙◌, rules, false, refl}
+use Rattle.ingest_session.proofs.Prelude.{◌≡◌, true, ◌∙◌, rules, false, refl, the_view}
 use Rattle.segmenter.proofs.RunLemmas.{shown_more}
-use Rattle.ingest_session.specs.contracts.session.Session.{the_view}
 use Rattle.ingest_session.proofs.Taking.{cut_off_is_session, cut_off_takes}
 use Rattle.ingest_session.proofs.session.Session.take_piece.Goals as goal
 

@@ -1,4 +1,4 @@
-use Rattle.std.proofs.Common.{ap}
+use Rattle.journal_cells.proofs.Prelude.{ap}
 use Rattle.journal_cells.proofs.Checkpointed.{writes_checkpoint}
 use Rattle.journal_cells.proofs.journal.Journal.write_checkpoint.Goals as goal
 

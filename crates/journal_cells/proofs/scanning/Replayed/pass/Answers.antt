@@ -1,8 +1,4 @@
-use Rattle.std.proofs.Common.{◌∙◌, ap, subst, sym, refl, arith}
-use Rattle.disk_format.specs.Cells.{RecordValue, IsName}
-use Rattle.namespace.specs.Names.{record_value}
-use Rattle.journal_cells.specs.Inspecting.{names_taking}
-use Rattle.journal_cells.specs.Scanning.{replay}
+use Rattle.journal_cells.proofs.Prelude.{◌∙◌, ap, subst, sym, refl, arith, RecordValue, IsName, record_value, names_taking, replay}
 use Rattle.journal_cells.proofs.Found.{own_named}
 use Rattle.journal_cells.proofs.Inspected.{passes_by, takes_part, names_take, names_keep}
 use Rattle.journal_cells.proofs.scanning.Replayed.pass.Goals as goal

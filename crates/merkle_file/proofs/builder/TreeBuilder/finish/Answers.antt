@@ -1,11 +1,5 @@
-use Rattle.std.proofs.Common.{◌≡◌, ◌++◌, List, [], length, ap, sym, subst, ◌∙◌, arith}
-use Rattle.std.specs.Global.{Vec}
-use Rattle.merkle_file.specs.Node.{Contents}
-use Rattle.merkle_file.specs.declared.node.Child.{Child}
-use Rattle.disk_format.specs.declared.numbers.TheConstants.{MOST_LEVEL}
-use Rattle.merkle_file.specs.Building.{Progress, Holds, levels_left}
+use Rattle.merkle_file.proofs.Prelude.{◌≡◌, ◌++◌, List, [], length, ap, sym, subst, ◌∙◌, arith, Vec, Contents, Child, MOST_LEVEL, Progress, Holds, levels_left, items_of}
 use Rattle.merkle_file.specs.Steps.{close}
-use Rattle.merkle_file.specs.Rows.{items_of}
 use Rattle.merkle_file.proofs.Placing.{length-items}
 use Rattle.merkle_file.proofs.Added.{added_closed}
 use Rattle.merkle_file.proofs.Progress.{cleared, fresh_progress, finished_holds}

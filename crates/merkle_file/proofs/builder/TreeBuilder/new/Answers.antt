@@ -1,4 +1,4 @@
-use Rattle.merkle_file.specs.Rows.{items_of}
+use Rattle.merkle_file.proofs.Prelude.{items_of}
 use Rattle.merkle_file.proofs.Progress.{fresh_holds, fresh_progress}
 use Rattle.merkle_file.proofs.builder.TreeBuilder.new.Goals as goal
 

@@ -1,11 +1,7 @@
-use Rattle.std.proofs.Common.{◌≡◌, ◌+◌, ◌++◌, List, drop, length, ap, sym, subst, ◌∙◌, arith, rules}
-use Rattle.std.proofs.lemmas.List.{take_at}
-use Rattle.std.specs.Global.{Vec}
-use Rattle.merkle_file.specs.declared.node.Child.{Child}
-use Rattle.merkle_file.specs.Node.{Contents}
-use Rattle.merkle_file.specs.Building.{Progress, MayPush, Holds, total_of}
+use Rattle.merkle_file.proofs.Prelude.{◌≡◌, ◌+◌, ◌++◌, List, drop, length, ap, sym, subst, ◌∙◌, arith, take_at, Vec, Child, Contents, Progress, MayPush, Holds, items_of}
+use Rattle.std.proofs.Common.{rules}
+use Rattle.merkle_file.specs.Building.{total_of}
 use Rattle.merkle_file.specs.Steps.{place}
-use Rattle.merkle_file.specs.Rows.{items_of}
 use Rattle.merkle_file.proofs.Added.{added_placed}
 use Rattle.merkle_file.proofs.Progress.{pushed_holds, pushed_progress, pushed_total}
 use Rattle.merkle_file.proofs.builder.TreeBuilder.push.Goals as goal

@@ -1,7 +1,5 @@
-use Rattle.std.proofs.Common.{◌∷◌, List, reverse, sym, subst}
-use Rattle.merkle_file.specs.declared.top.Top.{Top}
+use Rattle.merkle_file.proofs.Prelude.{◌∷◌, List, reverse, sym, subst, Top, Ahead}
 use Rattle.merkle_file.specs.Tree as tree
-use Rattle.merkle_file.specs.Walk.{Ahead}
 use Rattle.merkle_file.proofs.Unfolding.{walk_law}
 use Rattle.merkle_file.proofs.cursor.Cursor.feed.Goals as goal
 

@@ -1,4 +1,4 @@
-use Rattle.std.proofs.Common.{ap, ◌∙◌}
+use Rattle.recovery.proofs.Prelude.{ap, ◌∙◌}
 use Rattle.std.specs.FinMap as finite
 use Rattle.container_meta.proofs.KeyEntries.{inserted_seen}
 use Rattle.recovery.proofs.passed.Passed.add.Goals as goal

@@ -1,5 +1,4 @@
-use Rattle.std.proofs.Common.{ap, sym, ◌∙◌}
-use Rattle.std.specs.Prelude.{is_some}
+use Rattle.recovery.proofs.Prelude.{ap, sym, ◌∙◌, is_some}
 use Rattle.std.specs.FinMap as finite
 use Rattle.container_meta.proofs.KeyEntries.{get_seen}
 use Rattle.recovery.proofs.passed.Passed.has.Goals as goal

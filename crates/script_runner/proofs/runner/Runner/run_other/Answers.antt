@@ -1,11 +1,6 @@
-use Rattle.std.proofs.Common.{inl, Result, Err, refl, subst}
-use Rattle.refusals.specs.declared.refusal.Refusal.TheVariants.{Memory}
+use Rattle.script_runner.proofs.Prelude.{inl, Result, Err, refl, subst, Memory, line_value, RunnerState, Replies, runner_of, by_error}
 use Rattle.reply_text.specs.declared.ending.Ending.{Ending}
 use Rattle.reply_text.specs.declared.ending.Ending.TheVariants as endings
-use Rattle.script_lines.specs.LineValue.{line_value}
-use Rattle.script_runner.specs.Acts.{RunnerState}
-use Rattle.script_runner.specs.Runner.{Replies, runner_of}
-use Rattle.session_turns.proofs.Results.{by_error}
 use Rattle.script_runner.proofs.runner.Runner.run_other.Goals as goal
 
 pub returns-in_err-reply : goal.returns-in_err-reply

@@ -1,12 +1,9 @@
-use Rattle.std.proofs.Common.{inr, Result, Err, refl, subst}
+use Rattle.script_runner.proofs.Prelude.{inr, Result, Err, refl, subst, RunnerState, Replies, runner_of, by_error}
 use Rattle.reply_text.specs.declared.ending.Ending.{Ending}
 use Rattle.reply_text.specs.declared.ending.Ending.TheVariants as endings
 use Rattle.script_lines.specs.Grammar as lines
 use Rattle.script_lines.specs.ReplyValue as replies
-use Rattle.script_runner.specs.Acts.{RunnerState}
-use Rattle.script_runner.specs.Runner.{Replies, runner_of}
 use Rattle.script_runner.proofs.Sends.{told_so, untold_so}
-use Rattle.session_turns.proofs.Results.{by_error}
 use Rattle.script_runner.proofs.runner.Runner.run_reopen.Goals as goal
 
 pub returns-in_err-tell-in-Err : goal.returns-in_err-tell-in-Err

@@ -1,5 +1,4 @@
-use Rattle.std.proofs.Common.{ℕ, refl, sym, subst}
-use Rattle.segment_index.specs.Places.{HasPlaces}
+use Rattle.store_core.proofs.Prelude.{ℕ, refl, sym, subst, HasPlaces}
 use Rattle.store_core.proofs.Committing.{made_delete}
 use Rattle.store_core.proofs.running.Core.delete.Goals as goal
 

@@ -1,4 +1,4 @@
-use Rattle.std.proofs.Common.{refl}
+use Rattle.store_core.proofs.Prelude.{refl}
 use Rattle.store_core.proofs.MakingGc.{made_running}
 use Rattle.store_core.proofs.running.Core.gc_start.Goals as goal
 

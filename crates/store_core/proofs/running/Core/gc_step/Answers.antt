@@ -1,5 +1,4 @@
-use Rattle.std.proofs.Common.{refl}
-use Rattle.std.proofs.lemmas.Result.{err_from_is_err_and}
+use Rattle.store_core.proofs.Prelude.{refl, err_from_is_err_and}
 use Rattle.store_core.proofs.MakingGc.{made_did, made_done, made_none, made_refused}
 use Rattle.store_core.proofs.running.Core.gc_step.Goals as goal
 

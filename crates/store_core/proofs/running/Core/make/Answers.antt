@@ -1,5 +1,4 @@
-use Rattle.std.proofs.Common.{ap}
-use Rattle.actor_parts.specs.StepValue.{step_value}
+use Rattle.store_core.proofs.Prelude.{ap, step_value}
 use Rattle.store_core.proofs.Making.{made_of, made_stat}
 use Rattle.store_core.proofs.running.Core.make.Goals as goal
 

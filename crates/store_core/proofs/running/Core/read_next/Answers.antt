@@ -1,4 +1,4 @@
-use Rattle.std.proofs.Common.{refl}
+use Rattle.store_core.proofs.Prelude.{refl}
 use Rattle.store_core.proofs.Committing.{made_bytes}
 use Rattle.store_core.proofs.running.Core.read_next.Goals as goal
 

@@ -1,6 +1,4 @@
-use Rattle.std.proofs.Common.{inl, inr, ℕ, refl, sym, subst}
-use Rattle.segment_index.specs.Places.{HasPlaces}
-use Rattle.store_core.specs.Opening.{LeavesUnread}
+use Rattle.store_core.proofs.Prelude.{inl, inr, ℕ, refl, sym, subst, HasPlaces, LeavesUnread}
 use Rattle.store_core.proofs.Opened.{core_over, none_over, opened_runs, stays_runs, writes_over}
 use Rattle.store_core.proofs.running.Core.reopen.Goals as goal
 

@@ -1,5 +1,4 @@
-use Rattle.std.proofs.Common.{[], None}
-use Rattle.std.proofs.lemmas.Result.{err_from_is_err_and}
+use Rattle.store_core.proofs.Prelude.{[], None, err_from_is_err_and}
 use Rattle.store_core.proofs.MarkedSteps.{seal_alike, seal_collects, seal_refused, seal_without_memory, marks_moved, restores_moved}
 use Rattle.store_core.proofs.running.Core.seal.Goals as goal
 

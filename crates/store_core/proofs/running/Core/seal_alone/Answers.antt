@@ -1,4 +1,4 @@
-use Rattle.std.proofs.Common.{refl}
+use Rattle.store_core.proofs.Prelude.{refl}
 use Rattle.store_core.proofs.Sealing.{index_has, made_seal, made_unsealed}
 use Rattle.store_core.proofs.running.Core.seal_alone.Goals as goal
 

@@ -1,6 +1,4 @@
-use Rattle.std.proofs.Common.{ℕ, refl, ◌∙◌, ap, subst}
-use Rattle.actor_parts.specs.StepValue.{step_value}
-use Rattle.store_core.specs.Core.{StopsAfter, counted}
+use Rattle.store_core.proofs.Prelude.{ℕ, refl, ◌∙◌, ap, subst, step_value, StopsAfter, counted}
 use Rattle.store_core.proofs.Making.{collects_same, core_runs}
 use Rattle.store_core.proofs.running.Core.step.Goals as goal
 

@@ -32,8 +32,9 @@ use crate::slot::read_gate;
 use base_model::part;
 use container_meta::{Entry, MetaFault, decode_into, digest_of};
 use dd_disk::{Disk, DiskFault, read_at};
+use dd_io::Sink;
 use disk_format::{CONTAINER_GATE, HEADER_BYTES, MOST_ENTRIES, SLOT_BYTES, Why, slot_at};
-use inspection::{Damage, Halt, TakesDamage, Tally, add_cell, add_copy};
+use inspection::{Damage, Halt, SpellsDamage, Tally, add_cell, add_copy};
 use std::alloc::Global;
 
 // ---- what stands in an open slot, by its bytes
@@ -59,8 +60,8 @@ fn copy_damage(slot: u32, entry: &Entry, bytes: &[u8]) -> Option<Damage>
 }
 
 // Each copy that entries name is counted, and its damage handed on.
-fn inspect_copies<T: TakesDamage>(
-    takes: &mut T,
+fn inspect_copies<K: Sink, S: SpellsDamage>(
+    sink: &mut K,
     tally: &mut Tally,
     slot: u32,
     entries: &[Entry],
@@ -68,13 +69,13 @@ fn inspect_copies<T: TakesDamage>(
 ) -> Result<(), Halt>
     requires length { length bytes.now ≡ SLOT_BYTES }
     requires within { AreInSlot entries.now }
-    ensures done { OnOk result (Reports T.line (copies_found slot entries.now bytes.now) (T.view takes.old) (T.view takes.new)
+    ensures done { OnOk result (Reports S.line (copies_found slot entries.now bytes.now) (K.view sink.old) (K.view sink.new)
         tally.old tally.new) }
     ensures halt { IfErr result (λ halt. (halt ≡ Untaken)
-        × Stops T.line (copies_found slot entries.now bytes.now) (T.view takes.old) (T.view takes.new) halt) }
+        × Stops S.line (copies_found slot entries.now bytes.now) (K.view sink.old) (K.view sink.new) halt) }
 {
     for entry in entries {
-        add_copy(takes, tally, &copy_damage(slot, entry, bytes))?;
+        add_copy::<K, S>(sink, tally, &copy_damage(slot, entry, bytes))?;
     }
     Ok(())
 }
@@ -115,8 +116,8 @@ fn header_damage(slot: u32, header: &[u8], fault: MetaFault) -> Option<Damage>
 // The header of an open slot is counted, and its damage handed on; the copies of a right one come after it. The id of a right one
 // is answered.
 #[tactic(auto, unfolding(crate::specs::Inspecting::slot_found))]
-fn inspect_bytes<T: TakesDamage>(
-    takes: &mut T,
+fn inspect_bytes<K: Sink, S: SpellsDamage>(
+    sink: &mut K,
     tally: &mut Tally,
     slot: u32,
     ids: &[u64],
@@ -126,21 +127,21 @@ fn inspect_bytes<T: TakesDamage>(
     requires length { length bytes.now ≡ SLOT_BYTES }
     requires room { MOST_ENTRIES ≤ vec_capacity entries.old }
     ensures id { IfOk result (λ id. ids_with ids.now (header_in bytes.now) ≡ ids.now ++ option_to_list id) }
-    ensures done { OnOk result (Reports T.line (slot_found slot ids.now bytes.now) (T.view takes.old) (T.view takes.new)
+    ensures done { OnOk result (Reports S.line (slot_found slot ids.now bytes.now) (K.view sink.old) (K.view sink.new)
         tally.old tally.new) }
     ensures halt { IfErr result (λ halt. (halt ≡ Untaken)
-        × Stops T.line (slot_found slot ids.now bytes.now) (T.view takes.old) (T.view takes.new) halt) }
+        × Stops S.line (slot_found slot ids.now bytes.now) (K.view sink.old) (K.view sink.new) halt) }
     ensures room { vec_capacity entries.old ≤ vec_capacity entries.new }
 {
     let header = part(bytes, 0, HEADER_BYTES as usize);
     match decode_into(header, entries) {
         Ok(right) => {
-            add_cell(takes, tally, &id_damage(slot, ids, right.id))?;
-            inspect_copies(takes, tally, slot, entries, bytes)?;
+            add_cell::<K, S>(sink, tally, &id_damage(slot, ids, right.id))?;
+            inspect_copies::<K, S>(sink, tally, slot, entries, bytes)?;
             Ok(Some(right.id))
         }
         Err(fault) => {
-            add_cell(takes, tally, &header_damage(slot, header, fault))?;
+            add_cell::<K, S>(sink, tally, &header_damage(slot, header, fault))?;
             Ok(None)
         }
     }
@@ -197,9 +198,9 @@ fn add_id(ids: &mut Vec<u64>, id: Option<u64>) -> Result<(), Halt>
 }
 
 // One slot. The id of a right header is put behind those before it.
-fn inspect_slot<D: Disk, T: TakesDamage>(
+fn inspect_slot<D: Disk, K: Sink, S: SpellsDamage>(
     disk: &mut D,
-    takes: &mut T,
+    sink: &mut K,
     tally: &mut Tally,
     slot: u32,
     ids: &mut Vec<u64>,
@@ -209,11 +210,11 @@ fn inspect_slot<D: Disk, T: TakesDamage>(
     requires place { slot_at slot + SLOT_BYTES ≤ (D.view disk.old).size }
     requires length { length bytes.old ≡ SLOT_BYTES }
     requires room { MOST_ENTRIES ≤ vec_capacity entries.old }
-    ensures found { OnOk result ((left : ℕ) → Finds T.line (slots_found (suc left) slot ids.old.items)
+    ensures found { OnOk result ((left : ℕ) → Finds S.line (slots_found (suc left) slot ids.old.items)
         (slots_found left (suc slot) ids.new.items)
-        (D.view disk.old) (D.view disk.new) (T.view takes.old) (T.view takes.new) tally.old tally.new) }
-    ensures stopped { IfErr result (λ halt. (left : ℕ) → StopsAmong T.line (slots_found (suc left) slot ids.old.items)
-        (D.view disk.old) (D.view disk.new) (T.view takes.old) (T.view takes.new) halt) }
+        (D.view disk.old) (D.view disk.new) (K.view sink.old) (K.view sink.new) tally.old tally.new) }
+    ensures stopped { IfErr result (λ halt. (left : ℕ) → StopsAmong S.line (slots_found (suc left) slot ids.old.items)
+        (D.view disk.old) (D.view disk.new) (K.view sink.old) (K.view sink.new) halt) }
     ensures length { length bytes.new ≡ SLOT_BYTES }
     ensures room { vec_capacity entries.old ≤ vec_capacity entries.new }
     ensures reads { Reads (ending blames result) (D.view disk.old) (D.view disk.new) }
@@ -221,7 +222,7 @@ fn inspect_slot<D: Disk, T: TakesDamage>(
     if !read_slot_into(disk, slot, bytes)? {
         return Ok(());
     }
-    let id = inspect_bytes(takes, tally, slot, ids, bytes, entries)?;
+    let id = inspect_bytes::<K, S>(sink, tally, slot, ids, bytes, entries)?;
     add_id(ids, id)
 }
 
@@ -244,9 +245,9 @@ fn entry_buffer(alloc: Global) -> Result<Vec<Entry>, Halt>
 }
 
 // The slots of a disk, from slot 0 on, each read into `bytes`.
-fn inspect_each<D: Disk, T: TakesDamage>(
+fn inspect_each<D: Disk, K: Sink, S: SpellsDamage>(
     disk: &mut D,
-    takes: &mut T,
+    sink: &mut K,
     tally: &mut Tally,
     slots: u32,
     bytes: &mut [u8],
@@ -258,14 +259,14 @@ fn inspect_each<D: Disk, T: TakesDamage>(
     requires length { length bytes.old ≡ SLOT_BYTES }
     requires room { MOST_ENTRIES ≤ vec_capacity entries.old }
     requires none { ids.items ≡ [] }
-    ensures found { OnOk result (Finds T.line (slots_found slots 0 []) (λ image. nothing)
-        (D.view disk.old) (D.view disk.new) (T.view takes.old) (T.view takes.new) tally.old tally.new) }
-    ensures stopped { IfErr result (StopsAmong T.line (slots_found slots 0 [])
-        (D.view disk.old) (D.view disk.new) (T.view takes.old) (T.view takes.new)) }
+    ensures found { OnOk result (Finds S.line (slots_found slots 0 []) (λ image. nothing)
+        (D.view disk.old) (D.view disk.new) (K.view sink.old) (K.view sink.new) tally.old tally.new) }
+    ensures stopped { IfErr result (StopsAmong S.line (slots_found slots 0 [])
+        (D.view disk.old) (D.view disk.new) (K.view sink.old) (K.view sink.new)) }
     ensures reads { Reads (ending blames result) (D.view disk.old) (D.view disk.new) }
 {
     for slot in 0..slots {
-        inspect_slot(disk, takes, tally, slot, &mut ids, bytes, entries)?;
+        inspect_slot::<D, K, S>(disk, sink, tally, slot, &mut ids, bytes, entries)?;
     }
     Ok(())
 }
@@ -273,26 +274,26 @@ fn inspect_each<D: Disk, T: TakesDamage>(
 /// Inspects the slots of a disk, from slot 0 on: of each its gate and, where that is open, all bytes after it, each read once. A header
 /// that breaks the format, or has the id of a right one before it, is damaged; and of a right one each copy whose bytes have another
 /// digest. It takes memory for one slot, for the entries of one, and for the ids.
-pub fn inspect_slots<D: Disk, T: TakesDamage>(
+pub fn inspect_slots<D: Disk, K: Sink, S: SpellsDamage>(
     alloc: Global,
     disk: &mut D,
-    takes: &mut T,
+    sink: &mut K,
     tally: &mut Tally,
     slots: u32,
 ) -> Result<(), Halt>
     requires count { IsSlotCount slots }
     requires size { (D.view disk.old).size ≡ size_of slots }
-    ensures found { OnOk result (Finds T.line (slots_found slots 0 []) (λ image. nothing)
-        (D.view disk.old) (D.view disk.new) (T.view takes.old) (T.view takes.new) tally.old tally.new) }
-    ensures stopped { IfErr result (StopsAmong T.line (slots_found slots 0 [])
-        (D.view disk.old) (D.view disk.new) (T.view takes.old) (T.view takes.new)) }
+    ensures found { OnOk result (Finds S.line (slots_found slots 0 []) (λ image. nothing)
+        (D.view disk.old) (D.view disk.new) (K.view sink.old) (K.view sink.new) tally.old tally.new) }
+    ensures stopped { IfErr result (StopsAmong S.line (slots_found slots 0 [])
+        (D.view disk.old) (D.view disk.new) (K.view sink.old) (K.view sink.new)) }
     ensures reads { Reads (ending blames result) (D.view disk.old) (D.view disk.new) }
 {
     let mut bytes = slot_buffer(alloc)?;
     let mut entries = entry_buffer(alloc)?;
-    inspect_each(
+    inspect_each::<D, K, S>(
         disk,
-        takes,
+        sink,
         tally,
         slots,
         bytes.as_mut_slice(),

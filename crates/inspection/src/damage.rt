@@ -1,9 +1,9 @@
-//! What breaks the format, and what takes it.
+//! What breaks the format, and how it is written.
 ghost use Rattle.dd_io.specs.Flow.{SinkView, Sends};
 ghost use Rattle.std.specs.Prelude.{ℕ, List};
 ghost use Rattle.inspection.specs.declared.damage.Damage.{Damage as DamageValue};
 
-use dd_io::SinkFault;
+use dd_io::{Sink, SinkFault};
 use disk_format::Why;
 
 /// Something on a disk that breaks the format.
@@ -27,15 +27,12 @@ pub enum Damage {
     },
 }
 
-/// What takes damages as they are found, as a sink takes bytes: each has a spelling.
-pub trait TakesDamage {
-    /// What was written of them, and how many calls failed.
-    ghost view: { Self → SinkView };
-
-    /// How one is written.
+/// How damages are written, as they are found.
+pub trait SpellsDamage {
+    /// The bytes of one.
     ghost line: { DamageValue → List ℕ };
 
-    /// Takes one more. A call that fails may have written a first part of it.
-    fn take(&mut self, damage: &Damage) -> Result<(), SinkFault>
-        ensures { Sends (line damage.now) result (view self.old) (view self.new) };
+    /// Writes one. A call that fails may have written a first part of it.
+    fn write<K: Sink>(sink: &mut K, damage: &Damage) -> Result<(), SinkFault>
+        ensures { Sends (line damage.now) result (K.view sink.old) (K.view sink.new) };
 }

@@ -6,7 +6,7 @@ mod halt;
 mod report;
 mod tally;
 
-pub use damage::{Damage, TakesDamage};
+pub use damage::{Damage, SpellsDamage};
 pub use halt::Halt;
 pub use report::{add_cell, add_copy, hand_on};
 pub use tally::Tally;

@@ -4,25 +4,25 @@ ghost use Rattle.inspection.specs.Found.{cell_with, copy_with, only_damage};
 ghost use Rattle.inspection.specs.Handing.{Reports, Stops};
 ghost use Rattle.inspection.specs.declared.halt.Halt.TheVariants.{Untaken};
 
-use crate::damage::{Damage, TakesDamage};
+use crate::damage::{Damage, SpellsDamage};
 use crate::halt::Halt;
 use crate::tally::{Tally, one_more};
-use dd_io::SinkFault;
+use dd_io::{Sink, SinkFault};
 
 /// Hands a damage on, where there is one, and counts it.
-pub fn hand_on<T: TakesDamage>(
-    takes: &mut T,
+pub fn hand_on<K: Sink, S: SpellsDamage>(
+    sink: &mut K,
     tally: &mut Tally,
     damage: &Option<Damage>,
 ) -> Result<(), Halt>
-    ensures done { OnOk result (Reports T.line (only_damage damage.now) (T.view takes.old) (T.view takes.new) tally.old tally.new) }
+    ensures done { OnOk result (Reports S.line (only_damage damage.now) (K.view sink.old) (K.view sink.new) tally.old tally.new) }
     ensures halt { IfErr result (λ halt. (halt ≡ Untaken)
-        × Stops T.line (only_damage damage.now) (T.view takes.old) (T.view takes.new) halt) }
+        × Stops S.line (only_damage damage.now) (K.view sink.old) (K.view sink.new) halt) }
 {
     let Some(found) = damage else {
         return Ok(());
     };
-    match takes.take(found) {
+    match S::write(sink, found) {
         Ok(()) => {}
         Err(SinkFault) => return Err(Halt::Untaken),
     }
@@ -31,29 +31,29 @@ pub fn hand_on<T: TakesDamage>(
 }
 
 /// Counts a cell or a header whose gate is open, and hands its damage on, where it has one.
-pub fn add_cell<T: TakesDamage>(
-    takes: &mut T,
+pub fn add_cell<K: Sink, S: SpellsDamage>(
+    sink: &mut K,
     tally: &mut Tally,
     damage: &Option<Damage>,
 ) -> Result<(), Halt>
-    ensures done { OnOk result (Reports T.line (cell_with damage.now) (T.view takes.old) (T.view takes.new) tally.old tally.new) }
+    ensures done { OnOk result (Reports S.line (cell_with damage.now) (K.view sink.old) (K.view sink.new) tally.old tally.new) }
     ensures halt { IfErr result (λ halt. (halt ≡ Untaken)
-        × Stops T.line (cell_with damage.now) (T.view takes.old) (T.view takes.new) halt) }
+        × Stops S.line (cell_with damage.now) (K.view sink.old) (K.view sink.new) halt) }
 {
     tally.cells = one_more(tally.cells);
-    hand_on(takes, tally, damage)
+    hand_on::<K, S>(sink, tally, damage)
 }
 
 /// Counts an entry of a right header, and hands the damage of its copy on, where it has one.
-pub fn add_copy<T: TakesDamage>(
-    takes: &mut T,
+pub fn add_copy<K: Sink, S: SpellsDamage>(
+    sink: &mut K,
     tally: &mut Tally,
     damage: &Option<Damage>,
 ) -> Result<(), Halt>
-    ensures done { OnOk result (Reports T.line (copy_with damage.now) (T.view takes.old) (T.view takes.new) tally.old tally.new) }
+    ensures done { OnOk result (Reports S.line (copy_with damage.now) (K.view sink.old) (K.view sink.new) tally.old tally.new) }
     ensures halt { IfErr result (λ halt. (halt ≡ Untaken)
-        × Stops T.line (copy_with damage.now) (T.view takes.old) (T.view takes.new) halt) }
+        × Stops S.line (copy_with damage.now) (K.view sink.old) (K.view sink.new) halt) }
 {
     tally.copies = one_more(tally.copies);
-    hand_on(takes, tally, damage)
+    hand_on::<K, S>(sink, tally, damage)
 }

@@ -33,8 +33,9 @@ use crate::opening::read_both;
 use crate::record::{check_own, read_value, record_in};
 use crate::scanning::{Replayed, check_closed};
 use dd_disk::{Disk, DiskFault, read_at};
+use dd_io::Sink;
 use disk_format::{HALF_CELLS, LEAST_SIZE, RECORD_GATE, SELECTOR_GATE, Why, cell_at, selector_at};
-use inspection::{Damage, Halt, TakesDamage, Tally, add_cell, hand_on};
+use inspection::{Damage, Halt, SpellsDamage, Tally, add_cell, hand_on};
 use namespace::NameFault;
 use std::alloc::Global;
 
@@ -66,8 +67,8 @@ fn is_open(selector: &[u8]) -> bool
 
 // A selector that is open is counted, and its damage handed on. One that is right is answered.
 #[tactic(auto, unfolding(crate::specs::Inspecting::selector_found, crate::specs::Heads::selector_in))]
-fn inspect_selector<T: TakesDamage>(
-    takes: &mut T,
+fn inspect_selector<K: Sink, S: SpellsDamage>(
+    sink: &mut K,
     tally: &mut Tally,
     half: u8,
     before: &Option<Selector>,
@@ -76,21 +77,21 @@ fn inspect_selector<T: TakesDamage>(
     requires half { half ≤ 1 }
     requires length { length cell.now ≡ CELL_BYTES }
     ensures right { IfOk result (λ right. right ≡ right_selector (selector_read half before.now cell.now)) }
-    ensures done { OnOk result (Reports T.line (selector_found half before.now cell.now) (T.view takes.old) (T.view takes.new)
+    ensures done { OnOk result (Reports S.line (selector_found half before.now cell.now) (K.view sink.old) (K.view sink.new)
         tally.old tally.new) }
     ensures halt { IfErr result (λ halt. (halt ≡ Untaken)
-        × Stops T.line (selector_found half before.now cell.now) (T.view takes.old) (T.view takes.new) halt) }
+        × Stops S.line (selector_found half before.now cell.now) (K.view sink.old) (K.view sink.new) halt) }
 {
     if !is_open(cell) {
         return Ok(None);
     }
     match selector_in(half, before, cell) {
         Ok(right) => {
-            add_cell(takes, tally, &None)?;
+            add_cell::<K, S>(sink, tally, &None)?;
             Ok(right)
         }
         Err(fault) => {
-            add_cell(takes, tally, &damage_of(selector_at(half), fault))?;
+            add_cell::<K, S>(sink, tally, &damage_of(selector_at(half), fault))?;
             Ok(None)
         }
     }
@@ -115,22 +116,22 @@ fn none_open(first: &[u8], second: &[u8]) -> Option<Damage>
 }
 
 // Both selectors, by their bytes.
-fn inspect_selectors<T: TakesDamage>(
-    takes: &mut T,
+fn inspect_selectors<K: Sink, S: SpellsDamage>(
+    sink: &mut K,
     tally: &mut Tally,
     first: &[u8],
     second: &[u8],
 ) -> Result<(), Halt>
     requires first { length first.now ≡ CELL_BYTES }
     requires second { length second.now ≡ CELL_BYTES }
-    ensures done { OnOk result (Reports T.line (selectors_found first.now second.now) (T.view takes.old) (T.view takes.new)
+    ensures done { OnOk result (Reports S.line (selectors_found first.now second.now) (K.view sink.old) (K.view sink.new)
         tally.old tally.new) }
     ensures halt { IfErr result (λ halt. (halt ≡ Untaken)
-        × Stops T.line (selectors_found first.now second.now) (T.view takes.old) (T.view takes.new) halt) }
+        × Stops S.line (selectors_found first.now second.now) (K.view sink.old) (K.view sink.new) halt) }
 {
-    let one = inspect_selector(takes, tally, 0, &None, first)?;
-    inspect_selector(takes, tally, 1, &one, second)?;
-    hand_on(takes, tally, &none_open(first, second))
+    let one = inspect_selector::<K, S>(sink, tally, 0, &None, first)?;
+    inspect_selector::<K, S>(sink, tally, 1, &one, second)?;
+    hand_on::<K, S>(sink, tally, &none_open(first, second))
 }
 
 // Whether a half counts, as both selectors say, where they are right.
@@ -187,10 +188,10 @@ impl Replayed {
 }
 
 // The record in the next cell of a half, where that is open: it is counted, its damage handed on, and replayed.
-fn inspect_next<D: Disk, T: TakesDamage>(
+fn inspect_next<D: Disk, K: Sink, S: SpellsDamage>(
     alloc: Global,
     disk: &mut D,
-    takes: &mut T,
+    sink: &mut K,
     tally: &mut Tally,
     half: u8,
     before: &mut Replayed,
@@ -199,14 +200,14 @@ fn inspect_next<D: Disk, T: TakesDamage>(
     requires room { before.old.count < HALF_CELLS }
     requires size { LEAST_SIZE ≤ (D.view disk.old).size }
     ensures counted { IfOk result (λ more. before.new.count ≡ (if more then suc before.old.count else before.old.count)) }
-    ensures found { IfOk result (λ more. (counts : Bool) → Finds T.line
+    ensures found { IfOk result (λ more. (counts : Bool) → Finds S.line
         (records_found half counts (half_cells - before.old.count) (replay before.old))
         (if more then records_found half counts (half_cells - before.new.count) (replay before.new)
         else past_found half counts before.new.count)
-        (D.view disk.old) (D.view disk.new) (T.view takes.old) (T.view takes.new) tally.old tally.new) }
-    ensures stopped { IfErr result (λ halt. (counts : Bool) → StopsAmong T.line
+        (D.view disk.old) (D.view disk.new) (K.view sink.old) (K.view sink.new) tally.old tally.new) }
+    ensures stopped { IfErr result (λ halt. (counts : Bool) → StopsAmong S.line
         (records_found half counts (half_cells - before.old.count) (replay before.old))
-        (D.view disk.old) (D.view disk.new) (T.view takes.old) (T.view takes.new) halt) }
+        (D.view disk.old) (D.view disk.new) (K.view sink.old) (K.view sink.new) halt) }
     ensures reads { Reads (ending blames result) (D.view disk.old) (D.view disk.new) }
 {
     let mut cell = [0u8; CELL];
@@ -220,31 +221,31 @@ fn inspect_next<D: Disk, T: TakesDamage>(
     }
     let damage = damage_at(alloc, at, before, &cell)?;
     before.pass(alloc, at, &cell)?;
-    add_cell(takes, tally, &damage)?;
+    add_cell::<K, S>(sink, tally, &damage)?;
     Ok(true)
 }
 
 // The records of a half up to its first closed cell. It answers how many cells they have.
-fn inspect_records<D: Disk, T: TakesDamage>(
+fn inspect_records<D: Disk, K: Sink, S: SpellsDamage>(
     alloc: Global,
     disk: &mut D,
-    takes: &mut T,
+    sink: &mut K,
     tally: &mut Tally,
     half: u8,
 ) -> Result<u32, Halt>
     requires half { half ≤ 1 }
     requires size { LEAST_SIZE ≤ (D.view disk.old).size }
     ensures few { IfOk result (λ count. count ≤ half_cells) }
-    ensures found { IfOk result (λ count. (counts : Bool) → Finds T.line
+    ensures found { IfOk result (λ count. (counts : Bool) → Finds S.line
         (records_found half counts half_cells nothing_yet) (past_found half counts count)
-        (D.view disk.old) (D.view disk.new) (T.view takes.old) (T.view takes.new) tally.old tally.new) }
-    ensures stopped { IfErr result (λ halt. (counts : Bool) → StopsAmong T.line (records_found half counts half_cells nothing_yet)
-        (D.view disk.old) (D.view disk.new) (T.view takes.old) (T.view takes.new) halt) }
+        (D.view disk.old) (D.view disk.new) (K.view sink.old) (K.view sink.new) tally.old tally.new) }
+    ensures stopped { IfErr result (λ halt. (counts : Bool) → StopsAmong S.line (records_found half counts half_cells nothing_yet)
+        (D.view disk.old) (D.view disk.new) (K.view sink.old) (K.view sink.new) halt) }
     ensures reads { Reads (ending blames result) (D.view disk.old) (D.view disk.new) }
 {
     let mut before = Replayed::new(alloc);
     for _ in 0..HALF_CELLS {
-        if !inspect_next(alloc, disk, takes, tally, half, &mut before)? {
+        if !inspect_next::<D, K, S>(alloc, disk, sink, tally, half, &mut before)? {
             return Ok(before.count);
         }
     }
@@ -252,9 +253,9 @@ fn inspect_records<D: Disk, T: TakesDamage>(
 }
 
 // Whether a cell past the records of a half is open, where the half counts.
-fn inspect_past<D: Disk, T: TakesDamage>(
+fn inspect_past<D: Disk, K: Sink, S: SpellsDamage>(
     disk: &mut D,
-    takes: &mut T,
+    sink: &mut K,
     tally: &mut Tally,
     half: u8,
     counts: bool,
@@ -263,10 +264,10 @@ fn inspect_past<D: Disk, T: TakesDamage>(
     requires half { half ≤ 1 }
     requires within { from ≤ HALF_CELLS }
     requires size { LEAST_SIZE ≤ (D.view disk.old).size }
-    ensures found { OnOk result (Finds T.line (past_found half counts from) (λ image. nothing)
-        (D.view disk.old) (D.view disk.new) (T.view takes.old) (T.view takes.new) tally.old tally.new) }
-    ensures stopped { IfErr result (StopsAmong T.line (past_found half counts from)
-        (D.view disk.old) (D.view disk.new) (T.view takes.old) (T.view takes.new)) }
+    ensures found { OnOk result (Finds S.line (past_found half counts from) (λ image. nothing)
+        (D.view disk.old) (D.view disk.new) (K.view sink.old) (K.view sink.new) tally.old tally.new) }
+    ensures stopped { IfErr result (StopsAmong S.line (past_found half counts from)
+        (D.view disk.old) (D.view disk.new) (K.view sink.old) (K.view sink.new)) }
     ensures reads { Reads (ending blames result) (D.view disk.old) (D.view disk.new) }
 {
     if !counts {
@@ -276,16 +277,16 @@ fn inspect_past<D: Disk, T: TakesDamage>(
         Ok(()) => Ok(()),
         Err(fault) => match fault {
             CellFault::DiskRead => Err(Halt::DiskRead),
-            _ => add_cell(takes, tally, &damage_of(0, fault)),
+            _ => add_cell::<K, S>(sink, tally, &damage_of(0, fault)),
         },
     }
 }
 
 // The records of a half whose selector is open, and what is past them.
-fn inspect_half<D: Disk, T: TakesDamage>(
+fn inspect_half<D: Disk, K: Sink, S: SpellsDamage>(
     alloc: Global,
     disk: &mut D,
-    takes: &mut T,
+    sink: &mut K,
     tally: &mut Tally,
     half: u8,
     selector: &[u8],
@@ -294,24 +295,24 @@ fn inspect_half<D: Disk, T: TakesDamage>(
     requires half { half ≤ 1 }
     requires length { length selector.now ≡ CELL_BYTES }
     requires size { LEAST_SIZE ≤ (D.view disk.old).size }
-    ensures found { OnOk result (Finds T.line (half_found half selector.now counts) (λ image. nothing)
-        (D.view disk.old) (D.view disk.new) (T.view takes.old) (T.view takes.new) tally.old tally.new) }
-    ensures stopped { IfErr result (StopsAmong T.line (half_found half selector.now counts)
-        (D.view disk.old) (D.view disk.new) (T.view takes.old) (T.view takes.new)) }
+    ensures found { OnOk result (Finds S.line (half_found half selector.now counts) (λ image. nothing)
+        (D.view disk.old) (D.view disk.new) (K.view sink.old) (K.view sink.new) tally.old tally.new) }
+    ensures stopped { IfErr result (StopsAmong S.line (half_found half selector.now counts)
+        (D.view disk.old) (D.view disk.new) (K.view sink.old) (K.view sink.new)) }
     ensures reads { Reads (ending blames result) (D.view disk.old) (D.view disk.new) }
 {
     if !is_open(selector) {
         return Ok(());
     }
-    let count = inspect_records(alloc, disk, takes, tally, half)?;
-    inspect_past(disk, takes, tally, half, counts, count)
+    let count = inspect_records::<D, K, S>(alloc, disk, sink, tally, half)?;
+    inspect_past::<D, K, S>(disk, sink, tally, half, counts, count)
 }
 
 // Both halves, by the bytes of both selectors.
-fn inspect_halves<D: Disk, T: TakesDamage>(
+fn inspect_halves<D: Disk, K: Sink, S: SpellsDamage>(
     alloc: Global,
     disk: &mut D,
-    takes: &mut T,
+    sink: &mut K,
     tally: &mut Tally,
     first: &[u8],
     second: &[u8],
@@ -319,25 +320,25 @@ fn inspect_halves<D: Disk, T: TakesDamage>(
     requires first { length first.now ≡ CELL_BYTES }
     requires second { length second.now ≡ CELL_BYTES }
     requires size { LEAST_SIZE ≤ (D.view disk.old).size }
-    ensures found { OnOk result (Finds T.line (halves_found first.now second.now) (λ image. nothing)
-        (D.view disk.old) (D.view disk.new) (T.view takes.old) (T.view takes.new) tally.old tally.new) }
-    ensures stopped { IfErr result (StopsAmong T.line (halves_found first.now second.now)
-        (D.view disk.old) (D.view disk.new) (T.view takes.old) (T.view takes.new)) }
+    ensures found { OnOk result (Finds S.line (halves_found first.now second.now) (λ image. nothing)
+        (D.view disk.old) (D.view disk.new) (K.view sink.old) (K.view sink.new) tally.old tally.new) }
+    ensures stopped { IfErr result (StopsAmong S.line (halves_found first.now second.now)
+        (D.view disk.old) (D.view disk.new) (K.view sink.old) (K.view sink.new)) }
     ensures reads { Reads (ending blames result) (D.view disk.old) (D.view disk.new) }
 {
-    inspect_half(
+    inspect_half::<D, K, S>(
         alloc,
         disk,
-        takes,
+        sink,
         tally,
         0,
         first,
         says_half(0, first, second),
     )?;
-    inspect_half(
+    inspect_half::<D, K, S>(
         alloc,
         disk,
-        takes,
+        sink,
         tally,
         1,
         second,
@@ -348,23 +349,23 @@ fn inspect_halves<D: Disk, T: TakesDamage>(
 /// Inspects the selectors, and then the records of each half whose selector is open, up to its first closed gate; in the half that
 /// counts no gate past that may be open. Damages are handed on in that order, one of a cell at most: that of the first check that
 /// fails. Memory is taken for the names of one half.
-pub fn inspect_journal<D: Disk, T: TakesDamage>(
+pub fn inspect_journal<D: Disk, K: Sink, S: SpellsDamage>(
     alloc: Global,
     disk: &mut D,
-    takes: &mut T,
+    sink: &mut K,
     tally: &mut Tally,
 ) -> Result<(), Halt>
     requires { LEAST_SIZE ≤ (D.view disk.old).size }
-    ensures found { OnOk result (Finds T.line journal_found (λ image. nothing)
-        (D.view disk.old) (D.view disk.new) (T.view takes.old) (T.view takes.new) tally.old tally.new) }
-    ensures stopped { IfErr result (StopsAmong T.line journal_found
-        (D.view disk.old) (D.view disk.new) (T.view takes.old) (T.view takes.new)) }
+    ensures found { OnOk result (Finds S.line journal_found (λ image. nothing)
+        (D.view disk.old) (D.view disk.new) (K.view sink.old) (K.view sink.new) tally.old tally.new) }
+    ensures stopped { IfErr result (StopsAmong S.line journal_found
+        (D.view disk.old) (D.view disk.new) (K.view sink.old) (K.view sink.new)) }
     ensures reads { Reads (ending blames result) (D.view disk.old) (D.view disk.new) }
 {
     let (first, second) = match read_both(disk) {
         Ok(cells) => cells,
         Err(_) => return Err(Halt::DiskRead),
     };
-    inspect_selectors(takes, tally, &first, &second)?;
-    inspect_halves(alloc, disk, takes, tally, &first, &second)
+    inspect_selectors::<K, S>(sink, tally, &first, &second)?;
+    inspect_halves::<D, K, S>(alloc, disk, sink, tally, &first, &second)
 }

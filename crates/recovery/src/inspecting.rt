@@ -9,7 +9,8 @@ ghost use Rattle.recovery.specs.Inspecting.{image_found, nothing_counted as none
 use crate::opening::read_format;
 use container_log::inspect_slots;
 use dd_disk::Disk;
-use inspection::{Halt, TakesDamage, Tally, add_cell};
+use dd_io::Sink;
+use inspection::{Halt, SpellsDamage, Tally, add_cell};
 use journal_cells::inspect_journal;
 use refusals::Refusal;
 use std::alloc::Global;
@@ -45,24 +46,24 @@ fn nothing_counted() -> Tally
 }
 
 // The format cell, which is right, is counted; then come the journal and the slots.
-fn inspect_parts<D: Disk, T: TakesDamage>(
+fn inspect_parts<D: Disk, K: Sink, S: SpellsDamage>(
     alloc: Global,
     disk: &mut D,
-    takes: &mut T,
+    sink: &mut K,
     tally: &mut Tally,
     slots: u32,
 ) -> Result<(), Halt>
     requires count { IsSlotCount slots }
     requires size { (D.view disk.old).size ≡ size_for slots }
-    ensures found { OnOk result (Finds T.line (image_found slots) (λ image. nothing)
-        (D.view disk.old) (D.view disk.new) (T.view takes.old) (T.view takes.new) tally.old tally.new) }
-    ensures stopped { IfErr result (StopsAmong T.line (image_found slots)
-        (D.view disk.old) (D.view disk.new) (T.view takes.old) (T.view takes.new)) }
+    ensures found { OnOk result (Finds S.line (image_found slots) (λ image. nothing)
+        (D.view disk.old) (D.view disk.new) (K.view sink.old) (K.view sink.new) tally.old tally.new) }
+    ensures stopped { IfErr result (StopsAmong S.line (image_found slots)
+        (D.view disk.old) (D.view disk.new) (K.view sink.old) (K.view sink.new)) }
     ensures reads { Reads (ending blames result) (D.view disk.old) (D.view disk.new) }
 {
-    add_cell(takes, tally, &None)?;
-    inspect_journal(alloc, disk, takes, tally)?;
-    inspect_slots(alloc, disk, takes, tally, slots)
+    add_cell::<K, S>(sink, tally, &None)?;
+    inspect_journal::<D, K, S>(alloc, disk, sink, tally)?;
+    inspect_slots::<D, K, S>(alloc, disk, sink, tally, slots)
 }
 
 /// Looks at all of a disk that has a format, and hands on what breaks it, as it is found; it answers how many open cells and headers and
@@ -71,13 +72,13 @@ fn inspect_parts<D: Disk, T: TakesDamage>(
 /// The format cell comes first, with the refusals of an opening; then both selectors where they are open, the records of each half
 /// whose selector is open, and the container slots, each read once. It writes nothing. It takes memory for the names of one half of the
 /// journal, for one slot with its entries, and for an id for each slot.
-pub fn inspect<D: Disk, T: TakesDamage>(
+pub fn inspect<D: Disk, K: Sink, S: SpellsDamage>(
     alloc: Global,
     disk: &mut D,
-    takes: &mut T,
+    sink: &mut K,
 ) -> Result<Tally, Uninspected>
-    ensures done { IfOk result (IsInspected T.line (D.view disk.old) (D.view disk.new) (T.view takes.old) (T.view takes.new)) }
-    ensures stopped { IfErr result (IsUninspected T.line (D.view disk.old) (D.view disk.new) (T.view takes.old) (T.view takes.new)) }
+    ensures done { IfOk result (IsInspected S.line (D.view disk.old) (D.view disk.new) (K.view sink.old) (K.view sink.new)) }
+    ensures stopped { IfErr result (IsUninspected S.line (D.view disk.old) (D.view disk.new) (K.view sink.old) (K.view sink.new)) }
     ensures reads { Reads (ending blamed result) (D.view disk.old) (D.view disk.new) }
 {
     let slots = match read_format(disk) {
@@ -85,7 +86,7 @@ pub fn inspect<D: Disk, T: TakesDamage>(
         Err(refusal) => return Err(Uninspected::Refused(refusal)),
     };
     let mut tally = nothing_counted();
-    match inspect_parts(alloc, disk, takes, &mut tally, slots) {
+    match inspect_parts::<D, K, S>(alloc, disk, sink, &mut tally, slots) {
         Ok(()) => Ok(tally),
         Err(halt) => Err(ended_by(halt)),
     }

@@ -13,9 +13,9 @@ use Rattle.container_log.proofs.inspecting.inspect_each.Goals as goal
 
 pub loop-slot-init : goal.loop-slot-init
 loop-slot-init g c =
-    let line = g.T.TakesDamage.line in
+    let line = g.S.SpellsDamage.line in
     let v = g.D.Disk.view c.args.disk.now in
-    let k = g.T.TakesDamage.view c.args.takes.now in
+    let k = g.K.Sink.view c.args.sink.now in
     let t = c.args.tally.now in
     let all : c.args.slots ≡ c.args.slots - 0 = omega arith in
     record {
@@ -29,14 +29,14 @@ loop-slot-init g c =
 
 pub returns-in_err-inspect_slot-clause-stopped : goal.returns-in_err-inspect_slot-clause-stopped
 returns-in_err-inspect_slot-clause-stopped g c =
-    let line = g.T.TakesDamage.line in
+    let line = g.S.SpellsDamage.line in
     let view = g.D.Disk.view in
-    let take = g.T.TakesDamage.view in
+    let take = g.K.Sink.view in
     let left : suc (c.args.slots - suc c.loop-slot.slot) ≡ c.args.slots - c.loop-slot.slot = omega (arith, c.loop-slot-test.true) in
     passed_on c.from_residual.result _ c.in_err-inspect_slot.field-0.0 c.from_residual.ensures.1
     (stops_on line _ _ _ _ _ _ _ _ _ _ c.loop-slot.invariant.found c.loop-slot.invariant.reads.only c.in_err-inspect_slot.ensures.reads.only.later c.in_err-inspect_slot.field-0.0
-    (subst (λ (n : ℕ). StopsAmong line (slots_found n c.loop-slot.slot c.loop-slot.ids.items) (view c.loop-slot.disk) (view c.inspect_slot.new.disk) (take c.loop-slot.takes)
-    (take c.inspect_slot.new.takes) c.in_err-inspect_slot.field-0.0) left
+    (subst (λ (n : ℕ). StopsAmong line (slots_found n c.loop-slot.slot c.loop-slot.ids.items) (view c.loop-slot.disk) (view c.inspect_slot.new.disk) (take c.loop-slot.sink)
+    (take c.inspect_slot.new.sink) c.in_err-inspect_slot.field-0.0) left
     (c.in_err-inspect_slot.ensures.stopped (c.args.slots - suc c.loop-slot.slot))))
 
 pub returns-in_err-inspect_slot-clause-reads : goal.returns-in_err-inspect_slot-clause-reads
@@ -47,9 +47,9 @@ returns-in_err-inspect_slot-clause-reads g c =
 
 pub loop-slot-preserved : goal.loop-slot-preserved
 loop-slot-preserved g c =
-    let line = g.T.TakesDamage.line in
+    let line = g.S.SpellsDamage.line in
     let view = g.D.Disk.view in
-    let take = g.T.TakesDamage.view in
+    let take = g.K.Sink.view in
     let left : suc (c.args.slots - suc c.loop-slot.slot) ≡ c.args.slots - c.loop-slot.slot = omega (arith, c.loop-slot-test.true) in
     let next : suc c.loop-slot.slot ≡ c.loop-slot.slot + 1 = omega arith in
     record {
@@ -60,16 +60,16 @@ loop-slot-preserved g c =
           (slots_found (c.args.slots - (c.loop-slot.slot + 1)) (c.loop-slot.slot + 1) c.inspect_slot.new.ids.items) c.inspect_slot.new.tally
           (subst (λ (m : ℕ). Finds line (slots_found (c.args.slots - c.loop-slot.slot) c.loop-slot.slot c.loop-slot.ids.items)
           (slots_found (c.args.slots - m) m c.inspect_slot.new.ids.items)
-          (view c.loop-slot.disk) (view c.inspect_slot.new.disk) (take c.loop-slot.takes) (take c.inspect_slot.new.takes) c.loop-slot.tally c.inspect_slot.new.tally) next
+          (view c.loop-slot.disk) (view c.inspect_slot.new.disk) (take c.loop-slot.sink) (take c.inspect_slot.new.sink) c.loop-slot.tally c.inspect_slot.new.tally) next
           (subst (λ (n : ℕ). Finds line (slots_found n c.loop-slot.slot c.loop-slot.ids.items)
           (slots_found (c.args.slots - suc c.loop-slot.slot) (suc c.loop-slot.slot) c.inspect_slot.new.ids.items)
-          (view c.loop-slot.disk) (view c.inspect_slot.new.disk) (take c.loop-slot.takes) (take c.inspect_slot.new.takes) c.loop-slot.tally c.inspect_slot.new.tally) left
+          (view c.loop-slot.disk) (view c.inspect_slot.new.disk) (take c.loop-slot.sink) (take c.inspect_slot.new.sink) c.loop-slot.tally c.inspect_slot.new.tally) left
           (c.in_ok-inspect_slot.ensures.found (c.args.slots - suc c.loop-slot.slot))));
     }
 
 pub returns-clause-found : goal.returns-clause-found
 returns-clause-found g c =
-    let line = g.T.TakesDamage.line in
+    let line = g.S.SpellsDamage.line in
     let none : c.args.slots - c.loop-slot.slot ≡ 0 = omega (arith, c.loop-slot-test.false) in
     finds_as line (slots_found c.args.slots 0 []) (slots_found c.args.slots 0 []) (slots_found (c.args.slots - c.loop-slot.slot) c.loop-slot.slot c.loop-slot.ids.items)
     (λ image. nothing) _ _ _ _ _ _

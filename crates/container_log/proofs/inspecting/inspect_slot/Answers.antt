@@ -10,16 +10,16 @@ use Rattle.container_log.proofs.inspecting.inspect_slot.Goals as goal
 pub returns-in_err-read_slot_into-clause-stopped : goal.returns-in_err-read_slot_into-clause-stopped
 returns-in_err-read_slot_into-clause-stopped g c =
     passed_on c.from_residual.result _ c.in_err-read_slot_into.field-0.0 c.from_residual.ensures.1
-    (λ left. stops_by_read g.T.TakesDamage.line _ _ _ _ _ c.in_err-read_slot_into.ensures.halt)
+    (λ left. stops_by_read g.S.SpellsDamage.line _ _ _ _ _ c.in_err-read_slot_into.ensures.halt)
 
 pub returns-then-not-branch-clause-found : goal.returns-then-not-branch-clause-found
 returns-then-not-branch-clause-found g c = λ left.
     let view = g.D.Disk.view in
-    finds_shown g.T.TakesDamage.line nothing (slots_found (suc left) c.args.slot c.args.ids.now.items) (slots_found left (suc c.args.slot) c.args.ids.now.items) _ _ _ _ _ _
+    finds_shown g.S.SpellsDamage.line nothing (slots_found (suc left) c.args.slot c.args.ids.now.items) (slots_found left (suc c.args.slot) c.args.ids.now.items) _ _ _ _ _ _
     (shows_closed c.args.slot c.args.ids.now.items c.read_slot_into.new.bytes left _ _
     (subst (λ (b : Bool). Shows (view c.args.disk.now) (view c.read_slot_into.new.disk) (ReadsSlot c.args.slot b c.read_slot_into.new.bytes)) c.if-not-branch.true
     c.in_ok-read_slot_into.ensures.shown))
-    (reports_nothing g.T.TakesDamage.line _ _)
+    (reports_nothing g.S.SpellsDamage.line _ _)
 
 pub returns-in_err-id-clause-stopped : goal.returns-in_err-id-clause-stopped
 returns-in_err-id-clause-stopped g c =
@@ -27,7 +27,7 @@ returns-in_err-id-clause-stopped g c =
     let read = subst (λ (b : Bool). Shows (view c.args.disk.now) (view c.read_slot_into.new.disk) (ReadsSlot c.args.slot b c.read_slot_into.new.bytes)) c.if-not-branch.false
     c.in_ok-read_slot_into.ensures.shown in
     passed_on c.from_residual-in_err-id.result _ c.in_err-id.field-0.0 c.from_residual-in_err-id.ensures.1
-    (stops_open g.T.TakesDamage.line c.args.slot c.args.ids.now.items c.deref.result.now c.read_slot_into.new.bytes c.deref.ensures.value _ _ read _ _ c.in_err-id.field-0.0
+    (stops_open g.S.SpellsDamage.line c.args.slot c.args.ids.now.items c.deref.result.now c.read_slot_into.new.bytes c.deref.ensures.value _ _ read _ _ c.in_err-id.field-0.0
     c.in_err-id.ensures.halt.1)
 
 pub returns-clause-found : goal.returns-clause-found
@@ -35,7 +35,7 @@ returns-clause-found g c =
     let view = g.D.Disk.view in
     let read = subst (λ (b : Bool). Shows (view c.args.disk.now) (view c.read_slot_into.new.disk) (ReadsSlot c.args.slot b c.read_slot_into.new.bytes)) c.if-not-branch.false
     c.in_ok-read_slot_into.ensures.shown in
-    ok_map c.add_id.result (finds_open g.T.TakesDamage.line c.args.slot c.args.ids.now.items c.deref.result.now c.read_slot_into.new.bytes c.deref.ensures.value _ _ read _ _ _ _
+    ok_map c.add_id.result (finds_open g.S.SpellsDamage.line c.args.slot c.args.ids.now.items c.deref.result.now c.read_slot_into.new.bytes c.deref.ensures.value _ _ read _ _ _ _
     c.in_ok-id.id c.in_ok-id.ensures.id c.in_ok-id.ensures.done c.add_id.new.ids.items)
     c.add_id.ensures.added
 
@@ -44,6 +44,6 @@ returns-clause-stopped g c =
     let view = g.D.Disk.view in
     let read = subst (λ (b : Bool). Shows (view c.args.disk.now) (view c.read_slot_into.new.disk) (ReadsSlot c.args.slot b c.read_slot_into.new.bytes)) c.if-not-branch.false
     c.in_ok-read_slot_into.ensures.shown in
-    map_err c.add_id.result _ _ (λ halt is. stops_without_id g.T.TakesDamage.line c.args.slot c.args.ids.now.items c.deref.result.now c.read_slot_into.new.bytes
+    map_err c.add_id.result _ _ (λ halt is. stops_without_id g.S.SpellsDamage.line c.args.slot c.args.ids.now.items c.deref.result.now c.read_slot_into.new.bytes
     c.deref.ensures.value _ _ read _ _ _ _ c.in_ok-id.id c.in_ok-id.ensures.id c.in_ok-id.ensures.done halt is c.in_ok-read_slot_into.ensures.reads.only)
     c.add_id.ensures.halt

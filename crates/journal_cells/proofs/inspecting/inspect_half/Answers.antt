@@ -6,21 +6,21 @@ use Rattle.journal_cells.proofs.inspecting.inspect_half.Goals as goal
 
 pub returns-then-not-is_open-clause-found : goal.returns-then-not-is_open-clause-found
 returns-then-not-is_open-clause-found g c =
-    finds_shown g.T.TakesDamage.line nothing (half_found c.args.half c.args.selector.now c.args.counts) (λ image. nothing) _ _ _ _ _ _
+    finds_shown g.S.SpellsDamage.line nothing (half_found c.args.half c.args.selector.now c.args.counts) (λ image. nothing) _ _ _ _ _ _
     (always _ _ _ (λ image sized. half_shut c.args.half c.args.selector.now c.args.counts image (sym c.is_open.ensures ∙ c.if-not-is_open.true)))
-    (reports_nothing g.T.TakesDamage.line _ _)
+    (reports_nothing g.S.SpellsDamage.line _ _)
 
 pub returns-in_err-count-clause-stopped : goal.returns-in_err-count-clause-stopped
 returns-in_err-count-clause-stopped g c =
     passed_on c.from_residual.result _ c.in_err-count.field-0.0 c.from_residual.ensures.1
-    (stops_as g.T.TakesDamage.line (records_found c.args.half c.args.counts half_cells nothing_yet) (half_found c.args.half c.args.selector.now c.args.counts) _ _ _ _
+    (stops_as g.S.SpellsDamage.line (records_found c.args.half c.args.counts half_cells nothing_yet) (half_found c.args.half c.args.selector.now c.args.counts) _ _ _ _
     c.in_err-count.field-0.0
     (always _ _ _ (λ image sized. half_opened c.args.half c.args.selector.now c.args.counts image (sym c.is_open.ensures ∙ c.if-not-is_open.false)))
     (c.in_err-count.ensures.stopped c.args.counts))
 
 pub returns-clause-found : goal.returns-clause-found
 returns-clause-found g c =
-    let line = g.T.TakesDamage.line in
+    let line = g.S.SpellsDamage.line in
     let first = finds_as line (records_found c.args.half c.args.counts half_cells nothing_yet) (half_found c.args.half c.args.selector.now c.args.counts)
     (past_found c.args.half c.args.counts c.in_ok-count.count) (past_found c.args.half c.args.counts c.in_ok-count.count) _ _ _ _ _ _
     (always _ _ _ (λ image sized. half_opened c.args.half c.args.selector.now c.args.counts image (sym c.is_open.ensures ∙ c.if-not-is_open.false)))
@@ -30,7 +30,7 @@ returns-clause-found g c =
 
 pub returns-clause-stopped : goal.returns-clause-stopped
 returns-clause-stopped g c =
-    let line = g.T.TakesDamage.line in
+    let line = g.S.SpellsDamage.line in
     let first = finds_as line (records_found c.args.half c.args.counts half_cells nothing_yet) (half_found c.args.half c.args.selector.now c.args.counts)
     (past_found c.args.half c.args.counts c.in_ok-count.count) (past_found c.args.half c.args.counts c.in_ok-count.count) _ _ _ _ _ _
     (always _ _ _ (λ image sized. half_opened c.args.half c.args.selector.now c.args.counts image (sym c.is_open.ensures ∙ c.if-not-is_open.false)))

@@ -8,7 +8,7 @@ abbrev pub invariant-loop : goal.invariant-loop
 invariant-loop g l = record {
   count : l.before.count ≡ l.counter;
   reads : Reads Done (g.D.Disk.view l.fn.disk) (g.D.Disk.view l.disk);
-  found : (counts : Bool) → Finds g.T.TakesDamage.line (records_found l.half counts half_cells nothing_yet)
+  found : (counts : Bool) → Finds g.S.SpellsDamage.line (records_found l.half counts half_cells nothing_yet)
       (records_found l.half counts (half_cells - l.before.count) (replay l.before))
-      (g.D.Disk.view l.fn.disk) (g.D.Disk.view l.disk) (g.T.TakesDamage.view l.fn.takes) (g.T.TakesDamage.view l.takes) l.fn.tally l.tally;
+      (g.D.Disk.view l.fn.disk) (g.D.Disk.view l.disk) (g.K.Sink.view l.fn.sink) (g.K.Sink.view l.sink) l.fn.tally l.tally;
 }

@@ -201,7 +201,7 @@ fn add_run<D: Disk + Send>(rt: &HostRuntime, disk: &mut D, run: Run, text: &mut 
     let is_done = status == 0;
     match command_of(&run.words) {
         "run" => return add_replies(text, sink.bytes(), notes.bytes(), is_done),
-        "list" => add_replied(text, sink.bytes(), is_done),
+        "list" | "check" => add_replied(text, sink.bytes(), is_done),
         _ => add_stream(text, sink.bytes(), is_done),
     }
     add_stream(text, notes.bytes(), false);

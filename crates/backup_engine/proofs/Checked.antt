@@ -1,5 +1,5 @@
 -- An inspection to its end, and then the last line.
-use Rattle.std.proofs.Common.{◌≡◌, inr, ℕ, ◌-◌, ◌^◌, List, [], ◌∷◌, length, min, Ok, Err, refl, ◌∙◌, subst, arith}
+use Rattle.std.proofs.Common.{◌≡◌, inr, ℕ, ◌+◌, ◌-◌, ◌^◌, List, [], ◌∷◌, length, min, Ok, Err, refl, ◌∙◌, subst, arith}
 use Rattle.std.specs.List.{flat_map}
 use Rattle.base_model.specs.Fault.{Rose}
 use Rattle.base_model.specs.Known.{Appended}
@@ -15,11 +15,11 @@ use Rattle.backup_engine.specs.Checking.{Checks, ShowsAll, status_of_damages}
 use Rattle.backup_engine.proofs.GiveRuns.{written_on, written_part}
 
 -- none was counted only where there is none
-none_bad : (damages : List Damage) (bad : ℕ) → bad ≡ min (length damages) (2 ^ 64 - 1) → bad ≡ 0 → 0 ≡ status_of_damages damages
+none_bad : (damages : List Damage) (bad : ℕ) → bad ≡ min (0 + length damages) (2 ^ 64 - 1) → bad ≡ 0 → 0 ≡ status_of_damages damages
 none_bad [] bad counted none = refl
 none_bad (first ∷ more) bad counted none = absurd (omega (arith, counted, none))
 
-some_bad : (damages : List Damage) (bad : ℕ) → bad ≡ min (length damages) (2 ^ 64 - 1) → ¬ (bad ≡ 0) → 7 ≡ status_of_damages damages
+some_bad : (damages : List Damage) (bad : ℕ) → bad ≡ min (0 + length damages) (2 ^ 64 - 1) → ¬ (bad ≡ 0) → 7 ≡ status_of_damages damages
 some_bad [] bad counted some = absurd (some (omega (arith, counted)))
 some_bad (first ∷ more) bad counted some = refl
 
@@ -39,7 +39,7 @@ module _ (old new : DiskView) (sink mid sink_now : SinkView) (tally : Tally) (in
     exact = λ image told. (shown_content old new _ image inspected.shown told, inspected.exact image told);
   }
 
-  bad_is : tally.bad ≡ min (length damages) (2 ^ 64 - 1)
+  bad_is : tally.bad ≡ min (0 + length damages) (2 ^ 64 - 1)
   bad_is = inspected.reports.counts.bad (omega arith)
 
   module _ (last : Appended mid.written sink_now.written last_line) (same : sink_now.faults ≡ mid.faults) where

@@ -12,7 +12,7 @@ use Rattle.clap.specs.Kinds.{IsAmong, Kinds, or_else}
 use Rattle.clap.specs.Faults.{check_fault, defaults_fault, entered_fault, fault_of, is_simple_and_free, settle_fault, turn_fault, walk_fault}
 use Rattle.clap.proofs.OnLiterals.{clap_on_literals}
 use Rattle.clap.proofs.WalkLemmas.{walk_stopped}
-use Rattle.backup_engine.specs.Line.{TableLine, Single, Run, argument_of, command_of, has_no_argument, is_separator, line_by, line_of}
+use Rattle.backup_engine.specs.Line.{TableLine, Single, Run, Check, argument_of, command_of, has_no_argument, is_separator, line_by, line_of}
 use Rattle.backup_engine.specs.Line as table
 use Rattle.backup_engine.specs.Words.{line_matched, table_app}
 use Rattle.backup_engine.proofs.ClapWords.{AreTexts, Look, fault_in, long, look_of, none, none_taken, one, one_taken, plain, separator, short, unless}
@@ -119,10 +119,15 @@ module _ (words : List Text) (texts : AreTexts words) where
   unfolding clap_on_literals
   run_line = named (codes "run") words refl refl ∙ none_taken (codes "run") (Some Run) words texts
 
+  check_line : clap_line (codes "check" ∷ words) ≡ line_by (codes "check") words
+  unfolding clap_on_literals
+  check_line = named (codes "check") words refl refl ∙ none_taken (codes "check") (Some Check) words texts
+
 -- ---- words of which the first names no command
 
 record IsNoName (word : Text) : Type 0 where
   run : (bytes_eq (codes "run") word ≡ false) × (bytes_eq word (codes "run") ≡ false)
+  check : (bytes_eq (codes "check") word ≡ false) × (bytes_eq word (codes "check") ≡ false)
   list : (bytes_eq (codes "list") word ≡ false) × (bytes_eq word (codes "list") ≡ false)
   format : (bytes_eq (codes "format") word ≡ false) × (bytes_eq word (codes "format") ≡ false)
   ingest : (bytes_eq (codes "ingest") word ≡ false) × (bytes_eq word (codes "ingest") ≡ false)
@@ -132,10 +137,10 @@ record IsNoName (word : Text) : Type 0 where
 
 not_met : (word : Text) → IsNoName word → subcommand_met names idle word ≡ None
 not_met word other =
-    rw (other.format.0, other.ingest.0, other.restore.0, other.delete.0, other.collect.0, other.list.0, other.run.0) refl
+    rw (other.format.0, other.ingest.0, other.restore.0, other.delete.0, other.collect.0, other.list.0, other.run.0, other.check.0) refl
 
 no_line : (word : Text) (words : List Text) → IsNoName word → line_by word words ≡ None
-no_line word words other = rw (other.run.1, other.list.1) (go (argument_of words))
+no_line word words other = rw (other.run.1, other.check.1, other.list.1) (go (argument_of words))
   where
     go : (argument : Option Text) → option_map Single (option_and_then (command_of word) argument) ≡ None
     go None = refl
@@ -183,27 +188,31 @@ is_name name word = go (bytes_eq word name) (bytes_eq name word) refl refl
 first_line : (word : Text) (words : List Text) → IsUtf8 word → AreTexts words → clap_line (word ∷ words) ≡ line_by word words
 first_line word words text texts = elim (is_name (codes "run") word) [
   | inl is ↦ at_name (codes "run") is (run_line words texts)
-  | inr run ↦ elim (is_name (codes "list") word) [
-    | inl is ↦ at_name (codes "list") is (list_line words texts)
-    | inr list ↦ elim (is_name (codes "format") word) [
-      | inl is ↦ at_name (codes "format") is (format_line words texts)
-      | inr format ↦ elim (is_name (codes "ingest") word) [
-        | inl is ↦ at_name (codes "ingest") is (ingest_line words texts)
-        | inr ingest ↦ elim (is_name (codes "restore") word) [
-          | inl is ↦ at_name (codes "restore") is (restore_line words texts)
-          | inr restore ↦ elim (is_name (codes "delete") word) [
-            | inl is ↦ at_name (codes "delete") is (delete_line words texts)
-            | inr delete ↦ elim (is_name (codes "collect") word) [
-              | inl is ↦ at_name (codes "collect") is (collect_line words texts)
-              | inr collect ↦ unnamed word words (look_of word text) (record {
-                run = run;
-                list = list;
-                format = format;
-                ingest = ingest;
-                restore = restore;
-                delete = delete;
-                collect = collect;
-              })
+  | inr run ↦ elim (is_name (codes "check") word) [
+    | inl is ↦ at_name (codes "check") is (check_line words texts)
+    | inr check ↦ elim (is_name (codes "list") word) [
+      | inl is ↦ at_name (codes "list") is (list_line words texts)
+      | inr list ↦ elim (is_name (codes "format") word) [
+        | inl is ↦ at_name (codes "format") is (format_line words texts)
+        | inr format ↦ elim (is_name (codes "ingest") word) [
+          | inl is ↦ at_name (codes "ingest") is (ingest_line words texts)
+          | inr ingest ↦ elim (is_name (codes "restore") word) [
+            | inl is ↦ at_name (codes "restore") is (restore_line words texts)
+            | inr restore ↦ elim (is_name (codes "delete") word) [
+              | inl is ↦ at_name (codes "delete") is (delete_line words texts)
+              | inr delete ↦ elim (is_name (codes "collect") word) [
+                | inl is ↦ at_name (codes "collect") is (collect_line words texts)
+                | inr collect ↦ unnamed word words (look_of word text) (record {
+                  run = run;
+                  check = check;
+                  list = list;
+                  format = format;
+                  ingest = ingest;
+                  restore = restore;
+                  delete = delete;
+                  collect = collect;
+                })
+              ]
             ]
           ]
         ]

@@ -69,12 +69,12 @@ ends_giving (f ∷ g ∷ gs) e result given ends = (given.0, ends_giving (g ∷ 
 pub written_none : (written : Option (List ℕ)) → Appended written written []
 written_none written = record { is = λ before told. told ∙ ap Some (sym (append-nil before)) }
 
-written_on : (old mid new : Option (List ℕ)) (first more : List ℕ) → Appended old mid first → Appended mid new more → Appended old new (first ++ more)
+pub written_on : (old mid new : Option (List ℕ)) (first more : List ℕ) → Appended old mid first → Appended mid new more → Appended old new (first ++ more)
 written_on old mid new first more one other = record {
   is = λ before told. other.is (before ++ first) (one.is before told) ∙ ap Some (append_assoc before first more);
 }
 
-written_part : (old mid new : Option (List ℕ)) (first more : List ℕ) → Appended old mid first → AppendedPart mid new more → AppendedPart old new (first ++ more)
+pub written_part : (old mid new : Option (List ℕ)) (first more : List ℕ) → Appended old mid first → AppendedPart mid new more → AppendedPart old new (first ++ more)
 written_part old mid new first more one part = record {
   count = length first + part.count;
   fits = omega (arith, length-append first more, part.fits);

@@ -3,6 +3,7 @@ pub mod ByFiles
 pub mod Called
 pub mod ClapLines
 pub mod ClapWords
+pub mod Checked
 pub mod Clashes
 pub mod CollectBegun
 pub mod CollectCauses

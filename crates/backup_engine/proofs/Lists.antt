@@ -2,7 +2,7 @@
 use Rattle.std.proofs.Common.{◌≡◌, ◌⊎◌, inl, inr, ℕ, zero, suc, ◌+◌, List, [], ◌∷◌, ◌++◌, replicate, Option, Some, None, refl, sym, ◌∙◌, subst, arith}
 use Rattle.std.specs.List.{AllByRecursion}
 use Rattle.base_model.specs.Known.{KnownWith}
-use Rattle.dd_disk.specs.View.{DiskView, IsDurable}
+use Rattle.dd_disk.specs.View.{DiskView, IsDurable, OnlyReads}
 use Rattle.refusals.specs.declared.refusal.Refusal.{Refusal}
 use Rattle.refusals.specs.declared.refusal.Refusal.TheVariants.{Memory, NoFile, BadName, TooMany, TooLong, Full, Clash, WrongPart, Collecting, NotCollecting, DiskRead, DiskWrite, Stopped, Corrupt, Missing, Numbers, NotAStore, Version, Damaged, Unpinned, AlreadyStore, WrongSize}
 use Rattle.reply_text.specs.declared.ending.Ending.{Ending}
@@ -11,20 +11,22 @@ use Rattle.reply_text.specs.Table.{status_of_refusal}
 use Rattle.store_model.specs.Collisions.{HasNoCollisions, ByteSet, IsIn, AreAmong, IsOf, OpensAs}
 use Rattle.store_model.specs.Files.{Stored, no_files}
 use Rattle.store_model.specs.Image.{Store, empty_store}
+use Rattle.store_machine.specs.Commands.{Replied}
 use Rattle.store_machine.specs.Machine.{Found}
 use Rattle.core_machine.specs.Files.{IsOfFound, MayStand, stored_in}
 use Rattle.core_machine.specs.Unopened.{unopened}
 use Rattle.core_machine.proofs.Unopened.{files_begin}
 use Rattle.store_model.specs.Standing.{IsFormatted}
 use Rattle.backup_engine.specs.AnyDisk.{Formats}
-use Rattle.backup_engine.specs.Line.{CommandLine, Format, Ingest, Restore, Delete, Collect, TableLine, Single, Run}
+use Rattle.backup_engine.specs.Line.{CommandLine, Format, Ingest, Restore, Delete, Collect, TableLine, Single, Run, Check}
 use Rattle.backup_engine.specs.Line as table
 use Rattle.backup_engine.specs.ByFiles.{RefusedByFiles, RunsByFiles}
+use Rattle.backup_engine.specs.Noted.{status_by}
 use Rattle.backup_engine.specs.PlainMap.{map_after}
 use Rattle.backup_engine.specs.Promise.{IsLeftAs, MayBeMeanwhile, SinceStart, NothingWritten, Stands}
-use Rattle.backup_engine.specs.TopCall.{Does, DoesNothing, status_by}
+use Rattle.backup_engine.specs.TopCall.{Does, DoesNothing, Promise}
 use Rattle.backup_engine.specs.Whole.{KeepsWhole}
-use Rattle.backup_engine.specs.Lists.{AnswersBy, Call, KeepsCall, CallRun, IsGivenAmong, IsPromised, BeginsOfMap, LeadsBy, MayLead, MayPass, LeadsTo, Passed, Possible, RunsByTheMap, StandsEmpty, FormatBegins, LeavesPossible, AnswersByTheMap, SurvivesACrash}
+use Rattle.backup_engine.specs.Lists.{AnswersBy, Call, KeepsAs, KeepsCall, seen_by, CallRun, IsGivenAmong, IsPromised, BeginsOfMap, LeadsBy, MayLead, MayPass, LeadsTo, Passed, Possible, RunsByTheMap, StandsEmpty, FormatBegins, LeavesPossible, AnswersByTheMap, SurvivesACrash}
 use Rattle.backup_engine.proofs.ListScripts.{no_lines, passes_of, refused_leads, script_leads}
 use Rattle.backup_engine.proofs.ListsFormat.{formats_nothing}
 use Rattle.backup_engine.proofs.Reading.{same_reads, since_began, since_start}
@@ -33,7 +35,14 @@ use Rattle.backup_engine.proofs.Reading.{same_reads, since_began, since_start}
 
 -- a promise is what the call keeps, with the ending and the bytes that it names
 pub promised : (D : Type 0) (view : D → DiskView) → IsPromised D view
-promised D view c old new promise = (promise.ending, (promise.given, (promise.rs, record { status_is = promise.status_is; noted = promise.noted; does = promise.does })))
+promised D view c old new promise = go c.line promise
+  where
+    go : (line : Option TableLine) → Promise D view line c.status (seen_by c (view old) (view new)) → (ending : Option Ending) × ((given : List ℕ) × ((rs : List Replied)
+        × KeepsAs D view line (record c { ending = ending; given = given; rs = rs }) (view old) (view new)))
+    go None promise = promise
+    go (Some (Single command)) promise = promise
+    go (Some Run) promise = promise
+    go (Some Check) promise = (c.ending, (c.given, (c.rs, promise)))
 
 -- the image can be opened as a map that has P
 abbrev pub OfSome : (List ℕ → Type 0) → (Stored → Type 0) → List ℕ → Type 0
@@ -66,12 +75,13 @@ module _ (S : List ℕ → Type 0) (command : CommandLine) (given : List ℕ) wh
   leads_meanwhile (Some (Refused DiskWrite)) m image (inr done) = inr (map_after command given m, (inr (done.1, refl), done.2))
   leads_meanwhile (Some ending) m image (inr done) = absurd done.0
 
--- what a call answers to a map that it finds: words that are no line do nothing
+-- what a call answers to a map that it finds: words that are no line do nothing, and a `check` reads alone
 abbrev pub Answers : (D : Type 0) → (D → DiskView) → Option TableLine → (List ℕ → Type 0) → Call → Stored → DiskView → DiskView → Type 0
 Answers D view None S c m v w = DoesNothing c.ending v w c.source c.source_now c.sink c.sink_now
 Answers D view (Some (Single command)) S c m v w = AnswersBy S command c m v w
 Answers D view (Some Run) S c m v w =
     (store : Store) × (RunsByFiles S c.rs (unopened m store) v w ⊎ RefusedByFiles S c.ending c.rs (unopened m store) v w)
+Answers D view (Some Check) S c m v w = OnlyReads v w
 
 -- what a command leaves of it, now and meanwhile
 record Leaves (S : List ℕ → Type 0) (command : CommandLine) (c : Call) (m : Stored) (v w : DiskView) : Type 0 where
@@ -165,13 +175,15 @@ module _ (S : List ℕ → Type 0) (P : Stored → Type 0) (c : Call) where
     script_meanwhile (store, inl runs) d since = ran_crash store runs d since
     script_meanwhile (store, inr none) d since = inl (none_crash store none d since)
 
+    read_leaves : OnlyReads v w → Stands (OfSome S (After P None c)) w
+    read_leaves reads = ((stands.0.0, reads.content_is ∙ stands.0.1, words_lead stands.0.0 stands.0.2), λ d is. words_lead d (stands.1 d (reads.images_are d is)))
+
     -- what it leaves
     leaves : (D : Type 0) (view : D → DiskView) (line : Option TableLine) → Answers D view line S c m v w → Stands (OfSome S (After P line c)) w
-    leaves D view None nothing =
-        let reads = same_reads v w nothing.disk_is in
-        ((stands.0.0, reads.content_is ∙ stands.0.1, words_lead stands.0.0 stands.0.2), λ d is. words_lead d (stands.1 d (reads.images_are d is)))
+    leaves D view None nothing = read_leaves (same_reads v w nothing.disk_is)
     leaves D view (Some (Single command)) answers = let left = command_leaves S c m v w command answers in line_leaves command left.left
     leaves D view (Some Run) runs = script_leaves runs
+    leaves D view (Some Check) reads = read_leaves reads
 
     line_crash : (command : CommandLine) (image : List ℕ) → v.images image ⊎ MayBeMeanwhile S command c.given m c.ending image
         → OfSome S P image ⊎ OfSome S (MayPass (Some (Single command)) c m) image
@@ -184,6 +196,7 @@ module _ (S : List ℕ → Type 0) (P : Stored → Type 0) (c : Call) where
     crash_leaves D view None nothing image since = inl (stands.1 image (since_start v w (same_reads v w nothing.disk_is) image since))
     crash_leaves D view (Some (Single command)) answers image since = let left = command_leaves S c m v w command answers in line_crash command image (left.crash image since)
     crash_leaves D view (Some Run) runs image since = script_meanwhile runs image since
+    crash_leaves D view (Some Check) reads image since = inl (stands.1 image (since_start v w reads image since))
 
 -- ---- calls, one after the other
 
@@ -210,21 +223,22 @@ given_last S (c ∷ cs) last given = given_last S cs last given.1
 module _ (D : Type 0) (view : D → DiskView) (among : ByteSet) (apart : HasNoCollisions (IsIn among)) where
   answers_line : (line : Option TableLine) (c : Call) (m : Stored) (v w : DiskView) (image : List ℕ) → IsGivenAmong (IsIn among) c → v.content ≡ Some image →
       OpensAs (IsIn among) m image
-      → Does D view line c.given c.rs c.ending v w c.source c.source_now c.sink c.sink_now → Answers D view line (IsIn among) c m v w
-  answers_line None c m v w image given told opens does = does
-  answers_line (Some (Single (Format slots))) c m v w image given told opens does = formats_nothing among apart slots c m v w image given.given told opens does.0
-  answers_line (Some (Single (Ingest name))) c m v w image given told opens does = does.whole image told among m apart given.given opens
-  answers_line (Some (Single (Restore name))) c m v w image given told opens does = does.whole image told among m apart given.given opens
-  answers_line (Some (Single (Delete name))) c m v w image given told opens does = does.whole image told among m apart given.given opens
-  answers_line (Some (Single table.List)) c m v w image given told opens does = does.whole image told among m apart given.given opens
-  answers_line (Some (Single (Collect percent))) c m v w image given told opens does = does.whole image told among m apart given.given opens
-  answers_line (Some Run) c m v w image given told opens does =
-      (opens.store, does.by_files among (unopened m opens.store) apart (given.cut m opens.store) (image, told, files_begin among m image opens))
+      → KeepsAs D view line c v w → Answers D view line (IsIn among) c m v w
+  answers_line None c m v w image given told opens keeps = keeps.does
+  answers_line (Some (Single (Format slots))) c m v w image given told opens keeps = formats_nothing among apart slots c m v w image given.given told opens keeps.does.0
+  answers_line (Some (Single (Ingest name))) c m v w image given told opens keeps = keeps.does.whole image told among m apart given.given opens
+  answers_line (Some (Single (Restore name))) c m v w image given told opens keeps = keeps.does.whole image told among m apart given.given opens
+  answers_line (Some (Single (Delete name))) c m v w image given told opens keeps = keeps.does.whole image told among m apart given.given opens
+  answers_line (Some (Single table.List)) c m v w image given told opens keeps = keeps.does.whole image told among m apart given.given opens
+  answers_line (Some (Single (Collect percent))) c m v w image given told opens keeps = keeps.does.whole image told among m apart given.given opens
+  answers_line (Some Run) c m v w image given told opens keeps =
+      (opens.store, keeps.does.by_files among (unopened m opens.store) apart (given.cut m opens.store) (image, told, files_begin among m image opens))
+  answers_line (Some Check) c m v w image given told opens keeps = keeps.reads.only
 
   -- the map that a call finds in the content
   found : (P : Stored → Type 0) (c : Call) (v w : DiskView) → IsGivenAmong (IsIn among) c → Stands (OfSome (IsIn among) P) v → KeepsCall D view c v w
       → (m : Stored) × (P m × KnownWith v.content (OpensAs (IsIn among) m) × Answers D view c.line (IsIn among) c m v w)
-  found P c v w given ((image, told, (m, (has, opens))), each) keeps = (m, (has, (image, told, opens), answers_line c.line c m v w image given told opens keeps.does))
+  found P c v w given ((image, told, (m, (has, opens))), each) keeps = (m, (has, (image, told, opens), answers_line c.line c m v w image given told opens keeps))
 
   one_call : (P : Stored → Type 0) (c : Call) (v w : DiskView) → IsGivenAmong (IsIn among) c → Stands (OfSome (IsIn among) P) v → KeepsCall D view c v w
       → Stands (OfSome (IsIn among) (After P c.line c)) w
@@ -341,8 +355,8 @@ module _ (D : Type 0) (view : D → DiskView) (slots : ℕ) (c : Call) (v w : Di
 
   format_done : KeepsCall D view c v w → c.line ≡ Some (Single (Format slots)) → c.status ≡ 0 → Formats slots v w × IsDurable w
   format_done keeps line_is zero_is =
-      let done : DoesBy (Some (Single (Format slots))) None = subst (DoesBy (Some (Single (Format slots)))) (done_at_zero c.ending (sym keeps.status_is ∙ zero_is))
-      (subst (λ (l : Option TableLine). DoesBy l c.ending) line_is keeps.does) in
+      let kept = subst (λ (l : Option TableLine). KeepsAs D view l c v w) line_is keeps in
+      let done = subst (DoesBy (Some (Single (Format slots)))) (done_at_zero c.ending (sym kept.status_is ∙ zero_is)) kept.does in
       (done.0.any.caused, done.0.any.durable)
 
 pub format_begins : (D : Type 0) (view : D → DiskView) → FormatBegins D view

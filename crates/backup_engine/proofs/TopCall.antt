@@ -1,6 +1,7 @@
 -- What the top call promises, from what a command keeps.
-use Rattle.std.proofs.Common.{◌≡◌, inl, inr, refl, sym, subst, ℕ, List, [], Option, Some, None}
+use Rattle.std.proofs.Common.{◌≡◌, inl, inr, refl, sym, subst, ℕ, List, [], Option, Some, None, Err}
 use Rattle.dd_disk.specs.View.{DiskView}
+use Rattle.dd_disk.proofs.Later.{reads_here}
 use Rattle.dd_io.specs.Flow.{SourceView, SinkView}
 use Rattle.store_machine.specs.Commands.{Replied}
 use Rattle.reply_text.specs.declared.ending.Ending.{Ending}
@@ -8,11 +9,12 @@ use Rattle.refusals.specs.declared.refusal.Refusal.TheVariants.{Memory}
 use Rattle.reply_text.specs.declared.ending.Ending.TheVariants.{Words, Refused}
 use Rattle.reply_text.specs.Table.{status_of}
 use Rattle.script_lines.specs.Reader.{ReadsTellScripts}
-use Rattle.backup_engine.specs.Line.{TableLine, Single, Run, Format, Ingest, Restore, Delete, Collect}
+use Rattle.backup_engine.specs.Line.{CommandLine, TableLine, Single, Run, Check, Format, Ingest, Restore, Delete, Collect}
 use Rattle.backup_engine.specs.Line as table
+use Rattle.backup_engine.specs.Noted.{IsNoted, AreNoted, status_by}
 use Rattle.backup_engine.specs.Seen.{Seen}
 use Rattle.backup_engine.specs.Singles.{IsCollect, IsDelete, IsIngest, IsListing, IsRestore}
-use Rattle.backup_engine.specs.TopCall.{IsSameDisk, Does, Promise, IsNoted, AreNoted, status_by}
+use Rattle.backup_engine.specs.TopCall.{IsSameDisk, Does, KeepsLine, Promise}
 use Rattle.backup_engine.proofs.NotDone.{not_begun}
 use Rattle.backup_engine.proofs.Opens.{does_without_memory, runs_without_memory}
 use Rattle.backup_engine.proofs.ScriptKept.{no_memory_kept}
@@ -48,22 +50,20 @@ saw v w source source_now sink sink_now notes notes_now = record {
 pub words_promise : (D : Type 0) (view : D → DiskView) (line : Option TableLine) (status : ℕ) (v : DiskView) (source : SourceView) (sink notes notes_now : SinkView) →
     line ≡ None → status ≡ status_of Words → IsNoted notes notes_now Words
     → Promise D view line status (saw v v source source sink sink notes notes_now)
-words_promise D view line status v source sink notes notes_now none is noted = record {
-  ending = Some Words;
-  given = [];
-  rs = [];
-  status_is = is;
-  noted = noted;
-  does = subst (λ (l : Option TableLine). Does D view l [] [] (Some Words) v v source source sink sink) (sym none)
-      (record { why = inl refl; disk_is = same_disk v; source_is = refl; sink_is = refl });
-}
+words_promise D view line status v source sink notes notes_now none is noted =
+    subst (λ (l : Option TableLine). Promise D view l status (saw v v source source sink sink notes notes_now)) (sym none) (
+      Some Words,
+      (
+        [],
+        ([], record { status_is = is; noted = noted; does = record { why = inl refl; disk_is = same_disk v; source_is = refl; sink_is = refl } }),
+      ),
+    )
 
--- there was no memory to read the words, whatever line they are
-memory_does : (D : Type 0) (view : D → DiskView) (line : Option TableLine) (v : DiskView) (source : SourceView) (sink : SinkView) → ReadsTellScripts
-    → (given : List ℕ) × ((rs : List Replied) × Does D view line given rs (Some (Refused Memory)) v v source source sink sink)
-memory_does D view None v source sink laws = ([], ([], record { why = inr refl; disk_is = same_disk v; source_is = refl; sink_is = refl }))
-memory_does D view (Some (Single (Format slots))) v source sink laws = ([], ([], (not_begun (Format slots) [] v source sink (refl, refl), refl)))
-memory_does D view (Some (Single (Ingest name))) v source sink laws =
+-- there was no memory to read the words, whatever command they are
+memory_does : (D : Type 0) (view : D → DiskView) (command : CommandLine) (v : DiskView) (source : SourceView) (sink : SinkView)
+    → (given : List ℕ) × ((rs : List Replied) × Does D view (Some (Single command)) given rs (Some (Refused Memory)) v v source source sink sink)
+memory_does D view (Format slots) v source sink = ([], ([], (not_begun (Format slots) [] v source sink (refl, refl), refl)))
+memory_does D view (Ingest name) v source sink =
     let given = given_of source.left in (
       given,
       (
@@ -72,7 +72,7 @@ memory_does D view (Some (Single (Ingest name))) v source sink laws =
             (unbegun_speaks (IsIngest name given (Some (Refused Memory)) source source) v sink (inl (refl, refl))),
       ),
     )
-memory_does D view (Some (Single (Restore name))) v source sink laws = (
+memory_does D view (Restore name) v source sink = (
   [],
   (
     [],
@@ -80,7 +80,7 @@ memory_does D view (Some (Single (Restore name))) v source sink laws = (
         (unbegun_speaks (IsRestore name (Some (Refused Memory)) sink sink) v sink (inl (refl, refl, refl))),
   ),
 )
-memory_does D view (Some (Single (Delete name))) v source sink laws = (
+memory_does D view (Delete name) v source sink = (
   [],
   (
     [],
@@ -88,7 +88,7 @@ memory_does D view (Some (Single (Delete name))) v source sink laws = (
         (unbegun_speaks (IsDelete name (Some (Refused Memory)) sink sink) v sink (inl (refl, refl), refl)),
   ),
 )
-memory_does D view (Some (Single table.List)) v source sink laws = (
+memory_does D view table.List v source sink = (
   [],
   (
     [],
@@ -96,7 +96,7 @@ memory_does D view (Some (Single table.List)) v source sink laws = (
         (unbegun_speaks (IsListing (Some (Refused Memory)) sink sink) v sink (inl (refl, inl refl), refl)),
   ),
 )
-memory_does D view (Some (Single (Collect percent))) v source sink laws = (
+memory_does D view (Collect percent) v source sink = (
   [],
   (
     [],
@@ -104,14 +104,30 @@ memory_does D view (Some (Single (Collect percent))) v source sink laws = (
         (unbegun_speaks (IsCollect percent (Some (Refused Memory)) sink sink) v sink (inl (refl, inl refl), refl)),
   ),
 )
-memory_does D view (Some Run) v source sink laws = ([], ([], runs_without_memory D view v source sink (no_memory_kept v source sink laws)))
 
-pub memory_promise : (D : Type 0) (view : D → DiskView) (line : Option TableLine) (status : ℕ) (v : DiskView) (source : SourceView) (sink notes notes_now : SinkView) →
-    ReadsTellScripts → status ≡ status_of (Refused Memory) → IsNoted notes notes_now (Refused Memory)
-    → Promise D view line status (saw v v source source sink sink notes notes_now)
-memory_promise D view line status v source sink notes notes_now laws is noted =
-    let does = memory_does D view line v source sink laws in
-    record { ending = Some (Refused Memory); given = does.0; rs = does.1.0; status_is = is; noted = noted; does = does.1.1 }
+module _ (D : Type 0) (view : D → DiskView) (status : ℕ) (v : DiskView) (source : SourceView) (sink notes notes_now : SinkView) (laws : ReadsTellScripts)
+    (is : status ≡ status_of (Refused Memory)) (noted : IsNoted notes notes_now (Refused Memory)) where
+  -- or whatever line
+  pub memory_promise : (line : Option TableLine) → Promise D view line status (saw v v source source sink sink notes notes_now)
+  memory_promise None = (
+    Some (Refused Memory),
+    ([], ([], record { status_is = is; noted = noted; does = record { why = inr refl; disk_is = same_disk v; source_is = refl; sink_is = refl } })),
+  )
+  memory_promise (Some (Single command)) =
+      let does = memory_does D view command v source sink in
+      (Some (Refused Memory), (does.0, (does.1.0, record { status_is = is; noted = noted; does = does.1.1 })))
+  memory_promise (Some Run) = (
+    Some (Refused Memory),
+    ([], ([], record { status_is = is; noted = noted; does = runs_without_memory D view v source sink (no_memory_kept v source sink laws) })),
+  )
+  memory_promise (Some Check) = record {
+    ended = Err (Refused Memory);
+    status_is = is;
+    noted = noted;
+    checks = inr (refl, refl);
+    reads = record { only = reads_here v; faults_are = refl };
+    source_is = refl;
+  }
 
 -- what is so of a line is so of what is that line
 pub does_as : (D : Type 0) (view : D → DiskView) (line said : TableLine) → line ≡ said → (given : List ℕ) (rs : List Replied) (ending : Option Ending) (v w : DiskView)
@@ -121,17 +137,16 @@ pub does_as : (D : Type 0) (view : D → DiskView) (line said : TableLine) → l
 does_as D view line said is given rs ending v w source source_now sink sink_now does =
     (given, (rs, subst (λ (l : TableLine). Does D view (Some l) given rs ending v w source source_now sink sink_now) (sym is) does))
 
--- a line, as it ended
-pub line_promise : (D : Type 0) (view : D → DiskView) (line : Option TableLine) (said : TableLine) (status : ℕ) (ending : Option Ending) (v w : DiskView)
-    (source source_now : SourceView) (sink sink_now notes notes_now : SinkView) → line ≡ Some said
-    → status ≡ status_by ending → AreNoted notes notes_now ending
+-- a line that is no `check`, as it ended
+pub keeps_line : (D : Type 0) (view : D → DiskView) (said : TableLine) (status : ℕ) (ending : Option Ending) (v w : DiskView)
+    (source source_now : SourceView) (sink sink_now notes notes_now : SinkView) → status ≡ status_by ending → AreNoted notes notes_now ending
     → ((given : List ℕ) × ((rs : List Replied) × Does D view (Some said) given rs ending v w source source_now sink sink_now))
-    → Promise D view line status (saw v w source source_now sink sink_now notes notes_now)
-line_promise D view line said status ending v w source source_now sink sink_now notes notes_now some is noted does = record {
-  ending = ending;
-  given = does.0;
-  rs = does.1.0;
-  status_is = is;
-  noted = noted;
-  does = subst (λ (l : Option TableLine). Does D view l does.0 does.1.0 ending v w source source_now sink sink_now) (sym some) does.1.1;
-}
+    → (ending : Option Ending) × ((given : List ℕ) × ((rs : List Replied)
+    × KeepsLine D view (Some said) ending given rs status (saw v w source source_now sink sink_now notes notes_now)))
+keeps_line D view said status ending v w source source_now sink sink_now notes notes_now is noted does =
+    (ending, (does.0, (does.1.0, record { status_is = is; noted = noted; does = does.1.1 })))
+
+-- the words are that line
+pub promise_as : (D : Type 0) (view : D → DiskView) (line said : Option TableLine) (status : ℕ) (seen : Seen) → line ≡ said → Promise D view said status seen →
+    Promise D view line status seen
+promise_as D view line said status seen is promise = subst (λ (l : Option TableLine). Promise D view l status seen) (sym is) promise

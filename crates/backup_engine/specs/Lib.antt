@@ -2,6 +2,7 @@ pub mod Adding
 pub mod AnyDisk
 pub mod ByFiles
 pub mod CallsByFiles
+pub mod Checking
 pub mod Collected
 pub mod Collecting
 pub mod Frame
@@ -11,6 +12,7 @@ pub mod LineValue
 pub mod Lines
 pub mod Lists
 pub mod Naming
+pub mod Noted
 pub mod PlainMap
 pub mod Promise
 pub mod Putting

@@ -16,10 +16,11 @@ pub data CommandLine : Type 0 where
   List : CommandLine
   Collect : (percent : ℕ) → CommandLine
 
--- a line of the table: one command, or the script that the source has
+-- a line of the table: one command, the script that the source has, or a look at all of the disk
 pub data TableLine : Type 0 where
   Single : (command : CommandLine) → TableLine
   Run : TableLine
+  Check : TableLine
 
 -- the name of a command, where it has one
 abbrev pub name_of : CommandLine → ListOf ℕ
@@ -91,6 +92,7 @@ has_no_argument (first ∷ second ∷ rest) = false
 abbrev pub line_by : ListOf ℕ → ListOf (ListOf ℕ) → Option TableLine
 line_by command arguments =
     if bytes_eq command (codes "run") then (if has_no_argument arguments then Some Run else None)
+    else if bytes_eq command (codes "check") then (if has_no_argument arguments then Some Check else None)
     else if bytes_eq command (codes "list") then (if has_no_argument arguments then Some (Single List) else None)
     else option_map Single (option_and_then (command_of command) (argument_of arguments))
 

@@ -25,11 +25,12 @@ use Rattle.core_machine.specs.Files.{stored_in}
 use Rattle.core_machine.specs.Unopened.{unopened}
 use Rattle.store_model.specs.Standing.{IsSegmentOf}
 use Rattle.backup_engine.specs.AnyDisk.{Formats}
-use Rattle.backup_engine.specs.Line.{CommandLine, Format, TableLine, Single, Run}
+use Rattle.backup_engine.specs.Checking.{ChecksDisk}
+use Rattle.backup_engine.specs.Line.{CommandLine, Format, TableLine, Single, Run, Check}
 use Rattle.backup_engine.specs.PlainMap.{map_after, CanBeDone}
 use Rattle.backup_engine.specs.Promise.{KeepsMap, NothingWritten, SinceStart, Stands}
 use Rattle.backup_engine.specs.Seen.{Seen}
-use Rattle.backup_engine.specs.TopCall.{Promise, Does, AreNoted, status_by}
+use Rattle.backup_engine.specs.TopCall.{Promise, KeepsLine}
 use Rattle.backup_engine.specs.ByFiles.{RefusedByFiles, RunsByFiles}
 use Rattle.backup_engine.specs.Singles.{said}
 use Rattle.backup_engine.specs.Whole.{KeepsWhole}
@@ -49,17 +50,6 @@ pub record Call : Type 0 where
   pub given : List ℕ
   pub rs : List Replied
 
--- what `Promise` says of a call, with its ending, what was given and which lines were run (specs/TopCall.antt)
-pub record KeepsCall (D : Type 0) (view : D → DiskView) (c : Call) (disk disk_now : DiskView) : Type 0 where
-  pub status_is : c.status ≡ status_by c.ending
-  pub noted : AreNoted c.notes c.notes_now c.ending
-  pub does : Does D view c.line c.given c.rs c.ending disk disk_now c.source c.source_now c.sink c.sink_now
-
--- The first call makes of the disk one of which the others make the last one. A disk is anything that has a view.
-abbrev pub CallRun : (D : Type 0) → (D → DiskView) → List Call → D → D → Type 0
-CallRun D view [] old new = new ≡ old
-CallRun D view (c ∷ cs) old new = (mid : D) × (KeepsCall D view c (view old) (view mid) × CallRun D view cs mid new)
-
 -- what it saw, over this disk
 abbrev pub seen_by : Call → DiskView → DiskView → Seen
 seen_by c disk disk_now = record {
@@ -72,6 +62,19 @@ seen_by c disk disk_now = record {
   notes = c.notes;
   notes_now = c.notes_now;
 }
+
+abbrev pub KeepsAs : (D : Type 0) → (D → DiskView) → Option TableLine → Call → DiskView → DiskView → Type 0
+KeepsAs D view (Some Check) c disk disk_now = ChecksDisk c.status (seen_by c disk disk_now)
+KeepsAs D view line c disk disk_now = KeepsLine D view line c.ending c.given c.rs c.status (seen_by c disk disk_now)
+
+-- what `Promise` says of a call, with its ending, what was given and which lines were run (specs/TopCall.antt)
+abbrev pub KeepsCall : (D : Type 0) → (D → DiskView) → Call → DiskView → DiskView → Type 0
+KeepsCall D view c disk disk_now = KeepsAs D view c.line c disk disk_now
+
+-- The first call makes of the disk one of which the others make the last one. A disk is anything that has a view.
+abbrev pub CallRun : (D : Type 0) → (D → DiskView) → List Call → D → D → Type 0
+CallRun D view [] old new = new ≡ old
+CallRun D view (c ∷ cs) old new = (mid : D) × (KeepsCall D view c (view old) (view mid) × CallRun D view cs mid new)
 
 -- What `backup` promises of a call is that, for some ending, bytes given and lines: so calls of it make such a run.
 abbrev pub IsPromised : (D : Type 0) → (D → DiskView) → Type 0
@@ -112,11 +115,12 @@ pub record ScriptPasses (rs : List Replied) (m next : Stored) : Type 0 where
       (run_of of_files (said lines.Reopen script.first ∷ rs) script.steps (desk (unopened m script.store)) script.last script.lines_are)
   pub next_is : next ≡ stored_in found
 
--- words that are no line lead to the map as it was
+-- words that are no line, and a `check`, lead to the map as it was
 abbrev pub MayLead : Option TableLine → Call → Stored → Stored → Type 0
 MayLead None c m next = next ≡ m
 MayLead (Some (Single command)) c m next = LeadsBy command c.given c.ending m next
 MayLead (Some Run) c m next = ScriptLeads c.rs m next
+MayLead (Some Check) c m next = next ≡ m
 
 -- to which maps a call may have come when a crash stops it; it may also have done nothing yet
 abbrev pub MayPass : Option TableLine → Call → Stored → Stored → Type 0

@@ -3,47 +3,32 @@
 -- line: the line of the table of commands that the words are. status: the exit status. saw: the disk, the source, the sink and the
 -- notes, each before the call, and now.
 use Rattle.std.specs.Prelude.{◌≡◌, ◌⊎◌, ℕ, List, [], Option, Some, None, Result, Ok, Err}
-use Rattle.base_model.specs.Fault.{Rose}
-use Rattle.base_model.specs.Known.{Known, KnownWith, Appended}
+use Rattle.base_model.specs.Known.{Known, KnownWith}
 use Rattle.dd_disk.specs.View.{DiskView, IsLater}
-use Rattle.dd_io.specs.Flow.{SourceView, SinkView, AppendedPart}
+use Rattle.dd_io.specs.Flow.{SourceView, SinkView}
 use Rattle.store_machine.specs.Commands.{Replied}
 use Rattle.refusals.specs.declared.refusal.Refusal.{Refusal}
 use Rattle.refusals.specs.declared.refusal.Refusal.TheVariants.{DiskWrite, Full, Memory}
 use Rattle.reply_text.specs.declared.ending.Ending.{Ending}
 use Rattle.reply_text.specs.declared.ending.Ending.TheVariants.{Words, Refused}
-use Rattle.reply_text.specs.Table.{status_of}
-use Rattle.reply_text.specs.Text.{fault_line}
 use Rattle.recovery.specs.Formatting.{IsLeftByFormat, IsBlankOrFormatted}
 use Rattle.recovery.specs.Room.{RoomMade, RoomUnmade}
 use Rattle.backup_engine.specs.AnyDisk.{Holds, OnAnyDisk, FindsBeforeWriting, Took}
 use Rattle.backup_engine.specs.ByFiles.{FailsAlone, RunsEachByFiles}
+use Rattle.backup_engine.specs.Checking.{ChecksDisk}
 use Rattle.backup_engine.specs.Frame.{KeepsOthers}
-use Rattle.backup_engine.specs.Line.{CommandLine, Format, Ingest, Restore, Delete, Collect, TableLine, Single, Run}
+use Rattle.backup_engine.specs.Line.{CommandLine, Format, Ingest, Restore, Delete, Collect, TableLine, Single, Run, Check}
 use Rattle.backup_engine.specs.Line as table
+use Rattle.backup_engine.specs.Noted.{AreNoted, status_by}
 use Rattle.backup_engine.specs.Promise.{KeepsEachMap, SinceStart}
 use Rattle.backup_engine.specs.Script.{KeepsScript}
 use Rattle.backup_engine.specs.Seen.{Seen}
 use Rattle.backup_engine.specs.Singles.{SpeaksAs}
 use Rattle.backup_engine.specs.Whole.{KeepsEachWhole}
 
--- 0 where the command was done, and else by the table of statuses
-abbrev pub status_by : Option Ending → ℕ
-status_by None = 0
-status_by (Some ending) = status_of ending
-
 abbrev pub ending_in : Result Unit Ending → Option Ending
 ending_in (Ok u) = None
 ending_in (Err ending) = Some ending
-
--- The notes have one line for a command that was not done, or, where they failed, a part of it; and else nothing more.
-pub record IsNoted (notes notes_now : SinkView) (ending : Ending) : Type 0 where
-  pub whole : ¬ (Rose notes.faults notes_now.faults) → Appended notes.written notes_now.written (fault_line ending)
-  pub part : AppendedPart notes.written notes_now.written (fault_line ending)
-
-abbrev pub AreNoted : SinkView → SinkView → Option Ending → Type 0
-AreNoted notes notes_now None = notes_now.written ≡ notes.written
-AreNoted notes notes_now (Some ending) = IsNoted notes notes_now ending
 
 -- ---- a disk that has no store
 
@@ -143,7 +128,7 @@ pub record RunsScript (D : Type 0) (view : D → DiskView) (rs : List Replied) (
   pub way : OnceThereWasRoom D view (λ v. KeepsScript rs ending v disk_now source source_now sink sink_now) ending disk disk_now
       ⊎ MakesNoRoom rs ending disk disk_now source source_now sink sink_now
 
--- What a line of the table does. A disk is anything that has a view.
+-- What a line of the table does, but a `check`: see `Promise`. A disk is anything that has a view.
 abbrev pub Does : (D : Type 0) → (D → DiskView) → Option TableLine → List ℕ → List Replied → Option Ending → DiskView → DiskView →
     SourceView
     → SourceView → SinkView → SinkView → Type 0
@@ -155,12 +140,17 @@ Does D view (Some (Single command)) given rs ending disk disk_now source source_
     DoesCommand D view command given rs ending disk disk_now source source_now sink sink_now
 Does D view (Some Run) given rs ending disk disk_now source source_now sink sink_now =
     RunsScript D view rs ending disk disk_now source source_now sink sink_now
+Does D view (Some Check) given rs ending disk disk_now source source_now sink sink_now = ⊥
 
 -- How the call ended, what the source gave, and which lines were run, are one throughout.
-pub record Promise (D : Type 0) (view : D → DiskView) (line : Option TableLine) (status : ℕ) (saw : Seen) : Type 0 where
-  pub ending : Option Ending
-  pub given : List ℕ
-  pub rs : List Replied
+pub record KeepsLine (D : Type 0) (view : D → DiskView) (line : Option TableLine) (ending : Option Ending) (given : List ℕ)
+    (rs : List Replied) (status : ℕ) (saw : Seen) : Type 0 where
   pub status_is : status ≡ status_by ending
   pub noted : AreNoted saw.notes saw.notes_now ending
   pub does : Does D view line given rs ending saw.disk saw.disk_now saw.source saw.source_now saw.sink saw.sink_now
+
+-- A `check` inspects the disk; each other line does what `Does` says.
+abbrev pub Promise : (D : Type 0) → (D → DiskView) → Option TableLine → ℕ → Seen → Type 0
+Promise D view (Some Check) status saw = ChecksDisk status saw
+Promise D view line status saw =
+    (ending : Option Ending) × ((given : List ℕ) × ((rs : List Replied) × KeepsLine D view line ending given rs status saw))

@@ -4,7 +4,7 @@ use Rattle.std.specs.Str.{bytes_eq}
 use Rattle.clap.specs.Words.{App, Row, Rule, first_of, new_app, new_rule, with_rule, with_subcommand}
 use Rattle.clap.specs.Simple.{new_shape}
 use Rattle.clap.specs.declared.builder.action.ArgAction.TheVariants.{Set}
-use Rattle.backup_engine.specs.Line.{TableLine, Single, Run, command_of}
+use Rattle.backup_engine.specs.Line.{TableLine, Single, Run, Check, command_of}
 use Rattle.backup_engine.specs.Line as table
 
 abbrev pub argument_rule : Rule
@@ -34,14 +34,15 @@ abbrev pub with_none : App → List ℕ → App
 with_none app name = with_subcommand app (new_app name).top
 
 abbrev pub table_app : App
-table_app = with_none (with_none (with_one
+table_app = with_none (with_none (with_none (with_one
     (with_one (with_one (with_one (with_one no_commands (codes "format")) (codes "ingest")) (codes "restore")) (codes "delete"))
-    (codes "collect")) (codes "list")) (codes "run")
+    (codes "collect")) (codes "list")) (codes "run")) (codes "check")
 
 -- the line of a command and its argument, where it has one
 abbrev pub line_named : List ℕ → Option (List ℕ) → Option TableLine
 line_named name argument =
     if bytes_eq name (codes "run") then Some Run
+    else if bytes_eq name (codes "check") then Some Check
     else if bytes_eq name (codes "list") then Some (Single table.List)
     else option_map Single (option_and_then (command_of name) argument)
 

@@ -2,6 +2,7 @@
 #![tactic(auto)]
 
 mod by_files;
+mod checking;
 mod collecting;
 mod deleting;
 mod format;
@@ -18,5 +19,6 @@ mod storing;
 mod top_call;
 mod words;
 
+pub use checking::LineSink;
 pub use laws::commands_follow_the_map;
 pub use top_call::{backup, backup_alone, size_of_format};

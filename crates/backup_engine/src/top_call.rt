@@ -4,9 +4,11 @@ ghost use Rattle.dd_disk.specs.View.{IsLater};
 ghost use Rattle.store_machine.specs.Commands.{Replied};
 ghost use Rattle.reply_text.specs.Table.{status_of as table_status};
 ghost use Rattle.backup_engine.specs.Line.{Single, line_of};
-ghost use Rattle.backup_engine.specs.LineValue.{command_value, line_value, IsRightCommand, IsRightLine, size_made};
-ghost use Rattle.backup_engine.specs.TopCall.{Promise, Does, IsNoted, ending_in};
+ghost use Rattle.backup_engine.specs.LineValue.{command_value, IsRightCommand, size_made};
+ghost use Rattle.backup_engine.specs.Noted.{AreNoted, IsNoted, status_by};
+ghost use Rattle.backup_engine.specs.TopCall.{Promise, Does, ending_in};
 
+use crate::checking::{LineSink, check};
 use crate::collecting::collect;
 use crate::deleting::delete;
 use crate::format::format;
@@ -28,14 +30,15 @@ use std::alloc::{AllocError, Global};
 /// `ingest` reads `source`, to its end where it is done; the reply, or the bytes of the file that is restored, goes to `sink`. `run`
 /// reads a script from `source`, and replies to each line as it ends (docs/FORMAT.md, 'Scripts'). Words that are no line of the table
 /// are 2, and so is a script that is none; a fault of the source is 5, of the sink 6; a refusal has its own status, and so has want of
-/// memory, also for the words. `notes` get a line where the status isn't 0; a failure of theirs changes no status.
+/// memory, also for the words. `check` writes a line for each damage as it is found, and is 7 where there is one. `notes` get a line where
+/// the status isn't 0, but for that; a failure of theirs changes no status.
 pub fn backup<R, D: Disk + Send, S: Source, K: Sink, Q: Sink>(
     rt: &R,
     alloc: Global,
     words: &[String],
     disk: &mut D,
     source: &mut S,
-    sink: &mut K,
+    sink: &mut LineSink<K>,
     notes: &mut Q,
 ) -> u8
     ensures promise { Promise D D.view (line_of (map string_bytes words.now)) result (record {
@@ -43,8 +46,8 @@ pub fn backup<R, D: Disk + Send, S: Source, K: Sink, Q: Sink>(
       disk_now = D.view disk.new;
       source = S.view source.old;
       source_now = S.view source.new;
-      sink = K.view sink.old;
-      sink_now = K.view sink.new;
+      sink = K.view sink.old.sink;
+      sink_now = K.view sink.new.sink;
       notes = Q.view notes.old;
       notes_now = Q.view notes.new;
     }) }
@@ -60,7 +63,7 @@ pub fn backup_alone<R, D: Disk + Send, S: Source, K: Sink, Q: Sink>(
     words: &[String],
     disk: &mut D,
     source: &mut S,
-    sink: &mut K,
+    sink: &mut LineSink<K>,
     notes: &mut Q,
 ) -> u8
     ensures promise { Promise D D.view (line_of (map string_bytes words.now)) result (record {
@@ -68,8 +71,8 @@ pub fn backup_alone<R, D: Disk + Send, S: Source, K: Sink, Q: Sink>(
       disk_now = D.view disk.new;
       source = S.view source.old;
       source_now = S.view source.new;
-      sink = K.view sink.old;
-      sink_now = K.view sink.new;
+      sink = K.view sink.old.sink;
+      sink_now = K.view sink.new.sink;
       notes = Q.view notes.old;
       notes_now = Q.view notes.new;
     }) }
@@ -81,9 +84,16 @@ pub fn backup_alone<R, D: Disk + Send, S: Source, K: Sink, Q: Sink>(
         Ok(None) => return give_up(notes, &Ending::Words),
         Err(_) => return give_up(notes, &Ending::Refused(Refusal::Memory)),
     };
-    match run_line(alloc, &line, disk, source, sink) {
-        Ok(()) => 0,
-        Err(ending) => give_up(notes, &ending),
+    match line {
+        Line::Single(command) => conclude(
+            notes,
+            run_command(alloc, &command, disk, source, &mut sink.sink),
+        ),
+        Line::Run => conclude(notes, run(alloc, disk, source, &mut sink.sink)),
+        Line::Check => match check(alloc, disk, sink) {
+            Ok(status) => status,
+            Err(ending) => give_up(notes, &ending),
+        },
     }
 }
 
@@ -95,26 +105,6 @@ pub fn size_of_format(alloc: Global, words: &[String]) -> Result<Option<u64>, Al
         Ok(Some(Line::Single(Command::Format(slots)))) => Ok(Some(size_of(slots))),
         Ok(_) => Ok(None),
         Err(error) => Err(error),
-    }
-}
-
-// Does what a line says.
-fn run_line<D: Disk, S: Source, K: Sink>(
-    alloc: Global,
-    line: &Line<'_>,
-    disk: &mut D,
-    source: &mut S,
-    sink: &mut K,
-) -> Result<(), Ending>
-    requires { IsRightLine line.now }
-    ensures does { (given : List ℕ) × ((rs : List Replied) × Does D D.view (Some (line_value line.now)) given rs
-        (ending_in result) (D.view disk.old) (D.view disk.new) (S.view source.old) (S.view source.new)
-        (K.view sink.old) (K.view sink.new)) }
-    ensures later { IsLater (D.view disk.old) (D.view disk.new) }
-{
-    match line {
-        Line::Single(command) => run_command(alloc, command, disk, source, sink),
-        Line::Run => run(alloc, disk, source, sink),
     }
 }
 
@@ -139,6 +129,17 @@ fn run_command<D: Disk, S: Source, K: Sink>(
         Command::Delete(name) => delete(alloc, disk, sink, name),
         Command::List => list(alloc, disk, sink),
         Command::Collect(percent) => collect(alloc, disk, sink, *percent),
+    }
+}
+
+// The status of a command; where it was not done, that is noted.
+fn conclude<Q: Sink>(notes: &mut Q, ended: Result<(), Ending>) -> u8
+    ensures status { result ≡ status_by (ending_in ended) }
+    ensures noted { AreNoted (Q.view notes.old) (Q.view notes.new) (ending_in ended) }
+{
+    match ended {
+        Ok(()) => 0,
+        Err(ending) => give_up(notes, &ending),
     }
 }
 

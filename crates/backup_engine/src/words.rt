@@ -34,6 +34,8 @@ pub(crate) enum Line<'a> {
     Single(Command<'a>),
     /// The source is a script.
     Run,
+    /// The disk is inspected.
+    Check,
 }
 
 /// The line of the table that the words are, if they are one, or want of memory.
@@ -75,7 +77,8 @@ fn table<'a>(alloc: Global) -> Result<clap::Command<'a>, AllocError>
     let command = with_argument(alloc, command, "delete")?;
     let command = with_argument(alloc, command, "collect")?;
     let command = without_argument(alloc, command, "list")?;
-    without_argument(alloc, command, "run")
+    let command = without_argument(alloc, command, "run")?;
+    without_argument(alloc, command, "check")
 }
 
 // One more subcommand, with one argument.
@@ -125,6 +128,7 @@ fn named_line<'a>(name: &str, argument: Option<&'a str>) -> Option<Line<'a>>
 {
     match name {
         "run" => Some(Line::Run),
+        "check" => Some(Line::Check),
         "list" => Some(Line::Single(Command::List)),
         _ => match read_command(name, argument?) {
             Some(command) => Some(Line::Single(command)),

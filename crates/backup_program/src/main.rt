@@ -1,7 +1,7 @@
 //! The program `ddfs PATH COMMAND ..`: the top call over a file and the standard streams.
 #![tactic(auto)]
 
-use backup_engine::{backup, size_of_format};
+use backup_engine::{LineSink, backup, size_of_format};
 use dd_disk::FileDisk;
 use dd_io::{StdSink, StdSource};
 use std::env;
@@ -130,7 +130,9 @@ fn failure_of(error: io::Error) -> Failure {
 
 fn run_command(rt: &HostRuntime, command: &[String], disk: &mut FileDisk) -> u8 {
     let mut source = StdSource::new(rt.stdin());
-    let mut sink = StdSink::new(rt.stdout());
+    let mut sink = LineSink {
+        sink: StdSink::new(rt.stdout()),
+    };
     let mut notes = StdSink::new(rt.stderr());
     let status = backup(
         rt,
@@ -142,9 +144,15 @@ fn run_command(rt: &HostRuntime, command: &[String], disk: &mut FileDisk) -> u8 
         &mut notes,
     );
     // What the streams hold back is written here: a reply that is lost now is a fault of the sink too.
-    if rt.stdout().flush().is_err() && status == 0 {
+    if rt.stdout().flush().is_err() && has_replied(command, status) {
         let _written = eprintln!(rt; "fault sink");
         return 6;
     }
     status
+}
+
+// A command that was done has replied, and so has a `check` that found damage.
+fn has_replied(command: &[String], status: u8) -> bool {
+    let is_check = command.first().is_some_and(|word| word.as_str() == "check");
+    status == 0 || (is_check && status == 7)
 }

@@ -28,6 +28,7 @@ returns c =
     let delete_is = c.in_ok-command-4.ensures ∙ ap (λ (a : App). with_one a (codes "delete")) restore_is in
     let collect_is = c.in_ok-command-5.ensures ∙ ap (λ (a : App). with_one a (codes "collect")) delete_is in
     let list_is = c.in_ok-command-6.ensures ∙ ap (λ (a : App). with_none a (codes "list")) collect_is in
-    IfOk-weaker c.without_argument-2.result _ _
-    (λ more h. h ∙ ap (λ (a : App). with_none a (codes "run")) list_is)
-    c.without_argument-2.ensures
+    let run_is = c.in_ok-command-7.ensures ∙ ap (λ (a : App). with_none a (codes "run")) list_is in
+    IfOk-weaker c.without_argument-3.result _ _
+    (λ more h. h ∙ ap (λ (a : App). with_none a (codes "check")) run_is)
+    c.without_argument-3.ensures

@@ -3,7 +3,7 @@ use crate::containers::header_text;
 use crate::scripts::{add_replied, add_replies, script_in, script_of};
 use crate::text::Text;
 use crate::words::{Fault, add_piece, bytes_of, number, word_of, words_of};
-use backup_engine::{LineSink, backup, backup_alone};
+use backup_engine::{backup, backup_alone};
 use dd_disk::Disk;
 use dd_io::{MemSink, MemSource};
 use std::alloc::Global;
@@ -174,9 +174,7 @@ fn add_option(run: &mut Run, script: &str) -> Result<(), Fault> {
 fn add_run<D: Disk + Send>(rt: &HostRuntime, disk: &mut D, run: Run, text: &mut Text) {
     let alloc = rt.alloc();
     let mut source = MemSource::in_pieces(run.source, run.source_fails, (run.most as usize).max(1));
-    let mut lines = LineSink {
-        sink: MemSink::new(alloc, run.sink_fails),
-    };
+    let mut sink = MemSink::new(alloc, run.sink_fails);
     let mut notes = MemSink::new(alloc, run.notes_fails);
     let status = if run.is_alone {
         backup_alone(
@@ -185,7 +183,7 @@ fn add_run<D: Disk + Send>(rt: &HostRuntime, disk: &mut D, run: Run, text: &mut 
             &run.words,
             disk,
             &mut source,
-            &mut lines,
+            &mut sink,
             &mut notes,
         )
     } else {
@@ -195,13 +193,12 @@ fn add_run<D: Disk + Send>(rt: &HostRuntime, disk: &mut D, run: Run, text: &mut 
             &run.words,
             disk,
             &mut source,
-            &mut lines,
+            &mut sink,
             &mut notes,
         )
     };
     text.add_number(u64::from(status));
     let is_done = status == 0;
-    let sink = &lines.sink;
     match command_of(&run.words) {
         "run" => return add_replies(text, sink.bytes(), notes.bytes(), is_done),
         "list" | "check" => add_replied(text, sink.bytes(), is_done),

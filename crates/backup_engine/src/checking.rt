@@ -6,26 +6,19 @@ ghost use Rattle.backup_engine.specs.Checking.{Checks, cause_in};
 
 use dd_disk::Disk;
 use dd_io::{Sink, SinkFault};
-use inspection::{Damage, TakesDamage};
+use inspection::{Damage, SpellsDamage};
 use recovery::{Uninspected, inspect};
 use reply_text::{Ending, write_checked, write_damage};
 use std::alloc::Global;
 
-/// A sink of replies, which also takes what an inspection finds: a line for each.
-///
-/// It has the sink itself. Of a sink that it had by a reference, no contract of an inspection would say that it is the same one still.
-#[derive(Drop)]
-pub struct LineSink<K> {
-    pub sink: K,
-}
+/// Each damage has a line.
+struct DamageLines;
 
-impl<K: Sink> TakesDamage for LineSink<K> {
-    ghost view = { λ lines. K.view lines.sink };
-
+impl SpellsDamage for DamageLines {
     ghost line = { damage_line };
 
-    fn take(&mut self, damage: &Damage) -> Result<(), SinkFault> {
-        write_damage(&mut self.sink, damage)
+    fn write<K: Sink>(sink: &mut K, damage: &Damage) -> Result<(), SinkFault> {
+        write_damage(sink, damage)
     }
 }
 
@@ -34,17 +27,17 @@ impl<K: Sink> TakesDamage for LineSink<K> {
 pub(crate) fn check<D: Disk, K: Sink>(
     alloc: Global,
     disk: &mut D,
-    sink: &mut LineSink<K>,
+    sink: &mut K,
 ) -> Result<u8, Ending>
-    ensures checks { Checks result (D.view disk.old) (D.view disk.new) (K.view sink.old.sink) (K.view sink.new.sink) }
+    ensures checks { Checks result (D.view disk.old) (D.view disk.new) (K.view sink.old) (K.view sink.new) }
     ensures reads { Reads (disk_ending (cause_in result)) (D.view disk.old) (D.view disk.new) }
 {
-    let tally = match inspect(alloc, disk, sink) {
+    let tally = match inspect::<D, K, DamageLines>(alloc, disk, sink) {
         Ok(tally) => tally,
         Err(Uninspected::Refused(refusal)) => return Err(Ending::Refused(refusal)),
         Err(Uninspected::Untaken) => return Err(Ending::Sink),
     };
-    match write_checked(&mut sink.sink, tally.cells, tally.copies, tally.bad) {
+    match write_checked(sink, tally.cells, tally.copies, tally.bad) {
         Ok(()) if tally.bad == 0 => Ok(0),
         Ok(()) => Ok(7),
         Err(SinkFault) => Err(Ending::Sink),

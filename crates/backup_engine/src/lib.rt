@@ -19,6 +19,5 @@ mod storing;
 mod top_call;
 mod words;
 
-pub use checking::LineSink;
 pub use laws::commands_follow_the_map;
 pub use top_call::{backup, backup_alone, size_of_format};

@@ -8,7 +8,7 @@ ghost use Rattle.backup_engine.specs.LineValue.{command_value, IsRightCommand, s
 ghost use Rattle.backup_engine.specs.Noted.{AreNoted, IsNoted, status_by};
 ghost use Rattle.backup_engine.specs.TopCall.{Promise, Does, ending_in};
 
-use crate::checking::{LineSink, check};
+use crate::checking::check;
 use crate::collecting::collect;
 use crate::deleting::delete;
 use crate::format::format;
@@ -38,7 +38,7 @@ pub fn backup<R, D: Disk + Send, S: Source, K: Sink, Q: Sink>(
     words: &[String],
     disk: &mut D,
     source: &mut S,
-    sink: &mut LineSink<K>,
+    sink: &mut K,
     notes: &mut Q,
 ) -> u8
     ensures promise { Promise D D.view (line_of (map string_bytes words.now)) result (record {
@@ -46,8 +46,8 @@ pub fn backup<R, D: Disk + Send, S: Source, K: Sink, Q: Sink>(
       disk_now = D.view disk.new;
       source = S.view source.old;
       source_now = S.view source.new;
-      sink = K.view sink.old.sink;
-      sink_now = K.view sink.new.sink;
+      sink = K.view sink.old;
+      sink_now = K.view sink.new;
       notes = Q.view notes.old;
       notes_now = Q.view notes.new;
     }) }
@@ -63,7 +63,7 @@ pub fn backup_alone<R, D: Disk + Send, S: Source, K: Sink, Q: Sink>(
     words: &[String],
     disk: &mut D,
     source: &mut S,
-    sink: &mut LineSink<K>,
+    sink: &mut K,
     notes: &mut Q,
 ) -> u8
     ensures promise { Promise D D.view (line_of (map string_bytes words.now)) result (record {
@@ -71,8 +71,8 @@ pub fn backup_alone<R, D: Disk + Send, S: Source, K: Sink, Q: Sink>(
       disk_now = D.view disk.new;
       source = S.view source.old;
       source_now = S.view source.new;
-      sink = K.view sink.old.sink;
-      sink_now = K.view sink.new.sink;
+      sink = K.view sink.old;
+      sink_now = K.view sink.new;
       notes = Q.view notes.old;
       notes_now = Q.view notes.new;
     }) }
@@ -85,11 +85,8 @@ pub fn backup_alone<R, D: Disk + Send, S: Source, K: Sink, Q: Sink>(
         Err(_) => return give_up(notes, &Ending::Refused(Refusal::Memory)),
     };
     match line {
-        Line::Single(command) => conclude(
-            notes,
-            run_command(alloc, &command, disk, source, &mut sink.sink),
-        ),
-        Line::Run => conclude(notes, run(alloc, disk, source, &mut sink.sink)),
+        Line::Single(command) => conclude(notes, run_command(alloc, &command, disk, source, sink)),
+        Line::Run => conclude(notes, run(alloc, disk, source, sink)),
         Line::Check => match check(alloc, disk, sink) {
             Ok(status) => status,
             Err(ending) => give_up(notes, &ending),

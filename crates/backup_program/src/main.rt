@@ -1,7 +1,7 @@
 //! The program `ddfs PATH COMMAND ..`: the top call over a file and the standard streams.
 #![tactic(auto)]
 
-use backup_engine::{LineSink, backup, size_of_format};
+use backup_engine::{backup, size_of_format};
 use dd_disk::FileDisk;
 use dd_io::{StdSink, StdSource};
 use std::env;
@@ -130,9 +130,7 @@ fn failure_of(error: io::Error) -> Failure {
 
 fn run_command(rt: &HostRuntime, command: &[String], disk: &mut FileDisk) -> u8 {
     let mut source = StdSource::new(rt.stdin());
-    let mut sink = LineSink {
-        sink: StdSink::new(rt.stdout()),
-    };
+    let mut sink = StdSink::new(rt.stdout());
     let mut notes = StdSink::new(rt.stderr());
     let status = backup(
         rt,

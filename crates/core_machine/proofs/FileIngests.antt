@@ -23,7 +23,8 @@ use Rattle.store_core.specs.Runs.{IsRightCommit, IsRootOf}
 use Rattle.store_core.specs.Sound.{HoldsTwin, IsTwin}
 use Rattle.store_core.proofs.KeepingSegments.{node_level}
 use Rattle.store_machine.specs.Asked as asked
-use Rattle.store_machine.specs.Legal.{DifferBy, Fits, IsClash}
+use Rattle.store_machine.specs.Legal.{Fits}
+use Rattle.store_machine.specs.Needs.{DifferBy, IsClash}
 use Rattle.store_machine.specs.Remembering.{IsWhole}
 use Rattle.core_machine.specs.Bytes.{ClashesWith}
 

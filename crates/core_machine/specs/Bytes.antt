@@ -23,9 +23,8 @@ use Rattle.store_machine.specs.Asked as asked
 use Rattle.store_machine.specs.ByMap.{FileMachine}
 use Rattle.store_machine.specs.Done.{Done}
 use Rattle.store_machine.specs.Done as done
-use Rattle.store_machine.specs.Legal.{DifferBy}
 use Rattle.store_machine.specs.Machine.{Found, Stepped, Stopped}
-use Rattle.store_machine.specs.Needs.{NamesNeed}
+use Rattle.store_machine.specs.Needs.{NamesNeed, DifferBy}
 use Rattle.store_machine.specs.Opening.{MayBeFound}
 use Rattle.store_machine.specs.Values.{of_files}
 

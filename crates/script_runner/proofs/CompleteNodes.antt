@@ -12,7 +12,7 @@ use Rattle.store_model.specs.Trees.{bytes_at}
 use Rattle.ingest_session.specs.declared.due.Due.TheVariants as dues
 use Rattle.ingest_session.proofs.Waiting as waiting
 use Rattle.store_machine.specs.Asked as asked
-use Rattle.store_machine.specs.Legal.{DifferBy}
+use Rattle.store_machine.specs.Needs.{DifferBy}
 use Rattle.store_machine.specs.Twins.{HasTwins, IsOfGiven}
 
 -- ---- a node that a step has

@@ -12,7 +12,8 @@ use Rattle.store_model.specs.Trees.{root_of}
 use Rattle.store_machine.specs.Asked as asked
 use Rattle.store_machine.specs.Done as done
 use Rattle.store_machine.specs.Ingests.{IngestRefusal, Ingested, IngestsByMap}
-use Rattle.store_machine.specs.Legal.{IsClash, IsKept}
+use Rattle.store_machine.specs.Legal.{IsKept}
+use Rattle.store_machine.specs.Needs.{IsClash}
 use Rattle.store_machine.specs.Lines.{Commits}
 use Rattle.store_machine.proofs.IngestStore.{IsRefusal, IsTurn, due_is_turn, stored_so, unrefused}
 use Rattle.store_machine.proofs.Ingesting.{D, Gives, Next, Ready, Stage, Went, ingests_kept, next, opened_went, reply_by, run_one, run_parts, same_session}

@@ -6,7 +6,6 @@ use Rattle.sha2.specs.Sha256.{sha256}
 use Rattle.actor_parts.specs.PinMap.{PinMap, has_pin}
 use Rattle.actor_parts.specs.Segments.{first_unpinned, pin_of}
 use Rattle.container_meta.specs.declared.kind.Kind.{Kind}
-use Rattle.container_meta.specs.declared.kind.Kind.TheVariants.{Tree}
 use Rattle.container_meta.specs.Segments.{Contents, KindSegment, Segment, segment_key}
 use Rattle.disk_format.specs.Cells.{Change, IsName, Root}
 use Rattle.disk_format.specs.Cells.Change.{Put, Delete as Gone}
@@ -14,17 +13,15 @@ use Rattle.disk_format.specs.Layout.{half_cells}
 use Rattle.disk_format.specs.declared.numbers.TheConstants.{LAST_ID, MOST_NAMES, RESERVE}
 use Rattle.namespace.specs.Listing.{NamedRoot}
 use Rattle.refusals.specs.declared.refusal.Difference.{Difference}
-use Rattle.refusals.specs.declared.refusal.Difference.TheVariants.{Length, Byte}
 use Rattle.refusals.specs.declared.refusal.PartKind.{PartKind}
 use Rattle.refusals.specs.declared.refusal.PartKind.TheVariants as kinds
 use Rattle.refusals.specs.declared.refusal.Phase.TheVariants as phases
 use Rattle.refusals.specs.declared.refusal.Refusal.{Refusal}
 use Rattle.refusals.specs.declared.refusal.Refusal.TheVariants.{Memory, NoFile, BadName, TooMany, Full, Clash, WrongPart, Collecting, NotCollecting, DiskRead, DiskWrite, Stopped as IsStopped, Corrupt, Missing, Numbers, Damaged, Unpinned}
-use Rattle.base_model.specs.Bytes.{byte_at, range}
 use Rattle.store_model.specs.Image.{Store}
 use Rattle.store_model.specs.Indexing.{bytes_in_slots, entries_in}
 use Rattle.store_model.specs.Refusals.{root_key}
-use Rattle.store_model.specs.Slots.{Copy, free_slots, newest}
+use Rattle.store_model.specs.Slots.{free_slots, newest}
 use Rattle.store_model.specs.Steps.{CanRise, CanSeal, with_change, with_checkpoint, with_other, with_sealed}
 use Rattle.store_machine.specs.Collecting.{Begins, Ends, GoesOn, IsCollecting, MayBreak}
 use Rattle.store_machine.specs.Asked.{Asked}
@@ -32,7 +29,7 @@ use Rattle.store_machine.specs.Asked as asked
 use Rattle.store_machine.specs.Done.{Done}
 use Rattle.store_machine.specs.Done as done
 use Rattle.store_machine.specs.Machine.{Found, Machine, Idle, Writing, Reading, RunState, Running, Stopped, Stepped, keeping, kind_of, one_more, part_in, put_at, stopped}
-use Rattle.store_machine.specs.Needs.{HasCopy, HasLength, HoldsKey, first_unkept, forgotten_beside, keys_of, with_pins}
+use Rattle.store_machine.specs.Needs.{HasCopy, HasLength, HoldsKey, IsClash, first_unkept, forgotten_beside, keys_of, with_pins}
 use Rattle.store_machine.specs.Opening.{Reopens}
 use Rattle.store_machine.specs.Values.{Values}
 
@@ -50,25 +47,6 @@ taken_by asked.EndRead = Some kinds.Reading
 taken_by step = None
 
 -- ---- segments that are offered
-
--- how offered bytes and held ones differ: by their lengths, or by the first byte that does
-abbrev pub DifferBy : Difference → List ℕ → List ℕ → Type 0
-DifferBy (Length mine other) offered held = (mine ≡ length offered) × (other ≡ length held) × (mine ≢ other)
-DifferBy (Byte place mine other) offered held =
-    (length offered ≡ length held) × (place < length offered) × (range 0 place offered ≡ range 0 place held)
-    × (byte_at place offered ≡ mine) × (byte_at place held ≡ other) × (mine ≢ other)
-
--- the copy that the index has of a node's key is as long as other bytes of its digest
-pub record IsClash (store : Store) (forgotten : List (List ℕ)) (seg : KindSegment) (key : List ℕ) (at : Difference) : Type 0 where
-  pub kind : seg.kind ≡ Tree
-  pub key_is : key ≡ segment_key seg.kind seg.segment
-  pub copy : Copy
-  pub copy_is : newest 0 store.held key ≡ Some copy
-  pub there : ¬ (Contains forgotten key)
-  pub held : List ℕ
-  pub long : length held ≡ copy.place.length
-  pub digest : sha256 held ≡ sha256 seg.segment.bytes
-  pub differ : DifferBy at seg.segment.bytes held
 
 -- no container has the key, or it was forgotten: the index lacks it
 abbrev pub IsLacked : Store → (forgotten : List (List ℕ)) → List ℕ → Type 0

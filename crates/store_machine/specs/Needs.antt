@@ -1,13 +1,18 @@
 -- What is needed, and what a container may be given back for: keys that values have, which names have, actors or a collection that runs.
-use Rattle.std.specs.Prelude.{◌≡◌, ◌⊎◌, ℕ, not, List, [], ◌∷◌, ◌++◌, filter, map, length, Contains, Option, Some, None, option_map}
+use Rattle.std.specs.Prelude.{◌≡◌, ◌≢◌, ◌⊎◌, ◌<◌, ℕ, not, List, [], ◌∷◌, ◌++◌, filter, map, length, Contains, Option, Some, None, option_map}
 use Rattle.std.specs.List.{list_any}
 use Rattle.std.specs.Str.{bytes_eq}
 use Rattle.std.specs.FinMap as finite
 use Rattle.actor_parts.specs.Segments.{first_unpinned, pin_by, pin_of}
 use Rattle.actor_parts.specs.PinMap.{PinMap}
+use Rattle.sha2.specs.Sha256.{sha256}
+use Rattle.base_model.specs.Bytes.{byte_at, range}
 use Rattle.container_meta.specs.declared.kind.Kind.{Kind}
+use Rattle.container_meta.specs.declared.kind.Kind.TheVariants.{Tree}
 use Rattle.container_meta.specs.declared.place.Place.{Place}
 use Rattle.container_meta.specs.Segments.{KindSegment, Segment, segment_key}
+use Rattle.refusals.specs.declared.refusal.Difference.{Difference}
+use Rattle.refusals.specs.declared.refusal.Difference.TheVariants.{Length, Byte}
 use Rattle.store_model.specs.Image.{Store}
 use Rattle.store_model.specs.Slots.{Copy, newest}
 use Rattle.store_machine.specs.Machine.{Collection, Found, Machine, Part, Writing, Reading}
@@ -64,6 +69,25 @@ HoldsKey store key = (copy : Copy) × (newest 0 store.held key ≡ Some copy)
 -- the index has this place for the key: that of its newest copy, unless it was forgotten
 abbrev pub IndexHas : Store → (forgotten : List (List ℕ)) → List ℕ → Place → Type 0
 IndexHas store forgotten key place = (option_map (λ c. c.place) (newest 0 store.held key) ≡ Some place) × ¬ (Contains forgotten key)
+
+-- how offered bytes and held ones differ: by their lengths, or by the first byte that does
+abbrev pub DifferBy : Difference → List ℕ → List ℕ → Type 0
+DifferBy (Length mine other) offered held = (mine ≡ length offered) × (other ≡ length held) × (mine ≢ other)
+DifferBy (Byte place mine other) offered held =
+    (length offered ≡ length held) × (place < length offered) × (range 0 place offered ≡ range 0 place held)
+    × (byte_at place offered ≡ mine) × (byte_at place held ≡ other) × (mine ≢ other)
+
+-- the copy that the index has of a node's key is as long as other bytes of its digest
+pub record IsClash (store : Store) (forgotten : List (List ℕ)) (seg : KindSegment) (key : List ℕ) (at : Difference) : Type 0 where
+  pub kind : seg.kind ≡ Tree
+  pub key_is : key ≡ segment_key seg.kind seg.segment
+  pub copy : Copy
+  pub copy_is : newest 0 store.held key ≡ Some copy
+  pub there : ¬ (Contains forgotten key)
+  pub held : List ℕ
+  pub long : length held ≡ copy.place.length
+  pub digest : sha256 held ≡ sha256 seg.segment.bytes
+  pub differ : DifferBy at seg.segment.bytes held
 
 -- the keys that are forgotten still once these were sealed
 abbrev pub forgotten_beside : List (List ℕ) → List (List ℕ) → List (List ℕ)

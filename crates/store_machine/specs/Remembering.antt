@@ -25,9 +25,9 @@ use Rattle.store_machine.specs.Collecting.{GoesOver, IsCopyOf, IsRecordOf, MayBr
 use Rattle.store_machine.specs.Done.{Done}
 use Rattle.store_machine.specs.Done as done
 use Rattle.store_machine.specs.Forgetting.{Forgets, SameNow, SamePart, forget_step}
-use Rattle.store_machine.specs.Legal.{Fits, HoldsValue, IsClash, IsFirstClash, IsLacked, Legal}
+use Rattle.store_machine.specs.Legal.{Fits, HoldsValue, IsFirstClash, IsLacked, Legal}
 use Rattle.store_machine.specs.Machine.{Collection, Found, Machine, Reading, Stepped, Stopped, Sweep, Sweeping, part_in}
-use Rattle.store_machine.specs.Needs.{HasCopy, IsNeeded, NamesNeed}
+use Rattle.store_machine.specs.Needs.{HasCopy, IsNeeded, NamesNeed, IsClash}
 use Rattle.store_machine.specs.Opening.{IsGivenBack, IsNamedBy, MayBeFound, MayRefuseOpening, Stands, freeing}
 use Rattle.store_machine.specs.Values.{of_files, of_roots}
 

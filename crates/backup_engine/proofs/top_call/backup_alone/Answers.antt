@@ -1,4 +1,4 @@
-use Rattle.std.proofs.Common.{sym, ◌∙◌, ap, Some, Ok, Err, option_map, inl, refl}
+use Rattle.std.proofs.Common.{sym, ◌∙◌, ap, [], Some, Ok, Err, option_map, inl, refl}
 use Rattle.backup_engine.specs.Line.{Single, Run, Check}
 use Rattle.backup_engine.specs.LineValue.{command_value, line_value}
 use Rattle.backup_engine.specs.TopCall.{ending_in}
@@ -31,9 +31,23 @@ returns-in-Run-clause-promise g c =
     (keeps_line _ g.D.Disk.view Run c.conclude-in-Run.result (ending_in c.run.result) _ _ _ _ _ _ _ _
     c.conclude-in-Run.ensures.status c.conclude-in-Run.ensures.noted ([], c.run.ensures.runs))
 
-pub returns-in-Check-in-Ok-clause-promise : goal.returns-in-Check-in-Ok-clause-promise
-returns-in-Check-in-Ok-clause-promise g c =
+-- the disk was inspected
+pub returns-in-Ok-clause-promise : goal.returns-in-Ok-clause-promise
+returns-in-Ok-clause-promise g c =
     let line_is = sym c.in-Ok-Some.ensures.line ∙ ap (option_map line_value) c.in-Ok-Some.field-0-is ∙ ap (λ l. Some (line_value l)) c.in-Check.is in
-    let done = c.in-Ok-check.ensures in
-    promise_as _ g.D.Disk.view _ (Some Check) c.in-Ok-check.status _ line_is
-    (record { ended = Ok c.in-Ok-check.status; status_is = refl; noted = refl; checks = inl done.checks; reads = done.reads; source_is = refl })
+    let done = c.in-Ok.ensures in
+    promise_as _ g.D.Disk.view _ (Some Check) c.in-Ok.status _ line_is
+    (record { ended = Ok c.in-Ok.status; status_is = refl; noted = refl; checks = inl done.checks; reads = done.reads; source_is = refl })
+
+pub returns-in-Err-check-clause-promise : goal.returns-in-Err-check-clause-promise
+returns-in-Err-check-clause-promise g c =
+    let line_is = sym c.in-Ok-Some.ensures.line ∙ ap (option_map line_value) c.in-Ok-Some.field-0-is ∙ ap (λ l. Some (line_value l)) c.in-Check.is in
+    let ended = c.in-Err-check.ensures in
+    promise_as _ g.D.Disk.view _ (Some Check) c.give_up-in-Err-check.result _ line_is (record {
+      ended = Err c.in-Err-check.ending;
+      status_is = c.give_up-in-Err-check.ensures.status;
+      noted = c.give_up-in-Err-check.ensures.noted;
+      checks = inl ended.checks;
+      reads = ended.reads;
+      source_is = refl;
+    })

@@ -15,7 +15,7 @@ use Rattle.store_machine.specs.Machine.{Found, Running}
 use Rattle.store_machine.specs.Commands.{desk}
 use Rattle.store_machine.specs.Values.{of_files}
 use Rattle.store_machine.proofs.Ingesting.{D, Gives, Stage, Went, begin_went, commit_put, opened_went, pushes, reply_by, run_one}
-use Rattle.store_machine.proofs.Passing.{AllOk, Good, IsFine, fine_of, ok_good, passes, turns_ok}
+use Rattle.store_machine.proofs.Passing.{AllOk, Good, IsCommit, IsFine, fine_of, ok_good, passes_to, turns_ok}
 use Rattle.store_machine.proofs.Quiet.{F, Step, due_is_quiet}
 
 -- all were done; or the line was refused, or put the name, and no line comes after it
@@ -176,5 +176,5 @@ all_good name (one ∷ more) ss m e runs (first, follow) (made, later, mid, is, 
     by mid e made later ran follow rest (inr fit) = none_left name m.now (given_by 0 [] more) made later one more mid e fit.0 fit.1 follow ran
 
 pub ingests_through : IngestsThrough
-ingests_through first name rs ss m e runs lines_are ran x passed =
-    passes first name (given_by 0 [] rs) m.now ss m e.machine (run_of of_files rs ss (desk m) e ran) (all_good name rs ss m e runs lines_are ran) refl runs x passed
+ingests_through name first rs ss m e runs lines_are ran x passed =
+    passes_to (IsCommit name (given_by 0 [] rs)) m.now first ss m e.machine (run_of of_files rs ss (desk m) e ran) (all_good name rs ss m e runs lines_are ran) refl runs x passed

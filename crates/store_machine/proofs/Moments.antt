@@ -103,7 +103,7 @@ module _ (name : ListOf ℕ) where
 
 pub restores_through : RestoresThrough
 restores_through name first rs ss m e runs lines_are ran x passed =
-    passes_to m.now first NoStep (IsStill first m.now) (λ low. (refl, low)) (λ s old new same up last. absurd last) ss m e.machine (run_of of_files rs ss (desk m) e ran)
+    passes_to NoStep m.now first ss m e.machine (run_of of_files rs ss (desk m) e ran)
     (all_good (Restore name) NoStep (restore_ends name) (restore_fits name) rs ss (desk m) e lines_are ran) refl runs x passed
 
 list_ends : (refusal : Refusal) (line : LineValue) → Follows List (replies.Refused refusal) line → ⊥
@@ -124,7 +124,7 @@ list_fits prev one d mid ss follows line = by prev follows
 
 pub lists_through : ListsThrough
 lists_through first rs ss m e runs lines_are ran x passed =
-    passes_to m.now first NoStep (IsStill first m.now) (λ low. (refl, low)) (λ s old new same up last. absurd last) ss m e.machine (run_of of_files rs ss (desk m) e ran)
+    passes_to NoStep m.now first ss m e.machine (run_of of_files rs ss (desk m) e ran)
     (all_good List NoStep list_ends list_fits rs ss (desk m) e lines_are ran) refl runs x passed
 
 -- ---- delete
@@ -165,72 +165,9 @@ module _ (name : ListOf ℕ) where
       by (replies.Opened files) is = deletes (subst (λ (l : LineValue). Line of_files l one.reply ss d mid) is line)
       by reply follows = absurd follows
 
-  module _ (first : ℕ) (now : Found (ListOf ℕ)) where
-    abbrev Either : Found (ListOf ℕ) → Type 0
-    Either x = IsStill first now x ⊎ IsGone name now x
-
-    module _ (m n : F) (same : m.now ≡ now) (runs : m.state ≡ Running) (later : first ≤ n.now.last) (x : Found (ListOf ℕ)) where
-      abbrev MayBe : Type 0
-      MayBe = MayBeFound of_files n.state n.now x
-
-      gone_is : without_name of_files name m.now ≡ without_name of_files name now
-      gone_is = ap (λ (f : Found (ListOf ℕ)). without_name of_files name f) same
-
-      low : n.now ≡ m.now → first ≤ now.last
-      low is = subst (λ (f : Found (ListOf ℕ)). first ≤ f.last) (is ∙ same) later
-
-      had : HasName of_files name m → (file : ListOf ℕ) × (finite.get now.names name ≡ Some file)
-      had there = subst (λ (f : Found (ListOf ℕ)). (file : ListOf ℕ) × (finite.get f.names name ≡ Some file)) same (has_file (finite.get m.now.names name) there)
-
-      still : n ≡ m → MayBe → Either x
-      still is may = inl (
-        sure_found n.state n.now x (running_sure n.state (ap (λ (y : F). y.state) is ∙ runs)) may ∙ ap (λ (y : F). y.now) is ∙ same,
-        low (ap (λ (y : F). y.now) is),
-      )
-
-      left : HasNumbers of_files m → now.last < 2 ^ 64 - 1
-      left numbers = subst (λ (f : Found (ListOf ℕ)). f.last < 2 ^ 64 - 1) same numbers.0
-
-      doubted : n.now ≡ m.now → IsName name → HasName of_files name m → HasNumbers of_files m → (x ≡ m.now) ⊎ (x ≡ without_name of_files name m.now) → Either x
-      doubted now_is named there numbers (inl is) = inl (is ∙ same, low now_is)
-      doubted now_is named there numbers (inr is) = inr (is ∙ gone_is, named, had there, left numbers)
-
-      refused_found : (refusal : Refusal) → RefusesDelete of_files name refusal m n → MayBe → Either x
-      refused_found refusals.Memory is may = still is may
-      refused_found refusals.BadName (bad, is) may = still is may
-      refused_found refusals.NoFile (named, none, is) may = still is may
-      refused_found refusals.Numbers (named, there, lacks, is) may = still is may
-      refused_found refusals.DiskWrite (named, there, numbers, is) may =
-          doubted (ap (λ (y : F). y.now) is) named there numbers (subst (λ (y : F). MayBeFound of_files y.state y.now x) is may)
-      refused_found refusal refuses may = absurd refuses
-
-      delete_refused : (a : ℕ) (refusal : Refusal) → Refuses of_files a (asked.Delete name) refusal m n → MayBe → Either x
-      delete_refused a (refusals.WrongPart kind) (wrong, is) may = still is may
-      delete_refused a refusals.Memory refuses may = refused_found refusals.Memory refuses may
-      delete_refused a refusal (right, refuses) may = refused_found refusal refuses may
-
-      delete_done : (a : ℕ) (answer : Done) → Does of_files a (asked.Delete name) answer m n → MayBe → Either x
-      delete_done a (done.Deleted sequence) does may = inr (
-        sure_found n.state n.now x (running_sure n.state (ap (λ (y : F). y.state) does.others ∙ runs)) may ∙ ap (λ (y : F). y.now) does.others ∙ gone_is,
-        does.named,
-        had does.there,
-        left does.numbers,
-      )
-      delete_done a answer does may = absurd does
-
-      delete_found : (a : ℕ) (told : Result Done Refusal) → Answers of_files a (asked.Delete name) told m n → MayBe → Either x
-      delete_found a (Ok answer) does may = delete_done a answer does may
-      delete_found a (Err refusal) refuses may = delete_refused a refusal refuses may
-
-    deletes_last : (s : Step) (m n : F) → m.now ≡ now → m.state ≡ Running → Takes s.asked → Legal of_files s m n → first ≤ n.now.last → (x : Found (ListOf ℕ))
-        → MayBeFound of_files n.state n.now x → Either x
-    deletes_last s m n same runs is legal later x may =
-        delete_found m n same runs later x s.actor s.answer (subst (λ (st : RunState (ListOf ℕ)). ByState of_files st s.actor (asked.Delete name) s.answer m n) runs
-        (subst (λ (step : Asked (ListOf ℕ)). Legal of_files (record { actor = s.actor; asked = step; answer = s.answer }) m n) is legal)) may
-
 pub deletes_through : DeletesThrough
 deletes_through name first rs ss m e runs lines_are ran x passed =
-    passes_to m.now first (Takes name) (Either name first m.now) (λ low. inl (refl, low)) (deletes_last name first m.now) ss m e.machine (run_of of_files rs ss (desk m) e ran)
+    passes_to (Takes name) m.now first ss m e.machine (run_of of_files rs ss (desk m) e ran)
     (all_good (Delete name) (Takes name) (delete_ends name) (delete_fits name) rs ss (desk m) e lines_are ran) refl runs x passed
 
 -- ---- collect
@@ -272,5 +209,5 @@ module _ (percent : ℕ) where
 
 pub collects_through : CollectsThrough
 collects_through percent first rs ss m e runs lines_are ran x passed =
-    passes_to m.now first NoStep (IsStill first m.now) (λ low. (refl, low)) (λ s old new same up last. absurd last) ss m e.machine (run_of of_files rs ss (desk m) e ran)
+    passes_to NoStep m.now first ss m e.machine (run_of of_files rs ss (desk m) e ran)
     (all_good (Collect percent) NoStep (collect_ends percent) (collect_fits percent) rs ss (desk m) e lines_are ran) refl runs x passed

@@ -145,21 +145,26 @@ ListsByMap = ByMap List ListedNames
 
 -- ---- at each moment of their steps
 
--- of what may be found then, P holds beside the least last number that it may have, and the names of before
-abbrev pub Through : Command → (ℕ → Found (ListOf ℕ) → Found (ListOf ℕ) → Type 0) → Type 0
-Through command P = (first : ℕ) (rs : ListOf Replied) (ss : ListOf (Stepped (ListOf ℕ))) (m : FileMachine)
-    (e : Desk (ListOf ℕ) (ListOf (ListOf ℕ))) → m.state ≡ Running → AreLinesOf command rs → (ran : Lines of_files rs ss (desk m) e)
-    → (x : Found (ListOf ℕ)) → IsPassedFrom of_files first ss m e.machine (run_of of_files rs ss (desk m) e ran) x → P first m.now x
-
 -- what was, where its last number isn't too low: so no longer than that nothing later was acknowledged
 abbrev pub IsStill : ℕ → Found (ListOf ℕ) → Found (ListOf ℕ) → Type 0
 IsStill first now x = (x ≡ now) × (first ≤ now.last)
 
+-- it may be found at this machine, whose last number isn't too low
+abbrev pub IsFoundAt : ℕ → FileMachine → Found (ListOf ℕ) → Type 0
+IsFoundAt first m x = (first ≤ m.now.last) × MayBeFound of_files m.state m.now x
+
+-- what may be found then is what was, or it may be found at the end
+abbrev pub Through : Command → Type 0
+Through command = (first : ℕ) (rs : ListOf Replied) (ss : ListOf (Stepped (ListOf ℕ))) (m : FileMachine)
+    (e : Desk (ListOf ℕ) (ListOf (ListOf ℕ))) → m.state ≡ Running → AreLinesOf command rs → (ran : Lines of_files rs ss (desk m) e)
+    → (x : Found (ListOf ℕ)) → IsPassedFrom of_files first ss m e.machine (run_of of_files rs ss (desk m) e ran) x
+    → IsStill first m.now x ⊎ IsFoundAt first e.machine x
+
 abbrev pub RestoresThrough : Type 0
-RestoresThrough = (name : ListOf ℕ) → Through (Restore name) IsStill
+RestoresThrough = (name : ListOf ℕ) → Through (Restore name)
 
 abbrev pub DeletesThrough : Type 0
-DeletesThrough = (name : ListOf ℕ) → Through (Delete name) (λ first now x. IsStill first now x ⊎ IsGone name now x)
+DeletesThrough = (name : ListOf ℕ) → Through (Delete name)
 
 abbrev pub ListsThrough : Type 0
-ListsThrough = Through List IsStill
+ListsThrough = Through List

@@ -17,7 +17,7 @@ use Rattle.store_model.specs.Needed.{Needs}
 use Rattle.store_model.specs.Reserve.{IsSpare}
 use Rattle.store_model.specs.Slots.{last_id}
 use Rattle.store_model.specs.Steps.{FlushContainer, FreeContainer, StoreChange, changed}
-use Rattle.store_machine.specs.ByMap.{AfterOpening, ByMap, FileMachine, IsStill, Through}
+use Rattle.store_machine.specs.ByMap.{AfterOpening, ByMap, FileMachine, Through}
 use Rattle.store_machine.specs.Collected.{Collected, HasContainer, HasIds}
 use Rattle.store_machine.specs.Collecting.{Makes, MayBreak, freed_in, ids_before, keys_written}
 use Rattle.store_machine.specs.Commands.{Collect, EndsRefused, EndsWith, IsDone, IsEnded, MayGoOn, Replied, printed}
@@ -135,4 +135,4 @@ abbrev pub CollectsByMap : Type 0
 CollectsByMap = (percent : ℕ) → ByMap (Collect percent) (CollectedAlone percent)
 
 abbrev pub CollectsThrough : Type 0
-CollectsThrough = (percent : ℕ) → Through (Collect percent) IsStill
+CollectsThrough = (percent : ℕ) → Through (Collect percent)

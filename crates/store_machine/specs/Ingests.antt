@@ -22,7 +22,7 @@ use Rattle.store_model.specs.Steps.{SealContainer, StoreChange, with_change, wit
 use Rattle.store_model.specs.Trees.{root_of}
 use Rattle.store_machine.specs.Asked.{Asked}
 use Rattle.store_machine.specs.Asked as asked
-use Rattle.store_machine.specs.ByMap.{AfterOpening, FileMachine, IsStill}
+use Rattle.store_machine.specs.ByMap.{AfterOpening, FileMachine, Through}
 use Rattle.store_machine.specs.Collecting.{Makes}
 use Rattle.store_machine.specs.Commands.{AreLinesOf, EndsRefused, EndsWith, Ingest, IsDone, IsEnded, Lines, MayGoOn, Replied, desk, given_by, printed, run_of}
 use Rattle.store_machine.specs.Legal.{broken_by, HasRoom, IsClash, IsKept, LacksNumbers, with_name}
@@ -134,9 +134,5 @@ IngestsByMap = (name : List ℕ) (rs : List Replied) (ss : List (Stepped (List �
 
 -- ---- at each moment of their steps
 
--- what was, where its last number isn't too low; or with the file
 abbrev pub IngestsThrough : Type 0
-IngestsThrough = (first : ℕ) (name : List ℕ) (rs : List Replied) (ss : List (Stepped (List ℕ))) (m : FileMachine)
-    (e : Desk (List ℕ) (List (List ℕ))) → m.state ≡ Running → AreLinesOf (Ingest name) rs → (ran : Lines of_files rs ss (desk m) e)
-    → (x : Found (List ℕ)) → IsPassedFrom of_files first ss m e.machine (run_of of_files rs ss (desk m) e ran) x
-    → IsStill first m.now x ⊎ IsPut name (given_by 0 [] rs) m.now x
+IngestsThrough = (name : List ℕ) → Through (Ingest name)

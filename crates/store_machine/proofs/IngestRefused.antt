@@ -432,7 +432,7 @@ module _ (name : List ℕ) (now : Found (List ℕ)) where
           → Facts (given_by 0 given (one ∷ more)) (last_from prev (one ∷ more)).line (last_from prev (one ∷ more)).reply e)
           → Facts (given_by 0 given (one ∷ more)) (last_from prev (one ∷ more)).line (last_from prev (one ∷ more)).reply e
       by (inl w) after on = on w
-      by (inr (same, (run, ready, put))) after on = last_one more rest ran
+      by (inr (same, commits, (run, ready, put))) after on = last_one more rest ran
         where
           last_one : (xs : List Replied) → AllFollow (Ingest name) one xs → Lines of_files xs later mid e
               → Facts (given_by 0 (given_after 0 one.line one.reply given) xs) (last_from one xs).line (last_from one xs).reply e

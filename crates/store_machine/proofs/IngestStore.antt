@@ -440,7 +440,7 @@ module _ (opened : Store) where
             → Left (given_by 0 given (one ∷ more)) (last_from prev (one ∷ more)).reply e.machine)
             → Left (given_by 0 given (one ∷ more)) (last_from prev (one ∷ more)).reply e.machine
         by (inl w) after on = on w after
-        by (inr (same, (run, ready, put))) after on = last_one more rest ran
+        by (inr (same, commits, (run, ready, put))) after on = last_one more rest ran
           where
             last_one : (xs : List Replied) → AllFollow (Ingest name) one xs → Lines of_files xs later mid e
                 → Left (given_by 0 (given_after 0 one.line one.reply given) xs) (last_from one xs).reply e.machine

@@ -13,7 +13,7 @@ use Rattle.store_machine.specs.Asked as asked
 use Rattle.store_machine.specs.Commands.{AllFollow, AreLinesOf, EndsRefused, EndsWith, Follows, Ingest, IsDone, IsPush, Lines, Replied, given_after, given_by}
 use Rattle.store_machine.specs.Done.{Done}
 use Rattle.store_machine.specs.Done as done
-use Rattle.store_machine.specs.Ingests.{HasRoomFor, IsPut}
+use Rattle.store_machine.specs.Ingests.{EndsCommitting, HasRoomFor, IsPut}
 use Rattle.store_machine.specs.Legal.{Answers, ByState, Does, HasNumbers, Legal, MayCommit, Refuses, RefusesCommit, with_name}
 use Rattle.store_machine.specs.Lines.{Acts, Commits, Desk, Finishes, Line, Pushes, Session, TurnsStop, all_none, new_session, reply_of, session_of, step_of, unless_refused, with_session}
 use Rattle.store_machine.specs.Machine.{Found, RunState, Running, Stopped}
@@ -395,7 +395,7 @@ pushes now line reply ss d e given ready gives (inl is) made = absurd is
 
 -- what may be found at the end
 pub record Kept (name given : List ℕ) (rs : List Replied) (now : Found (List ℕ)) (n : F) : Type 0 where
-  pub found : (x : Found (List ℕ)) → MayBeFound of_files n.state n.now x → (x ≡ now) ⊎ IsPut name given now x
+  pub found : (x : Found (List ℕ)) → MayBeFound of_files n.state n.now x → (x ≡ now) ⊎ (IsPut name given now x × EndsCommitting name rs)
   pub same : (EndsWith (λ one. IsDone (Ingest name) one.reply) rs → ⊥) → n.now ≡ now
   pub sure : (refusal : Refusal) → EndsRefused refusal rs → ((refusal ≡ refusals.DiskWrite) → ⊥) → IsSure n.state
   pub done : EndsWith (λ one. IsDone (Ingest name) one.reply) rs → IsPut name given now n.now × (n.state ≡ Running)
@@ -420,7 +420,7 @@ module _ (name : List ℕ) (now : Found (List ℕ)) where
   -- what a line does, by the reply before it
   abbrev pub Next : Replied → List ℕ → D → D → List Step → Type 0
   Next one given d mid ss = Went now one.reply (given_after 0 one.line one.reply given) mid ⊎ ((given_after 0 one.line one.reply given ≡ given)
-      × ((run : Run of_files ss d.machine mid.machine) × (ready : Ready now d) × Put now d mid ss run ready name given one.reply))
+      × (one.line ≡ lines.Commit 0 name) × ((run : Run of_files ss d.machine mid.machine) × (ready : Ready now d) × Put now d mid ss run ready name given one.reply))
 
   pub next : (reply : ReplyValue) (one : Replied) (given : List ℕ) (d mid : D) (ss : List Step) → Stage now reply given d → Follows (Ingest name) reply one.line
       → Line of_files one.line one.reply ss d mid → Next one given d mid ss
@@ -431,17 +431,20 @@ module _ (name : List ℕ) (now : Found (List ℕ)) where
   next (replies.Pushed a count) one given d mid ss stage follows line = inl (pushes now one.line one.reply ss d mid given stage.0 stage.1 follows line)
   next (replies.Finished a count) one given d mid ss stage is line =
       let made : Line of_files (lines.Commit 0 name) one.reply ss d mid = subst (λ (l : LineValue). Line of_files l one.reply ss d mid) is line in
-      inr (ap (λ (l : LineValue). given_after 0 l one.reply given) is, (made.0, stage.0, commit_put now d mid ss one.reply name given stage.0 stage.1 made))
+      inr (ap (λ (l : LineValue). given_after 0 l one.reply given) is, is, (made.0, stage.0, commit_put now d mid ss one.reply name given stage.0 stage.1 made))
   next reply one given d mid ss stage follows line = absurd follows
 
   -- no line comes after one that put the name, or was refused
   last_one : (given : List ℕ) (one : Replied) (more : List Replied) (d mid e : D) (ss later : List Step) (run : Run of_files ss d.machine mid.machine) (ready : Ready now d)
-      → Put now d mid ss run ready name given one.reply
+      → Put now d mid ss run ready name given one.reply → one.line ≡ lines.Commit 0 name
       → AllFollow (Ingest name) one more → Lines of_files more later mid e → (more ≡ []) × End given (one ∷ []) e.machine
-  last_one given one [] d mid e ss later run ready put follow (none, is) = (
+  last_one given one [] d mid e ss later run ready put commits follow (none, is) = (
     refl,
     record {
-      found = λ x may. put.found x (subst (λ (y : D). MayBeFound of_files y.machine.state y.machine.now x) is may);
+      found = λ x may. elim (put.found x (subst (λ (y : D). MayBeFound of_files y.machine.state y.machine.now x) is may)) [
+        | inl still ↦ inl still
+        | inr has ↦ inr (has, (one, refl, commits))
+      ];
       same = λ not. ap (λ (y : D). y.machine.now) is ∙ put.same (λ d. not (one, refl, d));
       sure = λ refusal end other. subst (λ (y : D). IsSure y.machine.state) (sym is)
           (put.sure refusal (ap (λ (x : Replied). x.reply) (one_of one end.0 end.1) ∙ end.2) other);
@@ -452,13 +455,13 @@ module _ (name : List ℕ) (now : Found (List ℕ)) where
     where
       one_of : (a b : Replied) → Some a ≡ Some b → a ≡ b
       one_of a b e = cc
-  last_one given one (x ∷ xs) d mid e ss later run ready put (ends, follows, rest) ran = absurd (put.last x.line follows)
+  last_one given one (x ∷ xs) d mid e ss later run ready put commits (ends, follows, rest) ran = absurd (put.last x.line follows)
 
   -- what is so of the lines that are left is so of all, where the first was not done
   all_of : (given : List ℕ) (one : Replied) (more : List Replied) (n : F) → (IsDone (Ingest name) one.reply → ⊥) → (more ≡ [] → IsSure n.state) → End given more n
       → End given (one ∷ more) n
   all_of given one [] n undone sure end = record {
-    found = end.found;
+    found = λ x may. elim (end.found x may) [ inl still ↦ inl still | inr put ↦ absurd (let wrong : None ≡ Some put.1.0 = put.1.1 in cc) ];
     same = λ _. end.same (λ d. let wrong : None ≡ Some d.0 = d.1 in cc);
     sure = λ _ _ _. sure refl;
     done = λ d. absurd (undone (subst (λ (x : Replied). IsDone (Ingest name) x.reply) (sym (one_of one d.0 d.1)) d.2));
@@ -483,8 +486,8 @@ module _ (name : List ℕ) (now : Found (List ℕ)) where
           → (Went now one.reply (given_after 0 one.line one.reply given) mid → End (given_by 0 (given_after 0 one.line one.reply given) more) more e.machine)
           → End (given_by 0 given (one ∷ more)) (one ∷ more) e.machine
       by (inl w) on = all_of (given_by 0 given (one ∷ more)) one more e.machine (w.undone name) (none_left more mid e later w.quiet.1 ran) (on w)
-      by (inr (same, (run, ready, put))) on =
-          let last = last_one given one more d mid e first later run ready put rest ran in
+      by (inr (same, commits, (run, ready, put))) on =
+          let last = last_one given one more d mid e first later run ready put commits rest ran in
           subst (λ (xs : List Replied). End (given_by 0 given (one ∷ xs)) (one ∷ xs) e.machine) (sym last.0) (subst (λ (g : List ℕ). End g (one ∷ []) e.machine) (sym same) last.1)
 
 -- ---- the opening

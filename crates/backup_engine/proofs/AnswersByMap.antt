@@ -23,12 +23,11 @@ use Rattle.script_runner.specs.LinesAreFileRuns.{FileDesk}
 use Rattle.core_machine.specs.Files.{IsOfFound, MayStand, stored_in}
 use Rattle.core_machine.specs.Unopened.{unopened}
 use Rattle.core_machine.proofs.Unopened.{files_begin}
-use Rattle.backup_engine.specs.AnswersByMap.{AnswersByMap, AnswersEachMap, WasNotDone}
+use Rattle.backup_engine.specs.AnswersByMap as answers
+use Rattle.backup_engine.specs.AnswersByMap.{AnswersByMap, AnswersEachMap, IsLeftAs, WasNotDone, WroteFile}
 use Rattle.backup_engine.specs.ByFiles.{CutsAmong, FailsAlone, RefusedByFiles, RunsByFiles, RunsEachByFiles}
 use Rattle.backup_engine.specs.Line.{CommandLine, Format, Ingest, Restore, Delete, Collect}
 use Rattle.backup_engine.specs.Line as table
-use Rattle.backup_engine.specs.Promise as promise
-use Rattle.backup_engine.specs.Promise.{IsLeftAs, WroteFile}
 use Rattle.backup_engine.specs.Singles.{SpeaksAs, Speaks}
 use Rattle.backup_engine.specs.TopCall.{DoesCommand}
 use Rattle.backup_engine.proofs.FailsAlone.{refusal_fails}
@@ -75,7 +74,7 @@ nothing_of (Some bytes) e sink sink_now same = record {
 }
 
 pub nothing_written : (command : CommandLine) (given : List ℕ) (m : Stored) (refusal : Refusal) (sink sink_now : SinkView) → sink_now.written ≡ sink.written
-    → promise.Wrote command given m (Some (Refused refusal)) sink sink_now
+    → answers.Wrote command given m (Some (Refused refusal)) sink sink_now
 nothing_written (Format slots) given m refusal sink sink_now same = same
 nothing_written (Ingest name) given m refusal sink sink_now same = same
 nothing_written (Restore name) given m refusal sink sink_now same = nothing_of (finite.get m.files name) (Refused refusal) sink sink_now same
@@ -117,6 +116,7 @@ module _ (S : List ℕ → Type 0) (command : CommandLine) (given : List ℕ) (m
     unopened_answers = record {
       by_map = inr (refusal, (refl, fails_so));
       wrote = nothing_written command given m refusal sink sink_now same;
+      store = inr (refusal, (refl, fails_so));
       left = record {
         content = (none.leaves.content.0, none.leaves.content.1, refused_left S command given m refusal none.leaves.content.0 (opens_still none.leaves.content.0 none.leaves.content.2));
         images = λ d image. elim (none.leaves.images d image) [
@@ -151,11 +151,18 @@ module _ (S : List ℕ → Type 0) (command : CommandLine) (given : List ℕ) (m
     unasked_answers = record {
       by_map = inr (refusal, (refl, fails_so));
       wrote = nothing_written command given m refusal sink sink_now same;
+      store = inr (refusal, (refl, fails_so));
       left = left_by S [] m store v w runs command given (Some (Refused refusal)) leaves;
       crash = crash_by S [] m store v w runs command given (Some (Refused refusal)) leaves ListNames (refl, tt) through tt;
     }
 
 -- ---- of each map
+
+-- what a command answers whose store was opened
+abbrev pub AnswersOpened : CommandLine → List ℕ → Option Ending → List Replied → DiskView → DiskView → SinkView → SinkView → Type 0
+AnswersOpened command given ending rs v w sink sink_now = (among : ByteSet) (m : Stored) (old : List ℕ) → HasNoCollisions (IsIn among)
+    → ((bytes : List ℕ) → IsSegmentOf given bytes → IsIn among bytes) → v.content ≡ Some old → (opens : OpensAs (IsIn among) m old)
+    → RunsByFiles (IsIn among) rs (unopened m opens.store) v w → AnswersByMap (IsIn among) command given ending m v w sink sink_now
 
 module _ (command : CommandLine) (given : List ℕ) (ending : Option Ending) (rs : List Replied) (v w : DiskView) (sink sink_now : SinkView) (through : ListsThrough)
     (each : RunsEachByFiles ending rs v w) (alone : rs ≡ [] → FailsAlone ending rs v) (silent : rs ≡ [] → Silent ending rs sink sink_now)
@@ -179,16 +186,11 @@ module _ (command : CommandLine) (given : List ℕ) (ending : Option Ending) (rs
           (unopened_answers (IsIn among) command given m opens.store so.refusal v w sink sink_now so.wrote rs
           (subst (λ (e : Option Ending). RefusedByFiles (IsIn among) e rs (unopened m opens.store) v w) so.ending_is refused))
 
-  -- what a command answers whose store was opened
-  abbrev pub AnswersOpened : Type 0
-  AnswersOpened = (among : ByteSet) (m : Stored) (old : List ℕ) → v.content ≡ Some old → (opens : OpensAs (IsIn among) m old)
-      → RunsByFiles (IsIn among) rs (unopened m opens.store) v w → AnswersByMap (IsIn among) command given ending m v w sink sink_now
-
   -- where lines were
-  pub answers_each : (rs ≡ []) ⊎ AnswersOpened → AnswersEachMap command given ending v w sink sink_now
+  pub answers_each : (rs ≡ []) ⊎ AnswersOpened command given ending rs v w sink sink_now → AnswersEachMap command given ending v w sink sink_now
   answers_each (inl none) = none_ran none
-  answers_each (inr spoken) old known among m distinct given_in opens =
+  answers_each (inr spoken) = λ old known among m distinct given_in opens.
       elim (each among (unopened m opens.store) distinct (cuts among given_in (unopened m opens.store)) (old, known, files_begin among m old opens)) [
-        | inl runs ↦ spoken among m old known opens runs
+        | inl runs ↦ spoken among m old distinct given_in known opens runs
         | inr refused ↦ none_ran refused.none old known among m distinct given_in opens
       ]

@@ -5,6 +5,7 @@ use Rattle.std.specs.FinMap as finite
 use Rattle.dd_disk.specs.View.{DiskView}
 use Rattle.dd_io.specs.Flow.{SinkView, SourceView}
 use Rattle.disk_format.specs.Cells.{IsName}
+use Rattle.disk_format.specs.Cells.Change.{Delete as Gone}
 use Rattle.disk_format.specs.Layout.{half_cells}
 use Rattle.namespace.specs.Listing.{NamedRoot}
 use Rattle.refusals.specs.declared.refusal.Refusal.{Refusal}
@@ -19,7 +20,8 @@ use Rattle.script_lines.specs.ReplyValue as replies
 use Rattle.store_model.specs.Collisions.{ByteSet, IsIn, OpensAs}
 use Rattle.store_model.specs.Files.{Stored, without_stored}
 use Rattle.store_model.specs.Image.{Store}
-use Rattle.store_model.specs.Standing.{CanBeOpened, file_listing}
+use Rattle.store_model.specs.Standing.{file_listing}
+use Rattle.store_model.specs.Steps.{with_change}
 use Rattle.store_machine.specs.ByMap.{DeletedName, DeleteRefusal, DeletesByMap, DeletesIn, DeletesThrough, FileMachine, IsGone, ListedNames, ListRefusal, ListsByMap, ListsThrough, MakesRoom, RunsWith}
 use Rattle.store_machine.specs.Commands as machine
 use Rattle.store_machine.specs.Commands.{EndsRefused, EndsWith, IsDone, Replied}
@@ -28,16 +30,16 @@ use Rattle.store_machine.specs.Opening.{MayBeFound}
 use Rattle.store_machine.specs.Values.{of_files}
 use Rattle.core_machine.specs.Files.{stored_in}
 use Rattle.core_machine.specs.Unopened.{unopened}
-use Rattle.backup_engine.specs.AnswersByMap.{AnswersByMap, AnswersByTheMap}
+use Rattle.backup_engine.specs.AnswersByMap.{AnswersByMap, AnswersEachCall, AnswersEachMap, ChangesStore, IsLeftAs, IsStore, Wrote}
 use Rattle.backup_engine.specs.ByFiles.{RunsByFiles}
 use Rattle.backup_engine.specs.Line.{Delete}
 use Rattle.backup_engine.specs.Line as table
 use Rattle.backup_engine.specs.PlainMap.{LacksNumbers, MayDelete, room_of}
-use Rattle.backup_engine.specs.Promise.{EndsFrom, IsLeftAs, IsLeftWith, Wrote, WroteReply}
+use Rattle.backup_engine.specs.Promise.{EndsFrom, IsLeftWith, WroteReply}
 use Rattle.backup_engine.specs.Singles.{IsDelete, IsListing, said}
 use Rattle.backup_engine.proofs.AnswersByMap.{AnswersOpened, Silent, answers_each, told}
 use Rattle.backup_engine.proofs.NoneCut.{ArePlain, none_cuts}
-use Rattle.backup_engine.proofs.Rested.{CanBeIf, all_lines, all_steps, answers_by, as_found, last, left_with, ran, rested, stays_left}
+use Rattle.backup_engine.proofs.Rested.{CanBeIf, all_lines, all_steps, answers_by, as_found, last, is_store, left_with, ran, rested, stays_left, was_store, WasStore}
 
 -- ---- the last line
 
@@ -46,6 +48,10 @@ refused_end rs line refusal is = (said line (replies.Refused refusal), is, refl)
 
 same_last : (rs : List Replied) (one other : Replied) → machine.last_of rs ≡ Some one → machine.last_of rs ≡ Some other → one ≡ other
 same_last rs one other is last = let both : Some one ≡ Some other = sym is ∙ last in cc
+
+is_write : (refusal : Refusal) → (refusal ≡ DiskWrite) ⊎ ((refusal ≡ DiskWrite) → ⊥)
+is_write DiskWrite = inl refl
+is_write refusal = inr (λ is. cc)
 
 -- ---- list
 
@@ -57,7 +63,7 @@ module _ (given : List ℕ) where
   list_ends m before content DiskWrite may is = is
   list_ends m before content refusal may is = absurd may
 
-  module _ (S : List ℕ → Type 0) (m : Stored) (store : Store) (can : CanBeOpened store m.files) (v w : DiskView) (sink sink_now : SinkView) (lists : ListsByMap)
+  module _ (S : List ℕ → Type 0) (m : Stored) (store : Store) (v w : DiskView) (was : WasStore m store v) (sink sink_now : SinkView) (lists : ListsByMap)
       (through : ListsThrough) (reply : ReplyValue) (runs : RunsByFiles S (said lines.ListNames reply ∷ []) (unopened m store) v w) where
     abbrev rs : List Replied
     rs = said lines.ListNames reply ∷ []
@@ -68,39 +74,43 @@ module _ (given : List ℕ) where
     abbrev listed : ListedNames (all_lines S rs m store v w runs) (rested m store) end
     listed = lists (all_lines S rs m store v w runs) (all_steps S rs m store v w runs) (rested m store) runs.next refl (refl, (refl, refl, tt)) (ran S rs m store v w runs)
 
+    abbrev opened : Store
+    opened = listed.store.0
+
+    at : RunsWith end opened
+    at = listed.store.2
+
     list_store : IsLeftWith m w.content (λ s. Unit {0})
-    list_store = by listed.store
-      where
-        by : (opened : Store) × MakesRoom (rested m store) opened × RunsWith end opened → IsLeftWith m w.content (λ s. Unit {0})
-        by (opened, room, at) =
-            left_with S rs m store v w runs (λ s. Unit {0}) opened can room at
-            (listed.found end.now (subst (λ (state : RunState (List ℕ)). MayBeFound of_files state end.now end.now) (sym at.0) refl)) tt
+    list_store =
+        left_with S rs m store v w runs opened at (λ s. Unit {0}) was listed.store.1
+        (listed.found end.now (subst (λ (state : RunState (List ℕ)). MayBeFound of_files state end.now end.now) (sym at.0) refl)) tt
 
     list_answers : (ending : Option Ending) → CanBeIf table.List given m ending → EndsFrom table.List given m v.content w.content ending
         → Wrote table.List given m ending sink sink_now → AnswersByMap S table.List given ending m v w sink sink_now
-    list_answers ending =
-        answers_by S rs m store v w runs table.List given ending (λ x may d opens. stays_left S table.List given m refl ending d (as_found S x (rested m store).now d (listed.found x may) opens))
-        machine.List (refl, (refl, refl, tt)) through sink sink_now
+    list_answers ending can by_map wrote =
+        answers_by S rs m store v w runs table.List given ending
+        (λ x may d opens. stays_left S table.List given m refl ending d (as_found S x (rested m store).now d (listed.found x may) opens)) was machine.List
+        (refl, (refl, refl, tt)) through sink sink_now can (inl by_map) wrote (opened, (listed.store.1, is_store S rs m store v w runs opened at))
 
     -- it was refused, or there was no memory for its reply
     list_refused : (refusal : Refusal) → ListRefusal refusal → sink_now.written ≡ sink.written → AnswersByMap S table.List given (Some (Refused refusal)) m v w sink sink_now
     list_refused refusal may same = list_answers (Some (Refused refusal)) tt (list_ends m v.content w.content refusal may list_store) same
 
-  module _ (S : List ℕ → Type 0) (m : Stored) (store : Store) (can : CanBeOpened store m.files) (v w : DiskView) (sink sink_now : SinkView) (lists : ListsByMap)
+  module _ (S : List ℕ → Type 0) (m : Stored) (store : Store) (v w : DiskView) (was : WasStore m store v) (sink sink_now : SinkView) (lists : ListsByMap)
       (through : ListsThrough) (files : List NamedRoot) (runs : RunsByFiles S (said lines.ListNames (replies.Listed files) ∷ []) (unopened m store) v w) where
     -- the names that it replied with are those of the map
     list_text : listing_text files ≡ listing_text (file_listing m.files)
     list_text =
-        sym (append-nil (listing_text files)) ∙ (listed S m store can v w sink sink_now lists through (replies.Listed files) runs).done (said lines.ListNames (replies.Listed files), refl, tt)
+        sym (append-nil (listing_text files)) ∙ (listed S m store v w was sink sink_now lists through (replies.Listed files) runs).done (said lines.ListNames (replies.Listed files), refl, tt)
 
     list_done : WroteReply (listing_text files) None sink sink_now → AnswersByMap S table.List given None m v w sink sink_now
     list_done wrote =
-        list_answers S m store can v w sink sink_now lists through (replies.Listed files) runs None tt tt
+        list_answers S m store v w was sink sink_now lists through (replies.Listed files) runs None tt tt
         (subst (λ (text : List ℕ). WroteReply text None sink sink_now) list_text wrote)
 
     list_unwritten : WroteReply (listing_text files) (Some Sink) sink sink_now → AnswersByMap S table.List given (Some Sink) m v w sink sink_now
     list_unwritten wrote =
-        list_answers S m store can v w sink sink_now lists through (replies.Listed files) runs (Some Sink) tt tt
+        list_answers S m store v w was sink sink_now lists through (replies.Listed files) runs (Some Sink) tt tt
         (subst (λ (text : List ℕ). WroteReply text (Some Sink) sink sink_now) list_text wrote)
 
   module _ (rs : List Replied) (v w : DiskView) (sink sink_now : SinkView) (lists : ListsByMap) (through : ListsThrough) where
@@ -119,36 +129,35 @@ module _ (given : List ℕ) where
     list_plain (Some ending) is = absurd is
 
     abbrev So : Option Ending → Type 0
-    So ending = (rs ≡ []) ⊎ ((among : ByteSet) (m : Stored) (old : List ℕ) → v.content ≡ Some old → (opens : OpensAs (IsIn among) m old)
-        → RunsByFiles (IsIn among) rs (unopened m opens.store) v w → AnswersByMap (IsIn among) table.List given ending m v w sink sink_now)
+    So ending = (rs ≡ []) ⊎ AnswersOpened table.List given ending rs v w sink sink_now
 
     list_spoken : (ending : Option Ending) → IsListing ending sink sink_now rs → So ending
-    list_spoken None (files, (is, wrote)) = inr (λ among m old known opens runs. list_done (IsIn among) m opens.store opens.opens v w sink sink_now lists through files
+    list_spoken None (files, (is, wrote)) = inr (λ among m old distinct given_in known opens runs. list_done (IsIn among) m opens.store v w (was_store (IsIn among) m v old known opens) sink sink_now lists through files
         (subst (λ (l : List Replied). RunsByFiles (IsIn among) l (unopened m opens.store) v w) is runs) wrote)
-    list_spoken (Some Sink) (files, (is, wrote)) = inr (λ among m old known opens runs. list_unwritten (IsIn among) m opens.store opens.opens v w sink sink_now lists through files
+    list_spoken (Some Sink) (files, (is, wrote)) = inr (λ among m old distinct given_in known opens runs. list_unwritten (IsIn among) m opens.store v w (was_store (IsIn among) m v old known opens) sink sink_now lists through files
         (subst (λ (l : List Replied). RunsByFiles (IsIn among) l (unopened m opens.store) v w) is runs) wrote)
     list_spoken (Some (Refused refusal)) (inl (memory, inl none), same) = inl none
-    list_spoken (Some (Refused refusal)) (inl (memory, inr (files, is)), same) = inr (λ among m old known opens runs.
-        list_refused (IsIn among) m opens.store opens.opens v w sink sink_now lists through (replies.Listed files)
+    list_spoken (Some (Refused refusal)) (inl (memory, inr (files, is)), same) = inr (λ among m old distinct given_in known opens runs.
+        list_refused (IsIn among) m opens.store v w (was_store (IsIn among) m v old known opens) sink sink_now lists through (replies.Listed files)
         (subst (λ (l : List Replied). RunsByFiles (IsIn among) l (unopened m opens.store) v w) is runs) refusal (subst ListRefusal (sym memory) tt) same)
-    list_spoken (Some (Refused refusal)) (inr is, same) = inr (λ among m old known opens runs.
+    list_spoken (Some (Refused refusal)) (inr is, same) = inr (λ among m old distinct given_in known opens runs.
         let made = subst (λ (l : List Replied). RunsByFiles (IsIn among) l (unopened m opens.store) v w) is runs in
-        let why = (listed (IsIn among) m opens.store opens.opens v w sink sink_now lists through (replies.Refused refusal) made).refused refusal
+        let why = (listed (IsIn among) m opens.store v w (was_store (IsIn among) m v old known opens) sink sink_now lists through (replies.Refused refusal) made).refused refusal
         (said lines.ListNames (replies.Refused refusal), refl, refl) in
-        list_refused (IsIn among) m opens.store opens.opens v w sink sink_now lists through (replies.Refused refusal) made refusal why same)
+        list_refused (IsIn among) m opens.store v w (was_store (IsIn among) m v old known opens) sink sink_now lists through (replies.Refused refusal) made refusal why same)
     list_spoken (Some ending) is = absurd is
 
-pub list_by_map : (D : Type 0) (view : D → DiskView) → ListsByMap → ListsThrough → AnswersByTheMap D view table.List
-list_by_map D view lists through given rs ending disk disk_now source source_now sink sink_now does =
-    by (told D view table.List given rs ending disk disk_now source source_now sink sink_now (IsListing ending sink sink_now) (λ v speaks. speaks) does)
+pub list_by_map : (D : Type 0) (view : D → DiskView) → ListsByMap → ListsThrough → AnswersEachCall D view table.List
+list_by_map D view lists through given rs ending old_disk new_disk source source_now sink sink_now does =
+    by (told D view table.List given rs ending (view old_disk) (view new_disk) source source_now sink sink_now (IsListing ending sink sink_now) (λ v speaks. speaks) does)
   where
-    by : IsListing ending sink sink_now rs ⊎ Silent ending rs sink sink_now → _
+    by : IsListing ending sink sink_now rs ⊎ Silent ending rs sink sink_now → AnswersEachMap table.List given ending (view old_disk) (view new_disk) sink sink_now
     by (inl are) =
-        answers_each table.List given ending rs disk disk_now sink sink_now through does.by_files does.fails (list_silent given rs disk disk_now sink sink_now lists through ending are)
-        (λ among given_in m. none_cuts among rs (list_plain given rs disk disk_now sink sink_now lists through ending are) m)
-        (list_spoken given rs disk disk_now sink sink_now lists through ending are)
+        answers_each table.List given ending rs (view old_disk) (view new_disk) sink sink_now through does.by_files does.fails_alone (list_silent given rs (view old_disk) (view new_disk) sink sink_now lists through ending are)
+        (λ among given_in m. none_cuts among rs (list_plain given rs (view old_disk) (view new_disk) sink sink_now lists through ending are) m)
+        (list_spoken given rs (view old_disk) (view new_disk) sink sink_now lists through ending are)
     by (inr silent) =
-        answers_each table.List given ending rs disk disk_now sink sink_now through does.by_files does.fails (λ none. silent)
+        answers_each table.List given ending rs (view old_disk) (view new_disk) sink sink_now through does.by_files does.fails_alone (λ none. silent)
         (λ among given_in m. none_cuts among rs (subst ArePlain (sym silent.none) tt) m) (inl silent.none)
 
 -- ---- delete
@@ -170,69 +179,88 @@ module _ (given name : List ℕ) where
     delete_left DiskWrite x d sure (inr gone) opens = inr (gone_can x gone, gone_after x d gone opens)
     delete_left refusal x d sure may opens = as_found S x (record { names = m.files; last = m.last }) d (sure (λ is. cc)) opens
 
-  module _ (S : List ℕ → Type 0) (m : Stored) (store : Store) (can : CanBeOpened store m.files) (v w : DiskView) (sink sink_now : SinkView) (deletes : DeletesByMap)
+  module _ (S : List ℕ → Type 0) (m : Stored) (store : Store) (v w : DiskView) (was : WasStore m store v) (sink sink_now : SinkView) (deletes : DeletesByMap)
       (through : DeletesThrough) (reply : ReplyValue) (runs : RunsByFiles S (said (lines.Delete name) reply ∷ []) (unopened m store) v w) where
-    abbrev rs : List Replied
-    rs = said (lines.Delete name) reply ∷ []
+    abbrev ds : List Replied
+    ds = said (lines.Delete name) reply ∷ []
 
-    abbrev end : FileMachine
-    end = last S rs m store v w runs
+    abbrev gone_end : FileMachine
+    gone_end = last S ds m store v w runs
 
-    abbrev deleted : DeletedName name (all_lines S rs m store v w runs) (rested m store) end
-    deleted = deletes name (all_lines S rs m store v w runs) (all_steps S rs m store v w runs) (rested m store) runs.next refl (refl, (refl, refl, tt)) (ran S rs m store v w runs)
+    abbrev deleted : DeletedName name (all_lines S ds m store v w runs) (rested m store) gone_end
+    deleted = deletes name (all_lines S ds m store v w runs) (all_steps S ds m store v w runs) (rested m store) runs.next refl (refl, (refl, refl, tt)) (ran S ds m store v w runs)
 
     -- ---- it was done
 
     module _ (is_done : IsDone (machine.Delete name) reply) where
-      abbrev gone : IsGone name (rested m store).now end.now
+      abbrev gone : IsGone name (rested m store).now gone_end.now
       gone = (deleted.done (said (lines.Delete name) reply, refl, is_done)).0
 
-      done_found : (x : Found (List ℕ)) → MayBeFound of_files end.state end.now x → x ≡ end.now
+      done_found : (x : Found (List ℕ)) → MayBeFound of_files gone_end.state gone_end.now x → x ≡ gone_end.now
       done_found x may =
-          subst (λ (state : RunState (List ℕ)). MayBeFound of_files state end.now x) (deleted.done (said (lines.Delete name) reply, refl, is_done)).1 may
+          subst (λ (state : RunState (List ℕ)). MayBeFound of_files state gone_end.now x) (deleted.done (said (lines.Delete name) reply, refl, is_done)).1 may
 
-      after : (x : Found (List ℕ)) → MayBeFound of_files end.state end.now x → (d : List ℕ) → OpensAs S (stored_in x) d → OpensAs S (without_stored m name) d
-      after x may d opens = gone_after S m end.now d gone (as_found S x end.now d (done_found x may) opens)
+      after : (x : Found (List ℕ)) → MayBeFound of_files gone_end.state gone_end.now x → (d : List ℕ) → OpensAs S (stored_in x) d → OpensAs S (without_stored m name) d
+      after x may d opens = gone_after S m gone_end.now d gone (as_found S x gone_end.now d (done_found x may) opens)
+
+      -- the store has its record
+      done_store : (opened : Store) × (MakesRoom (rested m store) opened × IsStore (with_change name Gone opened) w.content)
+      done_store =
+          let ins = deleted.store.2 in
+          let opened : Store = deleted.store.0 in
+          (opened, (deleted.store.1, is_store S ds m store v w runs (with_change name Gone opened) (ins.done (said (lines.Delete name) reply, refl, is_done)).0))
 
       delete_done : WroteReply (deleted_line name) None sink sink_now → AnswersByMap S (Delete name) given None m v w sink sink_now
       delete_done wrote =
-          answers_by S rs m store v w runs (Delete name) given None after (machine.Delete name) (refl, (refl, refl, tt)) (through name) sink sink_now (gone_can S m end.now gone)
-          (gone_can S m end.now gone) wrote
+          answers_by S ds m store v w runs (Delete name) given None after was (machine.Delete name) (refl, (refl, refl, tt)) (through name) sink sink_now
+          (gone_can S m gone_end.now gone) (inl (gone_can S m gone_end.now gone)) wrote done_store
 
       delete_unwritten : WroteReply (deleted_line name) (Some Sink) sink sink_now → AnswersByMap S (Delete name) given (Some Sink) m v w sink sink_now
       delete_unwritten wrote =
-          answers_by S rs m store v w runs (Delete name) given (Some Sink) after (machine.Delete name) (refl, (refl, refl, tt)) (through name) sink sink_now
-          (gone_can S m end.now gone) (gone_can S m end.now gone) wrote
+          answers_by S ds m store v w runs (Delete name) given (Some Sink) after was (machine.Delete name) (refl, (refl, refl, tt)) (through name) sink sink_now
+          (gone_can S m gone_end.now gone) (inl (gone_can S m gone_end.now gone)) wrote done_store
 
     -- ---- it was refused
 
     module _ (refusal : Refusal) (reply_is : reply ≡ replies.Refused refusal) where
-      last_is : machine.last_of (all_lines S rs m store v w runs) ≡ Some (said (lines.Delete name) (replies.Refused refusal))
+      last_is : machine.last_of (all_lines S ds m store v w runs) ≡ Some (said (lines.Delete name) (replies.Refused refusal))
       last_is = ap (λ (r : ReplyValue). Some (said (lines.Delete name) r)) reply_is
 
-      abbrev why : DeleteRefusal name (rested m store).now end refusal × (((refusal ≡ DiskWrite) → ⊥) → (x : Found (List ℕ)) → MayBeFound of_files end.state end.now x
+      abbrev why : DeleteRefusal name (rested m store).now gone_end refusal × (((refusal ≡ DiskWrite) → ⊥) → (x : Found (List ℕ)) → MayBeFound of_files gone_end.state gone_end.now x
           → x ≡ (rested m store).now)
-      why = deleted.refused refusal (refused_end (all_lines S rs m store v w runs) (lines.Delete name) refusal last_is)
+      why = deleted.refused refusal (refused_end (all_lines S ds m store v w runs) (lines.Delete name) refusal last_is)
 
-      not_done : EndsWith (λ one. IsDone (machine.Delete name) one.reply) (all_lines S rs m store v w runs) → ⊥
+      not_done : EndsWith (λ one. IsDone (machine.Delete name) one.reply) (all_lines S ds m store v w runs) → ⊥
       not_done (one, last, is) =
-          subst (λ (x : Replied). IsDone (machine.Delete name) x.reply) (sym (same_last (all_lines S rs m store v w runs) (said (lines.Delete name) (replies.Refused refusal)) one last_is last)) is
+          subst (λ (x : Replied). IsDone (machine.Delete name) x.reply) (sym (same_last (all_lines S ds m store v w runs) (said (lines.Delete name) (replies.Refused refusal)) one last_is last)) is
 
       -- another refusal
-      only_so : ((refusal ≡ DiskWrite) → ⊥) → EndsRefused DiskWrite (all_lines S rs m store v w runs) → ⊥
+      only_so : ((refusal ≡ DiskWrite) → ⊥) → EndsRefused DiskWrite (all_lines S ds m store v w runs) → ⊥
       only_so other (one, last, is) =
-          let same = same_last (all_lines S rs m store v w runs) (said (lines.Delete name) (replies.Refused refusal)) one last_is last in
+          let same = same_last (all_lines S ds m store v w runs) (said (lines.Delete name) (replies.Refused refusal)) one last_is last in
           let both : replies.Refused refusal ≡ replies.Refused DiskWrite = ap (λ (x : Replied). x.reply) same ∙ is in
           other (let equal : refusal ≡ DiskWrite = cc in equal)
 
-      delete_store : ((refusal ≡ DiskWrite) → ⊥) → (P : Store → Type 0) → P end.store → IsLeftWith m w.content P
-      delete_store other P has = by deleted.store
-        where
-          by : (opened : Store) × MakesRoom (rested m store) opened × DeletesIn name (all_lines S rs m store v w runs) (rested m store).now end opened → IsLeftWith m w.content P
-          by (opened, room, ins) =
-              left_with S rs m store v w runs P opened can room (ins.runs (only_so other), ins.undone not_done) (deleted.undone not_done).0 (subst P (ins.undone not_done) has)
+      delete_store : ((refusal ≡ DiskWrite) → ⊥) → (P : Store → Type 0) → P gone_end.store → IsLeftWith m w.content P
+      delete_store other P has =
+          let ins = deleted.store.2 in
+          left_with S ds m store v w runs deleted.store.0 (ins.runs (only_so other), ins.undone not_done) P was deleted.store.1 (deleted.undone not_done).0
+          (subst P (ins.undone not_done) has)
 
-  module _ (S : List ℕ → Type 0) (m : Stored) (store : Store) (can : CanBeOpened store m.files) (v w : DiskView) (sink sink_now : SinkView) (deletes : DeletesByMap)
+      undone_store : (refusal ≡ DiskWrite) ⊎ ((refusal ≡ DiskWrite) → ⊥) → (opened : Store)
+          × (MakesRoom (rested m store) opened × ChangesStore (Delete name) (Some (Refused refusal)) opened w.content)
+      undone_store (inl is) =
+          (deleted.store.0, (deleted.store.1, subst (λ (r : Refusal). ChangesStore (Delete name) (Some (Refused r)) deleted.store.0 w.content) (sym is) tt))
+      undone_store (inr other) =
+          let ins = deleted.store.2 in
+          let opened : Store = deleted.store.0 in
+          (opened, (deleted.store.1, unchanged refusal other opened (is_store S ds m store v w runs opened (ins.runs (only_so other), ins.undone not_done))))
+        where
+          unchanged : (r : Refusal) → ((r ≡ DiskWrite) → ⊥) → (opened : Store) → IsStore opened w.content → ChangesStore (Delete name) (Some (Refused r)) opened w.content
+          unchanged DiskWrite not opened is = tt
+          unchanged r not opened is = is
+
+  module _ (S : List ℕ → Type 0) (m : Stored) (store : Store) (v w : DiskView) (was : WasStore m store v) (sink sink_now : SinkView) (deletes : DeletesByMap)
       (through : DeletesThrough) where
     module _ (reason : Refusal) (runs : RunsByFiles S (said (lines.Delete name) (replies.Refused reason) ∷ []) (unopened m store) v w) where
       abbrev end_now : FileMachine
@@ -260,13 +288,14 @@ module _ (given name : List ℕ) where
 
       delete_refused : sink_now.written ≡ sink.written → AnswersByMap S (Delete name) given (Some (Refused reason)) m v w sink sink_now
       delete_refused same =
-          let made = deleted S m store can v w sink sink_now deletes through (replies.Refused reason) runs in
-          let cause = why S m store can v w sink sink_now deletes through (replies.Refused reason) runs reason refl in
+          let made = deleted S m store v w was sink sink_now deletes through (replies.Refused reason) runs in
+          let cause = why S m store v w was sink sink_now deletes through (replies.Refused reason) runs reason refl in
           answers_by S (said (lines.Delete name) (replies.Refused reason) ∷ []) m store v w runs (Delete name) given (Some (Refused reason))
-          (λ x may d opens. delete_left S m reason x d (λ other. cause.1 other x may) (made.found x may) opens) (machine.Delete name) (refl, (refl, refl, tt)) (through name) sink
+          (λ x may d opens. delete_left S m reason x d (λ other. cause.1 other x may) (made.found x may) opens) was (machine.Delete name) (refl, (refl, refl, tt)) (through name) sink
           sink_now tt
-          (delete_ends reason refl cause.0 (delete_store S m store can v w sink sink_now deletes through (replies.Refused reason) runs reason refl)
-          (λ other. (made.undone (not_done S m store can v w sink sink_now deletes through (replies.Refused reason) runs reason refl)).0)) same
+          (inl (delete_ends reason refl cause.0 (delete_store S m store v w was sink sink_now deletes through (replies.Refused reason) runs reason refl)
+          (λ other. (made.undone (not_done S m store v w was sink sink_now deletes through (replies.Refused reason) runs reason refl)).0))) same
+          (undone_store S m store v w was sink sink_now deletes through (replies.Refused reason) runs reason refl (is_write reason))
 
   module _ (rs : List Replied) (v w : DiskView) (sink sink_now : SinkView) (deletes : DeletesByMap) (through : DeletesThrough) where
     delete_silent : (ending : Option Ending) → IsDelete name ending sink sink_now rs → rs ≡ [] → Silent ending rs sink sink_now
@@ -283,32 +312,31 @@ module _ (given name : List ℕ) where
     delete_plain (Some ending) is = absurd is
 
     abbrev DeletesSo : Option Ending → Type 0
-    DeletesSo ending = (rs ≡ []) ⊎ ((among : ByteSet) (m : Stored) (old : List ℕ) → v.content ≡ Some old → (opens : OpensAs (IsIn among) m old)
-        → RunsByFiles (IsIn among) rs (unopened m opens.store) v w → AnswersByMap (IsIn among) (Delete name) given ending m v w sink sink_now)
+    DeletesSo ending = (rs ≡ []) ⊎ AnswersOpened (Delete name) given ending rs v w sink sink_now
 
     delete_spoken : (ending : Option Ending) → IsDelete name ending sink sink_now rs → DeletesSo ending
-    delete_spoken None ((sequence, is), wrote) = inr (λ among m old known opens runs.
-        delete_done (IsIn among) m opens.store opens.opens v w sink sink_now deletes through (replies.Deleted sequence)
+    delete_spoken None ((sequence, is), wrote) = inr (λ among m old distinct given_in known opens runs.
+        delete_done (IsIn among) m opens.store v w (was_store (IsIn among) m v old known opens) sink sink_now deletes through (replies.Deleted sequence)
         (subst (λ (l : List Replied). RunsByFiles (IsIn among) l (unopened m opens.store) v w) is runs) tt wrote)
-    delete_spoken (Some Sink) ((sequence, is), wrote) = inr (λ among m old known opens runs.
-        delete_unwritten (IsIn among) m opens.store opens.opens v w sink sink_now deletes through (replies.Deleted sequence)
+    delete_spoken (Some Sink) ((sequence, is), wrote) = inr (λ among m old distinct given_in known opens runs.
+        delete_unwritten (IsIn among) m opens.store v w (was_store (IsIn among) m v old known opens) sink sink_now deletes through (replies.Deleted sequence)
         (subst (λ (l : List Replied). RunsByFiles (IsIn among) l (unopened m opens.store) v w) is runs) tt wrote)
     delete_spoken (Some (Refused refusal)) (inl (memory, none), same) = inl none
-    delete_spoken (Some (Refused refusal)) (inr is, same) = inr (λ among m old known opens runs.
-        delete_refused (IsIn among) m opens.store opens.opens v w sink sink_now deletes through refusal
+    delete_spoken (Some (Refused refusal)) (inr is, same) = inr (λ among m old distinct given_in known opens runs.
+        delete_refused (IsIn among) m opens.store v w (was_store (IsIn among) m v old known opens) sink sink_now deletes through refusal
         (subst (λ (l : List Replied). RunsByFiles (IsIn among) l (unopened m opens.store) v w) is runs) same)
     delete_spoken (Some ending) is = absurd is
 
-pub delete_by_map : (D : Type 0) (view : D → DiskView) → ListsThrough → DeletesByMap → DeletesThrough → (name : List ℕ) → AnswersByTheMap D view (Delete name)
-delete_by_map D view lists deletes through name given rs ending disk disk_now source source_now sink sink_now does =
-    by (told D view (Delete name) given rs ending disk disk_now source source_now sink sink_now (IsDelete name ending sink sink_now) (λ v speaks. speaks) does)
+pub delete_by_map : (D : Type 0) (view : D → DiskView) → ListsThrough → DeletesByMap → DeletesThrough → (name : List ℕ) → AnswersEachCall D view (Delete name)
+delete_by_map D view lists deletes through name given rs ending old_disk new_disk source source_now sink sink_now does =
+    by (told D view (Delete name) given rs ending (view old_disk) (view new_disk) source source_now sink sink_now (IsDelete name ending sink sink_now) (λ v speaks. speaks) does)
   where
-    by : IsDelete name ending sink sink_now rs ⊎ Silent ending rs sink sink_now → _
+    by : IsDelete name ending sink sink_now rs ⊎ Silent ending rs sink sink_now → AnswersEachMap (Delete name) given ending (view old_disk) (view new_disk) sink sink_now
     by (inl are) =
-        answers_each (Delete name) given ending rs disk disk_now sink sink_now lists does.by_files does.fails
-        (delete_silent given name rs disk disk_now sink sink_now deletes through ending are)
-        (λ among given_in m. none_cuts among rs (delete_plain given name rs disk disk_now sink sink_now deletes through ending are) m)
-        (delete_spoken given name rs disk disk_now sink sink_now deletes through ending are)
+        answers_each (Delete name) given ending rs (view old_disk) (view new_disk) sink sink_now lists does.by_files does.fails_alone
+        (delete_silent given name rs (view old_disk) (view new_disk) sink sink_now deletes through ending are)
+        (λ among given_in m. none_cuts among rs (delete_plain given name rs (view old_disk) (view new_disk) sink sink_now deletes through ending are) m)
+        (delete_spoken given name rs (view old_disk) (view new_disk) sink sink_now deletes through ending are)
     by (inr silent) =
-        answers_each (Delete name) given ending rs disk disk_now sink sink_now lists does.by_files does.fails (λ none. silent)
+        answers_each (Delete name) given ending rs (view old_disk) (view new_disk) sink sink_now lists does.by_files does.fails_alone (λ none. silent)
         (λ among given_in m. none_cuts among rs (subst ArePlain (sym silent.none) tt) m) (inl silent.none)

@@ -44,7 +44,7 @@ leaves_sessions lines.Sweep reply ss d e plain (run, inl (admits, (made, actor, 
 leaves_sessions lines.Sweep reply ss d e plain (run, inr (refusal, bars, is, none, sessions)) = sessions
 leaves_sessions line reply ss d e plain made = absurd plain
 
-none_gives : (n actor : ℕ) → ◌≡◌ {A = Option Session} (slice_index_or {A = Option Session} (replicate n None) actor None) None
+pub none_gives : (n actor : ℕ) → ◌≡◌ {A = Option Session} (slice_index_or {A = Option Session} (replicate n None) actor None) None
 none_gives zero actor = refl
 none_gives (suc n) zero = refl
 none_gives (suc n) (suc actor) = none_gives n actor
@@ -53,7 +53,7 @@ none_gives (suc n) (suc actor) = none_gives n actor
 abbrev NoneGive : FileDesk → Type 0
 NoneGive d = d.sessions ≡ replicate ACTORS None
 
-none_cut : (d : FileDesk) → NoneGive d → (bytes : List ℕ) → IsCutAt d bytes → ⊥
+pub none_cut : (d : FileDesk) → NoneGive d → (bytes : List ℕ) → IsCutAt d bytes → ⊥
 none_cut d none bytes cut =
     let given = ap (λ (s : List (Option Session)). slice_index_or s cut.0 None) none ∙ none_gives ACTORS cut.0 in
     absurd (let both : Some cut.1.0 ≡ None = sym cut.1.1.0 ∙ given in cc)

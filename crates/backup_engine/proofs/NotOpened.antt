@@ -87,33 +87,9 @@ module _ (C : Type 0) (state : C → CoreState) (v w : DiskView) (old new : C) (
     caused_by (WrongPart kind) cause = absurd (cause.0 idle)
     caused_by r cause = absurd cause.1
 
-    -- ---- over a map
-
-    abbrev opening : FileEvent
-    opening = record { event = asks; bytes = [] }
-
-    by_map : (S : List ℕ → Type 0) (m : Stored) (image : List ℕ) → w.content ≡ Some image → IsOf S m image
-        → (r : Refusal) → readers.IsOpenRefusal (state old).tables.names name (part_of (state old).parts 0) r → FindsFile m.files (asked.OpenRead name) (Err r) →
-        EndsBy (Restore name) [] m w.content (Some (endings.Refused r))
-    by_map S m image told is Memory cause finds = restore_failed name [] S m image w.content told is Memory refl
-    by_map S m image told is BadName cause finds = left_with S m image w.content (λ store. ¬ (IsName name)) told is cause.1
-    by_map S m image told is NoFile cause finds =
-        left_with S m image w.content (λ store. IsName name × (is_some (finite.get m.files name) ≡ false)) told is (cause.1.0, is_none (finite.get m.files name) finds)
-    by_map S m image told is (WrongPart kind) cause finds = absurd (cause.0 idle)
-    by_map S m image told is r cause finds = absurd cause.1
-
-    answers : AnswersEach (Restore name) [] (Some (endings.Refused refusal)) v w sink sink
-    answers image known among m distinct right is =
-        let start = starts C state v w old new was (IsIn among) m image known is in
-        let finds = finds_files C state among [] opening start.store m old old new distinct start.is_at refl (record { asked = tt; given = tt; made = step }) in
-        record {
-          by_map = by_map (IsIn among) m image (of_call.only.content_is ∙ known) is refusal row.0 finds;
-          wrote = wrote_nothing (Restore name) [] m (endings.Refused refusal) sink (not_sink refusal);
-        }
-
     kept : Keeps (Restore name) [] (Some (endings.Refused refusal)) v w source source sink sink
     kept = record {
-      map = reads_map (Restore name) [] (endings.Refused refusal) v w sink sink of_call.only (not_sink refusal) answers;
+      map = λ old known among m distinct right stands. tt;
       any = record {
         took = (refl, refl);
         caused = caused_by refusal row.0;

@@ -1,6 +1,7 @@
 -- A call whose store was opened, as lines of a machine at rest, its opening first: what is found at their end, and on the way.
-use Rattle.std.proofs.Common.{◌≡◌, ◌⊎◌, inl, inr, ◌≤◌, ℕ, zero, suc, List, [], ◌∷◌, Option, Some, None, Ok, refl, sym, ◌∙◌, subst, arith}
+use Rattle.std.proofs.Common.{◌≡◌, ◌⊎◌, inl, inr, ◌≤◌, ℕ, zero, suc, List, [], ◌∷◌, ◌++◌, Option, Some, None, Ok, refl, sym, ◌∙◌, subst, arith}
 use Rattle.std.specs.Prelude.{Contains}
+use Rattle.base_model.specs.Known.{KnownWith}
 use Rattle.dd_disk.specs.View.{DiskView}
 use Rattle.dd_io.specs.Flow.{SinkView}
 use Rattle.disk_format.specs.declared.numbers.TheConstants.{RESERVE}
@@ -11,14 +12,14 @@ use Rattle.script_lines.specs.Grammar as lines
 use Rattle.script_lines.specs.ReplyValue as replies
 use Rattle.store_model.specs.Collisions.{OpensAs}
 use Rattle.store_model.specs.Files.{Stored}
-use Rattle.store_model.specs.Freeing.{with_all_freed}
-use Rattle.store_model.specs.Image.{Store}
+use Rattle.store_model.specs.Freeing.{FreesTo, with_all_freed}
+use Rattle.store_model.specs.Image.{Store, Encodes}
 use Rattle.store_model.specs.Reserve.{HasReserve, IsReachable, IsSpare}
 use Rattle.store_model.specs.Slots.{free_slots}
 use Rattle.store_model.specs.Standing.{CanBeOpened, IsStoreOf}
 use Rattle.store_model.proofs.FreedFiles.{freed_end, freed_to, frees_some, reserve_after, reserve_by, reserve_free}
 use Rattle.store_machine.specs.ByMap.{FileMachine, MakesRoom, RunsWith, Through}
-use Rattle.store_machine.specs.Commands.{AreLinesOf, Command, Lines, Replied, desk, run_of}
+use Rattle.store_machine.specs.Commands.{AreLinesOf, Command, Lines, Replied, desk, run_of, run_on}
 use Rattle.store_machine.specs.Done as done
 use Rattle.store_machine.specs.Machine.{Found, RunState, Running, Stepped}
 use Rattle.store_machine.specs.Needs.{NamesNeed}
@@ -30,11 +31,12 @@ use Rattle.core_machine.specs.Files.{IsOfFound, MayStand, stored_in}
 use Rattle.core_machine.specs.Unopened.{unopened}
 use Rattle.core_machine.proofs.FileNames.{needs_reach}
 use Rattle.script_runner.specs.LinesAreRuns.{Passes}
-use Rattle.backup_engine.specs.AnswersByMap.{AnswersByMap, LeavesAs}
+use Rattle.script_runner.proofs.DeskRuns.{passes_later}
+use Rattle.backup_engine.specs.AnswersByMap.{AnswersByMap, ChangesStore, IsLeftAs, IsStore, LeavesAs, MayBeMeanwhile, Wrote}
 use Rattle.backup_engine.specs.ByFiles.{RunsByFiles}
 use Rattle.backup_engine.specs.Line.{CommandLine}
 use Rattle.backup_engine.specs.PlainMap.{CanBeDone, map_after}
-use Rattle.backup_engine.specs.Promise.{EndsFrom, IsLeftAs, IsLeftWith, LeavesMeanwhile, MayBeMeanwhile, Wrote}
+use Rattle.backup_engine.specs.Promise.{EndsFailing, EndsFrom, IsLeftWith, LeavesMeanwhile}
 use Rattle.backup_engine.specs.Singles.{said}
 
 -- a store at rest, that no one has open
@@ -64,6 +66,14 @@ stays_left S command given m same (Some Sink) d is = subst (λ (n : Stored). Ope
 stays_left S command given m same (Some (Refused DiskWrite)) d is = inl is
 stays_left S command given m same (Some ending) d is = is
 
+-- the content was this store, which can be opened
+pub record WasStore (m : Stored) (store : Store) (v : DiskView) : Type 0 where
+  pub can : CanBeOpened store m.files
+  pub was : KnownWith v.content (λ old. Encodes old store)
+
+pub was_store : (S : List ℕ → Type 0) (m : Stored) (v : DiskView) (old : List ℕ) → v.content ≡ Some old → (opens : OpensAs S m old) → WasStore m opens.store v
+was_store S m v old known opens = record { can = opens.opens; was = (old, known, opens.stands.holds.right) }
+
 -- the command could be done, where it may have been
 abbrev pub CanBeIf : CommandLine → List ℕ → Stored → Option Ending → Type 0
 CanBeIf command given m None = CanBeDone command given m
@@ -79,6 +89,10 @@ meanwhile S command given m (Some (Refused DiskWrite)) d can (inr is) = inr (tt,
 meanwhile S command given m (Some ending) d can is = inl is
 
 module _ (S : List ℕ → Type 0) (rs : List Replied) (m : Stored) (store : Store) (v w : DiskView) (runs : RunsByFiles S rs (unopened m store) v w) where
+  -- what it made of the store that was opened
+  abbrev pub MakesStore : CommandLine → Option Ending → Type 0
+  MakesStore line ending = (opened : Store) × (MakesRoom (rested m store) opened × ChangesStore line ending opened w.content)
+
   abbrev pub all_lines : List Replied
   all_lines = said lines.Reopen (replies.Opened runs.files) ∷ rs
 
@@ -124,11 +138,26 @@ module _ (S : List ℕ → Type 0) (rs : List Replied) (m : Stored) (store : Sto
   Left d = IsOfFound S (unopened m store) d
       ⊎ Passes of_files (λ n. IsOfFound S n d) runs.steps runs.opened last (run_of of_files rs runs.steps (desk runs.opened) runs.next runs.lines_are)
 
-  passed : (d : List ℕ) → Left d → (x : Found (List ℕ))
-      × (IsPassedFrom of_files 0 all_steps (rested m store) last (run_of of_files all_lines all_steps (desk (rested m store)) runs.next ran) x × OpensAs S (stored_in x) d)
+  abbrev whole : Run of_files all_steps (rested m store) last
+  whole = run_of of_files all_lines all_steps (desk (rested m store)) runs.next ran
+
+  -- what is passed once it was opened is passed
+  later : (P : FileMachine → Type 0) → Passes of_files P runs.steps runs.opened last (run_of of_files rs runs.steps (desk runs.opened) runs.next runs.lines_are)
+      → Passes of_files P all_steps (rested m store) last whole
+  unfolding ran
+  later P after =
+      let first : List (Stepped (List ℕ)) = opening 0 (Ok (done.Reopened runs.files)) ∷ [] in
+      let run : Run of_files first (rested m store) runs.opened = (runs.opened, (opens_rested, refl)) in
+      let rest : Run of_files runs.steps runs.opened last = run_of of_files rs runs.steps (desk runs.opened) runs.next runs.lines_are in
+      let same : first ++ runs.steps ≡ first ++ runs.steps = refl in
+      (subst (λ (zs : List (Stepped (List ℕ))). (run : Run of_files zs (rested m store) last) × Passes of_files P zs (rested m store) last run) (sym same) (
+        run_on of_files first runs.steps (rested m store) runs.opened last run rest,
+        passes_later of_files P first runs.steps (rested m store) runs.opened last run rest after,
+      )).1
+
+  passed : (d : List ℕ) → Left d → (x : Found (List ℕ)) × (IsPassedFrom of_files 0 all_steps (rested m store) last whole x × OpensAs S (stored_in x) d)
   passed d (inl before) = (before.0, (inl (omega arith, before.1), before.2))
-  passed d (inr after) =
-      let one = from_zero S d runs.steps runs.opened last (run_of of_files rs runs.steps (desk runs.opened) runs.next runs.lines_are) after in (one.0, (inr one.1.0, one.1.1))
+  passed d (inr after) = from_zero S d all_steps (rested m store) last whole (later (λ k. IsOfFound S k d) after)
 
   module _ (line : CommandLine) (given : List ℕ) (ending : Option Ending)
       (leaves : AtEnd (λ x. (d : List ℕ) → OpensAs S (stored_in x) d → IsLeftAs S line given m ending d)) where
@@ -156,12 +185,30 @@ module _ (S : List ℕ → Type 0) (rs : List Replied) (m : Stored) (store : Sto
               | inr there ↦ meanwhile S line given m ending d can (leaves one.0 there.1 d one.1.1)
             ]
 
-    pub answers_by : (command : Command) → AreLinesOf command all_lines → Through command → (sink sink_now : SinkView) → CanBeIf line given m ending
-        → EndsFrom line given m v.content w.content ending → Wrote line given m ending sink sink_now → AnswersByMap S line given ending m v w sink sink_now
-    answers_by command are through sink sink_now can by_map wrote =
-        record { by_map = inl by_map; wrote = wrote; left = left_by; crash = crash_by command are through can }
+    pub answers_by : WasStore m store v → (command : Command) → AreLinesOf command all_lines → Through command → (sink sink_now : SinkView) → CanBeIf line given m ending
+        → EndsFrom line given m v.content w.content ending ⊎ EndsFailing ending → Wrote line given m ending sink sink_now → MakesStore line ending
+        → AnswersByMap S line given ending m v w sink sink_now
+    answers_by was command are through sink sink_now can by_map wrote (opened, (room, changes)) = record {
+      by_map = by_map;
+      wrote = wrote;
+      store = inl (was.was.0, was.was.1, record { store = store; right = was.was.2; opened = opened; room = room; has = changes });
+      left = left_by;
+      crash = crash_by command are through can;
+    }
 
   -- ---- the store at the end
+
+  -- the opening made room
+  pub opened_room : (opened : Store) × MakesRoom (rested m store) opened
+  opened_room = (
+    runs.opened.store,
+    (
+      runs.opens.freed,
+      subst (λ (x : Found (List ℕ)). FreesTo (NamesNeed of_files x) runs.opens.freed store runs.opened.store) (runs.opens.may tt)
+          (subst (λ (s : Store). FreesTo (NamesNeed of_files runs.opens.found) runs.opens.freed s runs.opened.store)
+          (only_one store runs.opens.before (runs.opens.same tt)) (runs.opens.frees tt)),
+    ),
+  )
 
   -- what the opening left has its reserve
   has_reserve : (now : Store) → CanBeOpened store m.files → MakesRoom (rested m store) now → RESERVE ≤ free_slots now.held
@@ -172,20 +219,24 @@ module _ (S : List ℕ → Type 0) (rs : List Replied) (m : Stored) (store : Sto
       let reserve = reserve_after P slots store (frees_some P slots store now frees) (reserve_by (IsReachable m.files) P store.held (needs_reach (rested m store).now) can) in
       subst (λ (s : Store). RESERVE ≤ free_slots s.held) (sym is) (reserve_free P (with_all_freed slots store).held reserve end)
 
-  -- where the machine runs, and the names stay, the content is the store of these files that the opening left
-  pub left_with : (P : Store → Type 0) (now : Store) → CanBeOpened store m.files → MakesRoom (rested m store) now → RunsWith last now → last.now ≡ (rested m store).now → P now
-      → IsLeftWith m w.content P
-  left_with P now can room at still has = (now, (runs.stands.content.0, runs.stands.content.1, is), has_reserve now can room, has)
-    where
-      may : MayStand S last runs.stands.content.0
-      may = runs.stands.content.2
+  -- where the machine runs the content is its store
+  module _ (now : Store) (at : RunsWith last now) where
+    may : MayStand S last runs.stands.content.0
+    may = runs.stands.content.2
 
-      found_is : may.found ≡ (rested m store).now
-      found_is = subst (λ (state : RunState (List ℕ)). MayBeFound of_files state last.now may.found) at.0 may.may ∙ still
+    store_is : may.store ≡ now
+    store_is = subst (λ (state : RunState (List ℕ)). Stands of_files state last.store may.store) at.0 may.stands ∙ at.1
 
-      store_is : may.store ≡ now
-      store_is = subst (λ (state : RunState (List ℕ)). Stands of_files state last.store may.store) at.0 may.stands ∙ at.1
+    pub is_store : IsStore now w.content
+    is_store = (runs.stands.content.0, runs.stands.content.1, subst (Encodes runs.stands.content.0) store_is may.is.holds.right)
 
-      is : IsStoreOf now m.files runs.stands.content.0
-      is = subst (λ (s : Store). IsStoreOf s m.files runs.stands.content.0) store_is
-          (subst (λ (x : Found (List ℕ)). IsStoreOf may.store x.names runs.stands.content.0) found_is may.is.holds)
+    -- and where the names stay it is of these files, if it is what the opening left
+    pub left_with : (P : Store → Type 0) → WasStore m store v → MakesRoom (rested m store) now → last.now ≡ (rested m store).now → P now → IsLeftWith m w.content P
+    left_with P was room still has = (now, (runs.stands.content.0, runs.stands.content.1, is), has_reserve now was.can room, has)
+      where
+        found_is : may.found ≡ (rested m store).now
+        found_is = subst (λ (state : RunState (List ℕ)). MayBeFound of_files state last.now may.found) at.0 may.may ∙ still
+
+        is : IsStoreOf now m.files runs.stands.content.0
+        is = subst (λ (s : Store). IsStoreOf s m.files runs.stands.content.0) store_is
+            (subst (λ (x : Found (List ℕ)). IsStoreOf may.store x.names runs.stands.content.0) found_is may.is.holds)

@@ -18,7 +18,6 @@ use Rattle.script_lines.specs.ReplyValue as replies
 use Rattle.store_model.specs.Collisions.{ByteSet, IsIn, OpensAs}
 use Rattle.store_model.specs.Files.{Stored}
 use Rattle.store_model.specs.Image.{Store}
-use Rattle.store_model.specs.Standing.{CanBeOpened}
 use Rattle.store_machine.specs.Asked.{Asked}
 use Rattle.store_machine.specs.Asked as asked
 use Rattle.store_machine.specs.ByMap.{FileMachine, IsPartOfFile, ListsThrough, MakesRoom, RestoredFile, RestoreRefusal, RestoresByMap, RestoresThrough, RunsWith}
@@ -35,14 +34,14 @@ use Rattle.store_machine.specs.Values.{of_files}
 use Rattle.script_runner.specs.LinesAreFileRuns.{FileDesk}
 use Rattle.core_machine.specs.Files.{stored_in}
 use Rattle.core_machine.specs.Unopened.{unopened}
-use Rattle.backup_engine.specs.AnswersByMap.{AnswersByMap, AnswersByTheMap}
+use Rattle.backup_engine.specs.AnswersByMap.{AnswersByMap, AnswersEachCall, AnswersEachMap, Wrote, WroteFile}
 use Rattle.backup_engine.specs.ByFiles.{RunsByFiles}
 use Rattle.backup_engine.specs.Line.{Restore}
-use Rattle.backup_engine.specs.Promise.{EndsFrom, IsLeftWith, Wrote, WroteFile}
+use Rattle.backup_engine.specs.Promise.{EndsFrom, IsLeftWith}
 use Rattle.backup_engine.specs.Singles.{IsFirstOf, IsRestore, ReadsFile, next_lines, refused, said}
-use Rattle.backup_engine.proofs.AnswersByMap.{Silent, answers_each, nothing_of, told}
+use Rattle.backup_engine.proofs.AnswersByMap.{AnswersOpened, Silent, answers_each, nothing_of, told}
 use Rattle.backup_engine.proofs.NoneCut.{ArePlain, none_cuts}
-use Rattle.backup_engine.proofs.Rested.{CanBeIf, all_lines, all_steps, answers_by, as_found, last, left_with, ran, rested, stays_left}
+use Rattle.backup_engine.proofs.Rested.{CanBeIf, all_lines, all_steps, answers_by, as_found, last, left_with, ran, rested, stays_left, was_store, WasStore}
 
 -- ---- the lines
 
@@ -111,7 +110,7 @@ module _ (given name : List ℕ) where
       left (λ s. IsName name × (is_some (finite.get m.files name) ≡ false)) (λ s. (named, ap is_some none))
   restore_ends m before content refusal may left = absurd may
 
-  module _ (S : List ℕ → Type 0) (m : Stored) (store : Store) (can : CanBeOpened store m.files) (v w : DiskView) (sink sink_now : SinkView) (restores : RestoresByMap)
+  module _ (S : List ℕ → Type 0) (m : Stored) (store : Store) (v w : DiskView) (was : WasStore m store v) (sink sink_now : SinkView) (restores : RestoresByMap)
       (through : RestoresThrough) (rs : List Replied) (runs : RunsByFiles S rs (unopened m store) v w)
       (follow : (files : ℕ) → AllFollow (machine.Restore name) (said lines.Reopen (replies.Opened files)) rs) where
     abbrev end : FileMachine
@@ -122,26 +121,25 @@ module _ (given name : List ℕ) where
         restores name (all_lines S rs m store v w runs) (all_steps S rs m store v w runs) (rested m store) runs.next refl (refl, follow runs.files) (ran S rs m store v w runs)
 
     restore_left : (P : Store → Type 0) → ((s : Store) → P s) → IsLeftWith m w.content P
-    restore_left P each = by restored.store
-      where
-        by : (opened : Store) × MakesRoom (rested m store) opened × RunsWith end opened → IsLeftWith m w.content P
-        by (opened, room, at) =
-            left_with S rs m store v w runs P opened can room at
-            (restored.found end.now (subst (λ (state : RunState (List ℕ)). MayBeFound of_files state end.now end.now) (sym at.0) refl)) (each opened)
+    restore_left P each =
+        let opened : Store = restored.store.0 in
+        let at : RunsWith end opened = restored.store.2 in
+        left_with S rs m store v w runs opened at P was restored.store.1
+        (restored.found end.now (subst (λ (state : RunState (List ℕ)). MayBeFound of_files state end.now end.now) (sym at.0) refl)) (each opened)
 
     restore_answers : (ending : Option Ending) → CanBeIf (Restore name) given m ending → EndsFrom (Restore name) given m v.content w.content ending
         → Wrote (Restore name) given m ending sink sink_now → AnswersByMap S (Restore name) given ending m v w sink sink_now
-    restore_answers ending =
+    restore_answers ending can by_map wrote =
         answers_by S rs m store v w runs (Restore name) given ending
-        (λ x may d opens. stays_left S (Restore name) given m refl ending d (as_found S x (rested m store).now d (restored.found x may) opens)) (machine.Restore name)
-        (refl, follow runs.files) (through name) sink sink_now
+        (λ x may d opens. stays_left S (Restore name) given m refl ending d (as_found S x (rested m store).now d (restored.found x may) opens)) was (machine.Restore name)
+        (refl, follow runs.files) (through name) sink sink_now can (inl by_map) wrote (restored.store.0, (restored.store.1, tt))
 
     restore_refused : (refusal : Refusal) → RestoreRefusal name (rested m store).now refusal → WroteFile (finite.get m.files name) (Some (Refused refusal)) sink sink_now
         → AnswersByMap S (Restore name) given (Some (Refused refusal)) m v w sink sink_now
     restore_refused refusal may wrote = restore_answers (Some (Refused refusal)) tt (restore_ends m v.content w.content refusal may restore_left) wrote
 
   -- the name was read
-  module _ (S : List ℕ → Type 0) (m : Stored) (store : Store) (can : CanBeOpened store m.files) (v w : DiskView) (sink sink_now : SinkView) (restores : RestoresByMap)
+  module _ (S : List ℕ → Type 0) (m : Stored) (store : Store) (v w : DiskView) (was : WasStore m store v) (sink sink_now : SinkView) (restores : RestoresByMap)
       (through : RestoresThrough) (segments : List (List ℕ)) (final : Replied) (is_next : final.line ≡ lines.Next 0) (count : ℕ)
       (runs : RunsByFiles S (said (lines.Read 0 name) (replies.Reading 0 count) ∷ next_lines segments ++ final ∷ []) (unopened m store) v w) where
     abbrev rs : List Replied
@@ -151,7 +149,7 @@ module _ (given name : List ℕ) where
     follow files = (refl, refl, reads_follow name final (said (lines.Read 0 name) (replies.Reading 0 count)) segments refl (λ line is. is) is_next)
 
     abbrev so : RestoredFile name (all_lines S rs m store v w runs) (rested m store) (last S rs m store v w runs)
-    so = restored S m store can v w sink sink_now restores through rs runs follow
+    so = restored S m store v w was sink sink_now restores through rs runs follow
 
     abbrev text : List ℕ
     text = concat segments ++ machine.text_of (machine.Restore name) [] final.line final.reply
@@ -186,7 +184,7 @@ module _ (given name : List ℕ) where
 
     abbrev answers : (ending : Option Ending) → CanBeIf (Restore name) given m ending → EndsFrom (Restore name) given m v.content w.content ending
         → Wrote (Restore name) given m ending sink sink_now → AnswersByMap S (Restore name) given ending m v w sink sink_now
-    answers = restore_answers S m store can v w sink sink_now restores through rs runs follow
+    answers = restore_answers S m store v w was sink sink_now restores through rs runs follow
 
     restore_done : final ≡ said (lines.Next 0) (replies.End 0) → Appended sink.written sink_now.written (concat segments)
         → AnswersByMap S (Restore name) given None m v w sink sink_now
@@ -210,7 +208,7 @@ module _ (given name : List ℕ) where
         → AnswersByMap S (Restore name) given (Some (Refused refusal)) m v w sink sink_now
     restore_stopped refusal is wrote =
         let why = so.refused refusal (final, last_is, ap (λ (one : Replied). one.reply) is) in
-        restore_refused S m store can v w sink sink_now restores through rs runs follow refusal why
+        restore_refused S m store v w was sink sink_now restores through rs runs follow refusal why
         (wrote_of (Refused refusal) (concat segments) (machine.text_of (machine.Restore name) [] final.line final.reply) refl wrote)
 
   module _ (rs : List Replied) (v w : DiskView) (sink sink_now : SinkView) (restores : RestoresByMap) (through : RestoresThrough) where
@@ -236,39 +234,38 @@ module _ (given name : List ℕ) where
     restore_plain (Some ending) is = absurd is
 
     abbrev RestoresSo : Option Ending → Type 0
-    RestoresSo ending = (rs ≡ []) ⊎ ((among : ByteSet) (m : Stored) (old : List ℕ) → v.content ≡ Some old → (opens : OpensAs (IsIn among) m old)
-        → RunsByFiles (IsIn among) rs (unopened m opens.store) v w → AnswersByMap (IsIn among) (Restore name) given ending m v w sink sink_now)
+    RestoresSo ending = (rs ≡ []) ⊎ AnswersOpened (Restore name) given ending rs v w sink sink_now
 
     restore_spoken : (ending : Option Ending) → IsRestore name ending sink sink_now rs → RestoresSo ending
-    restore_spoken None (segments, ((count, is), wrote)) = inr (λ among m old known opens runs.
-        restore_done (IsIn among) m opens.store opens.opens v w sink sink_now restores through segments (said (lines.Next 0) (replies.End 0)) refl count
+    restore_spoken None (segments, ((count, is), wrote)) = inr (λ among m old distinct given_in known opens runs.
+        restore_done (IsIn among) m opens.store v w (was_store (IsIn among) m v old known opens) sink sink_now restores through segments (said (lines.Next 0) (replies.End 0)) refl count
         (subst (λ (l : List Replied). RunsByFiles (IsIn among) l (unopened m opens.store) v w) is runs) refl wrote)
-    restore_spoken (Some Sink) (segments, (bytes, ((count, is), (part, (first, wrote))))) = inr (λ among m old known opens runs.
-        restore_unwritten (IsIn among) m opens.store opens.opens v w sink sink_now restores through segments (said (lines.Next 0) (replies.Bytes 0 bytes)) refl count
+    restore_spoken (Some Sink) (segments, (bytes, ((count, is), (part, (first, wrote))))) = inr (λ among m old distinct given_in known opens runs.
+        restore_unwritten (IsIn among) m opens.store v w (was_store (IsIn among) m v old known opens) sink sink_now restores through segments (said (lines.Next 0) (replies.Bytes 0 bytes)) refl count
         (subst (λ (l : List Replied). RunsByFiles (IsIn among) l (unopened m opens.store) v w) is runs) bytes part refl first wrote)
     restore_spoken (Some (Refused refusal)) (inl (memory, none, same)) = inl none
-    restore_spoken (Some (Refused refusal)) (inr (inl (is, same))) = inr (λ among m old known opens runs.
+    restore_spoken (Some (Refused refusal)) (inr (inl (is, same))) = inr (λ among m old distinct given_in known opens runs.
         let made = subst (λ (l : List Replied). RunsByFiles (IsIn among) l (unopened m opens.store) v w) is runs in
         let read : List Replied = refused (lines.Read 0 name) refusal ∷ [] in
-        let why = (restored (IsIn among) m opens.store opens.opens v w sink sink_now restores through read made (λ files. (refl, refl, tt))).refused refusal
+        let why = (restored (IsIn among) m opens.store v w (was_store (IsIn among) m v old known opens) sink sink_now restores through read made (λ files. (refl, refl, tt))).refused refusal
         (refused (lines.Read 0 name) refusal, refl, refl) in
-        restore_refused (IsIn among) m opens.store opens.opens v w sink sink_now restores through read made (λ files. (refl, refl, tt)) refusal why
+        restore_refused (IsIn among) m opens.store v w (was_store (IsIn among) m v old known opens) sink sink_now restores through read made (λ files. (refl, refl, tt)) refusal why
         (nothing_of (finite.get m.files name) (Refused refusal) sink sink_now same))
-    restore_spoken (Some (Refused refusal)) (inr (inr (segments, ((count, is), wrote)))) = inr (λ among m old known opens runs.
-        restore_stopped (IsIn among) m opens.store opens.opens v w sink sink_now restores through segments (refused (lines.Next 0) refusal) refl count
+    restore_spoken (Some (Refused refusal)) (inr (inr (segments, ((count, is), wrote)))) = inr (λ among m old distinct given_in known opens runs.
+        restore_stopped (IsIn among) m opens.store v w (was_store (IsIn among) m v old known opens) sink sink_now restores through segments (refused (lines.Next 0) refusal) refl count
         (subst (λ (l : List Replied). RunsByFiles (IsIn among) l (unopened m opens.store) v w) is runs) refusal refl wrote)
     restore_spoken (Some ending) is = absurd is
 
-pub restore_by_map : (D : Type 0) (view : D → DiskView) → ListsThrough → RestoresByMap → RestoresThrough → (name : List ℕ) → AnswersByTheMap D view (Restore name)
-restore_by_map D view lists restores through name given rs ending disk disk_now source source_now sink sink_now does =
-    by (told D view (Restore name) given rs ending disk disk_now source source_now sink sink_now (IsRestore name ending sink sink_now) (λ v speaks. speaks) does)
+pub restore_by_map : (D : Type 0) (view : D → DiskView) → ListsThrough → RestoresByMap → RestoresThrough → (name : List ℕ) → AnswersEachCall D view (Restore name)
+restore_by_map D view lists restores through name given rs ending old_disk new_disk source source_now sink sink_now does =
+    by (told D view (Restore name) given rs ending (view old_disk) (view new_disk) source source_now sink sink_now (IsRestore name ending sink sink_now) (λ v speaks. speaks) does)
   where
-    by : IsRestore name ending sink sink_now rs ⊎ Silent ending rs sink sink_now → _
+    by : IsRestore name ending sink sink_now rs ⊎ Silent ending rs sink sink_now → AnswersEachMap (Restore name) given ending (view old_disk) (view new_disk) sink sink_now
     by (inl are) =
-        answers_each (Restore name) given ending rs disk disk_now sink sink_now lists does.by_files does.fails
-        (restore_silent given name rs disk disk_now sink sink_now restores through ending are)
-        (λ among given_in m. none_cuts among rs (restore_plain given name rs disk disk_now sink sink_now restores through ending are) m)
-        (restore_spoken given name rs disk disk_now sink sink_now restores through ending are)
+        answers_each (Restore name) given ending rs (view old_disk) (view new_disk) sink sink_now lists does.by_files does.fails_alone
+        (restore_silent given name rs (view old_disk) (view new_disk) sink sink_now restores through ending are)
+        (λ among given_in m. none_cuts among rs (restore_plain given name rs (view old_disk) (view new_disk) sink sink_now restores through ending are) m)
+        (restore_spoken given name rs (view old_disk) (view new_disk) sink sink_now restores through ending are)
     by (inr silent) =
-        answers_each (Restore name) given ending rs disk disk_now sink sink_now lists does.by_files does.fails (λ none. silent)
+        answers_each (Restore name) given ending rs (view old_disk) (view new_disk) sink sink_now lists does.by_files does.fails_alone (λ none. silent)
         (λ among given_in m. none_cuts among rs (subst ArePlain (sym silent.none) tt) m) (inl silent.none)

@@ -11,6 +11,7 @@ use Rattle.backup_engine.specs.Naming.{DeleteRun}
 use Rattle.backup_engine.specs.Singles.{IsDelete}
 use Rattle.backup_engine.specs.TopCall.{DoesCommand, ending_in}
 use Rattle.backup_engine.proofs.ByFiles.{refused_by_files}
+use Rattle.backup_engine.proofs.FailsAlone.{fails_unopened}
 use Rattle.backup_engine.proofs.Kept.{by_error, by_same, later_back}
 use Rattle.backup_engine.proofs.Lending.{none_back, none_later}
 use Rattle.backup_engine.proofs.NameLines.{delete_actors, delete_lines}
@@ -18,7 +19,7 @@ use Rattle.backup_engine.proofs.NamesKept.{delete_keeps, delete_later}
 use Rattle.backup_engine.proofs.NotDone.{not_begun, unopened_delete}
 use Rattle.backup_engine.proofs.Opens.{does_none, does_opened, does_without_memory, opened_fresh, opened_later, single_back}
 use Rattle.backup_engine.proofs.Returned.{first_same, rest_same}
-use Rattle.backup_engine.proofs.SinglesRun.{unbegun_speaks, unopened_speaks}
+use Rattle.backup_engine.proofs.SinglesRun.{delete_memory, fails_silent, unbegun_speaks, unopened_speaks}
 use Rattle.backup_engine.proofs.Unlent.{delete_kept}
 use Rattle.backup_engine.proofs.deleting.delete.Goals as goal
 
@@ -66,6 +67,8 @@ returns-in-Err g c =
                 })
                 (refused_by_files _ view refusal c.args.disk.now c.in-Err.refused.0.now c.an_opening_finds_its_files.ensures.unopened
                 (none_back _ view first _ w refusal c.in-Err.ensures.refused))
+                (fails_unopened _ view refusal c.args.disk.now c.in-Err.refused.0.now c.an_opening_finds_its_files.ensures.unopened
+                (none_back _ view first _ w refusal c.in-Err.ensures.refused))
                 (none_back _ view first _ w refusal c.in-Err.ensures.refused),
           );
       later = by_same (λ d. IsLater (view c.args.disk.now) (view d)) _ c.in-Err.refused.0.now (search rules)
@@ -107,10 +110,10 @@ returns g c =
           sink_now) _ c.close-disk.result.now (search (rules, named)) (
             run.0,
             does_opened _ view _ _ first _ w core core_now opens is.running closed.disk closed.moment between (Delete c.args.name.now) [] (ending_in result) source source sink
-                sink_now run.0 by_files is.opened
+                sink_now run.0 by_files (λ none. fails_silent (ending_in result) run.0 _ _ by_files (delete_memory name (ending_in result) sink sink_now run.0 run.1.0 none)) is.opened
                 (λ before called. (
                   delete_kept _ _ (view before.now) w source source sink sink_now [] name (ending_in result)
-                      (delete_keeps _ _ _ _ before _ _ _ called opens name source sink result sink_now ran),
+                      (delete_keeps _ _ _ _ _ _ called name source sink result sink_now ran),
                   inl run.1.0,
                 )),
           );

@@ -9,6 +9,7 @@ use Rattle.backup_engine.specs.Line as table
 use Rattle.backup_engine.specs.Singles.{IsListing}
 use Rattle.backup_engine.specs.TopCall.{DoesCommand, ending_in}
 use Rattle.backup_engine.proofs.ByFiles.{refused_by_files}
+use Rattle.backup_engine.proofs.FailsAlone.{fails_unopened}
 use Rattle.backup_engine.proofs.Kept.{by_error, by_same, later_back}
 use Rattle.backup_engine.proofs.Lending.{none_back, none_later}
 use Rattle.backup_engine.proofs.NameLines.{list_actors, list_lines}
@@ -16,7 +17,7 @@ use Rattle.backup_engine.proofs.NamesKept.{list_keeps, list_later}
 use Rattle.backup_engine.proofs.NotDone.{not_begun, unopened_list}
 use Rattle.backup_engine.proofs.Opens.{does_none, does_opened, does_without_memory, opened_fresh, opened_later, single_back}
 use Rattle.backup_engine.proofs.Returned.{first_same, rest_same}
-use Rattle.backup_engine.proofs.SinglesRun.{unbegun_speaks, unopened_speaks}
+use Rattle.backup_engine.proofs.SinglesRun.{fails_silent, list_memory, unbegun_speaks, unopened_speaks}
 use Rattle.backup_engine.proofs.Unlent.{list_kept}
 use Rattle.backup_engine.proofs.listing.list.Goals as goal
 
@@ -52,6 +53,8 @@ returns-in-Err g c =
                   speaks = unopened_speaks are before w refusal is sink;
                 })
                 (refused_by_files _ view refusal c.args.disk.now c.in-Err.refused.0.now c.an_opening_finds_its_files.ensures.unopened
+                (none_back _ view first _ w refusal c.in-Err.ensures.refused))
+                (fails_unopened _ view refusal c.args.disk.now c.in-Err.refused.0.now c.an_opening_finds_its_files.ensures.unopened
                 (none_back _ view first _ w refusal c.in-Err.ensures.refused))
                 (none_back _ view first _ w refusal c.in-Err.ensures.refused),
           );
@@ -90,10 +93,10 @@ returns g c =
           c.close-disk.result.now (search (rules, named)) (
             run.0,
             does_opened _ view _ _ first _ w core core_now opens is.running closed.disk closed.moment between table.List [] (ending_in result) source source sink sink_now run.0
-                by_files is.opened
+                by_files (λ none. fails_silent (ending_in result) run.0 _ _ by_files (list_memory (ending_in result) sink sink_now run.0 run.1.0 none)) is.opened
                 (λ before called. (
                   list_kept _ _ (view before.now) w source source sink sink_now [] [] (ending_in result)
-                      (list_keeps _ _ _ _ before _ _ _ called opens result source sink sink_now ran),
+                      (list_keeps _ _ _ _ _ _ called result source sink sink_now ran),
                   inl run.1.0,
                 )),
           );

@@ -10,12 +10,13 @@ use Rattle.backup_engine.specs.TopCall.{DoesCommand, ending_in}
 use Rattle.backup_engine.proofs.GivenBack.{gives}
 use Rattle.backup_engine.proofs.GivenLines.{given_lines}
 use Rattle.backup_engine.proofs.ByFiles.{refused_by_files}
+use Rattle.backup_engine.proofs.FailsAlone.{fails_unopened}
 use Rattle.backup_engine.proofs.Kept.{by_same, later_back}
 use Rattle.backup_engine.proofs.Lending.{none_back, none_later}
 use Rattle.backup_engine.proofs.NotDone.{not_begun, unopened_restore}
 use Rattle.backup_engine.proofs.Opens.{does_none, does_opened, does_without_memory, opened_fresh, opened_later, single_back}
 use Rattle.backup_engine.proofs.Returned.{first_same, give_later, rest_same}
-use Rattle.backup_engine.proofs.SinglesRun.{restore_actors, unbegun_speaks, unopened_speaks}
+use Rattle.backup_engine.proofs.SinglesRun.{fails_silent, restore_actors, restore_memory, unbegun_speaks, unopened_speaks}
 use Rattle.backup_engine.proofs.Unlent.{restore_kept}
 use Rattle.backup_engine.proofs.restore.restore.Goals as goal
 
@@ -51,6 +52,8 @@ returns-in-Err g c =
                   speaks = unopened_speaks are before w refusal is sink;
                 })
                 (refused_by_files _ view refusal c.args.disk.now c.in-Err.refused.0.now c.an_opening_finds_its_files.ensures.unopened
+                (none_back _ view first _ w refusal c.in-Err.ensures.refused))
+                (fails_unopened _ view refusal c.args.disk.now c.in-Err.refused.0.now c.an_opening_finds_its_files.ensures.unopened
                 (none_back _ view first _ w refusal c.in-Err.ensures.refused))
                 (none_back _ view first _ w refusal c.in-Err.ensures.refused),
           );
@@ -90,7 +93,7 @@ returns g c =
           _ c.close-disk.result.now (search (rules, named)) (
             run.0,
             does_opened _ view _ _ first _ w core core_now opens is.running closed.disk closed.moment between (Restore name) [] (ending_in result) source source sink sink_now run.0
-                by_files is.opened
+                by_files (λ none. fails_silent (ending_in result) run.0 _ _ by_files (restore_memory name (ending_in result) sink sink_now run.0 run.1.0 none)) is.opened
                 (λ before called. (
                   restore_kept _ _ (view before.now) w source source sink sink_now [] name (ending_in result) (gives _ _ _ _ _ _ called name result sink sink_now ran source),
                   inl run.1.0,

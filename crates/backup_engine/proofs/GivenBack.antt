@@ -19,15 +19,13 @@ use Rattle.store_core.specs.State.{CoreState, Event}
 use Rattle.store_core.proofs.Damage.{finds_files}
 use Rattle.store_core.proofs.GivingFiles.{gives_the_file}
 use Rattle.backup_engine.specs.Line.{Restore}
-use Rattle.backup_engine.specs.Promise.{EndsBy, WroteFile}
 use Rattle.backup_engine.specs.Running.{IsRead, EndsGiving, IsGivenOut, GiveRun}
 use Rattle.backup_engine.specs.TopCall.{Keeps, ending_in}
 use Rattle.backup_engine.proofs.Called.{Called, starts}
 use Rattle.backup_engine.proofs.GivenOut.{alone, given_on_any, of_call, of_core, some_actors, way}
-use Rattle.backup_engine.proofs.GivenOrder.{IsLeftBy, gave, wrote_file}
-use Rattle.backup_engine.proofs.NotDone.{restore_failed}
+
 use Rattle.backup_engine.proofs.NotOpened.{not_opened}
-use Rattle.backup_engine.proofs.Reading.{AnswersEach, reads_frame, reads_restore}
+use Rattle.backup_engine.proofs.Reading.{reads_frame}
 use Rattle.backup_engine.proofs.ReadSteps.{last_leaves}
 
 module _ (C : Type 0) (state : C → CoreState) (v w : DiskView) (old new : C) (was : Called C state v w old new) (name : List ℕ) (source : SourceView) (sink sink_now : SinkView)

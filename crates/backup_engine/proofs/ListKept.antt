@@ -37,7 +37,6 @@ use Rattle.store_model.specs.Collisions.{IsIn, OpensAs}
 use Rattle.store_model.specs.Files.{Stored}
 use Rattle.store_model.specs.Image.{Store, Encodes, names_of}
 use Rattle.store_model.specs.Standing.{file_listing}
-use Rattle.backup_engine.specs.Adding.{IsStore}
 use Rattle.backup_engine.specs.AnyDisk.{IsCaused, ListsNames, WroteOnAny, disk_ending}
 use Rattle.backup_engine.specs.Line as table
 use Rattle.backup_engine.specs.ByFiles.{RunsEachByFiles}
@@ -46,9 +45,7 @@ use Rattle.backup_engine.specs.Promise.{KeepsEachMap, KeepsMap, WroteReply}
 use Rattle.backup_engine.specs.Singles.{said}
 use Rattle.backup_engine.specs.TopCall.{Keeps, ending_in}
 use Rattle.backup_engine.proofs.Called.{Called}
-use Rattle.backup_engine.proofs.DeleteMap.{IsDone, MadeOne, made_one}
 use Rattle.backup_engine.proofs.NotDone.{holds, without_memory}
-use Rattle.backup_engine.proofs.OneLine.{OneStep, keeps_map, step_of, still_found, store_same}
 use Rattle.backup_engine.proofs.ReadSteps.{steps_of}
 use Rattle.backup_engine.proofs.Reading.{reads_frame}
 use Rattle.backup_engine.proofs.Replied.{IsReplied, replied_faults, replied_sent, wrote_sent}

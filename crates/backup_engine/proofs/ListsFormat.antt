@@ -8,7 +8,7 @@ use Rattle.dd_disk.specs.View.{DiskView}
 use Rattle.dd_disk.proofs.Shows.{shown_content}
 use Rattle.disk_format.specs.Layout.{size_of}
 use Rattle.dd_disk.specs.Shows.{Shows}
-use Rattle.recovery.specs.Opening.{IsFormatRefusal}
+use Rattle.recovery.specs.Formatting.{IsFormatRefusal}
 use Rattle.refusals.specs.declared.refusal.Refusal.{Refusal}
 use Rattle.refusals.specs.declared.refusal.Refusal.TheVariants.{AlreadyStore, Clash, DiskRead, DiskWrite, Memory, WrongSize}
 use Rattle.reply_text.specs.Text.{formatted_line}

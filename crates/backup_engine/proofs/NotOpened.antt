@@ -34,8 +34,8 @@ use Rattle.backup_engine.specs.Running.{IsNotOpened}
 use Rattle.backup_engine.specs.TopCall.{Keeps, ending_in}
 use Rattle.backup_engine.proofs.Called.{Called, starts}
 use Rattle.backup_engine.proofs.GivenOut.{reads_closed}
-use Rattle.backup_engine.proofs.NotDone.{holds, not_sink, left_with, restore_failed}
-use Rattle.backup_engine.proofs.Reading.{AnswersEach, reads_frame, reads_map, wrote_nothing}
+use Rattle.backup_engine.proofs.NotDone.{holds}
+use Rattle.backup_engine.proofs.Reading.{reads_frame}
 use Rattle.backup_engine.proofs.ReadSteps.{LeavesAll, open_leaves, steps_of}
 
 -- no name has a file where its entry is none

@@ -41,6 +41,7 @@ use Rattle.backup_engine.proofs.Called.{Called, Starts, settled, starts}
 use Rattle.backup_engine.proofs.Clashes.{IsRight, RefusesBut, ends_by, not_unlike}
 use Rattle.backup_engine.proofs.NoGcSteps.{none_flushed, puts_no_gc}
 use Rattle.backup_engine.proofs.PutEnds.{maps_after}
+use Rattle.backup_engine.proofs.Replied.{IsDone}
 use Rattle.backup_engine.proofs.RightPuts.{file_run}
 use Rattle.backup_engine.proofs.PutStops.{RunsOn, refused_on, done_on}
 use Rattle.backup_engine.proofs.SameRoom.{same_room}

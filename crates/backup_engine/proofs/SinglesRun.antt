@@ -84,17 +84,17 @@ of_memory refusal memory other is = sym (same_refusal refusal other is) ∙ memo
 
 pub ingest_memory : (name given : List ℕ) (ending : Option Ending) (source source_now : SourceView) (rs : List Replied) → IsIngest name given ending source source_now rs
     → rs ≡ [] → OnlyMemory ending
-ingest_memory name given None source source_now rs are none refusal is = cc
-ingest_memory name given (Some Sink) source source_now rs are none refusal is = cc
-ingest_memory name given (Some Source) source source_now rs are none refusal is = cc
+ingest_memory name given None source source_now rs are none = λ refusal is. absurd (let no : None ≡ Some (Refused refusal) = is in cc)
+ingest_memory name given (Some Sink) source source_now rs are none = λ refusal is. absurd (let no : (Some Sink) ≡ Some (Refused refusal) = is in cc)
+ingest_memory name given (Some Source) source source_now rs are none = λ refusal is. absurd (let no : (Some Source) ≡ Some (Refused refusal) = is in cc)
 ingest_memory name given (Some (Refused refusal)) source source_now rs (inl (memory, empty)) none = of_memory refusal memory
 ingest_memory name given (Some (Refused refusal)) source source_now rs (inr (more, (are, stops))) none = absurd (let no : begun ∷ more ≡ [] = sym are ∙ none in cc)
 ingest_memory name given (Some ending) source source_now rs are none = absurd are
 
 pub restore_memory : (name : List ℕ) (ending : Option Ending) (sink sink_now : SinkView) (rs : List Replied) → IsRestore name ending sink sink_now rs → rs ≡ []
     → OnlyMemory ending
-restore_memory name None sink sink_now rs are none refusal is = cc
-restore_memory name (Some Sink) sink sink_now rs are none refusal is = cc
+restore_memory name None sink sink_now rs are none = λ refusal is. absurd (let no : None ≡ Some (Refused refusal) = is in cc)
+restore_memory name (Some Sink) sink sink_now rs are none = λ refusal is. absurd (let no : (Some Sink) ≡ Some (Refused refusal) = is in cc)
 restore_memory name (Some (Refused refusal)) sink sink_now rs (inl (memory, empty, wrote)) none = of_memory refusal memory
 restore_memory name (Some (Refused refusal)) sink sink_now rs (inr (inl (is, wrote))) none =
     absurd (let no : refused (lines.Read 0 name) refusal ∷ [] ≡ [] = sym is ∙ none in cc)
@@ -103,23 +103,23 @@ restore_memory name (Some (Refused refusal)) sink sink_now rs (inr (inr (segment
 restore_memory name (Some ending) sink sink_now rs are none = absurd are
 
 pub delete_memory : (name : List ℕ) (ending : Option Ending) (sink sink_now : SinkView) (rs : List Replied) → IsDelete name ending sink sink_now rs → rs ≡ [] → OnlyMemory ending
-delete_memory name None sink sink_now rs are none refusal is = cc
-delete_memory name (Some Sink) sink sink_now rs are none refusal is = cc
+delete_memory name None sink sink_now rs are none = λ refusal is. absurd (let no : None ≡ Some (Refused refusal) = is in cc)
+delete_memory name (Some Sink) sink sink_now rs are none = λ refusal is. absurd (let no : (Some Sink) ≡ Some (Refused refusal) = is in cc)
 delete_memory name (Some (Refused refusal)) sink sink_now rs (inl (memory, empty), wrote) none = of_memory refusal memory
 delete_memory name (Some (Refused refusal)) sink sink_now rs (inr is, wrote) none = absurd (let no : refused (lines.Delete name) refusal ∷ [] ≡ [] = sym is ∙ none in cc)
 delete_memory name (Some ending) sink sink_now rs are none = absurd are
 
 pub list_memory : (ending : Option Ending) (sink sink_now : SinkView) (rs : List Replied) → IsListing ending sink sink_now rs → rs ≡ [] → OnlyMemory ending
-list_memory None sink sink_now rs are none refusal is = cc
-list_memory (Some Sink) sink sink_now rs are none refusal is = cc
+list_memory None sink sink_now rs are none = λ refusal is. absurd (let no : None ≡ Some (Refused refusal) = is in cc)
+list_memory (Some Sink) sink sink_now rs are none = λ refusal is. absurd (let no : (Some Sink) ≡ Some (Refused refusal) = is in cc)
 list_memory (Some (Refused refusal)) sink sink_now rs (inl (memory, which), wrote) none = of_memory refusal memory
 list_memory (Some (Refused refusal)) sink sink_now rs (inr is, wrote) none = absurd (let no : refused lines.ListNames refusal ∷ [] ≡ [] = sym is ∙ none in cc)
 list_memory (Some ending) sink sink_now rs are none = absurd are
 
 pub collect_memory : (percent : ℕ) (ending : Option Ending) (sink sink_now : SinkView) (rs : List Replied) → IsCollect percent ending sink sink_now rs → rs ≡ []
     → OnlyMemory ending
-collect_memory percent None sink sink_now rs are none refusal is = cc
-collect_memory percent (Some Sink) sink sink_now rs are none refusal is = cc
+collect_memory percent None sink sink_now rs are none = λ refusal is. absurd (let no : None ≡ Some (Refused refusal) = is in cc)
+collect_memory percent (Some Sink) sink sink_now rs are none = λ refusal is. absurd (let no : (Some Sink) ≡ Some (Refused refusal) = is in cc)
 collect_memory percent (Some (Refused refusal)) sink sink_now rs (inl (memory, which), wrote) none = of_memory refusal memory
 collect_memory percent (Some (Refused refusal)) sink sink_now rs (inr (inl is), wrote) none =
     absurd (let no : refused (lines.Gc percent) refusal ∷ [] ≡ [] = sym is ∙ none in cc)

@@ -1,22 +1,21 @@
 -- A command that ran no line answers by the map; and so does any whose lines do.
-use Rattle.std.proofs.Common.{◌≡◌, ◌⊎◌, inl, inr, ℕ, IsTrue, List, [], ◌∷◌, Option, Some, None, refl, sym, ◌∙◌, ap, subst, arith}
+use Rattle.std.proofs.Common.{◌≡◌, ◌⊎◌, inl, inr, ℕ, IsTrue, List, [], Option, Some, None, refl, sym, ◌∙◌, ap, subst, arith}
 use Rattle.std.proofs.lemmas.List.{append-nil}
 use Rattle.std.specs.FinMap as finite
-use Rattle.base_model.specs.Known.{Appended}
 use Rattle.dd_disk.specs.View.{DiskView}
 use Rattle.dd_io.specs.Flow.{SinkView, SourceView}
 use Rattle.refusals.specs.declared.refusal.Refusal.{Refusal}
 use Rattle.refusals.specs.declared.refusal.Refusal.TheVariants.{DiskWrite}
 use Rattle.reply_text.specs.declared.ending.Ending.{Ending}
-use Rattle.reply_text.specs.declared.ending.Ending.TheVariants.{Sink, Refused}
+use Rattle.reply_text.specs.declared.ending.Ending.TheVariants.{Refused}
 use Rattle.store_model.specs.Collisions.{ByteSet, HasNoCollisions, IsIn, OpensAs}
 use Rattle.store_model.specs.Files.{Stored}
 use Rattle.store_model.specs.Image.{Store}
 use Rattle.store_model.specs.Standing.{IsSegmentOf}
 use Rattle.store_state.specs.Refused.{fails}
 use Rattle.store_machine.specs.ByMap.{FileMachine, ListsThrough}
-use Rattle.store_machine.specs.Commands.{List as ListNames, Replied, desk}
-use Rattle.store_machine.specs.Machine.{Found, RunState, Running}
+use Rattle.store_machine.specs.Commands.{List as ListNames, Replied}
+use Rattle.store_machine.specs.Machine.{Found, RunState}
 use Rattle.store_machine.specs.Opening.{GivesBackSome, MayBeFound}
 use Rattle.store_machine.specs.Values.{of_files}
 use Rattle.script_runner.specs.LinesAreFileRuns.{FileDesk}

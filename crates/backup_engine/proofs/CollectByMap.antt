@@ -1,14 +1,13 @@
 -- A `collect` answers by the map, by the law of its lines.
 use Rattle.std.proofs.Common.{◌≡◌, ◌⊎◌, inl, inr, ℕ, List, [], ◌∷◌, Option, Some, None, refl, sym, ◌∙◌, subst}
 use Rattle.dd_disk.specs.View.{DiskView}
-use Rattle.dd_io.specs.Flow.{SinkView, SourceView}
-use Rattle.refusals.specs.declared.refusal.Refusal.{Refusal}
+use Rattle.dd_io.specs.Flow.{SinkView}
 use Rattle.reply_text.specs.declared.ending.Ending.{Ending}
 use Rattle.reply_text.specs.declared.ending.Ending.TheVariants.{Sink, Refused}
 use Rattle.script_lines.specs.Grammar as lines
 use Rattle.script_lines.specs.ReplyValue.{ReplyValue}
 use Rattle.script_lines.specs.ReplyValue as replies
-use Rattle.store_model.specs.Collisions.{ByteSet, IsIn, OpensAs}
+use Rattle.store_model.specs.Collisions.{IsIn}
 use Rattle.store_model.specs.Files.{Stored}
 use Rattle.store_model.specs.Image.{Store}
 use Rattle.store_machine.specs.ByMap.{ListsThrough}
@@ -20,7 +19,7 @@ use Rattle.backup_engine.specs.AnswersByMap.{AnswersByMap, AnswersEachCall, Answ
 use Rattle.backup_engine.specs.ByFiles.{RunsByFiles}
 use Rattle.backup_engine.specs.Line.{Collect}
 use Rattle.backup_engine.specs.Promise.{EndsFailing, EndsFrom, EndsSo}
-use Rattle.backup_engine.specs.Singles.{IsCollect, collecting, refused, said}
+use Rattle.backup_engine.specs.Singles.{IsCollect, collecting, said}
 use Rattle.backup_engine.proofs.AnswersByMap.{Silent, answers_each, told}
 use Rattle.backup_engine.proofs.NoneCut.{ArePlain, none_cuts}
 use Rattle.backup_engine.proofs.Rested.{CanBeIf, WasStore, all_lines, all_steps, answers_by, as_found, last, opened_room, ran, rested, stays_left, was_store}

@@ -1,5 +1,5 @@
 -- What a `collect` keeps of the map: all of it; and which containers it gives back.
-use Rattle.std.proofs.Common.{◌≡◌, ◌⊎◌, inl, ◌+◌, ◌<◌, ◌≤◌, ℕ, List, [], ◌∷◌, ◌++◌, length, Option, None, Some, Result, Ok, Err, refl, sym, ◌∙◌, subst, arith}
+use Rattle.std.proofs.Common.{◌≡◌, ◌⊎◌, ◌+◌, ◌<◌, ◌≤◌, ℕ, List, [], ◌∷◌, ◌++◌, length, Option, None, Some, Result, Ok, Err, refl, sym, ◌∙◌, subst, arith}
 use Rattle.std.specs.Prelude.{IfErr, slice_get}
 use Rattle.base_model.specs.Bytes.{range}
 use Rattle.base_model.specs.Known.{KnownWith}
@@ -8,9 +8,8 @@ use Rattle.actor_parts.specs.declared.step.Answer.TheVariants as answers
 use Rattle.actor_parts.specs.StepValue as asked
 use Rattle.container_meta.specs.Spelling.{HeaderValue}
 use Rattle.dd_disk.specs.Ending.{Done, Reads, ending, ending_of}
-use Rattle.dd_disk.specs.View.{CrashLeaves, DiskView}
+use Rattle.dd_disk.specs.View.{DiskView}
 use Rattle.dd_disk.specs.Writes.{Both}
-use Rattle.dd_disk.proofs.Later.{leaves_weaker}
 use Rattle.dd_disk.proofs.Shows.{shown_content}
 use Rattle.dd_io.specs.Flow.{SinkView}
 use Rattle.disk_format.specs.Layout.{size_of, slot_at}
@@ -32,7 +31,7 @@ use Rattle.reply_text.specs.declared.ending.Ending.TheVariants.{Sink, Refused}
 use Rattle.script_runner.specs.Acts.{Collects, Starts, Sweeps}
 use Rattle.script_runner.proofs.CollectCauses.{IsCauseAt, IsCollectCause, cause_at, collect_cause}
 use Rattle.segment_index.specs.Changes.{SameBefore}
-use Rattle.store_model.specs.Collisions.{ByteSet, HasNoCollisions, IsIn, IsOf, OpensAs}
+use Rattle.store_model.specs.Collisions.{ByteSet, HasNoCollisions, IsIn, IsOf}
 use Rattle.store_model.specs.Files.{Stored}
 use Rattle.store_model.specs.Image.{Encodes, Store}
 use Rattle.store_model.specs.Reserve.{HoldsJustNeeded, IsReachable, IsSpare}
@@ -46,12 +45,11 @@ use Rattle.store_state.specs.declared.tables.Tables.{Tables}
 use Rattle.store_core.specs.Collecting.{GcRow, HasEnded, IsNotMade, StartRow, TouchesBy, at_moment}
 use Rattle.store_core.specs.Core.{CoreStep, Steps, StopsAfter}
 use Rattle.store_core.specs.Releases.{SweepsSpare, copied_in, freed_in}
-use Rattle.store_core.specs.Runs.{AreChangesBy, ChangesTo, FileEvent, FileRun, FileStep, IsAt, IsOnTheWay}
+use Rattle.store_core.specs.Runs.{AreChangesBy, ChangesTo, FileEvent, FileRun, FileStep, IsAt}
 use Rattle.store_core.specs.Sound.{IsHarmless}
 use Rattle.store_core.specs.State.{CoreState, Event}
 use Rattle.store_core.proofs.AnySteps.{any_step}
 use Rattle.store_core.proofs.CoreRuns.{running_step}
-use Rattle.store_core.proofs.Crashes.{leaves_on_the_way}
 use Rattle.store_core.proofs.Damage.{never_damaged}
 use Rattle.store_core.proofs.Unbegun.{unbegun_memory}
 use Rattle.store_core.proofs.GcSteps.{end_reads}
@@ -68,7 +66,7 @@ use Rattle.backup_engine.specs.Line.{Collect}
 use Rattle.backup_engine.specs.Promise.{EndsBy, EndsFrom, GivesSlotsBack, IsLeftWith, KeepsEachMap, KeepsMap, RefusedBy, WroteReply}
 use Rattle.backup_engine.proofs.Called.{Called, Starts as StartsAt, starts}
 use Rattle.backup_engine.proofs.CollectKept.{begun_is, ends, index, since_old, sized, so_begun, start_event, store}
-use Rattle.backup_engine.proofs.CollectMaps.{AreQuiet, DidSteps, MapSoFar, all_maps, did_steps, gc_file, none_held, quiet_then, run_then, start_file, still_on_the_way}
+use Rattle.backup_engine.proofs.CollectMaps.{AreQuiet, DidSteps, MapSoFar, all_maps, did_steps, gc_file, none_held, quiet_then, run_then, start_file}
 use Rattle.backup_engine.proofs.CollectStays.{stays}
 use Rattle.backup_engine.proofs.CollectSteps.{CollectedSoFar, ended, few_so, gc_event, same_collection, under_way}
 use Rattle.backup_engine.proofs.Replied.{IsDone}

@@ -1,32 +1,25 @@
 -- What `format` keeps: all of a disk that has a store. Of one that has none it says itself what it leaves.
-use Rattle.std.proofs.Common.{◌≡◌, ◌⊎◌, inl, inr, ℕ, ◌==◌, Bool, true, false, List, [], Option, Some, None, refl, sym, ◌∙◌, ap, arith}
+use Rattle.std.proofs.Common.{◌≡◌, ◌⊎◌, inl, inr, ℕ, ◌==◌, Bool, true, false, List, [], Option, Some, None, refl, sym, ◌∙◌, arith}
 use Rattle.std.proofs.lemmas.Bool.{eqb-true, eqb-false}
 use Rattle.base_model.specs.Bytes.{byte_at}
 use Rattle.base_model.specs.Known.{Known, KnownWith}
-use Rattle.base_model.proofs.Ranges.{byte-range}
 use Rattle.disk_format.specs.declared.numbers.TheConstants.{FORMAT_GATE}
-use Rattle.disk_format.specs.Cells.{format_cell, sealed}
-use Rattle.disk_format.specs.Layout.{size_of}
 use Rattle.dd_disk.specs.View.{DiskView, OnlyReads, CrashLeaves, IsDurable}
 use Rattle.dd_disk.specs.Ending.{Done, CountsFault, ending_of}
 use Rattle.dd_disk.specs.Shows.{Shows}
 use Rattle.dd_disk.specs.Moves.{Acts}
-use Rattle.dd_disk.proofs.Shows.{shown_content}
 use Rattle.dd_io.specs.Flow.{SourceView, SinkView}
 use Rattle.refusals.specs.declared.refusal.Refusal.{Refusal}
-use Rattle.refusals.specs.declared.refusal.Refusal.TheVariants.{Memory, DiskRead, DiskWrite, Clash, AlreadyStore, WrongSize}
+use Rattle.refusals.specs.declared.refusal.Refusal.TheVariants.{Memory, DiskRead, DiskWrite}
 use Rattle.reply_text.specs.declared.ending.Ending.{Ending}
 use Rattle.reply_text.specs.declared.ending.Ending.TheVariants.{Sink, Refused}
 use Rattle.reply_text.specs.Text.{formatted_line}
-use Rattle.store_model.specs.Files.{Stored}
-use Rattle.store_model.specs.Image.{Store, Encodes}
 use Rattle.store_state.specs.Refused.{blames}
 use Rattle.recovery.specs.Formatting.{IsFormatRefusal, IsLeftByFormat, IsBlankOrFormatted}
 use Rattle.backup_engine.specs.AnyDisk.{Formats, IsCaused, EndsDurable, disk_ending}
 use Rattle.backup_engine.specs.Frame.{KeepsRest, KeepsOthers}
 use Rattle.backup_engine.specs.Line.{Format}
-use Rattle.backup_engine.specs.PlainMap.{Refuses, room_of}
-use Rattle.backup_engine.specs.Promise.{EndsBy, IsLeftWith, LeavesMeanwhile, WroteReply, SinceStart}
+use Rattle.backup_engine.specs.Promise.{LeavesMeanwhile, WroteReply, SinceStart}
 use Rattle.backup_engine.specs.TopCall.{Keeps, IsLeftBlank, IsUntouched}
 use Rattle.backup_engine.proofs.Replied.{IsReplied, replied_faults}
 use Rattle.backup_engine.proofs.Reading.{reads_leave}

@@ -1,32 +1,17 @@
 -- All that the promise says of a `restore` whose store was opened.
-use Rattle.std.proofs.Common.{◌≡◌, inl, inr, ℕ, true, List, [], ◌∷◌, is_some, Option, Some, Result, Ok, Err, refl, sym, ◌∙◌, ap, subst}
-use Rattle.std.specs.FinMap as finite
-use Rattle.std.specs.List.{AllByRecursion}
-use Rattle.dd_disk.specs.View.{DiskView, IsDurable}
-use Rattle.dd_disk.proofs.Later.{durable_reads}
+use Rattle.std.proofs.Common.{inl, inr, ℕ, List, [], Result}
+use Rattle.dd_disk.specs.View.{DiskView}
 use Rattle.dd_io.specs.Flow.{SourceView, SinkView}
-use Rattle.actor_parts.specs.StepValue.{StepValue, IsStep}
-use Rattle.refusals.specs.declared.refusal.Refusal.{Refusal}
-use Rattle.refusals.specs.declared.refusal.Refusal.TheVariants.{DiskRead}
 use Rattle.reply_text.specs.declared.ending.Ending.{Ending}
-use Rattle.reply_text.specs.declared.ending.Ending.TheVariants as endings
-use Rattle.segmenter.specs.Segments.{segments_of}
-use Rattle.segmenter.proofs.SegmentLemmas.{segments_of-laws}
-use Rattle.store_model.specs.Files.{Stored}
-use Rattle.store_model.specs.Collisions.{IsIn, IsOf}
-use Rattle.store_core.specs.Runs.{CoreRun, FileEvent, FileStep, FileRun, IsGivenRight, ReadsAlone, GivesInOrder, events_of, given_to, opens}
-use Rattle.store_core.specs.State.{CoreState, Event}
-use Rattle.store_core.proofs.Damage.{finds_files}
-use Rattle.store_core.proofs.GivingFiles.{gives_the_file}
+use Rattle.store_core.specs.State.{CoreState}
 use Rattle.backup_engine.specs.Line.{Restore}
-use Rattle.backup_engine.specs.Running.{IsRead, EndsGiving, IsGivenOut, GiveRun}
+use Rattle.backup_engine.specs.Running.{IsGivenOut, GiveRun}
 use Rattle.backup_engine.specs.TopCall.{Keeps, ending_in}
-use Rattle.backup_engine.proofs.Called.{Called, starts}
-use Rattle.backup_engine.proofs.GivenOut.{alone, given_on_any, of_call, of_core, some_actors, way}
+use Rattle.backup_engine.proofs.Called.{Called}
+use Rattle.backup_engine.proofs.GivenOut.{given_on_any, of_call}
 
 use Rattle.backup_engine.proofs.NotOpened.{not_opened}
 use Rattle.backup_engine.proofs.Reading.{reads_frame}
-use Rattle.backup_engine.proofs.ReadSteps.{last_leaves}
 
 module _ (C : Type 0) (state : C → CoreState) (v w : DiskView) (old new : C) (was : Called C state v w old new) (name : List ℕ) (source : SourceView) (sink sink_now : SinkView)
     (result : Result Unit Ending) (out : IsGivenOut C state name result old new sink sink_now) where

@@ -20,7 +20,7 @@ use Rattle.store_machine.specs.ByMap.{FileMachine, ListsThrough}
 use Rattle.store_machine.specs.Ingests.{Ingested, IngestsByMap, IngestsThrough, IsPut}
 use Rattle.store_machine.specs.Commands as machine
 use Rattle.store_machine.specs.Commands.{Replied, given_by}
-use Rattle.store_machine.specs.Machine.{Found, RunState, Running}
+use Rattle.store_machine.specs.Machine.{Found, RunState}
 use Rattle.store_machine.specs.Opening.{MayBeFound}
 use Rattle.store_machine.specs.Values.{of_files}
 use Rattle.core_machine.specs.Files.{stored_in}
@@ -30,11 +30,11 @@ use Rattle.backup_engine.specs.ByFiles.{CutsAmong, RunsByFiles}
 use Rattle.backup_engine.specs.Line.{Ingest}
 use Rattle.backup_engine.specs.PlainMap.{CanBeDone}
 use Rattle.backup_engine.specs.Promise.{EndsFailing, EndsFrom, EndsSo, WroteReply}
-use Rattle.backup_engine.specs.Singles.{Digits, IsIngest, StopsAt, begun, finish_lines, pushed, push_lines, refused, said}
+use Rattle.backup_engine.specs.Singles.{Digits, IsIngest, begun, finish_lines, pushed, push_lines, refused, said}
 use Rattle.backup_engine.specs.TopCall.{DoesCommand}
 use Rattle.backup_engine.proofs.AnswersByMap.{Silent, answers_each, told}
 use Rattle.backup_engine.proofs.IngestCuts.{put_cut}
-use Rattle.backup_engine.proofs.IngestTails.{ArePut, Commit, Finish, IsCommit, IsTail, Nothing, Push, Tail, commit_last, finished, push_tail, put_follows, put_lines, pushes_give, pushes_last}
+use Rattle.backup_engine.proofs.IngestTails.{ArePut, Commit, Finish, IsCommit, IsTail, Nothing, Push, Tail, commit_last, push_tail, put_follows, put_lines, pushes_give, pushes_last}
 use Rattle.backup_engine.proofs.Rested.{CanBeIf, WasStore, all_lines, all_steps, answers_by, as_found, last, opened_room, ran, rested, was_store}
 
 module _ (given name : List ℕ) where

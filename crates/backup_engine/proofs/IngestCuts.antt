@@ -1,21 +1,19 @@
 -- What is cut by the lines of an `ingest` are segments of its file.
-use Rattle.std.proofs.Common.{◌≡◌, ◌⊎◌, ◌+◌, inl, inr, ℕ, zero, suc, Bool, true, false, List, [], ◌∷◌, ◌++◌, length, replicate, Option, Some, None, append_assoc, refl, sym, ◌∙◌, ap, subst}
+use Rattle.std.proofs.Common.{◌≡◌, ◌+◌, inl, inr, ℕ, zero, suc, true, false, List, [], ◌∷◌, ◌++◌, length, replicate, Option, Some, None, append_assoc, refl, sym, ◌∙◌, ap, subst}
 use Rattle.std.proofs.lemmas.List.{append-nil}
 use Rattle.std.specs.Prelude.{slice_index_or, slice_set}
-use Rattle.actor_parts.specs.declared.step.Answer.{Answer}
-use Rattle.refusals.specs.declared.refusal.Refusal.{Refusal}
 use Rattle.script_lines.specs.Grammar.{pushed_bytes}
 use Rattle.script_lines.specs.Grammar as lines
 use Rattle.script_lines.specs.ReplyValue as replies
 use Rattle.store_model.specs.Standing.{IsSegmentOf}
 use Rattle.store_machine.specs.ByMap.{FileMachine}
-use Rattle.store_machine.specs.Commands.{Replied, desk}
+use Rattle.store_machine.specs.Commands.{desk}
 use Rattle.store_machine.specs.Lines.{AreTurns, Line, Session, new_session}
 use Rattle.store_machine.specs.Machine.{Stepped}
 use Rattle.store_machine.specs.Values.{of_files}
 use Rattle.script_runner.specs.LinesAreFileRuns.{FileDesk, IsCutAt, IsCutBy}
-use Rattle.backup_engine.specs.Singles.{Digits, begun, push_lines, pushed, said}
-use Rattle.backup_engine.proofs.IngestTails.{Commit, Finish, IsTail, Nothing, Push, Tail, finished, put_lines, tail_lines}
+use Rattle.backup_engine.specs.Singles.{Digits, push_lines, pushed}
+use Rattle.backup_engine.proofs.IngestTails.{Commit, Finish, IsTail, Nothing, Push, Tail, put_lines, tail_lines}
 use Rattle.backup_engine.proofs.NoneCut.{none_cut, none_gives}
 
 -- only the first actor gives a file, and this is what it gave

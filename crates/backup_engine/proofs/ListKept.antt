@@ -1,5 +1,5 @@
 -- What a `list` keeps: names are listed, and no more than read.
-use Rattle.std.proofs.Common.{◌≡◌, inl, inr, ℕ, List, [], ◌∷◌, Option, None, Some, Result, Ok, Err, refl, sym, ◌∙◌, ap, subst}
+use Rattle.std.proofs.Common.{◌≡◌, inl, inr, ℕ, List, [], Option, None, Some, Result, Ok, Err, refl, sym, ◌∙◌, ap, subst}
 use Rattle.dd_disk.specs.Ending.{CountsFault, Reads, Refused as NoFault}
 use Rattle.dd_disk.specs.Ending as device
 use Rattle.dd_disk.specs.View.{DiskView}
@@ -13,36 +13,14 @@ use Rattle.refusals.specs.declared.refusal.Refusal.TheVariants.{Memory}
 use Rattle.reply_text.specs.declared.ending.Ending.{Ending}
 use Rattle.reply_text.specs.declared.ending.Ending.TheVariants.{Sink, Refused}
 use Rattle.reply_text.specs.Text.{listing_text}
-use Rattle.script_lines.specs.Grammar as lines
-use Rattle.script_lines.specs.ReplyValue as replies
 use Rattle.script_runner.specs.Acts.{Lists}
-use Rattle.refusals.specs.declared.refusal.Refusal.TheVariants.{Stopped as IsStopped, WrongPart}
-use Rattle.script_lines.specs.ReplyValue.{ReplyValue}
-use Rattle.store_machine.specs.Asked.{Asked}
-use Rattle.store_machine.specs.Asked as machine_asked
-use Rattle.store_machine.specs.ByMap.{FileMachine}
-use Rattle.store_machine.specs.Commands.{desk}
-use Rattle.store_machine.specs.Done.{Done}
-use Rattle.store_machine.specs.Done as done
-use Rattle.store_machine.specs.Legal.{listing}
-use Rattle.store_machine.specs.Legal as machine
-use Rattle.store_machine.specs.Lines.{Bars, Line, reply_of, step_of as stepped}
-use Rattle.store_machine.specs.Machine.{Found, Running, Stepped}
-use Rattle.store_machine.specs.Values.{of_files}
-use Rattle.core_machine.specs.Files.{IsOfFound}
-use Rattle.script_runner.specs.LinesAreFileRuns.{FileDesk}
 use Rattle.store_core.specs.Core.{CoreStep, ListRow, Steps}
 use Rattle.store_core.specs.State.{CoreState, Event}
-use Rattle.store_model.specs.Collisions.{IsIn, OpensAs}
-use Rattle.store_model.specs.Files.{Stored}
-use Rattle.store_model.specs.Image.{Store, Encodes, names_of}
-use Rattle.store_model.specs.Standing.{file_listing}
+use Rattle.store_model.specs.Image.{names_of}
 use Rattle.backup_engine.specs.AnyDisk.{IsCaused, ListsNames, WroteOnAny, disk_ending}
 use Rattle.backup_engine.specs.Line as table
-use Rattle.backup_engine.specs.ByFiles.{RunsEachByFiles}
 use Rattle.backup_engine.specs.Naming.{WritesNames}
-use Rattle.backup_engine.specs.Promise.{KeepsEachMap, KeepsMap, WroteReply}
-use Rattle.backup_engine.specs.Singles.{said}
+use Rattle.backup_engine.specs.Promise.{WroteReply}
 use Rattle.backup_engine.specs.TopCall.{Keeps, ending_in}
 use Rattle.backup_engine.proofs.Called.{Called}
 use Rattle.backup_engine.proofs.NotDone.{holds, without_memory}

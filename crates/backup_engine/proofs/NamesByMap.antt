@@ -1,9 +1,9 @@
 -- A `list` and a `delete` answer by the map, by the laws of their lines.
-use Rattle.std.proofs.Common.{◌≡◌, ◌⊎◌, ◌≤◌, ◌-◌, ◌^◌, inl, inr, ℕ, is_some, length, true, false, List, [], ◌∷◌, ◌++◌, Option, Some, None, refl, sym, ◌∙◌, ap, subst}
+use Rattle.std.proofs.Common.{◌≡◌, ◌⊎◌, ◌≤◌, ◌-◌, ◌^◌, inl, inr, ℕ, is_some, length, true, false, List, [], ◌∷◌, Option, Some, None, refl, sym, ◌∙◌, ap, subst}
 use Rattle.std.proofs.lemmas.List.{append-nil}
 use Rattle.std.specs.FinMap as finite
 use Rattle.dd_disk.specs.View.{DiskView}
-use Rattle.dd_io.specs.Flow.{SinkView, SourceView}
+use Rattle.dd_io.specs.Flow.{SinkView}
 use Rattle.disk_format.specs.Cells.{IsName}
 use Rattle.disk_format.specs.Cells.Change.{Delete as Gone}
 use Rattle.disk_format.specs.Layout.{half_cells}
@@ -17,15 +17,15 @@ use Rattle.script_lines.specs.Grammar.{LineValue}
 use Rattle.script_lines.specs.Grammar as lines
 use Rattle.script_lines.specs.ReplyValue.{ReplyValue}
 use Rattle.script_lines.specs.ReplyValue as replies
-use Rattle.store_model.specs.Collisions.{ByteSet, IsIn, OpensAs}
+use Rattle.store_model.specs.Collisions.{IsIn, OpensAs}
 use Rattle.store_model.specs.Files.{Stored, without_stored}
 use Rattle.store_model.specs.Image.{Store}
 use Rattle.store_model.specs.Standing.{file_listing}
 use Rattle.store_model.specs.Steps.{with_change}
-use Rattle.store_machine.specs.ByMap.{DeletedName, DeleteRefusal, DeletesByMap, DeletesIn, DeletesThrough, FileMachine, IsGone, ListedNames, ListRefusal, ListsByMap, ListsThrough, MakesRoom, RunsWith}
+use Rattle.store_machine.specs.ByMap.{DeletedName, DeleteRefusal, DeletesByMap, DeletesThrough, FileMachine, IsGone, ListedNames, ListRefusal, ListsByMap, ListsThrough, MakesRoom, RunsWith}
 use Rattle.store_machine.specs.Commands as machine
 use Rattle.store_machine.specs.Commands.{EndsRefused, EndsWith, IsDone, Replied}
-use Rattle.store_machine.specs.Machine.{Found, RunState, Running}
+use Rattle.store_machine.specs.Machine.{Found, RunState}
 use Rattle.store_machine.specs.Opening.{MayBeFound}
 use Rattle.store_machine.specs.Values.{of_files}
 use Rattle.core_machine.specs.Files.{stored_in}

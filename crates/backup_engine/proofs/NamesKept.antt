@@ -1,5 +1,5 @@
 -- What `delete` and `list` keep, by what they had a core do, and their lines.
-use Rattle.std.proofs.Common.{ℕ, List, [], Option, Some, Result, Ok, Err, refl, sym, subst}
+use Rattle.std.proofs.Common.{ℕ, List, [], Some, Result, Ok, Err, sym, subst}
 use Rattle.dd_disk.specs.View.{DiskView, IsLater}
 use Rattle.dd_io.specs.Flow.{SourceView, SinkView}
 use Rattle.actor_parts.specs.declared.step.Answer.{Answer}

@@ -15,24 +15,17 @@ use Rattle.refusals.specs.declared.refusal.Refusal.{Refusal}
 use Rattle.refusals.specs.declared.refusal.Refusal.TheVariants.{Memory, NoFile, BadName, WrongPart}
 use Rattle.reply_text.specs.declared.ending.Ending.{Ending}
 use Rattle.reply_text.specs.declared.ending.Ending.TheVariants as endings
-use Rattle.disk_format.specs.Cells.{IsName}
 use Rattle.namespace.specs.Names.{NameMap}
-use Rattle.store_model.specs.Files.{Stored}
 use Rattle.store_model.specs.Image.{names_of}
-use Rattle.store_model.specs.Collisions.{IsIn, IsOf}
 use Rattle.store_state.specs.Refused.{blames}
 use Rattle.read_steps.specs.Readers as readers
 use Rattle.store_core.specs.Core.{CoreStep, OpenRow}
-use Rattle.store_core.specs.Runs.{FileEvent}
-use Rattle.store_core.specs.Sound.{FindsFile}
 use Rattle.store_core.specs.State.{CoreState, Event}
-use Rattle.store_core.proofs.Damage.{finds_files}
 use Rattle.backup_engine.specs.Line.{Restore}
-use Rattle.backup_engine.specs.Promise.{EndsBy}
 use Rattle.backup_engine.specs.AnyDisk.{IsCaused}
 use Rattle.backup_engine.specs.Running.{IsNotOpened}
 use Rattle.backup_engine.specs.TopCall.{Keeps, ending_in}
-use Rattle.backup_engine.proofs.Called.{Called, starts}
+use Rattle.backup_engine.proofs.Called.{Called}
 use Rattle.backup_engine.proofs.GivenOut.{reads_closed}
 use Rattle.backup_engine.proofs.NotDone.{holds}
 use Rattle.backup_engine.proofs.Reading.{reads_frame}

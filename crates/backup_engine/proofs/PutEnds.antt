@@ -1,18 +1,12 @@
 -- Which maps the steps by which a file is stored lead to.
-use Rattle.std.proofs.Common.{◌≡◌, ◌⊎◌, inl, inr, ℕ, List, [], ◌∷◌, Option, Some, None, Result, Ok, Err, refl, ◌∙◌, ap, subst}
-use Rattle.store_model.specs.Collisions.{OpensAs}
+use Rattle.std.proofs.Common.{◌≡◌, inl, inr, ℕ, List, [], ◌∷◌, Result, Ok, Err, refl, ◌∙◌, ap}
 use Rattle.store_model.specs.Files.{Stored, with_stored}
 use Rattle.std.specs.List.{AllByRecursion}
 use Rattle.actor_parts.specs.declared.step.Answer.{Answer}
 use Rattle.actor_parts.specs.StepValue as asked
 use Rattle.actor_parts.specs.StepValue.{StepValue}
 use Rattle.refusals.specs.declared.refusal.Refusal.{Refusal}
-use Rattle.refusals.specs.declared.refusal.Refusal.TheVariants as refusals
-use Rattle.reply_text.specs.declared.ending.Ending.{Ending}
-use Rattle.reply_text.specs.declared.ending.Ending.TheVariants.{Refused}
-use Rattle.store_core.specs.Runs.{FileEvent, IsOnTheWay, stored_with, stored_by, stored_after, stored_tried, stored_tried_by}
-use Rattle.backup_engine.specs.Line.{Ingest}
-use Rattle.backup_engine.specs.PlainMap.{CanBeDone}
+use Rattle.store_core.specs.Runs.{FileEvent, stored_with, stored_by, stored_after}
 use Rattle.backup_engine.specs.Running.{IsAskedFor, IsPutStep, IsNoCommit, IsLastPut, EndsPut}
 
 -- ---- a step

@@ -1,5 +1,5 @@
 -- What a command leaves that did no more than read.
-use Rattle.std.proofs.Common.{◌⊎◌, ◌≡◌, inl, inr, ℕ, List, [], Option, Some, None, refl, sym, ◌∙◌, ap, subst, arith}
+use Rattle.std.proofs.Common.{◌⊎◌, ◌≡◌, inl, inr, ℕ, List, [], Option, Some, refl, ◌∙◌, arith}
 use Rattle.dd_disk.specs.View.{DiskView, OnlyReads}
 use Rattle.dd_io.specs.Flow.{SinkView}
 use Rattle.refusals.specs.declared.refusal.Refusal.TheVariants.{DiskWrite, Numbers}

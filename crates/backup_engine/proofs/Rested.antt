@@ -14,7 +14,7 @@ use Rattle.store_model.specs.Collisions.{OpensAs}
 use Rattle.store_model.specs.Files.{Stored}
 use Rattle.store_model.specs.Freeing.{FreesTo, with_all_freed}
 use Rattle.store_model.specs.Image.{Store, Encodes}
-use Rattle.store_model.specs.Reserve.{HasReserve, IsReachable, IsSpare}
+use Rattle.store_model.specs.Reserve.{IsReachable, IsSpare}
 use Rattle.store_model.specs.Slots.{free_slots}
 use Rattle.store_model.specs.Standing.{CanBeOpened, IsStoreOf}
 use Rattle.store_model.proofs.FreedFiles.{freed_end, freed_to, frees_some, reserve_after, reserve_by, reserve_free}

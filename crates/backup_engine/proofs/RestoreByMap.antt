@@ -1,11 +1,11 @@
 -- A `restore` answers by the map, by the law of its lines.
-use Rattle.std.proofs.Common.{◌≡◌, ◌⊎◌, inl, inr, ◌+◌, ℕ, is_some, false, List, [], ◌∷◌, ◌++◌, length, take, Option, Some, None, Result, Ok, Err, append_assoc, refl, sym, ◌∙◌, ap, subst, arith}
+use Rattle.std.proofs.Common.{◌≡◌, ◌⊎◌, inl, inr, ℕ, is_some, false, List, [], ◌∷◌, ◌++◌, length, take, Option, Some, None, Result, Ok, Err, append_assoc, refl, sym, ◌∙◌, ap, subst, arith}
 use Rattle.std.specs.List.{concat}
 use Rattle.std.proofs.lemmas.List.{append-nil, length-append}
 use Rattle.std.specs.FinMap as finite
 use Rattle.base_model.specs.Known.{Appended}
 use Rattle.dd_disk.specs.View.{DiskView}
-use Rattle.dd_io.specs.Flow.{AppendedPart, SinkView, SourceView}
+use Rattle.dd_io.specs.Flow.{AppendedPart, SinkView}
 use Rattle.disk_format.specs.Cells.{IsName}
 use Rattle.refusals.specs.declared.refusal.Refusal.{Refusal}
 use Rattle.refusals.specs.declared.refusal.Refusal.TheVariants.{Memory, NoFile, BadName, DiskRead, DiskWrite}
@@ -15,12 +15,12 @@ use Rattle.script_lines.specs.Grammar.{LineValue}
 use Rattle.script_lines.specs.Grammar as lines
 use Rattle.script_lines.specs.ReplyValue.{ReplyValue}
 use Rattle.script_lines.specs.ReplyValue as replies
-use Rattle.store_model.specs.Collisions.{ByteSet, IsIn, OpensAs}
+use Rattle.store_model.specs.Collisions.{IsIn}
 use Rattle.store_model.specs.Files.{Stored}
 use Rattle.store_model.specs.Image.{Store}
 use Rattle.store_machine.specs.Asked.{Asked}
 use Rattle.store_machine.specs.Asked as asked
-use Rattle.store_machine.specs.ByMap.{FileMachine, IsPartOfFile, ListsThrough, MakesRoom, RestoredFile, RestoreRefusal, RestoresByMap, RestoresThrough, RunsWith}
+use Rattle.store_machine.specs.ByMap.{FileMachine, IsPartOfFile, ListsThrough, RestoredFile, RestoreRefusal, RestoresByMap, RestoresThrough, RunsWith}
 use Rattle.store_machine.specs.Commands as machine
 use Rattle.store_machine.specs.Commands.{AllFollow, EndsWith, Follows, Replied, desk, ends}
 use Rattle.store_machine.specs.Done.{Done}
@@ -32,7 +32,6 @@ use Rattle.store_machine.specs.Opening.{MayBeFound}
 use Rattle.store_machine.specs.Runs.{Run}
 use Rattle.store_machine.specs.Values.{of_files}
 use Rattle.script_runner.specs.LinesAreFileRuns.{FileDesk}
-use Rattle.core_machine.specs.Files.{stored_in}
 use Rattle.core_machine.specs.Unopened.{unopened}
 use Rattle.backup_engine.specs.AnswersByMap.{AnswersByMap, AnswersEachCall, AnswersEachMap, Wrote, WroteFile}
 use Rattle.backup_engine.specs.ByFiles.{RunsByFiles}

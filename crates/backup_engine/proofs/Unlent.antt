@@ -1,5 +1,5 @@
 -- What is so of a disk that is lent is so of the lender's: the two are known by the same, but for who holds them.
-use Rattle.std.proofs.Common.{◌⊎◌, inl, inr, List, [], ◌∷◌, ℕ, Option, Some, None}
+use Rattle.std.proofs.Common.{inl, inr, List, [], ◌∷◌, ℕ, Option, Some, None}
 use Rattle.disk_format.specs.declared.why.Why.{Why}
 use Rattle.dd_disk.specs.View.{DiskView}
 use Rattle.dd_disk.specs.Shows.{Shows}
@@ -11,7 +11,6 @@ use Rattle.store_model.specs.Image.{Store}
 use Rattle.refusals.specs.declared.refusal.Refusal.TheVariants.{Memory, DiskRead, DiskWrite, Corrupt, Missing, Damaged, WrongSize, NotAStore, Version, Full}
 use Rattle.reply_text.specs.declared.ending.Ending.{Ending}
 use Rattle.reply_text.specs.declared.ending.Ending.TheVariants.{Source, Sink, Refused}
-use Rattle.store_model.specs.Files.{Stored}
 use Rattle.journal_cells.specs.declared.fault.CellFault.{CellFault}
 use Rattle.recovery.specs.Opening.{IsOpenRefusal, IsSized, BreaksFormat, BreaksJournal, BreaksSlots, HasWrongSize}
 use Rattle.recovery.specs.Slots.{IsDamagedSlot}
@@ -20,7 +19,6 @@ use Rattle.backup_engine.specs.AnyDisk.{FindsBeforeWriting, FindsNames, Holds, H
 use Rattle.backup_engine.specs.Frame.{KeepsOthers}
 use Rattle.backup_engine.specs.Line.{CommandLine, Ingest, Restore, Delete, Collect}
 use Rattle.backup_engine.specs.Line as table
-use Rattle.store_model.specs.Collisions.{ByteSet, IsIn}
 use Rattle.backup_engine.specs.TopCall.{Keeps}
 use Rattle.backup_engine.proofs.UnlikeNodes.{found, unlike_so}
 use Rattle.backup_engine.proofs.CollectFaults.{bad_header_so, uncopied_so, unmarked_so}

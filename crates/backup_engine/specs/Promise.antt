@@ -1,6 +1,5 @@
 -- What a command does over a disk that tells its content and stands for a map (docs/MODEL.md, 'The promise').
 use Rattle.std.specs.Prelude.{◌≡◌, ◌≢◌, ◌⊎◌, ℕ, ◌-◌, ◌^◌, ◌<◌, ◌≤◌, IsTrue, List, length, Option, None, Some}
-use Rattle.std.specs.FinMap as finite
 use Rattle.sha2.specs.Sha256.{sha256}
 use Rattle.base_model.specs.Known.{Known, KnownWith, Appended}
 use Rattle.dd_disk.specs.View.{DiskView}
@@ -12,22 +11,20 @@ use Rattle.refusals.specs.declared.refusal.Refusal.{Refusal}
 use Rattle.refusals.specs.declared.refusal.Refusal.TheVariants.{DiskWrite, Clash, Numbers}
 use Rattle.reply_text.specs.declared.ending.Ending.{Ending}
 use Rattle.reply_text.specs.declared.ending.Ending.TheVariants.{Words, Source, Sink, Line, Script, Refused}
-use Rattle.reply_text.specs.Text.{stored_line, deleted_line, listing_text}
 use Rattle.store_model.specs.Collisions.{HasNoCollisions, ByteSet, IsIn, IsOf, OpensAs}
 use Rattle.store_model.specs.Files.{Files, Stored}
 use Rattle.store_model.specs.Image.{Store, Encodes}
 use Rattle.store_model.specs.Pieces.{Node, IsPieceOf}
 use Rattle.disk_format.specs.declared.numbers.TheConstants.{RESERVE}
 use Rattle.store_model.specs.Slots.{Copy, free_slots, newest}
-use Rattle.store_model.specs.Standing.{IsStoreOf, IsSegmentOf, file_listing}
-use Rattle.store_model.specs.Trees.{bytes_at, node_key, root_of}
+use Rattle.store_model.specs.Standing.{IsStoreOf, IsSegmentOf}
+use Rattle.store_model.specs.Trees.{bytes_at, node_key}
 use Rattle.store_state.specs.Comparing.{FirstDifference}
 use Rattle.store_state.specs.Refused.{fails}
 use Rattle.backup_engine.specs.Adding.{Adds}
 use Rattle.backup_engine.specs.Collected.{Collected, CollectedAll, HasNoIdLeft, collected_line}
-use Rattle.backup_engine.specs.Line.{CommandLine, Format, Ingest, Restore, Delete, Collect}
-use Rattle.backup_engine.specs.Line as table
-use Rattle.backup_engine.specs.PlainMap.{map_after, CanBeDone, Refuses, room_of}
+use Rattle.backup_engine.specs.Line.{CommandLine, Ingest, Delete, Collect}
+use Rattle.backup_engine.specs.PlainMap.{CanBeDone, Refuses, room_of}
 
 -- ---- how a command ended: as done (None), or not
 

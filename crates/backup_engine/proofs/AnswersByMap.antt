@@ -31,19 +31,13 @@ use Rattle.backup_engine.specs.Singles.{SpeaksAs, Speaks}
 use Rattle.backup_engine.specs.TopCall.{DoesCommand}
 use Rattle.backup_engine.proofs.FailsAlone.{refusal_fails}
 use Rattle.backup_engine.proofs.NotDone.{not_sink}
+use Rattle.backup_engine.proofs.Ran.{Silent}
 use Rattle.backup_engine.proofs.Rested.{AtEnd, crash_by, left_by}
 
 -- ---- what was said
 
--- no line was run, and nothing was written
-pub record Silent (ending : Option Ending) (rs : List Replied) (sink sink_now : SinkView) : Type 0 where
-  pub none : rs ≡ []
-  pub refusal : Refusal
-  pub ending_is : ending ≡ Some (Refused refusal)
-  pub wrote : sink_now.written ≡ sink.written
-
 -- what a call said, whatever room was made before
-pub told : (D : Type 0) (view : D → DiskView) (command : CommandLine) (given : List ℕ) (rs : List Replied) (ending : Option Ending) (disk disk_now : DiskView)
+told : (D : Type 0) (view : D → DiskView) (command : CommandLine) (given : List ℕ) (rs : List Replied) (ending : Option Ending) (disk disk_now : DiskView)
     (source source_now : SourceView) (sink sink_now : SinkView) (AreSo : List Replied → Type 0)
     → ((v : DiskView) → SpeaksAs command given ending rs v disk_now source source_now sink sink_now → Speaks AreSo ending rs v disk_now sink sink_now)
     → DoesCommand D view command given rs ending disk disk_now source source_now sink sink_now → AreSo rs ⊎ Silent ending rs sink sink_now
@@ -186,10 +180,27 @@ module _ (command : CommandLine) (given : List ℕ) (ending : Option Ending) (rs
           (subst (λ (e : Option Ending). RefusedByFiles (IsIn among) e rs (unopened m opens.store) v w) so.ending_is refused))
 
   -- where lines were
-  pub answers_each : (rs ≡ []) ⊎ AnswersOpened command given ending rs v w sink sink_now → AnswersEachMap command given ending v w sink sink_now
+  answers_each : (rs ≡ []) ⊎ AnswersOpened command given ending rs v w sink sink_now → AnswersEachMap command given ending v w sink sink_now
   answers_each (inl none) = none_ran none
   answers_each (inr spoken) = λ old known among m distinct given_in opens.
       elim (each among (unopened m opens.store) distinct (cuts among given_in (unopened m opens.store)) (old, known, files_begin among m old opens)) [
         | inl runs ↦ spoken among m old distinct given_in known opens runs
         | inr refused ↦ none_ran refused.none old known among m distinct given_in opens
       ]
+
+-- ---- of each call
+
+-- by what the command said: what is so where no line was run, what it cuts, and what it answers where lines were
+module _ (D : Type 0) (view : D → DiskView) (command : CommandLine) (given : List ℕ) (rs : List Replied) (ending : Option Ending) (old new : D) (source source_now : SourceView)
+    (sink sink_now : SinkView) (AreSo : List Replied → Type 0)
+    (says : (v : DiskView) → SpeaksAs command given ending rs v (view new) source source_now sink sink_now → Speaks AreSo ending rs v (view new) sink sink_now)
+    (through : ListsThrough) (silent : AreSo rs → rs ≡ [] → Silent ending rs sink sink_now)
+    (cuts : AreSo rs → (among : ByteSet) → ((bytes : List ℕ) → IsSegmentOf given bytes → IsIn among bytes) → (m : FileMachine) → CutsAmong among rs m)
+    (spoken : AreSo rs → (rs ≡ []) ⊎ AnswersOpened command given ending rs (view old) (view new) sink sink_now) where
+  pub answers_call : DoesCommand D view command given rs ending (view old) (view new) source source_now sink sink_now
+      → AnswersEachMap command given ending (view old) (view new) sink sink_now
+  answers_call does = elim (told D view command given rs ending (view old) (view new) source source_now sink sink_now AreSo says does) [
+    | inl are ↦ answers_each command given ending rs (view old) (view new) sink sink_now through does.by_files does.fails_alone (silent are) (cuts are) (spoken are)
+    | inr none ↦ answers_each command given ending rs (view old) (view new) sink sink_now through does.by_files does.fails_alone (λ _. none)
+        (λ among given_in m. subst (λ (l : List Replied). CutsAmong among l m) (sym none.none) (λ files opened bytes opens cut. absurd cut)) (inl none.none)
+  ]

@@ -1,5 +1,5 @@
 -- A `collect` answers by the map, by the law of its lines.
-use Rattle.std.proofs.Common.{◌≡◌, ◌⊎◌, inl, inr, ℕ, List, [], ◌∷◌, Option, Some, None, refl, sym, ◌∙◌, subst}
+use Rattle.std.proofs.Common.{◌≡◌, ◌⊎◌, inl, inr, ℕ, List, [], ◌∷◌, Option, Some, None, refl, sym, subst}
 use Rattle.dd_disk.specs.View.{DiskView}
 use Rattle.dd_io.specs.Flow.{SinkView}
 use Rattle.reply_text.specs.declared.ending.Ending.{Ending}
@@ -15,13 +15,13 @@ use Rattle.store_machine.specs.CollectsAlone.{CollectedAlone, CollectsByMap, Col
 use Rattle.store_machine.specs.Commands as machine
 use Rattle.store_machine.specs.Commands.{AllFollow, Replied}
 use Rattle.core_machine.specs.Unopened.{unopened}
-use Rattle.backup_engine.specs.AnswersByMap.{AnswersByMap, AnswersEachCall, AnswersEachMap, Wrote}
+use Rattle.backup_engine.specs.AnswersByMap.{AnswersByMap, AnswersEachCall, Wrote}
 use Rattle.backup_engine.specs.ByFiles.{RunsByFiles}
 use Rattle.backup_engine.specs.Line.{Collect}
 use Rattle.backup_engine.specs.Promise.{EndsFailing, EndsFrom, EndsSo}
 use Rattle.backup_engine.specs.Singles.{IsCollect, collecting, said}
-use Rattle.backup_engine.proofs.AnswersByMap.{Silent, answers_each, told}
-use Rattle.backup_engine.proofs.NoneCut.{ArePlain, none_cuts}
+use Rattle.backup_engine.proofs.AnswersByMap.{AnswersOpened, answers_call}
+use Rattle.backup_engine.proofs.Ran.{collect_ran, ran_cuts, ran_silent}
 use Rattle.backup_engine.proofs.Rested.{CanBeIf, WasStore, all_lines, all_steps, answers_by, as_found, last, opened_room, ran, rested, stays_left, was_store}
 
 module _ (given : List ℕ) (percent : ℕ) where
@@ -36,10 +36,6 @@ module _ (given : List ℕ) (percent : ℕ) where
   collect_follows rs (inr (snapshot, (reply, is))) files =
       subst (AllFollow (machine.Collect percent) (said lines.Reopen (replies.Opened files))) (sym is) (refl, refl, (refl, refl, tt))
 
-  collect_plain : (rs : List Replied) → AreCollect rs → ArePlain rs
-  collect_plain rs (inl (reply, is)) = subst ArePlain (sym is) (tt, tt)
-  collect_plain rs (inr (snapshot, (reply, is))) = subst ArePlain (sym is) (tt, (tt, tt))
-
   -- which lines they are, unless none was run
   collect_are : (ending : Option Ending) (sink sink_now : SinkView) (rs : List Replied) → IsCollect percent ending sink sink_now rs → (rs ≡ []) ⊎ AreCollect rs
   collect_are None sink sink_now rs (freed, copied, ((snapshot, is), wrote)) = inr (inr (snapshot, (replies.Collected freed copied, is)))
@@ -50,14 +46,6 @@ module _ (given : List ℕ) (percent : ℕ) where
   collect_are (Some (Refused refusal)) sink sink_now rs (inr (inl is), wrote) = inr (inl (replies.Refused refusal, is))
   collect_are (Some (Refused refusal)) sink sink_now rs (inr (inr (snapshot, is)), wrote) = inr (inr (snapshot, (replies.Refused refusal, is)))
   collect_are (Some ending) sink sink_now rs is = absurd is
-
-  collect_silent : (ending : Option Ending) (sink sink_now : SinkView) (rs : List Replied) → IsCollect percent ending sink sink_now rs → rs ≡ [] → Silent ending rs sink sink_now
-  collect_silent None sink sink_now rs (freed, copied, ((snapshot, is), wrote)) none =
-      absurd (let no : collecting percent snapshot ∷ said lines.Sweep (replies.Collected freed copied) ∷ [] ≡ [] = sym is ∙ none in cc)
-  collect_silent (Some Sink) sink sink_now rs (freed, copied, ((snapshot, is), wrote)) none =
-      absurd (let no : collecting percent snapshot ∷ said lines.Sweep (replies.Collected freed copied) ∷ [] ≡ [] = sym is ∙ none in cc)
-  collect_silent (Some (Refused refusal)) sink sink_now rs (which, same) none = record { none = none; refusal = refusal; ending_is = refl; wrote = same }
-  collect_silent (Some ending) sink sink_now rs is none = absurd is
 
   collect_wrote : (m : Stored) (ending : Option Ending) (sink sink_now : SinkView) (rs : List Replied) → IsCollect percent ending sink sink_now rs
       → Wrote (Collect percent) given m ending sink sink_now
@@ -94,23 +82,16 @@ module _ (given : List ℕ) (percent : ℕ) where
         (refl, collect_follows rs are runs.files) (through percent) sink sink_now (collect_can m ending) by_map wrote (room.0, (room.1, tt))
 
 pub collect_by_map : (D : Type 0) (view : D → DiskView) → ListsThrough → CollectsByMap → CollectsThrough → (percent : ℕ) → AnswersEachCall D view (Collect percent)
-collect_by_map D view lists collects through percent given rs ending old_disk new_disk source source_now sink sink_now does =
-    by (told D view (Collect percent) given rs ending (view old_disk) (view new_disk) source source_now sink sink_now (IsCollect percent ending sink sink_now) (λ v speaks. speaks) does)
+collect_by_map D view lists collects through percent given rs ending old new source source_now sink sink_now does =
+    answers_call D view (Collect percent) given rs ending old new source source_now sink sink_now (IsCollect percent ending sink sink_now) (λ v speaks. speaks) lists
+    (λ are. ran_silent ending rs sink sink_now (collect_ran rs sink sink_now percent ending are))
+    (λ are among given_in m. ran_cuts ending rs sink sink_now (collect_ran rs sink sink_now percent ending are) among m) spoken does
   where
-    by : IsCollect percent ending sink sink_now rs ⊎ Silent ending rs sink sink_now → AnswersEachMap (Collect percent) given ending (view old_disk) (view new_disk) sink sink_now
-    by (inl is) = lined (collect_are given percent ending sink sink_now rs is)
-      where
-        lined : (rs ≡ []) ⊎ AreCollect given percent rs → AnswersEachMap (Collect percent) given ending (view old_disk) (view new_disk) sink sink_now
-        lined (inl none) =
-            answers_each (Collect percent) given ending rs (view old_disk) (view new_disk) sink sink_now lists does.by_files does.fails_alone (collect_silent given percent ending sink sink_now rs is)
-            (λ among given_in m. none_cuts among rs (subst ArePlain (sym none) tt) m) (inl none)
-        lined (inr are) =
-            answers_each (Collect percent) given ending rs (view old_disk) (view new_disk) sink sink_now lists does.by_files does.fails_alone (collect_silent given percent ending sink sink_now rs is)
-            (λ among given_in m. none_cuts among rs (collect_plain given percent rs are) m)
-            (inr (λ among m old distinct given_in known opens runs.
-            collect_answers given percent (IsIn among) m opens.store (view old_disk) (view new_disk) (was_store (IsIn among) m (view old_disk) old known opens) sink sink_now collects through rs are runs ending
-            (collect_ends given percent m ending (view old_disk) (view new_disk) sink sink_now rs is (does.ends old known among m distinct given_in opens))
-            (collect_wrote given percent m ending sink sink_now rs is)))
-    by (inr silent) =
-        answers_each (Collect percent) given ending rs (view old_disk) (view new_disk) sink sink_now lists does.by_files does.fails_alone (λ none. silent)
-        (λ among given_in m. none_cuts among rs (subst ArePlain (sym silent.none) tt) m) (inl silent.none)
+    spoken : IsCollect percent ending sink sink_now rs → (rs ≡ []) ⊎ AnswersOpened (Collect percent) given ending rs (view old) (view new) sink sink_now
+    spoken is = elim (collect_are given percent ending sink sink_now rs is) [
+      | inl none ↦ inl none
+      | inr are ↦ inr (λ among m first distinct given_in known opens runs.
+          collect_answers given percent (IsIn among) m opens.store (view old) (view new) (was_store (IsIn among) m (view old) first known opens) sink sink_now collects through rs
+          are runs ending (collect_ends given percent m ending (view old) (view new) sink sink_now rs is (does.ends first known among m distinct given_in opens))
+          (collect_wrote given percent m ending sink sink_now rs is))
+    ]

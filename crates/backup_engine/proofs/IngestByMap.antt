@@ -4,7 +4,7 @@ use Rattle.std.proofs.lemmas.List.{append-nil}
 use Rattle.dd_disk.specs.View.{DiskView}
 use Rattle.dd_io.specs.Flow.{SinkView, SourceView}
 use Rattle.refusals.specs.declared.refusal.Refusal.{Refusal}
-use Rattle.refusals.specs.declared.refusal.Refusal.TheVariants.{DiskWrite}
+use Rattle.refusals.specs.declared.refusal.Refusal.TheVariants.{DiskWrite, Memory}
 use Rattle.reply_text.specs.declared.ending.Ending.{Ending}
 use Rattle.reply_text.specs.declared.ending.Ending.TheVariants.{Sink, Source, Refused}
 use Rattle.reply_text.specs.Text.{stored_line}
@@ -25,14 +25,16 @@ use Rattle.store_machine.specs.Opening.{MayBeFound}
 use Rattle.store_machine.specs.Values.{of_files}
 use Rattle.core_machine.specs.Files.{stored_in}
 use Rattle.core_machine.specs.Unopened.{unopened}
-use Rattle.backup_engine.specs.AnswersByMap.{AnswersByMap, AnswersEachCall, AnswersEachMap, IsLeftAs, Wrote}
+use Rattle.backup_engine.specs.AnswersByMap.{AnswersByMap, AnswersEachCall, IsLeftAs, Wrote}
 use Rattle.backup_engine.specs.ByFiles.{CutsAmong, RunsByFiles}
 use Rattle.backup_engine.specs.Line.{Ingest}
 use Rattle.backup_engine.specs.PlainMap.{CanBeDone}
 use Rattle.backup_engine.specs.Promise.{EndsFailing, EndsFrom, EndsSo, WroteReply}
 use Rattle.backup_engine.specs.Singles.{Digits, IsIngest, begun, finish_lines, pushed, push_lines, refused, said}
 use Rattle.backup_engine.specs.TopCall.{DoesCommand}
-use Rattle.backup_engine.proofs.AnswersByMap.{Silent, answers_each, told}
+use Rattle.backup_engine.proofs.AnswersByMap.{AnswersOpened, answers_call}
+use Rattle.backup_engine.proofs.Ran.{Silent}
+use Rattle.backup_engine.proofs.SinglesRun.{ingest_memory}
 use Rattle.backup_engine.proofs.IngestCuts.{put_cut}
 use Rattle.backup_engine.proofs.IngestTails.{ArePut, Commit, Finish, IsCommit, IsTail, Nothing, Push, Tail, commit_last, push_tail, put_follows, put_lines, pushes_give, pushes_last}
 use Rattle.backup_engine.proofs.Rested.{CanBeIf, WasStore, all_lines, all_steps, answers_by, as_found, last, opened_room, ran, rested, was_store}
@@ -193,8 +195,8 @@ module _ (given name : List ℕ) where
 
   -- ---- of a call
 
-  module _ (D : Type 0) (view : D → DiskView) (rs : List Replied) (ending : Option Ending) (disk disk_now : DiskView) (source source_now : SourceView) (sink sink_now : SinkView)
-      (does : DoesCommand D view (Ingest name) given rs ending disk disk_now source source_now sink sink_now) where
+  module _ (D : Type 0) (view : D → DiskView) (rs : List Replied) (ending : Option Ending) (old new : D) (source source_now : SourceView) (sink sink_now : SinkView)
+      (does : DoesCommand D view (Ingest name) given rs ending (view old) (view new) source source_now sink sink_now) where
     ingest_wrote : WroteReply (stored_line name (root_of given)) ending sink sink_now
     ingest_wrote = elim does.way [
       | inl (inl ((keeps, speaks), no_room)) ↦ keeps.any.wrote
@@ -206,36 +208,31 @@ module _ (given name : List ℕ) where
     same_written : (refusal : Refusal) → ending ≡ Some (Refused refusal) → sink_now.written ≡ sink.written
     same_written refusal is = subst (λ (e : Option Ending). WroteReply (stored_line name (root_of given)) e sink sink_now) is ingest_wrote
 
-    ingest_silent : (e : Option Ending) → e ≡ ending → IsIngest name given e source source_now rs → rs ≡ [] → Silent ending rs sink sink_now
-    ingest_silent None is (pushes, (sequence, (all, are))) none = absurd (let no : begun ∷ _ ≡ [] = sym are ∙ none in cc)
-    ingest_silent (Some Sink) is (pushes, (sequence, (all, are))) none = absurd (let no : begun ∷ _ ≡ [] = sym are ∙ none in cc)
-    ingest_silent (Some Source) is (pushes, (gave, are)) none = absurd (let no : begun ∷ _ ≡ [] = sym are ∙ none in cc)
-    ingest_silent (Some (Refused refusal)) is which none =
-        record { none = none; refusal = refusal; ending_is = sym is; wrote = same_written refusal (sym is) }
-    ingest_silent (Some e) is are none = absurd are
+    ingest_silent : IsIngest name given ending source source_now rs → rs ≡ [] → Silent ending rs sink sink_now
+    ingest_silent are none =
+        let memory = ingest_memory name given ending source source_now rs are none in
+        record { none = none; refusal = Memory; ending_is = memory; wrote = same_written Memory memory }
 
-    pub ingest_each : ListsThrough → IngestsByMap → IngestsThrough → AnswersEachMap (Ingest name) given ending disk disk_now sink sink_now
-    ingest_each lists ingests through =
-        by (told D view (Ingest name) given rs ending disk disk_now source source_now sink sink_now (IsIngest name given ending source source_now) (λ v speaks. speaks) does)
-      where
-        no_cut : rs ≡ [] → (among : ByteSet) → ((bytes : List ℕ) → IsSegmentOf given bytes → IsIn among bytes) → (k : FileMachine) → CutsAmong among rs k
-        no_cut none among given_in k = subst (λ (l : List Replied). CutsAmong among l k) (sym none) (λ files opened bytes opens cut. absurd cut)
+    ingest_spoken : IngestsByMap → IngestsThrough → IsIngest name given ending source source_now rs → (rs ≡ []) ⊎ AnswersOpened (Ingest name) given ending rs (view old) (view new) sink sink_now
+    ingest_spoken ingests through are = elim (ingest_so ending source source_now rs are) [
+      | inl none ↦ inl none
+      | inr (tail, ((pushes, (is, lines_are)), ends)) ↦ inr (λ among m first distinct given_in known opens runs.
+          put_answers (IsIn among) m opens.store (view old) (view new) (was_store (IsIn among) m (view old) first known opens) ingests through ending tail ends pushes is
+          (subst (λ (l : List Replied). RunsByFiles (IsIn among) l (unopened m opens.store) (view old) (view new)) lines_are runs)
+          (does.ends first known among m distinct given_in opens) sink sink_now ingest_wrote)
+    ]
 
-        lined : (rs ≡ [] → Silent ending rs sink sink_now) → IsSo ending rs → AnswersEachMap (Ingest name) given ending disk disk_now sink sink_now
-        lined silent (inl none) = answers_each (Ingest name) given ending rs disk disk_now sink sink_now lists does.by_files does.fails_alone silent (no_cut none) (inl none)
-        lined silent (inr (tail, ((pushes, (is, are)), ends))) =
-            answers_each (Ingest name) given ending rs disk disk_now sink sink_now lists does.by_files does.fails_alone silent
-            (λ among given_in k. subst (λ (l : List Replied). CutsAmong among l k) (sym are)
-            (λ files opened bytes opens cut. given_in bytes (put_cut given name pushes tail is opened bytes cut)))
-            (inr (λ among m old distinct given_in known opens runs.
-            put_answers (IsIn among) m opens.store disk disk_now (was_store (IsIn among) m disk old known opens) ingests through ending tail ends pushes is
-            (subst (λ (l : List Replied). RunsByFiles (IsIn among) l (unopened m opens.store) disk disk_now) are runs)
-            (does.ends old known among m distinct given_in opens) sink sink_now ingest_wrote))
-
-        by : IsIngest name given ending source source_now rs ⊎ Silent ending rs sink sink_now → AnswersEachMap (Ingest name) given ending disk disk_now sink sink_now
-        by (inl is) = lined (ingest_silent ending refl is) (ingest_so ending source source_now rs is)
-        by (inr silent) = lined (λ none. silent) (inl silent.none)
+    ingest_cuts : IsIngest name given ending source source_now rs → (among : ByteSet) → ((bytes : List ℕ) → IsSegmentOf given bytes → IsIn among bytes) → (m : FileMachine)
+        → CutsAmong among rs m
+    ingest_cuts are among given_in m = elim (ingest_so ending source source_now rs are) [
+      | inl none ↦ subst (λ (l : List Replied). CutsAmong among l m) (sym none) (λ files opened bytes opens cut. absurd cut)
+      | inr (tail, ((pushes, (is, lines_are)), ends)) ↦ subst (λ (l : List Replied). CutsAmong among l m) (sym lines_are)
+          (λ files opened bytes opens cut. given_in bytes (put_cut given name pushes tail is opened bytes cut))
+    ]
 
 pub ingest_by_map : (D : Type 0) (view : D → DiskView) → ListsThrough → IngestsByMap → IngestsThrough → (name : List ℕ) → AnswersEachCall D view (Ingest name)
-ingest_by_map D view lists ingests through name given rs ending old_disk new_disk source source_now sink sink_now does =
-    ingest_each given name D view rs ending (view old_disk) (view new_disk) source source_now sink sink_now does lists ingests through
+ingest_by_map D view lists ingests through name given rs ending old new source source_now sink sink_now does =
+    answers_call D view (Ingest name) given rs ending old new source source_now sink sink_now (IsIngest name given ending source source_now) (λ v speaks. speaks) lists
+    (ingest_silent given name D view rs ending old new source source_now sink sink_now does)
+    (ingest_cuts given name D view rs ending old new source source_now sink sink_now does)
+    (ingest_spoken given name D view rs ending old new source source_now sink sink_now does ingests through) does

@@ -106,3 +106,4 @@ pub mod RestoreByMap
 pub mod IngestByMap
 pub mod IngestCuts
 pub mod IngestTails
+pub mod Ran

@@ -30,15 +30,15 @@ use Rattle.store_machine.specs.Opening.{MayBeFound}
 use Rattle.store_machine.specs.Values.{of_files}
 use Rattle.core_machine.specs.Files.{stored_in}
 use Rattle.core_machine.specs.Unopened.{unopened}
-use Rattle.backup_engine.specs.AnswersByMap.{AnswersByMap, AnswersEachCall, AnswersEachMap, ChangesStore, IsLeftAs, IsStore, Wrote}
+use Rattle.backup_engine.specs.AnswersByMap.{AnswersByMap, AnswersEachCall, ChangesStore, IsLeftAs, IsStore, Wrote}
 use Rattle.backup_engine.specs.ByFiles.{RunsByFiles}
 use Rattle.backup_engine.specs.Line.{Delete}
 use Rattle.backup_engine.specs.Line as table
 use Rattle.backup_engine.specs.PlainMap.{LacksNumbers, MayDelete, room_of}
 use Rattle.backup_engine.specs.Promise.{EndsFrom, IsLeftWith, WroteReply}
 use Rattle.backup_engine.specs.Singles.{IsDelete, IsListing, said}
-use Rattle.backup_engine.proofs.AnswersByMap.{AnswersOpened, Silent, answers_each, told}
-use Rattle.backup_engine.proofs.NoneCut.{ArePlain, none_cuts}
+use Rattle.backup_engine.proofs.AnswersByMap.{AnswersOpened, answers_call}
+use Rattle.backup_engine.proofs.Ran.{delete_ran, list_ran, ran_cuts, ran_silent}
 use Rattle.backup_engine.proofs.Rested.{CanBeIf, all_lines, all_steps, answers_by, as_found, last, is_store, left_with, ran, rested, stays_left, was_store, WasStore}
 
 -- ---- the last line
@@ -114,20 +114,6 @@ module _ (given : List ℕ) where
         (subst (λ (text : List ℕ). WroteReply text (Some Sink) sink sink_now) list_text wrote)
 
   module _ (rs : List Replied) (v w : DiskView) (sink sink_now : SinkView) (lists : ListsByMap) (through : ListsThrough) where
-    list_silent : (ending : Option Ending) → IsListing ending sink sink_now rs → rs ≡ [] → Silent ending rs sink sink_now
-    list_silent None (files, (is, wrote)) none = absurd (let no : said lines.ListNames (replies.Listed files) ∷ [] ≡ [] = sym is ∙ none in cc)
-    list_silent (Some Sink) (files, (is, wrote)) none = absurd (let no : said lines.ListNames (replies.Listed files) ∷ [] ≡ [] = sym is ∙ none in cc)
-    list_silent (Some (Refused refusal)) (which, same) none = record { none = none; refusal = refusal; ending_is = refl; wrote = same }
-    list_silent (Some ending) is none = absurd is
-
-    list_plain : (ending : Option Ending) → IsListing ending sink sink_now rs → ArePlain rs
-    list_plain None (files, (is, wrote)) = subst ArePlain (sym is) (tt, tt)
-    list_plain (Some Sink) (files, (is, wrote)) = subst ArePlain (sym is) (tt, tt)
-    list_plain (Some (Refused refusal)) (inl (memory, inl none), same) = subst ArePlain (sym none) tt
-    list_plain (Some (Refused refusal)) (inl (memory, inr (files, is)), same) = subst ArePlain (sym is) (tt, tt)
-    list_plain (Some (Refused refusal)) (inr is, same) = subst ArePlain (sym is) (tt, tt)
-    list_plain (Some ending) is = absurd is
-
     abbrev So : Option Ending → Type 0
     So ending = (rs ≡ []) ⊎ AnswersOpened table.List given ending rs v w sink sink_now
 
@@ -148,17 +134,11 @@ module _ (given : List ℕ) where
     list_spoken (Some ending) is = absurd is
 
 pub list_by_map : (D : Type 0) (view : D → DiskView) → ListsByMap → ListsThrough → AnswersEachCall D view table.List
-list_by_map D view lists through given rs ending old_disk new_disk source source_now sink sink_now does =
-    by (told D view table.List given rs ending (view old_disk) (view new_disk) source source_now sink sink_now (IsListing ending sink sink_now) (λ v speaks. speaks) does)
-  where
-    by : IsListing ending sink sink_now rs ⊎ Silent ending rs sink sink_now → AnswersEachMap table.List given ending (view old_disk) (view new_disk) sink sink_now
-    by (inl are) =
-        answers_each table.List given ending rs (view old_disk) (view new_disk) sink sink_now through does.by_files does.fails_alone (list_silent given rs (view old_disk) (view new_disk) sink sink_now lists through ending are)
-        (λ among given_in m. none_cuts among rs (list_plain given rs (view old_disk) (view new_disk) sink sink_now lists through ending are) m)
-        (list_spoken given rs (view old_disk) (view new_disk) sink sink_now lists through ending are)
-    by (inr silent) =
-        answers_each table.List given ending rs (view old_disk) (view new_disk) sink sink_now through does.by_files does.fails_alone (λ none. silent)
-        (λ among given_in m. none_cuts among rs (subst ArePlain (sym silent.none) tt) m) (inl silent.none)
+list_by_map D view lists through given rs ending old new source source_now sink sink_now =
+    answers_call D view table.List given rs ending old new source source_now sink sink_now (IsListing ending sink sink_now) (λ v speaks. speaks) through
+    (λ are. ran_silent ending rs sink sink_now (list_ran rs sink sink_now ending are))
+    (λ are among given_in m. ran_cuts ending rs sink sink_now (list_ran rs sink sink_now ending are) among m)
+    (list_spoken given rs (view old) (view new) sink sink_now lists through ending)
 
 -- ---- delete
 
@@ -298,19 +278,6 @@ module _ (given name : List ℕ) where
           (undone_store S m store v w was sink sink_now deletes through (replies.Refused reason) runs reason refl (is_write reason))
 
   module _ (rs : List Replied) (v w : DiskView) (sink sink_now : SinkView) (deletes : DeletesByMap) (through : DeletesThrough) where
-    delete_silent : (ending : Option Ending) → IsDelete name ending sink sink_now rs → rs ≡ [] → Silent ending rs sink sink_now
-    delete_silent None ((sequence, is), wrote) none = absurd (let no : said (lines.Delete name) (replies.Deleted sequence) ∷ [] ≡ [] = sym is ∙ none in cc)
-    delete_silent (Some Sink) ((sequence, is), wrote) none = absurd (let no : said (lines.Delete name) (replies.Deleted sequence) ∷ [] ≡ [] = sym is ∙ none in cc)
-    delete_silent (Some (Refused refusal)) (which, same) none = record { none = none; refusal = refusal; ending_is = refl; wrote = same }
-    delete_silent (Some ending) is none = absurd is
-
-    delete_plain : (ending : Option Ending) → IsDelete name ending sink sink_now rs → ArePlain rs
-    delete_plain None ((sequence, is), wrote) = subst ArePlain (sym is) (tt, tt)
-    delete_plain (Some Sink) ((sequence, is), wrote) = subst ArePlain (sym is) (tt, tt)
-    delete_plain (Some (Refused refusal)) (inl (memory, none), same) = subst ArePlain (sym none) tt
-    delete_plain (Some (Refused refusal)) (inr is, same) = subst ArePlain (sym is) (tt, tt)
-    delete_plain (Some ending) is = absurd is
-
     abbrev DeletesSo : Option Ending → Type 0
     DeletesSo ending = (rs ≡ []) ⊎ AnswersOpened (Delete name) given ending rs v w sink sink_now
 
@@ -328,15 +295,8 @@ module _ (given name : List ℕ) where
     delete_spoken (Some ending) is = absurd is
 
 pub delete_by_map : (D : Type 0) (view : D → DiskView) → ListsThrough → DeletesByMap → DeletesThrough → (name : List ℕ) → AnswersEachCall D view (Delete name)
-delete_by_map D view lists deletes through name given rs ending old_disk new_disk source source_now sink sink_now does =
-    by (told D view (Delete name) given rs ending (view old_disk) (view new_disk) source source_now sink sink_now (IsDelete name ending sink sink_now) (λ v speaks. speaks) does)
-  where
-    by : IsDelete name ending sink sink_now rs ⊎ Silent ending rs sink sink_now → AnswersEachMap (Delete name) given ending (view old_disk) (view new_disk) sink sink_now
-    by (inl are) =
-        answers_each (Delete name) given ending rs (view old_disk) (view new_disk) sink sink_now lists does.by_files does.fails_alone
-        (delete_silent given name rs (view old_disk) (view new_disk) sink sink_now deletes through ending are)
-        (λ among given_in m. none_cuts among rs (delete_plain given name rs (view old_disk) (view new_disk) sink sink_now deletes through ending are) m)
-        (delete_spoken given name rs (view old_disk) (view new_disk) sink sink_now deletes through ending are)
-    by (inr silent) =
-        answers_each (Delete name) given ending rs (view old_disk) (view new_disk) sink sink_now lists does.by_files does.fails_alone (λ none. silent)
-        (λ among given_in m. none_cuts among rs (subst ArePlain (sym silent.none) tt) m) (inl silent.none)
+delete_by_map D view lists deletes through name given rs ending old new source source_now sink sink_now =
+    answers_call D view (Delete name) given rs ending old new source source_now sink sink_now (IsDelete name ending sink sink_now) (λ v speaks. speaks) lists
+    (λ are. ran_silent ending rs sink sink_now (delete_ran rs sink sink_now name ending are))
+    (λ are among given_in m. ran_cuts ending rs sink sink_now (delete_ran rs sink sink_now name ending are) among m)
+    (delete_spoken given name rs (view old) (view new) sink sink_now deletes through ending)

@@ -1,5 +1,5 @@
 -- Lines by which no file is given cut nothing.
-use Rattle.std.proofs.Common.{◌≡◌, inl, inr, ℕ, zero, suc, List, [], ◌∷◌, Option, None, Some, replicate, refl, sym, ◌∙◌, ap}
+use Rattle.std.proofs.Common.{◌≡◌, inl, inr, ℕ, zero, suc, List, [], ◌∷◌, Option, None, Some, replicate, refl, sym, ◌∙◌, ap, subst}
 use Rattle.std.specs.Prelude.{slice_index_or}
 use Rattle.std.specs.List.{AllByRecursion}
 use Rattle.actor_parts.specs.declared.actor.TheConstants.{ACTORS}
@@ -12,13 +12,16 @@ use Rattle.store_machine.specs.Lines.{Line, Session}
 use Rattle.store_machine.specs.Machine.{Stepped}
 use Rattle.store_machine.specs.Values.{of_files}
 use Rattle.store_model.specs.Collisions.{ByteSet}
+use Rattle.script_runner.specs.Acts.{IsOfActor}
+use Rattle.script_runner.specs.Scripts.{AreOfActors}
 use Rattle.script_runner.specs.LinesAreFileRuns.{FileDesk, IsCutAt, IsCutBy}
 use Rattle.backup_engine.specs.ByFiles.{CutsAmong}
+use Rattle.backup_engine.proofs.Saying.{no_actor, of_first}
 
--- a line that leaves what actors give
-abbrev IsPlainLine : LineValue → Type 0
-IsPlainLine (lines.Read a name) = Unit {0}
-IsPlainLine (lines.Next a) = Unit {0}
+-- a line of the first actor, or of none, that leaves what actors give
+abbrev pub IsPlainLine : LineValue → Type 0
+IsPlainLine (lines.Read a name) = a ≡ 0
+IsPlainLine (lines.Next a) = a ≡ 0
 IsPlainLine (lines.Delete name) = Unit {0}
 IsPlainLine lines.ListNames = Unit {0}
 IsPlainLine (lines.Gc percent) = Unit {0}
@@ -27,6 +30,19 @@ IsPlainLine line = ⊥
 
 abbrev pub ArePlain : List Replied → Type 0
 ArePlain rs = AllByRecursion (λ one. IsPlainLine one.line) rs
+
+plain_actor : (line : LineValue) → IsPlainLine line → IsOfActor line
+plain_actor (lines.Read a name) is = subst (λ (n : ℕ). IsOfActor (lines.Read n name)) (sym is) (of_first (lines.Read 0 name) refl)
+plain_actor (lines.Next a) is = subst (λ (n : ℕ). IsOfActor (lines.Next n)) (sym is) (of_first (lines.Next 0) refl)
+plain_actor (lines.Delete name) is = no_actor (lines.Delete name) refl
+plain_actor lines.ListNames is = no_actor lines.ListNames refl
+plain_actor (lines.Gc percent) is = no_actor (lines.Gc percent) refl
+plain_actor lines.Sweep is = no_actor lines.Sweep refl
+plain_actor line is = absurd is
+
+pub plain_actors : (rs : List Replied) → ArePlain rs → AreOfActors rs
+plain_actors [] plain = tt
+plain_actors (one ∷ more) plain = (plain_actor one.line plain.0, plain_actors more plain.1)
 
 leaves_sessions : (line : LineValue) (reply : ReplyValue) (ss : List (Stepped (List ℕ))) (d e : FileDesk) → IsPlainLine line → Line of_files line reply ss d e
     → e.sessions ≡ d.sessions

@@ -33,13 +33,13 @@ use Rattle.store_machine.specs.Runs.{Run}
 use Rattle.store_machine.specs.Values.{of_files}
 use Rattle.script_runner.specs.LinesAreFileRuns.{FileDesk}
 use Rattle.core_machine.specs.Unopened.{unopened}
-use Rattle.backup_engine.specs.AnswersByMap.{AnswersByMap, AnswersEachCall, AnswersEachMap, Wrote, WroteFile}
+use Rattle.backup_engine.specs.AnswersByMap.{AnswersByMap, AnswersEachCall, Wrote, WroteFile}
 use Rattle.backup_engine.specs.ByFiles.{RunsByFiles}
 use Rattle.backup_engine.specs.Line.{Restore}
 use Rattle.backup_engine.specs.Promise.{EndsFrom, IsLeftWith}
-use Rattle.backup_engine.specs.Singles.{IsFirstOf, IsRestore, ReadsFile, next_lines, refused, said}
-use Rattle.backup_engine.proofs.AnswersByMap.{AnswersOpened, Silent, answers_each, nothing_of, told}
-use Rattle.backup_engine.proofs.NoneCut.{ArePlain, none_cuts}
+use Rattle.backup_engine.specs.Singles.{IsFirstOf, IsRestore, next_lines, refused, said}
+use Rattle.backup_engine.proofs.AnswersByMap.{AnswersOpened, answers_call, nothing_of}
+use Rattle.backup_engine.proofs.Ran.{ran_cuts, ran_silent, restore_ran}
 use Rattle.backup_engine.proofs.Rested.{CanBeIf, all_lines, all_steps, answers_by, as_found, last, left_with, ran, rested, stays_left, was_store, WasStore}
 
 -- ---- the lines
@@ -61,10 +61,6 @@ module _ (name : List ℕ) (final : Replied) where
   reads_last : (one : Replied) (segments : List (List ℕ)) → machine.last_of (one ∷ next_lines segments ++ final ∷ []) ≡ Some final
   reads_last one [] = refl
   reads_last one (bytes ∷ more) = reads_last (said (lines.Next 0) (replies.Bytes 0 bytes)) more
-
-  reads_plain : (segments : List (List ℕ)) → ArePlain (final ∷ []) → ArePlain (next_lines segments ++ final ∷ [])
-  reads_plain [] plain = plain
-  reads_plain (bytes ∷ more) plain = (tt, reads_plain more plain)
 
 -- a name that was read has a file
 module _ (name : List ℕ) (count : ℕ) where
@@ -211,27 +207,6 @@ module _ (given name : List ℕ) where
         (wrote_of (Refused refusal) (concat segments) (machine.text_of (machine.Restore name) [] final.line final.reply) refl wrote)
 
   module _ (rs : List Replied) (v w : DiskView) (sink sink_now : SinkView) (restores : RestoresByMap) (through : RestoresThrough) where
-    restore_silent : (ending : Option Ending) → IsRestore name ending sink sink_now rs → rs ≡ [] → Silent ending rs sink sink_now
-    restore_silent None (segments, ((count, is), wrote)) none = absurd (let no : said (lines.Read 0 name) (replies.Reading 0 count) ∷ _ ≡ [] = sym is ∙ none in cc)
-    restore_silent (Some Sink) (segments, (bytes, ((count, is), wrote))) none =
-        absurd (let no : said (lines.Read 0 name) (replies.Reading 0 count) ∷ _ ≡ [] = sym is ∙ none in cc)
-    restore_silent (Some (Refused refusal)) (inl (memory, none_ran, same)) none = record { none = none; refusal = refusal; ending_is = refl; wrote = same }
-    restore_silent (Some (Refused refusal)) (inr (inl (is, same))) none = absurd (let no : refused (lines.Read 0 name) refusal ∷ [] ≡ [] = sym is ∙ none in cc)
-    restore_silent (Some (Refused refusal)) (inr (inr (segments, ((count, is), wrote)))) none =
-        absurd (let no : said (lines.Read 0 name) (replies.Reading 0 count) ∷ _ ≡ [] = sym is ∙ none in cc)
-    restore_silent (Some ending) is none = absurd is
-
-    read_plain : (segments : List (List ℕ)) (final : Replied) → ArePlain (final ∷ []) → ReadsFile name segments final rs → ArePlain rs
-    read_plain segments final plain (count, is) = subst ArePlain (sym is) (tt, reads_plain name final segments plain)
-
-    restore_plain : (ending : Option Ending) → IsRestore name ending sink sink_now rs → ArePlain rs
-    restore_plain None (segments, (reads, wrote)) = read_plain segments (said (lines.Next 0) (replies.End 0)) (tt, tt) reads
-    restore_plain (Some Sink) (segments, (bytes, (reads, wrote))) = read_plain segments (said (lines.Next 0) (replies.Bytes 0 bytes)) (tt, tt) reads
-    restore_plain (Some (Refused refusal)) (inl (memory, none, same)) = subst ArePlain (sym none) tt
-    restore_plain (Some (Refused refusal)) (inr (inl (is, same))) = subst ArePlain (sym is) (tt, tt)
-    restore_plain (Some (Refused refusal)) (inr (inr (segments, (reads, wrote)))) = read_plain segments (refused (lines.Next 0) refusal) (tt, tt) reads
-    restore_plain (Some ending) is = absurd is
-
     abbrev RestoresSo : Option Ending → Type 0
     RestoresSo ending = (rs ≡ []) ⊎ AnswersOpened (Restore name) given ending rs v w sink sink_now
 
@@ -256,15 +231,8 @@ module _ (given name : List ℕ) where
     restore_spoken (Some ending) is = absurd is
 
 pub restore_by_map : (D : Type 0) (view : D → DiskView) → ListsThrough → RestoresByMap → RestoresThrough → (name : List ℕ) → AnswersEachCall D view (Restore name)
-restore_by_map D view lists restores through name given rs ending old_disk new_disk source source_now sink sink_now does =
-    by (told D view (Restore name) given rs ending (view old_disk) (view new_disk) source source_now sink sink_now (IsRestore name ending sink sink_now) (λ v speaks. speaks) does)
-  where
-    by : IsRestore name ending sink sink_now rs ⊎ Silent ending rs sink sink_now → AnswersEachMap (Restore name) given ending (view old_disk) (view new_disk) sink sink_now
-    by (inl are) =
-        answers_each (Restore name) given ending rs (view old_disk) (view new_disk) sink sink_now lists does.by_files does.fails_alone
-        (restore_silent given name rs (view old_disk) (view new_disk) sink sink_now restores through ending are)
-        (λ among given_in m. none_cuts among rs (restore_plain given name rs (view old_disk) (view new_disk) sink sink_now restores through ending are) m)
-        (restore_spoken given name rs (view old_disk) (view new_disk) sink sink_now restores through ending are)
-    by (inr silent) =
-        answers_each (Restore name) given ending rs (view old_disk) (view new_disk) sink sink_now lists does.by_files does.fails_alone (λ none. silent)
-        (λ among given_in m. none_cuts among rs (subst ArePlain (sym silent.none) tt) m) (inl silent.none)
+restore_by_map D view lists restores through name given rs ending old new source source_now sink sink_now =
+    answers_call D view (Restore name) given rs ending old new source source_now sink sink_now (IsRestore name ending sink sink_now) (λ v speaks. speaks) lists
+    (λ are. ran_silent ending rs sink sink_now (restore_ran rs sink sink_now name ending are))
+    (λ are among given_in m. ran_cuts ending rs sink sink_now (restore_ran rs sink sink_now name ending are) among m)
+    (restore_spoken given name rs (view old) (view new) sink sink_now restores through ending)

@@ -20,7 +20,6 @@ use Rattle.script_runner.specs.LinesAreFileRuns.{ChangesContent}
 use Rattle.script_runner.specs.LinesAreRuns.{Traced}
 use Rattle.backup_engine.specs.ByFiles.{RunsEachByFiles}
 use Rattle.backup_engine.specs.CallsByFiles.{CallsRunByFiles}
-use Rattle.backup_engine.proofs.Called.{Called}
 
 -- ---- the store was not opened
 
@@ -110,16 +109,6 @@ calls_by_files D view C state laws start now ending rs r s opened closed fresh a
         ),
       );
     })
-
--- so it is from the disk on that was read
-pub called_runs : (D : Type 0) (view : D → DiskView) (C : Type 0) (state : C → CoreState) (start : D) (w : DiskView) (old new : C) → Called C state (view start) w old new →
-    CallsRunByFiles D view C state
-    → (ending : Option Ending) (rs : List Replied) (r s : RunnerState C) → r.core ≡ old → r.sessions ≡ replicate ACTORS None → new ≡ s.core → AreOfActors rs →
-    RunsLines C state rs r s → RunsEachByFiles ending rs (view start) w
-called_runs D view C state start w old new called laws ending rs r s begins fresh ends actors runs =
-    calls_by_files D view C state laws start w ending rs r s
-    (subst (λ (c : C). OpensCore D view (view start) (state c)) (sym begins) (inl (record { opened = called.opened; durable = called.durable; reads = called.first })))
-    (subst (λ (c : C). Reads Done (state c).disk w) ends called.last) fresh actors runs
 
 -- ---- a disk that was lent
 

@@ -1,46 +1,25 @@
 -- The lines that `collect` is, run over a core.
-use Rattle.std.proofs.Common.{◌≡◌, inl, inr, ℕ, List, [], ◌∷◌, Option, None, Some, Result, Ok, Err, refl, sym, ◌∙◌, subst}
+use Rattle.std.proofs.Common.{◌≡◌, inl, inr, ℕ, List, [], ◌∷◌, None, Result, Ok, Err, refl, sym, ◌∙◌, subst}
 use Rattle.actor_parts.specs.declared.step.Answer.TheVariants as answers
 use Rattle.dd_io.specs.Flow.{SinkView}
 use Rattle.store_machine.specs.Lines.{actor_of}
 use Rattle.store_machine.specs.Commands.{Replied}
 use Rattle.refusals.specs.declared.refusal.Refusal.{Refusal}
 use Rattle.reply_text.specs.declared.ending.Ending.{Ending}
-use Rattle.reply_text.specs.declared.ending.Ending.TheVariants.{Sink, Refused}
+use Rattle.reply_text.specs.declared.ending.Ending.TheVariants.{Sink}
 use Rattle.script_lines.specs.Grammar.{LineValue}
 use Rattle.script_lines.specs.Grammar as lines
 use Rattle.script_lines.specs.ReplyValue as replies
 use Rattle.script_runner.specs.Acts.{Admits, Starts, Sweeps}
 use Rattle.script_runner.specs.Runner.{Sent}
-use Rattle.script_runner.specs.Scripts.{AreOfActors, RunsLines}
+use Rattle.script_runner.specs.Scripts.{RunsLines}
 use Rattle.store_core.specs.State.{CoreState}
 use Rattle.backup_engine.specs.Collected.{collected_line}
 use Rattle.backup_engine.specs.Collecting.{IsStopped, WritesCollected}
 use Rattle.backup_engine.specs.Saying.{RunsSingle, idle, no_sessions}
 use Rattle.backup_engine.specs.Singles.{IsCollect, collecting, refused, said}
-use Rattle.backup_engine.specs.Singles as singles
 use Rattle.backup_engine.specs.TopCall.{ending_in}
-use Rattle.backup_engine.proofs.NameLines.{no_actor, no_line, one_actor}
 use Rattle.backup_engine.proofs.Saying.{line_then}
-
--- ---- actors
-
-two_actors : (percent : ℕ) (snapshot : ℕ) (last : Replied) → actor_of last.line ≡ None → (rs : List Replied) → rs ≡ collecting percent snapshot ∷ last ∷ [] → AreOfActors rs
-two_actors percent snapshot last none rs are = subst AreOfActors (sym are) (no_actor (lines.Gc percent) refl, (no_actor last.line none, tt))
-
-swept_actors : (percent freed copied : ℕ) (rs : List Replied) → singles.Sweeps percent freed copied rs → AreOfActors rs
-swept_actors percent freed copied rs is = two_actors percent is.0 (said lines.Sweep (replies.Collected freed copied)) refl rs is.1
-
-pub collect_actors : (percent : ℕ) (ending : Option Ending) (sink sink_now : SinkView) (rs : List Replied) → IsCollect percent ending sink sink_now rs → AreOfActors rs
-collect_actors percent None sink sink_now rs is = swept_actors percent is.0 is.1 rs is.2.0
-collect_actors percent (Some Sink) sink sink_now rs is = swept_actors percent is.0 is.1 rs is.2.0
-collect_actors percent (Some (Refused refusal)) sink sink_now rs (inl (memory, inl none), wrote) = no_line rs none
-collect_actors percent (Some (Refused refusal)) sink sink_now rs (inl (memory, inr swept), wrote) = swept_actors percent swept.0 swept.1 rs swept.2
-collect_actors percent (Some (Refused refusal)) sink sink_now rs (inr (inl one), wrote) = one_actor (lines.Gc percent) refl (replies.Refused refusal) rs one
-collect_actors percent (Some (Refused refusal)) sink sink_now rs (inr (inr stopped), wrote) = two_actors percent stopped.0 (refused lines.Sweep refusal) refl rs stopped.1
-collect_actors percent (Some ending) sink sink_now rs is = absurd is
-
--- ---- the lines
 
 module _ (C : Type 0) (state : C → CoreState) (percent : ℕ) where
   admits : (c : C) (line : LineValue) → (state c).stop ≡ None → actor_of line ≡ None → Admits line no_sessions (state c)

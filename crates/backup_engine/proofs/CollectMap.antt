@@ -1,5 +1,5 @@
 -- What a `collect` keeps of the map: all of it; and which containers it gives back.
-use Rattle.std.proofs.Common.{◌≡◌, ◌⊎◌, inl, ◌+◌, ◌<◌, ◌≤◌, ℕ, List, [], ◌∷◌, ◌++◌, length, Option, None, Some, Result, Ok, Err, refl, sym, ◌∙◌, subst, arith}
+use Rattle.std.proofs.Common.{◌≡◌, ◌⊎◌, ◌+◌, ◌<◌, ◌≤◌, ℕ, List, [], ◌∷◌, ◌++◌, length, Option, None, Some, Result, Ok, Err, refl, sym, ◌∙◌, subst, arith}
 use Rattle.std.specs.Prelude.{IfErr, slice_get}
 use Rattle.base_model.specs.Bytes.{range}
 use Rattle.base_model.specs.Known.{KnownWith}
@@ -8,9 +8,8 @@ use Rattle.actor_parts.specs.declared.step.Answer.TheVariants as answers
 use Rattle.actor_parts.specs.StepValue as asked
 use Rattle.container_meta.specs.Spelling.{HeaderValue}
 use Rattle.dd_disk.specs.Ending.{Done, Reads, ending, ending_of}
-use Rattle.dd_disk.specs.View.{CrashLeaves, DiskView}
+use Rattle.dd_disk.specs.View.{DiskView}
 use Rattle.dd_disk.specs.Writes.{Both}
-use Rattle.dd_disk.proofs.Later.{leaves_weaker}
 use Rattle.dd_disk.proofs.Shows.{shown_content}
 use Rattle.dd_io.specs.Flow.{SinkView}
 use Rattle.disk_format.specs.Layout.{size_of, slot_at}
@@ -32,7 +31,7 @@ use Rattle.reply_text.specs.declared.ending.Ending.TheVariants.{Sink, Refused}
 use Rattle.script_runner.specs.Acts.{Collects, Starts, Sweeps}
 use Rattle.script_runner.proofs.CollectCauses.{IsCauseAt, IsCollectCause, cause_at, collect_cause}
 use Rattle.segment_index.specs.Changes.{SameBefore}
-use Rattle.store_model.specs.Collisions.{ByteSet, HasNoCollisions, IsIn, IsOf, OpensAs}
+use Rattle.store_model.specs.Collisions.{ByteSet, HasNoCollisions, IsIn, IsOf}
 use Rattle.store_model.specs.Files.{Stored}
 use Rattle.store_model.specs.Image.{Encodes, Store}
 use Rattle.store_model.specs.Reserve.{HoldsJustNeeded, IsReachable, IsSpare}
@@ -46,12 +45,11 @@ use Rattle.store_state.specs.declared.tables.Tables.{Tables}
 use Rattle.store_core.specs.Collecting.{GcRow, HasEnded, IsNotMade, StartRow, TouchesBy, at_moment}
 use Rattle.store_core.specs.Core.{CoreStep, Steps, StopsAfter}
 use Rattle.store_core.specs.Releases.{SweepsSpare, copied_in, freed_in}
-use Rattle.store_core.specs.Runs.{AreChangesBy, ChangesTo, FileEvent, FileRun, FileStep, IsAt, IsOnTheWay}
+use Rattle.store_core.specs.Runs.{AreChangesBy, ChangesTo, FileEvent, FileRun, FileStep, IsAt}
 use Rattle.store_core.specs.Sound.{IsHarmless}
 use Rattle.store_core.specs.State.{CoreState, Event}
 use Rattle.store_core.proofs.AnySteps.{any_step}
 use Rattle.store_core.proofs.CoreRuns.{running_step}
-use Rattle.store_core.proofs.Crashes.{leaves_on_the_way}
 use Rattle.store_core.proofs.Damage.{never_damaged}
 use Rattle.store_core.proofs.Unbegun.{unbegun_memory}
 use Rattle.store_core.proofs.GcSteps.{end_reads}
@@ -65,19 +63,18 @@ use Rattle.store_core.proofs.Rooms.{free_held, room_ended}
 use Rattle.backup_engine.specs.Collected.{Collected, CollectedAll, HasNoIdLeft, collected_line, written_in}
 use Rattle.backup_engine.specs.Frame.{SameButSlotsOf}
 use Rattle.backup_engine.specs.Line.{Collect}
-use Rattle.backup_engine.specs.Promise.{EndsBy, EndsFrom, GivesSlotsBack, IsLeftAs, IsLeftWith, KeepsEachMap, KeepsMap, MayBeMeanwhile, WroteReply}
-use Rattle.backup_engine.specs.Promise as promise
+use Rattle.backup_engine.specs.Promise.{EndsBy, EndsFrom, GivesSlotsBack, IsLeftWith, KeepsEachMap, KeepsMap, RefusedBy, WroteReply}
 use Rattle.backup_engine.proofs.Called.{Called, Starts as StartsAt, starts}
 use Rattle.backup_engine.proofs.CollectKept.{begun_is, ends, index, since_old, sized, so_begun, start_event, store}
-use Rattle.backup_engine.proofs.CollectMaps.{AreQuiet, DidSteps, MapSoFar, all_maps, did_steps, gc_file, none_held, quiet_then, run_then, start_file, still_on_the_way}
+use Rattle.backup_engine.proofs.CollectMaps.{AreQuiet, DidSteps, MapSoFar, all_maps, did_steps, gc_file, none_held, quiet_then, run_then, start_file}
 use Rattle.backup_engine.proofs.CollectStays.{stays}
 use Rattle.backup_engine.proofs.CollectSteps.{CollectedSoFar, ended, few_so, gc_event, same_collection, under_way}
-use Rattle.backup_engine.proofs.DeleteMap.{IsDone}
+use Rattle.backup_engine.proofs.Replied.{IsDone}
 use Rattle.backup_engine.proofs.Moved.{all_moved, moved, none_copied}
 use Rattle.backup_engine.proofs.NotDone.{left_with, not_sink}
-use Rattle.backup_engine.proofs.Reading.{reads_map, wrote_nothing}
+use Rattle.backup_engine.proofs.Reading.{reads_map}
 use Rattle.backup_engine.proofs.SweptBytes.{but_before, content_framed}
-use Rattle.backup_engine.proofs.WholeCall.{all_reads, leaves_more, leaves_of}
+use Rattle.backup_engine.proofs.WholeCall.{all_reads}
 
 -- ---- the last step, by what comes next
 
@@ -157,10 +154,7 @@ module _ (C : Type 0) (state : C → CoreState) (v w : DiskView) (old new : C) (
       let steps : Steps e (state old) (state new) = made e start.1 in
       let reads = all_reads C state v w old new called steps.made.effect.disk.only in
       reads_map (Collect percent) [] (Refused refusal) v w sink sink reads (not_sink refusal)
-      (λ image known among m distinct right is. record {
-        by_map = unbegun_answer (IsIn among) m image known (reads.content_is ∙ known) is refusal steps.made.row;
-        wrote = wrote_nothing (Collect percent) [] m (Refused refusal) sink (not_sink refusal);
-      })
+      (λ image known among m distinct right is. unbegun_answer (IsIn among) m image known (reads.content_is ∙ known) is refusal steps.made.row)
     where
       made : (e : Event) → CoreStep (state old) e (state new) → Steps e (state old) (state new)
       made e step = running_step (state old) (state new) e called.opened.stop_is step
@@ -213,42 +207,20 @@ module _ (C : Type 0) (state : C → CoreState) (v w : DiskView) (old new : C) (
 
       -- ---- what is left
 
-      crashes : CrashLeaves (OpensAs S m) (state old).disk (state new).disk
-      crashes = leaves_weaker (IsOnTheWay S steps m) (OpensAs S m) (state old).disk (state new).disk (λ c on. still_on_the_way S steps m c quiet on)
-          (leaves_on_the_way C state among steps at.store m old new distinct at.is_at run)
-
       pub content_now : (bytes : List ℕ) × ((w.content ≡ Some bytes) × ((state new).disk.content ≡ Some bytes))
       content_now =
           let now = (since_old C state v w old new called percent snapshot mid start answer sweeps).tells image at.told in
           (now.0, (called.last.only.content_is ∙ now.1, now.1))
 
-      pub now_is : (c : List ℕ) → w.images c → OpensAs S m c
-      now_is c there = crashes.now c (called.last.only.images_are c there)
-
-      left_so : (ending : Option Ending) (c : List ℕ) → OpensAs S m c → IsLeftAs S (Collect percent) [] m ending c
-      left_so None c of = of
-      left_so (Some Sink) c of = of
-      left_so (Some (Refused refusals.DiskWrite)) c of = inl of
-      left_so (Some ending) c of = of
-
-      pub keeps : (ending : Option Ending) (sink sink_now : SinkView) → EndsFrom (Collect percent) [] m v.content w.content ending →
-          promise.Wrote (Collect percent) [] m ending sink sink_now
-          → ((store : Store) → Encodes image store → GivesSlotsBack (Collect percent) ending m.files store image w.content sink sink_now) →
-          KeepsMap S (Collect percent) [] ending m v w sink sink_now
-      keeps ending sink sink_now by_map wrote gave = record {
-        by_map = by_map;
-        wrote = wrote;
-        added = λ base known store right. tt;
-        gave_back = λ base known store right.
-            subst (λ (bytes : List ℕ). GivesSlotsBack (Collect percent) ending m.files store bytes w.content sink sink_now) (sym (one_image base known))
-            (gave store (subst (λ (bytes : List ℕ). Encodes bytes store) (one_image base known) right));
-        left = inl (
-          (content_now.0, content_now.1.0, left_so ending content_now.0 (now_is content_now.0 (w.as_read content_now.0 content_now.1.0))),
-          λ c there. left_so ending c (now_is c there),
-        );
-        crash = leaves_more (OpensAs S m) (MayBeMeanwhile S (Collect percent) [] m ending) v w (λ c of. inl of)
-            (leaves_of C state v w old new called (OpensAs S m) (since_old C state v w old new called percent snapshot mid start answer sweeps) crashes);
-      }
+      pub keeps : (ending : Option Ending) (sink sink_now : SinkView) → RefusedBy (Collect percent) [] m v.content w.content ending
+          → ((store : Store) → Encodes image store → GivesSlotsBack percent ending m.files store image w.content sink sink_now)
+          → KeepsMap (Collect percent) [] ending m v w sink sink_now
+      keeps ending sink sink_now by_map gave = (
+        by_map,
+        λ base known store right.
+            subst (λ (bytes : List ℕ). GivesSlotsBack percent ending m.files store bytes w.content sink sink_now) (sym (one_image base known))
+            (gave store (subst (λ (bytes : List ℕ). Encodes bytes store) (one_image base known) right)),
+      )
         where
           one_image : (base : List ℕ) → v.content ≡ Some base → base ≡ image
           one_image base known = some_one base image (sym known ∙ told)
@@ -552,14 +524,14 @@ module _ (C : Type 0) (state : C → CoreState) (v w : DiskView) (old new : C) (
         ends_by r is why stops = absurd why
 
         gave_by : (r : Refusal) → StopsAfter asked.GcStep (Err r) (state sweeps.1.0).acknowledged (state new).stop → (sink : SinkView) (store : Store) → Encodes image store
-            → GivesSlotsBack (Collect percent) (Some (Refused r)) m.files store image w.content sink sink
+            → GivesSlotsBack percent (Some (Refused r)) m.files store image w.content sink sink
         gave_by refusals.DiskWrite stops sink s right = tt
         gave_by r stops sink s right = (freed_in so.changes, copied_in so.changes, refused_gave stops s right)
 
-        pub refused_map : (sink : SinkView) → KeepsMap S (Collect percent) [] (Some (Refused refusal)) m v w sink sink
+        pub refused_map : (sink : SinkView) → KeepsMap (Collect percent) [] (Some (Refused refusal)) m v w sink sink
         refused_map sink =
             keeps (Some (Refused refusal)) sink sink (ends_by refusal refl (collect_cause c.stage c.sweep.next (state sweeps.1.0).tables refusal cause) stops_so)
-            (wrote_nothing (Collect percent) [] m (Refused refusal) sink (not_sink refusal)) (gave_by refusal stops_so sink)
+            (gave_by refusal stops_so sink)
 
   -- ---- by each map
 
@@ -579,23 +551,23 @@ module _ (C : Type 0) (state : C → CoreState) (v w : DiskView) (old new : C) (
         all_gave = done_gave snapshot mid start done sweeps among m distinct image told is freed copied refl
 
         done_answer : (ending : Option Ending) (sink sink_now : SinkView) → IsDone ending → WroteReply (collected_line freed copied) ending sink sink_now →
-            KeepsMap (IsIn among) (Collect percent) [] ending m v w sink sink_now
+            KeepsMap (Collect percent) [] ending m v w sink sink_now
         done_answer None sink sink_now over wrote =
-            keeps snapshot mid start done sweeps among m distinct image told is None sink sink_now tt (freed, copied, wrote)
+            keeps snapshot mid start done sweeps among m distinct image told is None sink sink_now tt
             (λ store right. (freed, copied, (all_gave store right, wrote)))
         done_answer (Some Sink) sink sink_now over wrote =
-            keeps snapshot mid start done sweeps among m distinct image told is (Some Sink) sink sink_now tt (freed, copied, wrote)
+            keeps snapshot mid start done sweeps among m distinct image told is (Some Sink) sink sink_now tt
             (λ store right. (freed, copied, (all_gave store right, wrote)))
         done_answer (Some ending) sink sink_now over wrote = absurd over
 
         some_gave : (store : Store) → Encodes image store → KnownWith w.content (Collected m.files freed copied store image)
         some_gave store right = let all = all_gave store right in (all.0, all.1, all.2.collected)
 
-        untold_answer : (sink : SinkView) → KeepsMap (IsIn among) (Collect percent) [] (Some (Refused refusals.Memory)) m v w sink sink
+        untold_answer : (sink : SinkView) → KeepsMap (Collect percent) [] (Some (Refused refusals.Memory)) m v w sink sink
         untold_answer sink =
             keeps snapshot mid start done sweeps among m distinct image told is (Some (Refused refusals.Memory)) sink sink
             (done_left snapshot mid start done sweeps among m distinct image told is freed copied refl)
-            (wrote_nothing (Collect percent) [] m (Refused refusals.Memory) sink (not_sink refusals.Memory)) (λ store right. (freed, copied, some_gave store right))
+            (λ store right. (freed, copied, some_gave store right))
 
       pub done_map : (ending : Option Ending) (sink sink_now : SinkView) → IsDone ending → WroteReply (collected_line freed copied) ending sink sink_now →
           KeepsEachMap (Collect percent) [] ending v w sink sink_now

@@ -22,8 +22,7 @@ use Rattle.backup_engine.proofs.CollectKept.{done_any, ends_found, ends_frame, s
 use Rattle.backup_engine.proofs.CollectLines.{stopped_run, swept_run, unbegun_run}
 use Rattle.backup_engine.proofs.CollectMap.{done_map, stopped_map, unbegun_map, untold_map}
 use Rattle.backup_engine.proofs.CollectSteps.{collection_later}
-use Rattle.backup_engine.proofs.ListKept.{is_done}
-use Rattle.backup_engine.proofs.Replied.{replied_sent, wrote_sent}
+use Rattle.backup_engine.proofs.Replied.{is_done, replied_sent, wrote_sent}
 use Rattle.backup_engine.proofs.Returned.{one_later}
 use Rattle.backup_engine.proofs.ReadSteps.{steps_of}
 

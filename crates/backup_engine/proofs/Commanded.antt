@@ -11,30 +11,32 @@ use Rattle.reply_text.specs.declared.ending.Ending.TheVariants.{Refused}
 use Rattle.store_core.specs.Opening.{IsNotRead}
 use Rattle.backup_engine.specs.AnyDisk.{Holds, Took}
 use Rattle.backup_engine.specs.Line.{CommandLine}
-use Rattle.backup_engine.specs.ByFiles.{RunsEachByFiles}
+use Rattle.backup_engine.specs.ByFiles.{FailsAlone, RunsEachByFiles}
 use Rattle.backup_engine.specs.Singles.{SpeaksAs}
 use Rattle.backup_engine.specs.TopCall.{DoesCommand, Keeps}
-use Rattle.backup_engine.proofs.WholeMade.{RunsIfOpened, whole_here, whole_made, whole_unmade, whole_unread}
+use Rattle.backup_engine.proofs.EndsMade.{RunsIfOpened, ends_here, ends_made, ends_unmade, ends_unread}
 
 module _ (D : Type 0) (view : D → DiskView) (command : CommandLine) (given : List ℕ) (v w : DiskView) (source source_now : SourceView) (sink sink_now : SinkView) where
   -- it was opened as it was
   pub does_here : (rs : List Replied) (ending : Option Ending) → RunsIfOpened v → Keeps command given ending v w source source_now sink sink_now →
       SpeaksAs command given ending rs v w source source_now sink sink_now
-      → RunsEachByFiles ending rs v w → Holds v w → DoesCommand D view command given rs ending v w source source_now sink sink_now
-  does_here rs ending runs keeps speaks by_files holds = record {
-    whole = whole_here command given ending sink sink_now v w runs keeps.map;
+      → RunsEachByFiles ending rs v w → (rs ≡ [] → FailsAlone ending rs v) → Holds v w → DoesCommand D view command given rs ending v w source source_now sink sink_now
+  does_here rs ending runs keeps speaks by_files alone holds = record {
     by_files = by_files;
+    fails_alone = alone;
+    ends = ends_here command given ending sink sink_now v w runs keeps.map;
     took = keeps.any.took;
     way = inl (inl ((keeps, speaks), λ free is. holds));
   }
 
   -- or once room was made
   pub does_made : (rs : List Replied) (ending : Option Ending) (mid : D) → RoomMade v (view mid) → Keeps command given ending (view mid) w source source_now sink sink_now
-      → SpeaksAs command given ending rs (view mid) w source source_now sink sink_now → RunsEachByFiles ending rs v w → IsLater (view mid) w →
+      → SpeaksAs command given ending rs (view mid) w source source_now sink sink_now → RunsEachByFiles ending rs v w → (rs ≡ [] → FailsAlone ending rs v) → IsLater (view mid) w →
       DoesCommand D view command given rs ending v w source source_now sink sink_now
-  does_made rs ending mid made keeps speaks by_files later = record {
-    whole = whole_made command given ending sink sink_now v (view mid) w made keeps.map;
+  does_made rs ending mid made keeps speaks by_files alone later = record {
     by_files = by_files;
+    fails_alone = alone;
+    ends = ends_made command given ending sink sink_now v (view mid) w made keeps.map;
     took = keeps.any.took;
     way = inl (inr (mid, (made, later, (keeps, speaks))));
   }
@@ -48,21 +50,23 @@ full_not refusal free is not =
 module _ (D : Type 0) (view : D → DiskView) (command : CommandLine) (given : List ℕ) (v w : DiskView) (source : SourceView) (sink : SinkView) (refusal : Refusal) where
   -- it wasn't, though not because too few slots are closed
   pub does_unread : IsNotRead refusal v w → IsNotFull refusal → Keeps command given (Some (Refused refusal)) v w source source sink sink
-      → SpeaksAs command given (Some (Refused refusal)) [] v w source source sink sink → RunsEachByFiles (Some (Refused refusal)) [] v w →
-      DoesCommand D view command given [] (Some (Refused refusal)) v w source source sink sink
-  does_unread is not keeps speaks by_files = record {
-    whole = whole_unread command given refusal sink v w is not;
+      → SpeaksAs command given (Some (Refused refusal)) [] v w source source sink sink → RunsEachByFiles (Some (Refused refusal)) [] v w
+      → (◌≡◌ {A = List Replied} [] [] → FailsAlone (Some (Refused refusal)) [] v) → DoesCommand D view command given [] (Some (Refused refusal)) v w source source sink sink
+  does_unread is not keeps speaks by_files alone = record {
     by_files = by_files;
+    fails_alone = alone;
+    ends = ends_unread command given refusal v w is not;
     took = keeps.any.took;
     way = inl (inl ((keeps, speaks), λ free is. absurd (full_not refusal free is not)));
   }
 
   -- or no room was made
-  pub does_unmade : RoomUnmade refusal v w → Took command given (Some (Refused refusal)) source source → RunsEachByFiles (Some (Refused refusal)) [] v w →
-      DoesCommand D view command given [] (Some (Refused refusal)) v w source source sink sink
-  does_unmade is took by_files = record {
-    whole = whole_unmade command given refusal sink v w is;
+  pub does_unmade : RoomUnmade refusal v w → Took command given (Some (Refused refusal)) source source → RunsEachByFiles (Some (Refused refusal)) [] v w
+      → (◌≡◌ {A = List Replied} [] [] → FailsAlone (Some (Refused refusal)) [] v) → DoesCommand D view command given [] (Some (Refused refusal)) v w source source sink sink
+  does_unmade is took by_files alone = record {
     by_files = by_files;
+    fails_alone = alone;
+    ends = ends_unmade command given refusal v w is;
     took = took;
     way = inr (record { refusal = refusal; ending_is = refl; unmade = is; none = refl; source_is = refl; sink_is = refl });
   }

@@ -42,13 +42,15 @@ use Rattle.backup_engine.specs.Line.{Delete}
 use Rattle.backup_engine.specs.PlainMap.{LacksNumbers}
 use Rattle.backup_engine.specs.Promise.{MayChange, WroteReply}
 use Rattle.backup_engine.proofs.Called.{Called}
-use Rattle.backup_engine.proofs.DeleteMap.{is_none}
 use Rattle.backup_engine.proofs.NotDone.{holds}
 use Rattle.backup_engine.proofs.PutNames.{opened_on}
 use Rattle.backup_engine.proofs.ReadSteps.{steps_of}
 use Rattle.backup_engine.proofs.Reading.{reads_frame}
 use Rattle.backup_engine.proofs.Replied.{IsReplied, replied_faults}
 use Rattle.backup_engine.proofs.WholeCall.{all_counted, all_reads, leaves_more, leaves_of, to_end}
+
+is_none : {A : Type 0} (o : Option A) → o ≡ None → is_some o ≡ false
+is_none o is = ap is_some is
 
 -- a name has what its entry says
 is_some_of : {A : Type 0} (o : Option A) → IsSome o → is_some o ≡ true

@@ -23,7 +23,7 @@ use Rattle.script_runner.specs.LinesAreFileRuns.{FileDesk}
 use Rattle.store_state.specs.Refused.{fails}
 use Rattle.backup_engine.specs.ByFiles.{FailsAlone, RunsEachByFiles}
 
-refusal_fails : (refusal : Refusal) → MayRefuseOpening of_files refusal → IsTrue (fails refusal)
+pub refusal_fails : (refusal : Refusal) → MayRefuseOpening of_files refusal → IsTrue (fails refusal)
 refusal_fails Memory may = refl
 refusal_fails DiskRead may = refl
 refusal_fails DiskWrite may = refl

@@ -1,83 +1,34 @@
 -- What `format` keeps: all of a disk that has a store. Of one that has none it says itself what it leaves.
-use Rattle.std.proofs.Common.{◌≡◌, ◌⊎◌, inl, inr, ℕ, ◌==◌, Bool, true, false, List, [], Option, Some, None, refl, sym, ◌∙◌, ap, arith}
+use Rattle.std.proofs.Common.{◌≡◌, ◌⊎◌, inl, inr, ℕ, ◌==◌, Bool, true, false, List, [], Option, Some, None, refl, sym, ◌∙◌, arith}
 use Rattle.std.proofs.lemmas.Bool.{eqb-true, eqb-false}
 use Rattle.base_model.specs.Bytes.{byte_at}
 use Rattle.base_model.specs.Known.{Known, KnownWith}
-use Rattle.base_model.proofs.Ranges.{byte-range}
 use Rattle.disk_format.specs.declared.numbers.TheConstants.{FORMAT_GATE}
-use Rattle.disk_format.specs.Cells.{format_cell, sealed}
-use Rattle.disk_format.specs.Layout.{size_of}
 use Rattle.dd_disk.specs.View.{DiskView, OnlyReads, CrashLeaves, IsDurable}
 use Rattle.dd_disk.specs.Ending.{Done, CountsFault, ending_of}
 use Rattle.dd_disk.specs.Shows.{Shows}
 use Rattle.dd_disk.specs.Moves.{Acts}
-use Rattle.dd_disk.proofs.Shows.{shown_content}
 use Rattle.dd_io.specs.Flow.{SourceView, SinkView}
 use Rattle.refusals.specs.declared.refusal.Refusal.{Refusal}
-use Rattle.refusals.specs.declared.refusal.Refusal.TheVariants.{Memory, DiskRead, DiskWrite, Clash, AlreadyStore, WrongSize}
+use Rattle.refusals.specs.declared.refusal.Refusal.TheVariants.{Memory, DiskRead, DiskWrite}
 use Rattle.reply_text.specs.declared.ending.Ending.{Ending}
 use Rattle.reply_text.specs.declared.ending.Ending.TheVariants.{Sink, Refused}
 use Rattle.reply_text.specs.Text.{formatted_line}
-use Rattle.store_model.specs.Files.{Stored}
-use Rattle.store_model.specs.Image.{Store, Encodes}
 use Rattle.store_state.specs.Refused.{blames}
 use Rattle.recovery.specs.Formatting.{IsFormatRefusal, IsLeftByFormat, IsBlankOrFormatted}
 use Rattle.backup_engine.specs.AnyDisk.{Formats, IsCaused, EndsDurable, disk_ending}
 use Rattle.backup_engine.specs.Frame.{KeepsRest, KeepsOthers}
 use Rattle.backup_engine.specs.Line.{Format}
-use Rattle.backup_engine.specs.PlainMap.{Refuses, room_of}
-use Rattle.backup_engine.specs.Promise.{EndsBy, IsLeftWith, LeavesMeanwhile, WroteReply, SinceStart}
+use Rattle.backup_engine.specs.Promise.{LeavesMeanwhile, WroteReply, SinceStart}
 use Rattle.backup_engine.specs.TopCall.{Keeps, IsLeftBlank, IsUntouched}
 use Rattle.backup_engine.proofs.Replied.{IsReplied, replied_faults}
-use Rattle.backup_engine.proofs.Reading.{reads_map, AnswersEach, reads_leave}
-
-gate_of_format : (slots : ℕ) → byte_at 0 (format_cell slots) ≡ FORMAT_GATE
-unfolding sealed
-gate_of_format slots = refl
-
--- the gate of a store is open
-gate_open : (image : List ℕ) (store : Store) → Encodes image store → byte_at 0 image ≡ FORMAT_GATE
-gate_open image store right = sym (byte-range 0 0 512 image (omega arith)) ∙ ap (byte_at 0) right.format ∙ gate_of_format store.slots
+use Rattle.backup_engine.proofs.Reading.{reads_leave}
 
 -- ---- refused
 
 module _ (slots : ℕ) (v w : DiskView) where
   abbrev shown : (List ℕ → Type 0) → Type 0
   shown = Shows v w
-
-  -- the map has no clash
-  ends_by : (m : Stored) (content : Option (List ℕ)) (refusal : Refusal) → IsLeftWith m content (λ store. Refuses (Format slots) [] (room_of (Format slots) m store) refusal) →
-      EndsBy (Format slots) [] m content (Some (Refused refusal))
-  ends_by m content (Clash key at) left = absurd left.3
-  ends_by m content refusal left = left
-
-  -- of a disk that has a store it is one of the map's
-  module _ (old : List ℕ) (known : v.content ≡ Some old) (m : Stored) (store : Store) (right : Encodes old store) where
-    same_size : v.size ≡ size_of store.slots
-    same_size = sym (v.sized old known) ∙ right.size
-
-    refuses : (refusal : Refusal) → IsFormatRefusal shown v.size slots refusal → Refuses (Format slots) [] (room_of (Format slots) m store) refusal
-    refuses Memory wrong = tt
-    refuses DiskRead wrong = tt
-    refuses DiskWrite wrong = absurd (shown_content v w _ old wrong.1 known (gate_open old store right))
-    refuses AlreadyStore wrong = sym same_size ∙ wrong.0
-    refuses (WrongSize want got) wrong = (wrong.0, wrong.1 ∙ same_size, wrong.2)
-    refuses refusal wrong = absurd wrong
-
-  -- that is never a write that failed
-  reads_over : (refusal : Refusal) → IsFormatRefusal shown v.size slots refusal → Acts (ending_of (blames refusal)) v w → (old : List ℕ) → v.content ≡ Some old → (store : Store) →
-      Encodes old store
-      → OnlyReads v w
-  reads_over DiskWrite wrong acts old known store right = absurd (shown_content v w _ old wrong.1 known (gate_open old store right))
-  reads_over DiskRead wrong acts old known store right = acts.ends
-  reads_over refusal wrong acts old known store right = acts.ends
-
-  refused_by : (refusal : Refusal) (sink : SinkView) → IsFormatRefusal shown v.size slots refusal → OnlyReads v w
-      → AnswersEach (Format slots) [] (Some (Refused refusal)) v w sink sink
-  refused_by refusal sink wrong reads old known among m distinct right is = record {
-    by_map = ends_by m w.content refusal (is.store, (old, reads.content_is ∙ known, is.stands.holds), is.reserve, refuses old known m is.store is.stands.holds.right refusal wrong);
-    wrote = refl;
-  }
 
   -- ---- a disk with a store, and one without
 
@@ -154,9 +105,7 @@ module _ (slots : ℕ) (v w : DiskView) where
     pub refused_keeps : (refusal : Refusal) (sink : SinkView) → IsFormatRefusal shown v.size slots refusal → Acts (ending_of (blames refusal)) v w
         → Keeps (Format slots) [] (Some (Refused refusal)) v w source source sink sink
     refused_keeps refusal sink wrong acts = record {
-      map = λ old known among m distinct right is.
-          reads_map (Format slots) [] (Refused refusal) v w sink sink (reads_over refusal wrong acts old known is.store is.stands.holds.right) (λ sink_is. cc)
-          (refused_by refusal sink wrong (reads_over refusal wrong acts old known is.store is.stands.holds.right)) old known among m distinct right is;
+      map = λ old known among m distinct right stands. tt;
       any = record {
         took = (refl, refl);
         caused = caused refusal source sink wrong;
@@ -177,7 +126,7 @@ module _ (slots : ℕ) (v w : DiskView) where
         WroteReply (formatted_line slots) ending sink sink_now
         → Keeps (Format slots) [] ending v w source source sink sink_now
     done_keeps ending sink sink_now replied formats durable acts wrote = record {
-      map = λ old known among m distinct right is. absurd (shown_content v w _ old formats.closed known (gate_open old is.store is.stands.holds.right));
+      map = λ old known among m distinct right stands. tt;
       any = record {
         took = (refl, refl);
         caused = done_caused ending source sink sink_now replied formats;

@@ -18,7 +18,6 @@ use Rattle.backup_engine.proofs.Called.{Called}
 use Rattle.backup_engine.proofs.IngestFrame.{ingest_frame}
 use Rattle.backup_engine.proofs.PutCauses.{ingest_any}
 use Rattle.backup_engine.proofs.PutMaps.{refused_map, stopped_map, done_map}
-use Rattle.backup_engine.proofs.Replied.{wrote_sent}
 
 -- the count of the source's faults stays, but at a fault of it
 heard_in : (result : Result Unit Ending) (source source_now : SourceView) → IsHeard result source source_now → ¬ (ending_in result ≡ Some Source) →
@@ -37,7 +36,7 @@ module _ (C : Type 0) (state : C → CoreState) (v w : DiskView) (old new : C) (
     put_map : (put : Result Unit Refusal) (result : Result Unit Ending) → PutRun C state name given put old new → IfErr put (IsPutRefusal name given (state old).disk (state new))
         → Replies (stored_line name (root_of given)) put result sink sink_now → KeepsEachMap (Ingest name) given (ending_in result) v w sink sink_now
     put_map (Ok u) result ran refused replies =
-        done_map C state v w old new called name given u ran (ending_in result) sink sink_now (sent_ends _ result sink sink_now replies) (wrote_sent _ result sink sink_now replies)
+        done_map C state v w old new called name given u ran (ending_in result) sink sink_now (sent_ends _ result sink sink_now replies)
     put_map (Err refusal) result ran refused replies =
         subst (λ (r : Result Unit Ending). KeepsEachMap (Ingest name) given (ending_in r) v w sink sink_now) (sym replies.0)
         (subst (λ (k : SinkView). KeepsEachMap (Ingest name) given (Some (Refused refusal)) v w sink k) (sym replies.1)

@@ -20,7 +20,6 @@ pub mod CollectsKept
 pub mod Commanded
 pub mod Committed
 pub mod DeleteKept
-pub mod DeleteMap
 pub mod EarlierFrees
 pub mod EarlierIds
 pub mod FedOpens
@@ -33,7 +32,6 @@ pub mod Fresh
 pub mod GiveRuns
 pub mod GivenBack
 pub mod GivenLines
-pub mod GivenOrder
 pub mod GivenOut
 pub mod IngestFrame
 pub mod Ingesting
@@ -53,7 +51,6 @@ pub mod NoGcSteps
 pub mod NotDone
 pub mod NotOpened
 pub mod Numbers
-pub mod OneLine
 pub mod Opens
 pub mod OtherHeaders
 pub mod PutCauses
@@ -100,4 +97,14 @@ pub mod WayRefusals
 pub mod WaySeals
 pub mod Ways
 pub mod WholeCall
-pub mod WholeMade
+pub mod AnswersByMap
+pub mod CollectByMap
+pub mod EndsMade
+pub mod NamesByMap
+pub mod NoneCut
+pub mod Rested
+pub mod RestoreByMap
+pub mod IngestByMap
+pub mod IngestCuts
+pub mod IngestTails
+pub mod Ran

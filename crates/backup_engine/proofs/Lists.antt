@@ -23,10 +23,10 @@ use Rattle.backup_engine.specs.Line as table
 use Rattle.backup_engine.specs.ByFiles.{RefusedByFiles, RunsByFiles}
 use Rattle.backup_engine.specs.Noted.{status_by}
 use Rattle.backup_engine.specs.PlainMap.{map_after}
-use Rattle.backup_engine.specs.Promise.{IsLeftAs, MayBeMeanwhile, SinceStart, NothingWritten, Stands}
+use Rattle.backup_engine.specs.AnswersByMap.{AnswersByMap, AnswersEachCall, IsLeftAs, LeavesAs, MayBeMeanwhile, WasNotDone}
+use Rattle.backup_engine.specs.Promise.{SinceStart, Stands}
 use Rattle.backup_engine.specs.TopCall.{Does, DoesNothing, Promise}
-use Rattle.backup_engine.specs.Whole.{KeepsWhole}
-use Rattle.backup_engine.specs.Lists.{AnswersBy, Call, KeepsAs, KeepsCall, seen_by, CallRun, IsGivenAmong, IsPromised, BeginsOfMap, LeadsBy, MayLead, MayPass, LeadsTo, Passed, Possible, RunsByTheMap, StandsEmpty, FormatBegins, LeavesPossible, AnswersByTheMap, SurvivesACrash}
+use Rattle.backup_engine.specs.Lists.{AnswersBy, Call, KeepsAs, KeepsCall, seen_by, NothingWritten, CallRun, IsGivenAmong, IsPromised, BeginsOfMap, LeadsBy, MayLead, MayPass, LeadsTo, Passed, Possible, RunsByTheMap, StandsEmpty, FormatBegins, LeavesPossible, AnswersByTheMap, SurvivesACrash}
 use Rattle.backup_engine.proofs.ListScripts.{no_lines, passes_of, refused_leads, script_leads}
 use Rattle.backup_engine.proofs.ListsFormat.{formats_nothing}
 use Rattle.backup_engine.proofs.Reading.{same_reads, since_began, since_start}
@@ -49,7 +49,7 @@ abbrev pub OfSome : (List ℕ → Type 0) → (Stored → Type 0) → List ℕ �
 OfSome S P image = (next : Stored) × (P next × OpensAs S next image)
 
 -- a line that wrote nothing may leave any map as it was
-leads_nowhere : (command : CommandLine) (given : List ℕ) (ending : Option Ending) (m : Stored) → ((e : Ending) × (ending ≡ Some e) × ¬ (e ≡ Sink)) →
+leads_nowhere : (command : CommandLine) (given : List ℕ) (ending : Option Ending) (m : Stored) → WasNotDone ending →
     LeadsBy command given ending m m
 leads_nowhere command given None m (e, is, other) = cc
 leads_nowhere command given (Some Sink) m (e, is, other) = absurd (other cc)
@@ -85,12 +85,12 @@ Answers D view (Some Check) S c m v w = OnlyReads v w
 
 -- what a command leaves of it, now and meanwhile
 record Leaves (S : List ℕ → Type 0) (command : CommandLine) (c : Call) (m : Stored) (v w : DiskView) : Type 0 where
-  left : Stands (IsLeftAs S command c.given m c.ending) w ⊎ NothingWritten c.ending v w
+  left : LeavesAs (IsLeftAs S command c.given m c.ending) c.ending v w ⊎ NothingWritten c.ending v w
   crash : (image : List ℕ) → SinceStart v w image → v.images image ⊎ MayBeMeanwhile S command c.given m c.ending image
 
 module _ (S : List ℕ → Type 0) (c : Call) (m : Stored) (v w : DiskView) where
-  whole_leaves : (command : CommandLine) → KeepsWhole S command c.given c.ending m v w c.sink c.sink_now → Leaves S command c m v w
-  whole_leaves command keeps = record { left = keeps.left; crash = since_began (MayBeMeanwhile S command c.given m c.ending) v w keeps.crash }
+  whole_leaves : (command : CommandLine) → AnswersByMap S command c.given c.ending m v w c.sink c.sink_now → Leaves S command c m v w
+  whole_leaves command answers = record { left = inl answers.left; crash = since_began (MayBeMeanwhile S command c.given m c.ending) v w answers.crash }
 
   command_leaves : (command : CommandLine) → AnswersBy S command c m v w → Leaves S command c m v w
   command_leaves (Format slots) stays = record { left = inr stays.nothing; crash = λ image since. inl (stays.crash image since) }
@@ -108,7 +108,7 @@ module _ (S : List ℕ → Type 0) (P : Stored → Type 0) (c : Call) where
   words_lead : (image : List ℕ) → OfSome S P image → OfSome S (After P None c) image
   words_lead image (next, (has, of)) = (next, ((next, (has, refl)), of))
 
-  same_leads : (command : CommandLine) (image : List ℕ) → ((e : Ending) × (c.ending ≡ Some e) × ¬ (e ≡ Sink)) → OfSome S P image →
+  same_leads : (command : CommandLine) (image : List ℕ) → WasNotDone c.ending → OfSome S P image →
       OfSome S (After P (Some (Single command)) c) image
   same_leads command image not_done (next, (has, of)) = (next, ((next, (has, leads_nowhere command c.given c.ending next not_done)), of))
 
@@ -116,8 +116,11 @@ module _ (S : List ℕ → Type 0) (P : Stored → Type 0) (c : Call) where
     line_leads : (command : CommandLine) (image : List ℕ) → IsLeftAs S command c.given m c.ending image → OfSome S (After P (Some (Single command)) c) image
     line_leads command image left = let one = leads_left S command c.given c.ending m image left in (one.0, ((m, (has, one.1.0)), one.1.1))
 
-    line_leaves : (command : CommandLine) → Stands (IsLeftAs S command c.given m c.ending) w ⊎ NothingWritten c.ending v w → Stands (OfSome S (After P (Some (Single command)) c)) w
-    line_leaves command (inl left) = ((left.0.0, left.0.1, line_leads command left.0.0 left.0.2), λ d is. line_leads command d (left.1 d is))
+    line_leaves : (command : CommandLine) → LeavesAs (IsLeftAs S command c.given m c.ending) c.ending v w ⊎ NothingWritten c.ending v w → Stands (OfSome S (After P (Some (Single command)) c)) w
+    line_leaves command (inl left) = (
+      (left.content.0, left.content.1, line_leads command left.content.0 left.content.2),
+      λ d is. elim (left.images d is) [ inl there ↦ line_leads command d there | inr (not_done, was) ↦ same_leads command d not_done (stands.1 d was) ],
+    )
     line_leaves command (inr none) = (
       (stands.0.0, none.content ∙ stands.0.1, same_leads command stands.0.0 none.not_done stands.0.2),
       λ d is. same_leads command d none.not_done
@@ -220,31 +223,49 @@ given_last : (S : List ℕ → Type 0) (calls : List Call) (last : Call) → All
 given_last S [] last given = given.0
 given_last S (c ∷ cs) last given = given_last S cs last given.1
 
-module _ (D : Type 0) (view : D → DiskView) (among : ByteSet) (apart : HasNoCollisions (IsIn among)) where
-  answers_line : (line : Option TableLine) (c : Call) (m : Stored) (v w : DiskView) (image : List ℕ) → IsGivenAmong (IsIn among) c → v.content ≡ Some image →
+-- each command answers by the map
+pub record ByTheMap (D : Type 0) (view : D → DiskView) : Type 0 where
+  pub list : AnswersEachCall D view table.List
+  pub restore : (name : List ℕ) → AnswersEachCall D view (Restore name)
+  pub delete : (name : List ℕ) → AnswersEachCall D view (Delete name)
+  pub ingest : (name : List ℕ) → AnswersEachCall D view (Ingest name)
+  pub collect : (percent : ℕ) → AnswersEachCall D view (Collect percent)
+
+pub by_the_map : (D : Type 0) (view : D → DiskView) → AnswersEachCall D view table.List → ((name : List ℕ) → AnswersEachCall D view (Restore name))
+    → ((name : List ℕ) → AnswersEachCall D view (Delete name)) → ((name : List ℕ) → AnswersEachCall D view (Ingest name))
+    → ((percent : ℕ) → AnswersEachCall D view (Collect percent)) → ByTheMap D view
+by_the_map D view list restore delete ingest collect = record { list = list; restore = restore; delete = delete; ingest = ingest; collect = collect }
+
+module _ (D : Type 0) (view : D → DiskView) (laws : ByTheMap D view) (among : ByteSet) (apart : HasNoCollisions (IsIn among)) where
+  answers_line : (line : Option TableLine) (c : Call) (m : Stored) (v w : D) (image : List ℕ) → IsGivenAmong (IsIn among) c → (view v).content ≡ Some image →
       OpensAs (IsIn among) m image
-      → KeepsAs D view line c v w → Answers D view line (IsIn among) c m v w
+      → KeepsAs D view line c (view v) (view w) → Answers D view line (IsIn among) c m (view v) (view w)
   answers_line None c m v w image given told opens keeps = keeps.does
-  answers_line (Some (Single (Format slots))) c m v w image given told opens keeps = formats_nothing among apart slots c m v w image given.given told opens keeps.does.0
-  answers_line (Some (Single (Ingest name))) c m v w image given told opens keeps = keeps.does.whole image told among m apart given.given opens
-  answers_line (Some (Single (Restore name))) c m v w image given told opens keeps = keeps.does.whole image told among m apart given.given opens
-  answers_line (Some (Single (Delete name))) c m v w image given told opens keeps = keeps.does.whole image told among m apart given.given opens
-  answers_line (Some (Single table.List)) c m v w image given told opens keeps = keeps.does.whole image told among m apart given.given opens
-  answers_line (Some (Single (Collect percent))) c m v w image given told opens keeps = keeps.does.whole image told among m apart given.given opens
+  answers_line (Some (Single (Format slots))) c m v w image given told opens keeps = formats_nothing among apart slots c m (view v) (view w) image given.given told opens keeps.does.0
+  answers_line (Some (Single (Ingest name))) c m v w image given told opens keeps =
+      laws.ingest name c.given c.rs c.ending v w c.source c.source_now c.sink c.sink_now keeps.does image told among m apart given.given opens
+  answers_line (Some (Single (Restore name))) c m v w image given told opens keeps =
+      laws.restore name c.given c.rs c.ending v w c.source c.source_now c.sink c.sink_now keeps.does image told among m apart given.given opens
+  answers_line (Some (Single (Delete name))) c m v w image given told opens keeps =
+      laws.delete name c.given c.rs c.ending v w c.source c.source_now c.sink c.sink_now keeps.does image told among m apart given.given opens
+  answers_line (Some (Single table.List)) c m v w image given told opens keeps =
+      laws.list c.given c.rs c.ending v w c.source c.source_now c.sink c.sink_now keeps.does image told among m apart given.given opens
+  answers_line (Some (Single (Collect percent))) c m v w image given told opens keeps =
+      laws.collect percent c.given c.rs c.ending v w c.source c.source_now c.sink c.sink_now keeps.does image told among m apart given.given opens
   answers_line (Some Run) c m v w image given told opens keeps =
       (opens.store, keeps.does.by_files among (unopened m opens.store) apart (given.cut m opens.store) (image, told, files_begin among m image opens))
   answers_line (Some Check) c m v w image given told opens keeps = keeps.reads.only
 
   -- the map that a call finds in the content
-  found : (P : Stored → Type 0) (c : Call) (v w : DiskView) → IsGivenAmong (IsIn among) c → Stands (OfSome (IsIn among) P) v → KeepsCall D view c v w
-      → (m : Stored) × (P m × KnownWith v.content (OpensAs (IsIn among) m) × Answers D view c.line (IsIn among) c m v w)
+  found : (P : Stored → Type 0) (c : Call) (v w : D) → IsGivenAmong (IsIn among) c → Stands (OfSome (IsIn among) P) (view v) → KeepsCall D view c (view v) (view w)
+      → (m : Stored) × (P m × KnownWith (view v).content (OpensAs (IsIn among) m) × Answers D view c.line (IsIn among) c m (view v) (view w))
   found P c v w given ((image, told, (m, (has, opens))), each) keeps = (m, (has, (image, told, opens), answers_line c.line c m v w image given told opens keeps))
 
-  one_call : (P : Stored → Type 0) (c : Call) (v w : DiskView) → IsGivenAmong (IsIn among) c → Stands (OfSome (IsIn among) P) v → KeepsCall D view c v w
-      → Stands (OfSome (IsIn among) (After P c.line c)) w
+  one_call : (P : Stored → Type 0) (c : Call) (v w : D) → IsGivenAmong (IsIn among) c → Stands (OfSome (IsIn among) P) (view v) → KeepsCall D view c (view v) (view w)
+      → Stands (OfSome (IsIn among) (After P c.line c)) (view w)
   one_call P c v w given stands keeps =
       let one = found P c v w given stands keeps in
-      leaves (IsIn among) P c one.0 v w one.1.0 stands D view c.line one.1.2
+      leaves (IsIn among) P c one.0 (view v) (view w) one.1.0 stands D view c.line one.1.2
 
   all_calls : (P : Stored → Type 0) (calls : List Call) (old new : D) → AllByRecursion (IsGivenAmong (IsIn among)) calls
       → Stands (OfSome (IsIn among) P) (view old) → CallRun D view calls old new → Stands (OfSome (IsIn among) (AfterAll P calls)) (view new)
@@ -252,48 +273,48 @@ module _ (D : Type 0) (view : D → DiskView) (among : ByteSet) (apart : HasNoCo
       subst (λ (d : D). Stands (OfSome (IsIn among) (AfterAll P [])) (view d)) (sym run) (weaker (IsIn among) P (AfterAll P []) (view old) (λ m has. (m, (has, refl))) stands)
   all_calls P (c ∷ cs) old new given stands (mid, (keeps, rest)) =
       weaker (IsIn among) (AfterAll (After P c.line c) cs) (AfterAll P (c ∷ cs)) (view new) (λ next all. (all.1.0.0, (all.1.0.1.0, (all.0, (all.1.0.1.1, all.1.1)))))
-      (all_calls (After P c.line c) cs mid new given.1 (one_call P c (view old) (view mid) given.0 stands keeps) rest)
+      (all_calls (After P c.line c) cs mid new given.1 (one_call P c old mid given.0 stands keeps) rest)
 
 -- ---- the theorem
 
 only_one : (S : List ℕ → Type 0) (m : Stored) (v : DiskView) → Stands (OpensAs S m) v → Stands (OfSome S (λ s. s ≡ m)) v
 only_one S m v stands = ((stands.0.0, stands.0.1, (m, (refl, stands.0.2))), λ d is. (m, (refl, stands.1 d is)))
 
-pub leaves_possible : (D : Type 0) (view : D → DiskView) → LeavesPossible D view
-leaves_possible D view among m calls old new begins run =
+pub leaves_possible : (D : Type 0) (view : D → DiskView) → ByTheMap D view → LeavesPossible D view
+leaves_possible D view laws among m calls old new begins run =
     weaker (IsIn among) (AfterAll (λ s. s ≡ m) calls) (LeadsTo calls m) (view new) (λ next all. subst (λ (s : Stored). LeadsTo calls s next) all.1.0 all.1.1)
-    (all_calls D view among begins.apart (λ s. s ≡ m) calls old new begins.given (only_one (IsIn among) m (view old) begins.stands) run)
+    (all_calls D view laws among begins.apart (λ s. s ≡ m) calls old new begins.given (only_one (IsIn among) m (view old) begins.stands) run)
 
-module _ (D : Type 0) (view : D → DiskView) (among : ByteSet) (m : Stored) (calls : List Call) (last : Call) (old mid new : D)
+module _ (D : Type 0) (view : D → DiskView) (laws : ByTheMap D view) (among : ByteSet) (m : Stored) (calls : List Call) (last : Call) (old mid new : D)
     (begins : BeginsOfMap (IsIn among) (calls ++ last ∷ []) m (view old))
     (run : CallRun D view calls old mid) (keeps : KeepsCall D view last (view mid) (view new)) where
   before : Stands (Possible (IsIn among) calls m) (view mid)
-  before = leaves_possible D view among m calls old mid (record { apart = begins.apart; given = given_before (IsIn among) calls last begins.given; stands = begins.stands }) run
+  before = leaves_possible D view laws among m calls old mid (record { apart = begins.apart; given = given_before (IsIn among) calls last begins.given; stands = begins.stands }) run
 
   last_finds : (now : Stored) × (LeadsTo calls m now × KnownWith (view mid).content (OpensAs (IsIn among) now) × Answers D view last.line (IsIn among) last now (view mid)
       (view new))
-  last_finds = found D view among begins.apart (LeadsTo calls m) last (view mid) (view new) (given_last (IsIn among) calls last begins.given) before keeps
+  last_finds = found D view laws among begins.apart (LeadsTo calls m) last mid new (given_last (IsIn among) calls last begins.given) before keeps
 
   by_led : (now : Stored) → LeadsTo calls m now → (c : List ℕ) → Possible (IsIn among) calls m c ⊎ OfSome (IsIn among) (MayPass last.line last now) c
       → Possible (IsIn among) calls m c ⊎ Passed (IsIn among) calls last m c
   by_led now leads c (inl possible) = inl possible
   by_led now leads c (inr led) = inr (now, (leads, led))
 
-pub answers_by_the_map : (D : Type 0) (view : D → DiskView) → AnswersByTheMap D view
-answers_by_the_map D view among m calls last command old mid new begins run keeps line_is =
-    let one = last_finds D view among m calls last old mid new begins run keeps in
+pub answers_by_the_map : (D : Type 0) (view : D → DiskView) → ByTheMap D view → AnswersByTheMap D view
+answers_by_the_map D view laws among m calls last command old mid new begins run keeps line_is =
+    let one = last_finds D view laws among m calls last old mid new begins run keeps in
     (one.0, (one.1.0, one.1.1, subst (λ (l : Option TableLine). Answers D view l (IsIn among) last one.0 (view mid) (view new)) line_is one.1.2))
 
-pub runs_by_the_map : (D : Type 0) (view : D → DiskView) → RunsByTheMap D view
-runs_by_the_map D view among m calls last old mid new begins run keeps line_is =
-    let one = last_finds D view among m calls last old mid new begins run keeps in
+pub runs_by_the_map : (D : Type 0) (view : D → DiskView) → ByTheMap D view → RunsByTheMap D view
+runs_by_the_map D view laws among m calls last old mid new begins run keeps line_is =
+    let one = last_finds D view laws among m calls last old mid new begins run keeps in
     (one.0, (one.1.0, one.1.1, subst (λ (l : Option TableLine). Answers D view l (IsIn among) last one.0 (view mid) (view new)) line_is one.1.2))
 
-pub survives_a_crash : (D : Type 0) (view : D → DiskView) → SurvivesACrash D view
-survives_a_crash D view among m calls last old mid new begins run keeps c since =
-    let one = last_finds D view among m calls last old mid new begins run keeps in
-    by_led D view among m calls last old mid new begins run keeps one.0 one.1.0 c
-    (crash_leaves (IsIn among) (LeadsTo calls m) last one.0 (view mid) (view new) one.1.0 (before D view among m calls last old mid new begins run keeps) D view last.line one.1.2
+pub survives_a_crash : (D : Type 0) (view : D → DiskView) → ByTheMap D view → SurvivesACrash D view
+survives_a_crash D view laws among m calls last old mid new begins run keeps c since =
+    let one = last_finds D view laws among m calls last old mid new begins run keeps in
+    by_led D view laws among m calls last old mid new begins run keeps one.0 one.1.0 c
+    (crash_leaves (IsIn among) (LeadsTo calls m) last one.0 (view mid) (view new) one.1.0 (before D view laws among m calls last old mid new begins run keeps) D view last.line one.1.2
     c since)
 
 -- ---- the empty map

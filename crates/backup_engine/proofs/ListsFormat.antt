@@ -6,16 +6,23 @@ use Rattle.disk_format.specs.declared.numbers.TheConstants.{FORMAT_GATE}
 use Rattle.disk_format.specs.Cells.{format_cell, sealed}
 use Rattle.dd_disk.specs.View.{DiskView}
 use Rattle.dd_disk.proofs.Shows.{shown_content}
+use Rattle.disk_format.specs.Layout.{size_of}
+use Rattle.dd_disk.specs.Shows.{Shows}
+use Rattle.recovery.specs.Formatting.{IsFormatRefusal}
+use Rattle.refusals.specs.declared.refusal.Refusal.{Refusal}
+use Rattle.refusals.specs.declared.refusal.Refusal.TheVariants.{AlreadyStore, Clash, DiskRead, DiskWrite, Memory, WrongSize}
+use Rattle.reply_text.specs.Text.{formatted_line}
+use Rattle.backup_engine.specs.PlainMap.{Refuses, room_of}
 use Rattle.dd_io.specs.Flow.{SourceView, SinkView}
 use Rattle.reply_text.specs.declared.ending.Ending.{Ending}
 use Rattle.reply_text.specs.declared.ending.Ending.TheVariants.{Words, Source, Sink, Line, Script, Refused}
-use Rattle.store_model.specs.Collisions.{HasNoCollisions, ByteSet, IsIn, OpensAs}
+use Rattle.store_model.specs.Collisions.{HasNoCollisions, ByteSet, IsIn, IsOf, OpensAs}
 use Rattle.store_model.specs.Files.{Stored}
 use Rattle.store_model.specs.Image.{Store, Encodes}
 use Rattle.store_model.specs.Standing.{IsSegmentOf}
 use Rattle.backup_engine.specs.AnyDisk.{Formats, IsCaused}
-use Rattle.backup_engine.specs.Line.{Format}
-use Rattle.backup_engine.specs.Promise.{SinceStart}
+use Rattle.backup_engine.specs.Line.{Format, Ingest}
+use Rattle.backup_engine.specs.Promise.{EndsBy, SinceStart, WroteReply}
 use Rattle.backup_engine.specs.TopCall.{Keeps}
 use Rattle.backup_engine.specs.Lists.{Call, FormatsNothing}
 use Rattle.backup_engine.proofs.Reading.{since_began}
@@ -27,6 +34,16 @@ gate_of_format slots = refl
 -- the gate of a store is open
 gate_open : (image : List ℕ) (store : Store) → Encodes image store → byte_at 0 image ≡ FORMAT_GATE
 gate_open image store right = sym (byte-range 0 0 512 image (omega arith)) ∙ ap (byte_at 0) right.format ∙ gate_of_format store.slots
+
+no_ingest : {slots : ℕ} (name : List ℕ) → Format slots ≡ Ingest name → ⊥
+no_ingest name is = cc
+
+-- what was not done has no reply
+unwritten : (slots : ℕ) (ending : Option Ending) (v w : DiskView) (sink sink_now : SinkView) → (e : Ending) × (ending ≡ Some e) × ¬ (e ≡ Sink)
+    → WroteReply (formatted_line slots) ending sink sink_now → sink_now.written ≡ sink.written
+unwritten slots None v w sink sink_now (e, is, other) wrote = absurd (let no : None ≡ Some e = is in cc)
+unwritten slots (Some Sink) v w sink sink_now (e, is, other) wrote = absurd (other (let same : e ≡ Sink = cc in same))
+unwritten slots (Some ending) v w sink sink_now not_done wrote = wrote
 
 module _ (slots : ℕ) (given : List ℕ) (v w : DiskView) (source source_now : SourceView) (sink sink_now : SinkView) (old : List ℕ) (known : v.content ≡ Some old)
     (gate : byte_at 0 old ≡ FORMAT_GATE) where
@@ -53,6 +70,35 @@ module _ (slots : ℕ) (given : List ℕ) (v w : DiskView) (source source_now : 
       | inr rest ↦ subst (λ (b : List ℕ). v.images b) (sym (rest gate)) (v.as_read old known)
     ]
 
+  -- ---- it was refused as the map has it
+
+  module _ (among : ByteSet) (m : Stored) (is : IsOf (IsIn among) m old) where
+    same_size : v.size ≡ size_of is.store.slots
+    same_size = sym (v.sized old known) ∙ is.stands.holds.right.size
+
+    refuses : (refusal : Refusal) → IsFormatRefusal (Shows v w) v.size slots refusal → Refuses (Format slots) given (room_of (Format slots) m is.store) refusal
+    refuses Memory wrong = tt
+    refuses DiskRead wrong = tt
+    refuses DiskWrite wrong = absurd (shown_content v w _ old wrong.1 known gate)
+    refuses AlreadyStore wrong = sym same_size ∙ wrong.0
+    refuses (WrongSize want got) wrong = (wrong.0, wrong.1 ∙ same_size, wrong.2)
+    refuses refusal wrong = absurd wrong
+
+    left_so : (refusal : Refusal) → IsFormatRefusal (Shows v w) v.size slots refusal → w.content ≡ v.content → EndsBy (Format slots) given m w.content (Some (Refused refusal))
+    left_so (Clash key at) wrong stays = absurd wrong
+    left_so refusal wrong stays = (is.store, (old, stays ∙ known, is.stands.holds), is.reserve, refuses refusal wrong)
+
+    ends_so : (ending : Option Ending) → IsCaused (Format slots) given v w source source_now sink sink_now ending → w.content ≡ v.content
+        → EndsBy (Format slots) given m w.content ending
+    ends_so None caused stays = absurd (formats_none caused)
+    ends_so (Some Sink) caused stays = absurd (formats_none caused.0)
+    ends_so (Some Words) caused stays = caused
+    ends_so (Some (Line number)) caused stays = caused
+    ends_so (Some Script) caused stays = caused
+    ends_so (Some Source) caused stays = absurd (no_ingest caused.0.0 caused.0.1)
+    ends_so (Some (Refused Memory)) caused stays = (is.store, (old, stays ∙ known, is.stands.holds), is.reserve, tt)
+    ends_so (Some (Refused refusal)) caused stays = left_so refusal caused stays
+
 pub formats_nothing : (among : ByteSet) → HasNoCollisions (IsIn among) → (slots : ℕ) (c : Call) (m : Stored) (v w : DiskView) (image : List ℕ) →
     ((bytes : List ℕ) → IsSegmentOf c.given bytes → IsIn among bytes)
     → v.content ≡ Some image → OpensAs (IsIn among) m image → Keeps (Format slots) c.given c.ending v w c.source c.source_now c.sink c.sink_now
@@ -67,5 +113,8 @@ formats_nothing among apart slots c m v w image given told opens keeps =
         images = λ d is. stays d (inl is);
       };
       crash = stays;
-      by_map = λ old known of. keeps.map old known among m apart given of;
+      by_map = λ old known of. ends_so slots c.given v w c.source c.source_now c.sink c.sink_now old known (gate_open old of.store of.stands.holds.right) among m of c.ending
+          keeps.any.caused (content_stays slots c.given v w c.source c.source_now c.sink c.sink_now image told gate c.ending keeps);
+      wrote = unwritten slots c.ending v w c.sink c.sink_now (not_done slots c.given v w c.source c.source_now c.sink c.sink_now image told gate c.ending keeps.any.caused)
+          keeps.any.wrote;
     }

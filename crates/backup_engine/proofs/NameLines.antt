@@ -1,11 +1,10 @@
 -- The lines that `delete` and `list` are, run over a core.
-use Rattle.std.proofs.Common.{◌≡◌, inl, inr, ◌+◌, ◌-◌, ◌^◌, min, ℕ, List, [], ◌∷◌, Option, None, Some, Result, Ok, Err, refl, sym, ◌∙◌, subst}
+use Rattle.std.proofs.Common.{◌≡◌, inl, inr, ◌+◌, ◌-◌, ◌^◌, min, ℕ, List, [], ◌∷◌, None, Some, Result, Ok, Err, refl, sym, ◌∙◌, subst}
 use Rattle.dd_io.specs.Flow.{SinkView}
 use Rattle.actor_parts.specs.declared.step.Answer.{Answer}
 use Rattle.actor_parts.specs.StepValue as asked
 use Rattle.namespace.specs.Listing.{NamedRoot}
 use Rattle.store_machine.specs.Lines.{actor_of}
-use Rattle.store_machine.specs.Commands.{Replied}
 use Rattle.refusals.specs.declared.refusal.Refusal.{Refusal}
 use Rattle.refusals.specs.declared.refusal.Refusal.TheVariants.{Memory}
 use Rattle.reply_text.specs.declared.ending.Ending.{Ending}
@@ -15,40 +14,14 @@ use Rattle.script_lines.specs.Grammar.{LineValue}
 use Rattle.script_lines.specs.Grammar as lines
 use Rattle.script_lines.specs.ReplyValue as replies
 use Rattle.script_runner.specs.Acts.{Admits, DoesStep, Lists, RefusesStep}
-use Rattle.script_runner.specs.Acts.{IsOfActor}
 use Rattle.script_runner.specs.Runner.{Sent}
-use Rattle.script_runner.specs.Scripts.{AreOfActors, RunsLines}
+use Rattle.script_runner.specs.Scripts.{RunsLines}
 use Rattle.store_core.specs.State.{CoreState}
 use Rattle.backup_engine.specs.Naming.{DeleteRun, ListRun, WritesNames}
 use Rattle.backup_engine.specs.Saying.{RunsSingle, idle, no_sessions}
 use Rattle.backup_engine.specs.Singles.{IsDelete, IsListing, refused, said}
 use Rattle.backup_engine.specs.TopCall.{ending_in}
 use Rattle.backup_engine.proofs.Saying.{line_then}
-
--- a line with no actor
-pub no_actor : (line : LineValue) → actor_of line ≡ None → IsOfActor line
-no_actor line none actor is = absurd (let both = sym none ∙ is in cc)
-
-pub one_actor : (line : LineValue) → actor_of line ≡ None → (reply : _) (rs : List Replied) → rs ≡ said line reply ∷ [] → AreOfActors rs
-one_actor line none reply rs are = subst AreOfActors (sym are) (no_actor line none, tt)
-
-pub no_line : (rs : List Replied) → rs ≡ [] → AreOfActors rs
-no_line rs none = subst AreOfActors (sym none) tt
-
-pub delete_actors : (name : List ℕ) (ending : Option Ending) (sink sink_now : SinkView) (rs : List Replied) → IsDelete name ending sink sink_now rs → AreOfActors rs
-delete_actors name None sink sink_now rs is = one_actor (lines.Delete name) refl (replies.Deleted is.0.0) rs is.0.1
-delete_actors name (Some Sink) sink sink_now rs is = one_actor (lines.Delete name) refl (replies.Deleted is.0.0) rs is.0.1
-delete_actors name (Some (Refused refusal)) sink sink_now rs (inl none, wrote) = no_line rs none.1
-delete_actors name (Some (Refused refusal)) sink sink_now rs (inr one, wrote) = one_actor (lines.Delete name) refl (replies.Refused refusal) rs one
-delete_actors name (Some ending) sink sink_now rs is = absurd is
-
-pub list_actors : (ending : Option Ending) (sink sink_now : SinkView) (rs : List Replied) → IsListing ending sink sink_now rs → AreOfActors rs
-list_actors None sink sink_now rs is = one_actor lines.ListNames refl (replies.Listed is.0) rs is.1.0
-list_actors (Some Sink) sink sink_now rs is = one_actor lines.ListNames refl (replies.Listed is.0) rs is.1.0
-list_actors (Some (Refused refusal)) sink sink_now rs (inl (memory, inl none), wrote) = no_line rs none
-list_actors (Some (Refused refusal)) sink sink_now rs (inl (memory, inr one), wrote) = one_actor lines.ListNames refl (replies.Listed one.0) rs one.1
-list_actors (Some (Refused refusal)) sink sink_now rs (inr one, wrote) = one_actor lines.ListNames refl (replies.Refused refusal) rs one
-list_actors (Some ending) sink sink_now rs is = absurd is
 
 module _ (C : Type 0) (state : C → CoreState) (old new : C) (runs : (state old).stop ≡ None) where
   admits_all : (line : LineValue) → actor_of line ≡ None → Admits line no_sessions (state old)

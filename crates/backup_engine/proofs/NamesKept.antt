@@ -1,89 +1,58 @@
 -- What `delete` and `list` keep, by what they had a core do, and their lines.
-use Rattle.std.proofs.Common.{ℕ, List, [], ◌∷◌, Option, Some, Result, Ok, Err, refl, sym, subst}
+use Rattle.std.proofs.Common.{ℕ, List, [], Some, Result, Ok, Err, sym, subst}
 use Rattle.dd_disk.specs.View.{DiskView, IsLater}
 use Rattle.dd_io.specs.Flow.{SourceView, SinkView}
 use Rattle.actor_parts.specs.declared.step.Answer.{Answer}
 use Rattle.actor_parts.specs.StepValue as asked
 use Rattle.namespace.specs.Listing.{NamedRoot}
-use Rattle.store_machine.specs.Commands.{Replied}
 use Rattle.refusals.specs.declared.refusal.Refusal.{Refusal}
 use Rattle.reply_text.specs.declared.ending.Ending.{Ending}
 use Rattle.reply_text.specs.declared.ending.Ending.TheVariants.{Refused}
 use Rattle.reply_text.specs.Text.{deleted_line}
-use Rattle.script_lines.specs.Grammar as lines
-use Rattle.script_lines.specs.ReplyValue as replies
 use Rattle.script_runner.specs.Acts.{DoesStep, Lists, RefusesStep}
 use Rattle.script_runner.specs.Runner.{Sent}
-use Rattle.backup_engine.specs.CallsByFiles.{CallsRunByFiles}
 use Rattle.store_core.specs.State.{CoreState}
 use Rattle.backup_engine.specs.Line.{Delete}
 use Rattle.backup_engine.specs.Line as table
-use Rattle.backup_engine.specs.ByFiles.{RunsEachByFiles}
 use Rattle.backup_engine.specs.Naming.{AsksDelete, DeleteRun, ListRun}
-use Rattle.backup_engine.specs.Saying.{idle}
-use Rattle.backup_engine.specs.Singles.{refused, said}
 use Rattle.backup_engine.specs.TopCall.{Keeps, ending_in}
 use Rattle.backup_engine.proofs.Called.{Called}
 use Rattle.backup_engine.proofs.DeleteKept.{done_any, done_frame, undone_any, undone_frame}
-use Rattle.backup_engine.proofs.DeleteMap.{deleted_map, undeleted_map}
-use Rattle.backup_engine.proofs.ByFiles.{called_runs}
-use Rattle.backup_engine.proofs.ListKept.{is_done, not_listed, told_names}
-use Rattle.backup_engine.proofs.NameLines.{deleted_line_run, listed_line_run, next_sequence, one_actor, undeleted_line_run}
+use Rattle.backup_engine.proofs.ListKept.{not_listed, told_names}
 use Rattle.backup_engine.proofs.Replied.{replied_sent, wrote_sent}
 use Rattle.backup_engine.proofs.Returned.{one_later}
 
-module _ (D : Type 0) (view : D → DiskView) (C : Type 0) (state : C → CoreState) (before : D) (w : DiskView) (old new : C) (called : Called C state (view before) w old new)
-    (runs : CallsRunByFiles D view C state) where
-  abbrev v : DiskView
-  v = view before
-
+module _ (C : Type 0) (state : C → CoreState) (v w : DiskView) (old new : C) (called : Called C state v w old new) where
   -- ---- delete
 
   module _ (name : List ℕ) (source : SourceView) (sink : SinkView) where
     -- it was done
-    module _ (answer : Answer) (step : DoesStep 0 (asked.Delete name) answer (state old) (state new)) where
-      abbrev number : ℕ
-      number = next_sequence C state old new called.opened.stop_is
-
-      abbrev done_lines : List Replied
-      done_lines = said (lines.Delete name) (replies.Deleted number) ∷ []
-
-      each_map : (ending : Option Ending) → RunsEachByFiles ending done_lines v w
-      each_map ending =
-          called_runs D view C state before w old new called runs ending done_lines (idle old) (idle new) refl refl refl
-          (one_actor (lines.Delete name) refl (replies.Deleted number) done_lines refl) (deleted_line_run C state old new called.opened.stop_is name answer step)
-
-      deleted : (result : Result Unit Ending) (sink_now : SinkView) → Sent (deleted_line name) result sink sink_now →
-          Keeps (Delete name) [] (ending_in result) v w source source sink sink_now
-      deleted result sink_now sent =
-          let ending = ending_in result in
-          let replied = replied_sent (deleted_line name) result sink sink_now sent in
-          let wrote = wrote_sent (deleted_line name) result sink sink_now sent in
-          record {
-            map = deleted_map name number ending v w sink sink_now (each_map ending) (is_done ending sink sink_now replied) wrote;
-            any = done_any C state v w old new called name answer step.0 step.1 ending source sink sink_now replied wrote;
-            frame = done_frame C state v w old new called name answer step.0 step.1 ending sink sink_now replied;
-            found = tt;
-            blank = tt;
-            untouched = tt;
-          }
-
-    -- it was refused
-    undeleted : (refusal : Refusal) → RefusesStep 0 (asked.Delete name) refusal (state old) (state new) →
-        Keeps (Delete name) [] (Some (Refused refusal)) v w source source sink sink
-    undeleted refusal step =
-        let rs : List Replied = refused (lines.Delete name) refusal ∷ [] in
-        let each =
-        called_runs D view C state before w old new called runs (Some (Refused refusal)) rs (idle old) (idle new) refl refl refl
-        (one_actor (lines.Delete name) refl (replies.Refused refusal) rs refl) (undeleted_line_run C state old new called.opened.stop_is name refusal step) in
+    deleted : (answer : Answer) → DoesStep 0 (asked.Delete name) answer (state old) (state new) → (result : Result Unit Ending) (sink_now : SinkView)
+        → Sent (deleted_line name) result sink sink_now → Keeps (Delete name) [] (ending_in result) v w source source sink sink_now
+    deleted answer step result sink_now sent =
+        let ending = ending_in result in
+        let replied = replied_sent (deleted_line name) result sink sink_now sent in
+        let wrote = wrote_sent (deleted_line name) result sink sink_now sent in
         record {
-          map = undeleted_map name refusal v w sink each;
-          any = undone_any C state v w old new called name refusal step.0 step.1 source sink;
-          frame = undone_frame C state v w old new called name refusal step.0 step.1;
+          map = λ old known among m distinct right stands. tt;
+          any = done_any C state v w old new called name answer step.0 step.1 ending source sink sink_now replied wrote;
+          frame = done_frame C state v w old new called name answer step.0 step.1 ending sink sink_now replied;
           found = tt;
           blank = tt;
           untouched = tt;
         }
+
+    -- it was refused
+    undeleted : (refusal : Refusal) → RefusesStep 0 (asked.Delete name) refusal (state old) (state new) →
+        Keeps (Delete name) [] (Some (Refused refusal)) v w source source sink sink
+    undeleted refusal step = record {
+      map = λ old known among m distinct right stands. tt;
+      any = undone_any C state v w old new called name refusal step.0 step.1 source sink;
+      frame = undone_frame C state v w old new called name refusal step.0 step.1;
+      found = tt;
+      blank = tt;
+      untouched = tt;
+    }
 
     pub delete_keeps : (result : Result Unit Ending) (sink_now : SinkView) → DeleteRun C state name (deleted_line name) result old new sink sink_now →
         Keeps (Delete name) [] (ending_in result) v w source source sink sink_now
@@ -96,11 +65,7 @@ module _ (D : Type 0) (view : D → DiskView) (C : Type 0) (state : C → CoreSt
 
   pub list_keeps : (result : Result Unit Ending) (source : SourceView) (sink sink_now : SinkView) → ListRun C state result old new sink sink_now →
       Keeps table.List [] (ending_in result) v w source source sink sink_now
-  list_keeps result source sink sink_now (Ok files, (listed, wrote)) =
-      let rs : List Replied = said lines.ListNames (replies.Listed files) ∷ [] in
-      told_names C state v w old new called files listed result source sink sink_now wrote
-      (called_runs D view C state before w old new called runs (ending_in result) rs (idle old) (idle new) refl refl refl
-      (one_actor lines.ListNames refl (replies.Listed files) rs refl) (listed_line_run C state old new called.opened.stop_is files listed))
+  list_keeps result source sink sink_now (Ok files, (listed, wrote)) = told_names C state v w old new called files listed result source sink sink_now wrote
   list_keeps result source sink sink_now (Err refusal, (listed, (is, same))) =
       subst (λ (r : Result Unit Ending). Keeps table.List [] (ending_in r) v w source source sink sink_now) (sym is)
       (subst (λ (s : SinkView). Keeps table.List [] (Some (Refused refusal)) v w source source sink s) (sym same)

@@ -24,7 +24,7 @@ use Rattle.backup_engine.specs.Promise.{EndsBy, IsLeftWith}
 use Rattle.backup_engine.specs.AnyDisk.{FindsBeforeWriting, Holds, IsCaused, Took, WroteOnAny, EndsDurable}
 use Rattle.backup_engine.specs.TopCall.{Keeps, IsLeftBlank, IsUntouched}
 use Rattle.backup_engine.proofs.Called.{Called}
-use Rattle.backup_engine.proofs.Reading.{AnswersEach, since_start, reads_frame, reads_map, unchanged, wrote_nothing}
+use Rattle.backup_engine.proofs.Reading.{EndsOver, since_start, reads_frame, reads_map, unchanged}
 
 -- ---- over a map
 
@@ -47,11 +47,8 @@ no_memory table.List given S m old content told is = left_with S m old content (
 no_memory (Collect percent) given S m old content told is = left_with S m old content (λ store. Unit {0}) told is tt
 
 -- and whatever the command is
-memory_answers : (command : CommandLine) (given : List ℕ) (v w : DiskView) (sink : SinkView) → OnlyReads v w → AnswersEach command given (Some (Refused Memory)) v w sink sink
-memory_answers command given v w sink reads old known among m distinct right is = record {
-  by_map = no_memory command given (IsIn among) m old w.content (reads.content_is ∙ known) is;
-  wrote = wrote_nothing command given m (Refused Memory) sink (not_sink Memory);
-}
+memory_ends : (command : CommandLine) (given : List ℕ) (v w : DiskView) → OnlyReads v w → EndsOver command given (Some (Refused Memory)) v w
+memory_ends command given v w reads old known among m distinct right is = no_memory command given (IsIn among) m old w.content (reads.content_is ∙ known) is
 
 false_not_true : false ≡ true → ⊥
 false_not_true wrong = cc
@@ -64,30 +61,6 @@ ingest_failed name given S m old content told is Memory fails = left_with S m ol
 ingest_failed name given S m old content told is DiskRead fails = left_with S m old content (λ store. Unit {0}) told is tt
 ingest_failed name given S m old content told is DiskWrite fails = tt
 ingest_failed name given S m old content told is refusal fails = absurd (false_not_true fails)
-
-pub restore_failed : (name given : List ℕ) (S : List ℕ → Type 0) (m : Stored) (old : List ℕ) (content : Option (List ℕ)) → content ≡ Some old → IsOf S m old →
-    (refusal : Refusal) → IsTrue (fails refusal)
-    → EndsBy (Restore name) given m content (Some (Refused refusal))
-restore_failed name given S m old content told is Memory fails = left_with S m old content (λ store. Unit {0}) told is tt
-restore_failed name given S m old content told is DiskRead fails = left_with S m old content (λ store. Unit {0}) told is tt
-restore_failed name given S m old content told is DiskWrite fails = left_with S m old content (λ store. Unit {0}) told is tt
-restore_failed name given S m old content told is refusal fails = absurd (false_not_true fails)
-
-delete_failed : (name given : List ℕ) (S : List ℕ → Type 0) (m : Stored) (old : List ℕ) (content : Option (List ℕ)) → content ≡ Some old → IsOf S m old → (refusal : Refusal) →
-    IsTrue (fails refusal)
-    → EndsBy (Delete name) given m content (Some (Refused refusal))
-delete_failed name given S m old content told is Memory fails = left_with S m old content (λ store. Unit {0}) told is tt
-delete_failed name given S m old content told is DiskRead fails = left_with S m old content (λ store. Unit {0}) told is tt
-delete_failed name given S m old content told is DiskWrite fails = tt
-delete_failed name given S m old content told is refusal fails = absurd (false_not_true fails)
-
-list_failed : (given : List ℕ) (S : List ℕ → Type 0) (m : Stored) (old : List ℕ) (content : Option (List ℕ)) → content ≡ Some old → IsOf S m old → (refusal : Refusal) →
-    IsTrue (fails refusal)
-    → EndsBy table.List given m content (Some (Refused refusal))
-list_failed given S m old content told is Memory fails = left_with S m old content (λ store. Unit {0}) told is tt
-list_failed given S m old content told is DiskRead fails = left_with S m old content (λ store. Unit {0}) told is tt
-list_failed given S m old content told is DiskWrite fails = left_with S m old content (λ store. Unit {0}) told is tt
-list_failed given S m old content told is refusal fails = absurd (false_not_true fails)
 
 collect_failed : (percent : ℕ) (given : List ℕ) (S : List ℕ → Type 0) (m : Stored) (old : List ℕ) (content : Option (List ℕ)) → content ≡ Some old → IsOf S m old →
     (refusal : Refusal) → IsTrue (fails refusal)
@@ -113,37 +86,13 @@ module _ (v w : DiskView) (refusal : Refusal) (is : IsUnopened v w refusal) wher
   map_fails S m old known stands =
       fails_alone stands.store refusal stands.reserve (shown_content v w (IsGivenUp refusal) old is.given_up known stands.store stands.stands.holds.right)
 
-module _ (v w : DiskView) (refusal : Refusal) (is : IsUnopened v w refusal) (name : List ℕ) (source : SourceView) (sink : SinkView) where
-  ingest_answers : (given : List ℕ) → AnswersEach (Ingest name) given (Some (Refused refusal)) v w sink sink
-  ingest_answers given old known among m distinct right stands = record {
-    by_map = ingest_failed name given (IsIn among) m old w.content (is.reads.only.content_is ∙ known) stands refusal (map_fails v w refusal is (IsIn among) m old known stands);
-    wrote = wrote_nothing (Ingest name) given m (Refused refusal) sink (not_sink refusal);
-  }
+  ingest_ends : (name given : List ℕ) → EndsOver (Ingest name) given (Some (Refused refusal)) v w
+  ingest_ends name given old known among m distinct right stands =
+      ingest_failed name given (IsIn among) m old w.content (is.reads.only.content_is ∙ known) stands refusal (map_fails (IsIn among) m old known stands)
 
-  restore_answers : (given : List ℕ) → AnswersEach (Restore name) given (Some (Refused refusal)) v w sink sink
-  restore_answers given old known among m distinct right stands = record {
-    by_map = restore_failed name given (IsIn among) m old w.content (is.reads.only.content_is ∙ known) stands refusal (map_fails v w refusal is (IsIn among) m old known stands);
-    wrote = wrote_nothing (Restore name) given m (Refused refusal) sink (not_sink refusal);
-  }
-
-module _ (v w : DiskView) (refusal : Refusal) (is : IsUnopened v w refusal) (sink : SinkView) where
-  delete_answers : (name : List ℕ) → AnswersEach (Delete name) [] (Some (Refused refusal)) v w sink sink
-  delete_answers name old known among m distinct right stands = record {
-    by_map = delete_failed name [] (IsIn among) m old w.content (is.reads.only.content_is ∙ known) stands refusal (map_fails v w refusal is (IsIn among) m old known stands);
-    wrote = wrote_nothing (Delete name) [] m (Refused refusal) sink (not_sink refusal);
-  }
-
-  list_answers : AnswersEach table.List [] (Some (Refused refusal)) v w sink sink
-  list_answers old known among m distinct right stands = record {
-    by_map = list_failed [] (IsIn among) m old w.content (is.reads.only.content_is ∙ known) stands refusal (map_fails v w refusal is (IsIn among) m old known stands);
-    wrote = wrote_nothing table.List [] m (Refused refusal) sink (not_sink refusal);
-  }
-
-  collect_answers : (percent : ℕ) → AnswersEach (Collect percent) [] (Some (Refused refusal)) v w sink sink
-  collect_answers percent old known among m distinct right stands = record {
-    by_map = collect_failed percent [] (IsIn among) m old w.content (is.reads.only.content_is ∙ known) stands refusal (map_fails v w refusal is (IsIn among) m old known stands);
-    wrote = wrote_nothing (Collect percent) [] m (Refused refusal) sink (not_sink refusal);
-  }
+  collect_ends : (percent : ℕ) → EndsOver (Collect percent) [] (Some (Refused refusal)) v w
+  collect_ends percent old known among m distinct right stands =
+      collect_failed percent [] (IsIn among) m old w.content (is.reads.only.content_is ∙ known) stands refusal (map_fails (IsIn among) m old known stands)
 
 ingest_caused : (v w : DiskView) (name given : List ℕ) (source : SourceView) (sink : SinkView) (refusal : Refusal) → IsOpenRefusal (Shows v w) v.size refusal
     → IsCaused (Ingest name) given v w source source sink sink (Some (Refused refusal))
@@ -163,7 +112,7 @@ pub unopened_ingest : (v w : DiskView) (refusal : Refusal) → IsUnopened v w re
     Known source.left (λ all. given ≡ all)
     → Keeps (Ingest name) given (Some (Refused refusal)) v w source source sink sink
 unopened_ingest v w refusal is name given source sink took = record {
-  map = reads_map (Ingest name) given (Refused refusal) v w sink sink is.reads.only (not_sink refusal) (ingest_answers v w refusal is name source sink given);
+  map = reads_map (Ingest name) given (Refused refusal) v w sink sink is.reads.only (not_sink refusal) (ingest_ends v w refusal is name given);
   any = record {
     took = λ all told. (took all told, tt);
     caused = ingest_caused v w name given source sink refusal is.cause;
@@ -182,7 +131,7 @@ unopened_ingest v w refusal is name given source sink took = record {
 pub unopened_restore : (v w : DiskView) (refusal : Refusal) → IsUnopened v w refusal → (name : List ℕ) (source : SourceView) (sink : SinkView)
     → Keeps (Restore name) [] (Some (Refused refusal)) v w source source sink sink
 unopened_restore v w refusal is name source sink = record {
-  map = reads_map (Restore name) [] (Refused refusal) v w sink sink is.reads.only (not_sink refusal) (restore_answers v w refusal is name source sink []);
+  map = λ old known among m distinct right stands. tt;
   any = record {
     took = (refl, refl);
     caused = restore_caused v w name [] source sink refusal is.cause;
@@ -222,7 +171,7 @@ collect_caused v w percent source sink refusal cause = inl cause
 pub unopened_delete : (v w : DiskView) (refusal : Refusal) → IsUnopened v w refusal → (name : List ℕ) (source : SourceView) (sink : SinkView)
     → Keeps (Delete name) [] (Some (Refused refusal)) v w source source sink sink
 unopened_delete v w refusal is name source sink = record {
-  map = reads_map (Delete name) [] (Refused refusal) v w sink sink is.reads.only (not_sink refusal) (delete_answers v w refusal is sink name);
+  map = λ old known among m distinct right stands. tt;
   any = record {
     took = (refl, refl);
     caused = delete_caused v w name source sink refusal is.cause;
@@ -241,7 +190,7 @@ unopened_delete v w refusal is name source sink = record {
 pub unopened_list : (v w : DiskView) (refusal : Refusal) → IsUnopened v w refusal → (source : SourceView) (sink : SinkView)
     → Keeps table.List [] (Some (Refused refusal)) v w source source sink sink
 unopened_list v w refusal is source sink = record {
-  map = reads_map table.List [] (Refused refusal) v w sink sink is.reads.only (not_sink refusal) (list_answers v w refusal is sink);
+  map = λ old known among m distinct right stands. tt;
   any = record {
     took = (refl, refl);
     caused = list_caused v w source sink refusal is.cause;
@@ -260,7 +209,7 @@ unopened_list v w refusal is source sink = record {
 pub unopened_collect : (v w : DiskView) (refusal : Refusal) → IsUnopened v w refusal → (percent : ℕ) (source : SourceView) (sink : SinkView)
     → Keeps (Collect percent) [] (Some (Refused refusal)) v w source source sink sink
 unopened_collect v w refusal is percent source sink = record {
-  map = reads_map (Collect percent) [] (Refused refusal) v w sink sink is.reads.only (not_sink refusal) (collect_answers v w refusal is sink percent);
+  map = reads_map (Collect percent) [] (Refused refusal) v w sink sink is.reads.only (not_sink refusal) (collect_ends v w refusal is percent);
   any = record {
     took = (refl, refl);
     caused = collect_caused v w percent source sink refusal is.cause;
@@ -323,7 +272,7 @@ pub without_memory : (command : CommandLine) (given : List ℕ) (v w : DiskView)
     Took command given (Some (Refused Memory)) source source_now → source_now.faults ≡ source.faults
     → Keeps command given (Some (Refused Memory)) v w source source_now sink sink
 without_memory command given v w source source_now sink reads took faults = record {
-  map = reads_map command given (Refused Memory) v w sink sink reads.only (not_sink Memory) (memory_answers command given v w sink reads.only);
+  map = reads_map command given (Refused Memory) v w sink sink reads.only (not_sink Memory) (memory_ends command given v w reads.only);
   any = record {
     took = took;
     caused = tt;

@@ -15,27 +15,20 @@ use Rattle.refusals.specs.declared.refusal.Refusal.{Refusal}
 use Rattle.refusals.specs.declared.refusal.Refusal.TheVariants.{Memory, NoFile, BadName, WrongPart}
 use Rattle.reply_text.specs.declared.ending.Ending.{Ending}
 use Rattle.reply_text.specs.declared.ending.Ending.TheVariants as endings
-use Rattle.disk_format.specs.Cells.{IsName}
 use Rattle.namespace.specs.Names.{NameMap}
-use Rattle.store_model.specs.Files.{Stored}
 use Rattle.store_model.specs.Image.{names_of}
-use Rattle.store_model.specs.Collisions.{IsIn, IsOf}
 use Rattle.store_state.specs.Refused.{blames}
 use Rattle.read_steps.specs.Readers as readers
 use Rattle.store_core.specs.Core.{CoreStep, OpenRow}
-use Rattle.store_core.specs.Runs.{FileEvent}
-use Rattle.store_core.specs.Sound.{FindsFile}
 use Rattle.store_core.specs.State.{CoreState, Event}
-use Rattle.store_core.proofs.Damage.{finds_files}
 use Rattle.backup_engine.specs.Line.{Restore}
-use Rattle.backup_engine.specs.Promise.{EndsBy}
 use Rattle.backup_engine.specs.AnyDisk.{IsCaused}
 use Rattle.backup_engine.specs.Running.{IsNotOpened}
 use Rattle.backup_engine.specs.TopCall.{Keeps, ending_in}
-use Rattle.backup_engine.proofs.Called.{Called, starts}
+use Rattle.backup_engine.proofs.Called.{Called}
 use Rattle.backup_engine.proofs.GivenOut.{reads_closed}
-use Rattle.backup_engine.proofs.NotDone.{holds, not_sink, left_with, restore_failed}
-use Rattle.backup_engine.proofs.Reading.{AnswersEach, reads_frame, reads_map, wrote_nothing}
+use Rattle.backup_engine.proofs.NotDone.{holds}
+use Rattle.backup_engine.proofs.Reading.{reads_frame}
 use Rattle.backup_engine.proofs.ReadSteps.{LeavesAll, open_leaves, steps_of}
 
 -- no name has a file where its entry is none
@@ -87,33 +80,9 @@ module _ (C : Type 0) (state : C → CoreState) (v w : DiskView) (old new : C) (
     caused_by (WrongPart kind) cause = absurd (cause.0 idle)
     caused_by r cause = absurd cause.1
 
-    -- ---- over a map
-
-    abbrev opening : FileEvent
-    opening = record { event = asks; bytes = [] }
-
-    by_map : (S : List ℕ → Type 0) (m : Stored) (image : List ℕ) → w.content ≡ Some image → IsOf S m image
-        → (r : Refusal) → readers.IsOpenRefusal (state old).tables.names name (part_of (state old).parts 0) r → FindsFile m.files (asked.OpenRead name) (Err r) →
-        EndsBy (Restore name) [] m w.content (Some (endings.Refused r))
-    by_map S m image told is Memory cause finds = restore_failed name [] S m image w.content told is Memory refl
-    by_map S m image told is BadName cause finds = left_with S m image w.content (λ store. ¬ (IsName name)) told is cause.1
-    by_map S m image told is NoFile cause finds =
-        left_with S m image w.content (λ store. IsName name × (is_some (finite.get m.files name) ≡ false)) told is (cause.1.0, is_none (finite.get m.files name) finds)
-    by_map S m image told is (WrongPart kind) cause finds = absurd (cause.0 idle)
-    by_map S m image told is r cause finds = absurd cause.1
-
-    answers : AnswersEach (Restore name) [] (Some (endings.Refused refusal)) v w sink sink
-    answers image known among m distinct right is =
-        let start = starts C state v w old new was (IsIn among) m image known is in
-        let finds = finds_files C state among [] opening start.store m old old new distinct start.is_at refl (record { asked = tt; given = tt; made = step }) in
-        record {
-          by_map = by_map (IsIn among) m image (of_call.only.content_is ∙ known) is refusal row.0 finds;
-          wrote = wrote_nothing (Restore name) [] m (endings.Refused refusal) sink (not_sink refusal);
-        }
-
     kept : Keeps (Restore name) [] (Some (endings.Refused refusal)) v w source source sink sink
     kept = record {
-      map = reads_map (Restore name) [] (endings.Refused refusal) v w sink sink of_call.only (not_sink refusal) answers;
+      map = λ old known among m distinct right stands. tt;
       any = record {
         took = (refl, refl);
         caused = caused_by refusal row.0;

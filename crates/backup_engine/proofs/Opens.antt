@@ -34,7 +34,7 @@ use Rattle.backup_engine.proofs.Lending.{below, lent_end, lent_view, made_there}
 use Rattle.backup_engine.proofs.NotDone.{holds}
 use Rattle.backup_engine.proofs.Unlent.{holds as holds_back}
 use Rattle.backup_engine.proofs.FailsAlone.{fails_memory}
-use Rattle.backup_engine.proofs.WholeMade.{read_runs}
+use Rattle.backup_engine.proofs.EndsMade.{read_runs}
 
 -- a core that was opened is fresh
 pub opened_fresh : (D : Type 0) (view : D → DiskView) (v : DiskView) (c : CoreState) → OpensCore D view v c → IsRunning c → IsFresh c
@@ -51,13 +51,13 @@ pub record Unread (command : CommandLine) (given : List ℕ) (refusal : Refusal)
 module _ (D : Type 0) (view : D → DiskView) (refusal : Refusal) (v w : DiskView) (source : SourceView) (sink : SinkView) where
   pub does_none : (command : CommandLine) (given : List ℕ) → Took command given (Some (Refused refusal)) source source
       → ((before : DiskView) → IsNotRead refusal before w → Unread command given refusal before w source sink)
-      → RunsEachByFiles (Some (Refused refusal)) [] v w → OpensNone D view refusal v w → DoesCommand D view command given [] (Some (Refused refusal)) v w source source sink sink
-  does_none command given took unread by_files (inl is) =
-      let un = unread v is.0 in does_unread D view command given v w source sink refusal is.0 is.1 un.keeps un.speaks by_files
-  does_none command given took unread by_files (inr (inl is)) =
+      → RunsEachByFiles (Some (Refused refusal)) [] v w → FailsAlone (Some (Refused refusal)) [] v → OpensNone D view refusal v w → DoesCommand D view command given [] (Some (Refused refusal)) v w source source sink sink
+  does_none command given took unread by_files alone (inl is) =
+      let un = unread v is.0 in does_unread D view command given v w source sink refusal is.0 is.1 un.keeps un.speaks by_files (λ none. alone)
+  does_none command given took unread by_files alone (inr (inl is)) =
       let un = unread (view is.0) is.1.1 in does_made D view command given v w source source sink sink [] (Some (Refused refusal)) is.0 is.1.0 un.keeps un.speaks by_files
-      is.1.1.reads.only.later
-  does_none command given took unread by_files (inr (inr is)) = does_unmade D view command given v w source sink refusal is took by_files
+      (λ none. alone) is.1.1.reads.only.later
+  does_none command given took unread by_files alone (inr (inr is)) = does_unmade D view command given v w source sink refusal is took by_files (λ none. alone)
 
   pub runs_none : ((before : DiskView) → IsNotRead refusal before w → KeepsScript [] (Some (Refused refusal)) before w source source sink sink)
       → RunsEachByFiles (Some (Refused refusal)) [] v w → FailsAlone (Some (Refused refusal)) [] v → OpensNone D view refusal v w
@@ -90,6 +90,7 @@ pub does_without_memory : (D : Type 0) (view : D → DiskView) (v : DiskView) (s
     → Keeps command given (Some (Refused Memory)) v v source source sink sink → SpeaksAs command given (Some (Refused Memory)) [] v v source source sink sink
     → DoesCommand D view command given [] (Some (Refused Memory)) v v source source sink sink
 does_without_memory D view v source sink command given keeps speaks = does_unread D view command given v v source sink Memory (unbegun v) tt keeps speaks (memory_by_files v)
+    (λ none. fails_memory v)
 
 pub runs_without_memory : (D : Type 0) (view : D → DiskView) (v : DiskView) (source : SourceView) (sink : SinkView) →
     KeepsScript [] (Some (Refused Memory)) v v source source sink sink
@@ -149,7 +150,7 @@ module _ (D : Type 0) (view : D → DiskView) (C : Type 0) (state : C → CoreSt
     single_back opened AreSo ending run actors = runs_back opened ending run.0 (idle old) run.1.1.0 refl refl (sym run.1.1.1.0) (actors run.0 run.1.0) run.1.1.1.1
 
     module _ (command : CommandLine) (given : List ℕ) (ending : Option Ending) (source source_now : SourceView) (sink sink_now : SinkView) (rs : List Replied)
-        (by_files : RunsEachByFiles ending rs (view first.now) w) where
+        (by_files : RunsEachByFiles ending rs (view first.now) w) (alone : rs ≡ [] → FailsAlone ending rs (view first.now)) where
       -- What it does from the disk on that was read.
       abbrev pub Goes : MutBor D → Type 0
       Goes before = Keeps command given ending (view before.now) w source source_now sink sink_now × SpeaksAs command given ending rs (view before.now) w source source_now sink
@@ -160,11 +161,11 @@ module _ (D : Type 0) (view : D → DiskView) (C : Type 0) (state : C → CoreSt
       does_opened (inl read) goes =
           let went = goes first (called first read) in
           does_here D view command given (view first.now) w source source_now sink sink_now rs ending (read_runs (lent first) (state old) read) went.0 went.1 by_files
-          (read_holds first read)
+          alone (read_holds first read)
       does_opened (inr is) goes =
           let went = goes is.0 (called is.0 is.1.1) in
           does_made D view command given (view first.now) w source source_now sink sink_now rs ending is.0.now (made_there D view first is.0 is.1.0) went.0 went.1 by_files
-          (made_later is.0 is.1.1)
+          alone (made_later is.0 is.1.1)
 
     module _ (rs : List Replied) (ending : Option Ending) (source source_now : SourceView) (sink sink_now : SinkView) where
       pub runs_opened : OpensCore (MutBor D) lent (lent first) (state old) → RunsEachByFiles ending rs (view first.now) w → FailsAlone ending rs (view first.now)

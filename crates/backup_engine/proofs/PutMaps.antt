@@ -1,17 +1,14 @@
 -- Over a disk that stands for a map an `ingest` keeps the map.
 use Rattle.std.proofs.Common.{◌≡◌, ◌⊎◌, inl, inr, ℕ, ◌<◌, ◌≤◌, List, length, Option, Some, None, Result, Ok, Err, refl, sym, ◌∙◌, subst, arith}
 use Rattle.store_model.specs.Files.{Stored}
-use Rattle.std.specs.List.{AllByRecursion}
-use Rattle.base_model.specs.Known.{KnownWith}
 use Rattle.disk_format.specs.declared.numbers.TheConstants.{MOST_FILE, RESERVE}
-use Rattle.dd_disk.specs.View.{DiskView, CrashLeaves}
+use Rattle.dd_disk.specs.View.{DiskView}
 use Rattle.dd_disk.proofs.Moves.{stands_content}
 use Rattle.dd_io.specs.Flow.{SourceView, SinkView}
 use Rattle.refusals.specs.declared.refusal.Refusal.{Refusal}
 use Rattle.refusals.specs.declared.refusal.Refusal.TheVariants.{Memory, TooLong, Clash, DiskRead, DiskWrite}
 use Rattle.reply_text.specs.declared.ending.Ending.{Ending}
 use Rattle.reply_text.specs.declared.ending.Ending.TheVariants.{Source, Sink, Refused}
-use Rattle.reply_text.specs.Text.{stored_line}
 use Rattle.store_model.specs.Collisions.{HasNoCollisions, ByteSet, IsIn, IsOf}
 use Rattle.store_model.specs.Image.{Store, Encodes, IsValidFor}
 use Rattle.store_model.specs.Slots.{HasFree, free_slots}
@@ -23,26 +20,26 @@ use Rattle.store_model.proofs.Once.{store_once}
 use Rattle.store_model.specs.Trees.{root_of}
 use Rattle.store_state.specs.Tables.{Represents}
 use Rattle.store_core.specs.Core.{IndexesAll}
-use Rattle.store_core.specs.Runs.{ChangesTo, FileRun, IsAt, IsOnTheWay, Reaches, stored_after}
+use Rattle.store_core.specs.Runs.{ChangesTo, FileRun, IsAt, Reaches, stored_after}
 use Rattle.store_core.specs.State.{CoreState}
-use Rattle.store_core.proofs.Crashes.{last_at, leaves, ends_with_all}
+use Rattle.store_core.proofs.Crashes.{last_at}
 use Rattle.store_core.proofs.AnySteps.{changes_told, keeps_files}
 use Rattle.store_core.proofs.Reserves.{enough_after}
 use Rattle.backup_engine.specs.Adding.{Adds, AddsTo, AddsOnce}
 use Rattle.backup_engine.specs.Line.{Ingest}
 use Rattle.backup_engine.specs.AnyDisk.{ReadsSince, room_in}
-use Rattle.backup_engine.specs.PlainMap.{CanBeDone, Room, room_of, RefusesIngest}
-use Rattle.backup_engine.specs.Promise.{KeepsMap, KeepsEachMap, IsLeftWith, IsLeftAs, EndsBy, LeavesMeanwhile, WroteReply, MayBeMeanwhile}
-use Rattle.backup_engine.specs.Running.{EndsPut, PutRun, IsPutRefusal, seals_of}
+use Rattle.backup_engine.specs.PlainMap.{Room, room_of, RefusesIngest}
+use Rattle.backup_engine.specs.Promise.{KeepsMap, KeepsEachMap, IsLeftWith, EndsBy, RefusedBy}
+use Rattle.backup_engine.specs.Running.{PutRun, IsPutRefusal, seals_of}
 use Rattle.backup_engine.specs.Storing.{IsSourceFault}
 use Rattle.backup_engine.proofs.Added.{adds_to, put_in}
-use Rattle.backup_engine.proofs.WholeCall.{leaves_more, leaves_of}
 use Rattle.backup_engine.proofs.Called.{Called, Starts, settled, starts}
 use Rattle.backup_engine.proofs.Clashes.{IsRight, RefusesBut, ends_by, not_unlike}
 use Rattle.backup_engine.proofs.NoGcSteps.{none_flushed, puts_no_gc}
-use Rattle.backup_engine.proofs.PutEnds.{CanBe, CanTryBy, Left, LeftMeanwhile, maps_after, left_at_end, left_on_the_way}
+use Rattle.backup_engine.proofs.PutEnds.{maps_after}
+use Rattle.backup_engine.proofs.Replied.{IsDone}
 use Rattle.backup_engine.proofs.RightPuts.{file_run}
-use Rattle.backup_engine.proofs.PutStops.{RunsOn, refused_on, done_can, done_on, run_later, run_tries}
+use Rattle.backup_engine.proofs.PutStops.{RunsOn, refused_on, done_on}
 use Rattle.backup_engine.proofs.SameRoom.{same_room}
 
 -- ---- refusals
@@ -75,7 +72,7 @@ one_image a b is = cc
 
 -- after a write that failed nothing is said of what was added
 refused_adds : (name given : List ℕ) (refusal : Refusal) (store : Store) (content : Option (List ℕ)) → (¬ (refusal ≡ DiskWrite) → AddsTo given (λ after. after) store content) →
-    Adds (Ingest name) given (Some (Refused refusal)) store content
+    Adds name given (Some (Refused refusal)) store content
 refused_adds name given DiskWrite store content adds = tt
 refused_adds name given refusal store content adds = adds (λ is. subst IsWrite (sym is) tt)
 
@@ -97,52 +94,11 @@ module _ (C : Type 0) (state : C → CoreState) (v w : DiskView) (old new : C) (
       file_run C state among name given distinct all start.store m old start.is_at (settled C state v w old new was (state old).tables.slots) ran.steps new ran.ran ran.each
       ran.whole
 
-  crashes : CrashLeaves (IsOnTheWay S ran.steps m) (state old).disk (state new).disk
-  crashes = leaves C state among distinct ran.steps start.store m old new start.is_at run
-
-  can_try : AllByRecursion (CanTryBy S name given m) ran.steps
-  can_try = run_tries C state among name given distinct ran.steps old new m run ran.each
-
-  can_be : (p : Result Unit Refusal) → EndsPut ran.steps p → CanBe S name given m p
-  can_be (Ok u) ends = done_can C state among name given distinct m ran.steps u old new was.opened.stop_is run ran.each ends
-  can_be (Err refusal) ends = tt
-
-  -- at the end
-  image_left : (c : List ℕ) → (state new).disk.images c → Left S name given m put c
-  image_left c there = left_at_end S name given m ran.steps put c ran.each ran.ends can_try
-      (ends_with_all C state among ran.steps start.store m old new distinct start.is_at run c there)
-
-  images_left : (c : List ℕ) → w.images c → Left S name given m put c
-  images_left c there = image_left c (was.last.only.images_are c there)
-
-  content_left : KnownWith w.content (Left S name given m put)
-  content_left =
-      let now = (run_later C state among name given distinct ran.steps old new run).tells image start.told in
-      let here : w.content ≡ Some now.0 = was.last.only.content_is ∙ now.1 in
-      (now.0, here, images_left now.0 (w.as_read now.0 here))
-
-  -- at any moment
-  on_the_way : (c : List ℕ) → IsOnTheWay S ran.steps m c → LeftMeanwhile S name given m put c
-  on_the_way c on = left_on_the_way S name given m ran.steps put c ran.each ran.ends (can_be put ran.ends) can_try on
-
-  left_meanwhile : LeavesMeanwhile (LeftMeanwhile S name given m put) v w
-  left_meanwhile = leaves_more (IsOnTheWay S ran.steps m) (LeftMeanwhile S name given m put) v w on_the_way
-      (leaves_of C state v w old new was (IsOnTheWay S ran.steps m) (run_later C state among name given distinct ran.steps old new run) crashes)
-
-  -- A command that ended so, and left what the put left.
-  keeps : (ending : Option Ending) (sink sink_now : SinkView) → EndsBy (Ingest name) given m w.content ending → WroteReply (stored_line name (root_of given)) ending sink sink_now
-      → ((store : Store) → Encodes image store → Adds (Ingest name) given ending store w.content)
-      → ((c : List ℕ) → Left S name given m put c → IsLeftAs S (Ingest name) given m ending c) →
-      ((c : List ℕ) → LeftMeanwhile S name given m put c → MayBeMeanwhile S (Ingest name) given m ending c)
-      → KeepsMap S (Ingest name) given ending m v w sink sink_now
-  keeps ending sink sink_now by_map wrote adds at_end between = record {
-    by_map = by_map;
-    wrote = wrote;
-    added = λ first known store right. adds store (subst (λ (bytes : List ℕ). Encodes bytes store) (one_image first image (sym known ∙ told)) right);
-    gave_back = λ first known store right. tt;
-    left = inl ((content_left.0, content_left.1, at_end content_left.0 content_left.2), λ c there. at_end c (images_left c there));
-    crash = leaves_more (LeftMeanwhile S name given m put) (MayBeMeanwhile S (Ingest name) given m ending) v w between left_meanwhile;
-  }
+  -- the command ended so
+  keeps : (ending : Option Ending) (sink sink_now : SinkView) → RefusedBy (Ingest name) given m v.content w.content ending
+      → ((store : Store) → Encodes image store → Adds name given ending store w.content) → KeepsMap (Ingest name) given ending m v w sink sink_now
+  keeps ending sink sink_now by_map adds =
+      (by_map, λ first known store right. adds store (subst (λ (bytes : List ℕ). Encodes bytes store) (one_image first image (sym known ∙ told)) right))
 
   -- where the core runs on
   reached : (state new).stop ≡ None → Reaches S start.store (state old).known (stored_after ran.steps m) ran.steps (state new)
@@ -184,7 +140,7 @@ module _ (C : Type 0) (state : C → CoreState) (v w : DiskView) (old new : C) (
         let end = reached C state v w old new was name given (Err refusal) ran among m image told distinct all is (runs_on other).runs in (
           end.store,
           (
-            subst (λ (stored : Stored). IsAt (IsIn among) end.store stored (state new)) (maps_after (IsIn among) name given m ran.steps (Err refusal) ran.each ran.ends) end.is_at,
+            subst (λ (stored : Stored). IsAt (IsIn among) end.store stored (state new)) (maps_after name given m ran.steps (Err refusal) ran.each ran.ends) end.is_at,
             end.whole (puts_no_gc name given ran.steps ran.each) first.whole,
             enough_after end.changes first.store end.store
                 (none_flushed ran.steps end.changes (puts_no_gc name given ran.steps ran.each) end.changes_are) end.chain first.reserve,
@@ -216,11 +172,10 @@ module _ (C : Type 0) (state : C → CoreState) (v w : DiskView) (old new : C) (
           (λ t left at whole room free. refuses_by name given m w.content (state old).disk t (state new) refusal at.represents room at.valid free whole (right other) why))
     ]
 
-    not_done : (sink : SinkView) → IsPutRefusal name given (state old).disk (state new) refusal → KeepsMap (IsIn among) (Ingest name) given (Some (Refused refusal)) m v w sink sink
-    not_done sink why = keeps C state v w old new was name given (Err refusal) ran among m image told distinct all is (Some (Refused refusal)) sink sink (by_map why) refl
+    not_done : (sink : SinkView) → IsPutRefusal name given (state old).disk (state new) refusal → KeepsMap (Ingest name) given (Some (Refused refusal)) m v w sink sink
+    not_done sink why = keeps C state v w old new was name given (Err refusal) ran among m image told distinct all is (Some (Refused refusal)) sink sink (by_map why)
         (λ store right. refused_adds name given refusal store w.content
         (λ other. adds C state v w old new was name given (Err refusal) ran among m image told distinct all is (runs_on other).runs store right))
-        (λ c left. left) (λ c left. left)
 
   -- It is refused as the map has it, and leaves the map.
   pub refused_map : (sink : SinkView) → IsPutRefusal name given (state old).disk (state new) refusal → KeepsEachMap (Ingest name) given (Some (Refused refusal)) v w sink sink
@@ -246,14 +201,12 @@ module _ (C : Type 0) (state : C → CoreState) (v w : DiskView) (old new : C) (
         (λ t left at whole room free. long)
 
     stopped_keeps : (ending : Ending) → IsSourceFault source source_now ending → (ending ≡ Refused TooLong → MOST_FILE < length given) →
-        KeepsMap (IsIn among) (Ingest name) given (Some ending) m v w sink sink
+        KeepsMap (Ingest name) given (Some ending) m v w sink sink
     stopped_keeps Source cause long =
-        keeps C state v w old new was name given (Err Memory) ran among m image told distinct all is (Some Source) sink sink (name, refl) refl stopped_adds (λ c left. left)
-        (λ c left. left)
+        keeps C state v w old new was name given (Err Memory) ran among m image told distinct all is (Some Source) sink sink tt stopped_adds
     stopped_keeps (Refused Memory) cause long = not_done C state v w old new was name given Memory ran among m image told distinct all is sink tt
     stopped_keeps (Refused TooLong) cause long =
-        keeps C state v w old new was name given (Err Memory) ran among m image told distinct all is (Some (Refused TooLong)) sink sink (long_left (long refl)) refl stopped_adds
-        (λ c left. left) (λ c left. left)
+        keeps C state v w old new was name given (Err Memory) ran among m image told distinct all is (Some (Refused TooLong)) sink sink (long_left (long refl)) stopped_adds
     stopped_keeps ending cause long = absurd cause
 
   -- It leaves the map, too.
@@ -263,20 +216,11 @@ module _ (C : Type 0) (state : C → CoreState) (v w : DiskView) (old new : C) (
 
 -- ---- a put that was done
 
--- the reply was written, or the sink failed
-abbrev pub IsDone : Option Ending → Type 0
-IsDone None = Unit {0}
-IsDone (Some Sink) = Unit {0}
-IsDone (Some ending) = ⊥
-
 module _ (C : Type 0) (state : C → CoreState) (v w : DiskView) (old new : C) (was : Called C state v w old new) (name given : List ℕ) (u : Unit {0})
     (ran : PutRun C state name given (Ok u) old new) where
   module _ (among : ByteSet) (m : Stored) (image : List ℕ) (told : v.content ≡ Some image) (distinct : HasNoCollisions (IsIn among))
       (all : (segment : List ℕ) → IsSegmentOf given segment → IsIn among segment)
       (is : IsOf (IsIn among) m image) where
-    can : CanBeDone (Ingest name) given m
-    can = can_be C state v w old new was name given (Ok u) ran among m image told distinct all is (Ok u) ran.ends
-
     -- it runs on
     done_adds : (store : Store) → Encodes image store → AddsTo given (with_change name (Put (root_of given))) store w.content
     done_adds store right =
@@ -284,19 +228,16 @@ module _ (C : Type 0) (state : C → CoreState) (v w : DiskView) (old new : C) (
         (run C state v w old new was name given (Ok u) ran among m image told distinct all is) ran.each ran.ends in
         adds C state v w old new was name given (Ok u) ran among m image told distinct all is runs store right
 
-    done_keeps : (ending : Option Ending) (sink sink_now : SinkView) → IsDone ending → WroteReply (stored_line name (root_of given)) ending sink sink_now →
-        KeepsMap (IsIn among) (Ingest name) given ending m v w sink sink_now
-    done_keeps None sink sink_now done wrote = keeps C state v w old new was name given (Ok u) ran among m image told distinct all is None sink sink_now can wrote done_adds
-        (λ c left. left) (λ c left. left)
-    done_keeps (Some Sink) sink sink_now done wrote =
-        keeps C state v w old new was name given (Ok u) ran among m image told distinct all is (Some Sink) sink sink_now can wrote done_adds (λ c left. left) (λ c left. left)
-    done_keeps (Some ending) sink sink_now done wrote = absurd done
+    done_keeps : (ending : Option Ending) (sink sink_now : SinkView) → IsDone ending → KeepsMap (Ingest name) given ending m v w sink sink_now
+    done_keeps None sink sink_now done = keeps C state v w old new was name given (Ok u) ran among m image told distinct all is None sink sink_now tt done_adds
+    done_keeps (Some Sink) sink sink_now done =
+        keeps C state v w old new was name given (Ok u) ran among m image told distinct all is (Some Sink) sink sink_now tt done_adds
+    done_keeps (Some ending) sink sink_now done = absurd done
 
   is_done : (ending : Option Ending) → (ending ≡ None) ⊎ (ending ≡ Some Sink) → IsDone ending
   is_done ending (inl done) = subst IsDone (sym done) tt
   is_done ending (inr done) = subst IsDone (sym done) tt
 
   -- It is done as the map has it, and leaves the map after it.
-  pub done_map : (ending : Option Ending) (sink sink_now : SinkView) → (ending ≡ None) ⊎ (ending ≡ Some Sink) → WroteReply (stored_line name (root_of given)) ending sink sink_now
-      → KeepsEachMap (Ingest name) given ending v w sink sink_now
-  done_map ending sink sink_now done wrote image told among m distinct all is = done_keeps among m image told distinct all is ending sink sink_now (is_done ending done) wrote
+  pub done_map : (ending : Option Ending) (sink sink_now : SinkView) → (ending ≡ None) ⊎ (ending ≡ Some Sink) → KeepsEachMap (Ingest name) given ending v w sink sink_now
+  done_map ending sink sink_now done image told among m distinct all is = done_keeps among m image told distinct all is ending sink sink_now (is_done ending done)

@@ -1,12 +1,8 @@
--- A put that is refused for another reason than a write that failed stops no core, and one that is done could be.
-use Rattle.std.proofs.Common.{◌≡◌, inl, inr, ℕ, List, [], ◌∷◌, Option, Some, None, Result, Ok, Err, IfErr, refl, sym, subst}
+-- A put that is refused for another reason than a write that failed stops no core, nor does one that is done.
+use Rattle.std.proofs.Common.{◌≡◌, inl, inr, ℕ, List, [], ◌∷◌, Option, None, Result, Ok, Err, IfErr, refl, sym, subst}
 use Rattle.store_model.specs.Files.{Stored}
 use Rattle.std.specs.List.{AllByRecursion}
-use Rattle.disk_format.specs.Cells.{IsName}
-use Rattle.dd_disk.specs.View.{IsLater}
-use Rattle.dd_disk.proofs.Later.{later_here, later_on}
 use Rattle.actor_parts.specs.declared.step.Answer.{Answer}
-use Rattle.actor_parts.specs.declared.step.Answer.TheVariants as answers
 use Rattle.actor_parts.specs.StepValue as asked
 use Rattle.actor_parts.specs.StepValue.{StepValue}
 use Rattle.refusals.specs.declared.refusal.Refusal.{Refusal}
@@ -14,19 +10,16 @@ use Rattle.refusals.specs.declared.refusal.Refusal.TheVariants as refusals
 use Rattle.store_model.specs.Collisions.{HasNoCollisions, ByteSet, IsIn}
 use Rattle.store_model.specs.Image.{Store}
 use Rattle.store_core.specs.declared.stop.Stop.{Stop}
-use Rattle.store_core.specs.Core.{CoreStep, Row, StepsOr, Steps, StopsAfter}
+use Rattle.store_core.specs.Core.{CoreStep, StepsOr, Steps, StopsAfter}
 use Rattle.store_core.specs.Runs.{FileEvent, FileStep, FileRun, IsAt, stored_by}
 use Rattle.store_core.specs.Sound.{MayClash, IsHarmless}
 use Rattle.store_core.specs.State.{CoreState, Event}
 use Rattle.store_core.proofs.Damage.{never_damaged}
 use Rattle.store_core.proofs.KeepingFiles.{file_step}
-use Rattle.store_core.proofs.Stepping.{step_later}
-use Rattle.backup_engine.specs.Line.{Ingest}
-use Rattle.backup_engine.specs.PlainMap.{CanBeDone}
-use Rattle.backup_engine.specs.Running.{IsAskedFor, IsPutStep, IsLastPut, IsOk, IsDoneBefore, EndsPut}
+use Rattle.backup_engine.specs.Running.{IsPutStep, IsLastPut, IsOk, IsDoneBefore, EndsPut}
 use Rattle.backup_engine.proofs.Clashes.{IsRight, memory_right, refused_right}
 use Rattle.backup_engine.proofs.NoGcSteps.{asked_no_gc}
-use Rattle.backup_engine.proofs.PutEnds.{CanTry, CanTryBy, none_with}
+use Rattle.backup_engine.proofs.PutEnds.{none_with}
 
 -- ---- what stops a core
 
@@ -86,48 +79,7 @@ module _ (C : Type 0) (state : C → CoreState) (among : ByteSet) (name given : 
       subst (λ (x : Stored). RunsOn given x refusal (state new)) (none_with f.event.step f.event.answer f.bytes m ends.0.0)
       (refused_on (g ∷ fs) refusal next.next.store (stored_by f m) run.0 new other mid next.next.is_at run.1.1 each.1 ends.1)
 
-  -- ---- a put that comes to a write which fails
-
-  tries : (step : StepValue) (answer : Result Answer Refusal) (actor : ℕ) (buf bytes : List ℕ) (old new : CoreState) (m : Stored) → IsAskedFor name given step bytes →
-      Row step actor answer buf old new
-      → CanTry (IsIn among) name given m step answer
-  tries (asked.Commit n root) (Err refusals.DiskWrite) actor buf bytes old new m is row = (subst IsName is.0 row.0.0.may_name.named, is.3)
-  tries (asked.Commit n root) (Err refusal) actor buf bytes old new m is row = tt
-  tries (asked.Commit n root) (Ok answer) actor buf bytes old new m is row = tt
-  tries step answer actor buf bytes old new m is row = tt
-
-  -- a core that is stopped comes to none
-  stopped_tries : (step : StepValue) (m : Stored) (at : ℕ) → CanTry (IsIn among) name given m step (Err (refusals.Stopped at))
-  stopped_tries (asked.Commit n root) m at = tt
-  stopped_tries step m at = tt
-
-  step_tries : (stop : Option Stop) (f : FileEvent) (old new : CoreState) (m : Stored) → IsPutStep name given f → StepsOr stop f.event old new →
-      CanTryBy (IsIn among) name given m f
-  step_tries None f old new m put steps = tries f.event.step f.event.answer f.event.actor f.event.buf f.bytes old new m put.asked_for steps.made.row
-  step_tries (Some stop) f old new m put steps = subst (CanTry (IsIn among) name given m f.event.step) (sym steps.answer_is) (stopped_tries f.event.step m stop.at)
-
-  -- each commit of a run that comes to one has a good name, and the file is not too long
-  pub run_tries : (fs : List FileEvent) (old new : C) (m : Stored) → FileRun C state (IsIn among) fs old new → AllByRecursion (IsPutStep name given) fs →
-      AllByRecursion (CanTryBy (IsIn among) name given m) fs
-  run_tries [] old new m run each = tt
-  run_tries (f ∷ fs) old new m run each = (step_tries (state old).stop f (state old) (state run.0) m each.0 run.1.0.made, run_tries fs run.0 new m run.1.1 each.1)
-
   -- ---- a put that is done
-
-  last_can : (m : Stored) (step : StepValue) (answer : Result Answer Refusal) (actor : ℕ) (buf bytes : List ℕ) (old new : CoreState) → IsAskedFor name given step bytes →
-      IsLastPut step answer → Row step actor answer buf old new → CanBeDone (Ingest name) given m
-  last_can m (asked.Commit n root) (Ok (answers.Committed sequence)) actor buf bytes old new is last row = (subst IsName is.0 row.0.may_name.named, is.3)
-  last_can m (asked.Commit n root) (Ok answer) actor buf bytes old new is last row = absurd row
-  last_can m (asked.Commit n root) (Err refusal) actor buf bytes old new is last row = absurd last
-  last_can m step answer actor buf bytes old new is last row = absurd last
-
-  pub done_can : (m : Stored) (fs : List FileEvent) (u : Unit {0}) (old new : C) → (state old).stop ≡ None → FileRun C state (IsIn among) fs old new →
-      AllByRecursion (IsPutStep name given) fs → EndsPut fs (Ok u) → CanBeDone (Ingest name) given m
-  done_can m [] u old new runs run each ends = absurd ends
-  done_can m (f ∷ []) u old new runs run each ends =
-      last_can m f.event.step f.event.answer f.event.actor f.event.buf f.bytes (state old) (state run.0) each.0.asked_for ends
-      (step_of (state old) (state run.0) f.event runs run.1.0.made).made.row
-  done_can m (f ∷ g ∷ fs) u old new runs run each ends = done_can m (g ∷ fs) u run.0 new (goes_on (state old) (state run.0) f.event runs run.1.0.made ends.0) run.1.1 each.1 ends.1
 
   put_ok : (step : StepValue) (answer : Result Answer Refusal) → IsLastPut step answer → IsOk answer
   put_ok (asked.Commit n root) answer last = last
@@ -142,11 +94,3 @@ module _ (C : Type 0) (state : C → CoreState) (among : ByteSet) (name given : 
       subst (λ (c : C). (state c).stop ≡ None) (sym run.1.1)
       (ok_runs f.event.step f.event.answer (state old).acknowledged (state run.0).stop (put_ok f.event.step f.event.answer ends) steps.stops)
   done_on (f ∷ g ∷ fs) u old new runs run each ends = done_on (g ∷ fs) u run.0 new (goes_on (state old) (state run.0) f.event runs run.1.0.made ends.0) run.1.1 each.1 ends.1
-
-  -- ---- the disk
-
-  -- it is the same disk, later
-  pub run_later : (fs : List FileEvent) (old new : C) → FileRun C state (IsIn among) fs old new → IsLater (state old).disk (state new).disk
-  run_later [] old new run = subst (λ (c : C). IsLater (state old).disk (state c).disk) (sym run) (later_here (state old).disk)
-  run_later (f ∷ fs) old new run =
-      later_on (state old).disk (state run.0).disk (state new).disk (step_later (state old) (state run.0) f.event (state old).stop run.1.0.made) (run_later fs run.0 new run.1.1)

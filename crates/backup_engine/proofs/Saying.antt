@@ -74,6 +74,10 @@ one_push_more count (first ∷ more) d =
 pub of_first : (line : LineValue) → actor_of line ≡ Some 0 → IsOfActor line
 of_first line first = λ actor is. let zero_is : 0 ≡ actor = let both = sym first ∙ is in cc in omega (arith, zero_is)
 
+-- nor need one with no actor
+pub no_actor : (line : LineValue) → actor_of line ≡ None → IsOfActor line
+no_actor line none actor is = absurd (let both = sym none ∙ is in cc)
+
 pub all_of_actors : (rs more : List Replied) → AreOfActors rs → AreOfActors more → AreOfActors (rs ++ more)
 all_of_actors [] more first second = second
 all_of_actors (one ∷ rs) more first second = (first.0, all_of_actors rs more first.1 second)

@@ -1,5 +1,5 @@
 -- The lines of a single command: of which actor they are, and which they are.
-use Rattle.std.proofs.Common.{inl, inr, ◌+◌, ℕ, List, [], ◌∷◌, length, Option, Some, None, refl, sym, subst}
+use Rattle.std.proofs.Common.{◌≡◌, ◌∙◌, inl, inr, ◌+◌, ℕ, List, [], ◌∷◌, length, Option, Some, None, refl, sym, subst}
 use Rattle.dd_disk.specs.View.{DiskView}
 use Rattle.dd_io.specs.Flow.{SinkView, SourceView}
 use Rattle.store_machine.specs.Commands.{Replied}
@@ -11,7 +11,7 @@ use Rattle.script_lines.specs.Grammar.{pushed_bytes}
 use Rattle.script_lines.specs.Grammar as lines
 use Rattle.script_lines.specs.ReplyValue as replies
 use Rattle.script_runner.specs.Scripts.{AreOfActors}
-use Rattle.backup_engine.specs.Singles.{Digits, IsIngest, IsRestore, ReadsFile, Speaks, StopsAt, StoresFile, finish_lines, next_lines, push_lines, pushed, refused, said}
+use Rattle.backup_engine.specs.Singles.{Digits, IsIngest, Speaks, StopsAt, StoresFile, begun, finish_lines, push_lines, pushed, refused, said}
 use Rattle.backup_engine.proofs.NotDone.{IsUnopened}
 use Rattle.backup_engine.proofs.Saying.{all_of_actors, of_first}
 
@@ -51,23 +51,20 @@ ingest_actors name given (Some (Refused refusal)) source source_now rs (inr (mor
     subst AreOfActors (sym are) (of_first (lines.Begin 0) refl, stop_actors name given source source_now refusal more stops)
 ingest_actors name given (Some ending) source source_now rs is = absurd is
 
-next_actors : (segments : List (List ℕ)) → AreOfActors (next_lines segments)
-next_actors [] = tt
-next_actors (bytes ∷ more) = (of_first (lines.Next 0) refl, next_actors more)
+-- ---- where no line was run there was no memory
 
-read_actors : (name : List ℕ) (segments : List (List ℕ)) (last : Replied) (rs : List Replied) → AreOfActors (last ∷ []) → ReadsFile name segments last rs → AreOfActors rs
-read_actors name segments last rs end (count, is) =
-    subst AreOfActors (sym is) (of_first (lines.Read 0 name) refl, all_of_actors (next_lines segments) (last ∷ []) (next_actors segments) end)
+some_run : (one : Replied) (more rs : List Replied) → rs ≡ one ∷ more → rs ≡ [] → ⊥
+some_run one more rs is none = let no : one ∷ more ≡ [] = sym is ∙ none in cc
 
-pub restore_actors : (name : List ℕ) (ending : Option Ending) (sink sink_now : SinkView) (rs : List Replied) → IsRestore name ending sink sink_now rs → AreOfActors rs
-restore_actors name None sink sink_now rs (segments, (reads, wrote)) = read_actors name segments (said (lines.Next 0) (replies.End 0)) rs (of_first (lines.Next 0) refl, tt) reads
-restore_actors name (Some Sink) sink sink_now rs (segments, (last, (reads, wrote))) = read_actors name segments (said (lines.Next 0) (replies.Bytes 0 last)) rs
-    (of_first (lines.Next 0) refl, tt) reads
-restore_actors name (Some (Refused refusal)) sink sink_now rs (inl (memory, none, wrote)) = subst AreOfActors (sym none) tt
-restore_actors name (Some (Refused refusal)) sink sink_now rs (inr (inl (is, wrote))) = subst AreOfActors (sym is) (of_first (lines.Read 0 name) refl, tt)
-restore_actors name (Some (Refused refusal)) sink sink_now rs (inr (inr (segments, (reads, wrote)))) = read_actors name segments (refused (lines.Next 0) refusal) rs
-    (of_first (lines.Next 0) refl, tt) reads
-restore_actors name (Some ending) sink sink_now rs is = absurd is
+pub ingest_memory : (name given : List ℕ) (ending : Option Ending) (source source_now : SourceView) (rs : List Replied) → IsIngest name given ending source source_now rs
+    → rs ≡ [] → ending ≡ Some (Refused Memory)
+ingest_memory name given None source source_now rs (pushes, (sequence, (all, is))) none = absurd (some_run begun _ rs is none)
+ingest_memory name given (Some Sink) source source_now rs (pushes, (sequence, (all, is))) none = absurd (some_run begun _ rs is none)
+ingest_memory name given (Some Source) source source_now rs (pushes, (gave, is)) none = absurd (some_run begun _ rs is none)
+ingest_memory name given (Some (Refused refusal)) source source_now rs (inl (memory, empty)) none =
+    subst (λ (r : Refusal). Some (Refused r) ≡ Some (Refused Memory)) (sym memory) refl
+ingest_memory name given (Some (Refused refusal)) source source_now rs (inr (more, (is, stops))) none = absurd (some_run begun more rs is none)
+ingest_memory name given (Some ending) source source_now rs are none = absurd are
 
 -- ---- what is said
 

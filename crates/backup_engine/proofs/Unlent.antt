@@ -1,5 +1,5 @@
 -- What is so of a disk that is lent is so of the lender's: the two are known by the same, but for who holds them.
-use Rattle.std.proofs.Common.{◌⊎◌, inl, inr, List, [], ◌∷◌, ℕ, Option, Some, None}
+use Rattle.std.proofs.Common.{inl, inr, List, [], ◌∷◌, ℕ, Option, Some, None}
 use Rattle.disk_format.specs.declared.why.Why.{Why}
 use Rattle.dd_disk.specs.View.{DiskView}
 use Rattle.dd_disk.specs.Shows.{Shows}
@@ -11,7 +11,6 @@ use Rattle.store_model.specs.Image.{Store}
 use Rattle.refusals.specs.declared.refusal.Refusal.TheVariants.{Memory, DiskRead, DiskWrite, Corrupt, Missing, Damaged, WrongSize, NotAStore, Version, Full}
 use Rattle.reply_text.specs.declared.ending.Ending.{Ending}
 use Rattle.reply_text.specs.declared.ending.Ending.TheVariants.{Source, Sink, Refused}
-use Rattle.store_model.specs.Files.{Stored}
 use Rattle.journal_cells.specs.declared.fault.CellFault.{CellFault}
 use Rattle.recovery.specs.Opening.{IsOpenRefusal, IsSized, BreaksFormat, BreaksJournal, BreaksSlots, HasWrongSize}
 use Rattle.recovery.specs.Slots.{IsDamagedSlot}
@@ -20,8 +19,6 @@ use Rattle.backup_engine.specs.AnyDisk.{FindsBeforeWriting, FindsNames, Holds, H
 use Rattle.backup_engine.specs.Frame.{KeepsOthers}
 use Rattle.backup_engine.specs.Line.{CommandLine, Ingest, Restore, Delete, Collect}
 use Rattle.backup_engine.specs.Line as table
-use Rattle.store_model.specs.Collisions.{ByteSet, IsIn}
-use Rattle.backup_engine.specs.Promise.{KeepsEachMap, IsLeftAs, Stands, NothingWritten}
 use Rattle.backup_engine.specs.TopCall.{Keeps}
 use Rattle.backup_engine.proofs.UnlikeNodes.{found, unlike_so}
 use Rattle.backup_engine.proofs.CollectFaults.{bad_header_so, uncopied_so, unmarked_so}
@@ -317,29 +314,9 @@ module _ (loans loans_now : List ℕ) (v w : DiskView) where
     collect_durable percent (Some Sink) is = is
     collect_durable percent (Some ending) is = tt
 
-    kept_left : (command : CommandLine) (ending : Option Ending) (among : ByteSet) (m : Stored) → Stands (IsLeftAs (IsIn among) command given m ending) lent_now
-        ⊎ NothingWritten ending lent lent_now
-        → Stands (IsLeftAs (IsIn among) command given m ending) w ⊎ NothingWritten ending v w
-    kept_left command ending among m (inl is) = inl is
-    kept_left command ending among m (inr is) = inr (record { not_done = is.not_done; content = is.content; images = is.images })
-
     found_so : (percent : ℕ) → FindsBeforeWriting (Collect percent) lent lent_now → FindsBeforeWriting (Collect percent) v w
     found_so percent (inl same) = inl (record { content = same.content; images = same.images; between = same.between })
     found_so percent (inr (is, names)) = inr (holds is, names_so is.store names)
-
-    map_kept : (command : CommandLine) (ending : Option Ending) → KeepsEachMap command given ending lent lent_now sink sink_now →
-        KeepsEachMap command given ending v w sink sink_now
-    map_kept command ending each = λ old told among m apart segments is.
-        let kept = each old told among m apart segments is in
-        record {
-          by_map = kept.by_map;
-          wrote = kept.wrote;
-          added = kept.added;
-          gave_back = kept.gave_back;
-          left = kept_left command ending among m kept.left;
-          crash =
-              record { now = kept.crash.now; since = kept.crash.since };
-        }
 
     frame_kept : (command : CommandLine) (ending : Option Ending) → KeepsOthers command ending lent lent_now → KeepsOthers command ending v w
     frame_kept command ending is = record { content = is.content; crash = λ old told. let leaves = is.crash old told in record { now = leaves.now; since = leaves.since } }
@@ -347,7 +324,7 @@ module _ (loans loans_now : List ℕ) (v w : DiskView) where
     pub ingest_kept : (ending : Option Ending) → Keeps (Ingest name) given ending lent lent_now source source_now sink sink_now →
         Keeps (Ingest name) given ending v w source source_now sink sink_now
     ingest_kept ending is = record {
-      map = map_kept (Ingest name) ending is.map;
+      map = is.map;
       any = record {
         took = is.any.took;
         caused = ingest_caused ending is.any.caused;
@@ -366,7 +343,7 @@ module _ (loans loans_now : List ℕ) (v w : DiskView) where
     pub restore_kept : (ending : Option Ending) → Keeps (Restore name) given ending lent lent_now source source_now sink sink_now →
         Keeps (Restore name) given ending v w source source_now sink sink_now
     restore_kept ending is = record {
-      map = map_kept (Restore name) ending is.map;
+      map = is.map;
       any = record {
         took = is.any.took;
         caused = restore_caused ending is.any.caused;
@@ -385,7 +362,7 @@ module _ (loans loans_now : List ℕ) (v w : DiskView) where
     pub delete_kept : (ending : Option Ending) → Keeps (Delete name) given ending lent lent_now source source_now sink sink_now →
         Keeps (Delete name) given ending v w source source_now sink sink_now
     delete_kept ending is = record {
-      map = map_kept (Delete name) ending is.map;
+      map = is.map;
       any = record {
         took = is.any.took;
         caused = delete_caused ending is.any.caused;
@@ -404,7 +381,7 @@ module _ (loans loans_now : List ℕ) (v w : DiskView) where
     pub list_kept : (ending : Option Ending) → Keeps table.List given ending lent lent_now source source_now sink sink_now →
         Keeps table.List given ending v w source source_now sink sink_now
     list_kept ending is = record {
-      map = map_kept table.List ending is.map;
+      map = is.map;
       any = record {
         took = is.any.took;
         caused = list_caused ending is.any.caused;
@@ -423,7 +400,7 @@ module _ (loans loans_now : List ℕ) (v w : DiskView) where
     pub collect_kept : (percent : ℕ) (ending : Option Ending) → Keeps (Collect percent) given ending lent lent_now source source_now sink sink_now →
         Keeps (Collect percent) given ending v w source source_now sink sink_now
     collect_kept percent ending is = record {
-      map = map_kept (Collect percent) ending is.map;
+      map = is.map;
       any = record {
         took = is.any.took;
         caused = collect_caused percent ending is.any.caused;

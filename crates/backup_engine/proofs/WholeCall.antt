@@ -1,11 +1,11 @@
 -- What is so of the steps of a core that was opened and is closed then, of all of the call.
-use Rattle.std.proofs.Common.{◌⊎◌, inl, inr, ℕ, List, sym, subst, arith}
+use Rattle.std.proofs.Common.{inl, inr, ℕ, List, sym, subst, arith}
 use Rattle.dd_disk.specs.Ending.{CountsFault}
 use Rattle.dd_disk.specs.Ending as device
 use Rattle.dd_disk.specs.View.{CrashLeaves, DiskView, IsLater, OnlyReads}
 use Rattle.dd_disk.proofs.Later.{later_on, reads_on}
 use Rattle.store_core.specs.State.{CoreState}
-use Rattle.backup_engine.specs.Promise.{LeavesMeanwhile, SinceStart}
+use Rattle.backup_engine.specs.Promise.{LeavesMeanwhile}
 use Rattle.backup_engine.proofs.Called.{Called}
 
 module _ (C : Type 0) (state : C → CoreState) (v w : DiskView) (old new : C) (called : Called C state v w old new) where
@@ -19,20 +19,7 @@ module _ (C : Type 0) (state : C → CoreState) (v w : DiskView) (old new : C) (
   pub to_end : IsLater (state old).disk (state new).disk → IsLater (state old).disk w
   to_end later = later_on (state old).disk (state new).disk w later called.last.only.later
 
-  -- what a crash since the call began leaves, by what one since the store was opened does
-  pub crash_of : (P : List ℕ → Type 0) → IsLater (state old).disk (state new).disk → CrashLeaves P (state old).disk (state new).disk → (c : List ℕ) → SinceStart v w c →
-      v.images c ⊎ P c
-  crash_of P later leaves c (inl image) = inr (leaves.now c (called.last.only.images_are c image))
-  crash_of P later leaves c (inr since) =
-      elim (called.last.only.since_are v.clock c (omega (arith, called.first.only.later.clock_is, later.clock_is)) since.1) [
-        | inl was ↦ elim (leaves.since v.clock c called.first.only.later.clock_is was) [
-          | inl before ↦ elim (called.first.only.since_are v.clock c (omega arith) before) [ inl earlier ↦ inl (v.only_now c since.0 earlier) | inr image ↦ inl image ]
-          | inr kept ↦ inr kept
-        ]
-        | inr image ↦ inr (leaves.now c image)
-      ]
-
-  -- and at all moments
+  -- what a crash leaves at all moments of the call, by what one since the store was opened does
   pub leaves_of : (P : List ℕ → Type 0) → IsLater (state old).disk (state new).disk → CrashLeaves P (state old).disk (state new).disk → LeavesMeanwhile P v w
   leaves_of P later leaves = record {
     now = λ c image. inr (leaves.now c (called.last.only.images_are c image));

@@ -1,10 +1,9 @@
--- What commands add to a store (docs/MODEL.md, 'The promise'): an `ingest` pieces of its file, each of them once, and then the name; a
--- `delete` that the name is gone.
+-- What an `ingest` adds to a store (docs/MODEL.md, 'The promise'): pieces of its file, each of them once, and then the name.
 use Rattle.std.specs.Prelude.{◌≡◌, ℕ, suc, List, [], ◌∷◌, Option, None, Some}
 use Rattle.std.specs.List.{AllByRecursion}
 use Rattle.base_model.specs.Known.{KnownWith}
 use Rattle.container_meta.specs.Segments.{segment_key}
-use Rattle.disk_format.specs.Cells.Change.{Put, Delete as Gone}
+use Rattle.disk_format.specs.Cells.Change.{Put}
 use Rattle.refusals.specs.declared.refusal.Refusal.TheVariants.{DiskWrite}
 use Rattle.reply_text.specs.declared.ending.Ending.{Ending}
 use Rattle.reply_text.specs.declared.ending.Ending.TheVariants.{Sink, Refused}
@@ -14,8 +13,6 @@ use Rattle.store_model.specs.Pieces.{HasPieceOf}
 use Rattle.store_model.specs.Steps.{StoreChange, SealContainer, ChangeName, FlushContainer, FreeContainer, with_sealed, with_change}
 use Rattle.store_model.specs.Trees.{root_of}
 use Rattle.store_core.specs.Runs.{ChangesTo}
-use Rattle.backup_engine.specs.Line.{CommandLine, Format, Ingest, Restore, Delete, Collect}
-use Rattle.backup_engine.specs.Line as table
 
 -- Containers are added, each under the next id, with pieces of the file that no container before it holds.
 abbrev pub AddsOnce : List ℕ → List StoreChange → Store → Type 0
@@ -37,23 +34,10 @@ pub record AddsTo (given : List ℕ) (put : Store → Store) (store : Store) (co
   pub once : AddsOnce given changes store
   pub content_is : KnownWith content (λ image. Encodes image (put after))
 
--- the content is this store
-abbrev pub IsStore : Store → Option (List ℕ) → Type 0
-IsStore store content = KnownWith content (λ image. Encodes image store)
-
--- What a command adds to the store that the content was: an `ingest` some pieces, and its name where it was done, but perhaps
--- for its reply; a `delete` that was done a record of it, and nothing else. Of a write or a sync of these that failed it says nothing.
--- A `list` leaves the store. What a `collect` gives back and copies is said beside its reply (Collected.antt).
-abbrev pub Adds : CommandLine → List ℕ → Option Ending → Store → Option (List ℕ) → Type 0
-Adds (Format slots) given ending store content = Unit {0}
-Adds (Ingest name) given None store content = AddsTo given (with_change name (Put (root_of given))) store content
-Adds (Ingest name) given (Some Sink) store content = AddsTo given (with_change name (Put (root_of given))) store content
-Adds (Ingest name) given (Some (Refused DiskWrite)) store content = Unit {0}
-Adds (Ingest name) given (Some ending) store content = AddsTo given (λ after. after) store content
-Adds (Restore name) given ending store content = Unit {0}
-Adds (Delete name) given None store content = IsStore (with_change name Gone store) content
-Adds (Delete name) given (Some Sink) store content = IsStore (with_change name Gone store) content
-Adds (Delete name) given (Some (Refused DiskWrite)) store content = Unit {0}
-Adds (Delete name) given (Some ending) store content = IsStore store content
-Adds table.List given ending store content = IsStore store content
-Adds (Collect percent) given ending store content = Unit {0}
+-- What an `ingest` adds to the store that the content was: some pieces, and its name where it was done, but perhaps for its reply. Of a
+-- write or a sync of these that failed it says nothing.
+abbrev pub Adds : (name given : List ℕ) → Option Ending → Store → Option (List ℕ) → Type 0
+Adds name given None store content = AddsTo given (with_change name (Put (root_of given))) store content
+Adds name given (Some Sink) store content = AddsTo given (with_change name (Put (root_of given))) store content
+Adds name given (Some (Refused DiskWrite)) store content = Unit {0}
+Adds name given (Some ending) store content = AddsTo given (λ after. after) store content

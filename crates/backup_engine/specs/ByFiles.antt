@@ -66,7 +66,7 @@ RunsEachByFiles ending rs disk disk_now = (among : ByteSet) (m : FileMachine) �
     → KnownWith disk.content (MayStand (IsIn among) m)
     → RunsByFiles (IsIn among) rs m disk disk_now ⊎ RefusedByFiles (IsIn among) ending rs m disk disk_now
 
--- Then a refusal ends a script only where there was no memory, or a call of the disk failed.
+-- Then a refusal ends a script, or a command that ran no line, only where there was no memory, or a call of the disk failed.
 abbrev pub FailsAlone : Option Ending → List Replied → DiskView → Type 0
 FailsAlone ending rs disk = (among : ByteSet) (m : FileMachine) → HasNoCollisions (IsIn among) → CutsAmong among rs m
     → KnownWith disk.content (MayStand (IsIn among) m) → (refusal : Refusal) → ending ≡ Some (Refused refusal) → IsTrue (fails refusal)

@@ -26,5 +26,5 @@ pub mod Singles
 pub mod Storing
 pub mod Feeding
 pub mod TopCall
-pub mod Whole
+pub mod AnswersByMap
 pub mod Words

@@ -28,12 +28,12 @@ use Rattle.backup_engine.specs.AnyDisk.{Formats}
 use Rattle.backup_engine.specs.Checking.{ChecksDisk}
 use Rattle.backup_engine.specs.Line.{CommandLine, Format, TableLine, Single, Run, Check}
 use Rattle.backup_engine.specs.PlainMap.{map_after, CanBeDone}
-use Rattle.backup_engine.specs.Promise.{KeepsMap, NothingWritten, SinceStart, Stands}
+use Rattle.backup_engine.specs.Promise.{EndsBy, SinceStart, Stands}
 use Rattle.backup_engine.specs.Seen.{Seen}
 use Rattle.backup_engine.specs.TopCall.{Promise, KeepsLine}
 use Rattle.backup_engine.specs.ByFiles.{RefusedByFiles, RunsByFiles}
 use Rattle.backup_engine.specs.Singles.{said}
-use Rattle.backup_engine.specs.Whole.{KeepsWhole}
+use Rattle.backup_engine.specs.AnswersByMap.{AnswersByMap, WasNotDone}
 
 -- One call: the line that its words are, if they are one; its status; source, sink and notes before and after. And, as the
 -- promise has it, how it ended, what its source gave, and which lines of a script were run.
@@ -170,18 +170,24 @@ abbrev pub LeavesPossible : (D : Type 0) → (D → DiskView) → Type 0
 LeavesPossible D view = (among : ByteSet) (m : Stored) (calls : List Call) (old new : D) → BeginsOfMap (IsIn among) calls m (view old)
     → CallRun D view calls old new → Stands (Possible (IsIn among) calls m) (view new)
 
+-- nothing was written: so images from before may last
+pub record NothingWritten (ending : Option Ending) (disk disk_now : DiskView) : Type 0 where
+  pub not_done : WasNotDone ending
+  pub content : disk_now.content ≡ disk.content
+  pub images : (c : List ℕ) → disk_now.images c → disk.images c
+
 -- A `format` opens no store, and so makes no room. Over one it is not done, and changes nothing; and where two slots or more are closed,
--- it answers by the map.
+-- it is refused as the map has it.
 pub record FormatsNothing (S : List ℕ → Type 0) (slots : ℕ) (c : Call) (m : Stored) (disk disk_now : DiskView) : Type 0 where
   pub nothing : NothingWritten c.ending disk disk_now
   pub crash : (image : List ℕ) → SinceStart disk disk_now image → disk.images image
-  pub by_map : Known disk.content (λ old. IsOf S m old
-      → KeepsMap S (Format slots) c.given c.ending m disk disk_now c.sink c.sink_now)
+  pub wrote : c.sink_now.written ≡ c.sink.written
+  pub by_map : Known disk.content (λ old. IsOf S m old → EndsBy (Format slots) c.given m disk_now.content c.ending)
 
 -- what a command answers to a map that it finds
 abbrev pub AnswersBy : (List ℕ → Type 0) → CommandLine → Call → Stored → DiskView → DiskView → Type 0
 AnswersBy S (Format slots) c m disk disk_now = FormatsNothing S slots c m disk disk_now
-AnswersBy S command c m disk disk_now = KeepsWhole S command c.given c.ending m disk disk_now c.sink c.sink_now
+AnswersBy S command c m disk disk_now = AnswersByMap S command c.given c.ending m disk disk_now c.sink c.sink_now
 
 -- A command that is called after them answers by one of these maps: that of the content which it finds.
 abbrev pub AnswersByTheMap : (D : Type 0) → (D → DiskView) → Type 0

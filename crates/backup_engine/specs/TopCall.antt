@@ -20,11 +20,10 @@ use Rattle.backup_engine.specs.Frame.{KeepsOthers}
 use Rattle.backup_engine.specs.Line.{CommandLine, Format, Ingest, Restore, Delete, Collect, TableLine, Single, Run, Check}
 use Rattle.backup_engine.specs.Line as table
 use Rattle.backup_engine.specs.Noted.{AreNoted, status_by}
-use Rattle.backup_engine.specs.Promise.{KeepsEachMap, SinceStart}
+use Rattle.backup_engine.specs.Promise.{EndsEachMap, KeepsEachMap, SinceStart}
 use Rattle.backup_engine.specs.Script.{KeepsScript}
 use Rattle.backup_engine.specs.Seen.{Seen}
 use Rattle.backup_engine.specs.Singles.{SpeaksAs}
-use Rattle.backup_engine.specs.Whole.{KeepsEachWhole}
 
 abbrev pub ending_in : Result Unit Ending → Option Ending
 ending_in (Ok u) = None
@@ -54,7 +53,7 @@ IsUntouched command ending disk disk_now = Unit {0}
 
 pub record Keeps (command : CommandLine) (given : List ℕ) (ending : Option Ending) (disk disk_now : DiskView)
     (source source_now : SourceView) (sink sink_now : SinkView) : Type 0 where
-  -- Over a disk that stands for a map, all is as the plain map has it.
+  -- Over a disk that stands for a map an `ingest` or a `collect` ends for its cause, and makes this of the store.
   pub map : KeepsEachMap command given ending disk disk_now sink sink_now
   -- Over any disk, each ending has its cause.
   pub any : OnAnyDisk command given ending disk disk_now source source_now sink sink_now
@@ -109,12 +108,13 @@ pub record MakesNoRoom (rs : List Replied) (ending : Option Ending) (disk disk_n
   pub source_is : source_now ≡ source
   pub sink_is : sink_now ≡ sink
 
--- A single command but a `format`: what it does of the files, and as lines of a script, from the beginning of the call on; and, from the
--- disk as it was once there was room, all that it keeps.
+-- A single command but a `format`: what it does as lines of the machine of files, from the beginning of the call on, from which follows how
+-- it answers by the map (`a_command_answers_by_the_map`); and, from the disk as it was once there was room, all that it keeps.
 pub record DoesCommand (D : Type 0) (view : D → DiskView) (command : CommandLine) (given : List ℕ) (rs : List Replied)
     (ending : Option Ending) (disk disk_now : DiskView) (source source_now : SourceView) (sink sink_now : SinkView) : Type 0 where
-  pub whole : KeepsEachWhole command given ending disk disk_now sink sink_now
   pub by_files : RunsEachByFiles ending rs disk disk_now
+  pub fails_alone : rs ≡ [] → FailsAlone ending rs disk
+  pub ends : EndsEachMap command given ending disk disk_now
   pub took : Took command given ending source source_now
   pub way : OnceThereWasRoom D view (λ v. Keeps command given ending v disk_now source source_now sink sink_now
       × SpeaksAs command given ending rs v disk_now source source_now sink sink_now) ending disk disk_now

@@ -19,5 +19,5 @@ mod storing;
 mod top_call;
 mod words;
 
-pub use laws::commands_follow_the_map;
+pub use laws::{a_command_answers_by_the_map, commands_follow_the_map};
 pub use top_call::{backup, backup_alone, size_of_format};

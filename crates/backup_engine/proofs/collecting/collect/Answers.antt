@@ -9,12 +9,13 @@ use Rattle.backup_engine.specs.Line.{Collect}
 use Rattle.backup_engine.specs.Singles.{IsCollect}
 use Rattle.backup_engine.specs.TopCall.{DoesCommand, ending_in}
 use Rattle.backup_engine.proofs.ByFiles.{refused_by_files}
+use Rattle.backup_engine.proofs.FailsAlone.{fails_unopened}
 use Rattle.backup_engine.proofs.Kept.{by_error, by_same, later_back}
 use Rattle.backup_engine.proofs.Lending.{none_back, none_later}
-use Rattle.backup_engine.proofs.CollectLines.{collect_actors}
 use Rattle.backup_engine.proofs.CollectsKept.{collect_keeps, collect_later, collect_lines}
 use Rattle.backup_engine.proofs.NotDone.{not_begun, unopened_collect}
 use Rattle.backup_engine.proofs.Opens.{does_none, does_opened, does_without_memory, opened_fresh, opened_later, single_back}
+use Rattle.backup_engine.proofs.Ran.{collect_ran, ran_actors, ran_alone}
 use Rattle.backup_engine.proofs.Returned.{first_same, rest_same}
 use Rattle.backup_engine.proofs.SinglesRun.{unbegun_speaks, unopened_speaks}
 use Rattle.backup_engine.proofs.Unlent.{collect_kept}
@@ -53,6 +54,8 @@ returns-in-Err g c =
                 })
                 (refused_by_files _ view refusal c.args.disk.now c.in-Err.refused.0.now c.an_opening_finds_its_files.ensures.unopened
                 (none_back _ view first _ w refusal c.in-Err.ensures.refused))
+                (fails_unopened _ view refusal c.args.disk.now c.in-Err.refused.0.now c.an_opening_finds_its_files.ensures.unopened
+                (none_back _ view first _ w refusal c.in-Err.ensures.refused))
                 (none_back _ view first _ w refusal c.in-Err.ensures.refused),
           );
       later = by_same (λ d. IsLater (view c.args.disk.now) (view d)) _ c.in-Err.refused.0.now (search rules)
@@ -84,13 +87,13 @@ returns g c =
     let run = collect_lines _ _ c.args.percent core core_now (opened_fresh _ _ _ _ is.opened is.running).runs result sink sink_now ran in
     let between = collect_later _ _ c.args.percent core core_now result sink sink_now ran in
     let by_files = single_back _ view _ _ first _ w core core_now opens is.running closed.disk closed.moment between is.opened are (ending_in result) run
-    (collect_actors c.args.percent (ending_in result) sink sink_now) in
+    (λ rs are. ran_actors (ending_in result) rs sink sink_now (collect_ran rs sink sink_now c.args.percent (ending_in result) are)) in
     record {
       does = λ source. by_same (λ d. (rs : List Replied) × DoesCommand _ view (Collect c.args.percent) [] rs (ending_in result) (view c.args.disk.now) (view d) source source sink
           sink_now) _ c.close-disk.result.now (search (rules, named)) (
             run.0,
             does_opened _ view _ _ first _ w core core_now opens is.running closed.disk closed.moment between (Collect c.args.percent) [] (ending_in result) source source sink
-                sink_now run.0 by_files is.opened
+                sink_now run.0 by_files (ran_alone (ending_in result) run.0 sink sink_now (collect_ran run.0 sink sink_now c.args.percent (ending_in result) run.1.0) _ _ by_files) is.opened
                 (λ before called. (
                   collect_kept _ _ (view before.now) w source source sink sink_now [] [] c.args.percent (ending_in result)
                       (collect_keeps _ _ _ _ core core_now called c.args.percent result source sink sink_now ran),

@@ -10,12 +10,14 @@ use Rattle.backup_engine.specs.Singles.{IsIngest}
 use Rattle.backup_engine.specs.TopCall.{DoesCommand, ending_in}
 use Rattle.backup_engine.proofs.Ingesting.{ingest_keeps}
 use Rattle.backup_engine.proofs.ByFiles.{refused_by_files}
+use Rattle.backup_engine.proofs.FailsAlone.{fails_unopened}
 use Rattle.backup_engine.proofs.Kept.{by_same, later_back}
 use Rattle.backup_engine.proofs.Lending.{none_back, none_later}
 use Rattle.backup_engine.proofs.NotDone.{unopened_ingest}
 use Rattle.backup_engine.proofs.Opens.{does_none, does_opened, opened_fresh, opened_later, single_back}
+use Rattle.backup_engine.proofs.Ran.{alone_memory}
 use Rattle.backup_engine.proofs.Returned.{first_same, ingest_later, rest_same}
-use Rattle.backup_engine.proofs.SinglesRun.{ingest_actors, unopened_speaks}
+use Rattle.backup_engine.proofs.SinglesRun.{ingest_actors, ingest_memory, unopened_speaks}
 use Rattle.backup_engine.proofs.SourceRuns.{given_of, given_told}
 use Rattle.backup_engine.proofs.Unlent.{ingest_kept}
 use Rattle.backup_engine.proofs.ingest.ingest.Goals as goal
@@ -49,6 +51,8 @@ returns-in-Err g c =
                 speaks = unopened_speaks are before w refusal is sink;
               })
               (refused_by_files _ view refusal c.args.disk.now c.in-Err.refused.0.now c.an_opening_finds_its_files.ensures.unopened
+              (none_back _ view first _ w refusal c.in-Err.ensures.refused))
+              (fails_unopened _ view refusal c.args.disk.now c.in-Err.refused.0.now c.an_opening_finds_its_files.ensures.unopened
               (none_back _ view first _ w refusal c.in-Err.ensures.refused))
               (none_back _ view first _ w refusal c.in-Err.ensures.refused),
         ),
@@ -87,7 +91,8 @@ returns g c =
     let by_files = single_back _ view _ _ first _ w core core_now opens is.running closed.disk closed.moment between is.opened are (ending_in result) run
     (ingest_actors name ran.given (ending_in result) source source_now) in
     let done = does_opened _ view _ _ first _ w core core_now opens is.running closed.disk closed.moment between (Ingest name) ran.given (ending_in result) source source_now sink
-    sink_now run.0 by_files is.opened
+    sink_now run.0 by_files
+    (λ none. alone_memory (ending_in result) run.0 _ _ by_files (ingest_memory name ran.given (ending_in result) source source_now run.0 run.1.0 none)) is.opened
     (λ before called. (
       ingest_kept _ _ (view before.now) w source source_now sink sink_now ran.given name (ending_in result)
           (ingest_keeps _ _ _ _ _ _ called name result source source_now sink sink_now ran),

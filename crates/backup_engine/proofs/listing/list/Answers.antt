@@ -9,12 +9,14 @@ use Rattle.backup_engine.specs.Line as table
 use Rattle.backup_engine.specs.Singles.{IsListing}
 use Rattle.backup_engine.specs.TopCall.{DoesCommand, ending_in}
 use Rattle.backup_engine.proofs.ByFiles.{refused_by_files}
+use Rattle.backup_engine.proofs.FailsAlone.{fails_unopened}
 use Rattle.backup_engine.proofs.Kept.{by_error, by_same, later_back}
 use Rattle.backup_engine.proofs.Lending.{none_back, none_later}
-use Rattle.backup_engine.proofs.NameLines.{list_actors, list_lines}
+use Rattle.backup_engine.proofs.NameLines.{list_lines}
 use Rattle.backup_engine.proofs.NamesKept.{list_keeps, list_later}
 use Rattle.backup_engine.proofs.NotDone.{not_begun, unopened_list}
 use Rattle.backup_engine.proofs.Opens.{does_none, does_opened, does_without_memory, opened_fresh, opened_later, single_back}
+use Rattle.backup_engine.proofs.Ran.{list_ran, ran_actors, ran_alone}
 use Rattle.backup_engine.proofs.Returned.{first_same, rest_same}
 use Rattle.backup_engine.proofs.SinglesRun.{unbegun_speaks, unopened_speaks}
 use Rattle.backup_engine.proofs.Unlent.{list_kept}
@@ -53,6 +55,8 @@ returns-in-Err g c =
                 })
                 (refused_by_files _ view refusal c.args.disk.now c.in-Err.refused.0.now c.an_opening_finds_its_files.ensures.unopened
                 (none_back _ view first _ w refusal c.in-Err.ensures.refused))
+                (fails_unopened _ view refusal c.args.disk.now c.in-Err.refused.0.now c.an_opening_finds_its_files.ensures.unopened
+                (none_back _ view first _ w refusal c.in-Err.ensures.refused))
                 (none_back _ view first _ w refusal c.in-Err.ensures.refused),
           );
       later = by_same (λ d. IsLater (view c.args.disk.now) (view d)) _ c.in-Err.refused.0.now (search rules)
@@ -84,16 +88,16 @@ returns g c =
     let run = list_lines _ _ core core_now stop_is result sink sink_now ran in
     let between = list_later _ _ core core_now result sink sink_now ran in
     let by_files = single_back _ view _ _ first _ w core core_now opens is.running closed.disk closed.moment between is.opened are (ending_in result) run
-    (list_actors (ending_in result) sink sink_now) in
+    (λ rs are. ran_actors (ending_in result) rs sink sink_now (list_ran rs sink sink_now (ending_in result) are)) in
     record {
       does = λ source. by_same (λ d. (rs : List Replied) × DoesCommand _ view table.List [] rs (ending_in result) (view c.args.disk.now) (view d) source source sink sink_now) _
           c.close-disk.result.now (search (rules, named)) (
             run.0,
             does_opened _ view _ _ first _ w core core_now opens is.running closed.disk closed.moment between table.List [] (ending_in result) source source sink sink_now run.0
-                by_files is.opened
+                by_files (ran_alone (ending_in result) run.0 sink sink_now (list_ran run.0 sink sink_now (ending_in result) run.1.0) _ _ by_files) is.opened
                 (λ before called. (
                   list_kept _ _ (view before.now) w source source sink sink_now [] [] (ending_in result)
-                      (list_keeps _ _ _ _ before _ _ _ called opens result source sink sink_now ran),
+                      (list_keeps _ _ _ _ _ _ called result source sink sink_now ran),
                   inl run.1.0,
                 )),
           );

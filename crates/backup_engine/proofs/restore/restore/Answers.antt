@@ -10,12 +10,14 @@ use Rattle.backup_engine.specs.TopCall.{DoesCommand, ending_in}
 use Rattle.backup_engine.proofs.GivenBack.{gives}
 use Rattle.backup_engine.proofs.GivenLines.{given_lines}
 use Rattle.backup_engine.proofs.ByFiles.{refused_by_files}
+use Rattle.backup_engine.proofs.FailsAlone.{fails_unopened}
 use Rattle.backup_engine.proofs.Kept.{by_same, later_back}
 use Rattle.backup_engine.proofs.Lending.{none_back, none_later}
 use Rattle.backup_engine.proofs.NotDone.{not_begun, unopened_restore}
 use Rattle.backup_engine.proofs.Opens.{does_none, does_opened, does_without_memory, opened_fresh, opened_later, single_back}
+use Rattle.backup_engine.proofs.Ran.{restore_ran, ran_actors, ran_alone}
 use Rattle.backup_engine.proofs.Returned.{first_same, give_later, rest_same}
-use Rattle.backup_engine.proofs.SinglesRun.{restore_actors, unbegun_speaks, unopened_speaks}
+use Rattle.backup_engine.proofs.SinglesRun.{unbegun_speaks, unopened_speaks}
 use Rattle.backup_engine.proofs.Unlent.{restore_kept}
 use Rattle.backup_engine.proofs.restore.restore.Goals as goal
 
@@ -52,6 +54,8 @@ returns-in-Err g c =
                 })
                 (refused_by_files _ view refusal c.args.disk.now c.in-Err.refused.0.now c.an_opening_finds_its_files.ensures.unopened
                 (none_back _ view first _ w refusal c.in-Err.ensures.refused))
+                (fails_unopened _ view refusal c.args.disk.now c.in-Err.refused.0.now c.an_opening_finds_its_files.ensures.unopened
+                (none_back _ view first _ w refusal c.in-Err.ensures.refused))
                 (none_back _ view first _ w refusal c.in-Err.ensures.refused),
           );
       later = by_same (λ d. IsLater (view c.args.disk.now) (view d)) _ c.in-Err.refused.0.now (search rules)
@@ -84,13 +88,13 @@ returns g c =
     let run = given_lines _ _ name core (opened_fresh _ _ _ _ is.opened is.running) core_now sink sink_now result ran in
     let between = give_later _ _ name result core core_now sink sink_now ran in
     let by_files = single_back _ view _ _ first _ w core core_now opens is.running closed.disk closed.moment between is.opened are (ending_in result) run
-    (restore_actors name (ending_in result) sink sink_now) in
+    (λ rs are. ran_actors (ending_in result) rs sink sink_now (restore_ran rs sink sink_now name (ending_in result) are)) in
     record {
       does = λ source. by_same (λ d. (rs : List Replied) × DoesCommand _ view (Restore name) [] rs (ending_in result) (view c.args.disk.now) (view d) source source sink sink_now)
           _ c.close-disk.result.now (search (rules, named)) (
             run.0,
             does_opened _ view _ _ first _ w core core_now opens is.running closed.disk closed.moment between (Restore name) [] (ending_in result) source source sink sink_now run.0
-                by_files is.opened
+                by_files (ran_alone (ending_in result) run.0 sink sink_now (restore_ran run.0 sink sink_now name (ending_in result) run.1.0) _ _ by_files) is.opened
                 (λ before called. (
                   restore_kept _ _ (view before.now) w source source sink sink_now [] name (ending_in result) (gives _ _ _ _ _ _ called name result sink sink_now ran source),
                   inl run.1.0,

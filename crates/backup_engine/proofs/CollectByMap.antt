@@ -1,0 +1,97 @@
+-- A `collect` answers by the map, by the law of its lines.
+use Rattle.std.proofs.Common.{◌≡◌, ◌⊎◌, inl, inr, ℕ, List, [], ◌∷◌, Option, Some, None, refl, sym, subst}
+use Rattle.dd_disk.specs.View.{DiskView}
+use Rattle.dd_io.specs.Flow.{SinkView}
+use Rattle.reply_text.specs.declared.ending.Ending.{Ending}
+use Rattle.reply_text.specs.declared.ending.Ending.TheVariants.{Sink, Refused}
+use Rattle.script_lines.specs.Grammar as lines
+use Rattle.script_lines.specs.ReplyValue.{ReplyValue}
+use Rattle.script_lines.specs.ReplyValue as replies
+use Rattle.store_model.specs.Collisions.{IsIn}
+use Rattle.store_model.specs.Files.{Stored}
+use Rattle.store_model.specs.Image.{Store}
+use Rattle.store_machine.specs.ByMap.{ListsThrough}
+use Rattle.store_machine.specs.CollectsAlone.{CollectedAlone, CollectsByMap, CollectsThrough}
+use Rattle.store_machine.specs.Commands as machine
+use Rattle.store_machine.specs.Commands.{AllFollow, Replied}
+use Rattle.core_machine.specs.Unopened.{unopened}
+use Rattle.backup_engine.specs.AnswersByMap.{AnswersByMap, AnswersEachCall, Wrote}
+use Rattle.backup_engine.specs.ByFiles.{RunsByFiles}
+use Rattle.backup_engine.specs.Line.{Collect}
+use Rattle.backup_engine.specs.Promise.{EndsFailing, EndsFrom, EndsSo}
+use Rattle.backup_engine.specs.Singles.{IsCollect, collecting, said}
+use Rattle.backup_engine.proofs.AnswersByMap.{AnswersOpened, answers_call}
+use Rattle.backup_engine.proofs.Ran.{collect_ran, ran_cuts, ran_silent}
+use Rattle.backup_engine.proofs.Rested.{CanBeIf, WasStore, all_lines, all_steps, answers_by, as_found, last, opened_room, ran, rested, stays_left, was_store}
+
+module _ (given : List ℕ) (percent : ℕ) where
+  -- the lines of a collection, refused or not
+  abbrev AreCollect : List Replied → Type 0
+  AreCollect rs = ((reply : ReplyValue) × (rs ≡ said (lines.Gc percent) reply ∷ []))
+      ⊎ ((snapshot : ℕ) × ((reply : ReplyValue) × (rs ≡ collecting percent snapshot ∷ said lines.Sweep reply ∷ [])))
+
+  collect_follows : (rs : List Replied) → AreCollect rs → (files : ℕ) → AllFollow (machine.Collect percent) (said lines.Reopen (replies.Opened files)) rs
+  collect_follows rs (inl (reply, is)) files =
+      subst (AllFollow (machine.Collect percent) (said lines.Reopen (replies.Opened files))) (sym is) (refl, refl, tt)
+  collect_follows rs (inr (snapshot, (reply, is))) files =
+      subst (AllFollow (machine.Collect percent) (said lines.Reopen (replies.Opened files))) (sym is) (refl, refl, (refl, refl, tt))
+
+  -- which lines they are, unless none was run
+  collect_are : (ending : Option Ending) (sink sink_now : SinkView) (rs : List Replied) → IsCollect percent ending sink sink_now rs → (rs ≡ []) ⊎ AreCollect rs
+  collect_are None sink sink_now rs (freed, copied, ((snapshot, is), wrote)) = inr (inr (snapshot, (replies.Collected freed copied, is)))
+  collect_are (Some Sink) sink sink_now rs (freed, copied, ((snapshot, is), wrote)) = inr (inr (snapshot, (replies.Collected freed copied, is)))
+  collect_are (Some (Refused refusal)) sink sink_now rs (inl (memory, inl none), wrote) = inl none
+  collect_are (Some (Refused refusal)) sink sink_now rs (inl (memory, inr (freed, copied, (snapshot, is))), wrote) =
+      inr (inr (snapshot, (replies.Collected freed copied, is)))
+  collect_are (Some (Refused refusal)) sink sink_now rs (inr (inl is), wrote) = inr (inl (replies.Refused refusal, is))
+  collect_are (Some (Refused refusal)) sink sink_now rs (inr (inr (snapshot, is)), wrote) = inr (inr (snapshot, (replies.Refused refusal, is)))
+  collect_are (Some ending) sink sink_now rs is = absurd is
+
+  collect_wrote : (m : Stored) (ending : Option Ending) (sink sink_now : SinkView) (rs : List Replied) → IsCollect percent ending sink sink_now rs
+      → Wrote (Collect percent) given m ending sink sink_now
+  collect_wrote m None sink sink_now rs (freed, copied, (sweeps, wrote)) = (freed, copied, wrote)
+  collect_wrote m (Some Sink) sink sink_now rs (freed, copied, (sweeps, wrote)) = (freed, copied, wrote)
+  collect_wrote m (Some (Refused refusal)) sink sink_now rs (which, same) = (0, 0, same)
+  collect_wrote m (Some ending) sink sink_now rs is = absurd is
+
+  -- why it ended so the call says itself, where it was refused
+  collect_ends : (m : Stored) (ending : Option Ending) (v w : DiskView) (sink sink_now : SinkView) (rs : List Replied) → IsCollect percent ending sink sink_now rs
+      → EndsSo (Collect percent) given ending m v w → EndsFrom (Collect percent) given m v.content w.content ending ⊎ EndsFailing ending
+  collect_ends m None v w sink sink_now rs is ends = inl tt
+  collect_ends m (Some Sink) v w sink sink_now rs is ends = inl tt
+  collect_ends m (Some (Refused refusal)) v w sink sink_now rs is ends = ends
+  collect_ends m (Some ending) v w sink sink_now rs is ends = absurd is
+
+  collect_can : (m : Stored) (ending : Option Ending) → CanBeIf (Collect percent) given m ending
+  collect_can m None = tt
+  collect_can m (Some Sink) = tt
+  collect_can m (Some ending) = tt
+
+  module _ (S : List ℕ → Type 0) (m : Stored) (store : Store) (v w : DiskView) (was : WasStore m store v) (sink sink_now : SinkView) (collects : CollectsByMap)
+      (through : CollectsThrough) (rs : List Replied) (are : AreCollect rs) (runs : RunsByFiles S rs (unopened m store) v w) where
+    abbrev collected : CollectedAlone percent (all_lines S rs m store v w runs) (rested m store) (last S rs m store v w runs)
+    collected = collects percent (all_lines S rs m store v w runs) (all_steps S rs m store v w runs) (rested m store) runs.next refl (refl, collect_follows rs are runs.files)
+        (ran S rs m store v w runs)
+
+    collect_answers : (ending : Option Ending) → EndsFrom (Collect percent) given m v.content w.content ending ⊎ EndsFailing ending
+        → Wrote (Collect percent) given m ending sink sink_now → AnswersByMap S (Collect percent) given ending m v w sink sink_now
+    collect_answers ending by_map wrote =
+        let room = opened_room S rs m store v w runs in
+        answers_by S rs m store v w runs (Collect percent) given ending
+        (λ x may d opens. stays_left S (Collect percent) given m refl ending d (as_found S x (rested m store).now d (collected.found x may) opens)) was (machine.Collect percent)
+        (refl, collect_follows rs are runs.files) (through percent) sink sink_now (collect_can m ending) by_map wrote (room.0, (room.1, tt))
+
+pub collect_by_map : (D : Type 0) (view : D → DiskView) → ListsThrough → CollectsByMap → CollectsThrough → (percent : ℕ) → AnswersEachCall D view (Collect percent)
+collect_by_map D view lists collects through percent given rs ending old new source source_now sink sink_now does =
+    answers_call D view (Collect percent) given rs ending old new source source_now sink sink_now (IsCollect percent ending sink sink_now) (λ v speaks. speaks) lists
+    (λ are. ran_silent ending rs sink sink_now (collect_ran rs sink sink_now percent ending are))
+    (λ are among given_in m. ran_cuts ending rs sink sink_now (collect_ran rs sink sink_now percent ending are) among m) spoken does
+  where
+    spoken : IsCollect percent ending sink sink_now rs → (rs ≡ []) ⊎ AnswersOpened (Collect percent) given ending rs (view old) (view new) sink sink_now
+    spoken is = elim (collect_are given percent ending sink sink_now rs is) [
+      | inl none ↦ inl none
+      | inr are ↦ inr (λ among m first distinct given_in known opens runs.
+          collect_answers given percent (IsIn among) m opens.store (view old) (view new) (was_store (IsIn among) m (view old) first known opens) sink sink_now collects through rs
+          are runs ending (collect_ends given percent m ending (view old) (view new) sink sink_now rs is (does.ends first known among m distinct given_in opens))
+          (collect_wrote given percent m ending sink sink_now rs is))
+    ]

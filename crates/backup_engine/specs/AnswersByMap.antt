@@ -1,0 +1,117 @@
+-- A single command answers by the map: what follows of each call from its lines of the machine of files (docs/MODEL.md, 'The promise').
+use Rattle.std.specs.Prelude.{◌≡◌, ◌⊎◌, ℕ, List, Option, None, Some}
+use Rattle.std.specs.FinMap as finite
+use Rattle.base_model.specs.Known.{Appended, Known, KnownWith}
+use Rattle.dd_disk.specs.View.{DiskView}
+use Rattle.dd_io.specs.Flow.{AppendedPart, SinkView, SourceView}
+use Rattle.refusals.specs.declared.refusal.Refusal.TheVariants.{DiskWrite}
+use Rattle.reply_text.specs.declared.ending.Ending.{Ending}
+use Rattle.reply_text.specs.declared.ending.Ending.TheVariants.{Sink, Refused}
+use Rattle.reply_text.specs.Text.{stored_line, deleted_line, listing_text}
+use Rattle.disk_format.specs.Cells.Change.{Delete as Gone}
+use Rattle.store_machine.specs.ByMap.{MakesRoom}
+use Rattle.store_machine.specs.Commands.{Replied}
+use Rattle.core_machine.specs.Unopened.{unopened}
+use Rattle.store_model.specs.Collisions.{HasNoCollisions, ByteSet, IsIn, OpensAs}
+use Rattle.store_model.specs.Files.{Stored}
+use Rattle.store_model.specs.Image.{Store, Encodes}
+use Rattle.store_model.specs.Standing.{IsSegmentOf, file_listing}
+use Rattle.store_model.specs.Steps.{with_change}
+use Rattle.store_model.specs.Trees.{root_of}
+use Rattle.backup_engine.specs.Collected.{collected_line}
+use Rattle.backup_engine.specs.Line.{CommandLine, Format, Ingest, Restore, Delete, Collect}
+use Rattle.backup_engine.specs.Line as table
+use Rattle.backup_engine.specs.PlainMap.{map_after, CanBeDone}
+use Rattle.backup_engine.specs.Promise.{EndsFailing, EndsFrom, LeavesMeanwhile, MayChange, WroteReply}
+use Rattle.backup_engine.specs.TopCall.{DoesCommand}
+
+-- ---- what was written
+
+-- of a file that is given back: all of it, or, where the command was not done, a first part
+abbrev pub WroteFile : Option (List ℕ) → Option Ending → SinkView → SinkView → Type 0
+WroteFile None ending sink sink_now = sink_now.written ≡ sink.written
+WroteFile (Some bytes) None sink sink_now = Appended sink.written sink_now.written bytes
+WroteFile (Some bytes) (Some ending) sink sink_now = AppendedPart sink.written sink_now.written bytes
+
+abbrev pub Wrote : CommandLine → List ℕ → Stored → Option Ending → SinkView → SinkView → Type 0
+Wrote (Format slots) given m ending sink sink_now = sink_now.written ≡ sink.written
+Wrote (Ingest name) given m ending sink sink_now = WroteReply (stored_line name (root_of given)) ending sink sink_now
+Wrote (Restore name) given m ending sink sink_now = WroteFile (finite.get m.files name) ending sink sink_now
+Wrote (Delete name) given m ending sink sink_now = WroteReply (deleted_line name) ending sink sink_now
+Wrote table.List given m ending sink sink_now = WroteReply (listing_text (file_listing m.files)) ending sink sink_now
+Wrote (Collect percent) given m ending sink sink_now = (freed copied : ℕ) × WroteReply (collected_line freed copied) ending sink sink_now
+
+-- ---- what is left
+
+-- As what the content, and each image that a crash leaves, can be opened at the end: the map as it was, or as it is after the command,
+-- where that could be done.
+abbrev pub IsLeftAs : (List ℕ → Type 0) → CommandLine → List ℕ → Stored → Option Ending → List ℕ → Type 0
+IsLeftAs S command given m None image = OpensAs S (map_after command given m) image
+IsLeftAs S command given m (Some Sink) image = OpensAs S (map_after command given m) image
+IsLeftAs S command given m (Some (Refused DiskWrite)) image =
+    OpensAs S m image ⊎ (CanBeDone command given m × OpensAs S (map_after command given m) image)
+IsLeftAs S command given m (Some ending) image = OpensAs S m image
+
+-- what a crash may leave at any moment of the command
+abbrev pub MayBeMeanwhile : (List ℕ → Type 0) → CommandLine → List ℕ → Stored → Option Ending → List ℕ → Type 0
+MayBeMeanwhile S command given m ending image =
+    OpensAs S m image ⊎ (MayChange ending × CanBeDone command given m × OpensAs S (map_after command given m) image)
+
+-- it was not done
+abbrev pub WasNotDone : Option Ending → Type 0
+WasNotDone ending = (e : Ending) × (ending ≡ Some e) × ¬ (e ≡ Sink)
+
+-- P holds of what reads give, and of each image that a crash leaves now; where the command was not done one may be left from before it.
+pub record LeavesAs (P : List ℕ → Type 0) (ending : Option Ending) (disk disk_now : DiskView) : Type 0 where
+  pub content : KnownWith disk_now.content P
+  pub images : (c : List ℕ) → disk_now.images c → P c ⊎ (WasNotDone ending × disk.images c)
+
+-- the content is this store
+abbrev pub IsStore : Store → Option (List ℕ) → Type 0
+IsStore store content = KnownWith content (λ image. Encodes image store)
+
+-- The content was a store, which was opened: containers that no file needs were given back, until two slots were closed. P holds of that.
+pub record OpensStore (m : Stored) (old : List ℕ) (P : Store → Type 0) : Type 0 where
+  pub store : Store
+  pub right : Encodes old store
+  pub opened : Store
+  pub room : MakesRoom (unopened m store) opened
+  pub has : P opened
+
+-- A `delete` puts a record into it that the name is gone, and nothing else; of a write or a sync of that that failed nothing is said. A
+-- `list` leaves it. (What an `ingest` adds, and a `collect` gives back, the call itself says: Promise.antt.)
+abbrev pub ChangesStore : CommandLine → Option Ending → Store → Option (List ℕ) → Type 0
+ChangesStore (Delete name) None opened content = IsStore (with_change name Gone opened) content
+ChangesStore (Delete name) (Some Sink) opened content = IsStore (with_change name Gone opened) content
+ChangesStore (Delete name) (Some (Refused DiskWrite)) opened content = Unit {0}
+ChangesStore (Delete name) (Some ending) opened content = IsStore opened content
+ChangesStore table.List ending opened content = IsStore opened content
+ChangesStore command ending opened content = Unit {0}
+
+-- ---- all of it
+
+-- Over a content that can be opened as the map m the command answers by the map, or fails for want of memory or as a call of the disk
+-- failed; and it leaves the map as it was or as it is after the command, at the end and at every moment before, but for what a crash might
+-- have left before it.
+pub record AnswersByMap (S : List ℕ → Type 0) (command : CommandLine) (given : List ℕ) (ending : Option Ending) (m : Stored)
+    (disk disk_now : DiskView) (sink sink_now : SinkView) : Type 0 where
+  pub by_map : EndsFrom command given m disk.content disk_now.content ending ⊎ EndsFailing ending
+  pub wrote : Wrote command given m ending sink sink_now
+  pub store : KnownWith disk.content (λ old. OpensStore m old (λ opened. ChangesStore command ending opened disk_now.content))
+      ⊎ EndsFailing ending
+  pub left : LeavesAs (IsLeftAs S command given m ending) ending disk disk_now
+  pub crash : LeavesMeanwhile (MayBeMeanwhile S command given m ending) disk disk_now
+
+-- It holds where no two different data segments have one digest: of a set of those that the disk holds and is given.
+abbrev pub AnswersEachMap : CommandLine → List ℕ → Option Ending → DiskView → DiskView → SinkView → SinkView → Type 0
+AnswersEachMap command given ending disk disk_now sink sink_now =
+    Known disk.content (λ old. (among : ByteSet) (m : Stored) → HasNoCollisions (IsIn among)
+    → ((bytes : List ℕ) → IsSegmentOf given bytes → IsIn among bytes) → OpensAs (IsIn among) m old
+    → AnswersByMap (IsIn among) command given ending m disk disk_now sink sink_now)
+
+-- So it is of each call of the command, by what the top call says of it.
+abbrev pub AnswersEachCall : (D : Type 0) → (D → DiskView) → CommandLine → Type 0
+AnswersEachCall D view command = (given : List ℕ) (rs : List Replied) (ending : Option Ending) (old new : D)
+    (source source_now : SourceView) (sink sink_now : SinkView)
+    → DoesCommand D view command given rs ending (view old) (view new) source source_now sink sink_now
+    → AnswersEachMap command given ending (view old) (view new) sink sink_now

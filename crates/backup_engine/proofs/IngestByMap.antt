@@ -25,11 +25,11 @@ use Rattle.store_machine.specs.Opening.{MayBeFound}
 use Rattle.store_machine.specs.Values.{of_files}
 use Rattle.core_machine.specs.Files.{stored_in}
 use Rattle.core_machine.specs.Unopened.{unopened}
-use Rattle.backup_engine.specs.AnswersByMap.{AnswersByMap, AnswersEachCall, IsLeftAs, Wrote}
+use Rattle.backup_engine.specs.AnswersByMap.{AnswersByMap, EndsBy, AnswersEachCall, IsLeftAs, Wrote}
 use Rattle.backup_engine.specs.ByFiles.{CutsAmong, RunsByFiles}
 use Rattle.backup_engine.specs.Line.{Ingest}
 use Rattle.backup_engine.specs.PlainMap.{CanBeDone}
-use Rattle.backup_engine.specs.Promise.{EndsFailing, EndsFrom, EndsSo, WroteReply}
+use Rattle.backup_engine.specs.Promise.{EndsFailing, EndsSo, WroteReply}
 use Rattle.backup_engine.specs.Singles.{Digits, IsIngest, begun, finish_lines, pushed, push_lines, refused, said}
 use Rattle.backup_engine.specs.TopCall.{DoesCommand}
 use Rattle.backup_engine.proofs.AnswersByMap.{AnswersOpened, answers_call}
@@ -125,7 +125,7 @@ module _ (given name : List ℕ) where
 
       pub ingest_answers : (ending : Option Ending) (sink sink_now : SinkView) → CanBeIf (Ingest name) given m ending
           → ((x : Found (List ℕ)) → MayBeFound of_files end.state end.now x → (d : List ℕ) → OpensAs S (stored_in x) d → IsLeftAs S (Ingest name) given m ending d)
-          → EndsFrom (Ingest name) given m v.content w.content ending ⊎ EndsFailing ending → Wrote (Ingest name) given m ending sink sink_now
+          → EndsBy (Ingest name) given m v.content w.content ending ⊎ EndsFailing ending → Wrote (Ingest name) given m ending sink sink_now
           → AnswersByMap S (Ingest name) given ending m v w sink sink_now
       ingest_answers ending sink sink_now can leaves by_map wrote =
           let room = opened_room S rs m store v w runs in

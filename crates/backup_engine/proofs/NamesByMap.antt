@@ -30,12 +30,12 @@ use Rattle.store_machine.specs.Opening.{MayBeFound}
 use Rattle.store_machine.specs.Values.{of_files}
 use Rattle.core_machine.specs.Files.{stored_in}
 use Rattle.core_machine.specs.Unopened.{unopened}
-use Rattle.backup_engine.specs.AnswersByMap.{AnswersByMap, AnswersEachCall, ChangesStore, IsLeftAs, IsStore, Wrote}
+use Rattle.backup_engine.specs.AnswersByMap.{AnswersByMap, EndsBy, AnswersEachCall, ChangesStore, IsLeftAs, IsStore, Wrote}
 use Rattle.backup_engine.specs.ByFiles.{RunsByFiles}
 use Rattle.backup_engine.specs.Line.{Delete}
 use Rattle.backup_engine.specs.Line as table
 use Rattle.backup_engine.specs.PlainMap.{LacksNumbers, MayDelete, room_of}
-use Rattle.backup_engine.specs.Promise.{EndsFrom, IsLeftWith, WroteReply}
+use Rattle.backup_engine.specs.Promise.{IsLeftWith, WroteReply}
 use Rattle.backup_engine.specs.Singles.{IsDelete, IsListing, said}
 use Rattle.backup_engine.proofs.AnswersByMap.{AnswersOpened, answers_call}
 use Rattle.backup_engine.proofs.Ran.{delete_ran, list_ran, ran_cuts, ran_silent}
@@ -57,7 +57,7 @@ is_write refusal = inr (λ is. cc)
 
 module _ (given : List ℕ) where
   list_ends : (m : Stored) (before content : Option (List ℕ)) (refusal : Refusal) → ListRefusal refusal → IsLeftWith m content (λ store. Unit {0})
-      → EndsFrom table.List given m before content (Some (Refused refusal))
+      → EndsBy table.List given m before content (Some (Refused refusal))
   list_ends m before content Memory may is = is
   list_ends m before content DiskRead may is = is
   list_ends m before content DiskWrite may is = is
@@ -85,7 +85,7 @@ module _ (given : List ℕ) where
         left_with S rs m store v w runs opened at (λ s. Unit {0}) was listed.store.1
         (listed.found end.now (subst (λ (state : RunState (List ℕ)). MayBeFound of_files state end.now end.now) (sym at.0) refl)) tt
 
-    list_answers : (ending : Option Ending) → CanBeIf table.List given m ending → EndsFrom table.List given m v.content w.content ending
+    list_answers : (ending : Option Ending) → CanBeIf table.List given m ending → EndsBy table.List given m v.content w.content ending
         → Wrote table.List given m ending sink sink_now → AnswersByMap S table.List given ending m v w sink sink_now
     list_answers ending can by_map wrote =
         answers_by S rs m store v w runs table.List given ending
@@ -249,7 +249,7 @@ module _ (given name : List ℕ) where
       -- why, by the store that it left
       delete_ends : (refusal : Refusal) → reason ≡ refusal → DeleteRefusal name (rested m store).now end_now refusal
           → (((refusal ≡ DiskWrite) → ⊥) → (P : Store → Type 0) → P end_now.store → IsLeftWith m w.content P) → (((refusal ≡ DiskWrite) → ⊥) → end_now.now ≡ (rested m store).now)
-          → EndsFrom (Delete name) given m v.content w.content (Some (Refused refusal))
+          → EndsBy (Delete name) given m v.content w.content (Some (Refused refusal))
       delete_ends Memory is may left still = left (λ no. cc) (λ s. Unit {0}) tt
       delete_ends DiskRead is may left still = left (λ no. cc) (λ s. Unit {0}) tt
       delete_ends DiskWrite is may left still = tt

@@ -33,10 +33,10 @@ use Rattle.store_machine.specs.Runs.{Run}
 use Rattle.store_machine.specs.Values.{of_files}
 use Rattle.script_runner.specs.LinesAreFileRuns.{FileDesk}
 use Rattle.core_machine.specs.Unopened.{unopened}
-use Rattle.backup_engine.specs.AnswersByMap.{AnswersByMap, AnswersEachCall, Wrote, WroteFile}
+use Rattle.backup_engine.specs.AnswersByMap.{AnswersByMap, EndsBy, AnswersEachCall, Wrote, WroteFile}
 use Rattle.backup_engine.specs.ByFiles.{RunsByFiles}
 use Rattle.backup_engine.specs.Line.{Restore}
-use Rattle.backup_engine.specs.Promise.{EndsFrom, IsLeftWith}
+use Rattle.backup_engine.specs.Promise.{IsLeftWith}
 use Rattle.backup_engine.specs.Singles.{IsFirstOf, IsRestore, next_lines, refused, said}
 use Rattle.backup_engine.proofs.AnswersByMap.{AnswersOpened, answers_call, nothing_of}
 use Rattle.backup_engine.proofs.Ran.{ran_cuts, ran_silent, restore_ran}
@@ -96,7 +96,7 @@ wrote_first before now bytes first rest is wrote = record {
 
 module _ (given name : List ℕ) where
   restore_ends : (m : Stored) (before content : Option (List ℕ)) (refusal : Refusal) → RestoreRefusal name (record { names = m.files; last = m.last }) refusal
-      → ((P : Store → Type 0) → ((s : Store) → P s) → IsLeftWith m content P) → EndsFrom (Restore name) given m before content (Some (Refused refusal))
+      → ((P : Store → Type 0) → ((s : Store) → P s) → IsLeftWith m content P) → EndsBy (Restore name) given m before content (Some (Refused refusal))
   restore_ends m before content Memory may left = left (λ s. Unit {0}) (λ s. tt)
   restore_ends m before content DiskRead may left = left (λ s. Unit {0}) (λ s. tt)
   restore_ends m before content DiskWrite may left = left (λ s. Unit {0}) (λ s. tt)
@@ -122,7 +122,7 @@ module _ (given name : List ℕ) where
         left_with S rs m store v w runs opened at P was restored.store.1
         (restored.found end.now (subst (λ (state : RunState (List ℕ)). MayBeFound of_files state end.now end.now) (sym at.0) refl)) (each opened)
 
-    restore_answers : (ending : Option Ending) → CanBeIf (Restore name) given m ending → EndsFrom (Restore name) given m v.content w.content ending
+    restore_answers : (ending : Option Ending) → CanBeIf (Restore name) given m ending → EndsBy (Restore name) given m v.content w.content ending
         → Wrote (Restore name) given m ending sink sink_now → AnswersByMap S (Restore name) given ending m v w sink sink_now
     restore_answers ending can by_map wrote =
         answers_by S rs m store v w runs (Restore name) given ending
@@ -177,7 +177,7 @@ module _ (given name : List ℕ) where
         (wrote_first sink.written sink_now.written had.0 first (more ++ file_first.0)
         (file_first.1 ∙ ap (λ (l : List ℕ). l ++ file_first.0) is ∙ append_assoc first more file_first.0) wrote)
 
-    abbrev answers : (ending : Option Ending) → CanBeIf (Restore name) given m ending → EndsFrom (Restore name) given m v.content w.content ending
+    abbrev answers : (ending : Option Ending) → CanBeIf (Restore name) given m ending → EndsBy (Restore name) given m v.content w.content ending
         → Wrote (Restore name) given m ending sink sink_now → AnswersByMap S (Restore name) given ending m v w sink sink_now
     answers = restore_answers S m store v w was sink sink_now restores through rs runs follow
 

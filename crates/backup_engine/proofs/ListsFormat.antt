@@ -85,7 +85,8 @@ module _ (slots : ℕ) (given : List ℕ) (v w : DiskView) (source source_now : 
     refuses (WrongSize want got) wrong = (wrong.0, wrong.1 ∙ same_size, wrong.2)
     refuses refusal wrong = absurd wrong
 
-    left_so : (refusal : Refusal) → IsFormatRefusal (Shows v w) v.size slots refusal → w.content ≡ v.content → EndsBy (Format slots) given m v.content w.content (Some (Refused refusal))
+    left_so : (refusal : Refusal) → IsFormatRefusal (Shows v w) v.size slots refusal → w.content ≡ v.content →
+        EndsBy (Format slots) given m v.content w.content (Some (Refused refusal))
     left_so (Clash key at) wrong stays = absurd wrong
     left_so refusal wrong stays = (is.store, (old, stays ∙ known, is.stands.holds), is.reserve, refuses refusal wrong)
 

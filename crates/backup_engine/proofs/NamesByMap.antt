@@ -101,7 +101,8 @@ module _ (given : List ℕ) where
     -- the names that it replied with are those of the map
     list_text : listing_text files ≡ listing_text (file_listing m.files)
     list_text =
-        sym (append-nil (listing_text files)) ∙ (listed S m store v w was sink sink_now lists through (replies.Listed files) runs).done (said lines.ListNames (replies.Listed files), refl, tt)
+        sym (append-nil (listing_text files)) ∙ (listed S m store v w was sink sink_now lists through (replies.Listed files) runs).done
+        (said lines.ListNames (replies.Listed files), refl, tt)
 
     list_done : WroteReply (listing_text files) None sink sink_now → AnswersByMap S table.List given None m v w sink sink_now
     list_done wrote =
@@ -118,9 +119,13 @@ module _ (given : List ℕ) where
     So ending = (rs ≡ []) ⊎ AnswersOpened table.List given ending rs v w sink sink_now
 
     list_spoken : (ending : Option Ending) → IsListing ending sink sink_now rs → So ending
-    list_spoken None (files, (is, wrote)) = inr (λ among m old distinct given_in known opens runs. list_done (IsIn among) m opens.store v w (was_store (IsIn among) m v old known opens) sink sink_now lists through files
+    list_spoken None (files, (is, wrote)) =
+        inr (λ among m old distinct given_in known opens runs. list_done (IsIn among) m opens.store v w (was_store (IsIn among) m v old known opens) sink sink_now lists through
+        files
         (subst (λ (l : List Replied). RunsByFiles (IsIn among) l (unopened m opens.store) v w) is runs) wrote)
-    list_spoken (Some Sink) (files, (is, wrote)) = inr (λ among m old distinct given_in known opens runs. list_unwritten (IsIn among) m opens.store v w (was_store (IsIn among) m v old known opens) sink sink_now lists through files
+    list_spoken (Some Sink) (files, (is, wrote)) =
+        inr (λ among m old distinct given_in known opens runs. list_unwritten (IsIn among) m opens.store v w (was_store (IsIn among) m v old known opens) sink sink_now lists
+        through files
         (subst (λ (l : List Replied). RunsByFiles (IsIn among) l (unopened m opens.store) v w) is runs) wrote)
     list_spoken (Some (Refused refusal)) (inl (memory, inl none), same) = inl none
     list_spoken (Some (Refused refusal)) (inl (memory, inr (files, is)), same) = inr (λ among m old distinct given_in known opens runs.
@@ -206,13 +211,15 @@ module _ (given name : List ℕ) where
       last_is : machine.last_of (all_lines S ds m store v w runs) ≡ Some (said (lines.Delete name) (replies.Refused refusal))
       last_is = ap (λ (r : ReplyValue). Some (said (lines.Delete name) r)) reply_is
 
-      abbrev why : DeleteRefusal name (rested m store).now gone_end refusal × (((refusal ≡ DiskWrite) → ⊥) → (x : Found (List ℕ)) → MayBeFound of_files gone_end.state gone_end.now x
+      abbrev why : DeleteRefusal name (rested m store).now gone_end refusal
+          × (((refusal ≡ DiskWrite) → ⊥) → (x : Found (List ℕ)) → MayBeFound of_files gone_end.state gone_end.now x
           → x ≡ (rested m store).now)
       why = deleted.refused refusal (refused_end (all_lines S ds m store v w runs) (lines.Delete name) refusal last_is)
 
       not_done : EndsWith (λ one. IsDone (machine.Delete name) one.reply) (all_lines S ds m store v w runs) → ⊥
       not_done (one, last, is) =
-          subst (λ (x : Replied). IsDone (machine.Delete name) x.reply) (sym (same_last (all_lines S ds m store v w runs) (said (lines.Delete name) (replies.Refused refusal)) one last_is last)) is
+          subst (λ (x : Replied). IsDone (machine.Delete name) x.reply)
+          (sym (same_last (all_lines S ds m store v w runs) (said (lines.Delete name) (replies.Refused refusal)) one last_is last)) is
 
       -- another refusal
       only_so : ((refusal ≡ DiskWrite) → ⊥) → EndsRefused DiskWrite (all_lines S ds m store v w runs) → ⊥
@@ -271,7 +278,8 @@ module _ (given name : List ℕ) where
           let made = deleted S m store v w was sink sink_now deletes through (replies.Refused reason) runs in
           let cause = why S m store v w was sink sink_now deletes through (replies.Refused reason) runs reason refl in
           answers_by S (said (lines.Delete name) (replies.Refused reason) ∷ []) m store v w runs (Delete name) given (Some (Refused reason))
-          (λ x may d opens. delete_left S m reason x d (λ other. cause.1 other x may) (made.found x may) opens) was (machine.Delete name) (refl, (refl, refl, tt)) (through name) sink
+          (λ x may d opens. delete_left S m reason x d (λ other. cause.1 other x may) (made.found x may) opens) was (machine.Delete name) (refl, (refl, refl, tt)) (through name)
+          sink
           sink_now tt
           (inl (delete_ends reason refl cause.0 (delete_store S m store v w was sink sink_now deletes through (replies.Refused reason) runs reason refl)
           (λ other. (made.undone (not_done S m store v w was sink sink_now deletes through (replies.Refused reason) runs reason refl)).0))) same

@@ -54,7 +54,8 @@ false_not_true : false ≡ true → ⊥
 false_not_true wrong = cc
 
 -- memory or the disk failed, whatever the map is
-ingest_failed : (name given : List ℕ) (S : List ℕ → Type 0) (m : Stored) (old : List ℕ) (before content : Option (List ℕ)) → content ≡ Some old → IsOf S m old → (refusal : Refusal) →
+ingest_failed : (name given : List ℕ) (S : List ℕ → Type 0) (m : Stored) (old : List ℕ) (before content : Option (List ℕ)) → content ≡ Some old → IsOf S m old →
+    (refusal : Refusal) →
     IsTrue (fails refusal)
     → RefusedBy (Ingest name) given m before content refusal
 ingest_failed name given S m old before content told is Memory fails = left_with S m old content (λ store. Unit {0}) told is tt

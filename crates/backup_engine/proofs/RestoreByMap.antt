@@ -73,7 +73,8 @@ module _ (name : List ℕ) (count : ℕ) where
   read_file : (ss : List (Stepped (List ℕ))) (d e : FileDesk) → d.machine.state ≡ Running → Line of_files (lines.Read 0 name) (replies.Reading 0 count) ss d e
       → (file : List ℕ) × (finite.get d.machine.now.names name ≡ Some file)
   read_file ss d e runs (run, inl (admits, (actor, step, (actor_is, step_is), (told, steps_are, reply_is), sessions))) =
-      let made : Run of_files (step_of of_files actor step told ∷ []) d.machine e.machine = subst (λ (xs : List (Stepped (List ℕ))). Run of_files xs d.machine e.machine) steps_are run in
+      let made : Run of_files (step_of of_files actor step told ∷ []) d.machine e.machine = subst (λ (xs : List (Stepped (List ℕ))). Run of_files xs d.machine e.machine) steps_are
+      run in
       let legal : ByState of_files d.machine.state actor (asked.OpenRead name) told d.machine made.0 =
       subst (λ (x : Asked (List ℕ)). Legal of_files (step_of of_files actor x told) d.machine made.0) step_is made.1.0 in
       opened_file actor told d.machine made.0 reply_is (subst (λ (state : RunState (List ℕ)). ByState of_files state actor (asked.OpenRead name) told d.machine made.0) runs legal)
@@ -196,7 +197,7 @@ module _ (given name : List ℕ) where
     restore_unwritten bytes part is (more, bytes_is) wrote =
         let text_is : text ≡ (concat segments ++ part) ++ more =
         ap (λ (one : Replied). concat segments ++ machine.text_of (machine.Restore name) [] one.line one.reply) is ∙ ap (λ (l : List ℕ). concat segments ++ l) bytes_is
-            ∙ sym (append_assoc (concat segments) part more) in
+        ∙ sym (append_assoc (concat segments) part more) in
         answers (Some Sink) (ap is_some had.1) (ap is_some had.1) (wrote_of Sink (concat segments ++ part) more text_is wrote)
 
     restore_stopped : (refusal : Refusal) → final ≡ refused (lines.Next 0) refusal → Appended sink.written sink_now.written (concat segments)
@@ -212,21 +213,25 @@ module _ (given name : List ℕ) where
 
     restore_spoken : (ending : Option Ending) → IsRestore name ending sink sink_now rs → RestoresSo ending
     restore_spoken None (segments, ((count, is), wrote)) = inr (λ among m old distinct given_in known opens runs.
-        restore_done (IsIn among) m opens.store v w (was_store (IsIn among) m v old known opens) sink sink_now restores through segments (said (lines.Next 0) (replies.End 0)) refl count
+        restore_done (IsIn among) m opens.store v w (was_store (IsIn among) m v old known opens) sink sink_now restores through segments (said (lines.Next 0) (replies.End 0)) refl
+        count
         (subst (λ (l : List Replied). RunsByFiles (IsIn among) l (unopened m opens.store) v w) is runs) refl wrote)
     restore_spoken (Some Sink) (segments, (bytes, ((count, is), (part, (first, wrote))))) = inr (λ among m old distinct given_in known opens runs.
-        restore_unwritten (IsIn among) m opens.store v w (was_store (IsIn among) m v old known opens) sink sink_now restores through segments (said (lines.Next 0) (replies.Bytes 0 bytes)) refl count
+        restore_unwritten (IsIn among) m opens.store v w (was_store (IsIn among) m v old known opens) sink sink_now restores through segments
+        (said (lines.Next 0) (replies.Bytes 0 bytes)) refl count
         (subst (λ (l : List Replied). RunsByFiles (IsIn among) l (unopened m opens.store) v w) is runs) bytes part refl first wrote)
     restore_spoken (Some (Refused refusal)) (inl (memory, none, same)) = inl none
     restore_spoken (Some (Refused refusal)) (inr (inl (is, same))) = inr (λ among m old distinct given_in known opens runs.
         let made = subst (λ (l : List Replied). RunsByFiles (IsIn among) l (unopened m opens.store) v w) is runs in
         let read : List Replied = refused (lines.Read 0 name) refusal ∷ [] in
-        let why = (restored (IsIn among) m opens.store v w (was_store (IsIn among) m v old known opens) sink sink_now restores through read made (λ files. (refl, refl, tt))).refused refusal
+        let why = (restored (IsIn among) m opens.store v w (was_store (IsIn among) m v old known opens) sink sink_now restores through read made
+        (λ files. (refl, refl, tt))).refused refusal
         (refused (lines.Read 0 name) refusal, refl, refl) in
         restore_refused (IsIn among) m opens.store v w (was_store (IsIn among) m v old known opens) sink sink_now restores through read made (λ files. (refl, refl, tt)) refusal why
         (nothing_of (finite.get m.files name) (Refused refusal) sink sink_now same))
     restore_spoken (Some (Refused refusal)) (inr (inr (segments, ((count, is), wrote)))) = inr (λ among m old distinct given_in known opens runs.
-        restore_stopped (IsIn among) m opens.store v w (was_store (IsIn among) m v old known opens) sink sink_now restores through segments (refused (lines.Next 0) refusal) refl count
+        restore_stopped (IsIn among) m opens.store v w (was_store (IsIn among) m v old known opens) sink sink_now restores through segments (refused (lines.Next 0) refusal) refl
+        count
         (subst (λ (l : List Replied). RunsByFiles (IsIn among) l (unopened m opens.store) v w) is runs) refusal refl wrote)
     restore_spoken (Some ending) is = absurd is
 

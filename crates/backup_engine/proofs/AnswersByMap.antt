@@ -111,7 +111,12 @@ module _ (S : List ℕ → Type 0) (command : CommandLine) (given : List ℕ) (m
       wrote = nothing_written command given m refusal sink sink_now same;
       store = inr (refusal, (refl, fails_so));
       left = record {
-        content = (none.leaves.content.0, none.leaves.content.1, refused_left S command given m refusal none.leaves.content.0 (opens_still none.leaves.content.0 none.leaves.content.2));
+        content = (
+          none.leaves.content.0,
+          none.leaves.content.1,
+          refused_left S command given m refusal none.leaves.content.0
+              (opens_still none.leaves.content.0 none.leaves.content.2),
+        );
         images = λ d image. elim (none.leaves.images d image) [
           | inl was ↦ inr ((Refused refusal, refl, not_sink refusal), was)
           | inr may ↦ inl (refused_left S command given m refusal d (opens_still d may))

@@ -18,7 +18,6 @@ use Rattle.refusals.specs.declared.refusal.Difference.{Difference}
 use Rattle.refusals.specs.declared.refusal.Difference.TheVariants.{Length, Byte}
 use Rattle.refusals.specs.declared.refusal.Refusal.{Refusal}
 use Rattle.refusals.specs.declared.refusal.Refusal.TheVariants.{Memory, Clash, Corrupt, DiskRead, DiskWrite}
-use Rattle.reply_text.specs.declared.ending.Ending.TheVariants.{Refused}
 use Rattle.store_model.specs.Collisions.{HasNoCollisions, ByteSet, IsIn, Stands}
 use Rattle.store_model.specs.Files.{Stored}
 use Rattle.store_model.specs.Image.{Store}
@@ -41,7 +40,7 @@ use Rattle.store_core.proofs.KeepingFiles.{file_step}
 use Rattle.backup_engine.specs.AnyDisk.{IsUnlikeNode}
 use Rattle.backup_engine.specs.Line.{Ingest}
 use Rattle.backup_engine.specs.PlainMap.{Room, Refuses, room_of}
-use Rattle.backup_engine.specs.Promise.{DifferBy, EndsBy, IsLeftWith, HoldsTwin}
+use Rattle.backup_engine.specs.Promise.{DifferBy, IsLeftWith, HoldsTwin, RefusedBy}
 use Rattle.backup_engine.specs.Running.{IsAskedFor, IsPutStep}
 use Rattle.backup_engine.proofs.PutChanges.{running_step}
 use Rattle.backup_engine.proofs.NoGcSteps.{asked_no_gc}
@@ -65,14 +64,14 @@ RefusesBut name given room (Clash key at) = Unit {0}
 RefusesBut name given room refusal = Refuses (Ingest name) given room refusal
 
 -- So it ended by the map.
-pub ends_by : (name given : List ℕ) (m : Stored) (content : Option (List ℕ)) (refusal : Refusal) → IsRight given m content refusal
-    → IsLeftWith m content (λ store. RefusesBut name given (room_of (Ingest name) m store) refusal) → EndsBy (Ingest name) given m content (Some (Refused refusal))
-ends_by name given m content DiskWrite right left = tt
-ends_by name given m content (Clash key at) right left =
+pub ends_by : (name given : List ℕ) (m : Stored) (before content : Option (List ℕ)) (refusal : Refusal) → IsRight given m content refusal
+    → IsLeftWith m content (λ store. RefusesBut name given (room_of (Ingest name) m store) refusal) → RefusedBy (Ingest name) given m before content refusal
+ends_by name given m before content DiskWrite right left = tt
+ends_by name given m before content (Clash key at) right left =
     let clashing : List ℕ = right.1.0 in
     let there : IsStoreOf left.0 m.files clashing = subst (IsStoreOf left.0 m.files) (some_same left.1.0 clashing (sym left.1.1 ∙ right.1.1)) left.1.2 in
     (right.0, right.1, subst (λ (s : Store). RESERVE ≤ free_slots s.held) (store_once clashing left.0 right.0 there.right right.1.2.0.right) left.2)
-ends_by name given m content refusal right left = left
+ends_by name given m before content refusal right left = left
 
 -- another node is a clash, or it was not given
 pub not_unlike : (name given : List ℕ) (m : Stored) (content : Option (List ℕ)) (store : Store) (shown : (List ℕ → Type 0) → Type 0) (room : Room) (refusal : Refusal) →

@@ -15,10 +15,10 @@ use Rattle.store_machine.specs.CollectsAlone.{CollectedAlone, CollectsByMap, Col
 use Rattle.store_machine.specs.Commands as machine
 use Rattle.store_machine.specs.Commands.{AllFollow, Replied}
 use Rattle.core_machine.specs.Unopened.{unopened}
-use Rattle.backup_engine.specs.AnswersByMap.{AnswersByMap, AnswersEachCall, Wrote}
+use Rattle.backup_engine.specs.AnswersByMap.{AnswersByMap, EndsBy, AnswersEachCall, Wrote}
 use Rattle.backup_engine.specs.ByFiles.{RunsByFiles}
 use Rattle.backup_engine.specs.Line.{Collect}
-use Rattle.backup_engine.specs.Promise.{EndsFailing, EndsFrom, EndsSo}
+use Rattle.backup_engine.specs.Promise.{EndsFailing, EndsSo}
 use Rattle.backup_engine.specs.Singles.{IsCollect, collecting, said}
 use Rattle.backup_engine.proofs.AnswersByMap.{AnswersOpened, answers_call}
 use Rattle.backup_engine.proofs.Ran.{collect_ran, ran_cuts, ran_silent}
@@ -56,7 +56,7 @@ module _ (given : List ℕ) (percent : ℕ) where
 
   -- why it ended so the call says itself, where it was refused
   collect_ends : (m : Stored) (ending : Option Ending) (v w : DiskView) (sink sink_now : SinkView) (rs : List Replied) → IsCollect percent ending sink sink_now rs
-      → EndsSo (Collect percent) given ending m v w → EndsFrom (Collect percent) given m v.content w.content ending ⊎ EndsFailing ending
+      → EndsSo (Collect percent) given ending m v w → EndsBy (Collect percent) given m v.content w.content ending ⊎ EndsFailing ending
   collect_ends m None v w sink sink_now rs is ends = inl tt
   collect_ends m (Some Sink) v w sink sink_now rs is ends = inl tt
   collect_ends m (Some (Refused refusal)) v w sink sink_now rs is ends = ends
@@ -73,7 +73,7 @@ module _ (given : List ℕ) (percent : ℕ) where
     collected = collects percent (all_lines S rs m store v w runs) (all_steps S rs m store v w runs) (rested m store) runs.next refl (refl, collect_follows rs are runs.files)
         (ran S rs m store v w runs)
 
-    collect_answers : (ending : Option Ending) → EndsFrom (Collect percent) given m v.content w.content ending ⊎ EndsFailing ending
+    collect_answers : (ending : Option Ending) → EndsBy (Collect percent) given m v.content w.content ending ⊎ EndsFailing ending
         → Wrote (Collect percent) given m ending sink sink_now → AnswersByMap S (Collect percent) given ending m v w sink sink_now
     collect_answers ending by_map wrote =
         let room = opened_room S rs m store v w runs in

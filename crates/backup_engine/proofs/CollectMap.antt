@@ -63,7 +63,7 @@ use Rattle.store_core.proofs.Rooms.{free_held, room_ended}
 use Rattle.backup_engine.specs.Collected.{Collected, CollectedAll, HasNoIdLeft, collected_line, written_in}
 use Rattle.backup_engine.specs.Frame.{SameButSlotsOf}
 use Rattle.backup_engine.specs.Line.{Collect}
-use Rattle.backup_engine.specs.Promise.{EndsBy, EndsFrom, GivesSlotsBack, IsLeftWith, KeepsEachMap, KeepsMap, RefusedBy, WroteReply}
+use Rattle.backup_engine.specs.Promise.{GivesSlotsBack, IsLeftWith, KeepsEachMap, KeepsMap, RefusedBy, WhyRefused, WroteReply}
 use Rattle.backup_engine.proofs.Called.{Called, Starts as StartsAt, starts}
 use Rattle.backup_engine.proofs.CollectKept.{begun_is, ends, index, since_old, sized, so_begun, start_event, store}
 use Rattle.backup_engine.proofs.CollectMaps.{AreQuiet, DidSteps, MapSoFar, all_maps, did_steps, gc_file, none_held, quiet_then, run_then, start_file}
@@ -71,7 +71,7 @@ use Rattle.backup_engine.proofs.CollectStays.{stays}
 use Rattle.backup_engine.proofs.CollectSteps.{CollectedSoFar, ended, few_so, gc_event, same_collection, under_way}
 use Rattle.backup_engine.proofs.Replied.{IsDone}
 use Rattle.backup_engine.proofs.Moved.{all_moved, moved, none_copied}
-use Rattle.backup_engine.proofs.NotDone.{left_with, not_sink}
+use Rattle.backup_engine.proofs.NotDone.{left_with}
 use Rattle.backup_engine.proofs.Reading.{reads_map}
 use Rattle.backup_engine.proofs.SweptBytes.{but_before, content_framed}
 use Rattle.backup_engine.proofs.WholeCall.{all_reads}
@@ -139,12 +139,12 @@ module _ (C : Type 0) (state : C → CoreState) (v w : DiskView) (old new : C) (
   -- ---- none was begun
 
   unbegun_answer : (S : List ℕ → Type 0) (m : Stored) (image : List ℕ) → v.content ≡ Some image → w.content ≡ Some image → IsOf S m image → (r : Refusal) →
-      StartRow percent (Err r) (state old) (state new) → EndsBy (Collect percent) [] m w.content (Some (Refused r))
+      StartRow percent (Err r) (state old) (state new) → RefusedBy (Collect percent) [] m v.content w.content r
   unbegun_answer S m image was told is refusals.Memory row = left_with S m image w.content (λ store. Unit {0}) told is tt
   unbegun_answer S m image was told is (refusals.Collecting phase) row = absurd (let wrong : None ≡ Some row.0.0 = sym called.opened.collection_is ∙ row.0.1.0 in cc)
   unbegun_answer S m image was told is r row =
       let at : StartsAt S m image (state old) = starts C state v w old new called S m image was is in
-      subst (λ (x : Refusal). EndsBy (Collect percent) [] m w.content (Some (Refused x))) (sym (unbegun_memory S at.store m (state old) (state new) at.is_at r row))
+      subst (λ (x : Refusal). RefusedBy (Collect percent) [] m v.content w.content x) (sym (unbegun_memory S at.store m (state old) (state new) at.is_at r row))
       (left_with S m image w.content (λ store. Unit {0}) told is tt)
 
   pub unbegun_map : (refusal : Refusal) → Starts C state percent (Err refusal) old new → (sink : SinkView) →
@@ -153,7 +153,7 @@ module _ (C : Type 0) (state : C → CoreState) (v w : DiskView) (old new : C) (
       let e : Event = start_event percent (Err refusal) start.0 in
       let steps : Steps e (state old) (state new) = made e start.1 in
       let reads = all_reads C state v w old new called steps.made.effect.disk.only in
-      reads_map (Collect percent) [] (Refused refusal) v w sink sink reads (not_sink refusal)
+      reads_map (Collect percent) [] refusal v w sink sink reads
       (λ image known among m distinct right is. unbegun_answer (IsIn among) m image known (reads.content_is ∙ known) is refusal steps.made.row)
     where
       made : (e : Event) → CoreStep (state old) e (state new) → Steps e (state old) (state new)
@@ -212,7 +212,7 @@ module _ (C : Type 0) (state : C → CoreState) (v w : DiskView) (old new : C) (
           let now = (since_old C state v w old new called percent snapshot mid start answer sweeps).tells image at.told in
           (now.0, (called.last.only.content_is ∙ now.1, now.1))
 
-      pub keeps : (ending : Option Ending) (sink sink_now : SinkView) → RefusedBy (Collect percent) [] m v.content w.content ending
+      pub keeps : (ending : Option Ending) (sink sink_now : SinkView) → WhyRefused (Collect percent) [] m v.content w.content ending
           → ((store : Store) → Encodes image store → GivesSlotsBack percent ending m.files store image w.content sink sink_now)
           → KeepsMap (Collect percent) [] ending m v w sink sink_now
       keeps ending sink sink_now by_map gave = (
@@ -516,7 +516,7 @@ module _ (C : Type 0) (state : C → CoreState) (v w : DiskView) (old new : C) (
 
         -- by the refusal
         ends_by : (r : Refusal) → r ≡ refusal → IsCollectCause r → StopsAfter asked.GcStep (Err r) (state sweeps.1.0).acknowledged (state new).stop →
-            EndsFrom (Collect percent) [] m v.content w.content (Some (Refused r))
+            RefusedBy (Collect percent) [] m v.content w.content r
         ends_by refusals.DiskWrite is why stops = tt
         ends_by refusals.Memory is why stops = refused_left stops
         ends_by refusals.DiskRead is why stops = refused_left stops

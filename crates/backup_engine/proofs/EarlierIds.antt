@@ -6,6 +6,7 @@ use Rattle.dd_disk.proofs.Shows.{shown_content}
 use Rattle.disk_format.specs.declared.numbers.TheConstants.{LAST_ID}
 use Rattle.gc_steps.proofs.FirstStage.{id_below}
 use Rattle.recovery.specs.Room.{RoomMade}
+use Rattle.refusals.specs.declared.refusal.Refusal.{Refusal}
 use Rattle.refusals.specs.declared.refusal.Refusal.TheVariants.{Numbers}
 use Rattle.reply_text.specs.declared.ending.Ending.{Ending}
 use Rattle.reply_text.specs.declared.ending.Ending.TheVariants.{Refused}
@@ -21,7 +22,7 @@ use Rattle.store_model.proofs.Once.{store_once}
 use Rattle.store_state.proofs.Taken.{last_without}
 use Rattle.backup_engine.specs.Collected.{FreesUpTo, HasNoIdLeft, written_in}
 use Rattle.backup_engine.specs.Line.{CommandLine, Collect}
-use Rattle.backup_engine.specs.Promise.{RefusedBy, EndsFrom}
+use Rattle.backup_engine.specs.Promise.{RefusedBy, WhyRefused}
 use Rattle.backup_engine.proofs.EarlierFrees.{frees_later}
 
 -- containers that were given back, as changes of a store
@@ -93,13 +94,13 @@ module _ (v mid : DiskView) (made : RoomMade v mid) (old : List ℕ) (told : v.c
         },
       )
 
-  ends_earlier : (command : CommandLine) (given : List ℕ) (content : Option (List ℕ)) (ending : Option Ending) → EndsFrom command given m mid.content content ending →
-      EndsFrom command given m v.content content ending
-  ends_earlier (Collect percent) given content (Some (Refused Numbers)) ends = (ends.0, ends.1, ends.2, no_id_earlier ends.0 ends.3)
-  ends_earlier command given content ending ends = ends
+  cause_earlier : (command : CommandLine) (given : List ℕ) (content : Option (List ℕ)) (refusal : Refusal) → RefusedBy command given m mid.content content refusal →
+      RefusedBy command given m v.content content refusal
+  cause_earlier (Collect percent) given content Numbers ends = (ends.0, ends.1, ends.2, no_id_earlier ends.0 ends.3)
+  cause_earlier command given content refusal ends = ends
 
   -- why it was refused, by what the content was before
-  pub refused_earlier : (command : CommandLine) (given : List ℕ) (content : Option (List ℕ)) (ending : Option Ending) → RefusedBy command given m mid.content content ending →
-      RefusedBy command given m v.content content ending
-  refused_earlier command given content (Some (Refused refusal)) ends = ends_earlier command given content (Some (Refused refusal)) ends
+  pub refused_earlier : (command : CommandLine) (given : List ℕ) (content : Option (List ℕ)) (ending : Option Ending) → WhyRefused command given m mid.content content ending →
+      WhyRefused command given m v.content content ending
+  refused_earlier command given content (Some (Refused refusal)) ends = cause_earlier command given content refusal ends
   refused_earlier command given content ending ends = tt

@@ -9,7 +9,6 @@ use Rattle.backup_engine.specs.Running.{IsGivenOut, GiveRun}
 use Rattle.backup_engine.specs.TopCall.{Keeps, ending_in}
 use Rattle.backup_engine.proofs.Called.{Called}
 use Rattle.backup_engine.proofs.GivenOut.{given_on_any, of_call}
-
 use Rattle.backup_engine.proofs.NotOpened.{not_opened}
 use Rattle.backup_engine.proofs.Reading.{reads_frame}
 

@@ -25,11 +25,11 @@ use Rattle.store_machine.specs.Opening.{MayBeFound}
 use Rattle.store_machine.specs.Values.{of_files}
 use Rattle.core_machine.specs.Files.{stored_in}
 use Rattle.core_machine.specs.Unopened.{unopened}
-use Rattle.backup_engine.specs.AnswersByMap.{AnswersByMap, AnswersEachCall, IsLeftAs, Wrote}
+use Rattle.backup_engine.specs.AnswersByMap.{AnswersByMap, EndsBy, AnswersEachCall, IsLeftAs, Wrote}
 use Rattle.backup_engine.specs.ByFiles.{CutsAmong, RunsByFiles}
 use Rattle.backup_engine.specs.Line.{Ingest}
 use Rattle.backup_engine.specs.PlainMap.{CanBeDone}
-use Rattle.backup_engine.specs.Promise.{EndsFailing, EndsFrom, EndsSo, WroteReply}
+use Rattle.backup_engine.specs.Promise.{EndsFailing, EndsSo, WroteReply}
 use Rattle.backup_engine.specs.Singles.{Digits, IsIngest, begun, finish_lines, pushed, push_lines, refused, said}
 use Rattle.backup_engine.specs.TopCall.{DoesCommand}
 use Rattle.backup_engine.proofs.AnswersByMap.{AnswersOpened, answers_call}
@@ -114,7 +114,8 @@ module _ (given name : List ℕ) where
       end = last S rs m store v w runs
 
       pub ingested : Ingested name (given_by 0 [] all) all (rested m store) end
-      ingested = ingests name all (all_steps S rs m store v w runs) (rested m store) runs.next refl (refl, put_follows given name pushes tail runs.files) (ran S rs m store v w runs)
+      ingested = ingests name all (all_steps S rs m store v w runs) (rested m store) runs.next refl (refl, put_follows given name pushes tail runs.files)
+          (ran S rs m store v w runs)
 
       -- where its last line is not the name's the map stays
       still : (IsCommit given name tail → ⊥) → (x : Found (List ℕ)) → MayBeFound of_files end.state end.now x → x ≡ Now m
@@ -125,7 +126,7 @@ module _ (given name : List ℕ) where
 
       pub ingest_answers : (ending : Option Ending) (sink sink_now : SinkView) → CanBeIf (Ingest name) given m ending
           → ((x : Found (List ℕ)) → MayBeFound of_files end.state end.now x → (d : List ℕ) → OpensAs S (stored_in x) d → IsLeftAs S (Ingest name) given m ending d)
-          → EndsFrom (Ingest name) given m v.content w.content ending ⊎ EndsFailing ending → Wrote (Ingest name) given m ending sink sink_now
+          → EndsBy (Ingest name) given m v.content w.content ending ⊎ EndsFailing ending → Wrote (Ingest name) given m ending sink sink_now
           → AnswersByMap S (Ingest name) given ending m v w sink sink_now
       ingest_answers ending sink sink_now can leaves by_map wrote =
           let room = opened_room S rs m store v w runs in
@@ -133,37 +134,41 @@ module _ (given name : List ℕ) where
           sink_now can by_map wrote (room.0, (room.1, tt))
 
     -- the name was asked for
-    module _ (pushes : List Digits) (reply : ReplyValue) (is : pushed pushes ≡ given) (runs : RunsByFiles S (put_lines given name pushes (Commit reply)) (unopened m store) v w) where
-      abbrev put_all : List Replied
-      put_all = all_lines S (put_lines given name pushes (Commit reply)) m store v w runs
+    module _ (pushes : List Digits) (reply : ReplyValue) (is : pushed pushes ≡ given) (runs : RunsByFiles S (put_lines given name pushes (Commit reply)) (unopened m store) v w)
+      where
+        abbrev put_all : List Replied
+        put_all = all_lines S (put_lines given name pushes (Commit reply)) m store v w runs
 
-      abbrev put_end : FileMachine
-      put_end = last S (put_lines given name pushes (Commit reply)) m store v w runs
+        abbrev put_end : FileMachine
+        put_end = last S (put_lines given name pushes (Commit reply)) m store v w runs
 
-      abbrev commit : Replied
-      commit = said (lines.Commit 0 name) reply
+        abbrev commit : Replied
+        commit = said (lines.Commit 0 name) reply
 
-      last_is : machine.last_of put_all ≡ Some commit
-      last_is = commit_last given name pushes reply begun 0 pushes
+        last_is : machine.last_of put_all ≡ Some commit
+        last_is = commit_last given name pushes reply begun 0 pushes
 
-      so : Ingested name given put_all (rested m store) put_end
-      so = subst (λ (g : List ℕ). Ingested name g put_all (rested m store) put_end) (pushes_give given name pushes reply 0 pushes [] ∙ is) (ingested pushes (Commit reply) is runs)
+        so : Ingested name given put_all (rested m store) put_end
+        so =
+            subst (λ (g : List ℕ). Ingested name g put_all (rested m store) put_end) (pushes_give given name pushes reply 0 pushes [] ∙ is)
+            (ingested pushes (Commit reply) is runs)
 
-      committed_left : machine.IsDone (machine.Ingest name) reply → (x : Found (List ℕ)) → MayBeFound of_files put_end.state put_end.now x → (d : List ℕ)
-          → OpensAs S (stored_in x) d → OpensAs S (with_stored m name given) d
-      committed_left done x may d opens =
-          let put = so.done (commit, last_is, done) in
-          let now : x ≡ put_end.now = subst (λ (state : RunState (List ℕ)). MayBeFound of_files state put_end.now x) put.1 may in
-          put_after S m put_end.now d put.0 (as_found S x put_end.now d now opens)
+        committed_left : machine.IsDone (machine.Ingest name) reply → (x : Found (List ℕ)) → MayBeFound of_files put_end.state put_end.now x → (d : List ℕ)
+            → OpensAs S (stored_in x) d → OpensAs S (with_stored m name given) d
+        committed_left done x may d opens =
+            let put = so.done (commit, last_is, done) in
+            let now : x ≡ put_end.now = subst (λ (state : RunState (List ℕ)). MayBeFound of_files state put_end.now x) put.1 may in
+            put_after S m put_end.now d put.0 (as_found S x put_end.now d now opens)
 
-      committed_can : machine.IsDone (machine.Ingest name) reply → CanBeDone (Ingest name) given m
-      committed_can done = put_can S m put_end.now (so.done (commit, last_is, done)).0
+        committed_can : machine.IsDone (machine.Ingest name) reply → CanBeDone (Ingest name) given m
+        committed_can done = put_can S m put_end.now (so.done (commit, last_is, done)).0
 
-      uncommitted_left : (refusal : Refusal) → reply ≡ replies.Refused refusal → (x : Found (List ℕ)) → MayBeFound of_files put_end.state put_end.now x → (d : List ℕ)
-          → OpensAs S (stored_in x) d → IsLeftAs S (Ingest name) given m (Some (Refused refusal)) d
-      uncommitted_left refusal refuses x may d opens =
-          refused_put S m refusal x d (λ other. (so.refused refusal (commit, last_is, refuses)).1 other x may) (elim (so.found x may) [ inl same ↦ inl same | inr put ↦ inr put.0 ])
-          opens
+        uncommitted_left : (refusal : Refusal) → reply ≡ replies.Refused refusal → (x : Found (List ℕ)) → MayBeFound of_files put_end.state put_end.now x → (d : List ℕ)
+            → OpensAs S (stored_in x) d → IsLeftAs S (Ingest name) given m (Some (Refused refusal)) d
+        uncommitted_left refusal refuses x may d opens =
+            refused_put S m refusal x d (λ other. (so.refused refusal (commit, last_is, refuses)).1 other x may)
+            (elim (so.found x may) [ inl same ↦ inl same | inr put ↦ inr put.0 ])
+            opens
 
     same_left : (refusal : Refusal) (d : List ℕ) → OpensAs S m d → IsLeftAs S (Ingest name) given m (Some (Refused refusal)) d
     same_left DiskWrite d is = inl is
@@ -213,7 +218,8 @@ module _ (given name : List ℕ) where
         let memory = ingest_memory name given ending source source_now rs are none in
         record { none = none; refusal = Memory; ending_is = memory; wrote = same_written Memory memory }
 
-    ingest_spoken : IngestsByMap → IngestsThrough → IsIngest name given ending source source_now rs → (rs ≡ []) ⊎ AnswersOpened (Ingest name) given ending rs (view old) (view new) sink sink_now
+    ingest_spoken : IngestsByMap → IngestsThrough → IsIngest name given ending source source_now rs → (rs ≡ []) ⊎ AnswersOpened (Ingest name) given ending rs (view old) (view new)
+        sink sink_now
     ingest_spoken ingests through are = elim (ingest_so ending source source_now rs are) [
       | inl none ↦ inl none
       | inr (tail, ((pushes, (is, lines_are)), ends)) ↦ inr (λ among m first distinct given_in known opens runs.

@@ -83,7 +83,8 @@ module _ (given name : List ℕ) where
   tail_cut all Nothing is d s gives goes gave bytes cut = absurd cut
   tail_cut all (Push digits refusal) (rest, is) d s gives goes gave bytes (inl cut) =
       cut_there d s (pushed_bytes digits ++ rest) bytes gives
-      (is ∙ append_assoc (pushed all) (pushed_bytes digits) rest ∙ ap (λ (l : List ℕ). l ++ (pushed_bytes digits ++ rest)) (sym gave)) (ongoing s (pushed_bytes digits ++ rest) goes)
+      (is ∙ append_assoc (pushed all) (pushed_bytes digits) rest ∙ ap (λ (l : List ℕ). l ++ (pushed_bytes digits ++ rest)) (sym gave))
+      (ongoing s (pushed_bytes digits ++ rest) goes)
       cut
   tail_cut all (Push digits refusal) is d s gives goes gave bytes (inr (steps, (mid, (line, cut)))) = absurd cut
   tail_cut all (Finish refusal) is d s gives goes gave bytes (inl cut) =

@@ -116,7 +116,8 @@ module _ (S : List ℕ → Type 0) (P : Stored → Type 0) (c : Call) where
     line_leads : (command : CommandLine) (image : List ℕ) → IsLeftAs S command c.given m c.ending image → OfSome S (After P (Some (Single command)) c) image
     line_leads command image left = let one = leads_left S command c.given c.ending m image left in (one.0, ((m, (has, one.1.0)), one.1.1))
 
-    line_leaves : (command : CommandLine) → LeavesAs (IsLeftAs S command c.given m c.ending) c.ending v w ⊎ NothingWritten c.ending v w → Stands (OfSome S (After P (Some (Single command)) c)) w
+    line_leaves : (command : CommandLine) → LeavesAs (IsLeftAs S command c.given m c.ending) c.ending v w ⊎ NothingWritten c.ending v w →
+        Stands (OfSome S (After P (Some (Single command)) c)) w
     line_leaves command (inl left) = (
       (left.content.0, left.content.1, line_leads command left.content.0 left.content.2),
       λ d is. elim (left.images d is) [ inl there ↦ line_leads command d there | inr (not_done, was) ↦ same_leads command d not_done (stands.1 d was) ],
@@ -289,7 +290,8 @@ module _ (D : Type 0) (view : D → DiskView) (laws : ByTheMap D view) (among : 
     (begins : BeginsOfMap (IsIn among) (calls ++ last ∷ []) m (view old))
     (run : CallRun D view calls old mid) (keeps : KeepsCall D view last (view mid) (view new)) where
   before : Stands (Possible (IsIn among) calls m) (view mid)
-  before = leaves_possible D view laws among m calls old mid (record { apart = begins.apart; given = given_before (IsIn among) calls last begins.given; stands = begins.stands }) run
+  before = leaves_possible D view laws among m calls old mid (record { apart = begins.apart; given = given_before (IsIn among) calls last begins.given; stands = begins.stands })
+      run
 
   last_finds : (now : Stored) × (LeadsTo calls m now × KnownWith (view mid).content (OpensAs (IsIn among) now) × Answers D view last.line (IsIn among) last now (view mid)
       (view new))
@@ -314,7 +316,8 @@ pub survives_a_crash : (D : Type 0) (view : D → DiskView) → ByTheMap D view 
 survives_a_crash D view laws among m calls last old mid new begins run keeps c since =
     let one = last_finds D view laws among m calls last old mid new begins run keeps in
     by_led D view laws among m calls last old mid new begins run keeps one.0 one.1.0 c
-    (crash_leaves (IsIn among) (LeadsTo calls m) last one.0 (view mid) (view new) one.1.0 (before D view laws among m calls last old mid new begins run keeps) D view last.line one.1.2
+    (crash_leaves (IsIn among) (LeadsTo calls m) last one.0 (view mid) (view new) one.1.0 (before D view laws among m calls last old mid new begins run keeps) D view last.line
+    one.1.2
     c since)
 
 -- ---- the empty map

@@ -21,8 +21,9 @@ use Rattle.store_model.specs.Files.{Stored}
 use Rattle.store_model.specs.Image.{Store, Encodes}
 use Rattle.store_model.specs.Standing.{IsSegmentOf}
 use Rattle.backup_engine.specs.AnyDisk.{Formats, IsCaused}
+use Rattle.backup_engine.specs.AnswersByMap.{EndsBy}
 use Rattle.backup_engine.specs.Line.{Format, Ingest}
-use Rattle.backup_engine.specs.Promise.{EndsBy, SinceStart, WroteReply}
+use Rattle.backup_engine.specs.Promise.{SinceStart, WroteReply}
 use Rattle.backup_engine.specs.TopCall.{Keeps}
 use Rattle.backup_engine.specs.Lists.{Call, FormatsNothing}
 use Rattle.backup_engine.proofs.Reading.{since_began}
@@ -84,12 +85,13 @@ module _ (slots : ℕ) (given : List ℕ) (v w : DiskView) (source source_now : 
     refuses (WrongSize want got) wrong = (wrong.0, wrong.1 ∙ same_size, wrong.2)
     refuses refusal wrong = absurd wrong
 
-    left_so : (refusal : Refusal) → IsFormatRefusal (Shows v w) v.size slots refusal → w.content ≡ v.content → EndsBy (Format slots) given m w.content (Some (Refused refusal))
+    left_so : (refusal : Refusal) → IsFormatRefusal (Shows v w) v.size slots refusal → w.content ≡ v.content →
+        EndsBy (Format slots) given m v.content w.content (Some (Refused refusal))
     left_so (Clash key at) wrong stays = absurd wrong
     left_so refusal wrong stays = (is.store, (old, stays ∙ known, is.stands.holds), is.reserve, refuses refusal wrong)
 
     ends_so : (ending : Option Ending) → IsCaused (Format slots) given v w source source_now sink sink_now ending → w.content ≡ v.content
-        → EndsBy (Format slots) given m w.content ending
+        → EndsBy (Format slots) given m v.content w.content ending
     ends_so None caused stays = absurd (formats_none caused)
     ends_so (Some Sink) caused stays = absurd (formats_none caused.0)
     ends_so (Some Words) caused stays = caused

@@ -30,12 +30,12 @@ use Rattle.store_machine.specs.Opening.{MayBeFound}
 use Rattle.store_machine.specs.Values.{of_files}
 use Rattle.core_machine.specs.Files.{stored_in}
 use Rattle.core_machine.specs.Unopened.{unopened}
-use Rattle.backup_engine.specs.AnswersByMap.{AnswersByMap, AnswersEachCall, ChangesStore, IsLeftAs, IsStore, Wrote}
+use Rattle.backup_engine.specs.AnswersByMap.{AnswersByMap, EndsBy, AnswersEachCall, ChangesStore, IsLeftAs, IsStore, Wrote}
 use Rattle.backup_engine.specs.ByFiles.{RunsByFiles}
 use Rattle.backup_engine.specs.Line.{Delete}
 use Rattle.backup_engine.specs.Line as table
 use Rattle.backup_engine.specs.PlainMap.{LacksNumbers, MayDelete, room_of}
-use Rattle.backup_engine.specs.Promise.{EndsFrom, IsLeftWith, WroteReply}
+use Rattle.backup_engine.specs.Promise.{IsLeftWith, WroteReply}
 use Rattle.backup_engine.specs.Singles.{IsDelete, IsListing, said}
 use Rattle.backup_engine.proofs.AnswersByMap.{AnswersOpened, answers_call}
 use Rattle.backup_engine.proofs.Ran.{delete_ran, list_ran, ran_cuts, ran_silent}
@@ -57,7 +57,7 @@ is_write refusal = inr (λ is. cc)
 
 module _ (given : List ℕ) where
   list_ends : (m : Stored) (before content : Option (List ℕ)) (refusal : Refusal) → ListRefusal refusal → IsLeftWith m content (λ store. Unit {0})
-      → EndsFrom table.List given m before content (Some (Refused refusal))
+      → EndsBy table.List given m before content (Some (Refused refusal))
   list_ends m before content Memory may is = is
   list_ends m before content DiskRead may is = is
   list_ends m before content DiskWrite may is = is
@@ -85,7 +85,7 @@ module _ (given : List ℕ) where
         left_with S rs m store v w runs opened at (λ s. Unit {0}) was listed.store.1
         (listed.found end.now (subst (λ (state : RunState (List ℕ)). MayBeFound of_files state end.now end.now) (sym at.0) refl)) tt
 
-    list_answers : (ending : Option Ending) → CanBeIf table.List given m ending → EndsFrom table.List given m v.content w.content ending
+    list_answers : (ending : Option Ending) → CanBeIf table.List given m ending → EndsBy table.List given m v.content w.content ending
         → Wrote table.List given m ending sink sink_now → AnswersByMap S table.List given ending m v w sink sink_now
     list_answers ending can by_map wrote =
         answers_by S rs m store v w runs table.List given ending
@@ -101,7 +101,8 @@ module _ (given : List ℕ) where
     -- the names that it replied with are those of the map
     list_text : listing_text files ≡ listing_text (file_listing m.files)
     list_text =
-        sym (append-nil (listing_text files)) ∙ (listed S m store v w was sink sink_now lists through (replies.Listed files) runs).done (said lines.ListNames (replies.Listed files), refl, tt)
+        sym (append-nil (listing_text files)) ∙ (listed S m store v w was sink sink_now lists through (replies.Listed files) runs).done
+        (said lines.ListNames (replies.Listed files), refl, tt)
 
     list_done : WroteReply (listing_text files) None sink sink_now → AnswersByMap S table.List given None m v w sink sink_now
     list_done wrote =
@@ -118,9 +119,13 @@ module _ (given : List ℕ) where
     So ending = (rs ≡ []) ⊎ AnswersOpened table.List given ending rs v w sink sink_now
 
     list_spoken : (ending : Option Ending) → IsListing ending sink sink_now rs → So ending
-    list_spoken None (files, (is, wrote)) = inr (λ among m old distinct given_in known opens runs. list_done (IsIn among) m opens.store v w (was_store (IsIn among) m v old known opens) sink sink_now lists through files
+    list_spoken None (files, (is, wrote)) =
+        inr (λ among m old distinct given_in known opens runs. list_done (IsIn among) m opens.store v w (was_store (IsIn among) m v old known opens) sink sink_now lists through
+        files
         (subst (λ (l : List Replied). RunsByFiles (IsIn among) l (unopened m opens.store) v w) is runs) wrote)
-    list_spoken (Some Sink) (files, (is, wrote)) = inr (λ among m old distinct given_in known opens runs. list_unwritten (IsIn among) m opens.store v w (was_store (IsIn among) m v old known opens) sink sink_now lists through files
+    list_spoken (Some Sink) (files, (is, wrote)) =
+        inr (λ among m old distinct given_in known opens runs. list_unwritten (IsIn among) m opens.store v w (was_store (IsIn among) m v old known opens) sink sink_now lists
+        through files
         (subst (λ (l : List Replied). RunsByFiles (IsIn among) l (unopened m opens.store) v w) is runs) wrote)
     list_spoken (Some (Refused refusal)) (inl (memory, inl none), same) = inl none
     list_spoken (Some (Refused refusal)) (inl (memory, inr (files, is)), same) = inr (λ among m old distinct given_in known opens runs.
@@ -206,13 +211,15 @@ module _ (given name : List ℕ) where
       last_is : machine.last_of (all_lines S ds m store v w runs) ≡ Some (said (lines.Delete name) (replies.Refused refusal))
       last_is = ap (λ (r : ReplyValue). Some (said (lines.Delete name) r)) reply_is
 
-      abbrev why : DeleteRefusal name (rested m store).now gone_end refusal × (((refusal ≡ DiskWrite) → ⊥) → (x : Found (List ℕ)) → MayBeFound of_files gone_end.state gone_end.now x
+      abbrev why : DeleteRefusal name (rested m store).now gone_end refusal
+          × (((refusal ≡ DiskWrite) → ⊥) → (x : Found (List ℕ)) → MayBeFound of_files gone_end.state gone_end.now x
           → x ≡ (rested m store).now)
       why = deleted.refused refusal (refused_end (all_lines S ds m store v w runs) (lines.Delete name) refusal last_is)
 
       not_done : EndsWith (λ one. IsDone (machine.Delete name) one.reply) (all_lines S ds m store v w runs) → ⊥
       not_done (one, last, is) =
-          subst (λ (x : Replied). IsDone (machine.Delete name) x.reply) (sym (same_last (all_lines S ds m store v w runs) (said (lines.Delete name) (replies.Refused refusal)) one last_is last)) is
+          subst (λ (x : Replied). IsDone (machine.Delete name) x.reply)
+          (sym (same_last (all_lines S ds m store v w runs) (said (lines.Delete name) (replies.Refused refusal)) one last_is last)) is
 
       -- another refusal
       only_so : ((refusal ≡ DiskWrite) → ⊥) → EndsRefused DiskWrite (all_lines S ds m store v w runs) → ⊥
@@ -249,7 +256,7 @@ module _ (given name : List ℕ) where
       -- why, by the store that it left
       delete_ends : (refusal : Refusal) → reason ≡ refusal → DeleteRefusal name (rested m store).now end_now refusal
           → (((refusal ≡ DiskWrite) → ⊥) → (P : Store → Type 0) → P end_now.store → IsLeftWith m w.content P) → (((refusal ≡ DiskWrite) → ⊥) → end_now.now ≡ (rested m store).now)
-          → EndsFrom (Delete name) given m v.content w.content (Some (Refused refusal))
+          → EndsBy (Delete name) given m v.content w.content (Some (Refused refusal))
       delete_ends Memory is may left still = left (λ no. cc) (λ s. Unit {0}) tt
       delete_ends DiskRead is may left still = left (λ no. cc) (λ s. Unit {0}) tt
       delete_ends DiskWrite is may left still = tt
@@ -271,7 +278,8 @@ module _ (given name : List ℕ) where
           let made = deleted S m store v w was sink sink_now deletes through (replies.Refused reason) runs in
           let cause = why S m store v w was sink sink_now deletes through (replies.Refused reason) runs reason refl in
           answers_by S (said (lines.Delete name) (replies.Refused reason) ∷ []) m store v w runs (Delete name) given (Some (Refused reason))
-          (λ x may d opens. delete_left S m reason x d (λ other. cause.1 other x may) (made.found x may) opens) was (machine.Delete name) (refl, (refl, refl, tt)) (through name) sink
+          (λ x may d opens. delete_left S m reason x d (λ other. cause.1 other x may) (made.found x may) opens) was (machine.Delete name) (refl, (refl, refl, tt)) (through name)
+          sink
           sink_now tt
           (inl (delete_ends reason refl cause.0 (delete_store S m store v w was sink sink_now deletes through (replies.Refused reason) runs reason refl)
           (λ other. (made.undone (not_done S m store v w was sink sink_now deletes through (replies.Refused reason) runs reason refl)).0))) same

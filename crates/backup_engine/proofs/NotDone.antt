@@ -20,11 +20,11 @@ use Rattle.store_core.specs.Opening.{IsGivenUp, IsNotRead}
 use Rattle.store_core.specs.State.{CoreState}
 use Rattle.backup_engine.specs.Line.{CommandLine, Format, Ingest, Restore, Delete, Collect}
 use Rattle.backup_engine.specs.Line as table
-use Rattle.backup_engine.specs.Promise.{EndsBy, IsLeftWith}
+use Rattle.backup_engine.specs.Promise.{IsLeftWith, RefusedBy}
 use Rattle.backup_engine.specs.AnyDisk.{FindsBeforeWriting, Holds, IsCaused, Took, WroteOnAny, EndsDurable}
 use Rattle.backup_engine.specs.TopCall.{Keeps, IsLeftBlank, IsUntouched}
 use Rattle.backup_engine.proofs.Called.{Called}
-use Rattle.backup_engine.proofs.Reading.{EndsOver, since_start, reads_frame, reads_map, unchanged}
+use Rattle.backup_engine.proofs.Reading.{RefusedOver, since_start, reads_frame, reads_map, unchanged}
 
 -- ---- over a map
 
@@ -37,38 +37,39 @@ pub left_with : (S : List ℕ → Type 0) (m : Stored) (old : List ℕ) (content
 left_with S m old content P told is holds = (is.store, (old, told, is.stands.holds), is.reserve, holds)
 
 -- want of memory, whatever the map is
-no_memory : (command : CommandLine) (given : List ℕ) (S : List ℕ → Type 0) (m : Stored) (old : List ℕ) (content : Option (List ℕ)) → content ≡ Some old → IsOf S m old →
-    EndsBy command given m content (Some (Refused Memory))
-no_memory (Format slots) given S m old content told is = left_with S m old content (λ store. Unit {0}) told is tt
-no_memory (Ingest name) given S m old content told is = left_with S m old content (λ store. Unit {0}) told is tt
-no_memory (Restore name) given S m old content told is = left_with S m old content (λ store. Unit {0}) told is tt
-no_memory (Delete name) given S m old content told is = left_with S m old content (λ store. Unit {0}) told is tt
-no_memory table.List given S m old content told is = left_with S m old content (λ store. Unit {0}) told is tt
-no_memory (Collect percent) given S m old content told is = left_with S m old content (λ store. Unit {0}) told is tt
+no_memory : (command : CommandLine) (given : List ℕ) (S : List ℕ → Type 0) (m : Stored) (old : List ℕ) (before content : Option (List ℕ)) → content ≡ Some old → IsOf S m old →
+    RefusedBy command given m before content Memory
+no_memory (Format slots) given S m old before content told is = left_with S m old content (λ store. Unit {0}) told is tt
+no_memory (Ingest name) given S m old before content told is = left_with S m old content (λ store. Unit {0}) told is tt
+no_memory (Restore name) given S m old before content told is = left_with S m old content (λ store. Unit {0}) told is tt
+no_memory (Delete name) given S m old before content told is = left_with S m old content (λ store. Unit {0}) told is tt
+no_memory table.List given S m old before content told is = left_with S m old content (λ store. Unit {0}) told is tt
+no_memory (Collect percent) given S m old before content told is = left_with S m old content (λ store. Unit {0}) told is tt
 
 -- and whatever the command is
-memory_ends : (command : CommandLine) (given : List ℕ) (v w : DiskView) → OnlyReads v w → EndsOver command given (Some (Refused Memory)) v w
-memory_ends command given v w reads old known among m distinct right is = no_memory command given (IsIn among) m old w.content (reads.content_is ∙ known) is
+memory_ends : (command : CommandLine) (given : List ℕ) (v w : DiskView) → OnlyReads v w → RefusedOver command given Memory v w
+memory_ends command given v w reads old known among m distinct right is = no_memory command given (IsIn among) m old v.content w.content (reads.content_is ∙ known) is
 
 false_not_true : false ≡ true → ⊥
 false_not_true wrong = cc
 
 -- memory or the disk failed, whatever the map is
-ingest_failed : (name given : List ℕ) (S : List ℕ → Type 0) (m : Stored) (old : List ℕ) (content : Option (List ℕ)) → content ≡ Some old → IsOf S m old → (refusal : Refusal) →
+ingest_failed : (name given : List ℕ) (S : List ℕ → Type 0) (m : Stored) (old : List ℕ) (before content : Option (List ℕ)) → content ≡ Some old → IsOf S m old →
+    (refusal : Refusal) →
     IsTrue (fails refusal)
-    → EndsBy (Ingest name) given m content (Some (Refused refusal))
-ingest_failed name given S m old content told is Memory fails = left_with S m old content (λ store. Unit {0}) told is tt
-ingest_failed name given S m old content told is DiskRead fails = left_with S m old content (λ store. Unit {0}) told is tt
-ingest_failed name given S m old content told is DiskWrite fails = tt
-ingest_failed name given S m old content told is refusal fails = absurd (false_not_true fails)
+    → RefusedBy (Ingest name) given m before content refusal
+ingest_failed name given S m old before content told is Memory fails = left_with S m old content (λ store. Unit {0}) told is tt
+ingest_failed name given S m old before content told is DiskRead fails = left_with S m old content (λ store. Unit {0}) told is tt
+ingest_failed name given S m old before content told is DiskWrite fails = tt
+ingest_failed name given S m old before content told is refusal fails = absurd (false_not_true fails)
 
-collect_failed : (percent : ℕ) (given : List ℕ) (S : List ℕ → Type 0) (m : Stored) (old : List ℕ) (content : Option (List ℕ)) → content ≡ Some old → IsOf S m old →
+collect_failed : (percent : ℕ) (given : List ℕ) (S : List ℕ → Type 0) (m : Stored) (old : List ℕ) (before content : Option (List ℕ)) → content ≡ Some old → IsOf S m old →
     (refusal : Refusal) → IsTrue (fails refusal)
-    → EndsBy (Collect percent) given m content (Some (Refused refusal))
-collect_failed percent given S m old content told is Memory fails = left_with S m old content (λ store. Unit {0}) told is tt
-collect_failed percent given S m old content told is DiskRead fails = left_with S m old content (λ store. Unit {0}) told is tt
-collect_failed percent given S m old content told is DiskWrite fails = tt
-collect_failed percent given S m old content told is refusal fails = absurd (false_not_true fails)
+    → RefusedBy (Collect percent) given m before content refusal
+collect_failed percent given S m old before content told is Memory fails = left_with S m old content (λ store. Unit {0}) told is tt
+collect_failed percent given S m old before content told is DiskRead fails = left_with S m old content (λ store. Unit {0}) told is tt
+collect_failed percent given S m old before content told is DiskWrite fails = tt
+collect_failed percent given S m old before content told is refusal fails = absurd (false_not_true fails)
 
 -- ---- a store that was not opened
 
@@ -86,13 +87,13 @@ module _ (v w : DiskView) (refusal : Refusal) (is : IsUnopened v w refusal) wher
   map_fails S m old known stands =
       fails_alone stands.store refusal stands.reserve (shown_content v w (IsGivenUp refusal) old is.given_up known stands.store stands.stands.holds.right)
 
-  ingest_ends : (name given : List ℕ) → EndsOver (Ingest name) given (Some (Refused refusal)) v w
+  ingest_ends : (name given : List ℕ) → RefusedOver (Ingest name) given refusal v w
   ingest_ends name given old known among m distinct right stands =
-      ingest_failed name given (IsIn among) m old w.content (is.reads.only.content_is ∙ known) stands refusal (map_fails (IsIn among) m old known stands)
+      ingest_failed name given (IsIn among) m old v.content w.content (is.reads.only.content_is ∙ known) stands refusal (map_fails (IsIn among) m old known stands)
 
-  collect_ends : (percent : ℕ) → EndsOver (Collect percent) [] (Some (Refused refusal)) v w
+  collect_ends : (percent : ℕ) → RefusedOver (Collect percent) [] refusal v w
   collect_ends percent old known among m distinct right stands =
-      collect_failed percent [] (IsIn among) m old w.content (is.reads.only.content_is ∙ known) stands refusal (map_fails (IsIn among) m old known stands)
+      collect_failed percent [] (IsIn among) m old v.content w.content (is.reads.only.content_is ∙ known) stands refusal (map_fails (IsIn among) m old known stands)
 
 ingest_caused : (v w : DiskView) (name given : List ℕ) (source : SourceView) (sink : SinkView) (refusal : Refusal) → IsOpenRefusal (Shows v w) v.size refusal
     → IsCaused (Ingest name) given v w source source sink sink (Some (Refused refusal))
@@ -112,7 +113,7 @@ pub unopened_ingest : (v w : DiskView) (refusal : Refusal) → IsUnopened v w re
     Known source.left (λ all. given ≡ all)
     → Keeps (Ingest name) given (Some (Refused refusal)) v w source source sink sink
 unopened_ingest v w refusal is name given source sink took = record {
-  map = reads_map (Ingest name) given (Refused refusal) v w sink sink is.reads.only (not_sink refusal) (ingest_ends v w refusal is name given);
+  map = reads_map (Ingest name) given refusal v w sink sink is.reads.only (ingest_ends v w refusal is name given);
   any = record {
     took = λ all told. (took all told, tt);
     caused = ingest_caused v w name given source sink refusal is.cause;
@@ -209,7 +210,7 @@ unopened_list v w refusal is source sink = record {
 pub unopened_collect : (v w : DiskView) (refusal : Refusal) → IsUnopened v w refusal → (percent : ℕ) (source : SourceView) (sink : SinkView)
     → Keeps (Collect percent) [] (Some (Refused refusal)) v w source source sink sink
 unopened_collect v w refusal is percent source sink = record {
-  map = reads_map (Collect percent) [] (Refused refusal) v w sink sink is.reads.only (not_sink refusal) (collect_ends v w refusal is percent);
+  map = reads_map (Collect percent) [] refusal v w sink sink is.reads.only (collect_ends v w refusal is percent);
   any = record {
     took = (refl, refl);
     caused = collect_caused v w percent source sink refusal is.cause;
@@ -272,7 +273,7 @@ pub without_memory : (command : CommandLine) (given : List ℕ) (v w : DiskView)
     Took command given (Some (Refused Memory)) source source_now → source_now.faults ≡ source.faults
     → Keeps command given (Some (Refused Memory)) v w source source_now sink sink
 without_memory command given v w source source_now sink reads took faults = record {
-  map = reads_map command given (Refused Memory) v w sink sink reads.only (not_sink Memory) (memory_ends command given v w reads.only);
+  map = reads_map command given Memory v w sink sink reads.only (memory_ends command given v w reads.only);
   any = record {
     took = took;
     caused = tt;

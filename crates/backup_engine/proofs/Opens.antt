@@ -51,7 +51,8 @@ pub record Unread (command : CommandLine) (given : List ℕ) (refusal : Refusal)
 module _ (D : Type 0) (view : D → DiskView) (refusal : Refusal) (v w : DiskView) (source : SourceView) (sink : SinkView) where
   pub does_none : (command : CommandLine) (given : List ℕ) → Took command given (Some (Refused refusal)) source source
       → ((before : DiskView) → IsNotRead refusal before w → Unread command given refusal before w source sink)
-      → RunsEachByFiles (Some (Refused refusal)) [] v w → FailsAlone (Some (Refused refusal)) [] v → OpensNone D view refusal v w → DoesCommand D view command given [] (Some (Refused refusal)) v w source source sink sink
+      → RunsEachByFiles (Some (Refused refusal)) [] v w → FailsAlone (Some (Refused refusal)) [] v → OpensNone D view refusal v w →
+      DoesCommand D view command given [] (Some (Refused refusal)) v w source source sink sink
   does_none command given took unread by_files alone (inl is) =
       let un = unread v is.0 in does_unread D view command given v w source sink refusal is.0 is.1 un.keeps un.speaks by_files (λ none. alone)
   does_none command given took unread by_files alone (inr (inl is)) =

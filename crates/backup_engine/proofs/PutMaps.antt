@@ -29,7 +29,7 @@ use Rattle.backup_engine.specs.Adding.{Adds, AddsTo, AddsOnce}
 use Rattle.backup_engine.specs.Line.{Ingest}
 use Rattle.backup_engine.specs.AnyDisk.{ReadsSince, room_in}
 use Rattle.backup_engine.specs.PlainMap.{Room, room_of, RefusesIngest}
-use Rattle.backup_engine.specs.Promise.{KeepsMap, KeepsEachMap, IsLeftWith, EndsBy, RefusedBy}
+use Rattle.backup_engine.specs.Promise.{KeepsMap, KeepsEachMap, IsLeftWith, RefusedBy, WhyRefused}
 use Rattle.backup_engine.specs.Running.{PutRun, IsPutRefusal, seals_of}
 use Rattle.backup_engine.specs.Storing.{IsSourceFault}
 use Rattle.backup_engine.proofs.Added.{adds_to, put_in}
@@ -95,7 +95,7 @@ module _ (C : Type 0) (state : C → CoreState) (v w : DiskView) (old new : C) (
       ran.whole
 
   -- the command ended so
-  keeps : (ending : Option Ending) (sink sink_now : SinkView) → RefusedBy (Ingest name) given m v.content w.content ending
+  keeps : (ending : Option Ending) (sink sink_now : SinkView) → WhyRefused (Ingest name) given m v.content w.content ending
       → ((store : Store) → Encodes image store → Adds name given ending store w.content) → KeepsMap (Ingest name) given ending m v w sink sink_now
   keeps ending sink sink_now by_map adds =
       (by_map, λ first known store right. adds store (subst (λ (bytes : List ℕ). Encodes bytes store) (one_image first image (sym known ∙ told)) right))
@@ -164,10 +164,10 @@ module _ (C : Type 0) (state : C → CoreState) (v w : DiskView) (old new : C) (
     right : ¬ (refusal ≡ DiskWrite) → IsRight given m w.content refusal
     right other = subst (λ (content : Option (List ℕ)). IsRight given m content refusal) (sym was.last.only.content_is) (runs_on other).right
 
-    by_map : IsPutRefusal name given (state old).disk (state new) refusal → EndsBy (Ingest name) given m w.content (Some (Refused refusal))
+    by_map : IsPutRefusal name given (state old).disk (state new) refusal → RefusedBy (Ingest name) given m v.content w.content refusal
     by_map why = elim (by_write refusal) [
-      | inl write ↦ subst (λ (r : Refusal). EndsBy (Ingest name) given m w.content (Some (Refused r))) (sym write) tt
-      | inr other ↦ ends_by name given m w.content refusal (right other)
+      | inl write ↦ subst (λ (r : Refusal). RefusedBy (Ingest name) given m v.content w.content r) (sym write) tt
+      | inr other ↦ ends_by name given m v.content w.content refusal (right other)
           (store_left (λ store. RefusesBut name given (room_of (Ingest name) m store) refusal) other
           (λ t left at whole room free. refuses_by name given m w.content (state old).disk t (state new) refusal at.represents room at.valid free whole (right other) why))
     ]

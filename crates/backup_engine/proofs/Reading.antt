@@ -2,17 +2,18 @@
 use Rattle.std.proofs.Common.{◌⊎◌, ◌≡◌, inl, inr, ℕ, List, [], Option, Some, refl, ◌∙◌, arith}
 use Rattle.dd_disk.specs.View.{DiskView, OnlyReads}
 use Rattle.dd_io.specs.Flow.{SinkView}
-use Rattle.refusals.specs.declared.refusal.Refusal.TheVariants.{DiskWrite, Numbers}
+use Rattle.refusals.specs.declared.refusal.Refusal.{Refusal}
+use Rattle.refusals.specs.declared.refusal.Refusal.TheVariants.{DiskWrite}
 use Rattle.reply_text.specs.declared.ending.Ending.{Ending}
-use Rattle.reply_text.specs.declared.ending.Ending.TheVariants.{Sink, Refused}
+use Rattle.reply_text.specs.declared.ending.Ending.TheVariants.{Refused}
 use Rattle.store_model.specs.Collisions.{IsOf}
-use Rattle.store_model.specs.Files.{Files, Stored}
+use Rattle.store_model.specs.Files.{Files}
 use Rattle.store_model.specs.Image.{Store, Encodes}
 use Rattle.backup_engine.specs.Adding.{Adds}
 use Rattle.backup_engine.specs.AnyDisk.{IsUnchanged}
 use Rattle.backup_engine.specs.Line.{CommandLine, Format, Ingest, Restore, Delete, Collect}
 use Rattle.backup_engine.specs.Line as table
-use Rattle.backup_engine.specs.Promise.{EndsBy, EndsFrom, GivesSlotsBack, LeavesMeanwhile, OverEachMap, RefusedBy, SinceStart, KeepsEachMap}
+use Rattle.backup_engine.specs.Promise.{GivesSlotsBack, LeavesMeanwhile, OverEachMap, RefusedBy, SinceStart, KeepsEachMap}
 use Rattle.backup_engine.specs.Frame.{KeepsRest, KeepsOthers}
 use Rattle.backup_engine.specs.TopCall.{IsSameDisk}
 
@@ -72,49 +73,35 @@ reads_frame command ending v w reads = record {
 
 -- ---- over a map
 
--- what the plain map says of how a command ended
-abbrev pub EndsOver : CommandLine → List ℕ → Option Ending → DiskView → DiskView → Type 0
-EndsOver command given ending v w = OverEachMap IsOf given v (λ m. EndsBy command given m w.content ending)
+-- what the plain map says of why a command was refused
+abbrev pub RefusedOver : CommandLine → List ℕ → Refusal → DiskView → DiskView → Type 0
+RefusedOver command given refusal v w = OverEachMap IsOf given v (λ m. RefusedBy command given m v.content w.content refusal)
 
--- where it ended so by what is left it did, whatever the content was
-ends_from : (command : CommandLine) (given : List ℕ) (m : Stored) (before content : Option (List ℕ)) (ending : Option Ending) → EndsBy command given m content ending →
-    EndsFrom command given m before content ending
-ends_from (Collect percent) given m before content (Some (Refused Numbers)) ends = absurd ends.3
-ends_from command given m before content ending ends = ends
-
-refused_from : (command : CommandLine) (given : List ℕ) (m : Stored) (before content : Option (List ℕ)) (ending : Option Ending) → EndsBy command given m content ending →
-    RefusedBy command given m before content ending
-refused_from command given m before content (Some (Refused refusal)) ends = ends_from command given m before content (Some (Refused refusal)) ends
-refused_from command given m before content ending ends = tt
-
--- what was not done adds nothing to a content that stays
-added_none : (name given : List ℕ) (ending : Ending) (store : Store) (old : List ℕ) (content : Option (List ℕ)) → ¬ (ending ≡ Sink) → content ≡ Some old → Encodes old store
-    → Adds name given (Some ending) store content
-added_none name given Sink store old content not told right = absurd (not refl)
-added_none name given (Refused DiskWrite) store old content not told right = tt
-added_none name given ending store old content not told right = record { changes = []; after = store; chain = refl; once = tt; content_is = (old, told, right) }
+-- what was refused adds nothing to a content that stays
+added_none : (name given : List ℕ) (refusal : Refusal) (store : Store) (old : List ℕ) (content : Option (List ℕ)) → content ≡ Some old → Encodes old store
+    → Adds name given (Some (Refused refusal)) store content
+added_none name given DiskWrite store old content told right = tt
+added_none name given refusal store old content told right = record { changes = []; after = store; chain = refl; once = tt; content_is = (old, told, right) }
 
 -- and gives nothing back
-gave_none : (percent : ℕ) (ending : Ending) (files : Files) (store : Store) (old : List ℕ) (content : Option (List ℕ)) (sink sink_now : SinkView) → ¬ (ending ≡ Sink)
-    → content ≡ Some old → Encodes old store → GivesSlotsBack percent (Some ending) files store old content sink sink_now
-gave_none percent Sink files store old content sink sink_now not told right = absurd (not refl)
-gave_none percent (Refused DiskWrite) files store old content sink sink_now not told right = tt
-gave_none percent ending files store old content sink sink_now not told right =
+gave_none : (percent : ℕ) (refusal : Refusal) (files : Files) (store : Store) (old : List ℕ) (content : Option (List ℕ)) (sink sink_now : SinkView) → content ≡ Some old
+    → Encodes old store → GivesSlotsBack percent (Some (Refused refusal)) files store old content sink sink_now
+gave_none percent DiskWrite files store old content sink sink_now told right = tt
+gave_none percent refusal files store old content sink sink_now told right =
     (0, 0, (old, told, record { changes = []; freed_are = refl; copied_are = refl; after = store; chain = refl; right = right; stays = λ slot h is. inl (is, refl) }))
 
--- what was not done, and only read
-pub reads_map : (command : CommandLine) (given : List ℕ) (ending : Ending) (v w : DiskView) (sink sink_now : SinkView) → OnlyReads v w → ¬ (ending ≡ Sink)
-    → EndsOver command given (Some ending) v w → KeepsEachMap command given (Some ending) v w sink sink_now
-reads_map (Ingest name) given ending v w sink sink_now reads not ends old known among m distinct right is = (
-  refused_from (Ingest name) given m v.content w.content (Some ending) (ends old known among m distinct right is),
-  λ first told store encodes. added_none name given ending store first w.content not (reads.content_is ∙ told) encodes,
+-- what was refused, and only read
+pub reads_map : (command : CommandLine) (given : List ℕ) (refusal : Refusal) (v w : DiskView) (sink sink_now : SinkView) → OnlyReads v w
+    → RefusedOver command given refusal v w → KeepsEachMap command given (Some (Refused refusal)) v w sink sink_now
+reads_map (Ingest name) given refusal v w sink sink_now reads why old known among m distinct right is = (
+  why old known among m distinct right is,
+  λ first told store encodes. added_none name given refusal store first w.content (reads.content_is ∙ told) encodes,
 )
-reads_map (Collect percent) given ending v w sink sink_now reads not ends old known among m distinct right is = (
-  refused_from (Collect percent) given m v.content w.content (Some ending) (ends old known among m distinct right is),
-  λ first told store encodes. gave_none percent ending m.files store first w.content sink sink_now not (reads.content_is ∙ told) encodes,
+reads_map (Collect percent) given refusal v w sink sink_now reads why old known among m distinct right is = (
+  why old known among m distinct right is,
+  λ first told store encodes. gave_none percent refusal m.files store first w.content sink sink_now (reads.content_is ∙ told) encodes,
 )
-reads_map (Format slots) given ending v w sink sink_now reads not ends old known among m distinct right is = tt
-reads_map (Restore name) given ending v w sink sink_now reads not ends old known among m distinct right is = tt
-reads_map (Delete name) given ending v w sink sink_now reads not ends old known among m distinct right is = tt
-reads_map table.List given ending v w sink sink_now reads not ends old known among m distinct right is = tt
-
+reads_map (Format slots) given refusal v w sink sink_now reads why old known among m distinct right is = tt
+reads_map (Restore name) given refusal v w sink sink_now reads why old known among m distinct right is = tt
+reads_map (Delete name) given refusal v w sink sink_now reads why old known among m distinct right is = tt
+reads_map table.List given refusal v w sink sink_now reads why old known among m distinct right is = tt

@@ -32,11 +32,11 @@ use Rattle.core_machine.specs.Unopened.{unopened}
 use Rattle.core_machine.proofs.FileNames.{needs_reach}
 use Rattle.script_runner.specs.LinesAreRuns.{Passes}
 use Rattle.script_runner.proofs.DeskRuns.{passes_later}
-use Rattle.backup_engine.specs.AnswersByMap.{AnswersByMap, ChangesStore, IsLeftAs, IsStore, LeavesAs, MayBeMeanwhile, Wrote}
+use Rattle.backup_engine.specs.AnswersByMap.{AnswersByMap, EndsBy, ChangesStore, IsLeftAs, IsStore, LeavesAs, MayBeMeanwhile, Wrote}
 use Rattle.backup_engine.specs.ByFiles.{RunsByFiles}
 use Rattle.backup_engine.specs.Line.{CommandLine}
 use Rattle.backup_engine.specs.PlainMap.{CanBeDone, map_after}
-use Rattle.backup_engine.specs.Promise.{EndsFailing, EndsFrom, IsLeftWith, LeavesMeanwhile}
+use Rattle.backup_engine.specs.Promise.{EndsFailing, IsLeftWith, LeavesMeanwhile}
 use Rattle.backup_engine.specs.Singles.{said}
 
 -- a store at rest, that no one has open
@@ -186,7 +186,7 @@ module _ (S : List ℕ → Type 0) (rs : List Replied) (m : Stored) (store : Sto
             ]
 
     pub answers_by : WasStore m store v → (command : Command) → AreLinesOf command all_lines → Through command → (sink sink_now : SinkView) → CanBeIf line given m ending
-        → EndsFrom line given m v.content w.content ending ⊎ EndsFailing ending → Wrote line given m ending sink sink_now → MakesStore line ending
+        → EndsBy line given m v.content w.content ending ⊎ EndsFailing ending → Wrote line given m ending sink sink_now → MakesStore line ending
         → AnswersByMap S line given ending m v w sink sink_now
     answers_by was command are through sink sink_now can by_map wrote (opened, (room, changes)) = record {
       by_map = by_map;

@@ -33,10 +33,10 @@ use Rattle.store_machine.specs.Runs.{Run}
 use Rattle.store_machine.specs.Values.{of_files}
 use Rattle.script_runner.specs.LinesAreFileRuns.{FileDesk}
 use Rattle.core_machine.specs.Unopened.{unopened}
-use Rattle.backup_engine.specs.AnswersByMap.{AnswersByMap, AnswersEachCall, Wrote, WroteFile}
+use Rattle.backup_engine.specs.AnswersByMap.{AnswersByMap, EndsBy, AnswersEachCall, Wrote, WroteFile}
 use Rattle.backup_engine.specs.ByFiles.{RunsByFiles}
 use Rattle.backup_engine.specs.Line.{Restore}
-use Rattle.backup_engine.specs.Promise.{EndsFrom, IsLeftWith}
+use Rattle.backup_engine.specs.Promise.{IsLeftWith}
 use Rattle.backup_engine.specs.Singles.{IsFirstOf, IsRestore, next_lines, refused, said}
 use Rattle.backup_engine.proofs.AnswersByMap.{AnswersOpened, answers_call, nothing_of}
 use Rattle.backup_engine.proofs.Ran.{ran_cuts, ran_silent, restore_ran}
@@ -73,7 +73,8 @@ module _ (name : List ℕ) (count : ℕ) where
   read_file : (ss : List (Stepped (List ℕ))) (d e : FileDesk) → d.machine.state ≡ Running → Line of_files (lines.Read 0 name) (replies.Reading 0 count) ss d e
       → (file : List ℕ) × (finite.get d.machine.now.names name ≡ Some file)
   read_file ss d e runs (run, inl (admits, (actor, step, (actor_is, step_is), (told, steps_are, reply_is), sessions))) =
-      let made : Run of_files (step_of of_files actor step told ∷ []) d.machine e.machine = subst (λ (xs : List (Stepped (List ℕ))). Run of_files xs d.machine e.machine) steps_are run in
+      let made : Run of_files (step_of of_files actor step told ∷ []) d.machine e.machine = subst (λ (xs : List (Stepped (List ℕ))). Run of_files xs d.machine e.machine) steps_are
+      run in
       let legal : ByState of_files d.machine.state actor (asked.OpenRead name) told d.machine made.0 =
       subst (λ (x : Asked (List ℕ)). Legal of_files (step_of of_files actor x told) d.machine made.0) step_is made.1.0 in
       opened_file actor told d.machine made.0 reply_is (subst (λ (state : RunState (List ℕ)). ByState of_files state actor (asked.OpenRead name) told d.machine made.0) runs legal)
@@ -96,7 +97,7 @@ wrote_first before now bytes first rest is wrote = record {
 
 module _ (given name : List ℕ) where
   restore_ends : (m : Stored) (before content : Option (List ℕ)) (refusal : Refusal) → RestoreRefusal name (record { names = m.files; last = m.last }) refusal
-      → ((P : Store → Type 0) → ((s : Store) → P s) → IsLeftWith m content P) → EndsFrom (Restore name) given m before content (Some (Refused refusal))
+      → ((P : Store → Type 0) → ((s : Store) → P s) → IsLeftWith m content P) → EndsBy (Restore name) given m before content (Some (Refused refusal))
   restore_ends m before content Memory may left = left (λ s. Unit {0}) (λ s. tt)
   restore_ends m before content DiskRead may left = left (λ s. Unit {0}) (λ s. tt)
   restore_ends m before content DiskWrite may left = left (λ s. Unit {0}) (λ s. tt)
@@ -122,7 +123,7 @@ module _ (given name : List ℕ) where
         left_with S rs m store v w runs opened at P was restored.store.1
         (restored.found end.now (subst (λ (state : RunState (List ℕ)). MayBeFound of_files state end.now end.now) (sym at.0) refl)) (each opened)
 
-    restore_answers : (ending : Option Ending) → CanBeIf (Restore name) given m ending → EndsFrom (Restore name) given m v.content w.content ending
+    restore_answers : (ending : Option Ending) → CanBeIf (Restore name) given m ending → EndsBy (Restore name) given m v.content w.content ending
         → Wrote (Restore name) given m ending sink sink_now → AnswersByMap S (Restore name) given ending m v w sink sink_now
     restore_answers ending can by_map wrote =
         answers_by S rs m store v w runs (Restore name) given ending
@@ -177,7 +178,7 @@ module _ (given name : List ℕ) where
         (wrote_first sink.written sink_now.written had.0 first (more ++ file_first.0)
         (file_first.1 ∙ ap (λ (l : List ℕ). l ++ file_first.0) is ∙ append_assoc first more file_first.0) wrote)
 
-    abbrev answers : (ending : Option Ending) → CanBeIf (Restore name) given m ending → EndsFrom (Restore name) given m v.content w.content ending
+    abbrev answers : (ending : Option Ending) → CanBeIf (Restore name) given m ending → EndsBy (Restore name) given m v.content w.content ending
         → Wrote (Restore name) given m ending sink sink_now → AnswersByMap S (Restore name) given ending m v w sink sink_now
     answers = restore_answers S m store v w was sink sink_now restores through rs runs follow
 
@@ -196,7 +197,7 @@ module _ (given name : List ℕ) where
     restore_unwritten bytes part is (more, bytes_is) wrote =
         let text_is : text ≡ (concat segments ++ part) ++ more =
         ap (λ (one : Replied). concat segments ++ machine.text_of (machine.Restore name) [] one.line one.reply) is ∙ ap (λ (l : List ℕ). concat segments ++ l) bytes_is
-            ∙ sym (append_assoc (concat segments) part more) in
+        ∙ sym (append_assoc (concat segments) part more) in
         answers (Some Sink) (ap is_some had.1) (ap is_some had.1) (wrote_of Sink (concat segments ++ part) more text_is wrote)
 
     restore_stopped : (refusal : Refusal) → final ≡ refused (lines.Next 0) refusal → Appended sink.written sink_now.written (concat segments)
@@ -212,21 +213,25 @@ module _ (given name : List ℕ) where
 
     restore_spoken : (ending : Option Ending) → IsRestore name ending sink sink_now rs → RestoresSo ending
     restore_spoken None (segments, ((count, is), wrote)) = inr (λ among m old distinct given_in known opens runs.
-        restore_done (IsIn among) m opens.store v w (was_store (IsIn among) m v old known opens) sink sink_now restores through segments (said (lines.Next 0) (replies.End 0)) refl count
+        restore_done (IsIn among) m opens.store v w (was_store (IsIn among) m v old known opens) sink sink_now restores through segments (said (lines.Next 0) (replies.End 0)) refl
+        count
         (subst (λ (l : List Replied). RunsByFiles (IsIn among) l (unopened m opens.store) v w) is runs) refl wrote)
     restore_spoken (Some Sink) (segments, (bytes, ((count, is), (part, (first, wrote))))) = inr (λ among m old distinct given_in known opens runs.
-        restore_unwritten (IsIn among) m opens.store v w (was_store (IsIn among) m v old known opens) sink sink_now restores through segments (said (lines.Next 0) (replies.Bytes 0 bytes)) refl count
+        restore_unwritten (IsIn among) m opens.store v w (was_store (IsIn among) m v old known opens) sink sink_now restores through segments
+        (said (lines.Next 0) (replies.Bytes 0 bytes)) refl count
         (subst (λ (l : List Replied). RunsByFiles (IsIn among) l (unopened m opens.store) v w) is runs) bytes part refl first wrote)
     restore_spoken (Some (Refused refusal)) (inl (memory, none, same)) = inl none
     restore_spoken (Some (Refused refusal)) (inr (inl (is, same))) = inr (λ among m old distinct given_in known opens runs.
         let made = subst (λ (l : List Replied). RunsByFiles (IsIn among) l (unopened m opens.store) v w) is runs in
         let read : List Replied = refused (lines.Read 0 name) refusal ∷ [] in
-        let why = (restored (IsIn among) m opens.store v w (was_store (IsIn among) m v old known opens) sink sink_now restores through read made (λ files. (refl, refl, tt))).refused refusal
+        let why = (restored (IsIn among) m opens.store v w (was_store (IsIn among) m v old known opens) sink sink_now restores through read made
+        (λ files. (refl, refl, tt))).refused refusal
         (refused (lines.Read 0 name) refusal, refl, refl) in
         restore_refused (IsIn among) m opens.store v w (was_store (IsIn among) m v old known opens) sink sink_now restores through read made (λ files. (refl, refl, tt)) refusal why
         (nothing_of (finite.get m.files name) (Refused refusal) sink sink_now same))
     restore_spoken (Some (Refused refusal)) (inr (inr (segments, ((count, is), wrote)))) = inr (λ among m old distinct given_in known opens runs.
-        restore_stopped (IsIn among) m opens.store v w (was_store (IsIn among) m v old known opens) sink sink_now restores through segments (refused (lines.Next 0) refusal) refl count
+        restore_stopped (IsIn among) m opens.store v w (was_store (IsIn among) m v old known opens) sink sink_now restores through segments (refused (lines.Next 0) refusal) refl
+        count
         (subst (λ (l : List Replied). RunsByFiles (IsIn among) l (unopened m opens.store) v w) is runs) refusal refl wrote)
     restore_spoken (Some ending) is = absurd is
 

@@ -6,7 +6,7 @@ use Rattle.dd_disk.specs.View.{DiskView}
 use Rattle.dd_io.specs.Flow.{AppendedPart, SinkView, SourceView}
 use Rattle.refusals.specs.declared.refusal.Refusal.TheVariants.{DiskWrite}
 use Rattle.reply_text.specs.declared.ending.Ending.{Ending}
-use Rattle.reply_text.specs.declared.ending.Ending.TheVariants.{Sink, Refused}
+use Rattle.reply_text.specs.declared.ending.Ending.TheVariants.{Words, Source, Sink, Line, Script, Refused}
 use Rattle.reply_text.specs.Text.{stored_line, deleted_line, listing_text}
 use Rattle.disk_format.specs.Cells.Change.{Delete as Gone}
 use Rattle.store_machine.specs.ByMap.{MakesRoom}
@@ -22,8 +22,20 @@ use Rattle.backup_engine.specs.Collected.{collected_line}
 use Rattle.backup_engine.specs.Line.{CommandLine, Format, Ingest, Restore, Delete, Collect}
 use Rattle.backup_engine.specs.Line as table
 use Rattle.backup_engine.specs.PlainMap.{map_after, CanBeDone}
-use Rattle.backup_engine.specs.Promise.{EndsFailing, EndsFrom, LeavesMeanwhile, MayChange, WroteReply}
+use Rattle.backup_engine.specs.Promise.{EndsFailing, LeavesMeanwhile, MayChange, RefusedBy, WroteReply}
 use Rattle.backup_engine.specs.TopCall.{DoesCommand}
+
+-- ---- how it ended
+
+-- It was done, but perhaps for its reply, and could be; or it was refused for its cause; or its source failed.
+abbrev pub EndsBy : CommandLine → List ℕ → Stored → Option (List ℕ) → Option (List ℕ) → Option Ending → Type 0
+EndsBy command given m before content None = CanBeDone command given m
+EndsBy command given m before content (Some Words) = ⊥
+EndsBy command given m before content (Some (Line number)) = ⊥
+EndsBy command given m before content (Some Script) = ⊥
+EndsBy command given m before content (Some Source) = (name : List ℕ) × (command ≡ Ingest name)
+EndsBy command given m before content (Some Sink) = CanBeDone command given m
+EndsBy command given m before content (Some (Refused refusal)) = RefusedBy command given m before content refusal
 
 -- ---- what was written
 
@@ -95,7 +107,7 @@ ChangesStore command ending opened content = Unit {0}
 -- have left before it.
 pub record AnswersByMap (S : List ℕ → Type 0) (command : CommandLine) (given : List ℕ) (ending : Option Ending) (m : Stored)
     (disk disk_now : DiskView) (sink sink_now : SinkView) : Type 0 where
-  pub by_map : EndsFrom command given m disk.content disk_now.content ending ⊎ EndsFailing ending
+  pub by_map : EndsBy command given m disk.content disk_now.content ending ⊎ EndsFailing ending
   pub wrote : Wrote command given m ending sink sink_now
   pub store : KnownWith disk.content (λ old. OpensStore m old (λ opened. ChangesStore command ending opened disk_now.content))
       ⊎ EndsFailing ending

@@ -28,12 +28,12 @@ use Rattle.backup_engine.specs.AnyDisk.{Formats}
 use Rattle.backup_engine.specs.Checking.{ChecksDisk}
 use Rattle.backup_engine.specs.Line.{CommandLine, Format, TableLine, Single, Run, Check}
 use Rattle.backup_engine.specs.PlainMap.{map_after, CanBeDone}
-use Rattle.backup_engine.specs.Promise.{EndsBy, SinceStart, Stands}
+use Rattle.backup_engine.specs.Promise.{SinceStart, Stands}
 use Rattle.backup_engine.specs.Seen.{Seen}
 use Rattle.backup_engine.specs.TopCall.{Promise, KeepsLine}
 use Rattle.backup_engine.specs.ByFiles.{RefusedByFiles, RunsByFiles}
 use Rattle.backup_engine.specs.Singles.{said}
-use Rattle.backup_engine.specs.AnswersByMap.{AnswersByMap, WasNotDone}
+use Rattle.backup_engine.specs.AnswersByMap.{AnswersByMap, EndsBy, WasNotDone}
 
 -- One call: the line that its words are, if they are one; its status; source, sink and notes before and after. And, as the
 -- promise has it, how it ended, what its source gave, and which lines of a script were run.
@@ -182,7 +182,7 @@ pub record FormatsNothing (S : List ℕ → Type 0) (slots : ℕ) (c : Call) (m 
   pub nothing : NothingWritten c.ending disk disk_now
   pub crash : (image : List ℕ) → SinceStart disk disk_now image → disk.images image
   pub wrote : c.sink_now.written ≡ c.sink.written
-  pub by_map : Known disk.content (λ old. IsOf S m old → EndsBy (Format slots) c.given m disk_now.content c.ending)
+  pub by_map : Known disk.content (λ old. IsOf S m old → EndsBy (Format slots) c.given m disk.content disk_now.content c.ending)
 
 -- what a command answers to a map that it finds
 abbrev pub AnswersBy : (List ℕ → Type 0) → CommandLine → Call → Stored → DiskView → DiskView → Type 0

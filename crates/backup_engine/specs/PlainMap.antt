@@ -143,7 +143,7 @@ RefusesFormat slots room refusal = ⊥
 
 -- Why a command is refused, by what the store is as it leaves it: so `ingest` may have stored pieces before. Want of
 -- memory is free, and a call of the disk that failed is told by its count of faults; a `format` of a disk that has a store
--- writes nothing, and syncs nothing. That no id is left for copies of a `collect` goes by the store of before as well: `EndsFrom` of
+-- writes nothing, and syncs nothing. That no id is left for copies of a `collect` goes by the store of before as well: `RefusedBy` of
 -- Promise.antt has it.
 abbrev pub Refuses : CommandLine → List ℕ → Room → Refusal → Type 0
 Refuses command given room Memory = Unit {0}

@@ -10,7 +10,7 @@ use Rattle.refusals.specs.declared.refusal.Difference.TheVariants.{Length, Byte}
 use Rattle.refusals.specs.declared.refusal.Refusal.{Refusal}
 use Rattle.refusals.specs.declared.refusal.Refusal.TheVariants.{DiskWrite, Clash, Numbers}
 use Rattle.reply_text.specs.declared.ending.Ending.{Ending}
-use Rattle.reply_text.specs.declared.ending.Ending.TheVariants.{Words, Source, Sink, Line, Script, Refused}
+use Rattle.reply_text.specs.declared.ending.Ending.TheVariants.{Sink, Refused}
 use Rattle.store_model.specs.Collisions.{HasNoCollisions, ByteSet, IsIn, IsOf, OpensAs}
 use Rattle.store_model.specs.Files.{Files, Stored}
 use Rattle.store_model.specs.Image.{Store, Encodes}
@@ -24,7 +24,7 @@ use Rattle.store_state.specs.Refused.{fails}
 use Rattle.backup_engine.specs.Adding.{Adds}
 use Rattle.backup_engine.specs.Collected.{Collected, CollectedAll, HasNoIdLeft, collected_line}
 use Rattle.backup_engine.specs.Line.{CommandLine, Ingest, Delete, Collect}
-use Rattle.backup_engine.specs.PlainMap.{CanBeDone, Refuses, room_of}
+use Rattle.backup_engine.specs.PlainMap.{Refuses, room_of}
 
 -- ---- how a command ended: as done (None), or not
 
@@ -55,35 +55,26 @@ pub record HoldsTwin (given : List ℕ) (store : Store) (image key : List ℕ) (
   pub digest : sha256 (bytes_at copy.place image) ≡ node_digest node
   pub differ : DifferBy at (spelling node) (bytes_at copy.place image)
 
--- Why it ended so, of the map, and of the store that is left. Data never clashes with what is held, since no two different
--- segments have one digest; a node may. A source, a sink and a write that failed are told by counts of faults.
-abbrev pub EndsBy : CommandLine → List ℕ → Stored → Option (List ℕ) → Option Ending → Type 0
-EndsBy command given m content None = CanBeDone command given m
-EndsBy command given m content (Some Words) = ⊥
-EndsBy command given m content (Some (Line number)) = ⊥
-EndsBy command given m content (Some Script) = ⊥
-EndsBy command given m content (Some Source) = (name : List ℕ) × (command ≡ Ingest name)
-EndsBy command given m content (Some Sink) = CanBeDone command given m
-EndsBy (Ingest name) given m content (Some (Refused DiskWrite)) = Unit {0}
-EndsBy (Delete name) given m content (Some (Refused DiskWrite)) = Unit {0}
-EndsBy (Collect percent) given m content (Some (Refused DiskWrite)) = Unit {0}
-EndsBy (Ingest name) given m content (Some (Refused (Clash key at))) =
+-- Why it was refused, of the map, and of the store that is left. Data never clashes with what is held, since no two different segments have
+-- one digest; a node may. A write that failed is told by the count of faults. That a collection wrote no more copies, as no id was left for
+-- their container, goes by what the content was before as well.
+abbrev pub RefusedBy : CommandLine → List ℕ → Stored → Option (List ℕ) → Option (List ℕ) → Refusal → Type 0
+RefusedBy (Ingest name) given m before content DiskWrite = Unit {0}
+RefusedBy (Delete name) given m before content DiskWrite = Unit {0}
+RefusedBy (Collect percent) given m before content DiskWrite = Unit {0}
+RefusedBy (Ingest name) given m before content (Clash key at) =
     (store : Store) × KnownWith content (λ image. IsStoreOf store m.files image × HoldsTwin given store image key at)
     × (RESERVE ≤ free_slots store.held)
-EndsBy command given m content (Some (Refused (Clash key at))) = ⊥
-EndsBy command given m content (Some (Refused refusal)) =
+RefusedBy (Collect percent) given m before content Numbers =
+    IsLeftWith m content (λ store. KnownWith before (HasNoIdLeft m.files store))
+RefusedBy command given m before content (Clash key at) = ⊥
+RefusedBy command given m before content refusal =
     IsLeftWith m content (λ store. Refuses command given (room_of command m store) refusal)
 
--- So it ended. But a collection wrote no more copies where no id was left for their container: that goes by what the content was as well.
-abbrev pub EndsFrom : CommandLine → List ℕ → Stored → Option (List ℕ) → Option (List ℕ) → Option Ending → Type 0
-EndsFrom (Collect percent) given m before content (Some (Refused Numbers)) =
-    IsLeftWith m content (λ store. KnownWith before (HasNoIdLeft m.files store))
-EndsFrom command given m before content ending = EndsBy command given m content ending
-
--- Of an ending that is no refusal it follows otherwise (AnswersByMap.antt).
-abbrev pub RefusedBy : CommandLine → List ℕ → Stored → Option (List ℕ) → Option (List ℕ) → Option Ending → Type 0
-RefusedBy command given m before content (Some (Refused refusal)) = EndsFrom command given m before content (Some (Refused refusal))
-RefusedBy command given m before content ending = Unit {0}
+-- How it ended otherwise follows from its lines (AnswersByMap.antt).
+abbrev pub WhyRefused : CommandLine → List ℕ → Stored → Option (List ℕ) → Option (List ℕ) → Option Ending → Type 0
+WhyRefused command given m before content (Some (Refused refusal)) = RefusedBy command given m before content refusal
+WhyRefused command given m before content ending = Unit {0}
 
 -- ---- what was written
 
@@ -141,10 +132,10 @@ OfStoreBefore disk P = Known disk.content (λ old. (store : Store) → Encodes o
 -- of the store. All else that they do to the map follows from their lines (AnswersByMap.antt), and so does all that the others do.
 abbrev pub KeepsMap : CommandLine → List ℕ → Option Ending → Stored → DiskView → DiskView → SinkView → SinkView → Type 0
 KeepsMap (Ingest name) given ending m disk disk_now sink sink_now =
-    RefusedBy (Ingest name) given m disk.content disk_now.content ending
+    WhyRefused (Ingest name) given m disk.content disk_now.content ending
     × OfStoreBefore disk (λ store old. Adds name given ending store disk_now.content)
 KeepsMap (Collect percent) given ending m disk disk_now sink sink_now =
-    RefusedBy (Collect percent) given m disk.content disk_now.content ending
+    WhyRefused (Collect percent) given m disk.content disk_now.content ending
     × OfStoreBefore disk (λ store old. GivesSlotsBack percent ending m.files store old disk_now.content sink sink_now)
 KeepsMap command given ending m disk disk_now sink sink_now = Unit {0}
 
@@ -159,9 +150,9 @@ EndsFailing ending = (refusal : Refusal) × ((ending ≡ Some (Refused refusal))
 -- So they were refused, also where the opening gave containers back first; or they failed.
 abbrev pub EndsSo : CommandLine → List ℕ → Option Ending → Stored → DiskView → DiskView → Type 0
 EndsSo (Ingest name) given ending m disk disk_now =
-    RefusedBy (Ingest name) given m disk.content disk_now.content ending ⊎ EndsFailing ending
+    WhyRefused (Ingest name) given m disk.content disk_now.content ending ⊎ EndsFailing ending
 EndsSo (Collect percent) given ending m disk disk_now =
-    RefusedBy (Collect percent) given m disk.content disk_now.content ending ⊎ EndsFailing ending
+    WhyRefused (Collect percent) given m disk.content disk_now.content ending ⊎ EndsFailing ending
 EndsSo command given ending m disk disk_now = Unit {0}
 
 abbrev pub EndsEachMap : CommandLine → List ℕ → Option Ending → DiskView → DiskView → Type 0

@@ -93,7 +93,8 @@ returns g c =
           sink_now) _ c.close-disk.result.now (search (rules, named)) (
             run.0,
             does_opened _ view _ _ first _ w core core_now opens is.running closed.disk closed.moment between (Collect c.args.percent) [] (ending_in result) source source sink
-                sink_now run.0 by_files (ran_alone (ending_in result) run.0 sink sink_now (collect_ran run.0 sink sink_now c.args.percent (ending_in result) run.1.0) _ _ by_files) is.opened
+                sink_now run.0 by_files (ran_alone (ending_in result) run.0 sink sink_now (collect_ran run.0 sink sink_now c.args.percent (ending_in result) run.1.0) _ _ by_files)
+                is.opened
                 (λ before called. (
                   collect_kept _ _ (view before.now) w source source sink sink_now [] [] c.args.percent (ending_in result)
                       (collect_keeps _ _ _ _ core core_now called c.args.percent result source sink sink_now ran),

@@ -15,7 +15,8 @@ returns-clause-left g c = leaves_possible _ g.D.Disk.view (by_the_map _ g.D.Disk
     c.a_command_answers_by_the_map.ensures.delete c.a_command_answers_by_the_map.ensures.ingest c.a_command_answers_by_the_map.ensures.collect)
 
 pub returns-clause-answers : goal.returns-clause-answers
-returns-clause-answers g c = answers_by_the_map _ g.D.Disk.view (by_the_map _ g.D.Disk.view c.a_command_answers_by_the_map.ensures.list c.a_command_answers_by_the_map.ensures.restore
+returns-clause-answers g c = answers_by_the_map _ g.D.Disk.view
+    (by_the_map _ g.D.Disk.view c.a_command_answers_by_the_map.ensures.list c.a_command_answers_by_the_map.ensures.restore
     c.a_command_answers_by_the_map.ensures.delete c.a_command_answers_by_the_map.ensures.ingest c.a_command_answers_by_the_map.ensures.collect)
 
 pub returns-clause-crash : goal.returns-clause-crash

@@ -242,7 +242,8 @@ module _ (D : Type 0) (view : D → DiskView) (laws : ByTheMap D view) (among : 
       OpensAs (IsIn among) m image
       → KeepsAs D view line c (view v) (view w) → Answers D view line (IsIn among) c m (view v) (view w)
   answers_line None c m v w image given told opens keeps = keeps.does
-  answers_line (Some (Single (Format slots))) c m v w image given told opens keeps = formats_nothing among apart slots c m (view v) (view w) image given.given told opens keeps.does.0
+  answers_line (Some (Single (Format slots))) c m v w image given told opens keeps =
+      formats_nothing among apart slots c m (view v) (view w) image given.given told opens keeps.does.0
   answers_line (Some (Single (Ingest name))) c m v w image given told opens keeps =
       laws.ingest name c.given c.rs c.ending v w c.source c.source_now c.sink c.sink_now keeps.does image told among m apart given.given opens
   answers_line (Some (Single (Restore name))) c m v w image given told opens keeps =

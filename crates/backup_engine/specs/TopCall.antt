@@ -1,7 +1,6 @@
 -- What the top call promises, whatever disk, source, sink and notes it is given (docs/MODEL.md, 'The promise').
 --
--- line: the line of the table of commands that the words are. status: the exit status. saw: the disk, the source, the sink and the
--- notes, each before the call, and now.
+-- line: that of the table of commands. status: the exit status. saw: disk, source, sink and notes, each before the call, and now.
 use Rattle.std.specs.Prelude.{◌≡◌, ◌⊎◌, ℕ, List, [], Option, Some, None, Result, Ok, Err}
 use Rattle.base_model.specs.Known.{Known, KnownWith}
 use Rattle.dd_disk.specs.View.{DiskView, IsLater}
@@ -17,8 +16,7 @@ use Rattle.backup_engine.specs.AnyDisk.{Holds, OnAnyDisk, FindsBeforeWriting, To
 use Rattle.backup_engine.specs.ByFiles.{FailsAlone, RunsEachByFiles}
 use Rattle.backup_engine.specs.Checking.{ChecksDisk}
 use Rattle.backup_engine.specs.Frame.{KeepsOthers}
-use Rattle.backup_engine.specs.Line.{CommandLine, Format, Ingest, Restore, Delete, Collect, TableLine, Single, Run, Check}
-use Rattle.backup_engine.specs.Line as table
+use Rattle.backup_engine.specs.Line.{CommandLine, Format, TableLine, Single, Run, Check}
 use Rattle.backup_engine.specs.Noted.{AreNoted, status_by}
 use Rattle.backup_engine.specs.Promise.{EndsEachMap, KeepsEachMap, SinceStart}
 use Rattle.backup_engine.specs.Script.{KeepsScript}
@@ -36,11 +34,7 @@ abbrev pub IsLeftBlank : CommandLine → DiskView → DiskView → Type 0
 IsLeftBlank (Format slots) disk disk_now =
     Known disk.content (λ old. KnownWith disk_now.content (IsLeftByFormat slots old)
     × ((c : List ℕ) → SinceStart disk disk_now c → disk.images c ⊎ IsBlankOrFormatted slots c))
-IsLeftBlank (Ingest name) disk disk_now = Unit {0}
-IsLeftBlank (Restore name) disk disk_now = Unit {0}
-IsLeftBlank (Delete name) disk disk_now = Unit {0}
-IsLeftBlank table.List disk disk_now = Unit {0}
-IsLeftBlank (Collect percent) disk disk_now = Unit {0}
+IsLeftBlank command disk disk_now = Unit {0}
 
 -- what was not done, but for a write that failed, changed nothing of it
 abbrev pub IsUntouched : CommandLine → Option Ending → DiskView → DiskView → Type 0

@@ -24,12 +24,11 @@ use Rattle.store_machine.specs.Asked.{Asked}
 use Rattle.store_machine.specs.Asked as asked
 use Rattle.store_machine.specs.ByMap.{AfterOpening, FileMachine, Through}
 use Rattle.store_machine.specs.Collecting.{Makes}
-use Rattle.store_machine.specs.Commands.{AreLinesOf, EndsRefused, EndsWith, Ingest, IsDone, IsEnded, Lines, MayGoOn, Replied, desk, given_by, printed, run_of}
+use Rattle.store_machine.specs.Commands.{AreLinesOf, EndsRefused, EndsWith, Ingest, IsDone, IsEnded, Lines, MayGoOn, Replied, desk, given_by, printed}
 use Rattle.store_machine.specs.Legal.{broken_by, HasRoom, IsClash, IsKept, LacksNumbers, with_name}
 use Rattle.store_machine.specs.Lines.{Desk, IsDueStep}
 use Rattle.store_machine.specs.Machine.{Found, Running, Stepped, Stopped, Writing, part_in}
 use Rattle.store_machine.specs.Opening.{MayBeFound}
-use Rattle.store_machine.specs.Runs.{IsPassedFrom}
 use Rattle.store_machine.specs.Values.{of_files}
 
 -- ---- the name

@@ -1,12 +1,11 @@
 -- What a crash may find at any moment of an `ingest`: the steps that its lines make are quiet, but for one commit at their end.
-use Rattle.store_machine.proofs.Prelude.{MOST_FILE, length, ◌≤◌, ◌<◌, ◌-◌, ◌^◌, ◌≡◌, ◌⊎◌, inl, inr, ℕ, [], ◌∷◌, ◌++◌, Some, None, Result, Ok, Err, refl, ◌∙◌, ap, subst, sym, Answer, Refusal, Asked, Done, IsStill, HasRoomFor, IsPut, Answers, ByState, Does, HasNumbers, Legal, MayCommit, Refuses, RefusesCommit, RefusesGcStep, RefusesOn, with_name, AreTurns, Session, answer_of, Found, Idle, Reading, RunState, Running, Stopped, put_at, MayBeFound, Reopens, freeing, Run, of_files}
+use Rattle.store_machine.proofs.Prelude.{◌≤◌, ◌≡◌, ◌⊎◌, inl, inr, ℕ, [], ◌∷◌, ◌++◌, Some, None, Result, Ok, Err, ◌∙◌, ap, subst, sym, Answer, Refusal, Asked, Done, IsStill, Answers, ByState, Does, Legal, AreTurns, Session, answer_of, Found, Idle, Reading, RunState, Running, Stopped, put_at, MayBeFound, Reopens, Run, of_files}
 use Rattle.std.proofs.Common.{List}
-use Rattle.refusals.specs.declared.refusal.Refusal.TheVariants as refusals
 use Rattle.store_machine.specs.Asked as asked
 use Rattle.store_machine.specs.Done as done
 use Rattle.store_machine.specs.ByMap.{IsFoundAt}
 use Rattle.store_machine.specs.Runs.{IsPassedFrom}
-use Rattle.store_machine.proofs.Quiet.{IsSure, running_sure, F, Goes, IsQuiet, Quiet, Step, due_is_quiet, quiet_of, step_done, step_quiet}
+use Rattle.store_machine.proofs.Quiet.{IsSure, running_sure, F, Goes, IsQuiet, Step, due_is_quiet, step_done}
 
 -- ---- lists of steps
 
@@ -34,27 +33,17 @@ abbrev pub AllOk : List Step → Type 0
 AllOk [] = Unit {0}
 AllOk (x ∷ xs) = IsFine x.asked × IsTold x.answer × AllOk xs
 
--- all but the last are such, and were done; the last is such, or one of these
-abbrev pub GoodTo : (Asked (List ℕ) → Type 0) → List Step → Type 0
-GoodTo Last [] = Unit {0}
-GoodTo Last (x ∷ []) = IsFine x.asked ⊎ Last x.asked
-GoodTo Last (x ∷ y ∷ more) = IsFine x.asked × IsTold x.answer × GoodTo Last (y ∷ more)
+-- all but the last are such, and were done
+abbrev pub Good : List Step → Type 0
+Good [] = Unit {0}
+Good (x ∷ []) = Unit {0}
+Good (x ∷ y ∷ more) = IsFine x.asked × IsTold x.answer × Good (y ∷ more)
 
-pub ok_good_to : (Last : Asked (List ℕ) → Type 0) (xs ys : List Step) → AllOk xs → GoodTo Last ys → GoodTo Last (xs ++ ys)
-ok_good_to Last [] ys ok good = good
-ok_good_to Last (x ∷ []) [] ok good = inl ok.0
-ok_good_to Last (x ∷ []) (y ∷ ys) ok good = (ok.0, ok.1, good)
-ok_good_to Last (x ∷ z ∷ xs) ys ok good = (ok.0, ok.1, ok_good_to Last (z ∷ xs) ys ok.2 good)
-
--- the last may be a commit of this file
-abbrev pub IsCommit : (name given : List ℕ) → Asked (List ℕ) → Type 0
-IsCommit name given step = step ≡ asked.Commit name given
-
-abbrev pub Good : (name given : List ℕ) → List Step → Type 0
-Good name given = GoodTo (IsCommit name given)
-
-pub ok_good : (name given : List ℕ) (xs ys : List Step) → AllOk xs → Good name given ys → Good name given (xs ++ ys)
-ok_good name given = ok_good_to (IsCommit name given)
+pub ok_good : (xs ys : List Step) → AllOk xs → Good ys → Good (xs ++ ys)
+ok_good [] ys ok good = good
+ok_good (x ∷ []) [] ok good = tt
+ok_good (x ∷ []) (y ∷ ys) ok good = (ok.0, ok.1, good)
+ok_good (x ∷ z ∷ xs) ys ok good = (ok.0, ok.1, ok_good (z ∷ xs) ys ok.2 good)
 
 pub fine_of : (step : Asked (List ℕ)) → IsQuiet step → IsFine step
 fine_of asked.Begin quiet = tt
@@ -143,15 +132,15 @@ sure_found (Stopped None stores) now x sure may = may
 sure_found (Stopped (Some other) stores) now x sure may = absurd sure
 
 -- At each moment of a run of such steps what may be found is what was, or what may be found at its end.
-pub passes_to : (Last : Asked (List ℕ) → Type 0) (now : Found (List ℕ)) (first : ℕ) (xs : List Step) (m n : F) (run : Run of_files xs m n) → GoodTo Last xs → m.now ≡ now
+pub passes : (now : Found (List ℕ)) (first : ℕ) (xs : List Step) (m n : F) (run : Run of_files xs m n) → Good xs → m.now ≡ now
     → m.state ≡ Running → (x : Found (List ℕ)) → IsPassedFrom of_files first xs m n run x → IsStill first now x ⊎ IsFoundAt first n x
-passes_to Last now first xs m n run good same runs x passed = by xs m run good same runs passed
+passes now first xs m n run good same runs x passed = by xs m run good same runs passed
   where
     still : (m : F) → m.now ≡ now → m.state ≡ Running → IsFoundAt first m x → IsStill first now x
     still m same runs (later, may) =
         (sure_found m.state m.now x (running_sure m.state runs) may ∙ same, subst (λ (f : Found (List ℕ)). first ≤ f.last) same later)
 
-    by : (xs : List Step) (m : F) (run : Run of_files xs m n) → GoodTo Last xs → m.now ≡ now → m.state ≡ Running → IsPassedFrom of_files first xs m n run x
+    by : (xs : List Step) (m : F) (run : Run of_files xs m n) → Good xs → m.now ≡ now → m.state ≡ Running → IsPassedFrom of_files first xs m n run x
         → IsStill first now x ⊎ IsFoundAt first n x
     by [] m run good same runs here = inl (still m same runs here)
     by (s ∷ []) m run good same runs (inl here) = inl (still m same runs here)

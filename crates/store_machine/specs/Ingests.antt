@@ -24,13 +24,12 @@ use Rattle.store_machine.specs.Asked.{Asked}
 use Rattle.store_machine.specs.Asked as asked
 use Rattle.store_machine.specs.ByMap.{AfterOpening, FileMachine, Through}
 use Rattle.store_machine.specs.Collecting.{Makes}
-use Rattle.store_machine.specs.Commands.{AreLinesOf, EndsRefused, EndsWith, Ingest, IsDone, IsEnded, Lines, MayGoOn, Replied, desk, given_by, printed, run_of}
+use Rattle.store_machine.specs.Commands.{AreLinesOf, EndsRefused, EndsWith, Ingest, IsDone, IsEnded, Lines, MayGoOn, Replied, desk, given_by, printed}
 use Rattle.store_machine.specs.Legal.{broken_by, HasRoom, IsKept, LacksNumbers, with_name}
 use Rattle.store_machine.specs.Needs.{IsClash}
 use Rattle.store_machine.specs.Lines.{Desk, IsDueStep}
 use Rattle.store_machine.specs.Machine.{Found, Running, Stepped, Stopped, Writing, part_in}
 use Rattle.store_machine.specs.Opening.{MayBeFound}
-use Rattle.store_machine.specs.Runs.{IsPassedFrom}
 use Rattle.store_machine.specs.Values.{of_files}
 
 -- ---- the name
@@ -120,7 +119,8 @@ pub record AddsIn (name given : List ℕ) (rs : List Replied) (now : Found (List
 abbrev pub EndsCommitting : List ℕ → List Replied → Type 0
 EndsCommitting name rs = EndsWith (λ one. one.line ≡ lines.Commit 0 name) rs
 
--- It came to its end, or a line is to come. What may be found is what was, or, where the last line was to commit it, the name has the file that
+-- It came to its end, or a line is to come. What may be found is what was, or, where the last line was to commit it, the name has the file
+-- that
 -- was given; where it was done, it has, and its root is printed, and else nothing. Only a write that failed leaves a doubt.
 pub record Ingested (name given : List ℕ) (rs : List Replied) (m n : FileMachine) : Type 0 where
   pub ends : IsEnded (Ingest name) rs ⊎ MayGoOn (Ingest name) rs

@@ -120,8 +120,7 @@ abbrev pub EndsCommitting : List ℕ → List Replied → Type 0
 EndsCommitting name rs = EndsWith (λ one. one.line ≡ lines.Commit 0 name) rs
 
 -- It came to its end, or a line is to come. What may be found is what was, or, where the last line was to commit it, the name has the file
--- that
--- was given; where it was done, it has, and its root is printed, and else nothing. Only a write that failed leaves a doubt.
+-- that was given; where it was done, it has, and its root is printed, and else nothing. Only a write that failed leaves a doubt.
 pub record Ingested (name given : List ℕ) (rs : List Replied) (m n : FileMachine) : Type 0 where
   pub ends : IsEnded (Ingest name) rs ⊎ MayGoOn (Ingest name) rs
   pub found : (x : Found (List ℕ)) → MayBeFound of_files n.state n.now x

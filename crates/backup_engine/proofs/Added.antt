@@ -1,21 +1,9 @@
 -- What the steps by which a file is stored add to the store that the content was.
-use Rattle.std.proofs.Common.{◌≡◌, inl, inr, ℕ, List, [], ◌∷◌, ◌++◌, Option, Result, Ok, Err, refl, sym, ◌∙◌, ap, subst}
+use Rattle.backup_engine.proofs.Prelude.{◌≡◌, inl, inr, ℕ, List, [], ◌∷◌, ◌++◌, Option, Result, Ok, Err, refl, sym, ◌∙◌, ap, subst, AllByRecursion, KnownWith, Root, Put, Answer, StepValue, Refusal, Store, Encodes, StoreChange, ChangeName, with_change, root_of, ChangesTo, FileEvent, changes_by, changes_of, AddsTo, AddsOnce, IsAskedFor, IsPutStep, IsNoCommit, IsLastPut, EndsPut, seal_by, seals_of}
 use Rattle.std.proofs.lemmas.List.{append-nil, append_assoc}
-use Rattle.std.specs.List.{AllByRecursion}
-use Rattle.base_model.specs.Known.{KnownWith}
-use Rattle.disk_format.specs.Cells.{Root}
-use Rattle.disk_format.specs.Cells.Change.{Put}
-use Rattle.actor_parts.specs.declared.step.Answer.{Answer}
 use Rattle.actor_parts.specs.declared.step.Answer.TheVariants as answers
 use Rattle.actor_parts.specs.StepValue as asked
-use Rattle.actor_parts.specs.StepValue.{StepValue}
-use Rattle.refusals.specs.declared.refusal.Refusal.{Refusal}
-use Rattle.store_model.specs.Image.{Store, Encodes}
-use Rattle.store_model.specs.Steps.{StoreChange, ChangeName, changed, with_change}
-use Rattle.store_model.specs.Trees.{root_of}
-use Rattle.store_core.specs.Runs.{ChangesTo, FileEvent, changes_by, changes_of}
-use Rattle.backup_engine.specs.Adding.{AddsTo, AddsOnce}
-use Rattle.backup_engine.specs.Running.{IsAskedFor, IsPutStep, IsNoCommit, IsLastPut, EndsPut, seal_by, seals_of}
+use Rattle.store_model.specs.Steps.{changed}
 use Rattle.backup_engine.proofs.PutChanges.{put_seals, refused_seals}
 
 -- ---- a step

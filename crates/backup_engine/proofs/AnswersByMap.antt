@@ -1,34 +1,14 @@
 -- A command that ran no line answers by the map; and so does any whose lines do.
-use Rattle.std.proofs.Common.{◌≡◌, ◌⊎◌, inl, inr, ℕ, IsTrue, List, [], Option, Some, None, refl, sym, ◌∙◌, ap, subst, arith}
+use Rattle.backup_engine.proofs.Prelude.{◌≡◌, ◌⊎◌, inl, inr, ℕ, IsTrue, List, [], Option, Some, None, refl, sym, ◌∙◌, ap, subst, arith, DiskView, SinkView, SourceView, Refusal, DiskWrite, Refused, ByteSet, HasNoCollisions, IsIn, OpensAs, Stored, Store, IsSegmentOf, fails, FileMachine, ListsThrough, Replied, Found, RunState, MayBeFound, of_files, FileDesk, IsOfFound, MayStand, stored_in, unopened, files_begin, AnswersByMap, IsLeftAs, WasNotDone, WroteFile, CutsAmong, FailsAlone, RefusedByFiles, RunsByFiles, RunsEachByFiles, CommandLine, Format, Ingest, Restore, Collect, SpeaksAs, Speaks, DoesCommand}
 use Rattle.std.proofs.lemmas.List.{append-nil}
 use Rattle.std.specs.FinMap as finite
-use Rattle.dd_disk.specs.View.{DiskView}
-use Rattle.dd_io.specs.Flow.{SinkView, SourceView}
-use Rattle.refusals.specs.declared.refusal.Refusal.{Refusal}
-use Rattle.refusals.specs.declared.refusal.Refusal.TheVariants.{DiskWrite}
 use Rattle.reply_text.specs.declared.ending.Ending.{Ending}
-use Rattle.reply_text.specs.declared.ending.Ending.TheVariants.{Refused}
-use Rattle.store_model.specs.Collisions.{ByteSet, HasNoCollisions, IsIn, OpensAs}
-use Rattle.store_model.specs.Files.{Stored}
-use Rattle.store_model.specs.Image.{Store}
-use Rattle.store_model.specs.Standing.{IsSegmentOf}
-use Rattle.store_state.specs.Refused.{fails}
-use Rattle.store_machine.specs.ByMap.{FileMachine, ListsThrough}
-use Rattle.store_machine.specs.Commands.{List as ListNames, Replied}
-use Rattle.store_machine.specs.Machine.{Found, RunState}
-use Rattle.store_machine.specs.Opening.{GivesBackSome, MayBeFound}
-use Rattle.store_machine.specs.Values.{of_files}
-use Rattle.script_runner.specs.LinesAreFileRuns.{FileDesk}
-use Rattle.core_machine.specs.Files.{IsOfFound, MayStand, stored_in}
-use Rattle.core_machine.specs.Unopened.{unopened}
-use Rattle.core_machine.proofs.Unopened.{files_begin}
+use Rattle.store_machine.specs.Commands.{List as ListNames}
+use Rattle.store_machine.specs.Opening.{GivesBackSome}
 use Rattle.backup_engine.specs.AnswersByMap as answers
-use Rattle.backup_engine.specs.AnswersByMap.{AnswersByMap, AnswersEachMap, IsLeftAs, WasNotDone, WroteFile}
-use Rattle.backup_engine.specs.ByFiles.{CutsAmong, FailsAlone, RefusedByFiles, RunsByFiles, RunsEachByFiles}
-use Rattle.backup_engine.specs.Line.{CommandLine, Format, Ingest, Restore, Delete, Collect}
+use Rattle.backup_engine.specs.AnswersByMap.{AnswersEachMap}
+use Rattle.backup_engine.specs.Line.{Delete}
 use Rattle.backup_engine.specs.Line as table
-use Rattle.backup_engine.specs.Singles.{SpeaksAs, Speaks}
-use Rattle.backup_engine.specs.TopCall.{DoesCommand}
 use Rattle.backup_engine.proofs.FailsAlone.{refusal_fails}
 use Rattle.backup_engine.proofs.NotDone.{not_sink}
 use Rattle.backup_engine.proofs.Ran.{Silent}

@@ -1,25 +1,11 @@
 -- A call is lines of the machine of files, its opening first: whether it was opened or not, from its beginning to its end.
-use Rattle.std.proofs.Common.{◌≡◌, ◌⊎◌, inl, inr, ◌≤◌, ℕ, List, [], Option, Some, None, replicate, refl, sym, subst, arith}
-use Rattle.dd_disk.specs.Ending.{Done, Reads}
-use Rattle.dd_disk.specs.View.{CrashLeaves, DiskView, IsLater}
-use Rattle.refusals.specs.declared.refusal.Refusal.{Refusal}
-use Rattle.refusals.specs.declared.refusal.Refusal.TheVariants.{Memory}
+use Rattle.backup_engine.proofs.Prelude.{◌≡◌, ◌⊎◌, inl, inr, ◌≤◌, ℕ, List, [], Option, Some, None, refl, sym, subst, arith, Reads, CrashLeaves, DiskView, IsLater, Refusal, Memory, Refused, OpensCore, OpensNone, CoreState, Replied, desk, run_of, of_files, IsIn, FilesUnopened, ACTORS, RunnerState, AreOfActors, RunsLines, RunsEachByFiles, CallsRunByFiles}
+use Rattle.std.proofs.Common.{replicate}
+use Rattle.dd_disk.specs.Ending.{Done}
 use Rattle.reply_text.specs.declared.ending.Ending.{Ending}
-use Rattle.reply_text.specs.declared.ending.Ending.TheVariants.{Refused}
-use Rattle.store_core.specs.Opening.{OpensCore, OpensNone}
-use Rattle.store_core.specs.State.{CoreState}
-use Rattle.store_machine.specs.Commands.{Replied, desk, run_of}
-use Rattle.store_machine.specs.Values.{of_files}
-use Rattle.store_model.specs.Collisions.{IsIn}
-use Rattle.core_machine.specs.FileOpenings.{FilesUnopened}
 use Rattle.core_machine.proofs.FileStays.{stands_read}
-use Rattle.actor_parts.specs.declared.actor.TheConstants.{ACTORS}
-use Rattle.script_runner.specs.Acts.{RunnerState}
-use Rattle.script_runner.specs.Scripts.{AreOfActors, RunsLines}
 use Rattle.script_runner.specs.LinesAreFileRuns.{ChangesContent}
 use Rattle.script_runner.specs.LinesAreRuns.{Traced}
-use Rattle.backup_engine.specs.ByFiles.{RunsEachByFiles}
-use Rattle.backup_engine.specs.CallsByFiles.{CallsRunByFiles}
 
 -- ---- the store was not opened
 

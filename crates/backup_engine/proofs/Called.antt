@@ -1,20 +1,8 @@
 -- A core that was opened over a disk, ran, and was closed.
-use Rattle.std.proofs.Common.{◌≡◌, ◌≤◌, ℕ, List, Some, refl, sym, ◌∙◌, subst}
-use Rattle.store_model.specs.Files.{Stored}
-use Rattle.dd_disk.specs.View.{DiskView, IsDurable}
-use Rattle.dd_disk.specs.Ending.{Reads, Done}
-use Rattle.dd_disk.specs.Shows.{Shows}
-use Rattle.disk_format.specs.Layout.{slot_at}
-use Rattle.disk_format.specs.declared.numbers.TheConstants.{RESERVE}
-use Rattle.segment_index.specs.Changes.{SameBefore}
-use Rattle.store_model.specs.Image.{Store}
-use Rattle.store_model.specs.Slots.{free_slots}
-use Rattle.store_model.specs.Collisions.{Stands, IsOf}
+use Rattle.backup_engine.proofs.Prelude.{◌≡◌, ◌≤◌, ℕ, List, Some, refl, sym, ◌∙◌, subst, Stored, DiskView, IsDurable, Reads, Shows, slot_at, RESERVE, SameBefore, Store, free_slots, IsOf, IsNew, IndexesAll, IsAt, CoreState, IsRunning}
+use Rattle.dd_disk.specs.Ending.{Done}
+use Rattle.store_model.specs.Collisions.{Stands}
 use Rattle.store_state.specs.Settled.{IsSettled}
-use Rattle.store_core.specs.Opening.{IsNew}
-use Rattle.store_core.specs.Core.{IndexesAll}
-use Rattle.store_core.specs.Runs.{IsAt}
-use Rattle.store_core.specs.State.{CoreState, IsRunning}
 use Rattle.store_core.proofs.Opened.{begins_at}
 
 -- the disk as it was before the opening, and as the closing gave it back

@@ -1,15 +1,8 @@
 -- An inspection to its end, and then the last line.
-use Rattle.std.proofs.Common.{◌≡◌, inr, ℕ, ◌+◌, ◌-◌, ◌^◌, List, [], ◌∷◌, length, min, Ok, Err, refl, ◌∙◌, subst, arith}
-use Rattle.std.specs.List.{flat_map}
-use Rattle.base_model.specs.Fault.{Rose}
-use Rattle.base_model.specs.Known.{Appended}
-use Rattle.dd_disk.specs.View.{DiskView}
-use Rattle.dd_disk.proofs.Shows.{shown_content}
-use Rattle.dd_io.specs.Flow.{SinkView, AppendedPart}
+use Rattle.backup_engine.proofs.Prelude.{◌≡◌, inr, ℕ, ◌+◌, ◌-◌, ◌^◌, List, [], ◌∷◌, length, min, Ok, Err, refl, ◌∙◌, subst, arith, flat_map, Rose, Appended, DiskView, shown_content, SinkView, AppendedPart, Sink}
 use Rattle.inspection.specs.declared.damage.Damage.{Damage}
 use Rattle.inspection.specs.declared.tally.Tally.{Tally}
 use Rattle.recovery.specs.Inspecting.{IsInspected}
-use Rattle.reply_text.specs.declared.ending.Ending.TheVariants.{Sink}
 use Rattle.reply_text.specs.Text.{checked_line, damage_line}
 use Rattle.backup_engine.specs.Checking.{Checks, ShowsAll, status_of_damages}
 use Rattle.backup_engine.proofs.GiveRuns.{written_on, written_part}

@@ -1,20 +1,17 @@
 -- The line that clap's matches are.
-use Rattle.std.proofs.Common.{◌≡◌, ◌∙◌, ◌++◌, ◌⊎◌, inl, inr, ℕ, Bool, true, false, List, [], ◌∷◌, codes, map, fold, Option, Some, None, is_some, option_map, option_and_then, refl, sym, ap, ap₂, subst}
-use Rattle.std.specs.Prelude.{slice_get, string_bytes, String}
+use Rattle.backup_engine.proofs.Prelude.{◌≡◌, ◌∙◌, ◌++◌, ◌⊎◌, inl, inr, ℕ, Bool, true, false, List, [], ◌∷◌, codes, map, Option, Some, None, option_map, refl, sym, ap, ap₂, subst, slice_get, IsUtf8, bytes_eq, chars, bytes_eq-Decides, long_of, short_of, first_of, nothing_held, rows_after, Shape, Kinds, TableLine, Single, Check, argument_of, has_no_argument, is_separator, line_matched, table_app}
+use Rattle.std.proofs.Common.{fold, is_some, option_and_then}
+use Rattle.std.specs.Prelude.{string_bytes, String}
 use Rattle.std.specs.Global.{Global}
-use Rattle.std.specs.Str.{IsUtf8, bytes_eq, chars}
-use Rattle.std.proofs.lemmas.Slice.Eq.{bytes_eq-Decides}
 use Rattle.std.proofs.lemmas.Str.{IsUtf8-string_bytes}
-use Rattle.clap.specs.Lexer.{long_of, short_of}
-use Rattle.clap.specs.Walk.{Names, Walk, finished, first_of, idle, nothing_held, rows_after, settled, subcommand_met, walk, walk_from, walked}
-use Rattle.clap.specs.Simple.{Shape, built, entered, is_simple, names_of, subcommand_of}
-use Rattle.clap.specs.Kinds.{IsAmong, Kinds, or_else}
+use Rattle.clap.specs.Walk.{Names, Walk, finished, idle, settled, subcommand_met, walk, walk_from, walked}
+use Rattle.clap.specs.Simple.{built, entered, is_simple, names_of, subcommand_of}
+use Rattle.clap.specs.Kinds.{IsAmong, or_else}
 use Rattle.clap.specs.Faults.{check_fault, defaults_fault, entered_fault, fault_of, is_simple_and_free, settle_fault, turn_fault, walk_fault}
 use Rattle.clap.proofs.OnLiterals.{clap_on_literals}
 use Rattle.clap.proofs.WalkLemmas.{walk_stopped}
-use Rattle.backup_engine.specs.Line.{TableLine, Single, Run, Check, argument_of, command_of, has_no_argument, is_separator, line_by, line_of}
+use Rattle.backup_engine.specs.Line.{Run, command_of, line_by, line_of}
 use Rattle.backup_engine.specs.Line as table
-use Rattle.backup_engine.specs.Words.{line_matched, table_app}
 use Rattle.backup_engine.proofs.ClapWords.{AreTexts, Look, fault_in, long, look_of, none, none_taken, one, one_taken, plain, separator, short, unless}
 use Rattle.clap.specs.Words.{Row, Text, subcommand_name_of, subcommand_rows_of}
 use Rattle.clap.specs.declared.error.ErrorKind.{ErrorKind}

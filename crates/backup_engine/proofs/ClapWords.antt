@@ -1,18 +1,16 @@
 -- What clap makes of the words of each command, by what each word looks like.
-use Rattle.std.proofs.Common.{◌≡◌, ◌∙◌, ℕ, ◌==◌, ◌&&◌, Bool, true, false, not, List, [], ◌∷◌, codes, Option, Some, None, cond, refl, sym, ap, subst}
+use Rattle.backup_engine.proofs.Prelude.{◌≡◌, ◌∙◌, ℕ, ◌==◌, Bool, true, false, List, [], ◌∷◌, codes, Option, Some, None, cond, refl, sym, ap, subst, slice_get, IsUtf8, chars, eqb-true, long_of, short_of, first_of, nothing_held, rows_after, Shape, Kinds, argument_of, has_no_argument, is_separator, one_argument, table_app}
+use Rattle.std.proofs.Common.{◌&&◌, not}
 use Rattle.std.specs.Char.{encode_utf8}
-use Rattle.std.specs.Prelude.{slice_get}
-use Rattle.std.specs.Str.{IsUtf8, chars, encode_utf8_all}
-use Rattle.std.proofs.lemmas.Bool.{eqb-true}
+use Rattle.std.specs.Str.{encode_utf8_all}
 use Rattle.std.proofs.lemmas.Str.{IsUtf8-past_char, encodes-chars}
-use Rattle.clap.specs.Lexer.{long_of, name_and_value, short_of}
-use Rattle.clap.specs.Walk.{Text, first_of, nothing_held, rows_after}
-use Rattle.clap.specs.Simple.{Shape, built_leaf, inherited, marked_built, new_app, with_leaf_noted}
-use Rattle.clap.specs.Kinds.{Kinds, or_else}
+use Rattle.clap.specs.Lexer.{name_and_value}
+use Rattle.clap.specs.Walk.{Text}
+use Rattle.clap.specs.Simple.{built_leaf, inherited, marked_built, new_app, with_leaf_noted}
+use Rattle.clap.specs.Kinds.{or_else}
 use Rattle.clap.specs.Faults.{level_fault}
 use Rattle.clap.proofs.OnLiterals.{clap_on_literals}
-use Rattle.backup_engine.specs.Line.{argument_of, has_no_argument, is_dashed, is_separator}
-use Rattle.backup_engine.specs.Words.{one_argument, table_app}
+use Rattle.backup_engine.specs.Line.{is_dashed}
 
 -- ---- what a word looks like
 

@@ -1,47 +1,18 @@
 -- Over a map a put finds no damage, and clashes only where the store holds another node than one of its file.
-use Rattle.std.proofs.Common.{◌≡◌, ℕ, zero, suc, ◌<◌, ◌≤◌, List, [], ◌∷◌, length, Option, Some, None, option_map, Result, Err, refl, sym, ◌∙◌, ap, subst, arith}
-use Rattle.std.specs.List.{AllByRecursion}
-use Rattle.sha2.specs.Sha256.{sha256}
-use Rattle.base_model.specs.Known.{KnownWith}
-use Rattle.dd_disk.specs.Shows.{Shows}
-use Rattle.dd_disk.proofs.Shows.{shown_content}
-use Rattle.container_meta.specs.declared.kind.Kind.{Kind}
-use Rattle.container_meta.specs.declared.kind.Kind.TheVariants.{Leaf, Tree}
-use Rattle.container_meta.specs.declared.place.Place.{Place}
-use Rattle.container_meta.specs.Segments.{Segment, KindSegment, segment_at}
-use Rattle.merkle_file.specs.Node.{node_digest, spelling}
+use Rattle.backup_engine.proofs.Prelude.{◌≡◌, ℕ, zero, suc, ◌<◌, ◌≤◌, List, [], ◌∷◌, length, Option, Some, None, option_map, Result, Err, refl, sym, ◌∙◌, ap, subst, arith, AllByRecursion, sha256, KnownWith, Shows, shown_content, Kind, Leaf, Tree, Place, Segment, KindSegment, node_digest, spelling, Answer, StepValue, Length, Byte, Refusal, Memory, Clash, Corrupt, DiskRead, DiskWrite, HasNoCollisions, ByteSet, IsIn, Stored, Store, Piece, Data, Node, IsPieceOf, HasPieceOf, piece_segment, RESERVE, HasKey, free_slots, newest, IsStoreOf, bytes_at, node_key, some_same, store_once, IsUnlike, PlaceMap, FileEvent, FileStep, IsAt, stored_by, stored_with, MayClash, IsHarmless, CoreState, file_step, IsUnlikeNode, Ingest, Room, Refuses, IsLeftWith, RefusedBy, IsAskedFor, IsPutStep}
+use Rattle.container_meta.specs.Segments.{segment_at}
 use Rattle.merkle_file.specs.Node as node
-use Rattle.actor_parts.specs.declared.step.Answer.{Answer}
 use Rattle.actor_parts.specs.StepValue as asked
-use Rattle.actor_parts.specs.StepValue.{StepValue}
 use Rattle.refusals.specs.declared.refusal.Difference.{Difference}
-use Rattle.refusals.specs.declared.refusal.Difference.TheVariants.{Length, Byte}
-use Rattle.refusals.specs.declared.refusal.Refusal.{Refusal}
-use Rattle.refusals.specs.declared.refusal.Refusal.TheVariants.{Memory, Clash, Corrupt, DiskRead, DiskWrite}
-use Rattle.store_model.specs.Collisions.{HasNoCollisions, ByteSet, IsIn, Stands}
-use Rattle.store_model.specs.Files.{Stored}
-use Rattle.store_model.specs.Image.{Store}
-use Rattle.store_model.specs.Pieces.{Piece, Data, Node, IsPieceOf, HasPieceOf, piece_segment}
-use Rattle.disk_format.specs.declared.numbers.TheConstants.{RESERVE}
-use Rattle.store_model.specs.Slots.{HasKey, Copy, free_slots, newest}
-use Rattle.store_model.specs.Standing.{IsStoreOf}
+use Rattle.store_model.specs.Collisions.{Stands}
+use Rattle.store_model.specs.Slots.{Copy}
 use Rattle.store_model.specs.Steps.{KeepsCopies}
-use Rattle.store_model.specs.Trees.{bytes_at, node_key}
-use Rattle.store_model.proofs.Copies.{copy_digest, some_same}
-use Rattle.store_model.proofs.Once.{store_once}
+use Rattle.store_model.proofs.Copies.{copy_digest}
 use Rattle.store_model.proofs.Roots.{length_of_copy}
-use Rattle.store_state.specs.Comparing.{FirstDifference, IsUnlike}
-use Rattle.container_meta.specs.Places.{PlaceMap}
+use Rattle.store_state.specs.Comparing.{FirstDifference}
 use Rattle.store_core.specs.Core.{Row}
-use Rattle.store_core.specs.Runs.{FileEvent, FileStep, IsAt, stored_by, stored_with}
-use Rattle.store_core.specs.Sound.{MayClash, IsHarmless}
-use Rattle.store_core.specs.State.{CoreState}
-use Rattle.store_core.proofs.KeepingFiles.{file_step}
-use Rattle.backup_engine.specs.AnyDisk.{IsUnlikeNode}
-use Rattle.backup_engine.specs.Line.{Ingest}
-use Rattle.backup_engine.specs.PlainMap.{Room, Refuses, room_of}
-use Rattle.backup_engine.specs.Promise.{DifferBy, IsLeftWith, HoldsTwin, RefusedBy}
-use Rattle.backup_engine.specs.Running.{IsAskedFor, IsPutStep}
+use Rattle.backup_engine.specs.PlainMap.{room_of}
+use Rattle.backup_engine.specs.Promise.{DifferBy, HoldsTwin}
 use Rattle.backup_engine.proofs.PutChanges.{running_step}
 use Rattle.backup_engine.proofs.NoGcSteps.{asked_no_gc}
 use Rattle.backup_engine.proofs.PutEnds.{refused_with}

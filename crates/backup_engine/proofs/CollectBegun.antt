@@ -1,17 +1,13 @@
 -- A collection that was swept, by what its line did.
-use Rattle.std.proofs.Common.{◌≡◌, ℕ, Result, Ok, Err, refl, subst}
+use Rattle.backup_engine.proofs.Prelude.{◌≡◌, ℕ, Result, Ok, Err, refl, subst, Refusal, reply_line, ReplyValue, Sweeps, runner_of, CoreState, no_sessions}
 use Rattle.std.specs.Prelude.{IfOk}
 use Rattle.actor_parts.specs.declared.step.Answer.TheVariants as answers
-use Rattle.refusals.specs.declared.refusal.Refusal.{Refusal}
 use Rattle.script_lines.specs.Grammar as lines
-use Rattle.script_lines.specs.ReplyText.{reply_line}
-use Rattle.script_lines.specs.ReplyValue.{ReplyValue, reply_value}
+use Rattle.script_lines.specs.ReplyValue.{reply_value}
 use Rattle.script_lines.specs.ReplyValue as replies
 use Rattle.script_lines.specs.declared.reply.Reply.{Reply}
-use Rattle.script_runner.specs.Acts.{Acts, Sweeps}
-use Rattle.script_runner.specs.Runner.{TellsCollected, answer_of, runner_of}
-use Rattle.store_core.specs.State.{CoreState}
-use Rattle.backup_engine.specs.Saying.{no_sessions}
+use Rattle.script_runner.specs.Acts.{Acts}
+use Rattle.script_runner.specs.Runner.{TellsCollected, answer_of}
 
 module _ (C : Type 0) (state : C → CoreState) (old new : C) where
   abbrev SweptBy : ReplyValue → Type 0

@@ -1,25 +1,11 @@
 -- A `collect` answers by the map, by the law of its lines.
-use Rattle.std.proofs.Common.{◌≡◌, ◌⊎◌, inl, inr, ℕ, List, [], ◌∷◌, Option, Some, None, refl, sym, subst}
-use Rattle.dd_disk.specs.View.{DiskView}
-use Rattle.dd_io.specs.Flow.{SinkView}
+use Rattle.backup_engine.proofs.Prelude.{◌≡◌, ◌⊎◌, inl, inr, ℕ, List, [], ◌∷◌, Option, Some, None, refl, sym, subst, DiskView, SinkView, Sink, Refused, ReplyValue, IsIn, Stored, Store, ListsThrough, AllFollow, Replied, unopened, AnswersByMap, AnswersEachCall, Wrote, RunsByFiles, Collect, EndsFailing, EndsSo, IsCollect, collecting, said}
 use Rattle.reply_text.specs.declared.ending.Ending.{Ending}
-use Rattle.reply_text.specs.declared.ending.Ending.TheVariants.{Sink, Refused}
 use Rattle.script_lines.specs.Grammar as lines
-use Rattle.script_lines.specs.ReplyValue.{ReplyValue}
 use Rattle.script_lines.specs.ReplyValue as replies
-use Rattle.store_model.specs.Collisions.{IsIn}
-use Rattle.store_model.specs.Files.{Stored}
-use Rattle.store_model.specs.Image.{Store}
-use Rattle.store_machine.specs.ByMap.{ListsThrough}
 use Rattle.store_machine.specs.CollectsAlone.{CollectedAlone, CollectsByMap, CollectsThrough}
 use Rattle.store_machine.specs.Commands as machine
-use Rattle.store_machine.specs.Commands.{AllFollow, Replied}
-use Rattle.core_machine.specs.Unopened.{unopened}
-use Rattle.backup_engine.specs.AnswersByMap.{AnswersByMap, EndsBy, AnswersEachCall, Wrote}
-use Rattle.backup_engine.specs.ByFiles.{RunsByFiles}
-use Rattle.backup_engine.specs.Line.{Collect}
-use Rattle.backup_engine.specs.Promise.{EndsFailing, EndsSo}
-use Rattle.backup_engine.specs.Singles.{IsCollect, collecting, said}
+use Rattle.backup_engine.specs.AnswersByMap.{EndsBy}
 use Rattle.backup_engine.proofs.AnswersByMap.{AnswersOpened, answers_call}
 use Rattle.backup_engine.proofs.Ran.{collect_ran, ran_cuts, ran_silent}
 use Rattle.backup_engine.proofs.Rested.{CanBeIf, WasStore, all_lines, all_steps, answers_by, as_found, last, opened_room, ran, rested, stays_left, was_store}

@@ -1,53 +1,25 @@
 -- Why a step of a collection is refused, of the whole call: by what reads returned since it began.
-use Rattle.std.proofs.Common.{◌≡◌, ◌≢◌, inl, inr, ◌+◌, ◌<◌, ◌≤◌, ℕ, zero, suc, List, [], ◌∷◌, ◌++◌, drop, get_or, length, Option, None, Some, refl, sym, ◌∙◌, subst, arith}
-use Rattle.std.specs.Prelude.{Contains}
-use Rattle.std.specs.List.{AllByRecursion}
-use Rattle.std.proofs.lemmas.List.Elements.{Contains-append_right, Contains-get_or}
+use Rattle.backup_engine.proofs.Prelude.{◌≡◌, ◌≢◌, inl, inr, ◌+◌, ◌<◌, ◌≤◌, ℕ, zero, suc, List, [], ◌∷◌, ◌++◌, drop, get_or, length, Option, None, Some, refl, sym, ◌∙◌, subst, arith, Contains, AllByRecursion, Contains-append_right, Contains-get_or, range, Known, Entry, Kind, PlaceMap, HeaderValue, Reads, Shows, DiskView, IsLater, Both, shown_content, SourceView, SinkView, LAST_ID, size_of, slot_at, IsScanFault, HasMarkedAll, Moment, Touches, HasStage, Stage, Mark, Filter, Select, SweepStage, Flush, Release, End, of_each, Refusal, Memory, DiskRead, DiskWrite, Corrupt, Numbers, Damaged, Refused, SameBefore, WereFound, HoldsSlot, IsIndexOf, bytes_at, FindsNames, Holds, IsCaused, IsUnmarked, IsUnwritten, ShownSince, ShownThere, Collect}
 use Rattle.std.proofs.lemmas.List.Sums.{sum_by-append, sum_by-cons}
-use Rattle.base_model.specs.Bytes.{range}
-use Rattle.base_model.specs.Known.{Known}
 use Rattle.container_log.specs.Parts.{header_bytes}
-use Rattle.container_meta.specs.declared.entry.Entry.{Entry}
-use Rattle.container_meta.specs.declared.kind.Kind.{Kind}
-use Rattle.container_meta.specs.Places.{PlaceMap}
 use Rattle.container_meta.specs.Segments.{Contents}
-use Rattle.container_meta.specs.Spelling.{Follow, HeaderValue, IsHeader, bytes_of}
+use Rattle.container_meta.specs.Spelling.{Follow, IsHeader, bytes_of}
 use Rattle.copy_forward.specs.Copying.{IsCopyRefusal}
 use Rattle.copy_forward.specs.Headers.{IsHeaderRefusal}
 use Rattle.copy_forward.specs.Planning.{IsOneRefusal, IsPlanRefusal, IsStuck, Planned, Source, planned, source_of}
-use Rattle.dd_disk.specs.Ending.{Done, Ending, Reads}
-use Rattle.dd_disk.specs.Shows.{Part, Shows}
-use Rattle.dd_disk.specs.View.{DiskView, IsLater}
-use Rattle.dd_disk.specs.Writes.{Both}
-use Rattle.dd_disk.proofs.Shows.{shown_content}
-use Rattle.dd_io.specs.Flow.{SourceView, SinkView}
-use Rattle.disk_format.specs.declared.numbers.TheConstants.{LAST_ID}
-use Rattle.disk_format.specs.Layout.{data_at, size_of, slot_at}
+use Rattle.dd_disk.specs.Ending.{Done, Ending}
+use Rattle.dd_disk.specs.Shows.{Part}
+use Rattle.disk_format.specs.Layout.{data_at}
 use Rattle.gc_enumerate.specs.Live.{LiveKeys}
-use Rattle.gc_enumerate.specs.Scanning.{IsScanFault}
-use Rattle.gc_steps.specs.Finding.{HasMarkedAll}
 use Rattle.gc_steps.specs.Filtering.{IsRecordRefusal}
 use Rattle.gc_steps.specs.Marking.{StopsScan, scan_for}
 use Rattle.gc_steps.specs.Scanning.{ShowsAt}
-use Rattle.gc_steps.specs.Stepping.{IsStepRefusal, Moment, Touches}
-use Rattle.gc_steps.specs.UnderWay.{HasStage}
-use Rattle.gc_steps.specs.declared.collection.Stage.{Stage}
-use Rattle.gc_steps.specs.declared.collection.Stage.TheVariants.{Mark, Filter, Select, Sweep as SweepStage}
+use Rattle.gc_steps.specs.Stepping.{IsStepRefusal}
 use Rattle.gc_sweep.specs.declared.sweep.Next.{Next}
-use Rattle.gc_sweep.specs.declared.sweep.Next.TheVariants.{Copy, Flush, Release, End}
+use Rattle.gc_sweep.specs.declared.sweep.Next.TheVariants.{Copy}
 use Rattle.gc_sweep.specs.Copying.{IsCopyStepRefusal}
 use Rattle.gc_sweep.specs.Flushing.{IsFlushStepRefusal}
-use Rattle.gc_sweep.proofs.InSlots.{of_each}
-use Rattle.refusals.specs.declared.refusal.Refusal.{Refusal}
-use Rattle.refusals.specs.declared.refusal.Refusal.TheVariants.{Memory, DiskRead, DiskWrite, Corrupt, Numbers, Damaged}
-use Rattle.reply_text.specs.declared.ending.Ending.TheVariants.{Refused}
-use Rattle.segment_index.specs.Changes.{SameBefore}
-use Rattle.store_model.specs.Refusals.{WereFound}
-use Rattle.store_model.specs.Slots.{HoldsSlot, IsIndexOf}
-use Rattle.store_model.specs.Trees.{bytes_at}
 use Rattle.store_model.proofs.Copies.{data_within}
-use Rattle.backup_engine.specs.AnyDisk.{FindsNames, Holds, IsCaused, IsUnmarked, IsUnwritten, ShownSince, ShownThere}
-use Rattle.backup_engine.specs.Line.{Collect}
 use Rattle.backup_engine.proofs.CollectFaults.{fault_wider}
 use Rattle.backup_engine.proofs.CollectSteps.{IsMarking, both_from}
 use Rattle.backup_engine.proofs.OtherHeaders.{CameTo, copied_some, marked_some, other_header, recorded_some}

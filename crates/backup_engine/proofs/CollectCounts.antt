@@ -1,23 +1,17 @@
 -- The snapshot of a collection, how many containers it gave back and how many copies it wrote, after a step of it.
-use Rattle.std.proofs.Common.{◌≡◌, inl, inr, ◌+◌, ℕ, List, length, Option, Some, None, refl, sym, ◌∙◌, ap, subst, arith}
-use Rattle.container_meta.specs.declared.kind.Kind.{Kind}
-use Rattle.container_meta.specs.Segments.{Contents, Segment}
+use Rattle.backup_engine.proofs.Prelude.{◌≡◌, inl, inr, ◌+◌, ℕ, List, length, Option, Some, None, refl, sym, ◌∙◌, ap, subst, arith, Kind, Segment, Collection, Stage, Mark, Filter, Select, filter_at, is_old_slot, Moment, StepsTo, phase_at, Flush, Release, End, Phase, SlotTable}
+use Rattle.container_meta.specs.Segments.{Contents}
 use Rattle.copy_forward.specs.declared.plan.Plan.{Plan}
 use Rattle.copy_forward.specs.Copying.{PlansSource}
-use Rattle.gc_steps.specs.declared.collection.Collection.{Collection}
-use Rattle.gc_steps.specs.declared.collection.Stage.{Stage}
-use Rattle.gc_steps.specs.declared.collection.Stage.TheVariants.{Mark, Filter, Select, Sweep}
+use Rattle.gc_steps.specs.declared.collection.Stage.TheVariants.{Sweep}
 use Rattle.gc_steps.specs.FewSources.{IsToChoose}
-use Rattle.gc_steps.specs.Stages.{filter_at, first_slot, is_old_slot, mark_from}
-use Rattle.gc_steps.specs.Stepping.{Moment, StepsTo, phase_at}
+use Rattle.gc_steps.specs.Stages.{first_slot, mark_from}
 use Rattle.gc_steps.proofs.Safe.{early_from}
 use Rattle.gc_sweep.specs.declared.sweep.Next.{Next}
-use Rattle.gc_sweep.specs.declared.sweep.Next.TheVariants.{Copy, Flush, Release, End}
+use Rattle.gc_sweep.specs.declared.sweep.Next.TheVariants.{Copy}
 use Rattle.gc_sweep.specs.declared.sweep.Sweep.{Sweep as SweepValue}
 use Rattle.gc_sweep.specs.Copying.{CopiesSource, IsFilling, TakesBy}
-use Rattle.refusals.specs.declared.refusal.Phase.{Phase}
 use Rattle.refusals.specs.declared.refusal.Phase.TheVariants as phases
-use Rattle.store_state.specs.declared.slot_table.SlotTable.{SlotTable}
 
 -- So many sources were given back, and so many segments copied and written: of those that were copied the others are to be written. None of
 -- either before it sweeps.

@@ -1,20 +1,10 @@
 -- Why a collection goes no further, where what one thing shows another shows.
-use Rattle.std.proofs.Common.{◌≡◌, inl, inr, ℕ, List}
-use Rattle.container_meta.specs.declared.entry.Entry.{Entry}
-use Rattle.container_meta.specs.declared.place.Place.{Place}
-use Rattle.container_meta.specs.Places.{PlaceMap}
-use Rattle.dd_disk.specs.View.{DiskView}
-use Rattle.disk_format.specs.declared.why.Why.{Why}
-use Rattle.gc_enumerate.specs.Scanning.{IsScanFault, IsStuck, Scan}
+use Rattle.backup_engine.proofs.Prelude.{◌≡◌, inl, inr, ℕ, List, Entry, Place, PlaceMap, DiskView, Why, IsScanFault, Refusal, Damaged, Store, place_of, bytes_at, IsUnmarked, ShownSince, ShownThere}
+use Rattle.gc_enumerate.specs.Scanning.{IsStuck, Scan}
 use Rattle.gc_enumerate.specs.declared.fault.ScanFault.{ScanFault}
 use Rattle.gc_enumerate.specs.declared.fault.ScanFault.TheVariants as faults
 use Rattle.gc_enumerate.proofs.Scans.{entry_fault_wider, finds_wider}
-use Rattle.refusals.specs.declared.refusal.Refusal.{Refusal}
-use Rattle.refusals.specs.declared.refusal.Refusal.TheVariants.{Damaged}
-use Rattle.store_model.specs.Image.{Store}
-use Rattle.store_model.specs.Slots.{place_of}
-use Rattle.store_model.specs.Trees.{bytes_at}
-use Rattle.backup_engine.specs.AnyDisk.{HasBadHeader, IsUncopied, IsUnmarked, ShownSince, ShownThere}
+use Rattle.backup_engine.specs.AnyDisk.{HasBadHeader, IsUncopied}
 use Rattle.backup_engine.proofs.UnlikeNodes.{copy_refusal}
 
 module _ (s : Scan) (showed showed' : Place → List ℕ → Type 0) (wider : (place : Place) (bytes : List ℕ) → showed place bytes → showed' place bytes)

@@ -1,32 +1,12 @@
 -- What the steps of a collection leave of the bytes, whatever they are: all before the end of the slots, but the gates of containers that it
 -- gave back, and closed slots that it filled.
-use Rattle.std.proofs.Common.{◌≡◌, ℕ, List, [], ◌∷◌, Option, Some, Result, Ok, refl, sym, ◌∙◌, subst}
-use Rattle.std.specs.List.{AllByRecursion}
-use Rattle.actor_parts.specs.declared.step.Answer.{Answer}
+use Rattle.backup_engine.proofs.Prelude.{◌≡◌, ℕ, List, [], ◌∷◌, Option, Some, Result, Ok, refl, sym, ◌∙◌, subst, AllByRecursion, Answer, PlaceMap, ending, CrashLeaves, DiskView, leaves_on, leaves_weaker, reads_here, size_of, Touches, Collection, Stage, Mark, Filter, Select, SweepStage, Flush, Release, End, slot_in_turn, Phase, Refusal, CollectionRun, Collects, Store, blames, TouchesBy, Steps, HadContainer, CoreState, MayFill, SameButSlotsOf}
 use Rattle.actor_parts.specs.declared.step.Answer.TheVariants as answers
-use Rattle.container_meta.specs.Places.{PlaceMap}
-use Rattle.dd_disk.specs.Ending.{ending}
-use Rattle.dd_disk.specs.View.{CrashLeaves, DiskView}
-use Rattle.dd_disk.proofs.Later.{leaves_on, leaves_weaker, reads_here, reads_leave}
-use Rattle.disk_format.specs.Layout.{size_of}
-use Rattle.gc_steps.specs.Stepping.{Touches}
-use Rattle.gc_steps.specs.declared.collection.Collection.{Collection}
-use Rattle.gc_steps.specs.declared.collection.Stage.{Stage}
-use Rattle.gc_steps.specs.declared.collection.Stage.TheVariants.{Mark, Filter, Select, Sweep as SweepStage}
+use Rattle.dd_disk.proofs.Later.{reads_leave}
 use Rattle.gc_sweep.specs.declared.sweep.Next.{Next}
-use Rattle.gc_sweep.specs.declared.sweep.Next.TheVariants.{Copy, Flush, Release, End}
-use Rattle.gc_sweep.specs.InTurn.{slot_in_turn}
-use Rattle.refusals.specs.declared.refusal.Phase.{Phase}
-use Rattle.refusals.specs.declared.refusal.Refusal.{Refusal}
-use Rattle.script_runner.specs.Acts.{CollectionRun, Collects}
-use Rattle.store_model.specs.Image.{Store}
-use Rattle.store_state.specs.Refused.{blames}
-use Rattle.store_core.specs.Collecting.{GcEffect, TouchesBy}
-use Rattle.store_core.specs.Core.{Steps}
-use Rattle.store_core.specs.Frame.{HadContainer}
-use Rattle.store_core.specs.State.{CoreState}
+use Rattle.gc_sweep.specs.declared.sweep.Next.TheVariants.{Copy}
+use Rattle.store_core.specs.Collecting.{GcEffect}
 use Rattle.store_core.proofs.CoreRuns.{running_step}
-use Rattle.backup_engine.specs.Frame.{MayFill, SameButSlotsOf}
 use Rattle.backup_engine.proofs.CollectSteps.{CollectedSoFar, free_so, gc_event, had_so, may_fill_so, one_more, valid_so}
 use Rattle.backup_engine.proofs.SweptBytes.{filled_with, freed_with, same_slots, stage_so}
 use Rattle.backup_engine.proofs.SweptSlots.{all-more, may_more}

@@ -1,54 +1,28 @@
 -- What a `collect` keeps, whatever the disk holds.
-use Rattle.std.proofs.Common.{◌≡◌, ◌⊎◌, inl, inr, ◌+◌, ◌≤◌, ℕ, List, [], ◌∷◌, length, Option, None, Some, Result, Ok, Err, refl, sym, ◌∙◌, ap, subst, arith}
+use Rattle.backup_engine.proofs.Prelude.{◌≡◌, ◌⊎◌, inl, inr, ◌+◌, ◌≤◌, ℕ, List, [], ◌∷◌, length, Option, None, Some, Result, Ok, Err, refl, sym, ◌∙◌, ap, subst, arith, Answer, PlaceMap, CountsFault, ending, ending_of, CrashLeaves, DiskView, IsLater, OnlyReads, counts_on, later_on, leaves_on, shown_content, since, until, SourceView, SinkView, size_of, LAST_ID, Collection, HasStage, HasMarkedAll, Phase, Refusal, Sink, Refused, CollectionRun, Collects, Sweeps, Encodes, Store, last_id, blames, Tables, GcRow, IsNotMade, StartRow, TouchesBy, at_moment, CoreStep, Rests, Steps, CoreRun, CoreState, Event, copied_in, freed_in, end_reads, step_runs, alone, EndsDurable, FindsNames, HasSwept, Holds, IsCaused, IsUnwritten, OnAnyDisk, FindsBeforeWriting, WroteOnAny, disk_ending, collected_line, written_in, KeepsOthers, KeepsRest, SameButSlotsOf, Collect, WroteReply}
 use Rattle.actor_parts.specs.declared.part.Part.{Part}
-use Rattle.actor_parts.specs.declared.step.Answer.{Answer}
 use Rattle.actor_parts.specs.declared.step.Answer.TheVariants as answers
 use Rattle.actor_parts.specs.Parts.{part_of}
 use Rattle.actor_parts.specs.StepValue as asked
-use Rattle.container_meta.specs.Places.{PlaceMap}
-use Rattle.dd_disk.specs.Ending.{CountsFault, Done, ending, ending_of}
-use Rattle.dd_disk.specs.View.{CrashLeaves, DiskView, IsLater, OnlyReads}
-use Rattle.dd_disk.proofs.Ended.{counts_on}
-use Rattle.dd_disk.proofs.Later.{later_on, leaves_on, reads_leave, reads_on}
-use Rattle.dd_disk.proofs.Shows.{shown_content, since, until}
-use Rattle.dd_io.specs.Flow.{SourceView, SinkView}
-use Rattle.disk_format.specs.Layout.{size_of}
-use Rattle.disk_format.specs.declared.numbers.TheConstants.{LAST_ID}
-use Rattle.gc_steps.specs.declared.collection.Collection.{Collection}
-use Rattle.gc_steps.specs.UnderWay.{HasStage}
-use Rattle.gc_steps.specs.Finding.{FindsAll, HasMarkedAll, HeadersAreApart}
+use Rattle.dd_disk.specs.Ending.{Done}
+use Rattle.dd_disk.proofs.Later.{reads_leave, reads_on}
+use Rattle.gc_steps.specs.Finding.{FindsAll, HeadersAreApart}
 use Rattle.gc_steps.specs.Roots.{keys_of_names, roots_of}
 use Rattle.gc_steps.specs.Starting.{StopsAt}
 use Rattle.gc_steps.proofs.RootKeys.{names_alone}
-use Rattle.refusals.specs.declared.refusal.Phase.{Phase}
-use Rattle.refusals.specs.declared.refusal.Refusal.{Refusal}
 use Rattle.refusals.specs.declared.refusal.Refusal.TheVariants as refusals
 use Rattle.reply_text.specs.declared.ending.Ending as reply
-use Rattle.reply_text.specs.declared.ending.Ending.TheVariants.{Sink, Refused}
-use Rattle.script_runner.specs.Acts.{CollectionRun, Collects, Starts, Sweeps}
+use Rattle.script_runner.specs.Acts.{Starts}
 use Rattle.script_runner.proofs.Lists.{idle_part}
-use Rattle.store_model.specs.Image.{Encodes, Store, names_of}
-use Rattle.store_model.specs.Slots.{last_id}
+use Rattle.store_model.specs.Image.{names_of}
 use Rattle.store_model.proofs.Free.{as_many as as_many_ids}
-use Rattle.store_state.specs.Refused.{blames}
 use Rattle.store_state.specs.Settled.{IsSettled}
-use Rattle.store_state.specs.declared.tables.Tables.{Tables}
-use Rattle.store_core.specs.Collecting.{Begins, GcRow, HasEnded, IsNotMade, StartRow, TouchesBy, at_moment}
-use Rattle.store_core.specs.Core.{CoreStep, Rests, Steps}
+use Rattle.store_core.specs.Collecting.{Begins, HasEnded}
 use Rattle.store_core.specs.Finding.{AreItsSteps, IsIndexed}
-use Rattle.store_core.specs.Runs.{CoreRun}
 use Rattle.store_core.proofs.FindingKeys.{finds_keys, reads_or_finds}
-use Rattle.store_core.specs.State.{CoreState, Event}
-use Rattle.store_core.specs.Releases.{copied_in, freed_in}
 use Rattle.store_core.proofs.CoreRuns.{running_step}
-use Rattle.store_core.proofs.GcSteps.{end_reads}
-use Rattle.store_core.proofs.RunningOn.{step_runs}
-use Rattle.store_core.proofs.SafeSteps.{alone}
-use Rattle.backup_engine.specs.AnyDisk.{EndsDurable, FindsNames, HasSwept, Holds, IsCaused, IsSettledDisk, IsUnwritten, OnAnyDisk, FindsBeforeWriting, WroteOnAny, disk_ending}
-use Rattle.backup_engine.specs.Collected.{collected_line, written_in}
-use Rattle.backup_engine.specs.Frame.{KeepsButSweep, KeepsOthers, KeepsRest, SameButSlotsOf}
-use Rattle.backup_engine.specs.Line.{Collect}
-use Rattle.backup_engine.specs.Promise.{WroteReply}
+use Rattle.backup_engine.specs.AnyDisk.{IsSettledDisk}
+use Rattle.backup_engine.specs.Frame.{KeepsButSweep}
 use Rattle.backup_engine.proofs.Called.{Called, settled}
 use Rattle.backup_engine.proofs.CollectCauses.{stage_cause}
 use Rattle.backup_engine.proofs.CollectFrame.{IsBut, all_leave, but_here, step_leaves}

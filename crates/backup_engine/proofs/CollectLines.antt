@@ -1,24 +1,12 @@
 -- The lines that `collect` is, run over a core.
-use Rattle.std.proofs.Common.{◌≡◌, inl, inr, ℕ, List, [], ◌∷◌, None, Result, Ok, Err, refl, sym, ◌∙◌, subst}
+use Rattle.backup_engine.proofs.Prelude.{◌≡◌, inl, inr, ℕ, List, [], ◌∷◌, None, Result, Ok, Err, refl, sym, ◌∙◌, subst, SinkView, actor_of, Replied, Refusal, Sink, LineValue, Admits, Sweeps, Sent, RunsLines, CoreState, collected_line, WritesCollected, RunsSingle, no_sessions, IsCollect, collecting, refused, said, ending_in}
 use Rattle.actor_parts.specs.declared.step.Answer.TheVariants as answers
-use Rattle.dd_io.specs.Flow.{SinkView}
-use Rattle.store_machine.specs.Lines.{actor_of}
-use Rattle.store_machine.specs.Commands.{Replied}
-use Rattle.refusals.specs.declared.refusal.Refusal.{Refusal}
 use Rattle.reply_text.specs.declared.ending.Ending.{Ending}
-use Rattle.reply_text.specs.declared.ending.Ending.TheVariants.{Sink}
-use Rattle.script_lines.specs.Grammar.{LineValue}
 use Rattle.script_lines.specs.Grammar as lines
 use Rattle.script_lines.specs.ReplyValue as replies
-use Rattle.script_runner.specs.Acts.{Admits, Starts, Sweeps}
-use Rattle.script_runner.specs.Runner.{Sent}
-use Rattle.script_runner.specs.Scripts.{RunsLines}
-use Rattle.store_core.specs.State.{CoreState}
-use Rattle.backup_engine.specs.Collected.{collected_line}
-use Rattle.backup_engine.specs.Collecting.{IsStopped, WritesCollected}
-use Rattle.backup_engine.specs.Saying.{RunsSingle, idle, no_sessions}
-use Rattle.backup_engine.specs.Singles.{IsCollect, collecting, refused, said}
-use Rattle.backup_engine.specs.TopCall.{ending_in}
+use Rattle.script_runner.specs.Acts.{Starts}
+use Rattle.backup_engine.specs.Collecting.{IsStopped}
+use Rattle.backup_engine.specs.Saying.{idle}
 use Rattle.backup_engine.proofs.Saying.{line_then}
 
 module _ (C : Type 0) (state : C → CoreState) (percent : ℕ) where

@@ -1,69 +1,31 @@
 -- What a `collect` keeps of the map: all of it; and which containers it gives back.
-use Rattle.std.proofs.Common.{◌≡◌, ◌⊎◌, ◌+◌, ◌<◌, ◌≤◌, ℕ, List, [], ◌∷◌, ◌++◌, length, Option, None, Some, Result, Ok, Err, refl, sym, ◌∙◌, subst, arith}
-use Rattle.std.specs.Prelude.{IfErr, slice_get}
-use Rattle.base_model.specs.Bytes.{range}
-use Rattle.base_model.specs.Known.{KnownWith}
-use Rattle.actor_parts.specs.declared.step.Answer.{Answer}
+use Rattle.backup_engine.proofs.Prelude.{◌≡◌, ◌⊎◌, ◌+◌, ◌<◌, ◌≤◌, ℕ, List, [], ◌∷◌, ◌++◌, length, Option, None, Some, Result, Ok, Err, refl, sym, ◌∙◌, subst, arith, slice_get, range, KnownWith, Answer, HeaderValue, Reads, ending, ending_of, DiskView, Both, shown_content, SinkView, size_of, slot_at, LAST_ID, RESERVE, SLOT_BYTES, Touches, IsUnderWay, Collection, Stage, Mark, Filter, Select, SweepStage, at_stage, Flush, Release, End, Refusal, Sink, Refused, Collects, Sweeps, SameBefore, ByteSet, HasNoCollisions, IsIn, IsOf, Stored, Encodes, Store, IsReachable, IsSpare, free_slots, last_id, IsStoreOf, StoreChange, store_once, blames, Tables, GcRow, IsNotMade, StartRow, TouchesBy, at_moment, CoreStep, Steps, StopsAfter, SweepsSpare, copied_in, freed_in, ChangesTo, FileEvent, FileRun, FileStep, IsAt, IsHarmless, CoreState, Event, any_step, never_damaged, end_reads, Leads, Chooses, HasNoIdLeft, collected_line, written_in, SameButSlotsOf, Collect, GivesSlotsBack, IsLeftWith, KeepsEachMap, KeepsMap, RefusedBy, WhyRefused, WroteReply}
+use Rattle.std.specs.Prelude.{IfErr}
 use Rattle.actor_parts.specs.declared.step.Answer.TheVariants as answers
 use Rattle.actor_parts.specs.StepValue as asked
-use Rattle.container_meta.specs.Spelling.{HeaderValue}
-use Rattle.dd_disk.specs.Ending.{Done, Reads, ending, ending_of}
-use Rattle.dd_disk.specs.View.{DiskView}
-use Rattle.dd_disk.specs.Writes.{Both}
-use Rattle.dd_disk.proofs.Shows.{shown_content}
-use Rattle.dd_io.specs.Flow.{SinkView}
-use Rattle.disk_format.specs.Layout.{size_of, slot_at}
-use Rattle.disk_format.specs.declared.numbers.TheConstants.{LAST_ID, RESERVE, SLOT_BYTES}
-use Rattle.gc_steps.specs.Stepping.{Touches}
-use Rattle.gc_steps.specs.UnderWay.{HasRoom, IsUnderWay}
-use Rattle.gc_steps.specs.declared.collection.Collection.{Collection}
-use Rattle.gc_steps.specs.declared.collection.Stage.{Stage}
-use Rattle.gc_steps.specs.declared.collection.Stage.TheVariants.{Mark, Filter, Select, Sweep as SweepStage}
-use Rattle.gc_steps.proofs.UnderWay.{at_stage}
+use Rattle.dd_disk.specs.Ending.{Done}
+use Rattle.gc_steps.specs.UnderWay.{HasRoom}
 use Rattle.gc_sweep.specs.declared.sweep.Next.{Next}
-use Rattle.gc_sweep.specs.declared.sweep.Next.TheVariants.{Copy, Flush, Release, End}
+use Rattle.gc_sweep.specs.declared.sweep.Next.TheVariants.{Copy}
 use Rattle.gc_sweep.specs.declared.sweep.Sweep.{Sweep}
 use Rattle.gc_sweep.specs.UnderWay.{free_in, taken_from}
-use Rattle.refusals.specs.declared.refusal.Refusal.{Refusal}
 use Rattle.refusals.specs.declared.refusal.Refusal.TheVariants as refusals
 use Rattle.reply_text.specs.declared.ending.Ending.{Ending}
-use Rattle.reply_text.specs.declared.ending.Ending.TheVariants.{Sink, Refused}
-use Rattle.script_runner.specs.Acts.{Collects, Starts, Sweeps}
+use Rattle.script_runner.specs.Acts.{Starts}
 use Rattle.script_runner.proofs.CollectCauses.{IsCauseAt, IsCollectCause, cause_at, collect_cause}
-use Rattle.segment_index.specs.Changes.{SameBefore}
-use Rattle.store_model.specs.Collisions.{ByteSet, HasNoCollisions, IsIn, IsOf}
-use Rattle.store_model.specs.Files.{Stored}
-use Rattle.store_model.specs.Image.{Encodes, Store}
-use Rattle.store_model.specs.Reserve.{HoldsJustNeeded, IsReachable, IsSpare}
-use Rattle.store_model.specs.Slots.{free_slots, last_id}
-use Rattle.store_model.specs.Standing.{IsStoreOf}
-use Rattle.store_model.specs.Steps.{StoreChange}
+use Rattle.store_model.specs.Reserve.{HoldsJustNeeded}
 use Rattle.store_model.proofs.Copies.{headers_of_right}
-use Rattle.store_model.proofs.Once.{store_once}
-use Rattle.store_state.specs.Refused.{blames}
-use Rattle.store_state.specs.declared.tables.Tables.{Tables}
-use Rattle.store_core.specs.Collecting.{GcRow, HasEnded, IsNotMade, StartRow, TouchesBy, at_moment}
-use Rattle.store_core.specs.Core.{CoreStep, Steps, StopsAfter}
-use Rattle.store_core.specs.Releases.{SweepsSpare, copied_in, freed_in}
-use Rattle.store_core.specs.Runs.{AreChangesBy, ChangesTo, FileEvent, FileRun, FileStep, IsAt}
-use Rattle.store_core.specs.Sound.{IsHarmless}
-use Rattle.store_core.specs.State.{CoreState, Event}
-use Rattle.store_core.proofs.AnySteps.{any_step}
+use Rattle.store_core.specs.Collecting.{HasEnded}
+use Rattle.store_core.specs.Runs.{AreChangesBy}
 use Rattle.store_core.proofs.CoreRuns.{running_step}
-use Rattle.store_core.proofs.Damage.{never_damaged}
 use Rattle.store_core.proofs.Unbegun.{unbegun_memory}
-use Rattle.store_core.proofs.GcSteps.{end_reads}
-use Rattle.store_core.proofs.Leading.{Leads}
 use Rattle.store_core.specs.Bounds as bounds
-use Rattle.store_core.specs.Chosen.{Chooses, HasChosen}
+use Rattle.store_core.specs.Chosen.{HasChosen}
 use Rattle.store_core.proofs.ByNeed.{collects_by_need}
 use Rattle.store_core.proofs.JustNeeded.{leaves_just_needed}
 use Rattle.store_core.proofs.Releasing.{leaves_none_spare}
 use Rattle.store_core.proofs.Rooms.{free_held, room_ended}
-use Rattle.backup_engine.specs.Collected.{Collected, CollectedAll, HasNoIdLeft, collected_line, written_in}
-use Rattle.backup_engine.specs.Frame.{SameButSlotsOf}
-use Rattle.backup_engine.specs.Line.{Collect}
-use Rattle.backup_engine.specs.Promise.{GivesSlotsBack, IsLeftWith, KeepsEachMap, KeepsMap, RefusedBy, WhyRefused, WroteReply}
+use Rattle.backup_engine.specs.Collected.{Collected, CollectedAll}
 use Rattle.backup_engine.proofs.Called.{Called, Starts as StartsAt, starts}
 use Rattle.backup_engine.proofs.CollectKept.{begun_is, ends, index, since_old, sized, so_begun, start_event, store}
 use Rattle.backup_engine.proofs.CollectMaps.{AreQuiet, DidSteps, MapSoFar, all_maps, did_steps, gc_file, none_held, quiet_then, run_then, start_file}

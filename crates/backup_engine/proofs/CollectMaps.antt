@@ -1,52 +1,22 @@
 -- The steps of a collection over a map: the core stays at it, at the store to which they lead whatever the disk holds, and what they give back
 -- no file needs.
-use Rattle.std.proofs.Common.{◌≡◌, inl, inr, ◌+◌, ◌≤◌, ℕ, zero, suc, List, [], ◌∷◌, ◌++◌, get_or, replicate, Option, None, Result, Ok, refl, sym, ◌∙◌, ap, subst, arith}
-use Rattle.std.specs.List.{AllByRecursion}
-use Rattle.actor_parts.specs.declared.actor.TheConstants.{ACTORS}
+use Rattle.backup_engine.proofs.Prelude.{◌≡◌, inl, inr, ◌+◌, ◌≤◌, ℕ, zero, suc, List, [], ◌∷◌, ◌++◌, get_or, Option, None, Result, Ok, refl, sym, ◌∙◌, ap, subst, arith, AllByRecursion, ACTORS, Idle, Answer, StepValue, Kind, PlaceMap, Segment, HeaderValue, header_of, DiskView, size_of, Stage, Mark, Filter, Select, SweepStage, Flush, Release, End, slot_in_turn, Phase, Refusal, CollectionRun, Collects, ByteSet, HasNoCollisions, IsIn, OpensAs, Stored, with_freed, Store, IsReachable, first_free, free_slots, ids_of, with_slot, StoreChange, SealContainer, ChangeName, FlushContainer, FreeContainer, with_sealed, Represents, Tables, GoesOn, Steps, SweepsSpare, ChangesTo, FileEvent, FileRun, FileStep, IsAt, stored_after, stored_by, CoreState, any_step, Leads}
+use Rattle.std.proofs.Common.{replicate}
 use Rattle.actor_parts.specs.declared.part.Part.{Part}
-use Rattle.actor_parts.specs.declared.part.Part.TheVariants.{Idle}
-use Rattle.actor_parts.specs.declared.step.Answer.{Answer}
 use Rattle.actor_parts.specs.declared.step.Answer.TheVariants as answers
 use Rattle.actor_parts.specs.Parts.{part_of}
 use Rattle.actor_parts.specs.StepValue as asked
-use Rattle.actor_parts.specs.StepValue.{StepValue}
-use Rattle.container_meta.specs.declared.kind.Kind.{Kind}
-use Rattle.container_meta.specs.Places.{PlaceMap}
-use Rattle.container_meta.specs.Segments.{Segment}
-use Rattle.container_meta.specs.Spelling.{HeaderValue, header_of}
-use Rattle.dd_disk.specs.View.{DiskView}
-use Rattle.disk_format.specs.Layout.{size_of}
 use Rattle.gc_steps.specs.Roots.{IsActorKey, IsPartKey}
-use Rattle.gc_steps.specs.declared.collection.Stage.{Stage}
-use Rattle.gc_steps.specs.declared.collection.Stage.TheVariants.{Mark, Filter, Select, Sweep as SweepStage}
 use Rattle.gc_steps.proofs.Sparing.{ready_is_spare}
 use Rattle.gc_steps.proofs.Started.{part_holds}
 use Rattle.gc_steps.proofs.StepSafe.{IsStoreAfter}
 use Rattle.gc_sweep.specs.declared.sweep.Next.{Next}
-use Rattle.gc_sweep.specs.declared.sweep.Next.TheVariants.{Copy, Flush, Release, End}
+use Rattle.gc_sweep.specs.declared.sweep.Next.TheVariants.{Copy}
 use Rattle.gc_sweep.specs.declared.sweep.Sweep.{Sweep}
-use Rattle.gc_sweep.specs.InTurn.{slot_in_turn}
 use Rattle.gc_sweep.proofs.InSlots.{id_at}
-use Rattle.refusals.specs.declared.refusal.Phase.{Phase}
-use Rattle.refusals.specs.declared.refusal.Refusal.{Refusal}
-use Rattle.script_runner.specs.Acts.{CollectionRun, Collects}
-use Rattle.store_model.specs.Collisions.{ByteSet, HasNoCollisions, IsIn, OpensAs}
-use Rattle.store_model.specs.Files.{Stored}
-use Rattle.store_model.specs.Freeing.{with_freed}
-use Rattle.store_model.specs.Image.{Store}
-use Rattle.store_model.specs.Reserve.{IsReachable}
-use Rattle.store_model.specs.Slots.{first_free, free_slots, ids_of, with_slot}
-use Rattle.store_model.specs.Steps.{StoreChange, SealContainer, ChangeName, FlushContainer, FreeContainer, with_sealed}
-use Rattle.store_state.specs.Tables.{Represents}
-use Rattle.store_state.specs.declared.tables.Tables.{Tables}
-use Rattle.store_core.specs.Collecting.{GoesOn}
-use Rattle.store_core.specs.Core.{Steps}
-use Rattle.store_core.specs.Releases.{AreGcSteps, SweepsSpare}
-use Rattle.store_core.specs.Runs.{ChangesTo, FileEvent, FileRun, FileStep, IsAt, IsOnTheWay, stored_after, stored_by, stored_tried}
-use Rattle.store_core.specs.State.{CoreState}
-use Rattle.store_core.proofs.AnySteps.{any_step}
+use Rattle.store_core.specs.Releases.{AreGcSteps}
+use Rattle.store_core.specs.Runs.{IsOnTheWay, stored_tried}
 use Rattle.store_core.proofs.Frames.{first_with}
-use Rattle.store_core.proofs.Leading.{Leads}
 use Rattle.store_core.proofs.SparedRest.{led_to}
 use Rattle.backup_engine.proofs.CollectKept.{start_event}
 use Rattle.backup_engine.proofs.CollectSteps.{ChangedSo, CollectedSoFar, IsChangeOf, changed, gc_event, goes, more_is, one_more, one_step}

@@ -1,20 +1,9 @@
 -- Containers that a collection left are byte for byte what they were.
-use Rattle.std.proofs.Common.{◌≡◌, ◌⊎◌, inl, inr, ◌+◌, ◌-◌, ◌<◌, ◌≤◌, ℕ, List, [], ◌∷◌, ◌++◌, Some, refl, sym, ◌∙◌, ap₂, subst, arith}
-use Rattle.std.specs.Prelude.{slice_get}
-use Rattle.std.specs.List.{AllByRecursion}
+use Rattle.backup_engine.proofs.Prelude.{◌≡◌, ◌⊎◌, inl, inr, ◌+◌, ◌-◌, ◌<◌, ◌≤◌, ℕ, List, [], ◌∷◌, ◌++◌, Some, refl, sym, ◌∙◌, ap₂, subst, arith, slice_get, AllByRecursion, range, HeaderValue, slot_at, SLOT_BYTES, id_below, HasNoGate, Encodes, Store, last_id, LiesBeside, SameButSlotsOf}
 use Rattle.std.proofs.lemmas.Bool.{cases_lt}
-use Rattle.base_model.specs.Bytes.{range}
 use Rattle.base_model.proofs.Ranges.{range-join}
-use Rattle.container_meta.specs.Spelling.{HeaderValue}
-use Rattle.disk_format.specs.Layout.{slot_at}
-use Rattle.disk_format.specs.declared.numbers.TheConstants.{SLOT_BYTES}
-use Rattle.gc_steps.proofs.FirstStage.{id_below}
 use Rattle.gc_steps.proofs.Sparing.{held_within}
-use Rattle.store_model.specs.Freeing.{HasNoGate}
-use Rattle.store_model.specs.Image.{Encodes, Store}
-use Rattle.store_model.specs.Slots.{last_id}
 use Rattle.store_model.proofs.Freed.{slot_held}
-use Rattle.backup_engine.specs.Frame.{LiesBeside, SameButSlotsOf}
 use Rattle.backup_engine.proofs.SweptSlots.{IsRenewed, SweptSlots}
 
 -- what lies after the header of a slot has no gate

@@ -1,67 +1,32 @@
 -- The steps of a collection, one after the other, whatever the disk holds: what they changed of the store so far.
-use Rattle.std.proofs.Common.{◌≡◌, ◌≢◌, inl, inr, ◌+◌, ◌<◌, ◌≤◌, ℕ, List, [], ◌∷◌, ◌++◌, length, get_or, Option, Some, None, Result, Ok, refl, sym, ◌∙◌, ap, subst, arith}
-use Rattle.std.specs.Prelude.{Contains, slice_get}
-use Rattle.std.specs.List.{AllByRecursion}
-use Rattle.std.proofs.lemmas.List.Elements.{Contains-append_right, Contains-get_or}
-use Rattle.actor_parts.specs.declared.step.Answer.{Answer}
+use Rattle.backup_engine.proofs.Prelude.{◌≡◌, ◌≢◌, inl, inr, ◌+◌, ◌<◌, ◌≤◌, ℕ, List, [], ◌∷◌, ◌++◌, length, get_or, Option, Some, None, Result, Ok, refl, sym, ◌∙◌, ap, subst, arith, Contains, slice_get, AllByRecursion, Contains-append_right, Contains-get_or, Answer, PlaceMap, Segment, HeaderValue, header_of, DiskView, IsDurable, IsLater, OnlyReads, Both, later_here, later_on, size_of, slot_at, filter_at, Moment, StepsTo, Touches, phase_at, IsUnderWay, Collection, Stage, Mark, Filter, Select, SweepStage, Flush, Release, End, slot_in_turn, HasNext, Phase, Refusal, CollectionRun, Collects, with_freed, IsValidFor, Store, HasFree, first_free, last_id, FlushContainer, FreeContainer, StoreChange, with_sealed, some_same, first_closed, some_free, Changes, SameBefore, Represents, Runs, Tables, GoesOn, TouchesBy, at_moment, Steps, HadContainer, copied_in, freed_in, ChangesTo, CoreState, Event, IsRunning, step_runs, at_stage, FreesUpTo, written_in, MayFill, SameButSlotsOf}
 use Rattle.actor_parts.specs.declared.step.Answer.TheVariants as answers
 use Rattle.actor_parts.specs.StepValue as asked
-use Rattle.container_meta.specs.Places.{PlaceMap}
-use Rattle.container_meta.specs.Segments.{Segment}
-use Rattle.container_meta.specs.Spelling.{HeaderValue, header_of}
 use Rattle.dd_disk.specs.Ending.{Ending}
 use Rattle.dd_disk.specs.Ending.{Done as Finished}
-use Rattle.dd_disk.specs.View.{DiskView, IsDurable, IsLater, OnlyReads}
-use Rattle.dd_disk.specs.Writes.{Both}
-use Rattle.dd_disk.proofs.Later.{later_here, later_on}
-use Rattle.disk_format.specs.Layout.{size_of, slot_at}
-use Rattle.gc_steps.specs.Stages.{filter_at}
-use Rattle.gc_steps.specs.Stepping.{Moment, StepsTo, TablesAfter, Touches, phase_at}
-use Rattle.gc_steps.specs.UnderWay.{IsUnderWay}
-use Rattle.gc_steps.specs.declared.collection.Collection.{Collection}
-use Rattle.gc_steps.specs.declared.collection.Stage.{Stage}
-use Rattle.gc_steps.specs.declared.collection.Stage.TheVariants.{Mark, Filter, Select, Sweep as SweepStage}
+use Rattle.gc_steps.specs.Stepping.{TablesAfter}
 use Rattle.gc_sweep.specs.declared.sweep.Next.{Next}
-use Rattle.gc_sweep.specs.declared.sweep.Next.TheVariants.{Copy, Flush, Release, End}
+use Rattle.gc_sweep.specs.declared.sweep.Next.TheVariants.{Copy}
 use Rattle.gc_sweep.specs.declared.sweep.Sweep.{Sweep}
 use Rattle.gc_sweep.specs.Beginning.{Begins}
-use Rattle.gc_sweep.specs.InTurn.{slot_in_turn}
-use Rattle.gc_sweep.specs.UnderWay.{HasNext, IsSweeping, sources_before}
+use Rattle.gc_sweep.specs.UnderWay.{IsSweeping, sources_before}
 use Rattle.gc_sweep.proofs.InSlots.{IsSourceIn, stands_in}
-use Rattle.refusals.specs.declared.refusal.Phase.{Phase}
-use Rattle.refusals.specs.declared.refusal.Refusal.{Refusal}
-use Rattle.script_runner.specs.Acts.{CollectionRun, Collects}
 use Rattle.script_runner.proofs.CollectCauses.{no_end}
 use Rattle.backup_engine.proofs.CollectCounts.{HasCounted, copies_by, counted_on, freed_by, snapshot_on}
-use Rattle.store_model.specs.Freeing.{with_freed}
-use Rattle.store_model.specs.Image.{IsValidFor, Store}
-use Rattle.store_model.specs.Slots.{HasFree, first_free, last_id}
-use Rattle.store_model.specs.Steps.{FlushContainer, FreeContainer, StoreChange, with_sealed}
-use Rattle.store_model.proofs.Copies.{some_same}
-use Rattle.store_model.proofs.Free.{first_closed, same_free, some_free}
+use Rattle.store_model.proofs.Free.{same_free}
 use Rattle.store_model.proofs.Freed.{valid_freed}
 use Rattle.store_model.proofs.Valid.{valid_sealed}
-use Rattle.segment_index.specs.Changes.{Changes, SameBefore}
 use Rattle.store_state.specs.Settled.{IsSettled}
-use Rattle.store_state.specs.Tables.{Represents, Runs}
-use Rattle.store_state.specs.declared.tables.Tables.{Tables}
-use Rattle.store_core.specs.Collecting.{GoesOn, HasEnded, TouchesBy, at_moment}
-use Rattle.store_core.specs.Core.{Steps}
-use Rattle.store_core.specs.Frame.{HadContainer}
-use Rattle.store_core.specs.Releases.{copied_in, freed_in}
-use Rattle.store_core.specs.Runs.{ChangesTo}
-use Rattle.store_core.specs.State.{CoreState, Event, IsRunning, IsUnderWayIn}
+use Rattle.store_core.specs.Collecting.{HasEnded}
+use Rattle.store_core.specs.State.{IsUnderWayIn}
 use Rattle.store_core.proofs.CoreRuns.{running_step}
 use Rattle.store_core.proofs.KeepingFiles.{chain_on}
 use Rattle.store_core.proofs.Opened.{durable_settled}
-use Rattle.store_core.proofs.RunningOn.{step_runs}
-use Rattle.gc_steps.proofs.UnderWay.{at_stage}
-use Rattle.backup_engine.specs.Collected.{FreesUpTo, IsOfCollection, written_in}
+use Rattle.backup_engine.specs.Collected.{IsOfCollection}
 use Rattle.backup_engine.proofs.EarlierFrees.{frees_on}
 use Rattle.backup_engine.proofs.FirstActor.{up_of}
 use Rattle.backup_engine.proofs.NewContainers.{new_few, new_in, new_with, new_without}
 use Rattle.backup_engine.proofs.Returned.{one_later}
-use Rattle.backup_engine.specs.Frame.{MayFill, SameButSlotsOf}
 use Rattle.backup_engine.proofs.SweptBytes.{IsFramed, filled_with, freed_with, stage_so}
 use Rattle.backup_engine.proofs.SweptSlots.{SweptSlots, all-append, copied-append, freed-append, slots_filled, slots_freed, written-append}
 

@@ -1,22 +1,9 @@
 -- What `collect` keeps, by what it had a core do, and its lines.
-use Rattle.std.proofs.Common.{None, ◌≡◌, inl, inr, ℕ, [], Some, Result, Ok, Err, sym, subst}
+use Rattle.backup_engine.proofs.Prelude.{None, ◌≡◌, inl, inr, ℕ, [], Some, Result, Ok, Err, sym, subst, DiskView, IsLater, later_on, SourceView, SinkView, Refusal, Memory, Refused, Sweeps, Sent, CoreState, collected_line, CollectRun, WritesCollected, Collect, RunsSingle, IsCollect, Keeps, ending_in}
 use Rattle.actor_parts.specs.declared.step.Answer.TheVariants as answers
-use Rattle.dd_disk.specs.View.{DiskView, IsLater}
-use Rattle.dd_disk.proofs.Later.{later_on}
-use Rattle.dd_io.specs.Flow.{SourceView, SinkView}
-use Rattle.refusals.specs.declared.refusal.Refusal.{Refusal}
-use Rattle.refusals.specs.declared.refusal.Refusal.TheVariants.{Memory}
 use Rattle.reply_text.specs.declared.ending.Ending.{Ending}
-use Rattle.reply_text.specs.declared.ending.Ending.TheVariants.{Refused}
-use Rattle.script_runner.specs.Acts.{Starts, Sweeps}
-use Rattle.script_runner.specs.Runner.{Sent}
-use Rattle.store_core.specs.State.{CoreState}
-use Rattle.backup_engine.specs.Collected.{collected_line}
-use Rattle.backup_engine.specs.Collecting.{CollectRun, FinishRun, IsStopped, WritesCollected}
-use Rattle.backup_engine.specs.Line.{Collect}
-use Rattle.backup_engine.specs.Saying.{RunsSingle}
-use Rattle.backup_engine.specs.Singles.{IsCollect}
-use Rattle.backup_engine.specs.TopCall.{Keeps, ending_in}
+use Rattle.script_runner.specs.Acts.{Starts}
+use Rattle.backup_engine.specs.Collecting.{FinishRun, IsStopped}
 use Rattle.backup_engine.proofs.Called.{Called}
 use Rattle.backup_engine.proofs.CollectKept.{done_any, ends_found, ends_frame, stopped_any, unbegun_any, unbegun_found, unbegun_frame, untold_any}
 use Rattle.backup_engine.proofs.CollectLines.{stopped_run, swept_run, unbegun_run}

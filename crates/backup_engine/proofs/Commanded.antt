@@ -1,19 +1,6 @@
 -- A single command over a store for which room was made, or was there; or that was not opened: what the top call says of it.
-use Rattle.std.proofs.Common.{◌≡◌, inl, inr, List, [], ℕ, Option, Some, refl, subst}
-use Rattle.dd_disk.specs.View.{DiskView, IsLater}
-use Rattle.dd_io.specs.Flow.{SinkView, SourceView}
-use Rattle.store_machine.specs.Commands.{Replied}
-use Rattle.recovery.specs.Room.{IsNotFull, RoomMade, RoomUnmade}
-use Rattle.refusals.specs.declared.refusal.Refusal.{Refusal}
-use Rattle.refusals.specs.declared.refusal.Refusal.TheVariants.{Full}
+use Rattle.backup_engine.proofs.Prelude.{◌≡◌, inl, inr, List, [], ℕ, Option, Some, refl, subst, DiskView, IsLater, SinkView, SourceView, Replied, IsNotFull, RoomMade, RoomUnmade, Refusal, Full, Refused, IsNotRead, Holds, Took, CommandLine, FailsAlone, RunsEachByFiles, SpeaksAs, DoesCommand, Keeps}
 use Rattle.reply_text.specs.declared.ending.Ending.{Ending}
-use Rattle.reply_text.specs.declared.ending.Ending.TheVariants.{Refused}
-use Rattle.store_core.specs.Opening.{IsNotRead}
-use Rattle.backup_engine.specs.AnyDisk.{Holds, Took}
-use Rattle.backup_engine.specs.Line.{CommandLine}
-use Rattle.backup_engine.specs.ByFiles.{FailsAlone, RunsEachByFiles}
-use Rattle.backup_engine.specs.Singles.{SpeaksAs}
-use Rattle.backup_engine.specs.TopCall.{DoesCommand, Keeps}
 use Rattle.backup_engine.proofs.EndsMade.{RunsIfOpened, ends_here, ends_made, ends_unmade, ends_unread}
 
 module _ (D : Type 0) (view : D → DiskView) (command : CommandLine) (given : List ℕ) (v w : DiskView) (source source_now : SourceView) (sink sink_now : SinkView) where

@@ -1,21 +1,9 @@
 -- The name of a file that a session was fed is given its root.
-use Rattle.std.proofs.Common.{◌≡◌, ◌≤◌, ◌∙◌, ℕ, List, [], length, Ok, Err, refl, sym, ap, subst, append-nil}
-use Rattle.disk_format.specs.declared.numbers.TheConstants.{MOST_FILE}
-use Rattle.disk_format.specs.Cells.{Root}
-use Rattle.container_meta.specs.Segments.{KindSegment}
-use Rattle.actor_parts.specs.declared.step.Answer.{Answer}
+use Rattle.backup_engine.proofs.Prelude.{◌≡◌, ◌≤◌, ◌∙◌, ℕ, List, [], length, Ok, Err, refl, sym, ap, subst, MOST_FILE, Root, KindSegment, Answer, StepValue, Refusal, Piece, Data, Node, IsPieceOf, piece_segment, root_of, CoreStep, kept_of, CoreState, BytesAreCounted, SessionState, MayBe, opens_of, IsOneOf}
+use Rattle.std.proofs.Common.{append-nil}
 use Rattle.actor_parts.specs.StepValue as asked
-use Rattle.actor_parts.specs.StepValue.{StepValue}
-use Rattle.refusals.specs.declared.refusal.Refusal.{Refusal}
-use Rattle.store_model.specs.Pieces.{Piece, Data, Node, IsPieceOf, piece_segment}
-use Rattle.store_model.specs.Trees.{root_of}
-use Rattle.store_core.specs.Core.{CoreStep}
-use Rattle.store_core.specs.Keeping.{kept_of}
-use Rattle.store_core.specs.State.{CoreState}
-use Rattle.ingest_session.specs.Facts.{AllIsKept, BytesAreCounted}
-use Rattle.ingest_session.specs.State.{SessionState}
-use Rattle.backup_engine.specs.Feeding.{IsAllFed, IsPut, MayBe, opens_of}
-use Rattle.backup_engine.specs.Running.{IsOneOf}
+use Rattle.ingest_session.specs.Facts.{AllIsKept}
+use Rattle.backup_engine.specs.Feeding.{IsAllFed, IsPut}
 use Rattle.backup_engine.proofs.FirstActor.{by_first}
 use Rattle.backup_engine.proofs.WayCommits.{way_commits, way_uncommitted}
 

@@ -1,46 +1,20 @@
 -- A name that was deleted, or not: what the promise says of any disk, and what is never changed.
-use Rattle.std.proofs.Common.{◌≡◌, inl, inr, ◌-◌, ℕ, Bool, List, [], length, is_some, true, false, Option, None, Some, Result, Ok, Err, refl, sym, ◌∙◌, ap, subst, arith}
-use Rattle.std.specs.Prelude.{IsSome}
-use Rattle.std.proofs.lemmas.Bool.{ltb-false}
+use Rattle.backup_engine.proofs.Prelude.{◌≡◌, inl, inr, ◌-◌, ℕ, Bool, List, [], length, true, false, Option, None, Some, Result, Ok, Err, refl, sym, ◌∙◌, ap, subst, arith, IsSome, ltb-false, SameOutside, Gone, CELL_BYTES, half_cells, cell_at, CountsFault, ending_of, StandsFor, DiskView, IsDurable, IsLater, durable_reads, stands_reads, shown_content, SourceView, SinkView, Answer, ChangesBytes, SameButRecordBy, JournalValue, NameMap, Refusal, Memory, NoFile, BadName, Numbers, DiskRead, DiskWrite, Sink, Refused, deleted_line, Store, Encodes, HasJournal, has_journal, CanChangeName, with_change, blames, CoreStep, NamesOne, Steps, CoreState, Event, EndsDurable, IsCaused, IsDeleted, OnAnyDisk, disk_ending, room_in, KeepsOthers, KeepsRest, LacksNumbers, MayChange, WroteReply}
+use Rattle.std.proofs.Common.{is_some}
 use Rattle.std.specs.FinMap as finite
-use Rattle.base_model.specs.Frames.{SameOutside}
-use Rattle.disk_format.specs.Cells.Change.{Delete as Gone}
-use Rattle.disk_format.specs.declared.numbers.TheConstants.{CELL_BYTES}
-use Rattle.disk_format.specs.Layout.{half_cells, cell_at}
-use Rattle.dd_disk.specs.Ending.{CountsFault, ending_of}
 use Rattle.dd_disk.specs.Ending as device
-use Rattle.dd_disk.specs.Moves.{Acts, StandsFor}
-use Rattle.dd_disk.specs.View.{DiskView, IsDurable, IsLater}
-use Rattle.dd_disk.proofs.Later.{durable_reads}
-use Rattle.dd_disk.proofs.Moves.{stands_durable, stands_reads}
-use Rattle.dd_disk.proofs.Shows.{shown_content}
-use Rattle.dd_io.specs.Flow.{SourceView, SinkView}
-use Rattle.actor_parts.specs.declared.step.Answer.{Answer}
+use Rattle.dd_disk.specs.Moves.{Acts}
+use Rattle.dd_disk.proofs.Moves.{stands_durable}
 use Rattle.actor_parts.specs.StepValue as asked
-use Rattle.ingest_steps.specs.Naming.{ChangesBytes, ChangesJournalAlone, IsDeleteRefusal}
+use Rattle.ingest_steps.specs.Naming.{ChangesJournalAlone, IsDeleteRefusal}
 use Rattle.ingest_steps.specs.Naming as naming
-use Rattle.ingest_steps.specs.Recording.{SameButRecordBy, has_cell}
+use Rattle.ingest_steps.specs.Recording.{has_cell}
 use Rattle.ingest_steps.proofs.Recorded.{count_of_cell}
 use Rattle.journal_cells.specs.Checkpoints.{SameButHalf}
-use Rattle.journal_cells.specs.Journal.{JournalValue}
-use Rattle.namespace.specs.Names.{NameMap}
-use Rattle.refusals.specs.declared.refusal.Refusal.{Refusal}
-use Rattle.refusals.specs.declared.refusal.Refusal.TheVariants.{Memory, NoFile, BadName, Numbers, DiskRead, DiskWrite}
 use Rattle.reply_text.specs.declared.ending.Ending.{Ending}
-use Rattle.reply_text.specs.declared.ending.Ending.TheVariants.{Sink, Refused}
-use Rattle.reply_text.specs.Text.{deleted_line}
-use Rattle.store_model.specs.Image.{Store, Encodes, names_of}
-use Rattle.store_model.specs.Standing.{HasJournal}
-use Rattle.store_model.proofs.Journaled.{has_journal}
-use Rattle.store_model.specs.Steps.{CanChangeName, with_change}
-use Rattle.store_state.specs.Refused.{blames}
-use Rattle.store_core.specs.Core.{CoreStep, NamesOne, Steps}
-use Rattle.store_core.specs.State.{CoreState, Event}
-use Rattle.backup_engine.specs.AnyDisk.{EndsDurable, IsCaused, IsDeleted, OnAnyDisk, disk_ending, room_in}
-use Rattle.backup_engine.specs.Frame.{KeepsButRecord, KeepsOthers, SameButRecordOf, KeepsRest}
+use Rattle.store_model.specs.Image.{names_of}
+use Rattle.backup_engine.specs.Frame.{KeepsButRecord, SameButRecordOf}
 use Rattle.backup_engine.specs.Line.{Delete}
-use Rattle.backup_engine.specs.PlainMap.{LacksNumbers}
-use Rattle.backup_engine.specs.Promise.{MayChange, WroteReply}
 use Rattle.backup_engine.proofs.Called.{Called}
 use Rattle.backup_engine.proofs.NotDone.{holds}
 use Rattle.backup_engine.proofs.PutNames.{opened_on}

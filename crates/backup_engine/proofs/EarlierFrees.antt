@@ -1,10 +1,5 @@
 -- Changes that give back only containers of before, one after the other.
-use Rattle.std.proofs.Common.{◌≤◌, ℕ, List, [], ◌∷◌, ◌++◌, subst, arith}
-use Rattle.store_core.specs.Runs.{ChangesTo}
-use Rattle.store_model.specs.Freeing.{with_freed}
-use Rattle.store_model.specs.Image.{Store}
-use Rattle.store_model.specs.Steps.{StoreChange, SealContainer, ChangeName, FlushContainer, FreeContainer, with_change, with_sealed}
-use Rattle.backup_engine.specs.Collected.{FreesUpTo}
+use Rattle.backup_engine.proofs.Prelude.{◌≤◌, ℕ, List, [], ◌∷◌, ◌++◌, subst, arith, ChangesTo, with_freed, Store, StoreChange, SealContainer, ChangeName, FlushContainer, FreeContainer, with_change, with_sealed, FreesUpTo}
 
 -- and others after them
 pub frees_on : (last : ℕ) (changes more : List StoreChange) (s t : Store) → ChangesTo changes s t → FreesUpTo last changes s → FreesUpTo last more t →

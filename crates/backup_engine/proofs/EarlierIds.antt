@@ -1,28 +1,8 @@
 -- A collection that ran out of ids once room was made: so it is from the store on of which room was made.
-use Rattle.std.proofs.Common.{◌≡◌, ◌+◌, ◌≤◌, ℕ, List, [], ◌∷◌, ◌++◌, length, Option, Some, refl, sym, ◌∙◌, ap, subst, arith}
-use Rattle.base_model.specs.Known.{KnownWith}
-use Rattle.dd_disk.specs.View.{DiskView}
-use Rattle.dd_disk.proofs.Shows.{shown_content}
-use Rattle.disk_format.specs.declared.numbers.TheConstants.{LAST_ID}
-use Rattle.gc_steps.proofs.FirstStage.{id_below}
-use Rattle.recovery.specs.Room.{RoomMade}
-use Rattle.refusals.specs.declared.refusal.Refusal.{Refusal}
-use Rattle.refusals.specs.declared.refusal.Refusal.TheVariants.{Numbers}
+use Rattle.backup_engine.proofs.Prelude.{◌≡◌, ◌+◌, ◌≤◌, ℕ, List, [], ◌∷◌, ◌++◌, length, Option, Some, refl, sym, ◌∙◌, ap, subst, arith, KnownWith, DiskView, shown_content, LAST_ID, id_below, RoomMade, Refusal, Numbers, Refused, SweepsSpare, ByteSet, IsIn, OpensAs, Stored, FreesTo, with_all_freed, with_freed, Store, Encodes, last_id, FreeContainer, StoreChange, store_once, FreesUpTo, HasNoIdLeft, written_in, CommandLine, Collect, RefusedBy, WhyRefused}
 use Rattle.reply_text.specs.declared.ending.Ending.{Ending}
-use Rattle.reply_text.specs.declared.ending.Ending.TheVariants.{Refused}
-use Rattle.store_core.specs.Releases.{SweepsSpare}
-use Rattle.store_model.specs.Collisions.{ByteSet, IsIn, OpensAs}
-use Rattle.store_model.specs.Files.{Stored}
-use Rattle.store_model.specs.Freeing.{FreesTo, with_all_freed, with_freed}
-use Rattle.store_model.specs.Image.{Store, Encodes}
-use Rattle.store_model.specs.Slots.{last_id}
-use Rattle.store_model.specs.Steps.{FreeContainer, StoreChange}
 use Rattle.store_model.proofs.Freed.{length-without_slot}
-use Rattle.store_model.proofs.Once.{store_once}
 use Rattle.store_state.proofs.Taken.{last_without}
-use Rattle.backup_engine.specs.Collected.{FreesUpTo, HasNoIdLeft, written_in}
-use Rattle.backup_engine.specs.Line.{CommandLine, Collect}
-use Rattle.backup_engine.specs.Promise.{RefusedBy, WhyRefused}
 use Rattle.backup_engine.proofs.EarlierFrees.{frees_later}
 
 -- containers that were given back, as changes of a store

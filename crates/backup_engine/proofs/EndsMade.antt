@@ -1,27 +1,10 @@
 -- How an `ingest` or a `collect` ended over a store for which room was made, or was there, of all of the call.
-use Rattle.std.proofs.Common.{◌≡◌, inl, inr, ◌≤◌, ℕ, IsTrue, List, Option, Some, Err, refl, subst}
-use Rattle.base_model.specs.Known.{KnownWith}
-use Rattle.dd_disk.specs.View.{DiskView}
-use Rattle.dd_disk.proofs.Shows.{shown_content}
-use Rattle.dd_io.specs.Flow.{SinkView}
+use Rattle.backup_engine.proofs.Prelude.{◌≡◌, inl, inr, ◌≤◌, ℕ, IsTrue, List, Option, Some, Err, refl, subst, KnownWith, DiskView, shown_content, SinkView, IsNotFull, RoomMade, RoomUnmade, Refusal, Full, Refused, IsGivenUp, IsNotRead, IsReadFrom, CoreState, ByteSet, IsIn, IsOf, OpensAs, Stored, Store, Encodes, RESERVE, free_slots, store_once, fails, CommandLine, Format, Ingest, Restore, Collect, EndsFailing, EndsSo, KeepsEachMap}
 use Rattle.recovery.specs.Opening.{Opens}
-use Rattle.recovery.specs.Room.{IsNotFull, RoomMade, RoomUnmade}
-use Rattle.refusals.specs.declared.refusal.Refusal.{Refusal}
-use Rattle.refusals.specs.declared.refusal.Refusal.TheVariants.{Full}
 use Rattle.reply_text.specs.declared.ending.Ending.{Ending}
-use Rattle.reply_text.specs.declared.ending.Ending.TheVariants.{Refused}
-use Rattle.store_core.specs.Opening.{IsGivenUp, IsNotRead, IsReadFrom}
-use Rattle.store_core.specs.State.{CoreState}
-use Rattle.store_model.specs.Collisions.{ByteSet, IsIn, IsOf, OpensAs}
-use Rattle.store_model.specs.Files.{Stored}
-use Rattle.store_model.specs.Image.{Store, Encodes}
-use Rattle.disk_format.specs.declared.numbers.TheConstants.{RESERVE}
-use Rattle.store_model.specs.Slots.{free_slots}
-use Rattle.store_model.proofs.Once.{store_once}
-use Rattle.store_state.specs.Refused.{fails}
-use Rattle.backup_engine.specs.Line.{CommandLine, Format, Ingest, Restore, Delete, Collect}
+use Rattle.backup_engine.specs.Line.{Delete}
 use Rattle.backup_engine.specs.Line as table
-use Rattle.backup_engine.specs.Promise.{EndsEachMap, EndsFailing, EndsSo, KeepsEachMap}
+use Rattle.backup_engine.specs.Promise.{EndsEachMap}
 use Rattle.backup_engine.proofs.EarlierIds.{refused_earlier}
 
 -- ---- two slots or more were closed

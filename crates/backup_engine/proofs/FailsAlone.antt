@@ -1,27 +1,14 @@
 -- Over a disk that stands for files a refusal ends a script only where there was no memory, or a call of the disk failed.
-use Rattle.std.proofs.Common.{◌≡◌, ◌⊎◌, inl, inr, ℕ, IsTrue, List, [], ◌∷◌, ◌++◌, Option, Some, Result, Ok, Err, refl, sym, ◌∙◌, subst}
-use Rattle.dd_disk.specs.View.{DiskView}
-use Rattle.refusals.specs.declared.refusal.Refusal.{Refusal}
-use Rattle.refusals.specs.declared.refusal.Refusal.TheVariants.{Memory, Full, DiskRead, DiskWrite, Corrupt, Missing, NotAStore, Version, Damaged, WrongSize}
+use Rattle.backup_engine.proofs.Prelude.{◌≡◌, ◌⊎◌, inl, inr, ℕ, IsTrue, List, [], ◌∷◌, ◌++◌, Option, Some, Result, Ok, Err, refl, sym, ◌∙◌, subst, DiskView, Refusal, Memory, Full, DiskRead, DiskWrite, Corrupt, Missing, NotAStore, Version, Damaged, WrongSize, Refused, OpensNone, Lines, Replied, desk, reply_of, Stepped, of_files, FilesUnopened, FileDesk, fails, FailsAlone, RunsEachByFiles}
 use Rattle.reply_text.specs.declared.ending.Ending.{Ending}
-use Rattle.reply_text.specs.declared.ending.Ending.TheVariants.{Refused}
 use Rattle.script_lines.specs.Grammar as lines
 use Rattle.script_lines.specs.ReplyValue as replies
-use Rattle.store_core.specs.Opening.{OpensNone}
 use Rattle.store_machine.specs.Asked as asked
-use Rattle.store_machine.specs.Commands.{Lines, Replied, desk}
 use Rattle.store_machine.specs.Runs.{Run}
 use Rattle.store_machine.specs.Done.{Done}
 use Rattle.store_machine.specs.Done as done
-use Rattle.store_machine.specs.Lines.{reply_of}
-use Rattle.store_machine.specs.Machine.{Stepped}
 use Rattle.store_machine.specs.Opening.{MayRefuseOpening}
 use Rattle.store_machine.specs.Opening as opening
-use Rattle.store_machine.specs.Values.{of_files}
-use Rattle.core_machine.specs.FileOpenings.{FilesUnopened}
-use Rattle.script_runner.specs.LinesAreFileRuns.{FileDesk}
-use Rattle.store_state.specs.Refused.{fails}
-use Rattle.backup_engine.specs.ByFiles.{FailsAlone, RunsEachByFiles}
 
 pub refusal_fails : (refusal : Refusal) → MayRefuseOpening of_files refusal → IsTrue (fails refusal)
 refusal_fails Memory may = refl

@@ -1,28 +1,16 @@
 -- What is still to be sealed of a session, and what it was told is kept, while calls are made.
-use Rattle.std.proofs.Common.{◌≡◌, ◌≢◌, ◌∙◌, ℕ, zero, suc, Bool, true, false, ◌||◌, if◌then◌else◌, List, [], ◌∷◌, ◌++◌, map, Option, Some, None, refl, sym, ap, subst, append-nil}
-use Rattle.std.specs.List.{AllByRecursion, list_any}
-use Rattle.std.specs.Str.{bytes_eq}
-use Rattle.std.proofs.lemmas.Slice.Eq.{bytes_eq-Decides}
-use Rattle.container_meta.specs.declared.kind.Kind.{Kind}
-use Rattle.container_meta.specs.declared.kind.Kind.TheVariants.{Leaf, Tree}
-use Rattle.container_meta.specs.Segments.{Contents, KindSegment, Segment, has_key, segment_key}
+use Rattle.backup_engine.proofs.Prelude.{◌≡◌, ◌≢◌, ◌∙◌, ℕ, zero, suc, Bool, true, false, ◌||◌, List, [], ◌∷◌, ◌++◌, map, Option, Some, None, refl, sym, ap, subst, AllByRecursion, bytes_eq, bytes_eq-Decides, Kind, Leaf, Tree, KindSegment, Segment, segment_key, Due, Claim, Seal, due_in, item_kind, open_of, item_if, waiting, item_of, SessionState, turn_node, leaf_key, node_key, told_by, one_item, all_of, in_right, opens_of, IsOneOf}
+use Rattle.std.proofs.Common.{if◌then◌else◌, append-nil}
+use Rattle.std.specs.List.{list_any}
+use Rattle.container_meta.specs.Segments.{Contents, has_key}
 use Rattle.merkle_file.specs.Node as node
 use Rattle.actor_parts.specs.declared.step.Answer.TheVariants as answers
-use Rattle.ingest_session.specs.declared.due.Due.{Due}
-use Rattle.ingest_session.specs.declared.due.Due.TheVariants.{Claim, Seal}
 use Rattle.ingest_session.specs.Calls.{KeepsItem}
-use Rattle.ingest_session.specs.Due.{HasTurn, due_in, item_is_held, item_kind, open_of, queue_has_key}
-use Rattle.ingest_session.specs.History.{item_if, same_kind, sealed_for, waiting}
-use Rattle.ingest_session.specs.Items.{item_of}
+use Rattle.ingest_session.specs.Due.{HasTurn, item_is_held, queue_has_key}
+use Rattle.ingest_session.specs.History.{same_kind, sealed_for}
 use Rattle.ingest_session.specs.Sound.{IsSession}
-use Rattle.ingest_session.specs.State.{SessionState, HasItem, IsAhead, turn_node}
-use Rattle.store_model.specs.Trees.{leaf_key, node_key}
-use Rattle.ingest_session.specs.Told.{told_by}
+use Rattle.ingest_session.specs.State.{HasItem, IsAhead}
 use Rattle.ingest_session.proofs.Sealing as sealing
-use Rattle.ingest_session.proofs.KeptPieces.{one_item}
-use Rattle.ingest_session.proofs.Members.{all_of, in_right}
-use Rattle.backup_engine.specs.Feeding.{opens_of}
-use Rattle.backup_engine.specs.Running.{IsOneOf}
 
 -- ---- one of a list
 

@@ -1,28 +1,13 @@
 -- A session that is fed a file, call by call.
-use Rattle.std.proofs.Common.{◌≡◌, ◌⊎◌, inl, inr, ◌∙◌, ℕ, false, List, [], ◌∷◌, ◌++◌, map, Some, None, refl, sym, ap, subst, append_assoc}
-use Rattle.container_meta.specs.declared.kind.Kind.{Kind}
-use Rattle.container_meta.specs.declared.kind.Kind.TheVariants.{Leaf, Tree}
-use Rattle.container_meta.specs.Segments.{KindSegment, Segment}
-use Rattle.actor_parts.specs.declared.step.Answer.{Answer}
+use Rattle.backup_engine.proofs.Prelude.{◌≡◌, ◌⊎◌, inl, inr, ◌∙◌, ℕ, false, List, [], ◌∷◌, ◌++◌, map, Some, None, refl, sym, ap, subst, Kind, Leaf, Tree, KindSegment, Segment, Answer, kept_of, FileEvent, CoreState, Claim, Seal, IsEnding, due_in, item_kind, open_of, History, HasHistory, IsBegun, answered, no_history, IsItem, SessionState, turn_node, told_by, in_left, in_right, IsFed, MayBe, opens_of, AreNew, Way, IsOneOf, item_is, one_item}
+use Rattle.std.proofs.Common.{append_assoc}
 use Rattle.actor_parts.specs.declared.step.Answer.TheVariants as answers
-use Rattle.store_core.specs.Keeping.{kept_of}
-use Rattle.store_core.specs.Runs.{FileEvent}
-use Rattle.store_core.specs.State.{CoreState}
-use Rattle.ingest_session.specs.declared.due.Due.TheVariants.{Claim, Seal}
-use Rattle.ingest_session.specs.Calls.{IsEnding, IsTaking}
-use Rattle.ingest_session.specs.Due.{due_in, item_kind, open_of}
+use Rattle.ingest_session.specs.Calls.{IsTaking}
 use Rattle.ingest_session.specs.Facts.{IsKept}
-use Rattle.ingest_session.specs.History.{History, HasHistory, IsBegun, Places, answered, no_history}
-use Rattle.ingest_session.specs.Moving.{IsItem}
+use Rattle.ingest_session.specs.History.{Places}
 use Rattle.ingest_session.specs.Settling.{KeepsOpen}
-use Rattle.ingest_session.specs.State.{SessionState, turn_node}
-use Rattle.ingest_session.specs.Told.{told_by}
 use Rattle.session_turns.proofs.Told.{told}
-use Rattle.ingest_session.proofs.Members.{in_left, in_right}
-use Rattle.backup_engine.specs.Feeding.{IsFed, MayBe, opens_of}
-use Rattle.backup_engine.specs.Putting.{AreNew, Way}
-use Rattle.backup_engine.specs.Running.{IsOneOf}
-use Rattle.ingest_session.proofs.KeptPieces.{item_is, kept_absent, kept_held, kept_sealed, one_item}
+use Rattle.ingest_session.proofs.KeptPieces.{kept_absent, kept_held, kept_sealed}
 use Rattle.backup_engine.proofs.FedOpens.{one_of_map, opens_held, opens_stay}
 use Rattle.backup_engine.proofs.Ways.{way_as}
 

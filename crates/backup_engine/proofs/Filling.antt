@@ -1,22 +1,11 @@
 -- A source is read to its end, and a session is fed what it gives.
-use Rattle.std.proofs.Common.{◌≡◌, inl, ◌∙◌, ℕ, false, List, [], ◌∷◌, ◌++◌, take, Option, Some, None, Result, Ok, Err, refl, sym, ap, subst, append-nil}
-use Rattle.std.specs.Result.{IsErrAnd}
-use Rattle.base_model.specs.Fault.{Rose}
-use Rattle.base_model.specs.Known.{Known}
-use Rattle.dd_io.specs.Flow.{SourceView, Takes}
-use Rattle.refusals.specs.declared.refusal.Refusal.{Refusal}
+use Rattle.backup_engine.proofs.Prelude.{◌≡◌, inl, ◌∙◌, ℕ, false, List, [], ◌∷◌, ◌++◌, take, Option, Some, None, Result, Ok, Err, refl, sym, ap, subst, IsErrAnd, Rose, Known, SourceView, Takes, Refusal, Refused, pushed_bytes, CoreState, IsEnding, IsFinishAnswer, History, HasHistory, SessionState, Feeds, TakesTurns, Fills, IsFed, MayBe, SessionLaws, Stops, opens_of, SaysEnd, SaysPushed, giving, Digits, TakenSoFar, push_lines, pushed, refused}
+use Rattle.std.proofs.Common.{append-nil}
 use Rattle.reply_text.specs.declared.ending.Ending.{Ending}
-use Rattle.reply_text.specs.declared.ending.Ending.TheVariants.{Source, Refused}
-use Rattle.script_lines.specs.Grammar.{pushed_bytes}
+use Rattle.reply_text.specs.declared.ending.Ending.TheVariants.{Source}
 use Rattle.script_lines.specs.Grammar as lines
-use Rattle.store_core.specs.State.{CoreState}
-use Rattle.ingest_session.specs.Calls.{IsEnding, IsFinishAnswer}
-use Rattle.ingest_session.specs.History.{History, HasHistory}
-use Rattle.ingest_session.specs.State.{SessionState}
-use Rattle.session_turns.specs.Turns.{Feeds, TakesTurns}
-use Rattle.backup_engine.specs.Feeding.{Fills, IsFed, MayBe, SessionLaws, Stops, opens_of}
-use Rattle.backup_engine.specs.Saying.{SaysEnd, SaysPushed, SaysPushes, giving}
-use Rattle.backup_engine.specs.Singles.{Digits, GaveFirst, TakenSoFar, push_lines, pushed, refused}
+use Rattle.backup_engine.specs.Saying.{SaysPushes}
+use Rattle.backup_engine.specs.Singles.{GaveFirst}
 use Rattle.backup_engine.proofs.Kept.{by_error}
 use Rattle.backup_engine.proofs.Saying.{line_after, pushes_go_on}
 use Rattle.backup_engine.proofs.SayingEnds.{StopsSaying, says_all, says_stop}

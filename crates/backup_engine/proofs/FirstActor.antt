@@ -1,29 +1,16 @@
 -- What the first actor's steps make of a core by which a file is stored.
-use Rattle.std.proofs.Common.{◌≡◌, ℕ, List, replicate, Option, None, Result, Ok, Err, refl, sym, ◌∙◌, ap, subst, arith}
+use Rattle.backup_engine.proofs.Prelude.{◌≡◌, ℕ, List, Option, None, Result, Ok, Err, refl, sym, ◌∙◌, ap, subst, arith, PlaceMap, ACTORS, Idle, Writing, Answer, with_part, StepValue, apart, Refusal, Store, IsValidFor, last_id, Represents, Runs, OfEach, Tables, Stop, CoreStep, Steps, StepsOr, KeepsTables, CoreState, Event, IsUp, IsRunning, UnlessStopped, IsFresh}
+use Rattle.std.proofs.Common.{replicate}
 use Rattle.std.specs.FinMap as finite
-use Rattle.container_meta.specs.Places.{PlaceMap}
-use Rattle.actor_parts.specs.declared.actor.TheConstants.{ACTORS}
 use Rattle.actor_parts.specs.declared.part.Part.{Part}
-use Rattle.actor_parts.specs.declared.part.Part.TheVariants.{Idle, Writing}
-use Rattle.actor_parts.specs.declared.step.Answer.{Answer}
 use Rattle.actor_parts.specs.declared.step.Answer.TheVariants as answers
 use Rattle.actor_parts.specs.Kinds.{kind_of}
-use Rattle.actor_parts.specs.Parts.{part_of, with_part}
+use Rattle.actor_parts.specs.Parts.{part_of}
 use Rattle.actor_parts.specs.StepValue as asked
-use Rattle.actor_parts.specs.StepValue.{StepValue}
-use Rattle.actor_parts.proofs.Apart.{apart}
-use Rattle.refusals.specs.declared.refusal.Refusal.{Refusal}
 use Rattle.refusals.specs.declared.refusal.Refusal.TheVariants as refusals
 use Rattle.refusals.specs.declared.refusal.PartKind.TheVariants as kinds
-use Rattle.store_model.specs.Image.{Store, IsValidFor}
-use Rattle.store_model.specs.Slots.{last_id}
-use Rattle.store_state.specs.Tables.{Represents, Runs, OfEach}
-use Rattle.store_state.specs.declared.tables.Tables.{Tables}
 use Rattle.ingest_steps.specs.Writers.{IsWrongPart}
-use Rattle.store_core.specs.declared.stop.Stop.{Stop}
-use Rattle.store_core.specs.Core.{CoreStep, Steps, StepsOr, BeginRow, KeepsTables}
-use Rattle.store_core.specs.State.{CoreState, Event, IsUp, IsRunning, UnlessStopped}
-use Rattle.backup_engine.specs.Running.{IsFresh}
+use Rattle.store_core.specs.Core.{BeginRow}
 
 -- a step of the first actor
 abbrev pub by_first : StepValue → Result Answer Refusal → List ℕ → Event

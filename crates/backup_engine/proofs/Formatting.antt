@@ -1,26 +1,10 @@
 -- What `format` keeps: all of a disk that has a store. Of one that has none it says itself what it leaves.
-use Rattle.std.proofs.Common.{◌≡◌, ◌⊎◌, inl, inr, ℕ, ◌==◌, Bool, true, false, List, [], Option, Some, None, refl, sym, ◌∙◌, arith}
-use Rattle.std.proofs.lemmas.Bool.{eqb-true, eqb-false}
-use Rattle.base_model.specs.Bytes.{byte_at}
-use Rattle.base_model.specs.Known.{Known, KnownWith}
-use Rattle.disk_format.specs.declared.numbers.TheConstants.{FORMAT_GATE}
-use Rattle.dd_disk.specs.View.{DiskView, OnlyReads, CrashLeaves, IsDurable}
-use Rattle.dd_disk.specs.Ending.{Done, CountsFault, ending_of}
-use Rattle.dd_disk.specs.Shows.{Shows}
+use Rattle.backup_engine.proofs.Prelude.{◌≡◌, ◌⊎◌, inl, inr, ℕ, ◌==◌, Bool, true, false, List, [], Option, Some, None, refl, sym, ◌∙◌, arith, eqb-true, byte_at, Known, KnownWith, FORMAT_GATE, DiskView, OnlyReads, CrashLeaves, IsDurable, CountsFault, ending_of, Shows, SourceView, SinkView, Refusal, Memory, DiskRead, DiskWrite, Sink, Refused, formatted_line, blames, IsFormatRefusal, Formats, IsCaused, EndsDurable, disk_ending, KeepsRest, KeepsOthers, Format, LeavesMeanwhile, WroteReply, SinceStart, Keeps, IsLeftBlank, IsUntouched}
+use Rattle.std.proofs.lemmas.Bool.{eqb-false}
+use Rattle.dd_disk.specs.Ending.{Done}
 use Rattle.dd_disk.specs.Moves.{Acts}
-use Rattle.dd_io.specs.Flow.{SourceView, SinkView}
-use Rattle.refusals.specs.declared.refusal.Refusal.{Refusal}
-use Rattle.refusals.specs.declared.refusal.Refusal.TheVariants.{Memory, DiskRead, DiskWrite}
 use Rattle.reply_text.specs.declared.ending.Ending.{Ending}
-use Rattle.reply_text.specs.declared.ending.Ending.TheVariants.{Sink, Refused}
-use Rattle.reply_text.specs.Text.{formatted_line}
-use Rattle.store_state.specs.Refused.{blames}
-use Rattle.recovery.specs.Formatting.{IsFormatRefusal, IsLeftByFormat, IsBlankOrFormatted}
-use Rattle.backup_engine.specs.AnyDisk.{Formats, IsCaused, EndsDurable, disk_ending}
-use Rattle.backup_engine.specs.Frame.{KeepsRest, KeepsOthers}
-use Rattle.backup_engine.specs.Line.{Format}
-use Rattle.backup_engine.specs.Promise.{LeavesMeanwhile, WroteReply, SinceStart}
-use Rattle.backup_engine.specs.TopCall.{Keeps, IsLeftBlank, IsUntouched}
+use Rattle.recovery.specs.Formatting.{IsLeftByFormat, IsBlankOrFormatted}
 use Rattle.backup_engine.proofs.Replied.{IsReplied, replied_faults}
 use Rattle.backup_engine.proofs.Reading.{reads_leave}
 

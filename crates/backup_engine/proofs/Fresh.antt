@@ -1,14 +1,5 @@
 -- A core that was opened is fresh.
-use Rattle.std.proofs.Common.{◌≡◌, ℕ, List, [], ◌∷◌, max, Option, Some, None, refl, sym, ◌∙◌, ap, subst, arith}
-use Rattle.dd_disk.specs.View.{DiskView}
-use Rattle.dd_disk.specs.Shows.{Shows}
-use Rattle.container_meta.specs.Spelling.{HeaderValue}
-use Rattle.store_model.specs.Image.{IsValidFor}
-use Rattle.store_model.specs.Slots.{last_id, ids_of}
-use Rattle.store_core.specs.declared.stop.Stop.{Stop}
-use Rattle.store_core.specs.Opening.{IsNew}
-use Rattle.store_core.specs.State.{CoreState, IsUp, IsRunning, UnlessStopped}
-use Rattle.backup_engine.specs.Running.{IsFresh}
+use Rattle.backup_engine.proofs.Prelude.{◌≡◌, ℕ, List, [], ◌∷◌, max, Option, Some, None, refl, sym, ◌∙◌, ap, subst, arith, DiskView, Shows, HeaderValue, IsValidFor, last_id, ids_of, Stop, IsNew, CoreState, IsUp, IsRunning, UnlessStopped, IsFresh}
 
 -- the greatest id is told by the ids, 0 where a slot is closed
 abbrev greatest : List ℕ → ℕ

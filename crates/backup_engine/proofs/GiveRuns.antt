@@ -1,28 +1,18 @@
 -- How a file is given: it is opened, and its segments are read and written one after the other.
-use Rattle.std.proofs.Common.{◌≡◌, inr, ◌<◌, ◌+◌, ◌==◌, ℕ, Bool, true, false, List, [], ◌∷◌, ◌++◌, length, take, drop, Option, Some, Result, Ok, Err, refl, sym, ◌∙◌, ap, subst, arith, append_assoc, length-append, take-append-drop}
-use Rattle.std.specs.List.{AllByRecursion, concat}
-use Rattle.std.specs.Result.{IsErrAnd, is_err}
+use Rattle.backup_engine.proofs.Prelude.{◌≡◌, inr, ◌<◌, ◌+◌, ◌==◌, ℕ, Bool, true, false, List, [], ◌∷◌, ◌++◌, length, take, drop, Option, Some, Result, Ok, Err, refl, sym, ◌∙◌, ap, subst, arith, take-append-drop, AllByRecursion, concat, IsErrAnd, is_err, Rose, Appended, SinkView, AppendedPart, Sends, Answer, StepValue, Refusal, reading, WasRead, CoreStep, Steps, CoreRun, given_to, CoreState, Event, IsRunning, GivenSoFar, bytes_to_come, IsFresh, IsRead, IsGiven, EndsGiving, WroteGiven, WroteLast, GiveRun}
+use Rattle.std.proofs.Common.{append_assoc, length-append}
 use Rattle.std.proofs.Math.Seq.{take-append-add}
 use Rattle.std.proofs.lemmas.List.{append-nil}
 use Rattle.std.proofs.lemmas.List.Folds.{concat-append}
-use Rattle.base_model.specs.Fault.{Rose}
-use Rattle.base_model.specs.Known.{Appended}
-use Rattle.dd_io.specs.Flow.{SinkView, AppendedPart, Sends}
-use Rattle.actor_parts.specs.declared.step.Answer.{Answer}
 use Rattle.actor_parts.specs.declared.step.Answer.TheVariants as answers
 use Rattle.actor_parts.specs.StepValue as asked
-use Rattle.actor_parts.specs.StepValue.{StepValue}
-use Rattle.refusals.specs.declared.refusal.Refusal.{Refusal}
 use Rattle.reply_text.specs.declared.ending.Ending.{Ending}
 use Rattle.reply_text.specs.declared.ending.Ending.TheVariants as endings
-use Rattle.read_steps.specs.Readers.{reading}
-use Rattle.read_steps.specs.Walking.{WasRead, bytes_ahead}
+use Rattle.read_steps.specs.Walking.{bytes_ahead}
 use Rattle.read_steps.proofs.Walks.{given_bytes}
-use Rattle.store_core.specs.Core.{CoreStep, Steps, IsGiven as IsSegmentGiven}
-use Rattle.store_core.specs.Runs.{CoreRun, given_by, given_to}
-use Rattle.store_core.specs.State.{CoreState, Event, IsRunning}
-use Rattle.backup_engine.specs.Giving.{GivenSoFar, bytes_of_part, bytes_to_come}
-use Rattle.backup_engine.specs.Running.{IsFresh, IsRead, IsGiven, EndsGiving, WroteGiven, WroteLast, GiveRun}
+use Rattle.store_core.specs.Core.{IsGiven as IsSegmentGiven}
+use Rattle.store_core.specs.Runs.{given_by}
+use Rattle.backup_engine.specs.Giving.{bytes_of_part}
 use Rattle.backup_engine.proofs.FirstActor.{as_first, by_first, steps_of, first_part, up_of}
 use Rattle.backup_engine.proofs.Kept.{by_error}
 use Rattle.backup_engine.proofs.SinkWrites.{part_sent, fault_counted, all_sent, no_fault}

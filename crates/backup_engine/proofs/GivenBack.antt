@@ -1,12 +1,6 @@
 -- All that the promise says of a `restore` whose store was opened.
-use Rattle.std.proofs.Common.{inl, inr, ℕ, List, [], Result}
-use Rattle.dd_disk.specs.View.{DiskView}
-use Rattle.dd_io.specs.Flow.{SourceView, SinkView}
+use Rattle.backup_engine.proofs.Prelude.{inl, inr, ℕ, List, [], Result, DiskView, SourceView, SinkView, CoreState, Restore, IsGivenOut, GiveRun, Keeps, ending_in}
 use Rattle.reply_text.specs.declared.ending.Ending.{Ending}
-use Rattle.store_core.specs.State.{CoreState}
-use Rattle.backup_engine.specs.Line.{Restore}
-use Rattle.backup_engine.specs.Running.{IsGivenOut, GiveRun}
-use Rattle.backup_engine.specs.TopCall.{Keeps, ending_in}
 use Rattle.backup_engine.proofs.Called.{Called}
 use Rattle.backup_engine.proofs.GivenOut.{given_on_any, of_call}
 use Rattle.backup_engine.proofs.NotOpened.{not_opened}

@@ -1,36 +1,18 @@
 -- The lines of a file that is given back.
-use Rattle.std.proofs.Common.{◌≡◌, inl, inr, ◌∙◌, ◌==◌, ℕ, true, List, [], ◌∷◌, ◌++◌, length, take, None, Result, Ok, Err, refl, sym, ap, subst, arith}
-use Rattle.std.specs.List.{AllByRecursion, concat}
+use Rattle.backup_engine.proofs.Prelude.{◌≡◌, inl, inr, ◌∙◌, ◌==◌, ℕ, true, List, [], ◌∷◌, ◌++◌, length, take, None, Result, Ok, Err, refl, sym, ap, subst, arith, AllByRecursion, concat, ACTORS, Answer, apart, Root, Top, SinkView, Appended, Replied, Refusal, reading, Admits, RunsLine, RunsLines, CoreStep, CoreRun, given_to, CoreState, Event, IsFresh, IsGivenOut, IsNotOpened, IsRead, IsGiven, EndsGiving, GiveRun, WroteGiven, WroteLast, RunsSingle, no_sessions, IsFirstOf, IsRestore, next_lines, refused, said, ending_in}
 use Rattle.std.proofs.lemmas.List.{same_from_push}
-use Rattle.actor_parts.specs.declared.actor.TheConstants.{ACTORS}
 use Rattle.actor_parts.specs.declared.part.Part.{Part}
 use Rattle.actor_parts.specs.declared.part.Part.TheVariants as parts
-use Rattle.actor_parts.specs.declared.step.Answer.{Answer}
 use Rattle.actor_parts.specs.declared.step.Answer.TheVariants as answers
 use Rattle.actor_parts.specs.Parts.{part_of}
 use Rattle.actor_parts.specs.StepValue as asked
-use Rattle.actor_parts.proofs.Apart.{apart}
-use Rattle.disk_format.specs.Cells.{Root}
-use Rattle.merkle_file.specs.declared.top.Top.{Top}
-use Rattle.dd_io.specs.Flow.{SinkView}
-use Rattle.base_model.specs.Known.{Appended}
-use Rattle.store_machine.specs.Commands.{Replied}
 use Rattle.refusals.specs.declared.refusal.PartKind.TheVariants as kinds
-use Rattle.refusals.specs.declared.refusal.Refusal.{Refusal}
 use Rattle.reply_text.specs.declared.ending.Ending.{Ending}
 use Rattle.reply_text.specs.declared.ending.Ending.TheVariants as endings
-use Rattle.read_steps.specs.Readers.{reading}
 use Rattle.script_lines.specs.Grammar as lines
 use Rattle.script_lines.specs.ReplyValue as replies
-use Rattle.script_runner.specs.Acts.{Admits, RunsLine}
-use Rattle.script_runner.specs.Scripts.{RunsLines}
-use Rattle.store_core.specs.Core.{CoreStep}
-use Rattle.store_core.specs.Runs.{CoreRun, given_by, given_to, opens}
-use Rattle.store_core.specs.State.{CoreState, Event}
-use Rattle.backup_engine.specs.Running.{IsFresh, IsGivenOut, IsNotOpened, IsRead, IsGiven, EndsGiving, GiveRun, WroteGiven, WroteLast}
-use Rattle.backup_engine.specs.Saying.{RunsSingle, idle, no_sessions}
-use Rattle.backup_engine.specs.Singles.{IsFirstOf, IsRestore, next_lines, refused, said}
-use Rattle.backup_engine.specs.TopCall.{ending_in}
+use Rattle.store_core.specs.Runs.{given_by, opens}
+use Rattle.backup_engine.specs.Saying.{idle}
 use Rattle.backup_engine.proofs.FirstActor.{as_first, by_first, idle_of}
 use Rattle.backup_engine.proofs.ReadSteps.{open_leaves, read_leaves, steps_of}
 use Rattle.backup_engine.proofs.Saying.{admits, line_then}

@@ -1,44 +1,22 @@
 -- A file that is given back, or not: what the promise says of it.
-use Rattle.std.proofs.Common.{◌≡◌, inl, inr, ◌<◌, ◌≤◌, ℕ, List, [], ◌∷◌, length, Option, Some, None, Result, Ok, Err, refl, sym, ◌∙◌, ap, subst, arith}
-use Rattle.std.proofs.lemmas.List.{length-replicate}
-use Rattle.std.specs.List.{AllByRecursion, concat}
-use Rattle.dd_disk.specs.View.{DiskView, IsLater, OnlyReads}
-use Rattle.dd_disk.specs.Ending.{Ending as DiskEnding, Reads, Done, CountsFault}
-use Rattle.dd_disk.specs.Shows.{Shows}
+use Rattle.backup_engine.proofs.Prelude.{◌≡◌, inl, inr, ◌<◌, ◌≤◌, ℕ, List, [], ◌∷◌, length, Option, Some, None, Result, Ok, Err, refl, sym, ◌∙◌, ap, subst, arith, length-replicate, AllByRecursion, concat, DiskView, IsLater, OnlyReads, Reads, CountsFault, Shows, until, since, SourceView, SinkView, Why, Root, PlaceMap, Top, ACTORS, Idle, Answer, with_part, apart, Refusal, Memory, DiskRead, DiskWrite, Corrupt, Missing, Damaged, WrongPart, NameMap, reading, WasRead, IsNextRefusal, IsTopRefusal, top_key, ReadRow, given_to, CoreState, Event, Restore, GivesBack, IsCaused, WroteOnAny, OnAnyDisk, disk_ending, IsRead, EndsGiving, WroteGiven, IsGivenOut, ending_in}
+use Rattle.dd_disk.specs.Ending.{Ending as DiskEnding, Done}
 use Rattle.dd_disk.proofs.Ended.{reads_on}
 use Rattle.dd_disk.proofs.Later.{reads_on as only_reads_on}
-use Rattle.dd_disk.proofs.Shows.{until, since}
-use Rattle.dd_io.specs.Flow.{SourceView, SinkView}
-use Rattle.disk_format.specs.declared.why.Why.{Why}
-use Rattle.disk_format.specs.Cells.{Root}
-use Rattle.container_meta.specs.Places.{PlaceMap}
-use Rattle.merkle_file.specs.declared.top.Top.{Top}
-use Rattle.actor_parts.specs.declared.actor.TheConstants.{ACTORS}
 use Rattle.actor_parts.specs.declared.part.Part.{Part}
-use Rattle.actor_parts.specs.declared.part.Part.TheVariants.{Idle}
-use Rattle.actor_parts.specs.declared.step.Answer.{Answer}
 use Rattle.actor_parts.specs.declared.step.Answer.TheVariants as answers
-use Rattle.actor_parts.specs.Parts.{part_of, with_part}
-use Rattle.actor_parts.proofs.Apart.{apart}
-use Rattle.refusals.specs.declared.refusal.Refusal.{Refusal}
-use Rattle.refusals.specs.declared.refusal.Refusal.TheVariants.{Memory, DiskRead, DiskWrite, Corrupt, Missing, Damaged, WrongPart}
+use Rattle.actor_parts.specs.Parts.{part_of}
 use Rattle.reply_text.specs.declared.ending.Ending.{Ending}
 use Rattle.reply_text.specs.declared.ending.Ending.TheVariants as endings
-use Rattle.namespace.specs.Names.{NameMap}
 use Rattle.segment_index.specs.Places.{IsPlace}
 use Rattle.store_model.specs.Image.{names_of}
 use Rattle.read_steps.specs.Opening.{HasRoot}
-use Rattle.read_steps.specs.Readers.{reading, IsReading}
-use Rattle.read_steps.specs.Walking.{WasRead, IsNextRefusal, IsTopRefusal, IsCopyRefusal, top_key}
-use Rattle.store_core.specs.Core.{ReadRow}
-use Rattle.store_core.specs.Runs.{ReadsAlone, IsReadNext, GivesByTree, given_to}
-use Rattle.store_core.specs.State.{CoreState, Event}
+use Rattle.read_steps.specs.Readers.{IsReading}
+use Rattle.read_steps.specs.Walking.{IsCopyRefusal}
+use Rattle.store_core.specs.Runs.{ReadsAlone, IsReadNext, GivesByTree}
 use Rattle.store_core.proofs.CheckedReads.{reads_are_checked}
 use Rattle.store_core.proofs.OwnParts.{same_reader}
-use Rattle.backup_engine.specs.Line.{Restore}
-use Rattle.backup_engine.specs.AnyDisk.{GivesBack, IsCaused, WroteOnAny, WroteSegments, OnAnyDisk, disk_ending}
-use Rattle.backup_engine.specs.Running.{IsRead, EndsGiving, WroteGiven, IsGivenOut}
-use Rattle.backup_engine.specs.TopCall.{ending_in}
+use Rattle.backup_engine.specs.AnyDisk.{WroteSegments}
 use Rattle.backup_engine.proofs.Called.{Called}
 use Rattle.backup_engine.proofs.NotDone.{holds}
 use Rattle.backup_engine.proofs.ReadSteps.{LeavesAll, open_leaves, Came, came, last_made, last_reads}

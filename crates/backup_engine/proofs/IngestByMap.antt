@@ -1,37 +1,15 @@
 -- An `ingest` answers by the map, by the law of its lines.
-use Rattle.std.proofs.Common.{◌≡◌, ◌⊎◌, inl, inr, ℕ, List, [], ◌∷◌, ◌++◌, Option, Some, None, refl, sym, ◌∙◌, ap, subst}
+use Rattle.backup_engine.proofs.Prelude.{◌≡◌, ◌⊎◌, inl, inr, ℕ, List, [], ◌∷◌, ◌++◌, Option, Some, None, refl, sym, ◌∙◌, ap, subst, DiskView, SinkView, SourceView, Refusal, DiskWrite, Memory, Sink, Refused, stored_line, ReplyValue, ByteSet, IsIn, OpensAs, Stored, with_stored, Store, IsSegmentOf, root_of, FileMachine, ListsThrough, Replied, Found, RunState, MayBeFound, of_files, stored_in, unopened, AnswersByMap, AnswersEachCall, IsLeftAs, Wrote, CutsAmong, RunsByFiles, Ingest, CanBeDone, EndsFailing, EndsSo, WroteReply, Digits, IsIngest, finish_lines, pushed, push_lines, refused, said, DoesCommand}
 use Rattle.std.proofs.lemmas.List.{append-nil}
-use Rattle.dd_disk.specs.View.{DiskView}
-use Rattle.dd_io.specs.Flow.{SinkView, SourceView}
-use Rattle.refusals.specs.declared.refusal.Refusal.{Refusal}
-use Rattle.refusals.specs.declared.refusal.Refusal.TheVariants.{DiskWrite, Memory}
 use Rattle.reply_text.specs.declared.ending.Ending.{Ending}
-use Rattle.reply_text.specs.declared.ending.Ending.TheVariants.{Sink, Source, Refused}
-use Rattle.reply_text.specs.Text.{stored_line}
+use Rattle.reply_text.specs.declared.ending.Ending.TheVariants.{Source}
 use Rattle.script_lines.specs.Grammar as lines
-use Rattle.script_lines.specs.ReplyValue.{ReplyValue}
 use Rattle.script_lines.specs.ReplyValue as replies
-use Rattle.store_model.specs.Collisions.{ByteSet, IsIn, OpensAs}
-use Rattle.store_model.specs.Files.{Stored, with_stored}
-use Rattle.store_model.specs.Image.{Store}
-use Rattle.store_model.specs.Standing.{IsSegmentOf}
-use Rattle.store_model.specs.Trees.{root_of}
-use Rattle.store_machine.specs.ByMap.{FileMachine, ListsThrough}
 use Rattle.store_machine.specs.Ingests.{Ingested, IngestsByMap, IngestsThrough, IsPut}
 use Rattle.store_machine.specs.Commands as machine
-use Rattle.store_machine.specs.Commands.{Replied, given_by}
-use Rattle.store_machine.specs.Machine.{Found, RunState}
-use Rattle.store_machine.specs.Opening.{MayBeFound}
-use Rattle.store_machine.specs.Values.{of_files}
-use Rattle.core_machine.specs.Files.{stored_in}
-use Rattle.core_machine.specs.Unopened.{unopened}
-use Rattle.backup_engine.specs.AnswersByMap.{AnswersByMap, EndsBy, AnswersEachCall, IsLeftAs, Wrote}
-use Rattle.backup_engine.specs.ByFiles.{CutsAmong, RunsByFiles}
-use Rattle.backup_engine.specs.Line.{Ingest}
-use Rattle.backup_engine.specs.PlainMap.{CanBeDone}
-use Rattle.backup_engine.specs.Promise.{EndsFailing, EndsSo, WroteReply}
-use Rattle.backup_engine.specs.Singles.{Digits, IsIngest, begun, finish_lines, pushed, push_lines, refused, said}
-use Rattle.backup_engine.specs.TopCall.{DoesCommand}
+use Rattle.store_machine.specs.Commands.{given_by}
+use Rattle.backup_engine.specs.AnswersByMap.{EndsBy}
+use Rattle.backup_engine.specs.Singles.{begun}
 use Rattle.backup_engine.proofs.AnswersByMap.{AnswersOpened, answers_call}
 use Rattle.backup_engine.proofs.Ran.{Silent}
 use Rattle.backup_engine.proofs.SinglesRun.{ingest_memory}

@@ -1,18 +1,11 @@
 -- What is cut by the lines of an `ingest` are segments of its file.
-use Rattle.std.proofs.Common.{◌≡◌, ◌+◌, inl, inr, ℕ, zero, suc, true, false, List, [], ◌∷◌, ◌++◌, length, replicate, Option, Some, None, append_assoc, refl, sym, ◌∙◌, ap, subst}
+use Rattle.backup_engine.proofs.Prelude.{◌≡◌, ◌+◌, inl, inr, ℕ, zero, suc, true, false, List, [], ◌∷◌, ◌++◌, length, Option, Some, None, refl, sym, ◌∙◌, ap, subst, slice_index_or, pushed_bytes, IsSegmentOf, FileMachine, desk, Session, Stepped, of_files, FileDesk, IsCutAt, IsCutBy, Digits, push_lines, pushed}
+use Rattle.std.proofs.Common.{replicate, append_assoc}
 use Rattle.std.proofs.lemmas.List.{append-nil}
-use Rattle.std.specs.Prelude.{slice_index_or, slice_set}
-use Rattle.script_lines.specs.Grammar.{pushed_bytes}
+use Rattle.std.specs.Prelude.{slice_set}
 use Rattle.script_lines.specs.Grammar as lines
 use Rattle.script_lines.specs.ReplyValue as replies
-use Rattle.store_model.specs.Standing.{IsSegmentOf}
-use Rattle.store_machine.specs.ByMap.{FileMachine}
-use Rattle.store_machine.specs.Commands.{desk}
-use Rattle.store_machine.specs.Lines.{AreTurns, Line, Session, new_session}
-use Rattle.store_machine.specs.Machine.{Stepped}
-use Rattle.store_machine.specs.Values.{of_files}
-use Rattle.script_runner.specs.LinesAreFileRuns.{FileDesk, IsCutAt, IsCutBy}
-use Rattle.backup_engine.specs.Singles.{Digits, push_lines, pushed}
+use Rattle.store_machine.specs.Lines.{AreTurns, Line, new_session}
 use Rattle.backup_engine.proofs.IngestTails.{Commit, Finish, IsTail, Nothing, Push, Tail, put_lines, tail_lines}
 use Rattle.backup_engine.proofs.NoneCut.{none_cut, none_gives}
 

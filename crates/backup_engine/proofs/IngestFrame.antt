@@ -1,25 +1,8 @@
 -- What `ingest` never changes, whatever the disk holds: all of the call.
-use Rattle.std.proofs.Common.{◌≡◌, inl, inr, ℕ, ◌≤◌, List, Option, Some, None, Result, Ok, Err, sym, ◌∙◌, subst}
-use Rattle.disk_format.specs.declared.numbers.TheConstants.{RESERVE}
-use Rattle.dd_disk.specs.View.{DiskView, IsLater}
-use Rattle.dd_disk.proofs.Later.{leaves_weaker}
-use Rattle.dd_io.specs.Flow.{SourceView, SinkView}
-use Rattle.refusals.specs.declared.refusal.Refusal.{Refusal}
-use Rattle.refusals.specs.declared.refusal.Refusal.TheVariants.{Memory, TooLong}
+use Rattle.backup_engine.proofs.Prelude.{◌≡◌, inl, inr, ℕ, ◌≤◌, List, Option, Some, None, Result, Ok, Err, sym, ◌∙◌, subst, RESERVE, DiskView, IsLater, leaves_weaker, SourceView, SinkView, Refusal, Memory, TooLong, Sink, Refused, stored_line, Store, Encodes, free_slots, root_of, events_of, CoreState, KeepsRest, KeepsOthers, Ingest, LeavesMeanwhile, MayChange, PutRun, IsSourceFault, Replies, IngestRun, ending_in}
 use Rattle.reply_text.specs.declared.ending.Ending.{Ending}
-use Rattle.reply_text.specs.declared.ending.Ending.TheVariants.{Source, Sink, Refused}
-use Rattle.reply_text.specs.Text.{stored_line}
-use Rattle.store_model.specs.Image.{Store, Encodes}
-use Rattle.store_model.specs.Slots.{free_slots}
-use Rattle.store_model.specs.Trees.{root_of}
-use Rattle.store_core.specs.Runs.{events_of}
-use Rattle.store_core.specs.State.{CoreState}
-use Rattle.backup_engine.specs.Frame.{KeepsOpen, KeepsRest, KeepsOthers}
-use Rattle.backup_engine.specs.Line.{Ingest}
-use Rattle.backup_engine.specs.Promise.{LeavesMeanwhile, MayChange}
-use Rattle.backup_engine.specs.Running.{PutRun}
-use Rattle.backup_engine.specs.Storing.{IsSourceFault, Replies, IngestRun}
-use Rattle.backup_engine.specs.TopCall.{ending_in}
+use Rattle.reply_text.specs.declared.ending.Ending.TheVariants.{Source}
+use Rattle.backup_engine.specs.Frame.{KeepsOpen}
 use Rattle.backup_engine.proofs.Called.{Called}
 use Rattle.backup_engine.proofs.PutCauses.{run_later}
 use Rattle.backup_engine.proofs.PutChanges.{EndsBy, ways_of}

@@ -1,15 +1,13 @@
 -- The lines of an `ingest`: which come after its pushes, and what they give.
-use Rattle.std.proofs.Common.{◌≡◌, ◌⊎◌, ◌+◌, inl, inr, ℕ, false, List, [], ◌∷◌, ◌++◌, length, Some, append_assoc, refl, sym, ◌∙◌, ap}
+use Rattle.backup_engine.proofs.Prelude.{◌≡◌, ◌⊎◌, ◌+◌, inl, inr, ℕ, false, List, [], ◌∷◌, ◌++◌, length, Some, refl, sym, ◌∙◌, ap, Refusal, LineValue, pushed_bytes, ReplyValue, AllFollow, Follows, Replied, Digits, finish_lines, push_lines, pushed, refused, said}
+use Rattle.std.proofs.Common.{append_assoc}
 use Rattle.std.proofs.lemmas.List.{append-nil}
-use Rattle.refusals.specs.declared.refusal.Refusal.{Refusal}
-use Rattle.script_lines.specs.Grammar.{LineValue, pushed_bytes}
 use Rattle.script_lines.specs.Grammar as lines
-use Rattle.script_lines.specs.ReplyValue.{ReplyValue}
 use Rattle.script_lines.specs.ReplyValue as replies
 use Rattle.store_machine.specs.Ingests.{EndsCommitting}
 use Rattle.store_machine.specs.Commands as machine
-use Rattle.store_machine.specs.Commands.{AllFollow, Follows, IsPush, Replied, ends, given_by}
-use Rattle.backup_engine.specs.Singles.{Digits, begun, finish_lines, push_lines, pushed, refused, said}
+use Rattle.store_machine.specs.Commands.{IsPush, ends, given_by}
+use Rattle.backup_engine.specs.Singles.{begun}
 
 -- ---- the lines
 

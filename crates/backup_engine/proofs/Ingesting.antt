@@ -1,19 +1,9 @@
 -- What `ingest` keeps: by the map, over any disk, and of the rest.
-use Rattle.std.proofs.Common.{◌≡◌, ◌⊎◌, inl, inr, List, ℕ, Some, None, Result, Ok, Err, IfErr, refl, sym, subst}
-use Rattle.dd_disk.specs.View.{DiskView}
-use Rattle.dd_io.specs.Flow.{SourceView, SinkView}
-use Rattle.refusals.specs.declared.refusal.Refusal.{Refusal}
+use Rattle.backup_engine.proofs.Prelude.{◌≡◌, ◌⊎◌, inl, inr, List, ℕ, Some, None, Result, Ok, Err, refl, sym, subst, DiskView, SourceView, SinkView, Refusal, Sink, Refused, stored_line, root_of, Sent, CoreState, Ingest, KeepsEachMap, PutRun, IsPutRefusal, IsHeard, Replies, IngestRun, Keeps, ending_in}
+use Rattle.std.proofs.Common.{IfErr}
 use Rattle.reply_text.specs.declared.ending.Ending.{Ending}
-use Rattle.reply_text.specs.declared.ending.Ending.TheVariants.{Source, Sink, Refused}
-use Rattle.reply_text.specs.Text.{stored_line}
-use Rattle.store_model.specs.Trees.{root_of}
-use Rattle.script_runner.specs.Runner.{Sent}
-use Rattle.store_core.specs.State.{CoreState}
-use Rattle.backup_engine.specs.Line.{Ingest}
-use Rattle.backup_engine.specs.Promise.{KeepsEachMap}
-use Rattle.backup_engine.specs.Running.{PutRun, IsPutRefusal}
-use Rattle.backup_engine.specs.Storing.{IsHeard, Replies, IsStopped, IngestRun}
-use Rattle.backup_engine.specs.TopCall.{Keeps, ending_in}
+use Rattle.reply_text.specs.declared.ending.Ending.TheVariants.{Source}
+use Rattle.backup_engine.specs.Storing.{IsStopped}
 use Rattle.backup_engine.proofs.Called.{Called}
 use Rattle.backup_engine.proofs.IngestFrame.{ingest_frame}
 use Rattle.backup_engine.proofs.PutCauses.{ingest_any}

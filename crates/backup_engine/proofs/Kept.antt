@@ -1,7 +1,5 @@
 -- What is kept of a disk that was lent, once it came back.
-use Rattle.std.proofs.Common.{◌≡◌, sym, subst, List, ℕ, Result, Ok, Err}
-use Rattle.std.specs.Result.{IsErrAnd}
-use Rattle.dd_disk.specs.View.{DiskView, IsLater}
+use Rattle.backup_engine.proofs.Prelude.{◌≡◌, sym, subst, List, ℕ, Result, Ok, Err, IsErrAnd, DiskView, IsLater}
 
 -- P holds of a value that is known to be another
 pub by_same : {A : Type 0} (P : A → Type 0) (x y : A) → x ≡ y → P y → P x

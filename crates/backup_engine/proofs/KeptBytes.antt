@@ -1,32 +1,17 @@
 -- What stays of a disk that held a store, where closed slots and a record are written.
-use Rattle.std.proofs.Common.{◌≡◌, ◌≢◌, ◌⊎◌, inl, inr, ℕ, zero, suc, ◌+◌, ◌<◌, ◌≤◌, Bool, true, false, List, [], ◌∷◌, length, Option, Some, None, refl, sym, ◌∙◌, ap, subst, arith}
-use Rattle.std.specs.Prelude.{nat_lt}
-use Rattle.std.specs.List.{AllByRecursion}
-use Rattle.std.proofs.lemmas.Bool.{ltb-true, ltb-false}
-use Rattle.base_model.specs.Bytes.{range, byte_at}
-use Rattle.disk_format.specs.declared.numbers.TheConstants.{CELL_BYTES, SLOT_BYTES, FIRST_SLOT, FIRST_HALF, CONTAINER_GATE, RESERVE}
-use Rattle.disk_format.specs.Cells.{Change, Root}
-use Rattle.disk_format.specs.Cells.Change.{Put}
-use Rattle.disk_format.specs.Layout.{half_cells, cell_at, slot_at}
-use Rattle.container_meta.specs.Spelling.{HeaderValue}
+use Rattle.backup_engine.proofs.Prelude.{◌≡◌, ◌≢◌, ◌⊎◌, inl, inr, ℕ, zero, suc, ◌+◌, ◌<◌, ◌≤◌, Bool, true, false, List, [], ◌∷◌, length, Option, Some, None, refl, sym, ◌∙◌, ap, subst, arith, nat_lt, AllByRecursion, ltb-true, ltb-false, range, byte_at, CELL_BYTES, SLOT_BYTES, RESERVE, Root, Put, half_cells, cell_at, slot_at, HeaderValue, SameBefore, Store, Encodes, free_slots, first_free, with_slot, HasJournal, StoreChange, SealContainer, ChangeName, FlushContainer, FreeContainer, with_change, ChangesTo, StandsStill, SameButSlotOf, JournalValue, has_journal, has_kept, SameButRecordBy, MayChange}
+use Rattle.disk_format.specs.declared.numbers.TheConstants.{FIRST_SLOT, FIRST_HALF, CONTAINER_GATE}
+use Rattle.disk_format.specs.Cells.{Change}
 use Rattle.reply_text.specs.declared.ending.Ending.{Ending}
-use Rattle.segment_index.specs.Changes.{SameBefore}
-use Rattle.store_model.specs.Image.{Store, Encodes}
-use Rattle.store_model.specs.Slots.{HoldSlots, free_slots, first_free, with_slot}
-use Rattle.store_model.specs.Standing.{HasJournal}
-use Rattle.store_model.specs.Steps.{StoreChange, SealContainer, ChangeName, FlushContainer, FreeContainer, changed, with_cell, with_change, with_other}
-use Rattle.store_core.specs.Runs.{ChangesTo}
-use Rattle.ingest_steps.specs.Naming.{StandsStill}
-use Rattle.ingest_steps.specs.Sealing.{SameButSlotOf}
+use Rattle.store_model.specs.Slots.{HoldSlots}
+use Rattle.store_model.specs.Steps.{changed, with_cell, with_other}
 use Rattle.journal_cells.specs.Appending.{SameButNext}
-use Rattle.journal_cells.specs.Journal.{JournalValue}
-use Rattle.store_model.proofs.Journaled.{SameButJournal, has_journal, has_kept}
-use Rattle.ingest_steps.specs.Recording.{SameButRecord, SameButRecordBy}
+use Rattle.store_model.proofs.Journaled.{SameButJournal}
+use Rattle.ingest_steps.specs.Recording.{SameButRecord}
 use Rattle.ingest_steps.proofs.Recorded.{cell_of_count}
 use Rattle.ingest_steps.proofs.RecordFrames.{record_alone}
 use Rattle.core_machine.specs.Bytes.{SameJournal}
 use Rattle.backup_engine.specs.Frame.{KeepsOpen}
-use Rattle.backup_engine.specs.Promise.{MayChange}
 use Rattle.backup_engine.proofs.PutChanges.{IsSeal}
 
 -- ---- closed slots

@@ -1,35 +1,20 @@
 -- What steps kept of a file: its pieces, each pinned, and what two of one key are.
-use Rattle.std.proofs.Common.{◌≡◌, ◌≢◌, ℕ, ◌==◌, Bool, true, false, cond, List, [], ◌∷◌, ◌++◌, length, map, Option, Some, None, Result, Ok, refl, sym, ◌∙◌, ap, subst, arith}
+use Rattle.backup_engine.proofs.Prelude.{◌≡◌, ◌≢◌, ℕ, ◌==◌, Bool, true, false, cond, List, [], ◌∷◌, ◌++◌, length, map, Option, Some, None, Result, Ok, refl, sym, ◌∙◌, ap, subst, arith, AllByRecursion, bytes_eq-Decides, sha256, Kind, PlaceMap, KindSegment, Segment, segment_key, node_digest, Answer, PinMap, has_pin, KeyPin, children_by, pin_of, StepValue, Refusal, Piece, Data, Node, HasPieceOf, IsPieceOf, piece_bytes, piece_key, piece_segment, key_of_seg, first_unpinned_of, with_pins, kept_by, kept_of, FileEvent, all_map, all_then, in_left, in_right, one_of, HasTwins, IsPiece, AreKept, length_in, IsAskedFor, IsOneOf, IsPutStep}
 use Rattle.std.specs.Prelude.{if◌then◌else◌}
 use Rattle.std.specs.FinMap as finite
 use Rattle.std.specs.Cmp.Lexicographic.{slice_cmp, nat_list_cmp_total}
-use Rattle.std.specs.List.{AllByRecursion}
 use Rattle.std.specs.Ordering.{nat_cmp, eq_by_cmp}
 use Rattle.std.proofs.lemmas.List.{append-nil, append_assoc}
-use Rattle.std.proofs.lemmas.Slice.Eq.{bytes_eq-Decides}
-use Rattle.sha2.specs.Sha256.{sha256}
-use Rattle.container_meta.specs.declared.kind.Kind.{Kind}
-use Rattle.container_meta.specs.Places.{PlaceMap}
-use Rattle.container_meta.specs.Segments.{KindSegment, Segment, segment_key}
-use Rattle.merkle_file.specs.Node.{Contents, node_digest}
+use Rattle.merkle_file.specs.Node.{Contents}
 use Rattle.actor_parts.specs.declared.pins.Pin.{Pin}
-use Rattle.actor_parts.specs.declared.step.Answer.{Answer}
 use Rattle.actor_parts.specs.declared.step.Answer.TheVariants as answers
-use Rattle.actor_parts.specs.PinMap.{PinMap, is_pin, has_pin}
-use Rattle.actor_parts.specs.Segments.{KeyPin, children_by, first_not_in, pin_by, pin_of}
+use Rattle.actor_parts.specs.PinMap.{is_pin}
+use Rattle.actor_parts.specs.Segments.{first_not_in, pin_by}
 use Rattle.actor_parts.specs.StepValue as asked
-use Rattle.actor_parts.specs.StepValue.{StepValue}
-use Rattle.refusals.specs.declared.refusal.Refusal.{Refusal}
-use Rattle.store_model.specs.Pieces.{Piece, Data, Node, HasPieceOf, IsPieceOf, piece_bytes, piece_key, piece_segment}
 use Rattle.store_model.proofs.Indexing.{tied}
-use Rattle.ingest_steps.specs.Claiming.{key_of_seg}
-use Rattle.ingest_steps.specs.Pinning.{first_unpinned_of, or_else, with_pins}
-use Rattle.store_core.specs.Keeping.{kept_by, kept_of}
-use Rattle.store_core.specs.Runs.{FileEvent}
-use Rattle.ingest_session.proofs.Members.{all_map, all_then, in_first, in_left, in_right, one_of}
-use Rattle.backup_engine.specs.PlainMap.{HasTwins, IsPiece}
-use Rattle.backup_engine.specs.Putting.{AreKept, HasPinOf, length_in}
-use Rattle.backup_engine.specs.Running.{IsAskedFor, IsOneOf, IsPutStep}
+use Rattle.ingest_steps.specs.Pinning.{or_else}
+use Rattle.ingest_session.proofs.Members.{in_first}
+use Rattle.backup_engine.specs.Putting.{HasPinOf}
 use Rattle.backup_engine.proofs.WayLists.{all_on}
 
 -- ---- pieces

@@ -1,17 +1,10 @@
 -- An opening over a disk that was lent to a core: so it is of the disk.
-use Rattle.std.proofs.Common.{◌≡◌, inl, inr, List, ◌∷◌, ℕ, sym}
-use Rattle.std.specs.Borrow.{MutBor}
-use Rattle.dd_disk.specs.Ending.{Ending, Reads}
-use Rattle.dd_disk.specs.Shows.{Shows}
-use Rattle.dd_disk.specs.View.{DiskView, IsLater}
-use Rattle.recovery.specs.Room.{RoomMade}
-use Rattle.refusals.specs.declared.refusal.Refusal.{Refusal}
-use Rattle.store_core.specs.Opening.{IsNotRead, OpensNone}
+use Rattle.backup_engine.proofs.Prelude.{◌≡◌, inl, inr, List, ◌∷◌, ℕ, sym, MutBor, Reads, Shows, DiskView, IsLater, RoomMade, Refusal, IsNotRead, OpensNone, later_on}
+use Rattle.dd_disk.specs.Ending.{Ending}
 use Rattle.backup_engine.proofs.Kept.{later_back}
 use Rattle.backup_engine.proofs.Returned.{rest_same}
 use Rattle.backup_engine.proofs.Unlent.{open_refusal, shows}
 use Rattle.backup_engine.proofs.UnlentRoom.{made_back, unmade_back}
-use Rattle.dd_disk.proofs.Later.{later_on}
 
 -- ---- calls that read
 

@@ -53,6 +53,7 @@ pub mod NotOpened
 pub mod Numbers
 pub mod Opens
 pub mod OtherHeaders
+mod Prelude
 pub mod PutCauses
 pub mod PutChanges
 pub mod PutEnds

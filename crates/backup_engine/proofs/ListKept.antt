@@ -1,27 +1,14 @@
 -- What a `list` keeps: names are listed, and no more than read.
-use Rattle.std.proofs.Common.{◌≡◌, inl, inr, ℕ, List, [], Option, None, Some, Result, Ok, Err, refl, sym, ◌∙◌, ap, subst}
-use Rattle.dd_disk.specs.Ending.{CountsFault, Reads, Refused as NoFault}
+use Rattle.backup_engine.proofs.Prelude.{◌≡◌, inl, inr, ℕ, List, [], Option, None, Some, Result, Ok, Err, refl, sym, ◌∙◌, ap, subst, CountsFault, Reads, NoFault, DiskView, SourceView, SinkView, Answer, NamedRoot, Refusal, Memory, Sink, Refused, listing_text, Lists, CoreStep, Steps, CoreState, Event, IsCaused, WroteOnAny, disk_ending, WritesNames, WroteReply, Keeps, ending_in}
 use Rattle.dd_disk.specs.Ending as device
-use Rattle.dd_disk.specs.View.{DiskView}
-use Rattle.dd_io.specs.Flow.{SourceView, SinkView}
-use Rattle.actor_parts.specs.declared.step.Answer.{Answer}
 use Rattle.actor_parts.specs.declared.step.Answer.TheVariants as answers
 use Rattle.actor_parts.specs.StepValue as asked
-use Rattle.namespace.specs.Listing.{NamedRoot, listing_of}
-use Rattle.refusals.specs.declared.refusal.Refusal.{Refusal}
-use Rattle.refusals.specs.declared.refusal.Refusal.TheVariants.{Memory}
+use Rattle.namespace.specs.Listing.{listing_of}
 use Rattle.reply_text.specs.declared.ending.Ending.{Ending}
-use Rattle.reply_text.specs.declared.ending.Ending.TheVariants.{Sink, Refused}
-use Rattle.reply_text.specs.Text.{listing_text}
-use Rattle.script_runner.specs.Acts.{Lists}
-use Rattle.store_core.specs.Core.{CoreStep, ListRow, Steps}
-use Rattle.store_core.specs.State.{CoreState, Event}
+use Rattle.store_core.specs.Core.{ListRow}
 use Rattle.store_model.specs.Image.{names_of}
-use Rattle.backup_engine.specs.AnyDisk.{IsCaused, ListsNames, WroteOnAny, disk_ending}
+use Rattle.backup_engine.specs.AnyDisk.{ListsNames}
 use Rattle.backup_engine.specs.Line as table
-use Rattle.backup_engine.specs.Naming.{WritesNames}
-use Rattle.backup_engine.specs.Promise.{WroteReply}
-use Rattle.backup_engine.specs.TopCall.{Keeps, ending_in}
 use Rattle.backup_engine.proofs.Called.{Called}
 use Rattle.backup_engine.proofs.NotDone.{holds, without_memory}
 use Rattle.backup_engine.proofs.ReadSteps.{steps_of}

@@ -1,29 +1,13 @@
 -- To which files the lines of a script lead, and by which they come.
-use Rattle.std.proofs.Common.{◌≡◌, ◌⊎◌, inl, inr, ◌++◌, ℕ, List, [], ◌∷◌, Option, Ok, Err, refl, sym, subst}
-use Rattle.dd_disk.specs.View.{DiskView}
-use Rattle.refusals.specs.declared.refusal.Refusal.{Refusal}
-use Rattle.refusals.specs.declared.refusal.Refusal.TheVariants.{Memory}
+use Rattle.backup_engine.proofs.Prelude.{◌≡◌, ◌⊎◌, inl, inr, ◌++◌, ℕ, List, [], ◌∷◌, Option, Ok, Err, refl, sym, subst, DiskView, Refusal, Memory, OpensAs, Stored, Store, FileMachine, passes_later, Replied, desk, run_of, run_on, Found, Stepped, MayBeFound, of_files, IsOfFound, MayStand, stored_in, unopened, Passes, RefusedByFiles, RunsByFiles, said}
 use Rattle.reply_text.specs.declared.ending.Ending.{Ending}
 use Rattle.script_lines.specs.Grammar as lines
 use Rattle.script_lines.specs.ReplyValue as replies
-use Rattle.store_model.specs.Collisions.{OpensAs}
-use Rattle.store_model.specs.Files.{Stored}
-use Rattle.store_model.specs.Image.{Store}
-use Rattle.store_machine.specs.ByMap.{FileMachine}
-use Rattle.script_runner.proofs.DeskRuns.{passes_here, passes_later}
-use Rattle.store_machine.specs.Commands.{Replied, desk, run_of, run_on}
+use Rattle.script_runner.proofs.DeskRuns.{passes_here}
 use Rattle.store_machine.specs.Done as done
-use Rattle.store_machine.specs.Machine.{Found, Stepped}
-use Rattle.store_machine.specs.Opening.{MayBeFound}
 use Rattle.store_machine.specs.Runs.{Run}
-use Rattle.store_machine.specs.Values.{of_files}
 use Rattle.core_machine.specs.FileOpenings.{Reopens, opening}
-use Rattle.core_machine.specs.Files.{IsOfFound, MayStand, stored_in}
-use Rattle.core_machine.specs.Unopened.{unopened}
-use Rattle.script_runner.specs.LinesAreRuns.{Passes}
-use Rattle.backup_engine.specs.ByFiles.{RefusedByFiles, RunsByFiles}
 use Rattle.backup_engine.specs.Lists.{IsScriptOf, ScriptLeads, ScriptPasses}
-use Rattle.backup_engine.specs.Singles.{said}
 
 -- the image can be opened as files that have P
 abbrev Leads : (List ℕ → Type 0) → (Stored → Type 0) → List ℕ → Type 0

@@ -1,32 +1,19 @@
 -- What holds of calls one after the other, from what each keeps of the map that it finds.
-use Rattle.std.proofs.Common.{◌≡◌, ◌⊎◌, inl, inr, ℕ, zero, suc, ◌+◌, List, [], ◌∷◌, ◌++◌, replicate, Option, Some, None, refl, sym, ◌∙◌, subst, arith}
-use Rattle.std.specs.List.{AllByRecursion}
-use Rattle.base_model.specs.Known.{KnownWith}
-use Rattle.dd_disk.specs.View.{DiskView, IsDurable, OnlyReads}
-use Rattle.refusals.specs.declared.refusal.Refusal.{Refusal}
-use Rattle.refusals.specs.declared.refusal.Refusal.TheVariants.{Memory, NoFile, BadName, TooMany, TooLong, Full, Clash, WrongPart, Collecting, NotCollecting, DiskRead, DiskWrite, Stopped, Corrupt, Missing, Numbers, NotAStore, Version, Damaged, Unpinned, AlreadyStore, WrongSize}
+use Rattle.backup_engine.proofs.Prelude.{◌≡◌, ◌⊎◌, inl, inr, ℕ, zero, suc, ◌+◌, List, [], ◌∷◌, ◌++◌, Option, Some, None, refl, sym, ◌∙◌, subst, arith, AllByRecursion, KnownWith, DiskView, IsDurable, OnlyReads, Refusal, Memory, NoFile, BadName, TooLong, Full, Clash, WrongPart, DiskRead, DiskWrite, Corrupt, Missing, Numbers, NotAStore, Version, Damaged, AlreadyStore, WrongSize, Words, Sink, Script, Refused, HasNoCollisions, ByteSet, IsIn, IsOf, OpensAs, Stored, Store, Replied, Found, IsOfFound, MayStand, stored_in, unopened, files_begin, Formats, CommandLine, Format, Ingest, Restore, Collect, TableLine, Single, Check, RefusedByFiles, RunsByFiles, status_by, map_after, AnswersByMap, AnswersEachCall, IsLeftAs, LeavesAs, MayBeMeanwhile, WasNotDone, SinceStart, Does, Promise, Call}
+use Rattle.std.proofs.Common.{replicate}
+use Rattle.refusals.specs.declared.refusal.Refusal.TheVariants.{TooMany, Collecting, NotCollecting, Stopped, Unpinned}
 use Rattle.reply_text.specs.declared.ending.Ending.{Ending}
-use Rattle.reply_text.specs.declared.ending.Ending.TheVariants.{Words, Source, Sink, Line, Script, Refused}
+use Rattle.reply_text.specs.declared.ending.Ending.TheVariants.{Source, Line}
 use Rattle.reply_text.specs.Table.{status_of_refusal}
-use Rattle.store_model.specs.Collisions.{HasNoCollisions, ByteSet, IsIn, AreAmong, IsOf, OpensAs}
-use Rattle.store_model.specs.Files.{Stored, no_files}
-use Rattle.store_model.specs.Image.{Store, empty_store}
-use Rattle.store_machine.specs.Commands.{Replied}
-use Rattle.store_machine.specs.Machine.{Found}
-use Rattle.core_machine.specs.Files.{IsOfFound, MayStand, stored_in}
-use Rattle.core_machine.specs.Unopened.{unopened}
-use Rattle.core_machine.proofs.Unopened.{files_begin}
+use Rattle.store_model.specs.Collisions.{AreAmong}
+use Rattle.store_model.specs.Files.{no_files}
+use Rattle.store_model.specs.Image.{empty_store}
 use Rattle.store_model.specs.Standing.{IsFormatted}
-use Rattle.backup_engine.specs.AnyDisk.{Formats}
-use Rattle.backup_engine.specs.Line.{CommandLine, Format, Ingest, Restore, Delete, Collect, TableLine, Single, Run, Check}
+use Rattle.backup_engine.specs.Line.{Delete, Run}
 use Rattle.backup_engine.specs.Line as table
-use Rattle.backup_engine.specs.ByFiles.{RefusedByFiles, RunsByFiles}
-use Rattle.backup_engine.specs.Noted.{status_by}
-use Rattle.backup_engine.specs.PlainMap.{map_after}
-use Rattle.backup_engine.specs.AnswersByMap.{AnswersByMap, AnswersEachCall, IsLeftAs, LeavesAs, MayBeMeanwhile, WasNotDone}
-use Rattle.backup_engine.specs.Promise.{SinceStart, Stands}
-use Rattle.backup_engine.specs.TopCall.{Does, DoesNothing, Promise}
-use Rattle.backup_engine.specs.Lists.{AnswersBy, Call, KeepsAs, KeepsCall, seen_by, NothingWritten, CallRun, IsGivenAmong, IsPromised, BeginsOfMap, LeadsBy, MayLead, MayPass, LeadsTo, Passed, Possible, RunsByTheMap, StandsEmpty, FormatBegins, LeavesPossible, AnswersByTheMap, SurvivesACrash}
+use Rattle.backup_engine.specs.Promise.{Stands}
+use Rattle.backup_engine.specs.TopCall.{DoesNothing}
+use Rattle.backup_engine.specs.Lists.{AnswersBy, KeepsAs, KeepsCall, seen_by, NothingWritten, CallRun, IsGivenAmong, IsPromised, BeginsOfMap, LeadsBy, MayLead, MayPass, LeadsTo, Passed, Possible, RunsByTheMap, StandsEmpty, FormatBegins, LeavesPossible, AnswersByTheMap, SurvivesACrash}
 use Rattle.backup_engine.proofs.ListScripts.{no_lines, passes_of, refused_leads, script_leads}
 use Rattle.backup_engine.proofs.ListsFormat.{formats_nothing}
 use Rattle.backup_engine.proofs.Reading.{same_reads, since_began, since_start}

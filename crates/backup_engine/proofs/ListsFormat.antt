@@ -1,31 +1,12 @@
 -- A `format` of a disk that has a store which can be opened, however many slots are closed: it is not done, and changes nothing.
-use Rattle.std.proofs.Common.{◌≡◌, inl, inr, ℕ, List, Option, Some, None, refl, sym, ◌∙◌, ap, subst, arith}
-use Rattle.base_model.specs.Bytes.{byte_at}
+use Rattle.backup_engine.proofs.Prelude.{◌≡◌, inl, inr, ℕ, List, Option, Some, None, refl, sym, ◌∙◌, ap, subst, arith, byte_at, FORMAT_GATE, DiskView, shown_content, size_of, Shows, IsFormatRefusal, Refusal, AlreadyStore, Clash, DiskRead, DiskWrite, Memory, WrongSize, formatted_line, Refuses, SourceView, SinkView, Words, Sink, Script, Refused, HasNoCollisions, ByteSet, IsIn, IsOf, OpensAs, Stored, Store, Encodes, IsSegmentOf, Formats, IsCaused, Format, Ingest, SinceStart, WroteReply, Keeps, Call}
 use Rattle.base_model.proofs.Ranges.{byte-range}
-use Rattle.disk_format.specs.declared.numbers.TheConstants.{FORMAT_GATE}
 use Rattle.disk_format.specs.Cells.{format_cell, sealed}
-use Rattle.dd_disk.specs.View.{DiskView}
-use Rattle.dd_disk.proofs.Shows.{shown_content}
-use Rattle.disk_format.specs.Layout.{size_of}
-use Rattle.dd_disk.specs.Shows.{Shows}
-use Rattle.recovery.specs.Formatting.{IsFormatRefusal}
-use Rattle.refusals.specs.declared.refusal.Refusal.{Refusal}
-use Rattle.refusals.specs.declared.refusal.Refusal.TheVariants.{AlreadyStore, Clash, DiskRead, DiskWrite, Memory, WrongSize}
-use Rattle.reply_text.specs.Text.{formatted_line}
-use Rattle.backup_engine.specs.PlainMap.{Refuses, room_of}
-use Rattle.dd_io.specs.Flow.{SourceView, SinkView}
+use Rattle.backup_engine.specs.PlainMap.{room_of}
 use Rattle.reply_text.specs.declared.ending.Ending.{Ending}
-use Rattle.reply_text.specs.declared.ending.Ending.TheVariants.{Words, Source, Sink, Line, Script, Refused}
-use Rattle.store_model.specs.Collisions.{HasNoCollisions, ByteSet, IsIn, IsOf, OpensAs}
-use Rattle.store_model.specs.Files.{Stored}
-use Rattle.store_model.specs.Image.{Store, Encodes}
-use Rattle.store_model.specs.Standing.{IsSegmentOf}
-use Rattle.backup_engine.specs.AnyDisk.{Formats, IsCaused}
+use Rattle.reply_text.specs.declared.ending.Ending.TheVariants.{Source, Line}
 use Rattle.backup_engine.specs.AnswersByMap.{EndsBy}
-use Rattle.backup_engine.specs.Line.{Format, Ingest}
-use Rattle.backup_engine.specs.Promise.{SinceStart, WroteReply}
-use Rattle.backup_engine.specs.TopCall.{Keeps}
-use Rattle.backup_engine.specs.Lists.{Call, FormatsNothing}
+use Rattle.backup_engine.specs.Lists.{FormatsNothing}
 use Rattle.backup_engine.proofs.Reading.{since_began}
 
 gate_of_format : (slots : ℕ) → byte_at 0 (format_cell slots) ≡ FORMAT_GATE

@@ -1,38 +1,21 @@
 -- What a collection copied lies in the containers that it wrote, and is needed.
-use Rattle.std.proofs.Common.{◌≡◌, ◌⊎◌, inl, inr, ◌+◌, ◌*◌, ◌<◌, ◌≤◌, ◌≢◌, ℕ, zero, suc, Bool, true, false, cond, List, [], ◌∷◌, ◌++◌, length, map, Option, Some, None, find, option_map, refl, sym, ◌∙◌, ap, subst, arith}
-use Rattle.std.specs.Prelude.{Contains, if◌then◌else◌, nat_lt, slice_get}
-use Rattle.std.specs.List.{AllByRecursion, IsDistinct}
-use Rattle.std.specs.Str.{bytes_eq}
-use Rattle.std.proofs.lemmas.Bool.{ltb-false, ltb-true}
+use Rattle.backup_engine.proofs.Prelude.{◌≡◌, ◌⊎◌, inl, inr, ◌+◌, ◌<◌, ◌≤◌, ◌≢◌, ℕ, zero, suc, Bool, true, false, cond, List, [], ◌∷◌, ◌++◌, length, map, Option, Some, None, option_map, refl, sym, ◌∙◌, ap, subst, arith, Contains, nat_lt, slice_get, AllByRecursion, bytes_eq, ltb-false, ltb-true, Contains-append_right, bytes_eq-Decides, sha256, key_of, Entry, Kind, kind_byte, Segment, entries_from, segment_key, HeaderValue, header_of, id_below, of_each, with_freed, Store, first_free, free_slots, last_id, newest, place_of, with_slot, StoreChange, SealContainer, ChangeName, FlushContainer, FreeContainer, with_sealed, some_same, there_before, entry_copy, newest_of_entries, Chooses, SweepsSpare, copied_in}
+use Rattle.std.proofs.Common.{◌*◌, find}
+use Rattle.std.specs.Prelude.{if◌then◌else◌}
+use Rattle.std.specs.List.{IsDistinct}
 use Rattle.std.proofs.lemmas.List.{length-append, length-map}
-use Rattle.std.proofs.lemmas.List.Elements.{Contains-append_cases, Contains-append_left, Contains-append_right}
+use Rattle.std.proofs.lemmas.List.Elements.{Contains-append_cases, Contains-append_left}
 use Rattle.std.proofs.lemmas.Option.{slice_get-get_or}
-use Rattle.std.proofs.lemmas.Slice.Eq.{bytes_eq-Decides}
-use Rattle.sha2.specs.Sha256.{sha256}
-use Rattle.base_model.specs.Bytes.{key_of}
-use Rattle.container_meta.specs.declared.entry.Entry.{Entry}
-use Rattle.container_meta.specs.declared.kind.Kind.{Kind}
-use Rattle.container_meta.specs.Format.{kind_byte}
-use Rattle.container_meta.specs.Segments.{Segment, entries_from, segment_key}
-use Rattle.container_meta.specs.Spelling.{HeaderValue, header_of}
-use Rattle.gc_steps.proofs.FirstStage.{id_below}
-use Rattle.gc_sweep.proofs.InSlots.{of_each}
-use Rattle.store_model.specs.Freeing.{with_freed}
-use Rattle.store_model.specs.Image.{Store}
 use Rattle.store_model.specs.Indexing.{entry_key}
 use Rattle.store_model.specs.Needed.{IsNeededCopy, Needs, SumsNeeded}
-use Rattle.store_model.specs.Slots.{AreHeaders, Copy, copy_in, first_free, free_slots, last_id, newer, newest, place_of, with_slot}
-use Rattle.store_model.specs.Steps.{StoreChange, SealContainer, ChangeName, FlushContainer, FreeContainer, with_sealed}
+use Rattle.store_model.specs.Slots.{AreHeaders, Copy, copy_in, newer}
 use Rattle.store_model.proofs.CopyIds.{newest_id}
-use Rattle.store_model.proofs.Copies.{lies, newest_within, some_same}
-use Rattle.store_model.proofs.Freed.{there_before}
+use Rattle.store_model.proofs.Copies.{lies, newest_within}
 use Rattle.store_model.proofs.FreedTrees.{in_head, in_tail, newest_freed}
 use Rattle.store_model.proofs.HeldSlots.{found_so}
-use Rattle.store_model.proofs.NewestSealed.{entry_copy, newest_of_entries}
 use Rattle.store_model.proofs.SealedTrees.{newest_beside}
-use Rattle.store_core.specs.Chosen.{Chooses, IsChosen, IsLittle}
+use Rattle.store_core.specs.Chosen.{IsChosen, IsLittle}
 use Rattle.store_core.specs.Finished.{copied_keys}
-use Rattle.store_core.specs.Releases.{SweepsSpare, copied_in}
 use Rattle.backup_engine.specs.Collected.{IsMoved}
 
 -- ---- lists

@@ -1,26 +1,10 @@
 -- The lines that `delete` and `list` are, run over a core.
-use Rattle.std.proofs.Common.{◌≡◌, inl, inr, ◌+◌, ◌-◌, ◌^◌, min, ℕ, List, [], ◌∷◌, None, Some, Result, Ok, Err, refl, sym, ◌∙◌, subst}
-use Rattle.dd_io.specs.Flow.{SinkView}
-use Rattle.actor_parts.specs.declared.step.Answer.{Answer}
+use Rattle.backup_engine.proofs.Prelude.{◌≡◌, inl, inr, ◌+◌, ◌-◌, ◌^◌, min, ℕ, List, [], ◌∷◌, None, Some, Result, Ok, Err, refl, sym, ◌∙◌, subst, SinkView, Answer, NamedRoot, actor_of, Refusal, Memory, Sink, Refused, deleted_line, listing_text, LineValue, Admits, DoesStep, Lists, RefusesStep, Sent, RunsLines, CoreState, DeleteRun, ListRun, WritesNames, RunsSingle, no_sessions, IsDelete, IsListing, refused, said, ending_in}
 use Rattle.actor_parts.specs.StepValue as asked
-use Rattle.namespace.specs.Listing.{NamedRoot}
-use Rattle.store_machine.specs.Lines.{actor_of}
-use Rattle.refusals.specs.declared.refusal.Refusal.{Refusal}
-use Rattle.refusals.specs.declared.refusal.Refusal.TheVariants.{Memory}
 use Rattle.reply_text.specs.declared.ending.Ending.{Ending}
-use Rattle.reply_text.specs.declared.ending.Ending.TheVariants.{Sink, Refused}
-use Rattle.reply_text.specs.Text.{deleted_line, listing_text}
-use Rattle.script_lines.specs.Grammar.{LineValue}
 use Rattle.script_lines.specs.Grammar as lines
 use Rattle.script_lines.specs.ReplyValue as replies
-use Rattle.script_runner.specs.Acts.{Admits, DoesStep, Lists, RefusesStep}
-use Rattle.script_runner.specs.Runner.{Sent}
-use Rattle.script_runner.specs.Scripts.{RunsLines}
-use Rattle.store_core.specs.State.{CoreState}
-use Rattle.backup_engine.specs.Naming.{DeleteRun, ListRun, WritesNames}
-use Rattle.backup_engine.specs.Saying.{RunsSingle, idle, no_sessions}
-use Rattle.backup_engine.specs.Singles.{IsDelete, IsListing, refused, said}
-use Rattle.backup_engine.specs.TopCall.{ending_in}
+use Rattle.backup_engine.specs.Saying.{idle}
 use Rattle.backup_engine.proofs.Saying.{line_then}
 
 module _ (C : Type 0) (state : C → CoreState) (old new : C) (runs : (state old).stop ≡ None) where

@@ -1,42 +1,20 @@
 -- A `list` and a `delete` answer by the map, by the laws of their lines.
-use Rattle.std.proofs.Common.{◌≡◌, ◌⊎◌, ◌≤◌, ◌-◌, ◌^◌, inl, inr, ℕ, is_some, length, true, false, List, [], ◌∷◌, Option, Some, None, refl, sym, ◌∙◌, ap, subst}
+use Rattle.backup_engine.proofs.Prelude.{◌≡◌, ◌⊎◌, ◌≤◌, ◌-◌, ◌^◌, inl, inr, ℕ, length, true, false, List, [], ◌∷◌, Option, Some, None, refl, sym, ◌∙◌, ap, subst, DiskView, SinkView, IsName, Gone, half_cells, NamedRoot, Refusal, Memory, NoFile, BadName, Numbers, DiskRead, DiskWrite, Sink, Refused, deleted_line, listing_text, LineValue, ReplyValue, IsIn, OpensAs, Stored, Store, with_change, FileMachine, ListsThrough, MakesRoom, RunsWith, EndsWith, Replied, Found, RunState, MayBeFound, of_files, stored_in, unopened, AnswersByMap, AnswersEachCall, ChangesStore, IsLeftAs, IsStore, Wrote, RunsByFiles, LacksNumbers, IsLeftWith, WroteReply, IsDelete, IsListing, said}
+use Rattle.std.proofs.Common.{is_some}
 use Rattle.std.proofs.lemmas.List.{append-nil}
 use Rattle.std.specs.FinMap as finite
-use Rattle.dd_disk.specs.View.{DiskView}
-use Rattle.dd_io.specs.Flow.{SinkView}
-use Rattle.disk_format.specs.Cells.{IsName}
-use Rattle.disk_format.specs.Cells.Change.{Delete as Gone}
-use Rattle.disk_format.specs.Layout.{half_cells}
-use Rattle.namespace.specs.Listing.{NamedRoot}
-use Rattle.refusals.specs.declared.refusal.Refusal.{Refusal}
-use Rattle.refusals.specs.declared.refusal.Refusal.TheVariants.{Memory, NoFile, BadName, Numbers, DiskRead, DiskWrite}
 use Rattle.reply_text.specs.declared.ending.Ending.{Ending}
-use Rattle.reply_text.specs.declared.ending.Ending.TheVariants.{Sink, Refused}
-use Rattle.reply_text.specs.Text.{deleted_line, listing_text}
-use Rattle.script_lines.specs.Grammar.{LineValue}
 use Rattle.script_lines.specs.Grammar as lines
-use Rattle.script_lines.specs.ReplyValue.{ReplyValue}
 use Rattle.script_lines.specs.ReplyValue as replies
-use Rattle.store_model.specs.Collisions.{IsIn, OpensAs}
-use Rattle.store_model.specs.Files.{Stored, without_stored}
-use Rattle.store_model.specs.Image.{Store}
+use Rattle.store_model.specs.Files.{without_stored}
 use Rattle.store_model.specs.Standing.{file_listing}
-use Rattle.store_model.specs.Steps.{with_change}
-use Rattle.store_machine.specs.ByMap.{DeletedName, DeleteRefusal, DeletesByMap, DeletesThrough, FileMachine, IsGone, ListedNames, ListRefusal, ListsByMap, ListsThrough, MakesRoom, RunsWith}
+use Rattle.store_machine.specs.ByMap.{DeletedName, DeleteRefusal, DeletesByMap, DeletesThrough, IsGone, ListedNames, ListRefusal, ListsByMap}
 use Rattle.store_machine.specs.Commands as machine
-use Rattle.store_machine.specs.Commands.{EndsRefused, EndsWith, IsDone, Replied}
-use Rattle.store_machine.specs.Machine.{Found, RunState}
-use Rattle.store_machine.specs.Opening.{MayBeFound}
-use Rattle.store_machine.specs.Values.{of_files}
-use Rattle.core_machine.specs.Files.{stored_in}
-use Rattle.core_machine.specs.Unopened.{unopened}
-use Rattle.backup_engine.specs.AnswersByMap.{AnswersByMap, EndsBy, AnswersEachCall, ChangesStore, IsLeftAs, IsStore, Wrote}
-use Rattle.backup_engine.specs.ByFiles.{RunsByFiles}
+use Rattle.store_machine.specs.Commands.{EndsRefused, IsDone}
+use Rattle.backup_engine.specs.AnswersByMap.{EndsBy}
 use Rattle.backup_engine.specs.Line.{Delete}
 use Rattle.backup_engine.specs.Line as table
-use Rattle.backup_engine.specs.PlainMap.{LacksNumbers, MayDelete, room_of}
-use Rattle.backup_engine.specs.Promise.{IsLeftWith, WroteReply}
-use Rattle.backup_engine.specs.Singles.{IsDelete, IsListing, said}
+use Rattle.backup_engine.specs.PlainMap.{MayDelete, room_of}
 use Rattle.backup_engine.proofs.AnswersByMap.{AnswersOpened, answers_call}
 use Rattle.backup_engine.proofs.Ran.{delete_ran, list_ran, ran_cuts, ran_silent}
 use Rattle.backup_engine.proofs.Rested.{CanBeIf, all_lines, all_steps, answers_by, as_found, last, is_store, left_with, ran, rested, stays_left, was_store, WasStore}

@@ -1,21 +1,10 @@
 -- What `delete` and `list` keep, by what they had a core do, and their lines.
-use Rattle.std.proofs.Common.{ℕ, List, [], Some, Result, Ok, Err, sym, subst}
-use Rattle.dd_disk.specs.View.{DiskView, IsLater}
-use Rattle.dd_io.specs.Flow.{SourceView, SinkView}
-use Rattle.actor_parts.specs.declared.step.Answer.{Answer}
+use Rattle.backup_engine.proofs.Prelude.{ℕ, List, [], Some, Result, Ok, Err, sym, subst, DiskView, IsLater, SourceView, SinkView, Answer, NamedRoot, Refusal, Refused, deleted_line, DoesStep, Lists, RefusesStep, Sent, CoreState, DeleteRun, ListRun, Keeps, ending_in}
 use Rattle.actor_parts.specs.StepValue as asked
-use Rattle.namespace.specs.Listing.{NamedRoot}
-use Rattle.refusals.specs.declared.refusal.Refusal.{Refusal}
 use Rattle.reply_text.specs.declared.ending.Ending.{Ending}
-use Rattle.reply_text.specs.declared.ending.Ending.TheVariants.{Refused}
-use Rattle.reply_text.specs.Text.{deleted_line}
-use Rattle.script_runner.specs.Acts.{DoesStep, Lists, RefusesStep}
-use Rattle.script_runner.specs.Runner.{Sent}
-use Rattle.store_core.specs.State.{CoreState}
 use Rattle.backup_engine.specs.Line.{Delete}
 use Rattle.backup_engine.specs.Line as table
-use Rattle.backup_engine.specs.Naming.{AsksDelete, DeleteRun, ListRun}
-use Rattle.backup_engine.specs.TopCall.{Keeps, ending_in}
+use Rattle.backup_engine.specs.Naming.{AsksDelete}
 use Rattle.backup_engine.proofs.Called.{Called}
 use Rattle.backup_engine.proofs.DeleteKept.{done_any, done_frame, undone_any, undone_frame}
 use Rattle.backup_engine.proofs.ListKept.{not_listed, told_names}

@@ -1,10 +1,6 @@
 -- How many containers have an id above one: a collection has written as many, and fewer than there are slots.
-use Rattle.std.proofs.Common.{◌≡◌, ◌+◌, ◌<◌, ◌≤◌, ℕ, zero, suc, Bool, true, false, cond, List, [], ◌∷◌, length, Option, Some, None, refl, ap, arith}
-use Rattle.std.specs.Prelude.{nat_lt, slice_get}
-use Rattle.std.proofs.lemmas.Bool.{lt-ltb, ltb-true}
-use Rattle.container_meta.specs.Spelling.{HeaderValue}
-use Rattle.store_model.specs.Slots.{first_free, free_slots, last_id, with_slot, without_slot}
-use Rattle.store_model.proofs.Copies.{some_same}
+use Rattle.backup_engine.proofs.Prelude.{◌≡◌, ◌+◌, ◌<◌, ◌≤◌, ℕ, zero, suc, Bool, true, false, cond, List, [], ◌∷◌, length, Option, Some, None, refl, ap, arith, nat_lt, slice_get, ltb-true, HeaderValue, first_free, free_slots, last_id, with_slot, without_slot, some_same}
+use Rattle.std.proofs.lemmas.Bool.{lt-ltb}
 
 -- one, if the id is above
 abbrev pub one_above : ℕ → ℕ → ℕ

@@ -1,16 +1,9 @@
 -- The steps by which a file is stored are none of a collection.
-use Rattle.std.proofs.Common.{ℕ, List, [], ◌∷◌, ◌++◌, Result, Ok, sym, subst}
-use Rattle.std.specs.List.{AllByRecursion}
+use Rattle.backup_engine.proofs.Prelude.{ℕ, List, [], ◌∷◌, ◌++◌, Result, Ok, sym, subst, AllByRecursion, StepValue, AreNoGcSteps, FileEvent, IsNoGcStep, changes_by, changes_of, events_of, changes_told, StoreChange, Answer, Refusal, IsAskedFor, IsPutStep}
 use Rattle.actor_parts.specs.StepValue as asked
-use Rattle.actor_parts.specs.StepValue.{StepValue}
-use Rattle.store_core.specs.Runs.{AreChangesOf, AreNoGcSteps, FileEvent, IsNoGcStep, changes_by, changes_of, events_of}
-use Rattle.store_core.proofs.AnySteps.{changes_told}
+use Rattle.store_core.specs.Runs.{AreChangesOf}
 use Rattle.store_core.proofs.Reserves.{NoneFlushed}
-use Rattle.store_model.specs.Steps.{StoreChange}
-use Rattle.actor_parts.specs.declared.step.Answer.{Answer}
 use Rattle.actor_parts.specs.declared.step.Answer.TheVariants as answers
-use Rattle.refusals.specs.declared.refusal.Refusal.{Refusal}
-use Rattle.backup_engine.specs.Running.{IsAskedFor, IsPutStep}
 
 module _ (name given : List ℕ) where
   pub asked_no_gc : (step : StepValue) (put : List ℕ) → IsAskedFor name given step put → IsNoGcStep step

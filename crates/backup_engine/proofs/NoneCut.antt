@@ -1,21 +1,8 @@
 -- Lines by which no file is given cut nothing.
-use Rattle.std.proofs.Common.{◌≡◌, inl, inr, ℕ, zero, suc, List, [], ◌∷◌, Option, None, Some, replicate, refl, sym, ◌∙◌, ap, subst}
-use Rattle.std.specs.Prelude.{slice_index_or}
-use Rattle.std.specs.List.{AllByRecursion}
-use Rattle.actor_parts.specs.declared.actor.TheConstants.{ACTORS}
-use Rattle.script_lines.specs.Grammar.{LineValue}
+use Rattle.backup_engine.proofs.Prelude.{◌≡◌, inl, inr, ℕ, zero, suc, List, [], ◌∷◌, Option, None, Some, refl, sym, ◌∙◌, ap, subst, slice_index_or, AllByRecursion, ACTORS, LineValue, ReplyValue, FileMachine, Replied, desk, Session, Stepped, of_files, ByteSet, IsOfActor, AreOfActors, FileDesk, IsCutAt, IsCutBy, CutsAmong}
+use Rattle.std.proofs.Common.{replicate}
 use Rattle.script_lines.specs.Grammar as lines
-use Rattle.script_lines.specs.ReplyValue.{ReplyValue}
-use Rattle.store_machine.specs.ByMap.{FileMachine}
-use Rattle.store_machine.specs.Commands.{Replied, desk}
-use Rattle.store_machine.specs.Lines.{Line, Session}
-use Rattle.store_machine.specs.Machine.{Stepped}
-use Rattle.store_machine.specs.Values.{of_files}
-use Rattle.store_model.specs.Collisions.{ByteSet}
-use Rattle.script_runner.specs.Acts.{IsOfActor}
-use Rattle.script_runner.specs.Scripts.{AreOfActors}
-use Rattle.script_runner.specs.LinesAreFileRuns.{FileDesk, IsCutAt, IsCutBy}
-use Rattle.backup_engine.specs.ByFiles.{CutsAmong}
+use Rattle.store_machine.specs.Lines.{Line}
 use Rattle.backup_engine.proofs.Saying.{no_actor, of_first}
 
 -- a line of the first actor, or of none, that leaves what actors give

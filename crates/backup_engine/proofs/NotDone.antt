@@ -1,28 +1,8 @@
 -- Commands that end before anything is asked of a core.
-use Rattle.std.proofs.Common.{◌≡◌, inl, ◌≤◌, ℕ, List, [], IsTrue, false, true, Option, Some, Err, refl, ◌∙◌, arith}
-use Rattle.base_model.specs.Known.{Known}
-use Rattle.dd_disk.specs.View.{DiskView, IsLater, OnlyReads}
-use Rattle.dd_disk.specs.Ending.{Reads, Refused as NoFault}
-use Rattle.dd_disk.specs.Shows.{Shows}
-use Rattle.dd_disk.proofs.Ended.{reads_refused}
-use Rattle.dd_disk.proofs.Shows.{until, shown_content}
-use Rattle.dd_io.specs.Flow.{SourceView, SinkView}
-use Rattle.refusals.specs.declared.refusal.Refusal.{Refusal}
-use Rattle.refusals.specs.declared.refusal.Refusal.TheVariants.{Memory, Full, DiskRead, DiskWrite}
-use Rattle.reply_text.specs.declared.ending.Ending.TheVariants.{Sink, Refused}
-use Rattle.store_model.specs.Files.{Stored}
-use Rattle.store_model.specs.Image.{Store}
-use Rattle.store_model.specs.Slots.{free_slots}
-use Rattle.store_model.specs.Collisions.{IsIn, IsOf}
-use Rattle.store_state.specs.Refused.{fails}
-use Rattle.recovery.specs.Opening.{IsOpenRefusal, Opens}
-use Rattle.store_core.specs.Opening.{IsGivenUp, IsNotRead}
-use Rattle.store_core.specs.State.{CoreState}
-use Rattle.backup_engine.specs.Line.{CommandLine, Format, Ingest, Restore, Delete, Collect}
+use Rattle.backup_engine.proofs.Prelude.{◌≡◌, inl, ◌≤◌, ℕ, List, [], IsTrue, false, true, Option, Some, Err, refl, ◌∙◌, arith, Known, DiskView, IsLater, OnlyReads, Reads, NoFault, Shows, reads_refused, until, shown_content, SourceView, SinkView, Refusal, Memory, Full, DiskRead, DiskWrite, Sink, Refused, Stored, Store, free_slots, IsIn, IsOf, fails, IsOpenRefusal, IsGivenUp, IsNotRead, CoreState, CommandLine, Format, Ingest, Restore, Collect, IsLeftWith, RefusedBy, FindsBeforeWriting, Holds, IsCaused, Took, WroteOnAny, EndsDurable, Keeps, IsLeftBlank, IsUntouched}
+use Rattle.recovery.specs.Opening.{Opens}
+use Rattle.backup_engine.specs.Line.{Delete}
 use Rattle.backup_engine.specs.Line as table
-use Rattle.backup_engine.specs.Promise.{IsLeftWith, RefusedBy}
-use Rattle.backup_engine.specs.AnyDisk.{FindsBeforeWriting, Holds, IsCaused, Took, WroteOnAny, EndsDurable}
-use Rattle.backup_engine.specs.TopCall.{Keeps, IsLeftBlank, IsUntouched}
 use Rattle.backup_engine.proofs.Called.{Called}
 use Rattle.backup_engine.proofs.Reading.{RefusedOver, since_start, reads_frame, reads_map, unchanged}
 

@@ -1,30 +1,16 @@
 -- A name that is not opened: what the promise says of it.
-use Rattle.std.proofs.Common.{◌≡◌, inl, inr, ℕ, false, List, [], is_some, Option, Some, None, Result, Err, refl, sym, ◌∙◌, ap, subst}
+use Rattle.backup_engine.proofs.Prelude.{◌≡◌, inl, inr, ℕ, false, List, [], Option, Some, None, Result, Err, refl, sym, ◌∙◌, ap, subst, DiskView, Reads, ending_of, SourceView, SinkView, ACTORS, Idle, Refusal, Memory, NoFile, BadName, WrongPart, NameMap, blames, CoreStep, OpenRow, CoreState, Event, Restore, IsCaused, IsNotOpened, Keeps, ending_in}
+use Rattle.std.proofs.Common.{is_some}
 use Rattle.std.specs.Prelude.{replicate}
 use Rattle.std.specs.FinMap as finite
-use Rattle.dd_disk.specs.View.{DiskView}
-use Rattle.dd_disk.specs.Ending.{Reads, ending_of}
 use Rattle.dd_disk.proofs.Ended.{reads_on}
-use Rattle.dd_io.specs.Flow.{SourceView, SinkView}
-use Rattle.actor_parts.specs.declared.actor.TheConstants.{ACTORS}
 use Rattle.actor_parts.specs.declared.part.Part.{Part}
-use Rattle.actor_parts.specs.declared.part.Part.TheVariants.{Idle}
 use Rattle.actor_parts.specs.Parts.{part_of}
 use Rattle.actor_parts.specs.StepValue as asked
-use Rattle.refusals.specs.declared.refusal.Refusal.{Refusal}
-use Rattle.refusals.specs.declared.refusal.Refusal.TheVariants.{Memory, NoFile, BadName, WrongPart}
 use Rattle.reply_text.specs.declared.ending.Ending.{Ending}
 use Rattle.reply_text.specs.declared.ending.Ending.TheVariants as endings
-use Rattle.namespace.specs.Names.{NameMap}
 use Rattle.store_model.specs.Image.{names_of}
-use Rattle.store_state.specs.Refused.{blames}
 use Rattle.read_steps.specs.Readers as readers
-use Rattle.store_core.specs.Core.{CoreStep, OpenRow}
-use Rattle.store_core.specs.State.{CoreState, Event}
-use Rattle.backup_engine.specs.Line.{Restore}
-use Rattle.backup_engine.specs.AnyDisk.{IsCaused}
-use Rattle.backup_engine.specs.Running.{IsNotOpened}
-use Rattle.backup_engine.specs.TopCall.{Keeps, ending_in}
 use Rattle.backup_engine.proofs.Called.{Called}
 use Rattle.backup_engine.proofs.GivenOut.{reads_closed}
 use Rattle.backup_engine.proofs.NotDone.{holds}

@@ -1,10 +1,11 @@
 -- Words that are numbers.
-use Rattle.std.proofs.Common.{◌≡◌, ℕ, ◌<◌, ◌^◌, ◌&&◌, Bool, true, false, List, [], ◌∷◌, length, None, Some, Result, Err, nat_le, cond, refl, sym, arith, rules}
+use Rattle.backup_engine.proofs.Prelude.{◌≡◌, ℕ, ◌<◌, ◌^◌, Bool, true, false, List, [], ◌∷◌, length, None, Some, Result, Err, cond, refl, sym, arith, rules, is_number}
+use Rattle.std.proofs.Common.{◌&&◌, nat_le}
 use Rattle.std.specs.Str.Parse.{digits_value, IsNumeral, without_leading_plus}
 use Rattle.std.proofs.lemmas.Bool.{false_from_ne_true, leb-true}
 use Rattle.std.proofs.lemmas.Str.Parse.{IsNumeralModel, numerals_by_value, parse_digits}
 use Rattle.disk_format.specs.declared.numbers.TheConstants.{LEAST_SLOTS, MOST_SLOTS}
-use Rattle.backup_engine.specs.Line.{all_digits, begins_as_number, is_number, percent_of, slots_of}
+use Rattle.backup_engine.specs.Line.{all_digits, begins_as_number, percent_of, slots_of}
 
 pub digits_model : IsNumeralModel (λ ds. all_digits ds ≡ true) (digits_value 10)
 digits_model = numerals_by_value (λ ds. all_digits ds ≡ true) (search rules)

@@ -1,30 +1,9 @@
 -- A command that opens a core and closes it then: what the top call says of it, by what it does from the disk on that was read.
-use Rattle.std.proofs.Common.{◌≡◌, inl, inr, List, [], ℕ, Option, Some, None, replicate, refl, sym, subst}
-use Rattle.std.specs.Borrow.{MutBor}
-use Rattle.dd_disk.specs.Ending.{Done, Reads}
-use Rattle.dd_disk.proofs.Ended.{reads_refused}
-use Rattle.dd_disk.specs.View.{DiskView, IsLater}
-use Rattle.dd_disk.proofs.Later.{later_on}
-use Rattle.dd_io.specs.Flow.{SinkView, SourceView}
-use Rattle.store_machine.specs.Commands.{Replied}
-use Rattle.refusals.specs.declared.refusal.Refusal.{Refusal}
-use Rattle.refusals.specs.declared.refusal.Refusal.TheVariants.{Memory}
+use Rattle.backup_engine.proofs.Prelude.{◌≡◌, inl, inr, List, [], ℕ, Option, Some, None, refl, sym, subst, MutBor, Reads, reads_refused, DiskView, IsLater, later_on, SinkView, SourceView, Replied, Refusal, Memory, Refused, RunnerState, AreOfActors, RunsLines, ACTORS, IsNotRead, IsReadFrom, OpensCore, OpensNone, CoreState, IsRunning, Holds, Took, CommandLine, CallsRunByFiles, RunsSingle, IsFresh, KeepsScript, SpeaksAs, FailsAlone, RunsEachByFiles, DoesCommand, Keeps, RunsScript}
+use Rattle.std.proofs.Common.{replicate}
+use Rattle.dd_disk.specs.Ending.{Done}
 use Rattle.reply_text.specs.declared.ending.Ending.{Ending}
-use Rattle.reply_text.specs.declared.ending.Ending.TheVariants.{Refused}
-use Rattle.script_runner.specs.Acts.{RunnerState}
-use Rattle.script_runner.specs.Scripts.{AreOfActors, RunsLines}
-use Rattle.actor_parts.specs.declared.actor.TheConstants.{ACTORS}
-use Rattle.store_core.specs.Opening.{IsNotRead, IsReadFrom, OpensCore, OpensNone}
-use Rattle.store_core.specs.State.{CoreState, IsRunning}
-use Rattle.backup_engine.specs.AnyDisk.{Holds, Took}
-use Rattle.backup_engine.specs.Line.{CommandLine}
-use Rattle.backup_engine.specs.CallsByFiles.{CallsRunByFiles}
-use Rattle.backup_engine.specs.Saying.{RunsSingle, idle}
-use Rattle.backup_engine.specs.Running.{IsFresh}
-use Rattle.backup_engine.specs.Script.{KeepsScript}
-use Rattle.backup_engine.specs.Singles.{SpeaksAs}
-use Rattle.backup_engine.specs.ByFiles.{FailsAlone, RunsEachByFiles}
-use Rattle.backup_engine.specs.TopCall.{DoesCommand, Keeps, RunsScript}
+use Rattle.backup_engine.specs.Saying.{idle}
 use Rattle.backup_engine.proofs.ByFiles.{by_files_back, calls_by_files, memory_by_files}
 use Rattle.backup_engine.proofs.Called.{Called}
 use Rattle.backup_engine.proofs.Commanded.{does_here, does_made, does_unmade, does_unread, full_not}

@@ -1,27 +1,14 @@
 -- Another header that was read than the store has in a slot, as the collection left it.
-use Rattle.std.proofs.Common.{◌≡◌, ◌≢◌, ℕ, Bool, true, false, List, get_or, Some, Err, refl, sym, ◌∙◌, subst}
+use Rattle.backup_engine.proofs.Prelude.{◌≡◌, ◌≢◌, ℕ, Bool, true, false, List, get_or, Some, Err, refl, sym, ◌∙◌, subst, HeaderValue, Shows, DiskView, Why, Collection, Mark, Filter, SweepStage, is_old_slot, HasStage, HasNext, Store, HoldsSlot, SlotTable, StoreChange, ShownSince}
 use Rattle.std.specs.Prelude.{◌&&◌}
 use Rattle.base_model.specs.Checks.{passes}
-use Rattle.container_meta.specs.Spelling.{HeaderValue}
 use Rattle.copy_forward.specs.Headers.{IsOtherHeader, header_checks}
 use Rattle.copy_forward.proofs.Tabled.{held_tabled}
-use Rattle.dd_disk.specs.Shows.{Shows}
-use Rattle.dd_disk.specs.View.{DiskView}
-use Rattle.disk_format.specs.declared.why.Why.{Why}
-use Rattle.gc_steps.specs.declared.collection.Collection.{Collection}
-use Rattle.gc_steps.specs.declared.collection.Stage.TheVariants.{Mark, Filter, Sweep as SweepStage}
-use Rattle.gc_steps.specs.Stages.{is_old_slot}
-use Rattle.gc_steps.specs.UnderWay.{HasStage}
 use Rattle.gc_sweep.specs.declared.sweep.Next.TheVariants.{Copy}
-use Rattle.gc_sweep.specs.UnderWay.{HasNext}
 use Rattle.gc_sweep.proofs.InSlots.{header_at, old_id}
-use Rattle.store_model.specs.Image.{Store}
-use Rattle.store_model.specs.Slots.{HoldsSlot}
 use Rattle.store_state.specs.declared.slot_table.SlotCount.{SlotCount}
-use Rattle.store_state.specs.declared.slot_table.SlotTable.{SlotTable}
 use Rattle.store_state.specs.Tables.{RepresentsSlots, count_of}
-use Rattle.store_model.specs.Steps.{StoreChange}
-use Rattle.backup_engine.specs.AnyDisk.{HasOtherHeader, ShownSince, SweepsTo}
+use Rattle.backup_engine.specs.AnyDisk.{HasOtherHeader, SweepsTo}
 
 -- what a collection made of the store, and the tables of then
 pub record CameTo (store : Store) (t : SlotTable) : Type 0 where

@@ -1,39 +1,12 @@
 -- What the top call promises of `ingest` over any disk: each ending has its cause.
-use Rattle.std.proofs.Common.{◌≡◌, ◌⊎◌, inl, inr, ℕ, ◌<◌, ◌≤◌, List, [], ◌∷◌, length, Option, Some, Result, Ok, Err, OnOk, IfErr, refl, sym, ◌∙◌, ap, subst}
-use Rattle.std.specs.List.{AllByRecursion}
-use Rattle.base_model.specs.Known.{Known}
-use Rattle.disk_format.specs.declared.numbers.TheConstants.{MOST_FILE}
-use Rattle.dd_disk.specs.View.{DiskView, IsLater}
-use Rattle.dd_disk.specs.Ending.{Done, CountsFault, ending, ending_of}
-use Rattle.dd_disk.proofs.Ended.{counts_on}
-use Rattle.dd_disk.proofs.Later.{later_here, later_on, durable_reads}
-use Rattle.dd_disk.proofs.Shows.{until}
-use Rattle.dd_io.specs.Flow.{SourceView, SinkView}
-use Rattle.actor_parts.specs.declared.step.Answer.{Answer}
-use Rattle.actor_parts.specs.StepValue.{StepValue}
-use Rattle.refusals.specs.declared.refusal.Refusal.{Refusal}
-use Rattle.refusals.specs.declared.refusal.Refusal.TheVariants.{Memory, DiskRead, DiskWrite, TooLong}
+use Rattle.backup_engine.proofs.Prelude.{◌≡◌, ◌⊎◌, inl, inr, ℕ, ◌<◌, ◌≤◌, List, [], ◌∷◌, length, Option, Some, Result, Ok, Err, refl, sym, ◌∙◌, ap, subst, AllByRecursion, Known, MOST_FILE, DiskView, IsLater, CountsFault, ending, ending_of, counts_on, later_here, later_on, durable_reads, until, SourceView, SinkView, Answer, StepValue, Refusal, Memory, DiskRead, DiskWrite, TooLong, Sink, Refused, stored_line, Store, Root, Put, StoreChange, CanChangeName, with_change, root_of, blames, ChangesTo, CoreRun, FileEvent, events_of, CoreState, Event, step_later, AddsOnce, Holds, HasAdded, IsStored, IsCaused, IsUnlikeNode, OnAnyDisk, ReadsSince, room_in, Ingest, HasNoRoomForName, RefusesIngest, HoldsPieces, PutRun, IsPutRefusal, IsOk, IsLastPut, seals_of, Sent, IsReadOut, Replies, IsSourceFault, IngestRun, ending_in}
+use Rattle.std.proofs.Common.{OnOk, IfErr}
+use Rattle.dd_disk.specs.Ending.{Done}
 use Rattle.reply_text.specs.declared.ending.Ending.{Ending}
-use Rattle.reply_text.specs.declared.ending.Ending.TheVariants.{Source, Sink, Refused}
-use Rattle.reply_text.specs.Text.{stored_line}
-use Rattle.store_model.specs.Image.{Store, names_of}
-use Rattle.disk_format.specs.Cells.{Root}
-use Rattle.disk_format.specs.Cells.Change.{Put}
-use Rattle.store_model.specs.Steps.{StoreChange, CanChangeName, with_change}
-use Rattle.store_model.specs.Trees.{root_of}
-use Rattle.store_state.specs.Refused.{blames}
-use Rattle.store_core.specs.Runs.{ChangesTo, CoreRun, FileEvent, events_of}
-use Rattle.store_core.specs.State.{CoreState, Event}
-use Rattle.store_core.proofs.Stepping.{step_later}
-use Rattle.backup_engine.specs.Adding.{AddsOnce}
-use Rattle.backup_engine.specs.AnyDisk.{Holds, HasAdded, IsStored, IsCaused, IsUnlikeNode, OnAnyDisk, ReadsSince, room_in}
-use Rattle.backup_engine.specs.Line.{Ingest}
-use Rattle.backup_engine.specs.PlainMap.{HasNoRoomForName, RefusesIngest}
-use Rattle.backup_engine.specs.Running.{HoldsPieces, PutRun, IsPutRefusal, IsOk, IsLastPut, seals_of}
-use Rattle.script_runner.specs.Runner.{Sent}
+use Rattle.reply_text.specs.declared.ending.Ending.TheVariants.{Source}
+use Rattle.store_model.specs.Image.{names_of}
 use Rattle.script_runner.proofs.FaultsCounted.{step_went}
-use Rattle.backup_engine.specs.Storing.{IsReadOut, Replies, IsStopped, IsTaken, IsSourceFault, IngestRun}
-use Rattle.backup_engine.specs.TopCall.{ending_in}
+use Rattle.backup_engine.specs.Storing.{IsStopped, IsTaken}
 use Rattle.backup_engine.proofs.Called.{Called}
 use Rattle.backup_engine.proofs.PutChanges.{IsOn, Puts, EndsBy, IsWayStep, AreUnless, last_is, ways_of, put_changes}
 use Rattle.backup_engine.proofs.PutNames.{names_with, opened_on}

@@ -1,30 +1,12 @@
 -- What the steps by which a file is stored make of a core: containers are sealed, and then the name is put, or a step is
 -- refused.
-use Rattle.std.proofs.Common.{◌≡◌, ◌⊎◌, inl, inr, ℕ, suc, ◌≤◌, List, [], ◌∷◌, ◌++◌, Option, Some, None, Result, Ok, Err, refl, sym, ◌∙◌, ap, subst, arith}
-use Rattle.std.specs.List.{AllByRecursion}
-use Rattle.disk_format.specs.Cells.{Root}
-use Rattle.disk_format.specs.Cells.Change.{Put}
-use Rattle.dd_disk.specs.View.{IsLater, IsDurable}
-use Rattle.container_meta.specs.Places.{PlaceMap}
+use Rattle.backup_engine.proofs.Prelude.{◌≡◌, ◌⊎◌, inl, inr, ℕ, suc, ◌≤◌, List, [], ◌∷◌, ◌++◌, Option, Some, None, Result, Ok, Err, refl, sym, ◌∙◌, ap, subst, arith, AllByRecursion, Root, Put, IsLater, IsDurable, PlaceMap, HeaderValue, header_of, Answer, StepValue, Refusal, Memory, DiskWrite, Damaged, Store, IsValidFor, HasFree, free_slots, first_free, with_slot, StoreChange, SealContainer, ChangeName, FlushContainer, FreeContainer, CanChangeName, with_change, Tables, Represents, Stop, CoreStep, Steps, StepsOr, StopsAfter, Effect, Rests, SealsOne, NamesOne, IndexesAll, Makes, KeepsTables, ChangesTo, CoreRun, FileEvent, IsNoGcStep, events_of, CoreState, Event, PutRun, EndsPut, IsPutStep, IsAskedFor, IsNoCommit, IsOk, IsDoneBefore, IsLastPut, seal_by, seals_of}
 use Rattle.container_meta.specs.Segments.{Contents}
-use Rattle.container_meta.specs.Spelling.{HeaderValue, header_of}
-use Rattle.actor_parts.specs.declared.step.Answer.{Answer}
 use Rattle.actor_parts.specs.declared.step.Answer.TheVariants as answers
 use Rattle.actor_parts.specs.StepValue as asked
-use Rattle.actor_parts.specs.StepValue.{StepValue}
-use Rattle.refusals.specs.declared.refusal.Refusal.{Refusal}
-use Rattle.refusals.specs.declared.refusal.Refusal.TheVariants.{Memory, DiskWrite, Damaged}
-use Rattle.store_model.specs.Image.{Store, IsValidFor}
-use Rattle.store_model.specs.Slots.{HasFree, free_slots, first_free, with_slot}
-use Rattle.store_model.specs.Steps.{StoreChange, SealContainer, ChangeName, FlushContainer, FreeContainer, CanChangeName, changed, with_change}
-use Rattle.store_state.specs.declared.tables.Tables.{Tables}
-use Rattle.store_state.specs.Tables.{Represents}
-use Rattle.store_core.specs.declared.stop.Stop.{Stop}
-use Rattle.store_core.specs.Core.{CoreStep, Steps, StepsOr, StopsAfter, Row, Effect, Rests, SealsOne, NamesOne, IndexesAll, Makes, KeepsTables}
-use Rattle.store_core.specs.Runs.{ChangesTo, CoreRun, FileEvent, IsNoGcStep, events_of}
-use Rattle.store_core.specs.State.{CoreState, Event}
+use Rattle.store_model.specs.Steps.{changed}
+use Rattle.store_core.specs.Core.{Row}
 use Rattle.backup_engine.proofs.NoGcSteps.{asked_no_gc}
-use Rattle.backup_engine.specs.Running.{PutRun, EndsPut, IsPutStep, IsAskedFor, IsNoCommit, IsOk, IsDoneBefore, IsLastPut, seal_by, seals_of}
 
 -- ---- the steps but the last one, and the last one
 

@@ -1,13 +1,6 @@
 -- Which maps the steps by which a file is stored lead to.
-use Rattle.std.proofs.Common.{◌≡◌, inl, inr, ℕ, List, [], ◌∷◌, Result, Ok, Err, refl, ◌∙◌, ap}
-use Rattle.store_model.specs.Files.{Stored, with_stored}
-use Rattle.std.specs.List.{AllByRecursion}
-use Rattle.actor_parts.specs.declared.step.Answer.{Answer}
+use Rattle.backup_engine.proofs.Prelude.{◌≡◌, inl, inr, ℕ, List, [], ◌∷◌, Result, Ok, Err, refl, ◌∙◌, ap, Stored, with_stored, AllByRecursion, Answer, StepValue, Refusal, FileEvent, stored_with, stored_by, stored_after, IsAskedFor, IsPutStep, IsNoCommit, IsLastPut, EndsPut}
 use Rattle.actor_parts.specs.StepValue as asked
-use Rattle.actor_parts.specs.StepValue.{StepValue}
-use Rattle.refusals.specs.declared.refusal.Refusal.{Refusal}
-use Rattle.store_core.specs.Runs.{FileEvent, stored_with, stored_by, stored_after}
-use Rattle.backup_engine.specs.Running.{IsAskedFor, IsPutStep, IsNoCommit, IsLastPut, EndsPut}
 
 -- ---- a step
 

@@ -1,39 +1,12 @@
 -- What `ingest` never changes, whatever the disk holds.
-use Rattle.std.proofs.Common.{◌≡◌, ◌⊎◌, inl, inr, ℕ, ◌≤◌, List, [], ◌∷◌, length, Option, Some, Result, Ok, Err, sym, ◌∙◌, ap, subst, arith}
-use Rattle.std.specs.List.{AllByRecursion}
-use Rattle.base_model.specs.Known.{KnownWith}
-use Rattle.disk_format.specs.declared.numbers.TheConstants.{RESERVE}
-use Rattle.disk_format.specs.Cells.{Root}
-use Rattle.disk_format.specs.Cells.Change.{Put}
-use Rattle.dd_disk.specs.View.{DiskView, OnlyReads, CrashLeaves, SteppedFrom}
-use Rattle.dd_disk.specs.Moves.{StandsFor}
-use Rattle.dd_disk.proofs.Later.{reads_here, reads_leave, leaves_on, leaves_weaker}
-use Rattle.dd_disk.proofs.Moves.{stands_weaker}
+use Rattle.backup_engine.proofs.Prelude.{◌≡◌, ◌⊎◌, inl, inr, ℕ, ◌≤◌, List, [], ◌∷◌, length, Option, Some, Result, Ok, Err, sym, ◌∙◌, ap, subst, arith, AllByRecursion, KnownWith, RESERVE, Root, Put, DiskView, OnlyReads, CrashLeaves, SteppedFrom, StandsFor, reads_here, leaves_on, leaves_weaker, stands_weaker, Answer, StepValue, Refusal, DiskRead, DiskWrite, Refused, Store, Encodes, free_slots, first_free, HasJournal, with_change, root_of, some_free, has_journal, has_kept, ChangesBytes, StandsStill, ChangesSlotAlone, SameButSlotOf, CoreStep, Effect, SealsOne, NamesOne, CoreRun, FileEvent, events_of, CoreState, MayChange, IsAskedFor, IsNoCommit, IsOk, IsLastPut, seal_by}
+use Rattle.dd_disk.proofs.Later.{reads_leave}
 use Rattle.container_meta.specs.Segments.{Contents}
-use Rattle.actor_parts.specs.declared.step.Answer.{Answer}
 use Rattle.actor_parts.specs.StepValue as asked
-use Rattle.actor_parts.specs.StepValue.{StepValue}
-use Rattle.refusals.specs.declared.refusal.Refusal.{Refusal}
-use Rattle.refusals.specs.declared.refusal.Refusal.TheVariants.{DiskRead, DiskWrite}
 use Rattle.reply_text.specs.declared.ending.Ending.{Ending}
-use Rattle.reply_text.specs.declared.ending.Ending.TheVariants.{Refused}
-use Rattle.store_model.specs.Image.{Store, Encodes}
-use Rattle.store_model.specs.Slots.{free_slots, first_free}
-use Rattle.store_model.specs.Standing.{HasJournal}
-use Rattle.store_model.specs.Steps.{with_change}
-use Rattle.store_model.specs.Trees.{root_of}
-use Rattle.store_model.proofs.Free.{some_free}
-use Rattle.store_model.proofs.Journaled.{has_journal, has_kept}
 use Rattle.store_state.specs.Settled.{IsSettled}
-use Rattle.ingest_steps.specs.Naming.{ChangesBytes, StandsStill}
-use Rattle.ingest_steps.specs.Sealing.{ChangesSlotAlone, SameButSlotOf}
-use Rattle.store_core.specs.Core.{CoreStep, Effect, SealsOne, NamesOne}
-use Rattle.store_core.specs.Runs.{CoreRun, FileEvent, events_of}
-use Rattle.store_core.specs.State.{CoreState}
 use Rattle.store_core.proofs.Stepping.{effect_later}
 use Rattle.backup_engine.specs.Frame.{KeepsOpen}
-use Rattle.backup_engine.specs.Promise.{MayChange}
-use Rattle.backup_engine.specs.Running.{IsAskedFor, IsNoCommit, IsOk, IsLastPut, seal_by}
 use Rattle.backup_engine.proofs.KeptBytes.{IsFreeIn, KeepsSlots, free_sealed, first_is_shut, slots_settled, slots_sealed, journal_later, still_first, change_first, open_kept, open_next}
 use Rattle.backup_engine.proofs.PutChanges.{IsOn, IsPutLast, IsStepRefused, IsWayStep, last_is, way_step, running_step}
 

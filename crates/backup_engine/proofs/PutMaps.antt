@@ -1,37 +1,13 @@
 -- Over a disk that stands for a map an `ingest` keeps the map.
-use Rattle.std.proofs.Common.{◌≡◌, ◌⊎◌, inl, inr, ℕ, ◌<◌, ◌≤◌, List, length, Option, Some, None, Result, Ok, Err, refl, sym, ◌∙◌, subst, arith}
-use Rattle.store_model.specs.Files.{Stored}
-use Rattle.disk_format.specs.declared.numbers.TheConstants.{MOST_FILE, RESERVE}
-use Rattle.dd_disk.specs.View.{DiskView}
+use Rattle.backup_engine.proofs.Prelude.{◌≡◌, ◌⊎◌, inl, inr, ℕ, ◌<◌, ◌≤◌, List, length, Option, Some, None, Result, Ok, Err, refl, sym, ◌∙◌, subst, arith, Stored, MOST_FILE, RESERVE, DiskView, SourceView, SinkView, Refusal, Memory, TooLong, Clash, DiskRead, DiskWrite, Sink, Refused, HasNoCollisions, ByteSet, IsIn, IsOf, Store, Encodes, IsValidFor, HasFree, free_slots, IsStoreOf, IsSegmentOf, Put, StoreChange, with_change, store_once, root_of, Represents, IndexesAll, ChangesTo, FileRun, IsAt, stored_after, CoreState, changes_told, keeps_files, Adds, AddsTo, AddsOnce, Ingest, ReadsSince, room_in, Room, RefusesIngest, KeepsMap, KeepsEachMap, IsLeftWith, RefusedBy, WhyRefused, PutRun, IsPutRefusal, seals_of, IsSourceFault}
 use Rattle.dd_disk.proofs.Moves.{stands_content}
-use Rattle.dd_io.specs.Flow.{SourceView, SinkView}
-use Rattle.refusals.specs.declared.refusal.Refusal.{Refusal}
-use Rattle.refusals.specs.declared.refusal.Refusal.TheVariants.{Memory, TooLong, Clash, DiskRead, DiskWrite}
 use Rattle.reply_text.specs.declared.ending.Ending.{Ending}
-use Rattle.reply_text.specs.declared.ending.Ending.TheVariants.{Source, Sink, Refused}
-use Rattle.store_model.specs.Collisions.{HasNoCollisions, ByteSet, IsIn, IsOf}
-use Rattle.store_model.specs.Image.{Store, Encodes, IsValidFor}
-use Rattle.store_model.specs.Slots.{HasFree, free_slots}
-use Rattle.store_model.specs.Standing.{IsStoreOf, IsSegmentOf}
+use Rattle.reply_text.specs.declared.ending.Ending.TheVariants.{Source}
 use Rattle.store_model.specs.Collisions as collisions
-use Rattle.disk_format.specs.Cells.Change.{Put}
-use Rattle.store_model.specs.Steps.{StoreChange, with_change}
-use Rattle.store_model.proofs.Once.{store_once}
-use Rattle.store_model.specs.Trees.{root_of}
-use Rattle.store_state.specs.Tables.{Represents}
-use Rattle.store_core.specs.Core.{IndexesAll}
-use Rattle.store_core.specs.Runs.{ChangesTo, FileRun, IsAt, Reaches, stored_after}
-use Rattle.store_core.specs.State.{CoreState}
+use Rattle.store_core.specs.Runs.{Reaches}
 use Rattle.store_core.proofs.Crashes.{last_at}
-use Rattle.store_core.proofs.AnySteps.{changes_told, keeps_files}
 use Rattle.store_core.proofs.Reserves.{enough_after}
-use Rattle.backup_engine.specs.Adding.{Adds, AddsTo, AddsOnce}
-use Rattle.backup_engine.specs.Line.{Ingest}
-use Rattle.backup_engine.specs.AnyDisk.{ReadsSince, room_in}
-use Rattle.backup_engine.specs.PlainMap.{Room, room_of, RefusesIngest}
-use Rattle.backup_engine.specs.Promise.{KeepsMap, KeepsEachMap, IsLeftWith, RefusedBy, WhyRefused}
-use Rattle.backup_engine.specs.Running.{PutRun, IsPutRefusal, seals_of}
-use Rattle.backup_engine.specs.Storing.{IsSourceFault}
+use Rattle.backup_engine.specs.PlainMap.{room_of}
 use Rattle.backup_engine.proofs.Added.{adds_to, put_in}
 use Rattle.backup_engine.proofs.Called.{Called, Starts, settled, starts}
 use Rattle.backup_engine.proofs.Clashes.{IsRight, RefusesBut, ends_by, not_unlike}

@@ -1,18 +1,6 @@
 -- A core that was just opened, over any disk; and, where a file is put then, the journal of the disk with its name.
-use Rattle.std.proofs.Common.{◌≡◌, ℕ, List, Some, Ok, sym, ◌∙◌, subst, arith}
-use Rattle.disk_format.specs.Cells.Change.{Put}
-use Rattle.dd_disk.specs.Moves.{StandsFor}
-use Rattle.dd_disk.specs.View.{DiskView}
-use Rattle.dd_disk.proofs.Later.{reads_here, reads_leave}
-use Rattle.dd_disk.proofs.Moves.{stands_reads, stands_weaker}
-use Rattle.dd_disk.proofs.Shows.{shown_content}
-use Rattle.store_model.specs.Image.{Store, Encodes, IsValidFor}
-use Rattle.store_model.specs.Standing.{HasJournal}
-use Rattle.store_model.specs.Steps.{with_change}
-use Rattle.store_model.specs.Trees.{root_of}
-use Rattle.store_model.proofs.Journaled.{has_journal}
-use Rattle.store_core.specs.State.{CoreState}
-use Rattle.backup_engine.specs.Running.{PutRun, seals_of}
+use Rattle.backup_engine.proofs.Prelude.{◌≡◌, ℕ, List, Some, Ok, sym, ◌∙◌, subst, arith, Put, StandsFor, DiskView, reads_here, stands_reads, stands_weaker, shown_content, Store, Encodes, IsValidFor, HasJournal, with_change, root_of, has_journal, CoreState, PutRun, seals_of}
+use Rattle.dd_disk.proofs.Later.{reads_leave}
 use Rattle.backup_engine.proofs.Called.{Called, settled}
 use Rattle.backup_engine.proofs.KeptBytes.{KeepsSlots, change_later, free_held, free_sealed, slots_here}
 use Rattle.backup_engine.proofs.PutChanges.{IsOn, put_changes, ways_of}

@@ -1,22 +1,8 @@
 -- A put that is refused for another reason than a write that failed stops no core, nor does one that is done.
-use Rattle.std.proofs.Common.{◌≡◌, inl, inr, ℕ, List, [], ◌∷◌, Option, None, Result, Ok, Err, IfErr, refl, sym, subst}
-use Rattle.store_model.specs.Files.{Stored}
-use Rattle.std.specs.List.{AllByRecursion}
-use Rattle.actor_parts.specs.declared.step.Answer.{Answer}
+use Rattle.backup_engine.proofs.Prelude.{◌≡◌, inl, inr, ℕ, List, [], ◌∷◌, Option, None, Result, Ok, Err, refl, sym, subst, Stored, AllByRecursion, Answer, StepValue, Refusal, HasNoCollisions, ByteSet, IsIn, Store, Stop, CoreStep, StepsOr, Steps, StopsAfter, FileEvent, FileStep, FileRun, IsAt, stored_by, MayClash, IsHarmless, CoreState, Event, never_damaged, file_step, IsPutStep, IsLastPut, IsOk, IsDoneBefore, EndsPut}
+use Rattle.std.proofs.Common.{IfErr}
 use Rattle.actor_parts.specs.StepValue as asked
-use Rattle.actor_parts.specs.StepValue.{StepValue}
-use Rattle.refusals.specs.declared.refusal.Refusal.{Refusal}
 use Rattle.refusals.specs.declared.refusal.Refusal.TheVariants as refusals
-use Rattle.store_model.specs.Collisions.{HasNoCollisions, ByteSet, IsIn}
-use Rattle.store_model.specs.Image.{Store}
-use Rattle.store_core.specs.declared.stop.Stop.{Stop}
-use Rattle.store_core.specs.Core.{CoreStep, StepsOr, Steps, StopsAfter}
-use Rattle.store_core.specs.Runs.{FileEvent, FileStep, FileRun, IsAt, stored_by}
-use Rattle.store_core.specs.Sound.{MayClash, IsHarmless}
-use Rattle.store_core.specs.State.{CoreState, Event}
-use Rattle.store_core.proofs.Damage.{never_damaged}
-use Rattle.store_core.proofs.KeepingFiles.{file_step}
-use Rattle.backup_engine.specs.Running.{IsPutStep, IsLastPut, IsOk, IsDoneBefore, EndsPut}
 use Rattle.backup_engine.proofs.Clashes.{IsRight, memory_right, refused_right}
 use Rattle.backup_engine.proofs.NoGcSteps.{asked_no_gc}
 use Rattle.backup_engine.proofs.PutEnds.{none_with}

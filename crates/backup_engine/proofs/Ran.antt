@@ -1,21 +1,9 @@
 -- What single commands but `ingest` ran: no line, as there was no memory; or lines by which no file is given.
-use Rattle.std.proofs.Common.{◌≡◌, ◌⊎◌, ◌++◌, inl, inr, ℕ, List, [], ◌∷◌, Option, None, Some, refl, sym, ◌∙◌, subst}
-use Rattle.dd_disk.specs.View.{DiskView}
-use Rattle.dd_io.specs.Flow.{SinkView}
-use Rattle.refusals.specs.declared.refusal.Refusal.{Refusal}
-use Rattle.refusals.specs.declared.refusal.Refusal.TheVariants.{Memory}
+use Rattle.backup_engine.proofs.Prelude.{◌≡◌, ◌⊎◌, ◌++◌, inl, inr, ℕ, List, [], ◌∷◌, Option, None, Some, refl, sym, ◌∙◌, subst, DiskView, SinkView, Refusal, Memory, Sink, Refused, LineValue, ReplyValue, FileMachine, Replied, ByteSet, AreOfActors, CutsAmong, FailsAlone, RunsEachByFiles, IsCollect, IsDelete, IsListing, IsRestore, collecting, next_lines, refused, said}
 use Rattle.reply_text.specs.declared.ending.Ending.{Ending}
-use Rattle.reply_text.specs.declared.ending.Ending.TheVariants.{Sink, Refused}
-use Rattle.script_lines.specs.Grammar.{LineValue}
 use Rattle.script_lines.specs.Grammar as lines
-use Rattle.script_lines.specs.ReplyValue.{ReplyValue}
 use Rattle.script_lines.specs.ReplyValue as replies
-use Rattle.store_machine.specs.ByMap.{FileMachine}
-use Rattle.store_machine.specs.Commands.{Replied}
-use Rattle.store_model.specs.Collisions.{ByteSet}
-use Rattle.script_runner.specs.Scripts.{AreOfActors}
-use Rattle.backup_engine.specs.ByFiles.{CutsAmong, FailsAlone, RunsEachByFiles}
-use Rattle.backup_engine.specs.Singles.{IsCollect, IsDelete, IsListing, IsRestore, ReadsFile, collecting, next_lines, refused, said}
+use Rattle.backup_engine.specs.Singles.{ReadsFile}
 use Rattle.backup_engine.proofs.FailsAlone.{fails_by}
 use Rattle.backup_engine.proofs.NoneCut.{ArePlain, IsPlainLine, none_cuts, plain_actors}
 

@@ -1,32 +1,15 @@
 -- The steps by which a file is given back only read.
-use Rattle.std.proofs.Common.{◌≡◌, ◌<◌, ℕ, List, [], ◌∷◌, length, Option, Some, None, Result, Ok, Err, refl, sym, ◌∙◌, subst}
-use Rattle.std.specs.List.{AllByRecursion}
-use Rattle.dd_disk.specs.View.{DiskView}
-use Rattle.dd_disk.specs.Ending.{Reads, Done}
+use Rattle.backup_engine.proofs.Prelude.{◌≡◌, ◌<◌, ℕ, List, [], ◌∷◌, length, Option, Some, None, Result, Ok, Err, refl, sym, ◌∙◌, subst, AllByRecursion, DiskView, Reads, Why, PlaceMap, Top, Answer, StepValue, Refusal, DiskWrite, blames, IsNextRefusal, Stop, CoreStep, Steps, StepsOr, StopsAfter, ReadRow, OpenRow, KeepsTables, CoreRun, CoreState, Event, IsRead, IsGiven, EndsGiving, disk_ending, ending_in}
+use Rattle.dd_disk.specs.Ending.{Done}
 use Rattle.dd_disk.specs.Ending as device
 use Rattle.dd_disk.proofs.Ended.{reads_on, reads_none}
-use Rattle.disk_format.specs.declared.why.Why.{Why}
-use Rattle.container_meta.specs.Places.{PlaceMap}
-use Rattle.merkle_file.specs.declared.top.Top.{Top}
-use Rattle.actor_parts.specs.declared.step.Answer.{Answer}
 use Rattle.actor_parts.specs.declared.step.Answer.TheVariants as answers
 use Rattle.actor_parts.specs.StepValue as asked
-use Rattle.actor_parts.specs.StepValue.{StepValue}
-use Rattle.refusals.specs.declared.refusal.Refusal.{Refusal}
-use Rattle.refusals.specs.declared.refusal.Refusal.TheVariants.{DiskWrite}
 use Rattle.reply_text.specs.declared.ending.Ending.{Ending}
 use Rattle.reply_text.specs.declared.ending.Ending.TheVariants as endings
-use Rattle.store_state.specs.Refused.{blames}
-use Rattle.read_steps.specs.Walking.{IsNextRefusal}
-use Rattle.store_core.specs.declared.stop.Stop.{Stop}
-use Rattle.store_core.specs.Core.{CoreStep, Steps, StepsOr, StopsAfter, Made, ReadRow, OpenRow, KeepsTables}
-use Rattle.store_core.specs.Runs.{CoreRun}
-use Rattle.store_core.specs.State.{CoreState, Event}
+use Rattle.store_core.specs.Core.{Made}
 use Rattle.store_core.proofs.GivingFiles.{length_on}
 use Rattle.store_core.proofs.Stepping.{row_one}
-use Rattle.backup_engine.specs.Running.{IsRead, IsGiven, EndsGiving}
-use Rattle.backup_engine.specs.AnyDisk.{disk_ending}
-use Rattle.backup_engine.specs.TopCall.{ending_in}
 
 -- ---- one step
 

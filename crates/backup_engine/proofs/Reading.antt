@@ -1,21 +1,11 @@
 -- What a command leaves that did no more than read.
-use Rattle.std.proofs.Common.{◌⊎◌, ◌≡◌, inl, inr, ℕ, List, [], Option, Some, refl, ◌∙◌, arith}
-use Rattle.dd_disk.specs.View.{DiskView, OnlyReads}
-use Rattle.dd_io.specs.Flow.{SinkView}
-use Rattle.refusals.specs.declared.refusal.Refusal.{Refusal}
-use Rattle.refusals.specs.declared.refusal.Refusal.TheVariants.{DiskWrite}
+use Rattle.backup_engine.proofs.Prelude.{◌⊎◌, ◌≡◌, inl, inr, ℕ, List, [], Option, Some, refl, ◌∙◌, arith, DiskView, OnlyReads, SinkView, Refusal, DiskWrite, Refused, IsOf, Store, Encodes, Adds, CommandLine, Format, Ingest, Restore, Collect, GivesSlotsBack, LeavesMeanwhile, RefusedBy, SinceStart, KeepsEachMap, KeepsRest, KeepsOthers, IsSameDisk}
 use Rattle.reply_text.specs.declared.ending.Ending.{Ending}
-use Rattle.reply_text.specs.declared.ending.Ending.TheVariants.{Refused}
-use Rattle.store_model.specs.Collisions.{IsOf}
 use Rattle.store_model.specs.Files.{Files}
-use Rattle.store_model.specs.Image.{Store, Encodes}
-use Rattle.backup_engine.specs.Adding.{Adds}
 use Rattle.backup_engine.specs.AnyDisk.{IsUnchanged}
-use Rattle.backup_engine.specs.Line.{CommandLine, Format, Ingest, Restore, Delete, Collect}
+use Rattle.backup_engine.specs.Line.{Delete}
 use Rattle.backup_engine.specs.Line as table
-use Rattle.backup_engine.specs.Promise.{GivesSlotsBack, LeavesMeanwhile, OverEachMap, RefusedBy, SinceStart, KeepsEachMap}
-use Rattle.backup_engine.specs.Frame.{KeepsRest, KeepsOthers}
-use Rattle.backup_engine.specs.TopCall.{IsSameDisk}
+use Rattle.backup_engine.specs.Promise.{OverEachMap}
 
 -- ---- what stays
 

@@ -1,18 +1,7 @@
 -- Why a store was not opened again, as reads since the start of the call showed.
-use Rattle.std.proofs.Common.{◌≡◌, ◌⊎◌, inl, inr, ℕ, List, [], ◌∷◌, None, Some, refl}
-use Rattle.dd_disk.specs.Shows.{Shows}
-use Rattle.dd_disk.specs.View.{DiskView}
-use Rattle.container_meta.specs.Places.{PlaceMap}
-use Rattle.disk_format.specs.declared.why.Why.{Why}
-use Rattle.merkle_file.specs.declared.top.Top.{Top}
-use Rattle.read_steps.specs.Visiting.{HasPlace, IsVisitRefusal}
-use Rattle.read_steps.specs.Walking.{WasRead, top_key}
-use Rattle.read_steps.proofs.Visited.{roots_wider, visits_wider}
-use Rattle.recovery.specs.Opening.{IsOpenRefusal}
-use Rattle.recovery.specs.Room.{IsRoomRefusal, IsShort, IsStuck}
-use Rattle.refusals.specs.declared.refusal.Refusal.{Refusal}
-use Rattle.refusals.specs.declared.refusal.Refusal.TheVariants.{Corrupt, Damaged, DiskRead, DiskWrite, Memory, Missing}
-use Rattle.backup_engine.specs.Reopening.{HasNoRoom, IsBarrier, IsReadFor}
+use Rattle.backup_engine.proofs.Prelude.{◌≡◌, ◌⊎◌, inl, inr, ℕ, List, [], ◌∷◌, None, Some, refl, Shows, DiskView, PlaceMap, Why, Top, HasPlace, IsVisitRefusal, WasRead, top_key, roots_wider, visits_wider, IsOpenRefusal, IsRoomRefusal, IsShort, Refusal, Corrupt, Damaged, DiskRead, DiskWrite, Memory, Missing, HasNoRoom}
+use Rattle.recovery.specs.Room.{IsStuck}
+use Rattle.backup_engine.specs.Reopening.{IsBarrier, IsReadFor}
 
 -- ---- what is shown by one thing is shown by another
 

@@ -1,12 +1,6 @@
 -- A command that was done up to its reply, and what became of that.
-use Rattle.std.proofs.Common.{◌≡◌, refl, Option, Some, None, Result, Ok, Err, List, ℕ}
-use Rattle.base_model.specs.Fault.{Rose}
-use Rattle.dd_io.specs.Flow.{SinkView}
+use Rattle.backup_engine.proofs.Prelude.{◌≡◌, refl, Option, Some, None, Result, Ok, Err, List, ℕ, Rose, SinkView, Sink, WroteReply, Sent, ending_in}
 use Rattle.reply_text.specs.declared.ending.Ending.{Ending}
-use Rattle.reply_text.specs.declared.ending.Ending.TheVariants.{Sink}
-use Rattle.backup_engine.specs.Promise.{WroteReply}
-use Rattle.script_runner.specs.Runner.{Sent}
-use Rattle.backup_engine.specs.TopCall.{ending_in}
 
 -- it was written whole, or the sink failed
 abbrev pub IsReplied : Option Ending → SinkView → SinkView → Type 0

@@ -1,43 +1,19 @@
 -- A call whose store was opened, as lines of a machine at rest, its opening first: what is found at their end, and on the way.
-use Rattle.std.proofs.Common.{◌≡◌, ◌⊎◌, inl, inr, ◌≤◌, ℕ, zero, suc, List, [], ◌∷◌, ◌++◌, Option, Some, None, Ok, refl, sym, ◌∙◌, subst, arith}
-use Rattle.std.specs.Prelude.{Contains}
-use Rattle.base_model.specs.Known.{KnownWith}
-use Rattle.dd_disk.specs.View.{DiskView}
-use Rattle.dd_io.specs.Flow.{SinkView}
-use Rattle.disk_format.specs.declared.numbers.TheConstants.{RESERVE}
-use Rattle.refusals.specs.declared.refusal.Refusal.TheVariants.{DiskWrite}
+use Rattle.backup_engine.proofs.Prelude.{◌≡◌, ◌⊎◌, inl, inr, ◌≤◌, ℕ, zero, suc, List, [], ◌∷◌, ◌++◌, Option, Some, None, Ok, refl, sym, ◌∙◌, subst, arith, Contains, KnownWith, DiskView, SinkView, RESERVE, DiskWrite, Sink, Refused, OpensAs, Stored, FreesTo, with_all_freed, Store, Encodes, IsReachable, IsSpare, free_slots, IsStoreOf, FileMachine, MakesRoom, RunsWith, Lines, Replied, desk, run_of, run_on, Found, RunState, Running, Stepped, MayBeFound, of_files, IsOfFound, MayStand, stored_in, unopened, Passes, passes_later, AnswersByMap, ChangesStore, IsLeftAs, IsStore, LeavesAs, MayBeMeanwhile, Wrote, RunsByFiles, CommandLine, CanBeDone, map_after, EndsFailing, IsLeftWith, LeavesMeanwhile, said}
 use Rattle.reply_text.specs.declared.ending.Ending.{Ending}
-use Rattle.reply_text.specs.declared.ending.Ending.TheVariants.{Sink, Refused}
 use Rattle.script_lines.specs.Grammar as lines
 use Rattle.script_lines.specs.ReplyValue as replies
-use Rattle.store_model.specs.Collisions.{OpensAs}
-use Rattle.store_model.specs.Files.{Stored}
-use Rattle.store_model.specs.Freeing.{FreesTo, with_all_freed}
-use Rattle.store_model.specs.Image.{Store, Encodes}
-use Rattle.store_model.specs.Reserve.{IsReachable, IsSpare}
-use Rattle.store_model.specs.Slots.{free_slots}
-use Rattle.store_model.specs.Standing.{CanBeOpened, IsStoreOf}
+use Rattle.store_model.specs.Standing.{CanBeOpened}
 use Rattle.store_model.proofs.FreedFiles.{freed_end, freed_to, frees_some, reserve_after, reserve_by, reserve_free}
-use Rattle.store_machine.specs.ByMap.{FileMachine, MakesRoom, RunsWith, Through}
-use Rattle.store_machine.specs.Commands.{AreLinesOf, Command, Lines, Replied, desk, run_of, run_on}
+use Rattle.store_machine.specs.ByMap.{Through}
+use Rattle.store_machine.specs.Commands.{AreLinesOf, Command}
 use Rattle.store_machine.specs.Done as done
-use Rattle.store_machine.specs.Machine.{Found, RunState, Running, Stepped}
 use Rattle.store_machine.specs.Needs.{NamesNeed}
-use Rattle.store_machine.specs.Opening.{MayBeFound, Opens, Stands}
+use Rattle.store_machine.specs.Opening.{Opens, Stands}
 use Rattle.store_machine.specs.Runs.{IsPassedFrom, Run}
-use Rattle.store_machine.specs.Values.{of_files}
 use Rattle.core_machine.specs.FileOpenings.{opening}
-use Rattle.core_machine.specs.Files.{IsOfFound, MayStand, stored_in}
-use Rattle.core_machine.specs.Unopened.{unopened}
 use Rattle.core_machine.proofs.FileNames.{needs_reach}
-use Rattle.script_runner.specs.LinesAreRuns.{Passes}
-use Rattle.script_runner.proofs.DeskRuns.{passes_later}
-use Rattle.backup_engine.specs.AnswersByMap.{AnswersByMap, EndsBy, ChangesStore, IsLeftAs, IsStore, LeavesAs, MayBeMeanwhile, Wrote}
-use Rattle.backup_engine.specs.ByFiles.{RunsByFiles}
-use Rattle.backup_engine.specs.Line.{CommandLine}
-use Rattle.backup_engine.specs.PlainMap.{CanBeDone, map_after}
-use Rattle.backup_engine.specs.Promise.{EndsFailing, IsLeftWith, LeavesMeanwhile}
-use Rattle.backup_engine.specs.Singles.{said}
+use Rattle.backup_engine.specs.AnswersByMap.{EndsBy}
 
 -- a store at rest, that no one has open
 abbrev pub rested : Stored → Store → FileMachine

@@ -1,43 +1,22 @@
 -- A `restore` answers by the map, by the law of its lines.
-use Rattle.std.proofs.Common.{◌≡◌, ◌⊎◌, inl, inr, ℕ, is_some, false, List, [], ◌∷◌, ◌++◌, length, take, Option, Some, None, Result, Ok, Err, append_assoc, refl, sym, ◌∙◌, ap, subst, arith}
-use Rattle.std.specs.List.{concat}
+use Rattle.backup_engine.proofs.Prelude.{◌≡◌, ◌⊎◌, inl, inr, ℕ, false, List, [], ◌∷◌, ◌++◌, length, take, Option, Some, None, Result, Ok, Err, refl, sym, ◌∙◌, ap, subst, arith, concat, Appended, DiskView, AppendedPart, SinkView, IsName, Refusal, Memory, NoFile, BadName, DiskRead, DiskWrite, Sink, Refused, LineValue, ReplyValue, IsIn, Stored, Store, FileMachine, ListsThrough, RunsWith, AllFollow, EndsWith, Follows, Replied, desk, reply_of, Found, RunState, Running, Stepped, MayBeFound, of_files, FileDesk, unopened, AnswersByMap, AnswersEachCall, Wrote, WroteFile, RunsByFiles, Restore, IsLeftWith, IsFirstOf, IsRestore, next_lines, refused, said}
+use Rattle.std.proofs.Common.{is_some, append_assoc}
 use Rattle.std.proofs.lemmas.List.{append-nil, length-append}
 use Rattle.std.specs.FinMap as finite
-use Rattle.base_model.specs.Known.{Appended}
-use Rattle.dd_disk.specs.View.{DiskView}
-use Rattle.dd_io.specs.Flow.{AppendedPart, SinkView}
-use Rattle.disk_format.specs.Cells.{IsName}
-use Rattle.refusals.specs.declared.refusal.Refusal.{Refusal}
-use Rattle.refusals.specs.declared.refusal.Refusal.TheVariants.{Memory, NoFile, BadName, DiskRead, DiskWrite}
 use Rattle.reply_text.specs.declared.ending.Ending.{Ending}
-use Rattle.reply_text.specs.declared.ending.Ending.TheVariants.{Sink, Refused}
-use Rattle.script_lines.specs.Grammar.{LineValue}
 use Rattle.script_lines.specs.Grammar as lines
-use Rattle.script_lines.specs.ReplyValue.{ReplyValue}
 use Rattle.script_lines.specs.ReplyValue as replies
-use Rattle.store_model.specs.Collisions.{IsIn}
-use Rattle.store_model.specs.Files.{Stored}
-use Rattle.store_model.specs.Image.{Store}
 use Rattle.store_machine.specs.Asked.{Asked}
 use Rattle.store_machine.specs.Asked as asked
-use Rattle.store_machine.specs.ByMap.{FileMachine, IsPartOfFile, ListsThrough, RestoredFile, RestoreRefusal, RestoresByMap, RestoresThrough, RunsWith}
+use Rattle.store_machine.specs.ByMap.{IsPartOfFile, RestoredFile, RestoreRefusal, RestoresByMap, RestoresThrough}
 use Rattle.store_machine.specs.Commands as machine
-use Rattle.store_machine.specs.Commands.{AllFollow, EndsWith, Follows, Replied, desk, ends}
+use Rattle.store_machine.specs.Commands.{ends}
 use Rattle.store_machine.specs.Done.{Done}
 use Rattle.store_machine.specs.Done as done
 use Rattle.store_machine.specs.Legal.{Answers, ByState, Legal}
-use Rattle.store_machine.specs.Lines.{Line, reply_of, step_of}
-use Rattle.store_machine.specs.Machine.{Found, RunState, Running, Stepped}
-use Rattle.store_machine.specs.Opening.{MayBeFound}
+use Rattle.store_machine.specs.Lines.{Line, step_of}
 use Rattle.store_machine.specs.Runs.{Run}
-use Rattle.store_machine.specs.Values.{of_files}
-use Rattle.script_runner.specs.LinesAreFileRuns.{FileDesk}
-use Rattle.core_machine.specs.Unopened.{unopened}
-use Rattle.backup_engine.specs.AnswersByMap.{AnswersByMap, EndsBy, AnswersEachCall, Wrote, WroteFile}
-use Rattle.backup_engine.specs.ByFiles.{RunsByFiles}
-use Rattle.backup_engine.specs.Line.{Restore}
-use Rattle.backup_engine.specs.Promise.{IsLeftWith}
-use Rattle.backup_engine.specs.Singles.{IsFirstOf, IsRestore, next_lines, refused, said}
+use Rattle.backup_engine.specs.AnswersByMap.{EndsBy}
 use Rattle.backup_engine.proofs.AnswersByMap.{AnswersOpened, answers_call, nothing_of}
 use Rattle.backup_engine.proofs.Ran.{ran_cuts, ran_silent, restore_ran}
 use Rattle.backup_engine.proofs.Rested.{CanBeIf, all_lines, all_steps, answers_by, as_found, last, left_with, ran, rested, stays_left, was_store, WasStore}

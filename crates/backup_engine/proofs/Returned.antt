@@ -1,14 +1,6 @@
 -- A disk that was lent to a core comes back: it is the same one, later.
-use Rattle.std.proofs.Common.{◌≡◌, inl, inr, ◌∷◌, [], List, ℕ, Result, refl}
-use Rattle.dd_disk.specs.View.{IsLater}
-use Rattle.dd_disk.proofs.Later.{later_on}
-use Rattle.dd_io.specs.Flow.{SourceView, SinkView}
+use Rattle.backup_engine.proofs.Prelude.{◌≡◌, inl, inr, ◌∷◌, [], List, ℕ, Result, refl, IsLater, later_on, SourceView, SinkView, CoreStep, events_of, CoreState, Event, GiveRun, IngestRun}
 use Rattle.reply_text.specs.declared.ending.Ending.{Ending}
-use Rattle.store_core.specs.Core.{CoreStep}
-use Rattle.store_core.specs.Runs.{events_of}
-use Rattle.store_core.specs.State.{CoreState, Event}
-use Rattle.backup_engine.specs.Running.{GiveRun}
-use Rattle.backup_engine.specs.Storing.{IngestRun}
 use Rattle.backup_engine.proofs.PutCauses.{run_later}
 
 -- the first of two lists is the first of the other

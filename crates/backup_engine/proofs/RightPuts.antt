@@ -1,31 +1,12 @@
 -- The steps by which a file is stored, over a core that is at a map: they are given what is right.
-use Rattle.std.proofs.Common.{◌≡◌, ◌≤◌, ℕ, List, [], ◌∷◌, ◌++◌, length, Option, Some, None, Result, Ok, Err, refl, sym, ◌∙◌, ap, subst}
+use Rattle.backup_engine.proofs.Prelude.{◌≡◌, ◌≤◌, ℕ, List, [], ◌∷◌, ◌++◌, length, Option, Some, None, Result, Ok, Err, refl, sym, ◌∙◌, ap, subst, AllByRecursion, Root, MOST_FILE, Kind, Segment, KindSegment, Answer, StepValue, Refusal, HasNoCollisions, ByteSet, IsIn, Stored, Store, Piece, Data, Node, HasPieceOf, IsPieceOf, piece_segment, IsSegmentOf, root_of, Stop, StepsOr, kept_by, kept_of, AreNoGcSteps, CoreRun, FileEvent, FileStep, FileRun, IsAt, IsRootOf, events_of, CoreState, keeps_files, AreWhole, IsAskedFor, IsPutStep, IsWholeAt}
 use Rattle.std.proofs.lemmas.List.{append-nil, append_assoc}
-use Rattle.std.specs.List.{AllByRecursion}
-use Rattle.disk_format.specs.Cells.{Root}
-use Rattle.disk_format.specs.declared.numbers.TheConstants.{MOST_FILE}
-use Rattle.container_meta.specs.declared.kind.Kind.{Kind}
-use Rattle.container_meta.specs.Segments.{Segment, KindSegment}
-use Rattle.actor_parts.specs.declared.step.Answer.{Answer}
 use Rattle.actor_parts.specs.StepValue as asked
-use Rattle.actor_parts.specs.StepValue.{StepValue}
-use Rattle.refusals.specs.declared.refusal.Refusal.{Refusal}
 use Rattle.refusals.specs.declared.refusal.Refusal.TheVariants as refusals
-use Rattle.store_model.specs.Collisions.{HasNoCollisions, ByteSet, IsIn, IsAmong}
-use Rattle.store_model.specs.Files.{Stored}
-use Rattle.store_model.specs.Image.{Store}
-use Rattle.store_model.specs.Pieces.{Piece, Data, Node, HasPieceOf, IsPieceOf, piece_segment}
-use Rattle.store_model.specs.Standing.{IsSegmentOf}
-use Rattle.store_model.specs.Trees.{root_of}
+use Rattle.store_model.specs.Collisions.{IsAmong}
 use Rattle.store_state.specs.Settled.{IsSettled}
-use Rattle.store_core.specs.declared.stop.Stop.{Stop}
-use Rattle.store_core.specs.Core.{StepsOr}
-use Rattle.store_core.specs.Keeping.{kept_by, kept_of}
-use Rattle.store_core.specs.Runs.{AreNoGcSteps, CoreRun, FileEvent, FileStep, FileRun, IsAt, IsGivenRight, IsRightCommit, IsRootOf, events_of}
-use Rattle.store_core.specs.State.{CoreState}
-use Rattle.store_core.proofs.AnySteps.{keeps_files}
+use Rattle.store_core.specs.Runs.{IsGivenRight, IsRightCommit}
 use Rattle.store_core.proofs.KeepingSegments.{keeps_segments}
-use Rattle.backup_engine.specs.Running.{AreWhole, IsAskedFor, IsPutStep, IsWholeAt}
 use Rattle.backup_engine.proofs.NoGcSteps.{asked_no_gc, no_gc_then}
 use Rattle.backup_engine.proofs.RightRoots.{right_root}
 

@@ -1,30 +1,18 @@
 -- The root of a file is right where each piece of it is held: each image holds its tree.
-use Rattle.std.proofs.Common.{◌≡◌, ◌≤◌, ℕ, zero, suc, List, [], ◌∷◌, length, Some, refl, sym, ap, subst}
-use Rattle.std.specs.Prelude.{slice_get}
+use Rattle.backup_engine.proofs.Prelude.{◌≡◌, ◌≤◌, ℕ, zero, suc, List, [], ◌∷◌, length, Some, refl, sym, ap, subst, slice_get, AllByRecursion, Root, MOST_FILE, PlaceMap, KindSegment, Store, Piece, Data, Node, IsPieceOf, piece_segment, HasKey, root_of, leaf_key, node_key, Represents, IsRootOf, CoreState, IsOneOf}
 use Rattle.std.proofs.lemmas.List.{take_all}
-use Rattle.std.specs.List.{AllByRecursion}
-use Rattle.disk_format.specs.Cells.{Root}
-use Rattle.disk_format.specs.declared.numbers.TheConstants.{MOST_FILE}
-use Rattle.container_meta.specs.Places.{PlaceMap}
-use Rattle.container_meta.specs.Segments.{KindSegment}
 use Rattle.merkle_file.specs.Form.{ByCount, room_of}
 use Rattle.merkle_file.specs.Node.{Contents}
 use Rattle.merkle_file.specs.Tree.{leaves, nodes_of, of_segment, tree_of}
 use Rattle.merkle_file.proofs.TreeLaws.{leaves_are_segments}
 use Rattle.segmenter.specs.Segments.{segments_of}
 use Rattle.segmenter.proofs.LengthLemmas.{are_few}
-use Rattle.store_model.specs.Image.{Store}
-use Rattle.store_model.specs.Pieces.{Piece, Data, Node, IsPieceOf, nodes_of_file, piece_segment}
+use Rattle.store_model.specs.Pieces.{nodes_of_file}
 use Rattle.store_model.specs.Reserve.{AllKeys}
-use Rattle.store_model.specs.Slots.{HasKey}
-use Rattle.store_model.specs.Trees.{root_of, file_tree, leaf_key, node_key, HoldsTree}
+use Rattle.store_model.specs.Trees.{file_tree, HoldsTree}
 use Rattle.store_model.proofs.TreeKeys.{keys_of_tree}
 use Rattle.store_model.proofs.HeldTrees.{HasLeaf, HasNode, tree_held}
-use Rattle.store_state.specs.Tables.{Represents}
 use Rattle.store_core.specs.Keeping.{IsHeldIn}
-use Rattle.store_core.specs.Runs.{IsRootOf}
-use Rattle.store_core.specs.State.{CoreState}
-use Rattle.backup_engine.specs.Running.{IsOneOf}
 
 -- ---- lists
 

@@ -1,12 +1,9 @@
 -- A store of a map's files has as much room as the map.
-use Rattle.std.proofs.Common.{◌≡◌, ℕ, Bool, List, is_some, ◌∙◌, ap}
+use Rattle.backup_engine.proofs.Prelude.{◌≡◌, ℕ, Bool, List, ◌∙◌, ap, Stored, Store, IsStoreOf, Ingest, room_in}
+use Rattle.std.proofs.Common.{is_some}
 use Rattle.std.specs.FinMap as finite
-use Rattle.store_model.specs.Files.{Stored}
-use Rattle.store_model.specs.Image.{Store, names_of, last_sequence}
-use Rattle.store_model.specs.Standing.{IsStoreOf}
+use Rattle.store_model.specs.Image.{names_of, last_sequence}
 use Rattle.script_runner.proofs.SameNames.{same_count, same_keys}
-use Rattle.backup_engine.specs.Line.{Ingest}
-use Rattle.backup_engine.specs.AnyDisk.{room_in}
 use Rattle.backup_engine.specs.PlainMap.{room, room_of}
 
 module _ (store : Store) (m : Stored) (image : List ℕ) (holds : IsStoreOf store m.files image) (last : last_sequence store ≡ m.last) where

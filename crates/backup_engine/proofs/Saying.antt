@@ -1,17 +1,12 @@
 -- Lines of single commands, run over a core one after the other.
-use Rattle.std.proofs.Common.{◌≡◌, ◌∙◌, ◌+◌, ℕ, true, false, List, [], ◌∷◌, ◌++◌, length, Some, None, refl, sym, ap, subst, arith, append_assoc, append-nil, length-append}
-use Rattle.store_machine.specs.Lines.{actor_of, takes}
-use Rattle.store_machine.specs.Commands.{Replied, ends}
+use Rattle.backup_engine.proofs.Prelude.{◌≡◌, ◌∙◌, ◌+◌, ℕ, true, false, List, [], ◌∷◌, ◌++◌, length, Some, None, refl, sym, ap, subst, arith, actor_of, Replied, LineValue, pushed_bytes, Admits, RunnerState, RunsLine, IsOfActor, AreOfActors, RunsLines, kind_in, CoreState, Digits, finish_lines, push_lines, pushed, said}
+use Rattle.std.proofs.Common.{append_assoc, append-nil, length-append}
+use Rattle.store_machine.specs.Lines.{takes}
+use Rattle.store_machine.specs.Commands.{ends}
 use Rattle.refusals.specs.declared.refusal.PartKind.{PartKind}
-use Rattle.script_lines.specs.Grammar.{LineValue, pushed_bytes}
 use Rattle.script_lines.specs.Grammar as lines
 use Rattle.script_lines.specs.ReplyValue as replies
-use Rattle.script_runner.specs.Acts.{Admits, RunnerState, RunsLine}
-use Rattle.script_runner.specs.Acts.{IsOfActor}
-use Rattle.script_runner.specs.Scripts.{AreOfActors, RunsLines}
-use Rattle.script_runner.specs.Sessions.{Sessions, kind_in}
-use Rattle.store_core.specs.State.{CoreState}
-use Rattle.backup_engine.specs.Singles.{Digits, finish_lines, push_lines, pushed, said}
+use Rattle.script_runner.specs.Sessions.{Sessions}
 
 -- ---- one line after the other
 

@@ -1,26 +1,18 @@
 -- The lines of a file that was given: a push more, its end, and its name.
-use Rattle.std.proofs.Common.{◌≡◌, ◌⊎◌, inl, inr, ◌∙◌, ◌+◌, ℕ, true, false, None, List, [], ◌∷◌, ◌++◌, length, refl, sym, ap, subst, arith, length-append, Bool, cond, ◌||◌, is_some, Some, ◌≤◌}
+use Rattle.backup_engine.proofs.Prelude.{◌≡◌, ◌⊎◌, inl, inr, ◌∙◌, ◌+◌, ℕ, true, false, None, List, [], ◌∷◌, ◌++◌, length, refl, sym, ap, subst, arith, Bool, cond, ◌||◌, Some, ◌≤◌, IsBytes, Answer, SourceView, Replied, Refusal, pushed_bytes, RunsLine, TurnRun, TurnsStopped, CoreState, SessionState, SaysAll, SaysPushed, giving, Digits, finish_lines, push_lines, pushed, refused, said}
+use Rattle.std.proofs.Common.{length-append, is_some}
 use Rattle.std.specs.Result.{result_unwrap_or}
 use Rattle.std.specs.List.{list_all}
 use Rattle.std.specs.Char.{is_ascii_hexdigit}
 use Rattle.std.specs.Int.{is_in_range}
 use Rattle.std.proofs.lemmas.List.Sums.{list_all-from_AllPass}
-use Rattle.hex.specs.Hex.{IsBytes, encode_lower, is_hex_digit}
+use Rattle.hex.specs.Hex.{encode_lower, is_hex_digit}
 use Rattle.hex.proofs.HexLemmas.{decode_of-encode_lower, decode_of-ok}
-use Rattle.actor_parts.specs.declared.step.Answer.{Answer}
-use Rattle.dd_io.specs.Flow.{SourceView}
-use Rattle.store_machine.specs.Commands.{Replied}
-use Rattle.refusals.specs.declared.refusal.Refusal.{Refusal}
-use Rattle.script_lines.specs.Grammar.{pushed_bytes}
 use Rattle.script_lines.specs.Grammar as lines
 use Rattle.script_lines.specs.ReplyValue as replies
-use Rattle.script_runner.specs.Acts.{RunsLine}
 use Rattle.session_turns.specs.declared.turns.TheConstants.{MOST_PIECE}
-use Rattle.session_turns.specs.Turns.{TurnRun, TurnsStopped}
-use Rattle.store_core.specs.State.{CoreState}
-use Rattle.ingest_session.specs.State.{SessionState}
-use Rattle.backup_engine.specs.Saying.{Says, SaysAll, SaysPushed, giving}
-use Rattle.backup_engine.specs.Singles.{Digits, StopsAt, finish_lines, push_lines, pushed, refused, said}
+use Rattle.backup_engine.specs.Saying.{Says}
+use Rattle.backup_engine.specs.Singles.{StopsAt}
 use Rattle.backup_engine.proofs.Saying.{finish_goes_on, line_after, one_push_more, pushed_more, pushes_go_on}
 use Rattle.backup_engine.proofs.SayingSteps.{commit_refused}
 

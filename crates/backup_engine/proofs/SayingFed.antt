@@ -1,19 +1,7 @@
 -- Lines by which a session is fed a file, by what was so of it.
-use Rattle.std.proofs.Common.{◌≡◌, inr, ◌∙◌, ℕ, false, List, ◌++◌, length, Ok, Err, sym, ap, subst}
-use Rattle.refusals.specs.declared.refusal.Refusal.{Refusal}
-use Rattle.script_lines.specs.Grammar.{pushed_bytes}
+use Rattle.backup_engine.proofs.Prelude.{◌≡◌, inr, ◌∙◌, ℕ, false, List, ◌++◌, length, Ok, Err, sym, ap, subst, Refusal, pushed_bytes, IsEnding, BytesAreCounted, History, HasHistory, SessionState, RunsLine, Feeds, TakesTurns, CoreState, IsFed, SaysPushed, giving, Digits}
 use Rattle.script_lines.specs.Grammar as lines
 use Rattle.script_lines.specs.ReplyValue as replies
-use Rattle.ingest_session.specs.Calls.{IsEnding}
-use Rattle.ingest_session.specs.Facts.{BytesAreCounted}
-use Rattle.ingest_session.specs.History.{History, HasHistory}
-use Rattle.ingest_session.specs.State.{SessionState}
-use Rattle.script_runner.specs.Acts.{RunsLine}
-use Rattle.session_turns.specs.Turns.{Feeds, TakesTurns}
-use Rattle.store_core.specs.State.{CoreState}
-use Rattle.backup_engine.specs.Feeding.{IsFed}
-use Rattle.backup_engine.specs.Saying.{SaysPushed, giving}
-use Rattle.backup_engine.specs.Singles.{Digits}
 use Rattle.backup_engine.proofs.SayingEnds.{EndsSaying, HasEnded, StopsSaying, says_more}
 use Rattle.backup_engine.proofs.SayingSteps.{finish_line, push_line, push_refused}
 

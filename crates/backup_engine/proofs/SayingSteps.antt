@@ -1,32 +1,19 @@
 -- Lines by which the first actor gives a file, each by what was done of it.
-use Rattle.std.proofs.Common.{◌≡◌, inl, ◌∙◌, ◌<◌, ℕ, ◌+◌, ◌-◌, ◌^◌, min, false, true, Option, Some, None, List, length, Ok, Err, refl, sym, ap, subst, arith}
-use Rattle.std.proofs.lemmas.List.{set-set, length-replicate}
-use Rattle.actor_parts.specs.declared.actor.TheConstants.{ACTORS}
+use Rattle.backup_engine.proofs.Prelude.{◌≡◌, inl, ◌∙◌, ◌<◌, ℕ, ◌+◌, ◌-◌, ◌^◌, min, false, true, Option, Some, None, List, length, Ok, Err, refl, sym, ap, subst, arith, length-replicate, ACTORS, Answer, Root, Refusal, pushed_bytes, IsEnding, IsFinishAnswer, History, HasHistory, IsBegun, no_history, SessionState, CoreStep, CoreState, Feeds, TurnRun, Admits, DoesStep, IsReady, RefusesPut, RunnerState, RunsLine, runner_of, kind_in, IsFresh, giving, no_sessions}
+use Rattle.std.proofs.lemmas.List.{set-set}
 use Rattle.actor_parts.specs.declared.part.Part.{Part}
 use Rattle.actor_parts.specs.declared.part.Part.TheVariants as parts
-use Rattle.actor_parts.specs.declared.step.Answer.{Answer}
 use Rattle.actor_parts.specs.Kinds.{kind_of}
 use Rattle.actor_parts.specs.Parts.{part_of}
 use Rattle.actor_parts.specs.StepValue as asked
-use Rattle.disk_format.specs.Cells.{Root}
 use Rattle.refusals.specs.declared.refusal.PartKind.TheVariants as kinds
-use Rattle.refusals.specs.declared.refusal.Refusal.{Refusal}
-use Rattle.script_lines.specs.Grammar.{pushed_bytes}
 use Rattle.script_lines.specs.Grammar as lines
 use Rattle.script_lines.specs.ReplyValue as replies
-use Rattle.ingest_session.specs.Calls.{IsEnding, IsFinishAnswer}
-use Rattle.ingest_session.specs.History.{History, HasHistory, IsBegun, no_history}
-use Rattle.ingest_session.specs.State.{SessionState}
-use Rattle.store_core.specs.Core.{CoreStep}
-use Rattle.store_core.specs.State.{CoreState}
-use Rattle.session_turns.specs.Turns.{Feeds, TurnRun}
-use Rattle.script_runner.specs.Acts.{Admits, DoesStep, IsReady, Replaces, RefusesPut, RunnerState, RunsLine}
-use Rattle.script_runner.specs.Runner.{runner_of}
-use Rattle.script_runner.specs.Sessions.{has_ended, kind_by, kind_in, session_of, with_session}
+use Rattle.script_runner.specs.Acts.{Replaces}
+use Rattle.script_runner.specs.Sessions.{has_ended, kind_by, session_of, with_session}
 use Rattle.script_runner.proofs.Lists.{set_here}
 use Rattle.script_runner.proofs.SessionLists.{only_memory}
-use Rattle.backup_engine.specs.Running.{IsFresh}
-use Rattle.backup_engine.specs.Saying.{giving, idle, no_sessions}
+use Rattle.backup_engine.specs.Saying.{idle}
 use Rattle.backup_engine.proofs.FirstActor.{by_first, idle_of}
 use Rattle.backup_engine.proofs.Saying.{admits}
 

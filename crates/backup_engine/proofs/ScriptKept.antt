@@ -1,44 +1,17 @@
 -- What `run` keeps, from the lines that were run.
-use Rattle.std.proofs.Common.{◌≡◌, ◌⊎◌, inl, inr, ℕ, List, [], ◌∷◌, ◌++◌, Option, Some, None, Result, replicate, refl, sym, ◌∙◌, subst, arith}
-use Rattle.dd_disk.specs.Ending.{CountsFault, ending_of}
-use Rattle.dd_disk.specs.Shows.{Shows}
-use Rattle.dd_disk.specs.View.{CrashLeaves, DiskView, IsLater, OnlyReads}
-use Rattle.dd_disk.proofs.Later.{later_on, reads_here}
-use Rattle.dd_disk.proofs.Shows.{until}
-use Rattle.base_model.specs.Known.{KnownWith}
-use Rattle.dd_io.specs.Flow.{SourceView, SinkView}
-use Rattle.actor_parts.specs.declared.actor.TheConstants.{ACTORS}
-use Rattle.recovery.specs.Opening.{IsOpenRefusal}
-use Rattle.refusals.specs.declared.refusal.Refusal.{Refusal}
-use Rattle.refusals.specs.declared.refusal.Refusal.TheVariants.{Memory, DiskWrite}
+use Rattle.backup_engine.proofs.Prelude.{◌≡◌, ◌⊎◌, inl, inr, ℕ, List, [], ◌∷◌, ◌++◌, Option, Some, None, Result, refl, sym, ◌∙◌, subst, arith, CountsFault, ending_of, Shows, CrashLeaves, DiskView, IsLater, OnlyReads, later_on, reads_here, until, KnownWith, SourceView, SinkView, ACTORS, IsOpenRefusal, Refusal, Memory, DiskWrite, Refused, LineValue, ReadsTellScripts, fresh_reader, ReplyValue, RunnerState, RunsLine, Replied, CallsRunByFiles, RunsLines, OpensNone, CoreState, Store, Encodes, blames, all_then, ReadsSince, LeavesMeanwhile, HasNoRoom, IsScriptEnd, KeepsScript, WroteReplies, EndsReopening, ScriptRun, ending_in}
+use Rattle.std.proofs.Common.{replicate}
 use Rattle.reply_text.specs.declared.ending.Ending.{Ending}
-use Rattle.reply_text.specs.declared.ending.Ending.TheVariants.{Refused}
 use Rattle.script_lines.specs.Grammar as lines
-use Rattle.script_lines.specs.Grammar.{LineValue}
-use Rattle.script_lines.specs.Reader.{ReadsTellScripts, fresh_reader}
 use Rattle.script_lines.specs.ReplyValue as replies
-use Rattle.script_lines.specs.ReplyValue.{ReplyValue}
-use Rattle.script_runner.specs.Acts.{RefusesReopen, RunnerState, RunsLine}
+use Rattle.script_runner.specs.Acts.{RefusesReopen}
 use Rattle.script_runner.specs.AnyDisk.{LinesGiveWhatIsNamed, LinesGoOn}
 use Rattle.script_runner.specs.Frame.{IsOnContent, LinesKeepWritten, NeverSweeps, OpenedIsOn}
-use Rattle.store_machine.specs.Commands.{Replied}
 use Rattle.script_runner.specs.Named.{Account, AllTell, CountFaults, GiveWhatIsNamed, Tells, WasOpened, WasShown, opened}
-use Rattle.backup_engine.specs.CallsByFiles.{CallsRunByFiles}
-use Rattle.script_runner.specs.Scripts.{RunsLines}
 use Rattle.script_runner.specs.Frame.{KeepsOver}
-use Rattle.store_core.specs.Opening.{OpensNone}
-use Rattle.store_core.specs.State.{CoreState}
-use Rattle.store_model.specs.Image.{Store, Encodes}
-use Rattle.store_state.specs.Refused.{blames}
-use Rattle.ingest_session.proofs.Members.{all_then}
-use Rattle.backup_engine.specs.AnyDisk.{ReadsSince}
 use Rattle.backup_engine.specs.Frame.{KeepsAll, LinesKeepOthers}
-use Rattle.backup_engine.specs.Promise.{LeavesMeanwhile}
 use Rattle.backup_engine.specs.Script as script
-use Rattle.backup_engine.specs.Reopening.{HasNoRoom}
-use Rattle.backup_engine.specs.Script.{CountsLines, HasLast, IsNotReopened, IsRunRefusal, IsScriptEnd, KeepsScript, WroteReplies}
-use Rattle.backup_engine.specs.ScriptRuns.{EndsReopening, ScriptRun}
-use Rattle.backup_engine.specs.TopCall.{ending_in}
+use Rattle.backup_engine.specs.Script.{CountsLines, HasLast, IsNotReopened, IsRunRefusal}
 use Rattle.backup_engine.proofs.WholeCall.{leaves_more, leaves_of}
 use Rattle.backup_engine.proofs.Called.{Called}
 use Rattle.backup_engine.proofs.GiveRuns.{written_none}

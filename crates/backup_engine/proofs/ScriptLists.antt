@@ -1,24 +1,14 @@
 -- Lists of lines that were run: one more at the end.
-use Rattle.std.proofs.Common.{◌≡◌, ◌<◌, ◌≤◌, ◌+◌, true, false, ℕ, List, [], ◌∷◌, ◌++◌, length, Option, Some, refl, sym, ◌∙◌, ap, subst, append_assoc, arith}
+use Rattle.backup_engine.proofs.Prelude.{◌≡◌, ◌<◌, ◌≤◌, ◌+◌, true, false, ℕ, List, [], ◌∷◌, ◌++◌, length, Option, Some, refl, sym, ◌∙◌, ap, subst, arith, AllByRecursion, flat_map, ACTORS, Replied, LineValue, IsLine, Refusal, reply_line, MOST_SCRIPT, HasRead, ReaderState, number_after, RunnerState, RunsLine, IsOfActor, AreOfActors, RunsLines, CoreState, lines_of, printed, StopsAtReopen}
+use Rattle.std.proofs.Common.{append_assoc}
 use Rattle.std.proofs.lemmas.List.{append-nil, length-append}
 use Rattle.std.proofs.lemmas.Slice.Zip.{AllZip-long}
-use Rattle.std.specs.List.{AllByRecursion, flat_map}
-use Rattle.actor_parts.specs.declared.actor.TheConstants.{ACTORS}
-use Rattle.store_machine.specs.Commands.{Replied, ends}
-use Rattle.script_lines.specs.Grammar.{LineValue, IsLine, Begin, Push, Finish, Turn, Commit, Abort, Read, Next, Drop, Delete, ListNames, Stat, Reopen, Gc, GcStep, Sweep}
-use Rattle.refusals.specs.declared.refusal.Refusal.{Refusal}
+use Rattle.store_machine.specs.Commands.{ends}
+use Rattle.script_lines.specs.Grammar.{Begin, Push, Finish, Turn, Commit, Abort, Read, Next, Drop, Delete, ListNames, Stat, Reopen, Gc, GcStep, Sweep}
 use Rattle.reply_text.specs.declared.ending.Ending.{Ending}
-use Rattle.script_lines.specs.ReplyText.{reply_line}
 use Rattle.script_lines.specs.ReplyValue as replies
-use Rattle.script_lines.specs.declared.script.TheConstants.{MOST_SCRIPT}
-use Rattle.script_lines.specs.Reader.{HasRead, ReaderState}
-use Rattle.script_lines.specs.Script.{IsRightLine, ended, number_after}
-use Rattle.script_runner.specs.Acts.{RunnerState, RunsLine}
-use Rattle.script_runner.specs.Acts.{IsOfActor}
-use Rattle.script_runner.specs.Scripts.{AreOfActors, RunsLines}
-use Rattle.store_core.specs.State.{CoreState}
-use Rattle.backup_engine.specs.Lines.{lines_of, printed}
-use Rattle.backup_engine.specs.Script.{EndsRefused, StopsAtReopen}
+use Rattle.script_lines.specs.Script.{IsRightLine, ended}
+use Rattle.backup_engine.specs.Script.{EndsRefused}
 use Rattle.backup_engine.specs.ScriptRuns.{NoneEnds}
 
 -- ---- one line more

@@ -1,34 +1,21 @@
 -- A script goes on by a line, or ends.
-use Rattle.std.proofs.Common.{◌≡◌, ◌⊎◌, inl, inr, ◌+◌, ◌≤◌, ◌<◌, ℕ, Bool, true, false, List, [], ◌∷◌, ◌++◌, take, Option, Some, None, Result, Ok, Err, refl, sym, ◌∙◌, ap, subst, append_assoc, arith}
-use Rattle.std.specs.Result.{IsErrAnd}
+use Rattle.backup_engine.proofs.Prelude.{◌≡◌, ◌⊎◌, inl, inr, ◌+◌, ◌≤◌, ◌<◌, ℕ, Bool, true, false, List, [], ◌∷◌, ◌++◌, take, Option, Some, None, Result, Ok, Err, refl, sym, ◌∙◌, ap, subst, arith, IsErrAnd, Rose, Appended, SourceView, SinkView, AppendedPart, Replied, Refusal, Memory, Sink, Script, Refused, MOST_SCRIPT, LineValue, IsLine, HasRead, ReaderState, ReadsTellScripts, fresh_reader, reply_line, ReplyValue, number_after, RunnerState, AreOfActors, RunsLines, CoreState, lines_of, printed, IsScriptEnd, StopsAtReopen, WroteReplies, EndsReopening, ScriptRun, ScriptSoFar}
+use Rattle.std.proofs.Common.{append_assoc}
 use Rattle.std.proofs.lemmas.List.{append-nil, length-append}
-use Rattle.base_model.specs.Fault.{Rose}
-use Rattle.base_model.specs.Known.{Appended}
-use Rattle.dd_io.specs.Flow.{SourceView, SinkView, AppendedPart}
-use Rattle.store_machine.specs.Commands.{Replied, ends}
-use Rattle.refusals.specs.declared.refusal.Refusal.{Refusal}
-use Rattle.refusals.specs.declared.refusal.Refusal.TheVariants.{Memory}
+use Rattle.store_machine.specs.Commands.{ends}
 use Rattle.reply_text.specs.declared.ending.Ending.{Ending}
-use Rattle.reply_text.specs.declared.ending.Ending.TheVariants.{Source, Sink, Line, Script, Refused}
+use Rattle.reply_text.specs.declared.ending.Ending.TheVariants.{Source, Line}
 use Rattle.script_lines.specs.declared.reader.NextLine.{NextLine}
 use Rattle.script_lines.specs.declared.reader.NextLine.TheVariants as next
-use Rattle.script_lines.specs.declared.script.TheConstants.{MOST_SCRIPT}
 use Rattle.script_lines.specs.Grammar as lines
-use Rattle.script_lines.specs.Grammar.{LineValue, IsLine}
-use Rattle.script_lines.specs.Reader.{Given, HasRead, IsNext, IsPart, ReaderState, ReadsTellScripts, TakesOff, fresh_reader, to_come}
-use Rattle.script_lines.specs.ReplyText.{reply_line}
-use Rattle.script_lines.specs.ReplyValue.{ReplyValue}
+use Rattle.script_lines.specs.Reader.{Given, IsNext, IsPart, TakesOff, to_come}
 use Rattle.script_lines.specs.ReplyValue as replies
-use Rattle.script_lines.specs.Script.{Begins, Breaks, Overruns, number_after}
-use Rattle.script_runner.specs.Acts.{RunnerState}
+use Rattle.script_lines.specs.Script.{Begins, Breaks, Overruns}
 use Rattle.script_runner.specs.Runner.{EndsBy, IsAcknowledged, IsNoLine, IsRun, RunsBytes, SendsReply}
-use Rattle.script_runner.specs.Scripts.{AreOfActors, RunsLines}
 use Rattle.script_runner.specs.declared.runner.Halt.{Halt}
 use Rattle.script_runner.specs.declared.runner.Halt.TheVariants.{NoLine, Ended}
-use Rattle.store_core.specs.State.{CoreState}
-use Rattle.backup_engine.specs.Lines.{lines_of, printed}
-use Rattle.backup_engine.specs.Script.{EndsRefused, IsScriptEnd, StopsAtReopen, TookLines, WroteReplies}
-use Rattle.backup_engine.specs.ScriptRuns.{EndsReopening, RunsBy, RunsNext, ScriptRun, ScriptSoFar, goes_on}
+use Rattle.backup_engine.specs.Script.{EndsRefused, TookLines}
+use Rattle.backup_engine.specs.ScriptRuns.{RunsBy, RunsNext, goes_on}
 use Rattle.backup_engine.proofs.Kept.{by_error}
 use Rattle.backup_engine.proofs.ScriptLists.{actors_snoc, all_snoc, few_lines, lines_snoc, number_snoc, of_actor, printed_snoc, runs_snoc, stops_none, stops_snoc}
 

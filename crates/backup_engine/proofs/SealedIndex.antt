@@ -1,26 +1,10 @@
 -- What the index of a core has once a container is sealed: its keys have its places, and all others what they had.
-use Rattle.std.proofs.Common.{◌≡◌, ◌≢◌, ℕ, ◌+◌, List, [], ◌∷◌, length, max, Option, Some, None, option_map, refl, sym, ◌∙◌, ap, arith}
+use Rattle.backup_engine.proofs.Prelude.{◌≡◌, ◌≢◌, ℕ, ◌+◌, List, [], ◌∷◌, length, max, Option, Some, None, option_map, refl, sym, ◌∙◌, ap, arith, AllByRecursion, sha256, key_of, Entry, Kind, Place, kind_byte, PlaceMap, Segment, entries_from, segment_key, HeaderValue, header_of, Store, HasKey, IsPartialIndexOf, first_free, ids_of, last_id, newest, SealContainer, with_sealed, entry_copy, newest_of_entries, OfEach, Represents, Runs, Makes, next_id, CoreState, length_in}
 use Rattle.std.specs.FinMap as finite
-use Rattle.std.specs.List.{AllByRecursion}
-use Rattle.sha2.specs.Sha256.{sha256}
-use Rattle.base_model.specs.Bytes.{key_of}
-use Rattle.container_meta.specs.declared.entry.Entry.{Entry}
-use Rattle.container_meta.specs.declared.kind.Kind.{Kind}
-use Rattle.container_meta.specs.declared.place.Place.{Place}
-use Rattle.container_meta.specs.Format.{kind_byte}
-use Rattle.container_meta.specs.Places.{PlaceMap}
-use Rattle.container_meta.specs.Segments.{Segment, entries_from, segment_key}
-use Rattle.container_meta.specs.Spelling.{HeaderValue, header_of}
-use Rattle.store_model.specs.Image.{Store}
-use Rattle.store_model.specs.Slots.{Copy, HasKey, IsPartialIndexOf, first_free, ids_of, last_id, newest}
-use Rattle.store_model.specs.Steps.{CanSeal, SealContainer, with_sealed}
-use Rattle.store_model.proofs.NewestSealed.{entry_copy, newest_of_entries}
+use Rattle.store_model.specs.Slots.{Copy}
+use Rattle.store_model.specs.Steps.{CanSeal}
 use Rattle.store_model.proofs.Valid.{last_sealed}
-use Rattle.store_state.specs.Tables.{OfEach, Represents, Runs}
-use Rattle.store_core.specs.Core.{Makes, next_id}
-use Rattle.store_core.specs.State.{CoreState}
 use Rattle.store_core.proofs.Sealing.{to_entries}
-use Rattle.backup_engine.specs.Putting.{length_in}
 use Rattle.backup_engine.proofs.WayLists.{all_both}
 
 -- ---- from entries to segments

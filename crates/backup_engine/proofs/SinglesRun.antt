@@ -1,17 +1,10 @@
 -- The lines of a single command: of which actor they are, and which they are.
-use Rattle.std.proofs.Common.{◌≡◌, ◌∙◌, inl, inr, ◌+◌, ℕ, List, [], ◌∷◌, length, Option, Some, None, refl, sym, subst}
-use Rattle.dd_disk.specs.View.{DiskView}
-use Rattle.dd_io.specs.Flow.{SinkView, SourceView}
-use Rattle.store_machine.specs.Commands.{Replied}
-use Rattle.refusals.specs.declared.refusal.Refusal.{Refusal}
-use Rattle.refusals.specs.declared.refusal.Refusal.TheVariants.{Memory}
+use Rattle.backup_engine.proofs.Prelude.{◌≡◌, ◌∙◌, inl, inr, ◌+◌, ℕ, List, [], ◌∷◌, length, Option, Some, None, refl, sym, subst, DiskView, SinkView, SourceView, Replied, Refusal, Memory, Sink, Refused, pushed_bytes, AreOfActors, Digits, IsIngest, Speaks, StoresFile, finish_lines, push_lines, pushed, refused, said}
 use Rattle.reply_text.specs.declared.ending.Ending.{Ending}
-use Rattle.reply_text.specs.declared.ending.Ending.TheVariants.{Source, Sink, Refused}
-use Rattle.script_lines.specs.Grammar.{pushed_bytes}
+use Rattle.reply_text.specs.declared.ending.Ending.TheVariants.{Source}
 use Rattle.script_lines.specs.Grammar as lines
 use Rattle.script_lines.specs.ReplyValue as replies
-use Rattle.script_runner.specs.Scripts.{AreOfActors}
-use Rattle.backup_engine.specs.Singles.{Digits, IsIngest, Speaks, StopsAt, StoresFile, begun, finish_lines, push_lines, pushed, refused, said}
+use Rattle.backup_engine.specs.Singles.{StopsAt, begun}
 use Rattle.backup_engine.proofs.NotDone.{IsUnopened}
 use Rattle.backup_engine.proofs.Saying.{all_of_actors, of_first}
 

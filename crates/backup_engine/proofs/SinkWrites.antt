@@ -1,9 +1,5 @@
 -- A write to a sink that was done, or not.
-use Rattle.std.proofs.Common.{◌≡◌, ℕ, true, false, List, Result, Ok, Err, subst}
-use Rattle.std.specs.Result.{is_err}
-use Rattle.base_model.specs.Fault.{Rose}
-use Rattle.base_model.specs.Known.{Appended}
-use Rattle.dd_io.specs.Flow.{SinkView, AppendedPart, Sends}
+use Rattle.backup_engine.proofs.Prelude.{◌≡◌, ℕ, true, false, List, Result, Ok, Err, subst, is_err, Rose, Appended, SinkView, AppendedPart, Sends}
 
 module _ {T E : Type 0} (bytes piece : List ℕ) (same : bytes ≡ piece) (old new : SinkView) where
   pub part_sent : (result : Result T E) → true ≡ is_err result → Sends bytes result old new → AppendedPart old.written new.written piece

@@ -1,21 +1,8 @@
 -- A source that is taken in and stored, or not.
-use Rattle.std.proofs.Common.{◌≡◌, inl, inr, ◌<◌, ◌≤◌, ℕ, List, [], length, Option, Some, None, Result, Ok, Err, refl, subst}
-use Rattle.base_model.specs.Known.{Known}
-use Rattle.disk_format.specs.declared.numbers.TheConstants.{MOST_FILE}
-use Rattle.dd_io.specs.Flow.{SourceView, SinkView}
-use Rattle.refusals.specs.declared.refusal.Refusal.{Refusal}
-use Rattle.refusals.specs.declared.refusal.Refusal.TheVariants.{Memory, TooLong}
+use Rattle.backup_engine.proofs.Prelude.{◌≡◌, inl, inr, ◌<◌, ◌≤◌, ℕ, List, [], length, Option, Some, None, Result, Ok, Err, refl, subst, Known, MOST_FILE, SourceView, SinkView, Refusal, Memory, TooLong, Sink, Refused, stored_line, root_of, CoreState, Sent, HoldsPieces, PutRun, IsPutRefusal, RunsSingle, IsIngest, StoresFile, IsSourceFault, IsHeard, IsReadOut, IngestRun, ending_in}
 use Rattle.reply_text.specs.declared.ending.Ending.{Ending}
-use Rattle.reply_text.specs.declared.ending.Ending.TheVariants.{Source, Sink, Refused}
-use Rattle.reply_text.specs.Text.{stored_line}
-use Rattle.store_model.specs.Trees.{root_of}
-use Rattle.store_core.specs.State.{CoreState}
-use Rattle.script_runner.specs.Runner.{Sent}
-use Rattle.backup_engine.specs.Running.{HoldsPieces, PutRun, IsPutRefusal}
-use Rattle.backup_engine.specs.Saying.{RunsSingle}
-use Rattle.backup_engine.specs.Singles.{IsIngest, StoresFile}
-use Rattle.backup_engine.specs.Storing.{IsSourceFault, IsHeard, IsHeardAt, IsReadOut, IngestRun}
-use Rattle.backup_engine.specs.TopCall.{ending_in}
+use Rattle.reply_text.specs.declared.ending.Ending.TheVariants.{Source}
+use Rattle.backup_engine.specs.Storing.{IsHeardAt}
 
 -- What a source had to give that was not read: what it had left; where it doesn't tell that, nothing.
 pub given_of : Option (List ℕ) → List ℕ

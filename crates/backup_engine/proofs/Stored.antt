@@ -1,31 +1,14 @@
 -- A source that was read to its end, or not, and the file that is stored then.
-use Rattle.std.proofs.Common.{◌≡◌, inl, inr, ◌∙◌, ℕ, List, [], ◌∷◌, ◌++◌, Some, Result, Ok, Err, refl, sym, ap, subst, append-nil}
-use Rattle.std.specs.Result.{IsErrAnd}
-use Rattle.dd_io.specs.Flow.{SourceView, SinkView}
-use Rattle.disk_format.specs.Cells.{Root}
-use Rattle.actor_parts.specs.declared.step.Answer.{Answer}
+use Rattle.backup_engine.proofs.Prelude.{◌≡◌, inl, inr, ◌∙◌, ℕ, List, [], ◌∷◌, ◌++◌, Some, Result, Ok, Err, refl, sym, ap, subst, IsErrAnd, SourceView, SinkView, Root, Answer, Refusal, Memory, TooLong, Refused, stored_line, root_of, CoreStep, CoreState, IsRunning, History, HasHistory, IsBegun, no_history, SessionState, Replied, DoesStep, IsReady, RefusesPut, RunnerState, RunsLine, Sent, RunsLines, Fills, IsFed, MayBe, opens_of, IsFresh, AsksPut, RunsSingle, SaysAll, SaysEnd, giving, IsIngest, StoresFile, finish_lines, push_lines, refused, said, IngestRun}
+use Rattle.std.proofs.Common.{append-nil}
 use Rattle.actor_parts.specs.StepValue as asked
-use Rattle.refusals.specs.declared.refusal.Refusal.{Refusal}
-use Rattle.refusals.specs.declared.refusal.Refusal.TheVariants.{Memory, TooLong}
 use Rattle.reply_text.specs.declared.ending.Ending.{Ending}
-use Rattle.reply_text.specs.declared.ending.Ending.TheVariants.{Source, Refused}
-use Rattle.reply_text.specs.Text.{stored_line}
-use Rattle.store_model.specs.Trees.{root_of}
-use Rattle.store_core.specs.Core.{CoreStep}
-use Rattle.store_core.specs.State.{CoreState, IsRunning}
-use Rattle.ingest_session.specs.History.{History, HasHistory, IsBegun, no_history}
-use Rattle.ingest_session.specs.State.{SessionState}
-use Rattle.store_machine.specs.Commands.{Replied}
+use Rattle.reply_text.specs.declared.ending.Ending.TheVariants.{Source}
 use Rattle.script_lines.specs.Grammar as lines
 use Rattle.script_lines.specs.ReplyValue as replies
-use Rattle.script_runner.specs.Acts.{DoesStep, IsReady, RefusesPut, RunnerState, RunsLine}
-use Rattle.script_runner.specs.Runner.{Sent}
-use Rattle.script_runner.specs.Scripts.{RunsLines}
-use Rattle.backup_engine.specs.Feeding.{Commits, Fills, IsFed, IsPut, MayBe, opens_of}
-use Rattle.backup_engine.specs.Running.{IsFresh}
-use Rattle.backup_engine.specs.Saying.{AsksPut, RunsSingle, SaysAll, SaysEnd, SaysStop, giving, idle}
-use Rattle.backup_engine.specs.Singles.{IsIngest, StoresFile, begun, finish_lines, push_lines, refused, said}
-use Rattle.backup_engine.specs.Storing.{IngestRun}
+use Rattle.backup_engine.specs.Feeding.{Commits, IsPut}
+use Rattle.backup_engine.specs.Saying.{SaysStop, idle}
+use Rattle.backup_engine.specs.Singles.{begun}
 use Rattle.backup_engine.proofs.Feds.{fed_begun}
 use Rattle.backup_engine.proofs.FirstActor.{as_first}
 use Rattle.backup_engine.proofs.Kept.{by_error}

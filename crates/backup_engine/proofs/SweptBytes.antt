@@ -1,28 +1,11 @@
 -- What a step of a collection leaves of the bytes, whatever they are: all before the end of the slots, but gates of containers that were given
 -- back, and slots that were filled.
-use Rattle.std.proofs.Common.{◌≡◌, inl, inr, ◌+◌, ◌≤◌, ℕ, List, [], ◌∷◌, Some, None, refl, ◌∙◌, subst, arith}
-use Rattle.base_model.specs.Bytes.{range}
-use Rattle.base_model.specs.Frames.{SameOutside}
-use Rattle.base_model.specs.Known.{KnownWith}
+use Rattle.backup_engine.proofs.Prelude.{◌≡◌, inl, inr, ◌+◌, ◌≤◌, ℕ, List, [], ◌∷◌, Some, None, refl, ◌∙◌, subst, arith, range, SameOutside, KnownWith, CrashLeaves, DiskView, OnlyReads, SteppedFrom, leaves_weaker, size_of, slot_at, Touches, Stage, Mark, Filter, Select, SweepStage, Flush, Release, End, slot_in_turn, ChangesSlotAlone, SameButSlotOf, Changes, SameBefore, HasNoGate, IsValidFor, Store, HasFree, first_free, Represents, Tables, LiesBeside, SameButSlotsOf}
 use Rattle.dd_disk.specs.Ending.{Ending}
-use Rattle.dd_disk.specs.View.{CrashLeaves, DiskView, OnlyReads, SteppedFrom}
-use Rattle.dd_disk.proofs.Later.{leaves_weaker, reads_leave}
-use Rattle.disk_format.specs.Layout.{size_of, slot_at}
-use Rattle.gc_steps.specs.Stepping.{Touches}
-use Rattle.gc_steps.specs.declared.collection.Stage.{Stage}
-use Rattle.gc_steps.specs.declared.collection.Stage.TheVariants.{Mark, Filter, Select, Sweep as SweepStage}
+use Rattle.dd_disk.proofs.Later.{reads_leave}
 use Rattle.gc_sweep.specs.declared.sweep.Next.{Next}
-use Rattle.gc_sweep.specs.declared.sweep.Next.TheVariants.{Copy, Flush, Release, End}
+use Rattle.gc_sweep.specs.declared.sweep.Next.TheVariants.{Copy}
 use Rattle.gc_sweep.specs.declared.sweep.Sweep.{Sweep}
-use Rattle.gc_sweep.specs.InTurn.{slot_in_turn}
-use Rattle.ingest_steps.specs.Sealing.{ChangesSlotAlone, SameButSlotOf}
-use Rattle.segment_index.specs.Changes.{Changes, SameBefore}
-use Rattle.store_model.specs.Freeing.{HasNoGate}
-use Rattle.store_model.specs.Image.{IsValidFor, Store}
-use Rattle.store_model.specs.Slots.{HasFree, first_free}
-use Rattle.store_state.specs.Tables.{Represents}
-use Rattle.store_state.specs.declared.tables.Tables.{Tables}
-use Rattle.backup_engine.specs.Frame.{LiesBeside, SameButSlotsOf}
 
 -- ---- bytes
 

@@ -1,20 +1,5 @@
 -- What the changes of a collection make of the slots of a store, whatever the disk holds: which were closed, and which filled.
-use Rattle.std.proofs.Common.{◌≡◌, ◌⊎◌, inl, inr, ◌+◌, ◌<◌, ◌≤◌, ℕ, zero, suc, List, [], ◌∷◌, ◌++◌, Option, Some, None, refl, sym, ap, subst, arith}
-use Rattle.std.specs.Prelude.{Contains, slice_get}
-use Rattle.std.specs.List.{AllByRecursion}
-use Rattle.std.proofs.lemmas.List.Elements.{Contains-append_right, Contains-get_or}
-use Rattle.container_meta.specs.Spelling.{HeaderValue}
-use Rattle.store_core.specs.Frame.{HadContainer}
-use Rattle.store_core.specs.Releases.{copied_in, freed_in}
-use Rattle.store_model.specs.Freeing.{with_freed}
-use Rattle.store_model.specs.Image.{Store}
-use Rattle.store_model.specs.Slots.{first_free, free_slots, last_id, with_slot, without_slot}
-use Rattle.store_model.specs.Steps.{StoreChange, SealContainer, ChangeName, FlushContainer, FreeContainer}
-use Rattle.store_model.proofs.Copies.{some_same}
-use Rattle.store_model.proofs.Free.{first_closed, some_free}
-use Rattle.store_model.proofs.Freed.{there_before}
-use Rattle.backup_engine.specs.Collected.{written_in}
-use Rattle.backup_engine.specs.Frame.{MayFill}
+use Rattle.backup_engine.proofs.Prelude.{◌≡◌, ◌⊎◌, inl, inr, ◌+◌, ◌<◌, ◌≤◌, ℕ, zero, suc, List, [], ◌∷◌, ◌++◌, Option, Some, None, refl, sym, ap, subst, arith, Contains, slice_get, AllByRecursion, Contains-append_right, Contains-get_or, HeaderValue, HadContainer, copied_in, freed_in, with_freed, Store, first_free, free_slots, last_id, with_slot, without_slot, StoreChange, SealContainer, ChangeName, FlushContainer, FreeContainer, some_same, first_closed, some_free, there_before, written_in, MayFill}
 
 -- ---- changes, one after the other
 

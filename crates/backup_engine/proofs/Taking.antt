@@ -1,9 +1,7 @@
 -- Taking a source in, piece by piece.
-use Rattle.std.proofs.Common.{◌≡◌, ℕ, List, [], ◌++◌, take, drop, Option, Some, refl, sym, ◌∙◌, ap, append_assoc, take-append-drop}
+use Rattle.backup_engine.proofs.Prelude.{◌≡◌, ℕ, List, [], ◌++◌, take, drop, Option, Some, refl, sym, ◌∙◌, ap, take-append-drop, Takes, Known, TakenSoFar}
+use Rattle.std.proofs.Common.{append_assoc}
 use Rattle.std.proofs.lemmas.List.{append-nil}
-use Rattle.dd_io.specs.Flow.{Takes}
-use Rattle.base_model.specs.Known.{Known}
-use Rattle.backup_engine.specs.Singles.{TakenSoFar}
 
 pub none_taken : (first : Option (List ℕ)) → TakenSoFar first first []
 none_taken first = record { rest = λ all told. (all, refl, told) }

@@ -1,20 +1,12 @@
 -- What the top call promises, from what a command keeps.
-use Rattle.std.proofs.Common.{◌≡◌, inl, inr, refl, sym, subst, ℕ, List, [], Option, Some, None, Err}
-use Rattle.dd_disk.specs.View.{DiskView}
-use Rattle.dd_disk.proofs.Later.{reads_here}
-use Rattle.dd_io.specs.Flow.{SourceView, SinkView}
-use Rattle.store_machine.specs.Commands.{Replied}
+use Rattle.backup_engine.proofs.Prelude.{◌≡◌, inl, inr, refl, sym, subst, ℕ, List, [], Option, Some, None, Err, DiskView, reads_here, SourceView, SinkView, Replied, Memory, Words, Refused, ReadsTellScripts, CommandLine, TableLine, Single, Check, Format, Ingest, Restore, Collect, status_by, IsCollect, IsDelete, IsIngest, IsListing, IsRestore, IsSameDisk, Does, Promise}
 use Rattle.reply_text.specs.declared.ending.Ending.{Ending}
-use Rattle.refusals.specs.declared.refusal.Refusal.TheVariants.{Memory}
-use Rattle.reply_text.specs.declared.ending.Ending.TheVariants.{Words, Refused}
 use Rattle.reply_text.specs.Table.{status_of}
-use Rattle.script_lines.specs.Reader.{ReadsTellScripts}
-use Rattle.backup_engine.specs.Line.{CommandLine, TableLine, Single, Run, Check, Format, Ingest, Restore, Delete, Collect}
+use Rattle.backup_engine.specs.Line.{Run, Delete}
 use Rattle.backup_engine.specs.Line as table
-use Rattle.backup_engine.specs.Noted.{IsNoted, AreNoted, status_by}
+use Rattle.backup_engine.specs.Noted.{IsNoted, AreNoted}
 use Rattle.backup_engine.specs.Seen.{Seen}
-use Rattle.backup_engine.specs.Singles.{IsCollect, IsDelete, IsIngest, IsListing, IsRestore}
-use Rattle.backup_engine.specs.TopCall.{IsSameDisk, Does, KeepsLine, Promise}
+use Rattle.backup_engine.specs.TopCall.{KeepsLine}
 use Rattle.backup_engine.proofs.NotDone.{not_begun}
 use Rattle.backup_engine.proofs.Opens.{does_without_memory, runs_without_memory}
 use Rattle.backup_engine.proofs.ScriptKept.{no_memory_kept}

@@ -1,20 +1,10 @@
 -- What turns of a session do to what it was fed, and so do bytes that it is given, and the end of the file.
-use Rattle.std.proofs.Common.{◌≡◌, inl, inr, ◌∙◌, ℕ, ◌+◌, ◌<◌, Bool, true, false, if◌then◌else◌, List, [], ◌∷◌, ◌++◌, length, Some, None, Ok, Err, refl, sym, ap, subst, append_assoc, append-nil, length-append, arith}
-use Rattle.std.proofs.lemmas.Bool.{ltb-true}
-use Rattle.std.specs.Prelude.{nat_lt}
-use Rattle.disk_format.specs.declared.numbers.TheConstants.{MOST_FILE}
-use Rattle.actor_parts.specs.declared.step.Answer.{Answer}
-use Rattle.refusals.specs.declared.refusal.Refusal.{Refusal}
-use Rattle.refusals.specs.declared.refusal.Refusal.TheVariants.{Memory, TooLong, WrongPart}
+use Rattle.backup_engine.proofs.Prelude.{◌≡◌, inl, inr, ◌∙◌, ℕ, ◌+◌, ◌<◌, Bool, true, false, List, [], ◌∷◌, ◌++◌, length, Some, None, Ok, Err, refl, sym, ap, subst, arith, ltb-true, nat_lt, MOST_FILE, Answer, Refusal, Memory, TooLong, WrongPart, CoreState, IsEnding, IsFinishAnswer, due_in, History, HasHistory, answered, SessionState, Asks, Feeds, TakesTurns, TurnRun, TurnsStopped, IsFed, MayBe, SessionLaws, Stops, opens_of}
+use Rattle.std.proofs.Common.{if◌then◌else◌, append_assoc, append-nil, length-append}
 use Rattle.refusals.specs.declared.refusal.PartKind.TheVariants.{Finished}
-use Rattle.store_core.specs.State.{CoreState}
-use Rattle.ingest_session.specs.Calls.{IsEnding, IsFinishAnswer, IsPushAnswer}
-use Rattle.ingest_session.specs.Due.{due_in}
-use Rattle.ingest_session.specs.History.{History, HasHistory, answered}
-use Rattle.ingest_session.specs.State.{SessionState}
-use Rattle.session_turns.specs.Turns.{Asks, Feeds, IsPaused, IsRefusedTurn, IsTurn, TakesTurns, TurnRun, TurnsStopped}
+use Rattle.ingest_session.specs.Calls.{IsPushAnswer}
+use Rattle.session_turns.specs.Turns.{IsPaused, IsRefusedTurn, IsTurn}
 use Rattle.session_turns.proofs.TurnRuns.{turns_stay}
-use Rattle.backup_engine.specs.Feeding.{IsFed, MayBe, SessionLaws, Stops, opens_of}
 use Rattle.backup_engine.proofs.Feds.{fed_due, fed_ended, fed_pushed, may_be_still}
 use Rattle.backup_engine.proofs.Turning.{asked_on, asked_refused}
 use Rattle.backup_engine.proofs.Ways.{way_stops}

@@ -1,40 +1,18 @@
 -- A step that is due is made, and the session is told what it answered.
-use Rattle.std.proofs.Common.{◌≡◌, ◌≢◌, inl, inr, ◌∙◌, ℕ, List, [], ◌∷◌, ◌++◌, map, Option, Some, None, Ok, Err, refl, sym, ap, subst, append-nil}
+use Rattle.backup_engine.proofs.Prelude.{◌≡◌, ◌≢◌, inl, inr, ◌∙◌, ℕ, List, [], ◌∷◌, ◌++◌, map, Option, Some, None, Ok, Err, refl, sym, ap, subst, AllByRecursion, Kind, Leaf, Tree, PlaceMap, KindSegment, Segment, segment_key, Answer, KeyPin, children_by, children_of, IsStep, Refusal, Data, Node, HasPieceOf, IsPieceOf, key_of_seg, CoreStep, kept_of, CoreState, IsRunning, Due, Claim, Seal, due_in, item_kind, open_of, HasHistory, answered, item_if, waiting, item_of, IsItem, SessionState, turn_node, told_by, Asks, all_of, IsFed, MayBe, Stops, opens_of, AreNew, IsOneOf, item_is, one_item}
+use Rattle.std.proofs.Common.{append-nil}
 use Rattle.std.specs.FinMap as finite
-use Rattle.std.specs.List.{AllByRecursion}
-use Rattle.container_meta.specs.declared.kind.Kind.{Kind}
-use Rattle.container_meta.specs.declared.kind.Kind.TheVariants.{Leaf, Tree}
-use Rattle.container_meta.specs.Places.{PlaceMap}
-use Rattle.container_meta.specs.Segments.{KindSegment, Segment, segment_key}
 use Rattle.merkle_file.specs.Node as node
-use Rattle.actor_parts.specs.declared.step.Answer.{Answer}
 use Rattle.actor_parts.specs.declared.step.Answer.TheVariants as answers
-use Rattle.actor_parts.specs.Segments.{KeyPin, children_by, children_of, node_segment}
+use Rattle.actor_parts.specs.Segments.{node_segment}
 use Rattle.actor_parts.specs.StepValue as asked
-use Rattle.actor_parts.specs.StepValue.{IsStep}
-use Rattle.refusals.specs.declared.refusal.Refusal.{Refusal}
-use Rattle.store_model.specs.Pieces.{Data, Node, HasPieceOf, IsPieceOf}
-use Rattle.ingest_steps.specs.Claiming.{key_of_seg}
-use Rattle.store_core.specs.Core.{CoreStep}
-use Rattle.store_core.specs.Keeping.{kept_of}
-use Rattle.store_core.specs.State.{CoreState, IsRunning}
-use Rattle.ingest_session.specs.declared.due.Due.{Due}
-use Rattle.ingest_session.specs.declared.due.Due.TheVariants.{Claim, Seal, Nothing}
-use Rattle.ingest_session.specs.Due.{due_in, item_kind, open_of}
+use Rattle.ingest_session.specs.declared.due.Due.TheVariants.{Nothing}
 use Rattle.ingest_session.specs.Facts.{ChildrenComeFirst, IsKeptChild, MayFollow, OpenNodesHaveChildren, OpensArePieces, TurnsArePieces, WaitsForAnother}
-use Rattle.ingest_session.specs.History.{HasHistory, answered, item_if, turn_of, waiting}
-use Rattle.ingest_session.specs.Items.{item_of}
-use Rattle.ingest_session.specs.Moving.{IsItem, IsOffered}
-use Rattle.ingest_session.specs.State.{SessionState, turn_node}
-use Rattle.ingest_session.specs.Told.{IsSettled, told_by}
+use Rattle.ingest_session.specs.History.{turn_of}
+use Rattle.ingest_session.specs.Moving.{IsOffered}
+use Rattle.ingest_session.specs.Told.{IsSettled}
 use Rattle.ingest_session.proofs.Waiting.{claimed_turn}
 use Rattle.ingest_session.proofs.Waiting.{session_of}
-use Rattle.session_turns.specs.Turns.{Asks}
-use Rattle.ingest_session.proofs.Members.{all_of}
-use Rattle.backup_engine.specs.Feeding.{IsFed, MayBe, Stops, opens_of}
-use Rattle.backup_engine.specs.Putting.{AreNew}
-use Rattle.backup_engine.specs.Running.{IsOneOf}
-use Rattle.ingest_session.proofs.KeptPieces.{item_is, one_item}
 use Rattle.backup_engine.proofs.FedOpens.{left_differs, opens_absent}
 use Rattle.backup_engine.proofs.Feds.{fed_absent, fed_held, fed_sealed}
 use Rattle.backup_engine.proofs.KeptPieces as pieces

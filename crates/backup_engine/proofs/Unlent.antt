@@ -1,25 +1,14 @@
 -- What is so of a disk that is lent is so of the lender's: the two are known by the same, but for who holds them.
-use Rattle.std.proofs.Common.{inl, inr, List, [], ◌∷◌, ℕ, Option, Some, None}
-use Rattle.disk_format.specs.declared.why.Why.{Why}
-use Rattle.dd_disk.specs.View.{DiskView}
-use Rattle.dd_disk.specs.Shows.{Shows}
-use Rattle.dd_io.specs.Flow.{SourceView, SinkView}
-use Rattle.container_meta.specs.Places.{PlaceMap}
-use Rattle.merkle_file.specs.declared.top.Top.{Top}
-use Rattle.refusals.specs.declared.refusal.Refusal.{Refusal}
-use Rattle.store_model.specs.Image.{Store}
-use Rattle.refusals.specs.declared.refusal.Refusal.TheVariants.{Memory, DiskRead, DiskWrite, Corrupt, Missing, Damaged, WrongSize, NotAStore, Version, Full}
+use Rattle.backup_engine.proofs.Prelude.{inl, inr, List, [], ◌∷◌, ℕ, Option, Some, None, Why, DiskView, Shows, SourceView, SinkView, PlaceMap, Top, Refusal, Store, Memory, DiskRead, DiskWrite, Corrupt, Missing, Damaged, WrongSize, NotAStore, Version, Full, Sink, Refused, IsOpenRefusal, WasRead, IsNextRefusal, IsTopRefusal, top_key, FindsBeforeWriting, FindsNames, Holds, HasAdded, HasSwept, ReadsSince, GivesBack, IsDeleted, IsStored, IsCaused, ShownSince, WroteOnAny, EndsDurable, KeepsOthers, CommandLine, Ingest, Restore, Collect, Keeps}
 use Rattle.reply_text.specs.declared.ending.Ending.{Ending}
-use Rattle.reply_text.specs.declared.ending.Ending.TheVariants.{Source, Sink, Refused}
+use Rattle.reply_text.specs.declared.ending.Ending.TheVariants.{Source}
 use Rattle.journal_cells.specs.declared.fault.CellFault.{CellFault}
-use Rattle.recovery.specs.Opening.{IsOpenRefusal, IsSized, BreaksFormat, BreaksJournal, BreaksSlots, HasWrongSize}
+use Rattle.recovery.specs.Opening.{IsSized, BreaksFormat, BreaksJournal, BreaksSlots, HasWrongSize}
 use Rattle.recovery.specs.Slots.{IsDamagedSlot}
-use Rattle.read_steps.specs.Walking.{WasRead, IsNextRefusal, IsTopRefusal, IsCopyRefusal, top_key}
-use Rattle.backup_engine.specs.AnyDisk.{FindsBeforeWriting, FindsNames, Holds, HasAdded, HasSwept, ReadsSince, GivesBack, IsDeleted, IsStuck, IsRefused, IsStored, IsCaused, IsUncollected, SaysSwept, ShownSince, WroteOnAny, EndsDurable}
-use Rattle.backup_engine.specs.Frame.{KeepsOthers}
-use Rattle.backup_engine.specs.Line.{CommandLine, Ingest, Restore, Delete, Collect}
+use Rattle.read_steps.specs.Walking.{IsCopyRefusal}
+use Rattle.backup_engine.specs.AnyDisk.{IsStuck, IsRefused, IsUncollected, SaysSwept}
+use Rattle.backup_engine.specs.Line.{Delete}
 use Rattle.backup_engine.specs.Line as table
-use Rattle.backup_engine.specs.TopCall.{Keeps}
 use Rattle.backup_engine.proofs.UnlikeNodes.{found, unlike_so}
 use Rattle.backup_engine.proofs.CollectFaults.{bad_header_so, uncopied_so, unmarked_so}
 

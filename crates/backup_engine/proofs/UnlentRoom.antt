@@ -1,16 +1,7 @@
 -- Room that was made, or wasn't, on a disk that was lent: so it is of the disk.
-use Rattle.std.proofs.Common.{◌≡◌, inl, inr, List, [], ◌∷◌, ℕ, Option, Some}
-use Rattle.container_meta.specs.Places.{PlaceMap}
-use Rattle.dd_disk.specs.Shows.{Shows}
-use Rattle.dd_disk.specs.View.{CrashLeaves, DiskView, OnlyReads}
-use Rattle.disk_format.specs.declared.why.Why.{Why}
-use Rattle.merkle_file.specs.declared.top.Top.{Top}
-use Rattle.read_steps.specs.Visiting.{HasPlace, IsVisitRefusal}
-use Rattle.read_steps.specs.Walking.{IsLookupRefusal, WasRead, top_key}
-use Rattle.read_steps.proofs.Visited.{roots_wider, visits_wider}
-use Rattle.recovery.specs.Room.{FreesAfterAll, IsRoomRefusal, IsShort, IsStuck, RoomMade, RoomUnmade, WalksAll}
-use Rattle.refusals.specs.declared.refusal.Refusal.{Refusal}
-use Rattle.refusals.specs.declared.refusal.Refusal.TheVariants.{Memory, DiskRead, DiskWrite, Corrupt, Missing, Damaged}
+use Rattle.backup_engine.proofs.Prelude.{◌≡◌, inl, inr, List, [], ◌∷◌, ℕ, Option, Some, PlaceMap, Shows, CrashLeaves, DiskView, OnlyReads, Why, Top, HasPlace, IsVisitRefusal, WasRead, top_key, roots_wider, visits_wider, IsRoomRefusal, IsShort, RoomMade, RoomUnmade, Refusal, Memory, DiskRead, DiskWrite, Corrupt, Missing, Damaged}
+use Rattle.read_steps.specs.Walking.{IsLookupRefusal}
+use Rattle.recovery.specs.Room.{FreesAfterAll, IsStuck, WalksAll}
 use Rattle.backup_engine.proofs.Kept.{later_back}
 use Rattle.backup_engine.proofs.Unlent.{next_refusal, read, shows}
 

@@ -1,30 +1,9 @@
 -- A piece of a file that is refused for the copy of its key that is held: why, by what reads since a moment returned.
-use Rattle.std.proofs.Common.{◌≡◌, inl, inr, ℕ, List, length, Some, option_map, sym, ◌∙◌, ap, subst}
-use Rattle.sha2.specs.Sha256.{sha256}
-use Rattle.dd_disk.specs.Shows.{Shows}
-use Rattle.dd_disk.specs.View.{DiskView, IsLater}
-use Rattle.container_meta.specs.declared.kind.Kind.{Kind}
-use Rattle.container_meta.specs.declared.kind.Kind.TheVariants.{Tree}
-use Rattle.container_meta.specs.declared.place.Place.{Place}
-use Rattle.container_meta.specs.Places.{PlaceMap}
-use Rattle.container_meta.specs.Segments.{KindSegment}
-use Rattle.merkle_file.specs.Node.{Contents, node_digest, spelling}
-use Rattle.refusals.specs.declared.refusal.Difference.TheVariants.{Byte, Length}
-use Rattle.refusals.specs.declared.refusal.Refusal.{Refusal}
+use Rattle.backup_engine.proofs.Prelude.{◌≡◌, inl, inr, ℕ, List, length, Some, option_map, sym, ◌∙◌, ap, subst, sha256, Shows, DiskView, IsLater, Kind, Tree, Place, PlaceMap, KindSegment, node_digest, spelling, Byte, Length, Refusal, Store, Piece, Data, Node, HasPieceOf, IsPieceOf, piece_segment, newest, IsPartialIndexOf, IsNodeRefusal, IsUnlike, Represents, key_of_seg, CoreState, all_then, IsUnlikeNode, ReadsSince, room_in, Ingest, IsPiece, IsPutRefusal}
+use Rattle.merkle_file.specs.Node.{Contents}
 use Rattle.refusals.specs.declared.refusal.Refusal.TheVariants as refusals
-use Rattle.store_model.specs.Image.{Store}
-use Rattle.store_model.specs.Pieces.{Piece, Data, Node, HasPieceOf, IsPieceOf, piece_segment}
-use Rattle.store_model.specs.Slots.{Copy, newest, IsPartialIndexOf}
+use Rattle.store_model.specs.Slots.{Copy}
 use Rattle.store_model.proofs.Lookups.{finds}
-use Rattle.store_state.specs.Comparing.{IsNodeRefusal, IsUnlike}
-use Rattle.store_state.specs.Tables.{Represents}
-use Rattle.ingest_steps.specs.Claiming.{key_of_seg}
-use Rattle.store_core.specs.State.{CoreState}
-use Rattle.ingest_session.proofs.Members.{all_then}
-use Rattle.backup_engine.specs.AnyDisk.{IsUnlikeNode, ReadsSince, room_in}
-use Rattle.backup_engine.specs.Line.{Ingest}
-use Rattle.backup_engine.specs.PlainMap.{IsPiece}
-use Rattle.backup_engine.specs.Running.{IsPutRefusal}
 use Rattle.backup_engine.proofs.KeptPieces.{is_piece}
 
 -- ---- what reads showed

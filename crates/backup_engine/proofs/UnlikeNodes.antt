@@ -1,19 +1,7 @@
 -- A node that was read otherwise than it was offered, by what other reads show of it.
-use Rattle.std.proofs.Common.{◌≡◌, ◌≤◌, ℕ, List, [], ◌∷◌, sym, ◌∙◌}
-use Rattle.std.specs.List.{AllByRecursion}
+use Rattle.backup_engine.proofs.Prelude.{◌≡◌, ◌≤◌, ℕ, List, [], ◌∷◌, sym, ◌∙◌, AllByRecursion, DiskView, IsLater, Kind, Tree, Place, node_digest, spelling, Length, Byte, Refusal, Clash, Corrupt, DiskRead, Store, WereFound, IsNodeRefusal, IsUnlikeNode, ReadsSince}
 use Rattle.dd_disk.specs.Shows.{Part}
-use Rattle.dd_disk.specs.View.{DiskView, IsLater}
-use Rattle.container_meta.specs.declared.kind.Kind.{Kind}
-use Rattle.container_meta.specs.declared.kind.Kind.TheVariants.{Tree}
-use Rattle.container_meta.specs.declared.place.Place.{Place}
-use Rattle.merkle_file.specs.Node.{node_digest, spelling}
-use Rattle.refusals.specs.declared.refusal.Difference.TheVariants.{Length, Byte}
-use Rattle.refusals.specs.declared.refusal.Refusal.{Refusal}
-use Rattle.refusals.specs.declared.refusal.Refusal.TheVariants.{Clash, Corrupt, DiskRead}
-use Rattle.store_model.specs.Image.{Store}
-use Rattle.store_model.specs.Refusals.{WereFound}
-use Rattle.store_state.specs.Comparing.{IsCopyRefusal, IsNodeRefusal}
-use Rattle.backup_engine.specs.AnyDisk.{IsUnlikeNode, ReadsSince}
+use Rattle.store_state.specs.Comparing.{IsCopyRefusal}
 
 -- ---- what one thing shows another shows
 

@@ -1,28 +1,12 @@
 -- The claims on a way that were done: the segment is held and kept, or the index has no such segment.
-use Rattle.std.proofs.Common.{◌≡◌, ◌⊎◌, inl, inr, ℕ, List, [], ◌∷◌, ◌++◌, length, Some, None, option_map, Result, Ok, refl, sym, ◌∙◌, ap, subst}
+use Rattle.backup_engine.proofs.Prelude.{◌≡◌, ◌⊎◌, inl, inr, ℕ, List, [], ◌∷◌, ◌++◌, length, Some, None, option_map, Result, Ok, refl, sym, ◌∙◌, ap, subst, Kind, Place, PlaceMap, KindSegment, Segment, Writing, Answer, PinMap, IsStepSegment, pin_of, Refusal, HasPieceOf, key_of_seg, CoreStep, Steps, kept_of, FileEvent, CoreState, IsRunning, Way, AreKept, AreNew, length_in, IsPutStep}
 use Rattle.std.specs.FinMap as finite
 use Rattle.std.proofs.lemmas.List.{append-nil}
-use Rattle.container_meta.specs.declared.kind.Kind.{Kind}
-use Rattle.container_meta.specs.declared.place.Place.{Place}
-use Rattle.container_meta.specs.Places.{PlaceMap}
-use Rattle.container_meta.specs.Segments.{KindSegment, Segment}
 use Rattle.actor_parts.specs.declared.part.Part.{Part}
-use Rattle.actor_parts.specs.declared.part.Part.TheVariants.{Writing}
-use Rattle.actor_parts.specs.declared.step.Answer.{Answer}
 use Rattle.actor_parts.specs.declared.step.Answer.TheVariants as answers
 use Rattle.actor_parts.specs.Parts.{part_of}
-use Rattle.actor_parts.specs.PinMap.{PinMap}
-use Rattle.actor_parts.specs.Segments.{IsStepSegment, pin_of}
 use Rattle.actor_parts.specs.StepValue as asked
-use Rattle.refusals.specs.declared.refusal.Refusal.{Refusal}
-use Rattle.store_model.specs.Pieces.{HasPieceOf}
-use Rattle.ingest_steps.specs.Claiming.{key_of_seg}
-use Rattle.store_core.specs.Core.{CoreStep, ClaimRow, Steps}
-use Rattle.store_core.specs.Keeping.{kept_of}
-use Rattle.store_core.specs.Runs.{FileEvent}
-use Rattle.store_core.specs.State.{CoreState, IsRunning}
-use Rattle.backup_engine.specs.Putting.{Way, AreKept, AreNew, length_in}
-use Rattle.backup_engine.specs.Running.{IsPutStep}
+use Rattle.store_core.specs.Core.{ClaimRow}
 use Rattle.backup_engine.proofs.FirstActor.{Rested, by_first, steps_of, kept_ids, kept_indexed, first_part, up_of}
 use Rattle.backup_engine.proofs.KeptPieces.{pinned_next}
 use Rattle.backup_engine.proofs.WayLists.{all_on}

@@ -1,45 +1,21 @@
 -- The commit at the end of a way: each piece of the file is held, or why the name isn't given the root.
-use Rattle.std.proofs.Common.{◌≡◌, ◌⊎◌, inl, inr, ◌≤◌, ℕ, false, List, length, Option, Some, None, option_map, Result, Ok, Err, refl, sym, ◌∙◌, ap, subst, arith}
-use Rattle.std.specs.Prelude.{is_some, IsSome}
+use Rattle.backup_engine.proofs.Prelude.{◌≡◌, ◌⊎◌, inl, inr, ◌≤◌, ℕ, false, List, length, Option, Some, None, option_map, Result, Ok, Err, refl, sym, ◌∙◌, ap, subst, arith, IsSome, MOST_FILE, Put, Kind, Place, PlaceMap, KindSegment, Segment, HeaderValue, Answer, PinMap, has_pin, pin_of, NameMap, Refusal, Store, Piece, IsPieceOf, piece_bytes, piece_key, piece_segment, IsPartialIndexOf, newest, ChangeName, root_of, Represents, key_of_seg, CoreStep, KeepsTables, Makes, Steps, kept_of, FileEvent, CoreState, one_of, room_in, Ingest, HasNoRoomForName, HasTwins, LacksNumbers, Way, length_in, HoldsPieces, IsOneOf, IsPutRefusal, IsPutStep, PutRun}
+use Rattle.std.specs.Prelude.{is_some}
 use Rattle.std.specs.FinMap as finite
-use Rattle.disk_format.specs.declared.numbers.TheConstants.{MOST_FILE, MOST_NAMES}
-use Rattle.disk_format.specs.Cells.Change.{Put}
-use Rattle.container_meta.specs.declared.kind.Kind.{Kind}
-use Rattle.container_meta.specs.declared.place.Place.{Place}
-use Rattle.container_meta.specs.Places.{PlaceMap}
-use Rattle.container_meta.specs.Segments.{KindSegment, Segment}
-use Rattle.container_meta.specs.Spelling.{HeaderValue}
-use Rattle.actor_parts.specs.declared.step.Answer.{Answer}
+use Rattle.disk_format.specs.declared.numbers.TheConstants.{MOST_NAMES}
 use Rattle.actor_parts.specs.Kinds.{kind_of}
 use Rattle.actor_parts.specs.Parts.{part_of}
-use Rattle.actor_parts.specs.PinMap.{PinMap, has_pin}
-use Rattle.actor_parts.specs.Segments.{pin_of}
 use Rattle.actor_parts.specs.StepValue as asked
 use Rattle.namespace.specs.declared.record.Named.{Named}
-use Rattle.namespace.specs.Names.{NameMap, HasRoom, IsFull}
+use Rattle.namespace.specs.Names.{HasRoom, IsFull}
 use Rattle.refusals.specs.declared.refusal.PartKind.TheVariants as kinds
-use Rattle.refusals.specs.declared.refusal.Refusal.{Refusal}
 use Rattle.refusals.specs.declared.refusal.Refusal.TheVariants as refusals
-use Rattle.store_model.specs.Image.{Store, names_of}
-use Rattle.store_model.specs.Pieces.{Piece, IsPieceOf, piece_bytes, piece_key, piece_segment}
+use Rattle.store_model.specs.Image.{names_of}
 use Rattle.store_model.specs.Refusals.{root_key}
-use Rattle.store_model.specs.Slots.{Copy, IsPartialIndexOf, newest}
-use Rattle.store_model.specs.Steps.{ChangeName}
-use Rattle.store_model.specs.Trees.{root_of}
-use Rattle.store_state.specs.Tables.{Represents}
-use Rattle.ingest_steps.specs.Claiming.{key_of_seg}
+use Rattle.store_model.specs.Slots.{Copy}
 use Rattle.ingest_steps.specs.Writers.{IsCommitRefusal, IsNotStored, empty_root}
-use Rattle.store_core.specs.Core.{CoreStep, KeepsTables, Makes, Steps}
-use Rattle.store_core.specs.Keeping.{kept_of}
-use Rattle.store_core.specs.Runs.{FileEvent}
-use Rattle.store_core.specs.State.{CoreState}
-use Rattle.ingest_session.proofs.Members.{one_of}
-use Rattle.backup_engine.specs.AnyDisk.{room_in}
-use Rattle.backup_engine.specs.Line.{Ingest}
 use Rattle.ingest_steps.specs.Naming as naming
-use Rattle.backup_engine.specs.PlainMap.{HasNoRoomForName, HasPieces, HasTwins, LacksNumbers}
-use Rattle.backup_engine.specs.Putting.{Way, length_in}
-use Rattle.backup_engine.specs.Running.{HoldsPieces, IsOneOf, IsPutRefusal, IsPutStep, PutRun}
+use Rattle.backup_engine.specs.PlainMap.{HasPieces}
 use Rattle.backup_engine.proofs.FirstActor.{by_first, kept_represents, no_other, steps_of}
 use Rattle.store_machine.proofs.RootPieces.{HasRootPiece, root_piece}
 use Rattle.backup_engine.proofs.KeptPieces.{key_of_piece, kept_pieces, long_as_piece, twins}

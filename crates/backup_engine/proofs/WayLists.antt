@@ -1,19 +1,8 @@
 -- Steps by which a file is stored, one after the other: what they kept and sealed.
-use Rattle.std.proofs.Common.{◌≡◌, inr, ℕ, List, [], ◌∷◌, ◌++◌, Result, Ok, Err, refl, sym, ◌∙◌, ap, subst}
-use Rattle.std.specs.List.{AllByRecursion}
+use Rattle.backup_engine.proofs.Prelude.{◌≡◌, inr, ℕ, List, [], ◌∷◌, ◌++◌, Result, Ok, Err, refl, sym, ◌∙◌, ap, subst, AllByRecursion, KindSegment, StepValue, Refusal, Memory, Store, StoreChange, SealContainer, ChangeName, FlushContainer, FreeContainer, kept_by, kept_of, ChangesTo, CoreRun, FileEvent, events_of, CoreState, Event, AddsOnce, IsWholeAt, AreWhole, IsNoCommit, IsDoneBefore, EndsPut, seal_by, seals_of}
 use Rattle.std.proofs.lemmas.List.{append-nil, append_assoc}
-use Rattle.container_meta.specs.Segments.{KindSegment}
 use Rattle.actor_parts.specs.StepValue as asked
-use Rattle.actor_parts.specs.StepValue.{StepValue}
-use Rattle.refusals.specs.declared.refusal.Refusal.{Refusal}
-use Rattle.refusals.specs.declared.refusal.Refusal.TheVariants.{Memory}
-use Rattle.store_model.specs.Image.{Store}
-use Rattle.store_model.specs.Steps.{StoreChange, SealContainer, ChangeName, FlushContainer, FreeContainer, changed}
-use Rattle.store_core.specs.Keeping.{kept_by, kept_of}
-use Rattle.store_core.specs.Runs.{ChangesTo, CoreRun, FileEvent, events_of}
-use Rattle.store_core.specs.State.{CoreState, Event}
-use Rattle.backup_engine.specs.Adding.{AddsOnce}
-use Rattle.backup_engine.specs.Running.{IsWholeAt, AreWhole, IsNoCommit, IsDoneBefore, EndsPut, seal_by, seals_of}
+use Rattle.store_model.specs.Steps.{changed}
 
 -- ---- lists
 

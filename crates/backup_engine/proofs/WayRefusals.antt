@@ -1,41 +1,22 @@
 -- A claim, or a seal, on a way that was refused: why.
-use Rattle.std.proofs.Common.{◌≡◌, inl, ◌≤◌, ℕ, List, [], ◌∷◌, length, Some, None, option_map, Err, refl, sym, ◌∙◌, ap, subst, arith}
+use Rattle.backup_engine.proofs.Prelude.{◌≡◌, inl, ◌≤◌, ℕ, List, [], ◌∷◌, length, Some, None, option_map, Err, refl, sym, ◌∙◌, ap, subst, arith, AllByRecursion, Shows, Kind, PlaceMap, KindSegment, Segment, segment_key, Writing, PinMap, IsStepSegment, children_by, children_of, IsStep, Refusal, Store, IsValidFor, HasPieceOf, IsIndexOf, lacks, first_unpinned_of, CoreStep, IndexesAll, KeepsTables, kept_of, CoreState, alone, room_in, Ingest, HasTwins, Way, AreNew, IsPutRefusal, PutRun}
 use Rattle.std.specs.FinMap as finite
-use Rattle.std.specs.List.{AllByRecursion}
-use Rattle.dd_disk.specs.Shows.{Shows}
-use Rattle.container_meta.specs.declared.kind.Kind.{Kind}
-use Rattle.container_meta.specs.Places.{PlaceMap}
-use Rattle.container_meta.specs.Segments.{Contents, KindSegment, Segment, segment_key}
-use Rattle.actor_parts.specs.declared.part.Part.TheVariants.{Writing}
+use Rattle.container_meta.specs.Segments.{Contents}
 use Rattle.actor_parts.specs.Kinds.{kind_of}
 use Rattle.actor_parts.specs.Parts.{part_of}
-use Rattle.actor_parts.specs.PinMap.{PinMap}
-use Rattle.actor_parts.specs.Segments.{IsStepSegment, children_by, children_of, first_unpinned}
+use Rattle.actor_parts.specs.Segments.{first_unpinned}
 use Rattle.actor_parts.specs.StepValue as asked
-use Rattle.actor_parts.specs.StepValue.{IsStep}
 use Rattle.refusals.specs.declared.refusal.PartKind.TheVariants as kinds
-use Rattle.refusals.specs.declared.refusal.Refusal.{Refusal}
 use Rattle.refusals.specs.declared.refusal.Refusal.TheVariants as refusals
-use Rattle.store_model.specs.Image.{Store, IsValidFor}
-use Rattle.store_model.specs.Pieces.{HasPieceOf}
-use Rattle.store_model.specs.Slots.{Copy, IsIndexOf}
-use Rattle.store_model.proofs.Lookups.{lacks}
+use Rattle.store_model.specs.Slots.{Copy}
 use Rattle.store_model.proofs.Sound.{last_within}
 use Rattle.store_state.specs.Comparing.{IsFirstUnlike}
 use Rattle.ingest_steps.specs.Claiming.{DiffersFrom, IsClaimRefusal}
-use Rattle.ingest_steps.specs.Pinning.{first_unpinned_of}
 use Rattle.ingest_steps.specs.Sealing.{IsCompared}
 use Rattle.ingest_steps.specs.SealStep.{IsStepRefusal}
 use Rattle.ingest_steps.proofs.PinList.{all_at}
-use Rattle.store_core.specs.Core.{CoreStep, IndexesAll, IsDamage, KeepsTables, KeepsUnlessBroken}
-use Rattle.store_core.specs.Keeping.{kept_of}
-use Rattle.store_core.specs.State.{CoreState}
-use Rattle.store_core.proofs.SafeSteps.{alone}
-use Rattle.backup_engine.specs.AnyDisk.{room_in}
-use Rattle.backup_engine.specs.Line.{Ingest}
-use Rattle.backup_engine.specs.PlainMap.{HasTwins, LacksPiece}
-use Rattle.backup_engine.specs.Putting.{Way, AreNew}
-use Rattle.backup_engine.specs.Running.{IsPutRefusal, PutRun}
+use Rattle.store_core.specs.Core.{IsDamage, KeepsUnlessBroken}
+use Rattle.backup_engine.specs.PlainMap.{LacksPiece}
 use Rattle.backup_engine.proofs.FirstActor.{by_first, kept_represents, no_other}
 use Rattle.backup_engine.proofs.KeptPieces.{IsKeptChild, all_unpinned_twins, is_piece, kept_pieces, of_kind, unpinned_twins}
 use Rattle.backup_engine.proofs.UnlikeCopies.{unlike_refused}

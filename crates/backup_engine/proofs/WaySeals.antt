@@ -1,32 +1,12 @@
 -- A seal on a way that was done: the segments of the container are held, and kept.
-use Rattle.std.proofs.Common.{◌≡◌, ◌≢◌, ℕ, suc, ◌+◌, List, [], ◌∷◌, ◌++◌, length, map, Option, Some, None, option_map, Result, Ok, refl, sym, ◌∙◌, ap, subst, arith}
+use Rattle.backup_engine.proofs.Prelude.{◌≡◌, ◌≢◌, ℕ, suc, ◌+◌, List, [], ◌∷◌, ◌++◌, length, map, Option, Some, None, option_map, Result, Ok, refl, sym, ◌∙◌, ap, subst, arith, AllByRecursion, Kind, Place, PlaceMap, KindSegment, Segment, segment_key, Writing, Answer, PinMap, IsStep, Refusal, HasPieceOf, newest, SealContainer, lacks, key_of_seg, with_pins, CoreStep, Makes, Steps, next_id, kept_of, FileEvent, CoreState, IsRunning, all_map, all_then, one_of, Way, AreKept, AreNew, length_in, IsOneOf, IsPutStep}
 use Rattle.std.specs.FinMap as finite
-use Rattle.std.specs.List.{AllByRecursion}
-use Rattle.container_meta.specs.declared.kind.Kind.{Kind}
-use Rattle.container_meta.specs.declared.place.Place.{Place}
-use Rattle.container_meta.specs.Places.{PlaceMap}
-use Rattle.container_meta.specs.Segments.{Contents, KindSegment, Segment, segment_key}
-use Rattle.actor_parts.specs.declared.part.Part.TheVariants.{Writing}
-use Rattle.actor_parts.specs.declared.step.Answer.{Answer}
+use Rattle.container_meta.specs.Segments.{Contents}
 use Rattle.actor_parts.specs.declared.step.Answer.TheVariants as answers
-use Rattle.actor_parts.specs.PinMap.{PinMap}
 use Rattle.actor_parts.specs.StepValue as asked
-use Rattle.actor_parts.specs.StepValue.{IsStep}
-use Rattle.refusals.specs.declared.refusal.Refusal.{Refusal}
-use Rattle.store_model.specs.Pieces.{HasPieceOf}
-use Rattle.store_model.specs.Slots.{newest}
-use Rattle.store_model.specs.Steps.{SealContainer, changed}
-use Rattle.store_model.proofs.Lookups.{lacks}
+use Rattle.store_model.specs.Steps.{changed}
 use Rattle.store_model.proofs.Valid.{free_sealed}
-use Rattle.ingest_steps.specs.Claiming.{key_of_seg}
-use Rattle.ingest_steps.specs.Pinning.{with_pins}
-use Rattle.store_core.specs.Core.{CoreStep, Makes, SealRow, Steps, next_id}
-use Rattle.store_core.specs.Keeping.{kept_of}
-use Rattle.store_core.specs.Runs.{FileEvent}
-use Rattle.store_core.specs.State.{CoreState, IsRunning}
-use Rattle.ingest_session.proofs.Members.{all_map, all_then, one_of}
-use Rattle.backup_engine.specs.Putting.{Way, AreKept, AreNew, length_in}
-use Rattle.backup_engine.specs.Running.{IsOneOf, IsPutStep}
+use Rattle.store_core.specs.Core.{SealRow}
 use Rattle.backup_engine.proofs.FirstActor.{by_first, steps_of, first_part, up_of}
 use Rattle.backup_engine.proofs.KeptPieces.{of_kind, pinned_all}
 use Rattle.backup_engine.proofs.SealedIndex.{now_told, sealed_long, sealed_others, sealed_ids}

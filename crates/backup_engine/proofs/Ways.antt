@@ -1,31 +1,10 @@
 -- Ways of storing a file: they begin, go on by steps that were done, and end.
-use Rattle.std.proofs.Common.{◌≡◌, ℕ, List, [], ◌∷◌, ◌++◌, Some, None, Result, Ok, Err, refl, sym, ◌∙◌, subst}
+use Rattle.backup_engine.proofs.Prelude.{◌≡◌, ℕ, List, [], ◌∷◌, ◌++◌, Some, None, Result, Ok, Err, refl, sym, ◌∙◌, subst, IsLater, later_here, later_on, Kind, PlaceMap, KindSegment, Segment, Writing, Answer, PinMap, StepValue, IsStep, Refusal, Memory, Store, IsValidFor, HasFree, last_id, StoreChange, Represents, Runs, OfEach, IndexesAll, CoreStep, kept_by, kept_of, ChangesTo, CoreRun, FileEvent, events_of, CoreState, Event, IsUp, IsRunning, step_later, AddsOnce, Way, AreKept, AreNew, IsFresh, IsPutStep, IsAskedFor, IsDoneBefore, IsWholeAt, EndsPut, PutRun, seal_by, seals_of}
 use Rattle.std.specs.FinMap as finite
-use Rattle.dd_disk.specs.View.{IsLater}
-use Rattle.dd_disk.proofs.Later.{later_here, later_on}
-use Rattle.container_meta.specs.declared.kind.Kind.{Kind}
-use Rattle.container_meta.specs.Places.{PlaceMap}
-use Rattle.container_meta.specs.Segments.{KindSegment, Segment}
-use Rattle.actor_parts.specs.declared.part.Part.TheVariants.{Writing}
-use Rattle.actor_parts.specs.declared.step.Answer.{Answer}
 use Rattle.actor_parts.specs.Parts.{part_of}
-use Rattle.actor_parts.specs.PinMap.{PinMap}
 use Rattle.actor_parts.specs.StepValue as asked
-use Rattle.actor_parts.specs.StepValue.{StepValue, IsStep}
-use Rattle.refusals.specs.declared.refusal.Refusal.{Refusal}
-use Rattle.refusals.specs.declared.refusal.Refusal.TheVariants.{Memory}
-use Rattle.store_model.specs.Image.{Store, IsValidFor}
-use Rattle.store_model.specs.Slots.{HasFree, last_id}
-use Rattle.store_model.specs.Steps.{StoreChange}
-use Rattle.store_state.specs.Tables.{Represents, Runs, OfEach}
-use Rattle.store_core.specs.Core.{IndexesAll, OfEachIndexed, CoreStep}
-use Rattle.store_core.specs.Keeping.{kept_by, kept_of}
-use Rattle.store_core.specs.Runs.{ChangesTo, CoreRun, FileEvent, events_of}
-use Rattle.store_core.specs.State.{CoreState, Event, IsUp, IsRunning}
-use Rattle.store_core.proofs.Stepping.{step_later}
-use Rattle.backup_engine.specs.Adding.{AddsOnce}
-use Rattle.backup_engine.specs.Putting.{Way, AreKept, AreNew, SealsSo}
-use Rattle.backup_engine.specs.Running.{IsFresh, IsPutStep, IsAskedFor, IsDoneBefore, IsWholeAt, EndsPut, PutRun, seal_by, seals_of}
+use Rattle.store_core.specs.Core.{OfEachIndexed}
+use Rattle.backup_engine.specs.Putting.{SealsSo}
 use Rattle.backup_engine.proofs.FirstActor.{Rested, by_first, steps_of, represents_still, kept_ids, kept_indexed, first_part, up_of, begun, begin_rests, begin_runs}
 use Rattle.backup_engine.proofs.WayLists.{all_on, kept_on, seals_on, seals_then, chain_on, adds_on, whole_on, whole_all, ends_on, ends_here, files_on}
 

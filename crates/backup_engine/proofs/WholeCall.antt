@@ -1,11 +1,7 @@
 -- What is so of the steps of a core that was opened and is closed then, of all of the call.
-use Rattle.std.proofs.Common.{inl, inr, ℕ, List, sym, subst, arith}
-use Rattle.dd_disk.specs.Ending.{CountsFault}
+use Rattle.backup_engine.proofs.Prelude.{inl, inr, ℕ, List, sym, subst, arith, CountsFault, CrashLeaves, DiskView, IsLater, OnlyReads, later_on, CoreState, LeavesMeanwhile}
 use Rattle.dd_disk.specs.Ending as device
-use Rattle.dd_disk.specs.View.{CrashLeaves, DiskView, IsLater, OnlyReads}
-use Rattle.dd_disk.proofs.Later.{later_on, reads_on}
-use Rattle.store_core.specs.State.{CoreState}
-use Rattle.backup_engine.specs.Promise.{LeavesMeanwhile}
+use Rattle.dd_disk.proofs.Later.{reads_on}
 use Rattle.backup_engine.proofs.Called.{Called}
 
 module _ (C : Type 0) (state : C → CoreState) (v w : DiskView) (old new : C) (called : Called C state v w old new) where

@@ -1,10 +1,5 @@
-use Rattle.std.proofs.Common.{◌∙◌, inl, inr, ℕ, List, Result, refl, subst}
-use Rattle.refusals.specs.declared.refusal.Refusal.TheVariants.{Memory}
+use Rattle.backup_engine.proofs.Prelude.{◌∙◌, inl, inr, ℕ, List, Result, refl, subst, Memory, Refused, Sent, CollectRun, no_sessions}
 use Rattle.reply_text.specs.declared.ending.Ending.{Ending}
-use Rattle.reply_text.specs.declared.ending.Ending.TheVariants.{Refused}
-use Rattle.script_runner.specs.Runner.{Sent}
-use Rattle.backup_engine.specs.Collecting.{CollectRun}
-use Rattle.backup_engine.specs.Saying.{no_sessions}
 use Rattle.backup_engine.proofs.CollectBegun.{swept_err, swept_ok}
 use Rattle.backup_engine.proofs.Kept.{by_error}
 use Rattle.backup_engine.proofs.collecting.collect_all.Goals as goal

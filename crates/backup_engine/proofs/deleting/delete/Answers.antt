@@ -1,15 +1,6 @@
-use Rattle.std.proofs.Common.{rules, inl, refl, sym, ◌∙◌, ap, subst, List, [], ℕ, Some, Result}
-use Rattle.std.specs.Borrow.{MutBor}
-use Rattle.dd_disk.specs.View.{IsLater}
-use Rattle.store_machine.specs.Commands.{Replied}
-use Rattle.refusals.specs.declared.refusal.Refusal.TheVariants.{Memory}
+use Rattle.backup_engine.proofs.Prelude.{rules, inl, refl, sym, ◌∙◌, ap, subst, List, [], ℕ, Some, Result, MutBor, IsLater, Replied, Memory, Refused, deleted_line, DeleteRun, IsDelete, DoesCommand, ending_in}
 use Rattle.reply_text.specs.declared.ending.Ending.{Ending}
-use Rattle.reply_text.specs.declared.ending.Ending.TheVariants.{Refused}
-use Rattle.reply_text.specs.Text.{deleted_line}
 use Rattle.backup_engine.specs.Line.{Delete}
-use Rattle.backup_engine.specs.Naming.{DeleteRun}
-use Rattle.backup_engine.specs.Singles.{IsDelete}
-use Rattle.backup_engine.specs.TopCall.{DoesCommand, ending_in}
 use Rattle.backup_engine.proofs.ByFiles.{refused_by_files}
 use Rattle.backup_engine.proofs.FailsAlone.{fails_unopened}
 use Rattle.backup_engine.proofs.Kept.{by_error, by_same, later_back}

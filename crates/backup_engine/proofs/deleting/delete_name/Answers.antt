@@ -1,8 +1,6 @@
-use Rattle.std.proofs.Common.{Result, Ok, Err, ap, refl}
+use Rattle.backup_engine.proofs.Prelude.{Result, Ok, Err, ap, refl, Refused, DeleteRun}
 use Rattle.actor_parts.specs.StepValue as asked
 use Rattle.reply_text.specs.declared.ending.Ending.{Ending}
-use Rattle.reply_text.specs.declared.ending.Ending.TheVariants.{Refused}
-use Rattle.backup_engine.specs.Naming.{DeleteRun}
 use Rattle.backup_engine.proofs.FirstActor.{as_first}
 use Rattle.backup_engine.proofs.Kept.{by_error}
 use Rattle.backup_engine.proofs.deleting.delete_name.Goals as goal

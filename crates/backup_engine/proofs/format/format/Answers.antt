@@ -1,7 +1,4 @@
-use Rattle.std.proofs.Common.{◌∙◌, subst, List, ℕ}
-use Rattle.reply_text.specs.Text.{formatted_line}
-use Rattle.script_runner.specs.Runner.{Sent}
-use Rattle.backup_engine.specs.TopCall.{ending_in}
+use Rattle.backup_engine.proofs.Prelude.{◌∙◌, subst, List, ℕ, formatted_line, Sent, ending_in}
 use Rattle.backup_engine.proofs.Formatting.{refused_keeps, done_keeps}
 use Rattle.backup_engine.proofs.Replied.{replied_sent, wrote_sent}
 use Rattle.backup_engine.proofs.format.format.Goals as goal

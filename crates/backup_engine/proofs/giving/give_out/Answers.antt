@@ -1,4 +1,4 @@
-use Rattle.std.proofs.Common.{ap}
+use Rattle.backup_engine.proofs.Prelude.{ap}
 use Rattle.actor_parts.specs.StepValue as asked
 use Rattle.backup_engine.proofs.GiveRuns.{begin_giving, read_refused, read_ended, unwritten, written, fewer}
 use Rattle.backup_engine.proofs.giving.give_out.Goals as goal

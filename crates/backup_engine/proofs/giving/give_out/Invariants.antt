@@ -1,4 +1,4 @@
-use Rattle.backup_engine.specs.Giving.{GivenSoFar, bytes_to_come}
+use Rattle.backup_engine.proofs.Prelude.{GivenSoFar, bytes_to_come}
 use Rattle.backup_engine.proofs.giving.give_out.Given as goal
 
 abbrev pub invariant-loop-count : goal.invariant-loop-count

@@ -1,13 +1,5 @@
-use Rattle.std.proofs.Common.{inl, rules, sym, List, [], ℕ, Option, Some}
-use Rattle.std.specs.Borrow.{MutBor}
-use Rattle.dd_disk.specs.View.{DiskView, IsLater}
-use Rattle.dd_io.specs.Flow.{SourceView, SinkView}
-use Rattle.store_machine.specs.Commands.{Replied}
+use Rattle.backup_engine.proofs.Prelude.{inl, rules, sym, List, [], ℕ, Option, Some, MutBor, DiskView, IsLater, SourceView, SinkView, Replied, Refused, Ingest, IsIngest, DoesCommand, ending_in}
 use Rattle.reply_text.specs.declared.ending.Ending.{Ending}
-use Rattle.reply_text.specs.declared.ending.Ending.TheVariants.{Refused}
-use Rattle.backup_engine.specs.Line.{Ingest}
-use Rattle.backup_engine.specs.Singles.{IsIngest}
-use Rattle.backup_engine.specs.TopCall.{DoesCommand, ending_in}
 use Rattle.backup_engine.proofs.Ingesting.{ingest_keeps}
 use Rattle.backup_engine.proofs.ByFiles.{refused_by_files}
 use Rattle.backup_engine.proofs.FailsAlone.{fails_unopened}

@@ -1,13 +1,6 @@
-use Rattle.std.proofs.Common.{rules, inl, refl, sym, List, [], Some, Result}
-use Rattle.std.specs.Borrow.{MutBor}
-use Rattle.dd_disk.specs.View.{IsLater}
-use Rattle.store_machine.specs.Commands.{Replied}
-use Rattle.refusals.specs.declared.refusal.Refusal.TheVariants.{Memory}
+use Rattle.backup_engine.proofs.Prelude.{rules, inl, refl, sym, List, [], Some, Result, MutBor, IsLater, Replied, Memory, Refused, IsListing, DoesCommand, ending_in}
 use Rattle.reply_text.specs.declared.ending.Ending.{Ending}
-use Rattle.reply_text.specs.declared.ending.Ending.TheVariants.{Refused}
 use Rattle.backup_engine.specs.Line as table
-use Rattle.backup_engine.specs.Singles.{IsListing}
-use Rattle.backup_engine.specs.TopCall.{DoesCommand, ending_in}
 use Rattle.backup_engine.proofs.ByFiles.{refused_by_files}
 use Rattle.backup_engine.proofs.FailsAlone.{fails_unopened}
 use Rattle.backup_engine.proofs.Kept.{by_error, by_same, later_back}

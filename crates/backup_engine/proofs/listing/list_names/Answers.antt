@@ -1,13 +1,7 @@
-use Rattle.std.proofs.Common.{Result, inl, inr, Ok, Err, ◌∙◌, refl, subst, List, ℕ}
-use Rattle.actor_parts.specs.declared.step.Answer.{Answer}
+use Rattle.backup_engine.proofs.Prelude.{Result, inl, inr, Ok, Err, ◌∙◌, refl, subst, List, ℕ, Answer, Memory, Refused, DoesStep, Sent, ListRun}
 use Rattle.actor_parts.specs.declared.step.Answer.TheVariants as answers
 use Rattle.actor_parts.specs.StepValue as asked
-use Rattle.refusals.specs.declared.refusal.Refusal.TheVariants.{Memory}
 use Rattle.reply_text.specs.declared.ending.Ending.{Ending}
-use Rattle.reply_text.specs.declared.ending.Ending.TheVariants.{Refused}
-use Rattle.script_runner.specs.Acts.{DoesStep}
-use Rattle.script_runner.specs.Runner.{Sent}
-use Rattle.backup_engine.specs.Naming.{ListRun}
 use Rattle.backup_engine.proofs.FirstActor.{as_first}
 use Rattle.backup_engine.proofs.Kept.{by_error}
 use Rattle.backup_engine.proofs.listing.list_names.Goals as goal

@@ -1,9 +1,6 @@
-use Rattle.std.proofs.Common.{Result, Ok, Err, refl}
+use Rattle.backup_engine.proofs.Prelude.{Result, Ok, Err, refl, Refusal, root_of, AsksPut}
 use Rattle.actor_parts.specs.StepValue as asked
-use Rattle.refusals.specs.declared.refusal.Refusal.{Refusal}
-use Rattle.store_model.specs.Trees.{root_of}
 use Rattle.backup_engine.specs.Feeding.{IsPut}
-use Rattle.backup_engine.specs.Saying.{AsksPut}
 use Rattle.backup_engine.proofs.Committed.{commit_is, put_done, put_refused}
 use Rattle.backup_engine.proofs.FirstActor.{as_first}
 use Rattle.backup_engine.proofs.Kept.{by_error}

@@ -1,12 +1,4 @@
-use Rattle.std.proofs.Common.{rules, inl, refl, sym, List, [], Some}
-use Rattle.std.specs.Borrow.{MutBor}
-use Rattle.dd_disk.specs.View.{IsLater}
-use Rattle.store_machine.specs.Commands.{Replied}
-use Rattle.refusals.specs.declared.refusal.Refusal.TheVariants.{Memory}
-use Rattle.reply_text.specs.declared.ending.Ending.TheVariants.{Refused}
-use Rattle.backup_engine.specs.Line.{Restore}
-use Rattle.backup_engine.specs.Singles.{IsRestore}
-use Rattle.backup_engine.specs.TopCall.{DoesCommand, ending_in}
+use Rattle.backup_engine.proofs.Prelude.{rules, inl, refl, sym, List, [], Some, MutBor, IsLater, Replied, Memory, Refused, Restore, IsRestore, DoesCommand, ending_in}
 use Rattle.backup_engine.proofs.GivenBack.{gives}
 use Rattle.backup_engine.proofs.GivenLines.{given_lines}
 use Rattle.backup_engine.proofs.ByFiles.{refused_by_files}

@@ -1,11 +1,5 @@
-use Rattle.std.proofs.Common.{rules, ◌∙◌, List, [], Some, Result, sym}
-use Rattle.std.specs.Borrow.{MutBor}
-use Rattle.dd_disk.specs.View.{IsLater}
-use Rattle.store_machine.specs.Commands.{Replied}
-use Rattle.refusals.specs.declared.refusal.Refusal.TheVariants.{Memory}
+use Rattle.backup_engine.proofs.Prelude.{rules, ◌∙◌, List, [], Some, Result, sym, MutBor, IsLater, Replied, Memory, Refused, RunsScript, ending_in}
 use Rattle.reply_text.specs.declared.ending.Ending.{Ending}
-use Rattle.reply_text.specs.declared.ending.Ending.TheVariants.{Refused}
-use Rattle.backup_engine.specs.TopCall.{RunsScript, ending_in}
 use Rattle.backup_engine.proofs.ByFiles.{refused_by_files}
 use Rattle.backup_engine.proofs.FailsAlone.{fails_by, fails_unopened}
 use Rattle.backup_engine.proofs.Kept.{by_error, by_same, later_back}

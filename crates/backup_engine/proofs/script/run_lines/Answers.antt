@@ -1,7 +1,4 @@
-use Rattle.std.proofs.Common.{rules, ◌≤◌, ◌+◌, [], refl, sym, subst}
-use Rattle.script_lines.specs.declared.script.TheConstants.{MOST_SCRIPT}
-use Rattle.script_lines.specs.Reader.{ReaderState}
-use Rattle.backup_engine.specs.ScriptRuns.{ScriptSoFar}
+use Rattle.backup_engine.proofs.Prelude.{rules, ◌≤◌, ◌+◌, [], refl, sym, subst, MOST_SCRIPT, ReaderState, ScriptSoFar}
 use Rattle.backup_engine.proofs.ScriptSteps.{begin_script, few_numbers, gave_up, went_on, went_out}
 use Rattle.backup_engine.proofs.script.run_lines.Goals as goal
 

@@ -1,9 +1,4 @@
-use Rattle.std.proofs.Common.{◌≡◌, ◌-◌, List}
-use Rattle.store_machine.specs.Commands.{Replied}
-use Rattle.script_lines.specs.declared.script.TheConstants.{MOST_SCRIPT}
-use Rattle.script_lines.specs.Script.{number_after}
-use Rattle.backup_engine.specs.Lines.{lines_of}
-use Rattle.backup_engine.specs.ScriptRuns.{ScriptSoFar}
+use Rattle.backup_engine.proofs.Prelude.{◌≡◌, ◌-◌, List, Replied, MOST_SCRIPT, number_after, lines_of, ScriptSoFar}
 use Rattle.backup_engine.proofs.script.run_lines.Given as goal
 
 abbrev pub invariant-loop-number : goal.invariant-loop-number

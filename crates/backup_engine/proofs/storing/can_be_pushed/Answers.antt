@@ -1,5 +1,4 @@
-use Rattle.std.proofs.Common.{arith}
-use Rattle.hex.specs.Hex.{IsBytes}
+use Rattle.backup_engine.proofs.Prelude.{arith, IsBytes}
 use Rattle.backup_engine.proofs.SayingEnds.{digits_for}
 use Rattle.backup_engine.proofs.storing.can_be_pushed.Goals as goal
 

@@ -1,4 +1,4 @@
-use Rattle.std.proofs.Common.{◌∙◌, rules}
+use Rattle.backup_engine.proofs.Prelude.{◌∙◌, rules}
 use Rattle.backup_engine.proofs.Filling.{fill_ended, fill_failed, fill_on, fill_refused, none_filled}
 use Rattle.backup_engine.proofs.storing.fill.Goals as goal
 

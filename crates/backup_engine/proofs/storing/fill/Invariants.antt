@@ -1,6 +1,4 @@
-use Rattle.std.proofs.Common.{◌≡◌, ◌-◌, false}
-use Rattle.disk_format.specs.declared.numbers.TheConstants.{MOST_FILE}
-use Rattle.store_core.specs.State.{IsRunning}
+use Rattle.backup_engine.proofs.Prelude.{◌≡◌, ◌-◌, false, MOST_FILE, IsRunning}
 use Rattle.backup_engine.proofs.Filling.{FilledSoFar}
 use Rattle.backup_engine.proofs.storing.fill.Given as goal
 

@@ -1,8 +1,5 @@
-use Rattle.std.proofs.Common.{◌∙◌, List, ℕ, Err, ap, refl, sym, subst}
+use Rattle.backup_engine.proofs.Prelude.{◌∙◌, List, ℕ, Err, ap, refl, sym, subst, stored_line, IsReady, Sent}
 use Rattle.actor_parts.specs.StepValue as asked
-use Rattle.reply_text.specs.Text.{stored_line}
-use Rattle.script_runner.specs.Acts.{IsReady}
-use Rattle.script_runner.specs.Runner.{Sent}
 use Rattle.backup_engine.proofs.FirstActor.{as_first, begin_is_done}
 use Rattle.backup_engine.proofs.Stored.{began, no_memory, no_reply, not_taken, put_done, put_refused}
 use Rattle.backup_engine.proofs.storing.store_source.Goals as goal

@@ -1,7 +1,6 @@
-use Rattle.std.proofs.Common.{sym, ◌∙◌, ap, [], Some, Ok, Err, option_map, inl, refl}
-use Rattle.backup_engine.specs.Line.{Single, Run, Check}
-use Rattle.backup_engine.specs.LineValue.{command_value, line_value}
-use Rattle.backup_engine.specs.TopCall.{ending_in}
+use Rattle.backup_engine.proofs.Prelude.{sym, ◌∙◌, ap, [], Some, Ok, Err, option_map, inl, refl, Single, Check, command_value, ending_in}
+use Rattle.backup_engine.specs.Line.{Run}
+use Rattle.backup_engine.specs.LineValue.{line_value}
 use Rattle.backup_engine.proofs.TopCall.{words_promise, memory_promise, keeps_line, promise_as}
 use Rattle.backup_engine.proofs.top_call.backup_alone.Goals as goal
 

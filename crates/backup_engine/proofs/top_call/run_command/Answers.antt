@@ -1,6 +1,4 @@
-use Rattle.std.proofs.Common.{[], ap, refl}
-use Rattle.backup_engine.specs.Line.{Single}
-use Rattle.backup_engine.specs.LineValue.{command_value}
+use Rattle.backup_engine.proofs.Prelude.{[], ap, refl, Single, command_value}
 use Rattle.backup_engine.proofs.TopCall.{does_as}
 use Rattle.backup_engine.proofs.top_call.run_command.Goals as goal
 

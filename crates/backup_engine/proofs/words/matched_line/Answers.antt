@@ -1,7 +1,7 @@
-use Rattle.std.proofs.Common.{◌∙◌, codes, sym, ap}
+use Rattle.backup_engine.proofs.Prelude.{◌∙◌, codes, sym, ap, line_matched}
 use Rattle.clap.proofs.WalkLemmas.{first_value-rows}
 use Rattle.clap.specs.Words.{found_of}
-use Rattle.backup_engine.specs.Words.{line_matched, line_named}
+use Rattle.backup_engine.specs.Words.{line_named}
 use Rattle.backup_engine.proofs.ClapLines.{subcommand_is}
 use Rattle.backup_engine.proofs.words.matched_line.Goals as goal
 

@@ -1,5 +1,4 @@
-use Rattle.std.proofs.Common.{◌≡◌, true, rules}
-use Rattle.backup_engine.specs.Line.{is_number}
+use Rattle.backup_engine.proofs.Prelude.{◌≡◌, true, rules, is_number}
 use Rattle.backup_engine.proofs.Numbers.{no_percent_parsed}
 use Rattle.backup_engine.proofs.words.percentage.Goals as goal
 

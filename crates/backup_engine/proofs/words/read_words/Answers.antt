@@ -1,6 +1,6 @@
-use Rattle.std.proofs.Common.{◌≡◌, ◌∙◌, inl, inr, ap, map, subst, sym, string_bytes}
-use Rattle.clap.specs.Words.{IsAmong, app_of, fault_of, is_simple, is_simple_and_free, subcommand_of, kind_of}
-use Rattle.backup_engine.specs.Words.{line_matched, table_app}
+use Rattle.backup_engine.proofs.Prelude.{◌≡◌, ◌∙◌, inl, inr, ap, map, subst, sym, app_of, line_matched, table_app}
+use Rattle.std.proofs.Common.{string_bytes}
+use Rattle.clap.specs.Words.{IsAmong, fault_of, is_simple, is_simple_and_free, subcommand_of, kind_of}
 use Rattle.backup_engine.proofs.ClapLines.{is_free_table, is_simple_table, refused_line, taken_line}
 use Rattle.backup_engine.proofs.words.read_words.Goals as goal
 

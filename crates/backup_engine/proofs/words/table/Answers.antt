@@ -1,6 +1,4 @@
-use Rattle.std.proofs.Common.{codes, true, ◌≡◌, ◌∙◌, ap}
-use Rattle.std.proofs.lemmas.Result.{IfOk-weaker}
-use Rattle.clap.specs.Words.{App, app_of}
+use Rattle.backup_engine.proofs.Prelude.{codes, true, ◌≡◌, ◌∙◌, ap, IfOk-weaker, App, app_of}
 use Rattle.backup_engine.specs.Words.{no_commands, with_none, with_one}
 use Rattle.backup_engine.proofs.words.table.Goals as goal
 

@@ -1,7 +1,5 @@
-use Rattle.std.proofs.Common.{rules, ◌≡◌, ◌∙◌, ap, ap₂}
-use Rattle.std.proofs.lemmas.Result.{IfOk-weaker}
-use Rattle.clap.specs.Words.{App, app_of, with_rule, with_subcommand}
-use Rattle.backup_engine.specs.Words.{one_argument}
+use Rattle.backup_engine.proofs.Prelude.{rules, ◌≡◌, ◌∙◌, ap, ap₂, IfOk-weaker, App, app_of, one_argument}
+use Rattle.clap.specs.Words.{with_rule, with_subcommand}
 use Rattle.backup_engine.proofs.words.with_argument.Goals as goal
 
 pub returns : goal.returns

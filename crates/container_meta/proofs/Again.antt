@@ -1,7 +1,9 @@
 -- What is spelled is read again.
-use Rattle.container_meta.proofs.Prelude.{◌≡◌, ℕ, zero, suc, ◌+◌, ◌-◌, ◌*◌, ◌^◌, ◌≤◌, true, false, List, [], ◌∷◌, ◌++◌, length, Some, Ok, refl, sym, ap, ◌∙◌, arith, append_assoc, length-append, eq-eqb, ◌==◌, nat_le, is_some, unwrap_or, w32, w64, le-leb, leb-true, append-nil, sum_by-append, bytes_eq-Decides, sha256, byte_at, checked, passes, AllHold, both, both_true, range-range, range-first, range-second, range-whole, CONTAINER_GATE, DATA_BYTES, HEADER_BYTES, MOST_ENTRIES, Kind, Leaf, Entry, magic, kind_of, is_id, is_count, is_length, is_level, entry_place, HeaderValue, IsNext, Follow, IsHeader, bytes_of, has_digest, header_spelling, next_read, opening_checks, digest_checks, field_checks, entry_checks, end_checks, count_at, kind_at, digest_at, entry_at, is_end, zeros_in_front}
+use Rattle.container_meta.proofs.Prelude.{◌≡◌, ℕ, zero, suc, ◌+◌, ◌-◌, ◌*◌, ◌^◌, ◌≤◌, true, false, List, [], ◌∷◌, ◌++◌, length, Some, Ok, refl, sym, ap, ◌∙◌, arith, append_assoc, length-append, eq-eqb, ◌==◌, nat_le, is_some, unwrap_or, w32, w64, le-leb, leb-true, append-nil, sum_by-append, bytes_eq-Decides, sha256, byte_at, checked, passes, AllHold, both, both_true, range-range, range-first, range-second, range-whole, CONTAINER_GATE, DATA_BYTES, MOST_ENTRIES, Kind, Leaf, Entry, magic, kind_of, is_id, is_count, is_length, is_level, entry_place, HeaderValue, IsNext, Follow, IsHeader, IsSpelled, MetaFault, Result, bytes_of, has_digest, header_size, header_spelling, subst, to_be_bytes, w16, next_read, opening_checks, digest_checks, field_checks, entry_checks, count_at, count_in, ReachEnd, kind_at, digest_at, entry_at, is_end, zeros_in_front}
 use Rattle.std.proofs.Common.{Bool, Option}
-use Rattle.std.specs.Prelude.{if◌then◌else◌}
+use Rattle.std.specs.Prelude.{IfOk, if◌then◌else◌}
+use Rattle.std.specs.Int.{from_be_bytes}
+use Rattle.base_model.proofs.Ranges.{byte-range}
 use Rattle.std.proofs.Math.Dec.{eqb-suc-zero}
 use Rattle.base_model.specs.Bytes.{range, zeros}
 use Rattle.base_model.specs.Numbers.{number_at, seven_at}
@@ -13,7 +15,7 @@ use Rattle.container_meta.specs.Reading.{zeros_end, entries_at, header_at}
 use Rattle.container_meta.proofs.Lists.{zeros_in_front-zeros}
 use Rattle.container_meta.proofs.Spelled.{entries_spelling-cons, bytes_of-push}
 use Rattle.container_meta.proofs.Numbers.{length-entry_spelling, entry_again}
-use Rattle.container_meta.proofs.Parts.{field_parts, Parts, parts_of_spelling, length-entries_spelling}
+use Rattle.container_meta.proofs.Parts.{field_parts, Parts, parts_of_spelling, length-entries_spelling, length-header_spelling}
 
 -- ---- the entries
 
@@ -135,17 +137,53 @@ digest_read h bytes p count =
     let entries : range 512 (48 * count_at bytes) bytes ≡ entries_spelling h.entries = ap (λ (n : ℕ). range 512 (48 * n) bytes) count ∙ p.entries in
     p.digest ∙ sym (ap (λ (l : List ℕ). sha256 (l ++ range 512 (48 * count_at bytes) bytes)) p.fields ∙ ap (λ (l : List ℕ). sha256 (fields ++ l)) entries)
 
-pub header_again : (bytes : List ℕ) (h : HeaderValue) → length bytes ≡ HEADER_BYTES → IsHeader h → bytes ≡ header_spelling h → header_at bytes ≡ Ok h
+same_count : (a b : List ℕ) → range 18 2 a ≡ range 18 2 b → count_at a ≡ count_at b
+unfolding number_at range
+same_count a b same = ap (from_be_bytes w16) same
+
+part_of_both : (at n : ℕ) (a b : List ℕ) → at + n ≤ 24 → range 0 24 a ≡ range 0 24 b → range at n a ≡ range at n b
+part_of_both at n a b within same =
+    let from : 0 + at ≡ at = omega arith in
+    ap (λ (k : ℕ). range k n a) (sym from) ∙ sym (range-range at n 0 24 a within) ∙ ap (range at n) same ∙ range-range at n 0 24 b within ∙ ap (λ (k : ℕ). range k n b) from
+
+-- bytes that begin as a header does have its count of entries
+pub counted : (h : HeaderValue) (bytes : List ℕ) → IsHeader h → range 0 24 bytes ≡ range 0 24 (header_spelling h) → count_in bytes ≡ Ok (length h.entries)
+counted h bytes allowed begun =
+    let spelling : List ℕ = header_spelling h in
+    let p = parts_of_spelling h spelling allowed.entries (range-whole (header_size h) spelling (length-header_spelling h allowed)) in
+    let f = fields_read h spelling allowed p in
+    let gate : byte_at 0 bytes ≡ CONTAINER_GATE = sym (byte-range 0 0 24 bytes (omega arith)) ∙ ap (byte_at 0) begun ∙ byte-range 0 0 24 spelling (omega arith) ∙ p.gate in
+    let count : count_at bytes ≡ length h.entries = same_count bytes spelling (part_of_both 18 2 bytes spelling (omega arith) begun) ∙ f.count_is in
+    let opening : AllHold (opening_checks bytes) =
+    (eq-eqb (byte_at 0 bytes) CONTAINER_GATE gate, ((bytes_eq-Decides (range 1 7 bytes) magic).1 (part_of_both 1 7 bytes spelling (omega arith) begun ∙ f.name), (ap is_count count ∙ allowed.count, tt))) in
+    checked_all (opening_checks bytes) (count_at bytes) opening ∙ ap (λ (n : ℕ). (let r : Result ℕ MetaFault = Ok n in r)) count
+
+-- a header that stands at a place is read from bytes that stand there, if they reach to its end
+pub spelled_in : (h : HeaderValue) (bytes image : List ℕ) (at : ℕ) → ReachEnd bytes → range at (length bytes) image ≡ bytes → IsHeader h →
+    range at (header_size h) image ≡ header_spelling h → IsSpelled h bytes
+spelled_in h bytes image at reach stand allowed is =
+    let begun : range 0 24 bytes ≡ range 0 24 (header_spelling h) =
+    ap (range 0 24) (sym stand) ∙ range-range 0 24 at (length bytes) image (omega (arith, reach.0)) ∙ sym (range-range 0 24 at (header_size h) image (omega arith)) ∙ ap (range 0 24) is
+    in
+    let long : header_size h ≤ length bytes =
+    subst (λ (r : Result ℕ MetaFault). IfOk r (λ n. entry_place n ≤ length bytes)) (counted h bytes allowed begun) reach.1 in (
+      allowed,
+      ap (range 0 (header_size h)) (sym stand) ∙ range-range 0 (header_size h) at (length bytes) image (omega (arith, long))
+          ∙ ap (λ (k : ℕ). range k (header_size h) image) (omega arith) ∙ is,
+    )
+
+pub header_again : (bytes : List ℕ) (h : HeaderValue) → ReachEnd bytes → IsSpelled h bytes → header_at bytes ≡ Ok h
 unfolding header_at
-header_again bytes h long allowed is =
-    let few : length h.entries ≤ MOST_ENTRIES = small_count (length h.entries) allowed.count in
-    let p = parts_of_spelling h bytes few allowed.entries is in
+header_again bytes h reach spelled =
+    let allowed : IsHeader h = spelled.0 in
+    let p = parts_of_spelling h bytes allowed.entries spelled.1 in
     let f = fields_read h bytes allowed p in
     let count : ℕ = count_at bytes in
     let data_length : ℕ = number_at w32 20 bytes in
     let kind : kind_at bytes ≡ h.kind = ap (λ (o : Option Kind). unwrap_or o Leaf) f.kind_byte_is in
-    let opening : AllHold (opening_checks bytes) =
-    (eq-eqb (byte_at 0 bytes) CONTAINER_GATE p.gate, ((bytes_eq-Decides (range 1 7 bytes) magic).1 f.name, (ap is_count f.count_is ∙ allowed.count, tt))) in
+    let opened : count_in bytes ≡ Ok count = counted h bytes allowed (sym (range-range 0 24 0 (header_size h) bytes (omega arith)) ∙ ap (range 0 24) spelled.1)
+    ∙ ap (λ (n : ℕ). (let r : Result ℕ MetaFault = Ok n in r)) (sym f.count_is) in
+    let long : entry_place count ≤ length bytes = subst (λ (r : Result ℕ MetaFault). IfOk r (λ n. entry_place n ≤ length bytes)) opened reach.1 in
     let digest : AllHold (digest_checks bytes) = ((bytes_eq-Decides (range 24 32 bytes) (digest_at bytes)).1 (digest_read h bytes p f.count_is), tt) in
     let fields : AllHold (field_checks bytes) = (
       ap is_id f.id_is ∙ allowed.id,
@@ -161,14 +199,9 @@ header_again bytes h long allowed is =
     ap (λ (k : Kind). entries_at k data_length count [] bytes) kind
     ∙ ap (λ (d : ℕ). entries_at h.kind d count [] bytes) f.length_is
     ∙ ap (λ (n : ℕ). entries_at h.kind h.data_length n [] bytes) f.count_is
-    ∙ entries_again h.kind h.data_length [] h.entries bytes (omega arith) allowed.entries p.entries allowed.whole (small_length h.data_length allowed.data_length) in
-    let from : entry_place count ≡ 512 + 48 * length h.entries = ap entry_place f.count_is in
-    let rest : range (entry_place count) (HEADER_BYTES - entry_place count) bytes ≡ zeros (HEADER_BYTES - entry_place count) =
-    ap (λ (k : ℕ). range k (HEADER_BYTES - k) bytes) from ∙ ap (λ (k : ℕ). range (512 + 48 * length h.entries) k bytes) (omega arith) ∙ p.rest ∙ ap zeros (omega arith) in
-    let end : AllHold (end_checks bytes) = (zeros_end_of (entry_place count) (HEADER_BYTES - entry_place count) HEADER_BYTES bytes (omega arith) rest, tt) in
-    then_step (checked (opening_checks bytes) count) _ count (Ok h) (checked_all (opening_checks bytes) count opening)
+    ∙ entries_again h.kind h.data_length [] h.entries bytes (omega (arith, long, f.count_is)) allowed.entries p.entries allowed.whole (small_length h.data_length allowed.data_length) in
+    then_step (count_in bytes) _ count (Ok h) opened
     (then_step (passes (digest_checks bytes)) _ tt (Ok h) (checked_all (digest_checks bytes) tt digest)
     (then_step (checked (field_checks bytes) (kind_at bytes)) _ (kind_at bytes) (Ok h) (checked_all (field_checks bytes) (kind_at bytes) fields)
     (then_step (entries_at (kind_at bytes) data_length count [] bytes) _ h.entries (Ok h) entries
-    (then_step (passes (end_checks bytes)) _ tt (Ok h) (checked_all (end_checks bytes) tt end)
-    (ap (λ (v : HeaderValue). Ok v) (same_header _ _ _ _ _ _ h.entries f.id_is kind f.length_is))))))
+    (ap (λ (v : HeaderValue). Ok v) (same_header _ _ _ _ _ _ h.entries f.id_is kind f.length_is)))))

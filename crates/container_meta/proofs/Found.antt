@@ -1,10 +1,10 @@
 -- What is read has the bytes as its spelling.
-use Rattle.container_meta.proofs.Prelude.{◌≡◌, ℕ, zero, suc, ◌+◌, ◌-◌, ◌*◌, ◌≤◌, ◌<◌, true, List, [], ◌∷◌, ◌++◌, length, Some, Result, Ok, Err, refl, sym, ap, subst, ◌∙◌, arith, append_assoc, length-append, inl, inr, ◌==◌, nat_le, is_some, unwrap_or, bytes_eq, w16, w32, w64, to_be_bytes, cases_lt, eqb-true, leb-true, append-nil, nil_from_length, bytes_eq-Decides, sha256, byte_at, checked, passes, ◌>>=◌, AllHold, both, IsBytes, spelled_4, length-range, range-join, CONTAINER_GATE, HEADER_BYTES, MOST_ENTRIES, Kind, Leaf, Entry, Header, MetaFault, magic, kind_byte, kind_of, is_count, is_length, entry_place, HeaderValue, with_entries, IsNext, Follow, IsHeader, bytes_of, has_digest, header_spelling, next_read, opening_checks, digest_checks, field_checks, entry_checks, end_checks, count_at, kind_at, digest_at, entry_at, is_end, zeros_in_front}
+use Rattle.container_meta.proofs.Prelude.{◌≡◌, ℕ, zero, suc, ◌+◌, ◌-◌, ◌*◌, ◌≤◌, ◌<◌, true, List, [], ◌∷◌, ◌++◌, length, Some, Result, Ok, Err, refl, sym, ap, subst, ◌∙◌, arith, append_assoc, length-append, inl, inr, ◌==◌, nat_le, is_some, unwrap_or, bytes_eq, w16, w32, w64, to_be_bytes, cases_lt, eqb-true, leb-true, append-nil, nil_from_length, bytes_eq-Decides, sha256, byte_at, checked, passes, ◌>>=◌, AllHold, both, IsBytes, spelled_4, length-range, range-join, CONTAINER_GATE, MOST_ENTRIES, Kind, Leaf, Entry, Header, MetaFault, magic, kind_byte, kind_of, is_count, is_length, entry_place, HeaderValue, with_entries, IsNext, Follow, IsHeader, bytes_of, has_digest, IsSpelled, next_read, opening_checks, digest_checks, field_checks, entry_checks, count_at, count_in, ReachEnd, kind_at, digest_at, entry_at, is_end, zeros_in_front}
 use Rattle.std.specs.Prelude.{IfOk}
 use Rattle.base_model.specs.Bytes.{range, zeros}
 use Rattle.base_model.specs.Checks.{Check}
 use Rattle.base_model.specs.Numbers.{number_at, seven_at}
-use Rattle.base_model.proofs.Checks.{bind_ok, checked_ok, ok_is, not_true}
+use Rattle.base_model.proofs.Checks.{bind_ok, checked_all, checked_ok, ok_is, not_true}
 use Rattle.base_model.proofs.Numbers.{spelled_2, spelled_8}
 use Rattle.container_meta.specs.Spelling.{entry_spelling, entries_spelling, fields_spelling}
 use Rattle.container_meta.specs.Reading.{decoded, zeros_end, entries_at, header_at}
@@ -107,9 +107,6 @@ digest_found fields entries bytes same fields_are entries_are =
     ∙ ap (λ (l : List ℕ). sha256 (l ++ range 512 (48 * count_at bytes) bytes)) fields_are
     ∙ ap (λ (l : List ℕ). sha256 (fields ++ l)) entries_are
 
-count_small : (n : ℕ) → is_count n ≡ true → n ≤ MOST_ENTRIES
-count_small n h = leb-true n MOST_ENTRIES (both (nat_le 1 n) (nat_le n MOST_ENTRIES) h).1
-
 count_some : (n : ℕ) → is_count n ≡ true → 0 < n
 count_some n h = omega (arith, leb-true 1 n (both (nat_le 1 n) (nat_le n MOST_ENTRIES) h).0)
 
@@ -119,7 +116,7 @@ value bytes kind entries = record { id = number_at w64 8 bytes; kind = kind; dat
 
 -- the steps of the reader from its last on
 abbrev at_end : List ℕ → Kind → List Entry → Result HeaderValue MetaFault
-at_end bytes kind entries = passes (end_checks bytes) >>= λ z. Ok (value bytes kind entries)
+at_end bytes kind entries = Ok (value bytes kind entries)
 
 abbrev at_entries : List ℕ → ℕ → Kind → Result HeaderValue MetaFault
 at_entries bytes count kind = entries_at kind (number_at w32 20 bytes) count [] bytes >>= at_end bytes kind
@@ -142,7 +139,6 @@ record Steps (bytes : List ℕ) (h : HeaderValue) : Type 0 where
   digested : AllHold (digest_checks bytes)
   fielded : AllHold (field_checks bytes)
   entries : entries_at (kind_at bytes) (number_at w32 20 bytes) (count_at bytes) [] bytes ≡ Ok h.entries
-  ended : AllHold (end_checks bytes)
   is : value bytes (kind_at bytes) h.entries ≡ h
 
 steps : (bytes : List ℕ) (h : HeaderValue) → header_at bytes ≡ Ok h → Steps bytes h
@@ -154,19 +150,17 @@ steps bytes h e =
     let b = after_checks (digest_checks bytes) tt (at_fields bytes count) h a.1 in
     let d = after_checks (field_checks bytes) kind (at_entries bytes count) h b.1 in
     let f = bind_ok (entries_at kind (number_at w32 20 bytes) count [] bytes) (at_end bytes kind) h d.1 in
-    let g = after_checks (end_checks bytes) tt (λ z. Ok (value bytes kind f.0)) h f.2 in
-    let is : value bytes kind f.0 ≡ h = ok_is (value bytes kind f.0) h g.1 in
+    let is : value bytes kind f.0 ≡ h = ok_is (value bytes kind f.0) h f.2 in
     let same : f.0 ≡ h.entries = ap (λ (v : HeaderValue). v.entries) is in
     record {
       opened = a.0;
       digested = b.0;
       fielded = d.0;
       entries = f.1 ∙ ap (λ (l : List Entry). (let r : Result (List Entry) MetaFault = Ok l in r)) same;
-      ended = g.0;
       is = ap (value bytes kind) (sym same) ∙ is;
     }
 
-fields_found : (bytes : List ℕ) (h : HeaderValue) (entries : List Entry) → IsBytes bytes → length bytes ≡ HEADER_BYTES → Steps bytes h → length entries ≡ count_at bytes →
+fields_found : (bytes : List ℕ) (h : HeaderValue) (entries : List Entry) → IsBytes bytes → entry_place 0 ≤ length bytes → Steps bytes h → length entries ≡ count_at bytes →
     FieldParts (number_at w64 8 bytes) (kind_at bytes) (length entries) (number_at w32 20 bytes) bytes
 fields_found bytes h entries fits long s many = record {
   name = (bytes_eq-Decides (range 1 7 bytes) magic).0 s.opened.1.0;
@@ -177,19 +171,9 @@ fields_found bytes h entries fits long s many = record {
   length_is = sym (spelled_4 20 bytes (omega arith) fits);
 }
 
-rest_found : (bytes : List ℕ) (count n : ℕ) → length bytes ≡ HEADER_BYTES → n ≡ count → count ≤ MOST_ENTRIES →
-    (zeros_end (entry_place count) (HEADER_BYTES - entry_place count) bytes == HEADER_BYTES) ≡ true → range (512 + 48 * n) (49152 - 48 * n) bytes ≡ zeros (49152 - 48 * n)
-rest_found bytes count n long many few ended =
-    ap (λ (k : ℕ). range (512 + 48 * k) (49152 - 48 * k) bytes) many
-    ∙ ap (λ (k : ℕ). range (512 + 48 * count) k bytes) (omega arith)
-    ∙ zeros_found (entry_place count) (HEADER_BYTES - entry_place count) HEADER_BYTES bytes (omega arith) (omega arith) ended
-    ∙ ap zeros (omega (arith, many))
-
-parts_found : (bytes : List ℕ) (h : HeaderValue) (entries : List Entry) → IsBytes bytes → length bytes ≡ HEADER_BYTES → Steps bytes h → length entries ≡ count_at bytes →
+parts_found : (bytes : List ℕ) (h : HeaderValue) (entries : List Entry) → IsBytes bytes → entry_place 0 ≤ length bytes → Steps bytes h → length entries ≡ count_at bytes →
     range 512 (48 * count_at bytes) bytes ≡ entries_spelling entries → Parts (value bytes (kind_at bytes) entries) bytes
 parts_found bytes h entries fits long s many spelled =
-    let count : ℕ = count_at bytes in
-    let few : count ≤ MOST_ENTRIES = count_small count s.opened.1.1.0 in
     let fields = fields_from_parts (number_at w64 8 bytes) (kind_at bytes) (length entries) (number_at w32 20 bytes) bytes (omega arith)
     (fields_found bytes h entries fits long s many) in
     record {
@@ -199,15 +183,15 @@ parts_found bytes h entries fits long s many spelled =
           fields spelled;
       padding = zeros_found 56 456 512 bytes (omega arith) refl s.fielded.1.1.1.1.0;
       entries = ap (λ (n : ℕ). range 512 (48 * n) bytes) many ∙ spelled;
-      rest = rest_found bytes count (length entries) long many few s.ended.0;
     }
 
-pub header_found : (bytes : List ℕ) (h : HeaderValue) → IsBytes bytes → length bytes ≡ HEADER_BYTES → header_at bytes ≡ Ok h → IsHeader h × (bytes ≡ header_spelling h)
-header_found bytes h fits long e =
+pub header_found : (bytes : List ℕ) (h : HeaderValue) → IsBytes bytes → ReachEnd bytes → header_at bytes ≡ Ok h → IsSpelled h bytes
+header_found bytes h fits reach e =
     let s = steps bytes h e in
     let count : ℕ = count_at bytes in
-    let few : count ≤ MOST_ENTRIES = count_small count s.opened.1.1.0 in
-    let r = entries_found (kind_at bytes) (number_at w32 20 bytes) count [] bytes h.entries fits (omega arith) s.entries in
+    let counted : count_in bytes ≡ Ok count = checked_all (opening_checks bytes) count s.opened in
+    let long : entry_place count ≤ length bytes = subst (λ (r : Result ℕ MetaFault). IfOk r (λ n. entry_place n ≤ length bytes)) counted reach.1 in
+    let r = entries_found (kind_at bytes) (number_at w32 20 bytes) count [] bytes h.entries fits (omega (arith, long)) s.entries in
     let many : length h.entries ≡ count = ap length r.parts ∙ r.many in
     let spelled : range 512 (48 * count) bytes ≡ entries_spelling h.entries = r.spelled ∙ ap entries_spelling (sym r.parts) in
     let made : HeaderValue = value bytes (kind_at bytes) h.entries in
@@ -219,10 +203,10 @@ header_found bytes h fits long e =
       entries = subst (λ (l : List Entry). Follow (kind_at bytes) [] l) (sym r.parts) r.allowed;
       whole = r.whole (count_some count s.opened.1.1.0);
     } in
-    subst (λ (v : HeaderValue). IsHeader v × (bytes ≡ header_spelling v)) s.is
-    (header, spelling_from_parts made bytes long (omega (arith, many)) (parts_found bytes h h.entries fits long s many spelled))
+    subst (λ (v : HeaderValue). IsSpelled v bytes) s.is
+    (header, spelling_from_parts made bytes reach.0 (parts_found bytes h h.entries fits reach.0 s many spelled))
 
-pub is_found : (bytes : List ℕ) (r : Result Header MetaFault) (entries : List Entry) → IsBytes bytes → length bytes ≡ HEADER_BYTES → decoded r entries ≡ header_at bytes →
-    IfOk r (λ h. IsHeader (with_entries h entries) × (bytes ≡ header_spelling (with_entries h entries)))
-is_found bytes (Ok h) entries fits long given = header_found bytes (with_entries h entries) fits long (sym given)
-is_found bytes (Err e) entries fits long given = tt
+pub is_found : (bytes : List ℕ) (r : Result Header MetaFault) (entries : List Entry) → IsBytes bytes → ReachEnd bytes → decoded r entries ≡ header_at bytes →
+    IfOk r (λ h. IsSpelled (with_entries h entries) bytes)
+is_found bytes (Ok h) entries fits reach given = header_found bytes (with_entries h entries) fits reach (sym given)
+is_found bytes (Err e) entries fits reach given = tt

@@ -1,5 +1,5 @@
 -- A header has its spelling where its parts stand in their places.
-use Rattle.container_meta.proofs.Prelude.{◌≡◌, ℕ, suc, ◌+◌, ◌-◌, ◌*◌, ◌≤◌, List, [], ◌∷◌, ◌++◌, length, get_or, refl, sym, ap, ◌∙◌, arith, length-append, w16, w32, w64, to_be_bytes, take_all, sha256, length-sha256, byte_at, range-range, range-join, range-first, range-second, range-one, range-whole, length-zeros, CONTAINER_GATE, HEADER_BYTES, MOST_ENTRIES, Kind, Entry, magic, kind_byte, HeaderValue, header_spelling, Follow}
+use Rattle.container_meta.proofs.Prelude.{◌≡◌, ℕ, suc, ◌+◌, ◌-◌, ◌*◌, ◌≤◌, List, [], ◌∷◌, ◌++◌, length, get_or, refl, sym, ap, ◌∙◌, arith, length-append, w16, w32, w64, to_be_bytes, take_all, sha256, length-sha256, byte_at, range-range, range-join, range-first, range-second, range-one, range-whole, length-zeros, CONTAINER_GATE, Kind, Entry, magic, kind_byte, HeaderValue, header_size, header_spelling, Follow, IsHeader}
 use Rattle.base_model.specs.Bytes.{range, zeros}
 use Rattle.base_model.proofs.Ranges.{byte-range}
 use Rattle.container_meta.specs.Spelling.{entry_spelling, entries_spelling, fields_spelling, front_spelling}
@@ -13,6 +13,25 @@ length-entries_spelling kind before (e ∷ es) h =
     let all : length (entries_spelling (e ∷ es)) ≡ 48 + 48 * length es = ap length (entries_spelling-cons e es)
     ∙ omega (arith, length-append (entry_spelling e) (entries_spelling es), length-entry_spelling e h.0.digest, rest) in
     omega (arith, all)
+
+length-front_spelling : (fields entries : List ℕ) → length fields ≡ 23 → length (front_spelling fields entries) ≡ 512
+unfolding front_spelling
+length-front_spelling fields entries long =
+    omega (
+      arith,
+      length-append ((CONTAINER_GATE ∷ fields) ++ sha256 (fields ++ entries)) (zeros 456),
+      length-append (CONTAINER_GATE ∷ fields) (sha256 (fields ++ entries)),
+      length-sha256 (fields ++ entries),
+      length-zeros 456,
+    )
+
+pub length-header_spelling : (h : HeaderValue) → IsHeader h → length (header_spelling h) ≡ header_size h
+length-header_spelling h allowed =
+    let fields : List ℕ = fields_spelling h.id h.kind (length h.entries) h.data_length in
+    let entries : List ℕ = entries_spelling h.entries in
+    let front : length (front_spelling fields entries) ≡ 512 = length-front_spelling fields entries (length-fields_spelling h.id h.kind (length h.entries) h.data_length) in
+    let many : length entries ≡ 48 * length h.entries = length-entries_spelling h.kind [] h.entries allowed.entries in
+    length-append (front_spelling fields entries) entries ∙ omega (arith, front, many)
 
 -- ---- the fields before the digest
 
@@ -66,13 +85,11 @@ pub record Parts (h : HeaderValue) (bytes : List ℕ) : Type 0 where
   pub digest : range 24 32 bytes ≡ sha256 (fields_spelling h.id h.kind (length h.entries) h.data_length ++ entries_spelling h.entries)
   pub padding : range 56 456 bytes ≡ zeros 456
   pub entries : range 512 (48 * length h.entries) bytes ≡ entries_spelling h.entries
-  pub rest : range (512 + 48 * length h.entries) (49152 - 48 * length h.entries) bytes ≡ zeros (49152 - 48 * length h.entries)
 
-pub spelling_from_parts : (h : HeaderValue) (bytes : List ℕ) → length bytes ≡ HEADER_BYTES → length h.entries ≤ MOST_ENTRIES → Parts h bytes → bytes ≡ header_spelling h
+pub spelling_from_parts : (h : HeaderValue) (bytes : List ℕ) → 512 ≤ length bytes → Parts h bytes → range 0 (header_size h) bytes ≡ header_spelling h
 unfolding front_spelling
-spelling_from_parts h bytes long few p =
+spelling_from_parts h bytes long p =
     let n : ℕ = 48 * length h.entries in
-    let k : ℕ = 49152 - 48 * length h.entries in
     let fields : List ℕ = fields_spelling h.id h.kind (length h.entries) h.data_length in
     let entries : List ℕ = entries_spelling h.entries in
     let digest : List ℕ = sha256 (fields ++ entries) in
@@ -82,60 +99,54 @@ spelling_from_parts h bytes long few p =
     ∙ ap (λ (l : List ℕ). (CONTAINER_GATE ∷ fields) ++ l) p.digest in
     let d : range 0 512 bytes ≡ CONTAINER_GATE ∷ fields ++ digest ++ zeros 456 = sym (range-join 0 56 456 56 bytes refl) ∙ ap (λ (l : List ℕ). l ++ range 56 456 bytes) b
     ∙ ap (λ (l : List ℕ). ((CONTAINER_GATE ∷ fields) ++ digest) ++ l) p.padding in
-    let e : range 0 (512 + n) bytes ≡ CONTAINER_GATE ∷ fields ++ digest ++ zeros 456 ++ entries = sym (range-join 0 512 n 512 bytes refl)
-    ∙ ap (λ (l : List ℕ). l ++ range 512 n bytes) d ∙ ap (λ (l : List ℕ). (((CONTAINER_GATE ∷ fields) ++ digest) ++ zeros 456) ++ l) p.entries in
-    let f : range 0 ((512 + n) + k) bytes ≡ CONTAINER_GATE ∷ fields ++ digest ++ zeros 456 ++ entries ++ zeros k = sym (range-join 0 (512 + n) k (512 + n) bytes (omega arith))
-    ∙ ap (λ (l : List ℕ). l ++ range (512 + n) k bytes) e ∙ ap (λ (l : List ℕ). ((((CONTAINER_GATE ∷ fields) ++ digest) ++ zeros 456) ++ entries) ++ l) p.rest in
-    sym (range-whole ((512 + n) + k) bytes (omega arith)) ∙ f
+    sym (range-join 0 512 n 512 bytes refl)
+    ∙ ap (λ (l : List ℕ). l ++ range 512 n bytes) d ∙ ap (λ (l : List ℕ). (((CONTAINER_GATE ∷ fields) ++ digest) ++ zeros 456) ++ l) p.entries
 
--- the parts of five lists, one after the other
-record Five (x : ℕ) (a b c d e : List ℕ) (n k : ℕ) (all : List ℕ) : Type 0 where
+-- the parts of four lists, one after the other
+record Four (x : ℕ) (a b c d : List ℕ) (n : ℕ) (all : List ℕ) : Type 0 where
   first : range 1 23 all ≡ a
   second : range 24 32 all ≡ b
   third : range 56 456 all ≡ c
   fourth : range 512 n all ≡ d
-  fifth : range (512 + n) k all ≡ e
 
 tail_is : (x : ℕ) (a : List ℕ) → length a ≡ 23 → range 1 23 (x ∷ a) ≡ a
 unfolding range
 tail_is x a long = take_all 23 a (omega (arith, long))
 
-five : (x : ℕ) (a b c d e : List ℕ) (n k : ℕ) → length a ≡ 23 → length b ≡ 32 → length c ≡ 456 → length d ≡ n → length e ≡ k →
-    Five x a b c d e n k (((((x ∷ a) ++ b) ++ c) ++ d) ++ e)
-five x a b c d e n k la lb lc ld le =
+four : (x : ℕ) (a b c d : List ℕ) (n : ℕ) → length a ≡ 23 → length b ≡ 32 → length c ≡ 456 → length d ≡ n →
+    Four x a b c d n ((((x ∷ a) ++ b) ++ c) ++ d)
+four x a b c d n la lb lc ld =
     let f1 : List ℕ = x ∷ a in
     let f2 : List ℕ = f1 ++ b in
     let f3 : List ℕ = f2 ++ c in
-    let f4 : List ℕ = f3 ++ d in
     let l1 : length f1 ≡ 24 = ap suc la in
     let l2 : length f2 ≡ 56 = omega (arith, length-append f1 b) in
     let l3 : length f3 ≡ 512 = omega (arith, length-append f2 c) in
-    let l4 : length f4 ≡ 512 + n = omega (arith, length-append f3 d) in
     record {
-      first = range-first 1 23 f4 e (omega arith) ∙ range-first 1 23 f3 d (omega arith) ∙ range-first 1 23 f2 c (omega arith) ∙ range-first 1 23 f1 b (omega arith)
-          ∙ tail_is x a la;
-      second = range-first 24 32 f4 e (omega arith) ∙ range-first 24 32 f3 d (omega arith) ∙ range-first 24 32 f2 c (omega arith) ∙ range-second 0 32 24 24 f1 b l1 refl
-          ∙ range-whole 32 b lb;
-      third = range-first 56 456 f4 e (omega arith) ∙ range-first 56 456 f3 d (omega arith) ∙ range-second 0 456 56 56 f2 c l2 refl ∙ range-whole 456 c lc;
-      fourth = range-first 512 n f4 e (omega arith) ∙ range-second 0 n 512 512 f3 d l3 refl ∙ range-whole n d ld;
-      fifth = range-second 0 k (512 + n) (512 + n) f4 e l4 (omega arith) ∙ range-whole k e le;
+      first = range-first 1 23 f3 d (omega arith) ∙ range-first 1 23 f2 c (omega arith) ∙ range-first 1 23 f1 b (omega arith) ∙ tail_is x a la;
+      second = range-first 24 32 f3 d (omega arith) ∙ range-first 24 32 f2 c (omega arith) ∙ range-second 0 32 24 24 f1 b l1 refl ∙ range-whole 32 b lb;
+      third = range-first 56 456 f3 d (omega arith) ∙ range-second 0 456 56 56 f2 c l2 refl ∙ range-whole 456 c lc;
+      fourth = range-second 0 n 512 512 f3 d l3 refl ∙ range-whole n d ld;
     }
 
-pub parts_of_spelling : (h : HeaderValue) (bytes : List ℕ) → length h.entries ≤ MOST_ENTRIES → Follow h.kind [] h.entries → bytes ≡ header_spelling h → Parts h bytes
+-- a part of the header is the same part of the bytes that it begins
+part_of : (h : HeaderValue) (bytes : List ℕ) (at count : ℕ) → at + count ≤ header_size h → range 0 (header_size h) bytes ≡ header_spelling h →
+    range at count bytes ≡ range at count (header_spelling h)
+part_of h bytes at count within is = ap (λ (k : ℕ). range k count bytes) (omega arith) ∙ sym (range-range at count 0 (header_size h) bytes within) ∙ ap (range at count) is
+
+pub parts_of_spelling : (h : HeaderValue) (bytes : List ℕ) → Follow h.kind [] h.entries → range 0 (header_size h) bytes ≡ header_spelling h → Parts h bytes
 unfolding front_spelling
-parts_of_spelling h bytes few allowed is =
+parts_of_spelling h bytes allowed is =
     let n : ℕ = 48 * length h.entries in
-    let k : ℕ = 49152 - 48 * length h.entries in
     let fields : List ℕ = fields_spelling h.id h.kind (length h.entries) h.data_length in
     let entries : List ℕ = entries_spelling h.entries in
     let digest : List ℕ = sha256 (fields ++ entries) in
-    let five_parts = five CONTAINER_GATE fields digest (zeros 456) entries (zeros k) n k (length-fields_spelling h.id h.kind (length h.entries) h.data_length)
-    (length-sha256 (fields ++ entries)) (length-zeros 456) (length-entries_spelling h.kind [] h.entries allowed) (length-zeros k) in
+    let parts = four CONTAINER_GATE fields digest (zeros 456) entries n (length-fields_spelling h.id h.kind (length h.entries) h.data_length)
+    (length-sha256 (fields ++ entries)) (length-zeros 456) (length-entries_spelling h.kind [] h.entries allowed) in
     record {
-      gate = ap (byte_at 0) is;
-      fields = ap (range 1 23) is ∙ five_parts.first;
-      digest = ap (range 24 32) is ∙ five_parts.second;
-      padding = ap (range 56 456) is ∙ five_parts.third;
-      entries = ap (range 512 n) is ∙ five_parts.fourth;
-      rest = ap (range (512 + n) k) is ∙ five_parts.fifth;
+      gate = sym (byte-range 0 0 (header_size h) bytes (omega arith)) ∙ ap (byte_at 0) is;
+      fields = part_of h bytes 1 23 (omega arith) is ∙ parts.first;
+      digest = part_of h bytes 24 32 (omega arith) is ∙ parts.second;
+      padding = part_of h bytes 56 456 (omega arith) is ∙ parts.third;
+      entries = part_of h bytes 512 n (omega arith) is ∙ parts.fourth;
     }

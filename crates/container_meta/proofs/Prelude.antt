@@ -15,9 +15,9 @@ pub use Rattle.base_model.proofs.Ranges.{length-range, length-zeros, range-first
 pub use Rattle.base_model.specs.Bytes.{byte_at}
 pub use Rattle.base_model.specs.Checks.{checked, passes, ◌>>=◌}
 pub use Rattle.container_meta.specs.Format.{entry_place, is_count, is_id, is_length, is_level, kind_byte, kind_of, magic}
-pub use Rattle.container_meta.specs.Reading.{count_at, digest_at, digest_checks, end_checks, entry_at, entry_checks, field_checks, is_end, kind_at, next_read, opening_checks, zeros_in_front}
+pub use Rattle.container_meta.specs.Reading.{count_at, count_in, ReachEnd, digest_at, digest_checks, entry_at, entry_checks, field_checks, is_end, kind_at, next_read, opening_checks, zeros_in_front}
 pub use Rattle.container_meta.specs.Segments.{CanAdd, Contents, Segment, StandFrom, bytes_in, data_of, entries_from, is_segment, segment_at, segments_in}
-pub use Rattle.container_meta.specs.Spelling.{Follow, HeaderValue, IsHeader, IsNext, bytes_of, container_spelling, has_digest, header_of, header_spelling, with_entries}
+pub use Rattle.container_meta.specs.Spelling.{Follow, HeaderValue, IsHeader, IsNext, bytes_of, container_spelling, has_digest, IsSpelled, header_of, header_size, header_spelling, with_entries}
 pub use Rattle.container_meta.specs.declared.entry.Entry.{Entry}
 pub use Rattle.container_meta.specs.declared.entry.Header.{Header}
 pub use Rattle.container_meta.specs.declared.fault.MetaFault.{MetaFault}

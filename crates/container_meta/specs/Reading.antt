@@ -1,12 +1,12 @@
--- What a reader finds in the 49,664 bytes of a header, or the first fault.
-use Rattle.std.specs.Prelude.{◌≡◌, ℕ, zero, suc, ◌+◌, ◌*◌, ◌-◌, List, [], ◌∷◌, ◌++◌, length, Bool, not, ◌&&◌, ◌==◌, nat_le, if◌then◌else◌, is_some, unwrap_or, Result, Ok, Err}
+-- What a reader finds in the bytes of a header, or the first fault. Bytes after the last entry are not looked at.
+use Rattle.std.specs.Prelude.{◌≡◌, ◌≤◌, ℕ, zero, suc, ◌+◌, ◌*◌, List, [], ◌∷◌, ◌++◌, length, Bool, not, ◌&&◌, ◌==◌, nat_le, if◌then◌else◌, is_some, unwrap_or, Result, Ok, Err, IfOk}
 use Rattle.std.specs.Str.{bytes_eq}
 use Rattle.std.specs.Int.{w16, w32, w64}
 use Rattle.sha2.specs.Sha256.{sha256}
 use Rattle.base_model.specs.Bytes.{range, byte_at}
 use Rattle.base_model.specs.Checks.{Check, checked, passes, ◌>>=◌}
 use Rattle.base_model.specs.Numbers.{number_at, seven_at}
-use Rattle.disk_format.specs.declared.numbers.TheConstants.{CONTAINER_GATE, HEADER_BYTES}
+use Rattle.disk_format.specs.declared.numbers.TheConstants.{CONTAINER_GATE}
 use Rattle.container_meta.specs.declared.kind.Kind.{Kind}
 use Rattle.container_meta.specs.declared.kind.Kind.TheVariants.{Leaf}
 use Rattle.container_meta.specs.declared.entry.Entry.{Entry}
@@ -51,6 +51,19 @@ opening_checks bytes =
     ∷ record { holds = bytes_eq (range 1 7 bytes) magic; fault = Magic }
     ∷ field 18 (count_at bytes) (is_count (count_at bytes))
     ∷ []
+
+-- the count of entries, or why it is not read
+abbrev pub count_in : List ℕ → Result ℕ MetaFault
+count_in bytes = checked (opening_checks bytes) (count_at bytes)
+
+-- The bytes reach to the end of the header that they begin: they are 512 at least, and 48 for each entry where the count is read.
+abbrev pub ReachEnd : List ℕ → Type 0
+ReachEnd bytes = (entry_place 0 ≤ length bytes) × IfOk (count_in bytes) (λ count. entry_place count ≤ length bytes)
+
+-- how many bytes that takes
+abbrev pub end_of : Result ℕ MetaFault → ℕ
+end_of (Ok count) = entry_place count
+end_of (Err fault) = entry_place 0
 
 -- the digest of bytes 1 to 23 and of the entries
 abbrev pub digest_at : List ℕ → List ℕ
@@ -107,14 +120,6 @@ entries_at kind data_length (suc after) before bytes = do
   e ← next_read kind data_length after before bytes
   entries_at kind data_length after (before ++ e ∷ []) bytes
 
--- zeros after the entries
-abbrev pub end_checks : List ℕ → List (Check MetaFault)
-end_checks bytes =
-    let from = entry_place (count_at bytes) in
-    let end = zeros_end from (HEADER_BYTES - from) bytes in
-    field end (byte_at end bytes) (end == HEADER_BYTES)
-    ∷ []
-
 -- the entries, where they were read
 abbrev pub filled : Result (Unit {0}) MetaFault → List Entry → Result (List Entry) MetaFault
 filled (Ok done) entries = Ok entries
@@ -131,9 +136,8 @@ kind_at bytes = unwrap_or (kind_of (byte_at 16 bytes)) Leaf
 -- the header that the bytes spell, or the first fault
 unfoldable pub header_at : List ℕ → Result HeaderValue MetaFault
 header_at bytes = do
-  count ← checked (opening_checks bytes) (count_at bytes)
+  count ← count_in bytes
   digest ← passes (digest_checks bytes)
   kind ← checked (field_checks bytes) (kind_at bytes)
   entries ← entries_at kind (number_at w32 20 bytes) count [] bytes
-  end ← passes (end_checks bytes)
   Ok (record { id = number_at w64 8 bytes; kind = kind; data_length = number_at w32 20 bytes; entries = entries })

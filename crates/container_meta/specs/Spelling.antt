@@ -1,6 +1,6 @@
 -- The one spelling of each header and of each container.
 use Rattle.std.specs.Prelude.{◌≡◌, ℕ, ◌*◌, ◌-◌, List, [], ◌∷◌, ◌++◌, length, sum_by, Bool, true, false, Some}
-use Rattle.base_model.specs.Bytes.{zeros}
+use Rattle.base_model.specs.Bytes.{range, zeros}
 use Rattle.std.specs.List.{flat_map, list_any}
 use Rattle.std.specs.Str.{bytes_eq}
 use Rattle.std.specs.Int.{w16, w32, w64, to_be_bytes}
@@ -10,7 +10,7 @@ use Rattle.container_meta.specs.declared.kind.Kind.{Kind}
 use Rattle.container_meta.specs.declared.entry.Entry.{Entry}
 use Rattle.container_meta.specs.declared.entry.Header.{Header}
 use Rattle.container_meta.specs.declared.entry.Meta.{Meta}
-use Rattle.container_meta.specs.Format.{magic, is_id, is_count, is_data_length, kind_byte, kind_of, is_length, is_level}
+use Rattle.container_meta.specs.Format.{magic, is_id, is_count, is_data_length, kind_byte, kind_of, is_length, is_level, entry_place}
 use Rattle.container_meta.specs.Segments.{Segment, bytes_in, data_of, entries_from}
 
 -- a header and its entries, without where they lie in memory
@@ -43,12 +43,16 @@ fields_spelling id kind count data_length =
 unfoldable pub front_spelling : List ℕ → List ℕ → List ℕ
 front_spelling fields entries = CONTAINER_GATE ∷ fields ++ sha256 (fields ++ entries) ++ zeros 456
 
--- the 49,664 bytes of a header and its entries
+-- how many bytes a header takes, with its entries
+abbrev pub header_size : HeaderValue → ℕ
+header_size h = entry_place (length h.entries)
+
+-- these bytes
 abbrev pub header_spelling : HeaderValue → List ℕ
 header_spelling h =
     let fields = fields_spelling h.id h.kind (length h.entries) h.data_length in
     let entries = entries_spelling h.entries in
-    front_spelling fields entries ++ entries ++ zeros (49152 - 48 * length h.entries)
+    front_spelling fields entries ++ entries
 
 -- the digest that a header has: of its bytes 1 to 23 followed by those of the entries
 unfoldable pub header_digest : HeaderValue → List ℕ
@@ -84,15 +88,16 @@ pub record IsHeader (h : HeaderValue) : Type 0 where
   pub entries : Follow h.kind [] h.entries
   pub whole : bytes_of h.entries ≡ h.data_length
 
--- bytes that spell a header
+-- bytes that begin with the spelling of a header; what comes after it is free
 abbrev pub IsSpelled : HeaderValue → List ℕ → Type 0
-IsSpelled h bytes = IsHeader h × (bytes ≡ header_spelling h)
+IsSpelled h bytes = IsHeader h × (range 0 (header_size h) bytes ≡ header_spelling h)
 
 -- the header of a container that holds these segments
 abbrev pub header_of : ℕ → Kind → List Segment → HeaderValue
 header_of id kind segments = record { id = id; kind = kind; data_length = bytes_in segments; entries = entries_from 0 segments }
 
--- the 262,144 bytes of a container: its header, the bytes of the segments, zeros
+-- the 262,144 bytes of a container as it is written: its header, zeros up to its data, the bytes of the segments, zeros
 abbrev pub container_spelling : ℕ → Kind → List Segment → List ℕ
 container_spelling id kind segments =
-    header_spelling (header_of id kind segments) ++ data_of segments ++ zeros (DATA_BYTES - bytes_in segments)
+    let h = header_of id kind segments in
+    header_spelling h ++ zeros (49152 - 48 * length h.entries) ++ data_of segments ++ zeros (DATA_BYTES - bytes_in segments)

@@ -7,7 +7,7 @@ use crate::entry::{Entry, stands_in};
 use crate::kind::{Kind, byte_of};
 use crate::segment::Seg;
 use crate::writing::{Fields, put_data, put_entries, put_front};
-use disk_format::{DATA_BYTES, HEADER_BYTES, MOST_ENTRIES, SLOT_BYTES};
+use disk_format::{DATA_BYTES, MOST_ENTRIES, SLOT_BYTES};
 use std::alloc::{AllocError, Global};
 use std::marker::Model;
 
@@ -70,10 +70,9 @@ impl Model for OpenContainer {
 }
 
 impl OpenContainer {
-    ghost use Rattle.base_model.specs.Bytes.{range};
     ghost use Rattle.container_meta.specs.Format.{is_id};
     ghost use Rattle.container_meta.specs.Segments.{CanAdd, StandFrom, entries_from, segment_at, has_key, has_room as room_for, has_segment, is_segment};
-    ghost use Rattle.container_meta.specs.Spelling.{IsHeader, header_of, header_digest, header_spelling, container_spelling};
+    ghost use Rattle.container_meta.specs.Spelling.{IsHeader, IsSpelled, header_of, header_digest, container_spelling};
 
     /// An empty container, with all the memory that it will need. It fails for want of memory alone.
     pub fn new(alloc: Global, kind: Kind) -> Result<OpenContainer, AllocError>
@@ -205,8 +204,7 @@ impl OpenContainer {
         ensures digest { result ≡ header_digest (header_of id self.now.kind self.now.segments) }
         // Each segment stands where its entry says.
         ensures stored { StandFrom 0 self.now.segments image.new }
-        ensures header { IsHeader (header_of id self.now.kind self.now.segments) }
-        ensures front { range 0 HEADER_BYTES image.new ≡ header_spelling (header_of id self.now.kind self.now.segments) }
+        ensures header { IsSpelled (header_of id self.now.kind self.now.segments) image.new }
     {
         let (front, rest) = image.split_at_mut(512);
         let (entries, data) = rest.split_at_mut(49_152);

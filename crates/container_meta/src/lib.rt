@@ -20,7 +20,7 @@ pub use fault::MetaFault;
 pub use key_map::KeyMap;
 pub use kind::Kind;
 pub use place::{Key, Place, key_of};
-pub use reading::{decode, decode_into};
+pub use reading::{decode, decode_into, header_end};
 pub use segment::{Seg, digest_of};
 
 /// The seven bytes after a container's gate.

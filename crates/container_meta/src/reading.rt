@@ -3,12 +3,13 @@
 ghost use Rattle.std.specs.Prelude.{◌≡◌, ℕ, ◌+◌, ◌*◌, ◌-◌, ◌^◌, ◌<◌, ◌≤◌, [], length, vec_capacity, IfOk, Ok};
 ghost use Rattle.std.specs.Int.{w32};
 ghost use Rattle.base_model.specs.Checks.{checked, passes};
+ghost use Rattle.container_meta.specs.Format.{entry_place};
 ghost use Rattle.base_model.specs.Bytes.{range};
 ghost use Rattle.base_model.specs.Numbers.{number_at};
 ghost use Rattle.container_meta.specs.declared.fault.MetaFault.TheVariants.{Field};
-ghost use Rattle.container_meta.specs.Spelling.{HeaderValue, IsHeader, IsSpelled, view, with_entries, header_digest, header_spelling, bytes_of};
-ghost use Rattle.container_meta.specs.Reading.{Gives, filled, decoded, count_at, kind_at as kind_in, opening_checks, digest_checks};
-ghost use Rattle.container_meta.specs.Reading.{field_checks, end_checks, next_read, entries_at, header_at, is_end};
+ghost use Rattle.container_meta.specs.Spelling.{HeaderValue, IsSpelled, view, with_entries, header_digest, bytes_of};
+ghost use Rattle.container_meta.specs.Reading.{Gives, filled, decoded, count_at, count_in, ReachEnd, end_of, kind_at as kind_in, digest_checks};
+ghost use Rattle.container_meta.specs.Reading.{field_checks, next_read, entries_at, header_at, is_end};
 ghost use Rattle.container_meta.specs.Reading.{zeros_in_front as zeros_before, zeros_end as end_of_zeros};
 
 use crate::MAGIC;
@@ -17,7 +18,7 @@ use crate::entry::{Entry, Header, Meta, stands_in};
 use crate::fault::MetaFault;
 use crate::kind::{Kind, kind_at, takes_length, takes_level};
 use base_model::{digest_at, part, seven_at, u16_at, u32_at, u64_at};
-use disk_format::{CONTAINER_GATE, DATA_BYTES, HEADER_BYTES, LAST_ID, MOST_ENTRIES};
+use disk_format::{CONTAINER_GATE, DATA_BYTES, LAST_ID, MOST_ENTRIES};
 use sha2::{Digest, Sha256};
 use std::alloc::Global;
 
@@ -44,8 +45,8 @@ fn zeros_end(bytes: &[u8], from: usize, count: usize) -> usize
 
 /// The count of entries, after the checks without which the digest can't be taken.
 fn checked_count(bytes: &[u8]) -> Result<u16, MetaFault>
-    requires { length bytes.now ≡ HEADER_BYTES }
-    ensures value { result ≡ checked (opening_checks bytes.now) (count_at bytes.now) }
+    requires { entry_place 0 ≤ length bytes.now }
+    ensures value { result ≡ count_in bytes.now }
     ensures few { IfOk result (λ count. count ≤ MOST_ENTRIES) }
 {
     if bytes[0] != CONTAINER_GATE {
@@ -64,10 +65,21 @@ fn checked_count(bytes: &[u8]) -> Result<u16, MetaFault>
     Ok(count)
 }
 
+/// How many bytes of a slot its header takes, by the first 512 of them: these, and 48 for each entry, where the gate is open, and the
+/// magic and the count of entries are right. Of others no more than 512 are looked at.
+pub fn header_end(bytes: &[u8]) -> usize
+    requires { entry_place 0 ≤ length bytes.now }
+    ensures { result ≡ end_of (count_in bytes.now) }
+{
+    match checked_count(bytes) {
+        Ok(count) => 512 + 48 * usize::from(count),
+        Err(_) => 512,
+    }
+}
+
 fn check_digest(bytes: &[u8], count: u16) -> Result<(), MetaFault>
-    requires length { length bytes.now ≡ HEADER_BYTES }
+    requires length { entry_place count ≤ length bytes.now }
     requires count { count ≡ count_at bytes.now }
-    requires few { count ≤ MOST_ENTRIES }
     ensures { result ≡ passes (digest_checks bytes.now) }
 {
     let mut hasher = Sha256::new();
@@ -83,7 +95,7 @@ fn check_digest(bytes: &[u8], count: u16) -> Result<(), MetaFault>
 
 /// The kind, after the checks of the fields before the entries.
 fn checked_kind(bytes: &[u8]) -> Result<Kind, MetaFault>
-    requires { length bytes.now ≡ HEADER_BYTES }
+    requires { entry_place 0 ≤ length bytes.now }
     ensures value { result ≡ checked (field_checks bytes.now) (kind_in bytes.now) }
     ensures small { IfOk result (λ _. number_at w32 20 bytes.now ≤ DATA_BYTES) }
 {
@@ -150,7 +162,7 @@ fn next_entry(
     before: &[Entry],
     end: u32,
 ) -> Result<Entry, MetaFault>
-    requires length { length bytes.now ≡ HEADER_BYTES }
+    requires length { entry_place (length before.now + 1) ≤ length bytes.now }
     requires place { length before.now + after < MOST_ENTRIES }
     requires end { end ≡ bytes_of before.now }
     requires small { end ≤ DATA_BYTES }
@@ -191,7 +203,7 @@ fn read_entries(
     count: u16,
     entries: &mut Vec<Entry>,
 ) -> Result<(), MetaFault>
-    requires length { length bytes.now ≡ HEADER_BYTES }
+    requires length { entry_place count ≤ length bytes.now }
     requires few { count ≤ MOST_ENTRIES }
     requires small { data_length ≤ DATA_BYTES }
     requires none { entries.old.items ≡ [] }
@@ -208,23 +220,9 @@ fn read_entries(
     Ok(())
 }
 
-fn check_end(bytes: &[u8], count: u16) -> Result<(), MetaFault>
-    requires length { length bytes.now ≡ HEADER_BYTES }
-    requires count { count ≡ count_at bytes.now }
-    requires few { count ≤ MOST_ENTRIES }
-    ensures { result ≡ passes (end_checks bytes.now) }
-{
-    let from = 512 + 48 * usize::from(count);
-    let end = zeros_end(bytes, from, bytes.len() - from);
-    if end != bytes.len() {
-        return Err(field_fault(end, u64::from(bytes[end])));
-    }
-    Ok(())
-}
-
 #[tactic(auto, unfolding(crate::specs::Reading::header_at))]
 fn header_into(bytes: &[u8], entries: &mut Vec<Entry>) -> Result<Header, MetaFault>
-    requires length { length bytes.now ≡ HEADER_BYTES }
+    requires length { ReachEnd bytes.now }
     requires room { MOST_ENTRIES ≤ vec_capacity entries.old }
     ensures value { decoded result entries.new.items ≡ header_at bytes.now }
     ensures stored { IfOk result (λ h. h.digest ≡ range 24 32 bytes.now) }
@@ -236,7 +234,6 @@ fn header_into(bytes: &[u8], entries: &mut Vec<Entry>) -> Result<Header, MetaFau
     let kind = checked_kind(bytes)?;
     let data_length = u32_at(bytes, 20);
     read_entries(bytes, kind, data_length, count, entries)?;
-    check_end(bytes, count)?;
     Ok(Header {
         id: u64_at(bytes, 8),
         kind,
@@ -248,17 +245,18 @@ fn header_into(bytes: &[u8], entries: &mut Vec<Entry>) -> Result<Header, MetaFau
 /// The header that the first bytes of a slot spell. Its entries go into a list that is given, in the place of what it
 /// held; no memory is taken. After an error the list may hold any entries.
 ///
-/// The bytes are `disk_format::HEADER_BYTES`, and the list has memory for `disk_format::MOST_ENTRIES`. The checks go in
-/// the order of docs/FORMAT.md, 'Container slot', and the first that fails is the fault: the gate, the magic, the count
-/// of entries, the digest, and then field by field. It never answers `MetaFault::Memory`.
+/// The bytes are as many as `header_end` says of them, or more, and what comes after these is not looked at. The list has
+/// memory for `disk_format::MOST_ENTRIES`. The checks go in the order of docs/FORMAT.md, 'Container slot', and the first that
+/// fails is the fault: the gate, the magic, the count of entries, the digest, and then field by field. It never answers
+/// `MetaFault::Memory`.
 pub fn decode_into(bytes: &[u8], entries: &mut Vec<Entry>) -> Result<Header, MetaFault>
-    requires length { length bytes.now ≡ HEADER_BYTES }
+    requires length { ReachEnd bytes.now }
     requires room { MOST_ENTRIES ≤ vec_capacity entries.old }
     // What is read is a header, and is spelled so.
     ensures found { IfOk result (λ h. IsSpelled (with_entries h entries.new.items) bytes.now) }
     ensures digest { IfOk result (λ h. h.digest ≡ header_digest (with_entries h entries.new.items)) }
     // What is spelled so is read.
-    ensures only { (h : HeaderValue) → IsHeader h → bytes.now ≡ header_spelling h → decoded result entries.new.items ≡ Ok h }
+    ensures only { (h : HeaderValue) → IsSpelled h bytes.now → decoded result entries.new.items ≡ Ok h }
     // Which fault it is.
     ensures value { decoded result entries.new.items ≡ header_at bytes.now }
     ensures capacity { vec_capacity entries.old ≤ vec_capacity entries.new }
@@ -266,16 +264,16 @@ pub fn decode_into(bytes: &[u8], entries: &mut Vec<Entry>) -> Result<Header, Met
     header_into(bytes, entries)
 }
 
-/// The header that the first `disk_format::HEADER_BYTES` bytes of a slot spell, with its entries in a list of their own.
+/// The header that the first bytes of a slot spell, with its entries in a list of their own.
 ///
 /// The fault is the one that `decode_into` answers, or `MetaFault::Memory`.
 pub fn decode(alloc: Global, bytes: &[u8]) -> Result<Meta, MetaFault>
-    requires { length bytes.now ≡ HEADER_BYTES }
+    requires { ReachEnd bytes.now }
     // What is read is a header, and is spelled so.
     ensures found { IfOk result (λ m. IsSpelled (view m) bytes.now) }
     ensures digest { IfOk result (λ m. m.digest ≡ header_digest (view m)) }
     // What is spelled so is read, unless memory runs out.
-    ensures only { (h : HeaderValue) → IsHeader h → bytes.now ≡ header_spelling h → Gives view result (Ok h) }
+    ensures only { (h : HeaderValue) → IsSpelled h bytes.now → Gives view result (Ok h) }
     // Which fault it is.
     ensures fault { Gives view result (header_at bytes.now) }
 {

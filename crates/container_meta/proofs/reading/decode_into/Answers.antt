@@ -9,7 +9,7 @@ returns-clause-found c = is_found c.args.bytes.now c.header_into.result c.header
     c.header_into.ensures.value
 
 pub returns-clause-only : goal.returns-clause-only
-returns-clause-only c = λ h allowed is. c.header_into.ensures.value ∙ header_again c.args.bytes.now h c.requires.length allowed is
+returns-clause-only c = λ h spelled. c.header_into.ensures.value ∙ header_again c.args.bytes.now h c.requires.length spelled
 
 pub returns-clause-digest : goal.returns-clause-digest
 returns-clause-digest c = digest_read c.args.bytes.now c.header_into.new.entries.items c.header_into.result (returns-clause-found c) c.header_into.ensures.stored

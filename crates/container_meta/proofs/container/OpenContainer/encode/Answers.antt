@@ -1,9 +1,9 @@
-use Rattle.container_meta.proofs.Prelude.{◌≡◌, ℕ, ◌-◌, ◌*◌, List, ◌++◌, refl, ap, sym, subst, length, take, ◌∙◌, arith, DATA_BYTES, HEADER_BYTES, sha256, Entry, Contents, StandFrom, IsHeader, header_of, container_spelling}
+use Rattle.container_meta.proofs.Prelude.{◌≡◌, ℕ, ◌-◌, ◌*◌, List, ◌++◌, refl, ap, sym, subst, length, take, ◌∙◌, arith, DATA_BYTES, sha256, Entry, Contents, StandFrom, IsHeader, IsSpelled, header_of, container_spelling}
 use Rattle.container_meta.specs.Spelling.{header_digest, entries_spelling, fields_spelling, front_spelling}
 use Rattle.container_meta.proofs.Packing.{length-segments_in}
 use Rattle.container_meta.proofs.Encoded.{container_written, digest_written, header_allowed}
 use Rattle.container_meta.proofs.Stored.{stand_in_spelling, header-container_spelling}
-use Rattle.base_model.specs.Bytes.{range, zeros}
+use Rattle.base_model.specs.Bytes.{zeros}
 use Rattle.container_meta.proofs.container.OpenContainer.encode.Goals as goal
 
 pub returns-clause-image : goal.returns-clause-image
@@ -32,9 +32,12 @@ returns-clause-header c =
     let es : List Entry = c.self.inside.entries.items in
     let bytes : List ℕ = c.self.inside.bytes.items in
     let many : length c.args.self.now.segments ≡ length es = ap (λ (v : Contents). length v.segments) (sym c.self.view_is) ∙ length-segments_in es bytes in
+    let allowed : IsHeader (header_of c.args.id c.args.self.now.kind c.args.self.now.segments) =
     subst (λ (v : Contents). IsHeader (header_of c.args.id v.kind v.segments)) c.self.view_is
     (header_allowed c.args.id c.self.inside.kind es bytes c.requires.id c.self.invariant.exact c.self.invariant.whole c.self.invariant.allowed
-    (omega (arith, many, c.requires.there)) (omega (arith, c.self.invariant.few, c.self.inside.entries.ok.0)) (omega (arith, c.self.invariant.fits, c.self.inside.bytes.ok.0)))
+    (omega (arith, many, c.requires.there)) (omega (arith, c.self.invariant.few, c.self.inside.entries.ok.0)) (omega (arith, c.self.invariant.fits, c.self.inside.bytes.ok.0))) in
+    subst (λ (l : List ℕ). IsSpelled (header_of c.args.id c.args.self.now.kind c.args.self.now.segments) l) (sym (returns-clause-image c))
+    (header-container_spelling c.args.id c.args.self.now.kind c.args.self.now.segments allowed)
 
 pub returns-clause-digest : goal.returns-clause-digest
 returns-clause-digest c =
@@ -58,8 +61,5 @@ returns-clause-digest c =
 
 pub returns-clause-stored : goal.returns-clause-stored
 returns-clause-stored c = subst (λ (l : List ℕ). StandFrom 0 c.args.self.now.segments l) (sym (returns-clause-image c))
-    (stand_in_spelling c.args.id c.args.self.now.kind c.args.self.now.segments (returns-clause-header c))
+    (stand_in_spelling c.args.id c.args.self.now.kind c.args.self.now.segments (returns-clause-header c).0)
 
-pub returns-clause-front : goal.returns-clause-front
-returns-clause-front c = ap (range 0 HEADER_BYTES) (returns-clause-image c) ∙ header-container_spelling c.args.id c.args.self.now.kind c.args.self.now.segments
-    (returns-clause-header c)

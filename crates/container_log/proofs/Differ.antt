@@ -9,7 +9,7 @@ use Rattle.container_meta.specs.declared.entry.Entry.{Entry}
 use Rattle.container_meta.specs.declared.fault.MetaFault.{MetaFault}
 use Rattle.container_meta.specs.declared.fault.MetaFault.TheVariants as meta
 use Rattle.container_meta.specs.Format.{entry_place}
-use Rattle.container_meta.specs.Reading.{digest_at, opening_checks, digest_checks, field_checks, end_checks, entry_checks, entry_at, entries_at, header_at}
+use Rattle.container_meta.specs.Reading.{digest_at, opening_checks, digest_checks, field_checks, entry_checks, entry_at, entries_at, header_at}
 use Rattle.disk_format.specs.declared.why.Why.{Why}
 use Rattle.disk_format.specs.declared.why.Why.TheVariants.{Digest, Field}
 use Rattle.container_log.specs.Faults.{why_of, Differs}
@@ -38,8 +38,7 @@ header_differs bytes fault =
     step_err FaultDiffers _ _ fault (checked_err FaultDiffers (opening_checks bytes) _ fault (λ h. tt, (λ h. tt, (λ h. tt, tt)))) (λ count c.
     step_err FaultDiffers _ _ fault (checked_err FaultDiffers (digest_checks bytes) _ fault (unequal (range 24 32 bytes) (digest_at bytes), tt)) (λ digest d.
     step_err FaultDiffers _ _ fault (checked_err FaultDiffers (field_checks bytes) _ fault (λ h. tt, (λ h. tt, (λ h. tt, (λ h. tt, (λ h. tt, tt)))))) (λ kind k.
-    step_err FaultDiffers _ _ fault (entries_differ kind _ count [] bytes fault) (λ entries es.
-    step_err FaultDiffers _ _ fault (checked_err FaultDiffers (end_checks bytes) _ fault (λ h. tt, tt)) (λ end z e. absurd cc)))))
+    step_err FaultDiffers _ _ fault (entries_differ kind _ count [] bytes fault) (λ entries es e. absurd cc))))
 
 pub fault_differs : (bytes : List ℕ) (fault : MetaFault) (why : Why) → header_at bytes ≡ Err fault → why_of bytes fault ≡ Some why → Differs why
 fault_differs bytes fault (Field offset got) first named = tt

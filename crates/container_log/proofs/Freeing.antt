@@ -1,18 +1,18 @@
 -- What a write of a slot's gate leaves, by what the slot holds.
-use Rattle.std.proofs.Common.{◌≡◌, ◌⊎◌, inl, inr, ℕ, ◌+◌, ◌≤◌, ◌==◌, List, [], ◌∷◌, ◌++◌, length, true, false, Some, None, refl, sym, ◌∙◌, ap, arith, subst}
+use Rattle.std.proofs.Common.{◌≡◌, ◌⊎◌, inl, inr, ℕ, ◌+◌, ◌*◌, ◌≤◌, ◌==◌, List, [], ◌∷◌, ◌++◌, length, true, false, Some, None, refl, sym, ◌∙◌, ap, arith, subst}
 use Rattle.std.proofs.lemmas.Bool.{eqb-true, eqb-false}
 use Rattle.base_model.specs.Bytes.{range, byte_at}
 use Rattle.base_model.specs.Frames.{SameOutside}
 use Rattle.base_model.proofs.ByteAt.{byte-written}
 use Rattle.base_model.proofs.Frames.{same_written}
 use Rattle.base_model.proofs.Ranges.{byte-range, range-join, range-one}
-use Rattle.disk_format.specs.declared.numbers.TheConstants.{CONTAINER_GATE, HEADER_BYTES, SLOT_BYTES}
+use Rattle.disk_format.specs.declared.numbers.TheConstants.{CONTAINER_GATE, SLOT_BYTES}
 use Rattle.disk_format.specs.Layout.{slot_at}
 use Rattle.dd_disk.specs.Ending.{Ending}
 use Rattle.dd_disk.specs.View.{DiskView}
 use Rattle.dd_disk.specs.Writes.{Puts, Torn, Writes}
 use Rattle.dd_disk.proofs.Writes.{writes_weaker}
-use Rattle.container_meta.specs.Spelling.{HeaderValue, front_spelling}
+use Rattle.container_meta.specs.Spelling.{HeaderValue, header_size, front_spelling}
 use Rattle.store_model.specs.Slots.{HoldsSlot}
 use Rattle.container_log.specs.Writing.{Frees, IsFreed}
 
@@ -34,14 +34,18 @@ module _ (slot gate : ℕ) (old new : List ℕ) (fits : slot_at slot + SLOT_BYTE
   unfolding front_spelling
   header_kept h opened held =
       let at = slot_at slot in
-      let was : byte_at at old ≡ CONTAINER_GATE = ap (λ (p : ℕ). byte_at p old) (omega arith) ∙ sym (byte-range 0 at HEADER_BYTES old (omega arith)) ∙ ap (byte_at 0) held.1 in
+      let rest = 511 + 48 * length h.entries in
+      let parts : header_size h ≡ 1 + rest = omega arith in
+      let was : byte_at at old ≡ CONTAINER_GATE = ap (λ (p : ℕ). byte_at p old) (omega arith) ∙ sym (byte-range 0 at (header_size h) old (omega arith)) ∙ ap (byte_at 0) held.1 in
       let first : range at 1 new ≡ range at 1 old =
       range-one at new (omega (arith, fits, same.size)) ∙ ap (λ (b : ℕ). b ∷ []) (gate_is ∙ opened ∙ sym was) ∙ sym (range-one at old (omega (arith, fits))) in (
         held.0,
-        sym (range-join at 1 49663 (at + 1) new refl)
-            ∙ ap (λ (l : List ℕ). l ++ range (at + 1) 49663 new) first
-            ∙ ap (λ (l : List ℕ). range at 1 old ++ l) (same.after (at + 1) 49663 (omega arith))
-            ∙ range-join at 1 49663 (at + 1) old refl
+        ap (λ (n : ℕ). range at n new) parts
+            ∙ sym (range-join at 1 rest (at + 1) new refl)
+            ∙ ap (λ (l : List ℕ). l ++ range (at + 1) rest new) first
+            ∙ ap (λ (l : List ℕ). range at 1 old ++ l) (same.after (at + 1) rest (omega arith))
+            ∙ range-join at 1 rest (at + 1) old refl
+            ∙ ap (λ (n : ℕ). range at n old) (sym parts)
             ∙ held.1,
       )
 

@@ -10,6 +10,7 @@ use Rattle.base_model.specs.Bytes.{byte_at}
 use Rattle.base_model.proofs.Checks.{both}
 use Rattle.container_meta.specs.declared.entry.Entry.{Entry}
 use Rattle.container_meta.specs.declared.kind.Kind.{Kind}
+use Rattle.container_meta.specs.Reading.{header_at}
 use Rattle.container_meta.specs.Spelling.{HeaderValue, IsHeader, Follow, bytes_of}
 use Rattle.dd_disk.specs.Shows.{Shows}
 use Rattle.dd_disk.specs.View.{DiskView, OnlyReads}
@@ -25,7 +26,7 @@ use Rattle.inspection.specs.declared.halt.Halt.{Halt}
 use Rattle.inspection.specs.declared.halt.Halt.TheVariants as halts_of
 use Rattle.inspection.specs.declared.tally.Tally.{Tally}
 use Rattle.inspection.proofs.Steps.{nothing_then, then_nothing, then_then, finds_shown, reports_on, stops_after, stops_before, stops_on, stops_shown, stops_unread, stops_without}
-use Rattle.container_log.specs.Inspecting.{AreInSlot, copy_found, copies_found, header_found, header_in, id_damage, ids_with, slot_bytes, slot_found, slots_found, ReadsSlot}
+use Rattle.container_log.specs.Inspecting.{AreInSlot, copy_found, copies_found, header_found, id_damage, ids_with, slot_bytes, slot_found, slots_found, ReadsSlot}
 
 pub ok_map : {T E : Type 0} (result : Result T E) {P Q : Type 0} → (P → Q) → OnOk result P → OnOk result Q
 ok_map (Ok x) each holds = each holds
@@ -103,7 +104,7 @@ module _ (slot : ℕ) (bytes : List ℕ) where
 module _ (left slot : ℕ) (ids : List ℕ) (image : List ℕ) where
   next_open : byte_at (slot_at slot) image ≡ CONTAINER_GATE
       → slots_found (suc left) slot ids image ≡ and_then (slot_found slot ids (slot_bytes slot image))
-      (slots_found left (suc slot) (ids_with ids (header_in (slot_bytes slot image))) image)
+      (slots_found left (suc slot) (ids_with ids (header_at (slot_bytes slot image))) image)
   unfolding slots_found
   next_open gate = if_true (byte_at (slot_at slot) image == CONTAINER_GATE) _ _ (eq-eqb (byte_at (slot_at slot) image) CONTAINER_GATE gate)
     where
@@ -132,18 +133,18 @@ module _ (slot : ℕ) (ids bytes : List ℕ) (left : ℕ) (old new : DiskView) w
       Shows old new (λ image. slots_found (suc left) slot ids image ≡ and_then nothing (slots_found left (suc slot) ids image))
   shows_closed read = weaker old new (λ image sized closed. next_closed left slot ids image closed ∙ sym (nothing_then (slots_found left (suc slot) ids image))) read
 
-  pub shows_open : (given now : List ℕ) → given ≡ ids → ids_with given (header_in bytes) ≡ now → Shows old new (ReadsSlot slot true bytes)
+  pub shows_open : (given now : List ℕ) → given ≡ ids → ids_with given (header_at bytes) ≡ now → Shows old new (ReadsSlot slot true bytes)
       → Shows old new (λ image. slots_found (suc left) slot ids image ≡ and_then (slot_found slot given bytes) (slots_found left (suc slot) now image))
   shows_open given now same is read =
       weaker old new (λ image sized opened.
       next_open left slot ids image opened.0
-      ∙ ap (λ (b : List ℕ). and_then (slot_found slot ids b) (slots_found left (suc slot) (ids_with ids (header_in b)) image)) opened.1
-      ∙ ap (λ (l : List ℕ). and_then (slot_found slot l bytes) (slots_found left (suc slot) (ids_with l (header_in bytes)) image)) (sym same)
+      ∙ ap (λ (b : List ℕ). and_then (slot_found slot ids b) (slots_found left (suc slot) (ids_with ids (header_at b)) image)) opened.1
+      ∙ ap (λ (l : List ℕ). and_then (slot_found slot l bytes) (slots_found left (suc slot) (ids_with l (header_at bytes)) image)) (sym same)
       ∙ ap (λ (l : List ℕ). and_then (slot_found slot given bytes) (slots_found left (suc slot) l image)) is) read
 
 -- ---- a right header
 
-module _ (slot : ℕ) (ids bytes : List ℕ) (h : HeaderValue) (right : header_in bytes ≡ Ok h) where
+module _ (slot : ℕ) (ids bytes : List ℕ) (h : HeaderValue) (right : header_at bytes ≡ Ok h) where
   right_slot : slot_found slot ids bytes ≡ and_then (cell_with (id_damage slot ids h.id)) (copies_found slot h.entries bytes)
   unfolding slot_found
   right_slot = ap (header_found slot ids bytes) right
@@ -188,10 +189,10 @@ module _ (line : Damage → List ℕ) (slot : ℕ) (ids given bytes : List ℕ) 
   pub stops_open : (halt : Halt) → Stops line (slot_found slot given bytes) sink sink_now halt → (left : ℕ) →
       StopsAmong line (slots_found (suc left) slot ids) old new sink sink_now halt
   stops_open halt stops left =
-      stops_shown line (slot_found slot given bytes) (slots_found (suc left) slot ids) (slots_found left (suc slot) (ids_with given (header_in bytes))) old new sink sink_now halt
-      (shows_open slot ids bytes left old new given (ids_with given (header_in bytes)) same refl read) stops
+      stops_shown line (slot_found slot given bytes) (slots_found (suc left) slot ids) (slots_found left (suc slot) (ids_with given (header_at bytes))) old new sink sink_now halt
+      (shows_open slot ids bytes left old new given (ids_with given (header_at bytes)) same refl read) stops
 
-  module _ (tally tally_now : Tally) (id : Option ℕ) (is : ids_with given (header_in bytes) ≡ given ++ option_to_list id)
+  module _ (tally tally_now : Tally) (id : Option ℕ) (is : ids_with given (header_at bytes) ≡ given ++ option_to_list id)
       (done : Reports line (slot_found slot given bytes) sink sink_now tally tally_now) where
     pub finds_open : (now : List ℕ) → now ≡ ids ++ option_to_list id → (left : ℕ) → Finds line (slots_found (suc left) slot ids) (slots_found left (suc slot) now) old new sink
         sink_now tally tally_now

@@ -1,4 +1,5 @@
 mod Differ
+mod FirstBytes
 pub mod Freeing
 pub mod Headers
 pub mod Inspected

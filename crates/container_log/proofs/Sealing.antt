@@ -18,15 +18,15 @@ use Rattle.dd_disk.proofs.Outside.{same_cell}
 use Rattle.dd_disk.proofs.Writes.{writes_weaker}
 use Rattle.container_meta.specs.declared.kind.Kind.{Kind}
 use Rattle.container_meta.specs.Segments.{Segment, StandFrom, bytes_in}
-use Rattle.container_meta.specs.Spelling.{IsHeader, header_of, header_spelling, front_spelling}
+use Rattle.container_meta.specs.Spelling.{IsSpelled, header_of, header_size, front_spelling}
+use Rattle.container_meta.proofs.Again.{header_fits}
 use Rattle.store_model.specs.Slots.{HoldsContainer, StandAt}
 use Rattle.container_log.specs.Writing.{Seals, IsSealed}
 
 -- the bytes of a slot with a container
 pub record IsSlotOf (id : ℕ) (kind : Kind) (segments : List Segment) (cell : List ℕ) : Type 0 where
   pub size : length cell ≡ SLOT_BYTES
-  pub right : IsHeader (header_of id kind segments)
-  pub header : range 0 HEADER_BYTES cell ≡ header_spelling (header_of id kind segments)
+  pub header : IsSpelled (header_of id kind segments) cell
   pub stored : StandFrom 0 segments cell
 
 -- the bytes of the segments after the first
@@ -61,20 +61,23 @@ gate_cases at gate some_gate (first ∷ body) old new some fits is stands =
 module _ (slot id : ℕ) (kind : Kind) (segments : List Segment) (cell : List ℕ) (is : IsSlotOf id kind segments cell) where
   gate : byte_at 0 cell ≡ CONTAINER_GATE
   unfolding front_spelling
-  gate = sym (byte-range 0 0 HEADER_BYTES cell (omega arith)) ∙ ap (byte_at 0) is.header
+  gate = sym (byte-range 0 0 (header_size (header_of id kind segments)) cell (omega arith)) ∙ ap (byte_at 0) is.header.1
 
   few : bytes_in segments ≤ 212480
-  few = leb-true (bytes_in segments) 212480 (both _ _ is.right.data_length).1
+  few = leb-true (bytes_in segments) 212480 (both _ _ is.header.0.data_length).1
 
   -- where all of the bytes stand, the slot has the container
   holds : (image : List ℕ) → range (slot_at slot) SLOT_BYTES image ≡ cell → HoldsContainer image slot id kind segments
-  holds image stands = record {
+  holds image stands =
+      let size : ℕ = header_size (header_of id kind segments) in
+      let at : slot_at slot + 0 ≡ slot_at slot = omega arith in
+      record {
     header = (
-      is.right,
-      ap (λ (p : ℕ). range p HEADER_BYTES image) (omega arith)
-          ∙ sym (range-range 0 HEADER_BYTES (slot_at slot) SLOT_BYTES image (omega arith))
-          ∙ ap (range 0 HEADER_BYTES) stands
-          ∙ is.header,
+      is.header.0,
+      ap (λ (p : ℕ). range p size image) (sym at)
+          ∙ sym (range-range 0 size (slot_at slot) SLOT_BYTES image (omega (arith, header_fits (header_of id kind segments) is.header.0)))
+          ∙ ap (range 0 size) stands
+          ∙ is.header.1,
     );
     bytes = stand_at 0 (slot_at slot) (data_at slot) segments cell image stands (omega arith) (omega (arith, few)) is.stored;
   }

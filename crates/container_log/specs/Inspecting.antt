@@ -52,17 +52,13 @@ id_damage slot ids id = if is_used ids id then Some (Cell (slot_at slot) (Field 
 abbrev pub header_damage : ℕ → List ℕ → MetaFault → Option Damage
 header_damage slot header fault = option_map (λ why. Cell (slot_at slot) why) (why_of header fault)
 
--- what a reader finds in the header of a slot, or its first fault
-abbrev pub header_in : List ℕ → Result HeaderValue MetaFault
-header_in bytes = header_at (range 0 HEADER_BYTES bytes)
-
 -- after right headers of these ids
 abbrev pub header_found : ℕ → List ℕ → List ℕ → Result HeaderValue MetaFault → Found
 header_found slot ids bytes (Ok h) = and_then (cell_with (id_damage slot ids h.id)) (copies_found slot h.entries bytes)
-header_found slot ids bytes (Err fault) = cell_with (header_damage slot (range 0 HEADER_BYTES bytes) fault)
+header_found slot ids bytes (Err fault) = cell_with (header_damage slot bytes fault)
 
 unfoldable pub slot_found : ℕ → List ℕ → List ℕ → Found
-slot_found slot ids bytes = header_found slot ids bytes (header_in bytes)
+slot_found slot ids bytes = header_found slot ids bytes (header_at bytes)
 
 -- the ids of right headers, with those of one slot more
 abbrev pub ids_with : List ℕ → Result HeaderValue MetaFault → List ℕ
@@ -86,5 +82,5 @@ slots_found zero slot ids image = nothing
 slots_found (suc left) slot ids image =
     let bytes = slot_bytes slot image in
     if byte_at (slot_at slot) image == CONTAINER_GATE then
-    and_then (slot_found slot ids bytes) (slots_found left (suc slot) (ids_with ids (header_in bytes)) image)
+    and_then (slot_found slot ids bytes) (slots_found left (suc slot) (ids_with ids (header_at bytes)) image)
     else slots_found left (suc slot) ids image

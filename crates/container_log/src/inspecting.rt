@@ -3,6 +3,7 @@ ghost use Rattle.std.specs.Prelude.{◌≡◌, ◌+◌, ◌-◌, ◌≤◌, List
 ghost use Rattle.std.specs.Option.{option_to_list};
 ghost use Rattle.base_model.specs.Bytes.{byte_at};
 ghost use Rattle.sha2.specs.Sha256.{sha256};
+ghost use Rattle.container_meta.specs.Reading.{ReachEnd, header_at};
 ghost use Rattle.container_meta.specs.Spelling.{HeaderValue, IsHeader};
 ghost use Rattle.dd_disk.specs.Ending.{ending, Reads};
 ghost use Rattle.dd_disk.specs.Shows.{Shows};
@@ -19,7 +20,6 @@ ghost use Rattle.container_log.specs.Inspecting.{
   is_used as is_used_among,
   id_damage as damage_of_id,
   header_damage as damage_of_header,
-  header_in,
   ids_with,
   slot_found,
   ReadsSlot,
@@ -101,7 +101,7 @@ fn id_damage(slot: u32, ids: &[u64], id: u64) -> Option<Damage>
 
 // How a header breaks the format by itself.
 fn header_damage(slot: u32, header: &[u8], fault: MetaFault) -> Option<Damage>
-    requires { length header.now ≡ HEADER_BYTES }
+    requires { ReachEnd header.now }
     ensures { result ≡ damage_of_header slot header.now fault }
 {
     match why_of(header, fault) {
@@ -126,22 +126,21 @@ fn inspect_bytes<K: Sink, S: SpellsDamage>(
 ) -> Result<Option<u64>, Halt>
     requires length { length bytes.now ≡ SLOT_BYTES }
     requires room { MOST_ENTRIES ≤ vec_capacity entries.old }
-    ensures id { IfOk result (λ id. ids_with ids.now (header_in bytes.now) ≡ ids.now ++ option_to_list id) }
+    ensures id { IfOk result (λ id. ids_with ids.now (header_at bytes.now) ≡ ids.now ++ option_to_list id) }
     ensures done { OnOk result (Reports S.line (slot_found slot ids.now bytes.now) (K.view sink.old) (K.view sink.new)
         tally.old tally.new) }
     ensures halt { IfErr result (λ halt. (halt ≡ Untaken)
         × Stops S.line (slot_found slot ids.now bytes.now) (K.view sink.old) (K.view sink.new) halt) }
     ensures room { vec_capacity entries.old ≤ vec_capacity entries.new }
 {
-    let header = part(bytes, 0, HEADER_BYTES as usize);
-    match decode_into(header, entries) {
+    match decode_into(bytes, entries) {
         Ok(right) => {
             add_cell::<K, S>(sink, tally, &id_damage(slot, ids, right.id))?;
             inspect_copies::<K, S>(sink, tally, slot, entries, bytes)?;
             Ok(Some(right.id))
         }
         Err(fault) => {
-            add_cell::<K, S>(sink, tally, &header_damage(slot, header, fault))?;
+            add_cell::<K, S>(sink, tally, &header_damage(slot, bytes, fault))?;
             Ok(None)
         }
     }

@@ -11,6 +11,6 @@ mod writing;
 
 pub use fault::LogFault;
 pub use inspecting::inspect_slots;
-pub use reading::{Spot, read_meta, read_meta_into, read_segment};
+pub use reading::{Spot, read_meta, read_segment};
 pub use slot::read_slot;
 pub use writing::{free, seal};

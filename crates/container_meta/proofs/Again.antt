@@ -1,5 +1,5 @@
 -- What is spelled is read again.
-use Rattle.container_meta.proofs.Prelude.{◌≡◌, ℕ, zero, suc, ◌+◌, ◌-◌, ◌*◌, ◌^◌, ◌≤◌, true, false, List, [], ◌∷◌, ◌++◌, length, Some, Ok, refl, sym, ap, ◌∙◌, arith, append_assoc, length-append, eq-eqb, ◌==◌, nat_le, is_some, unwrap_or, w32, w64, le-leb, leb-true, append-nil, sum_by-append, bytes_eq-Decides, sha256, byte_at, checked, passes, AllHold, both, both_true, range-range, range-first, range-second, range-whole, CONTAINER_GATE, DATA_BYTES, MOST_ENTRIES, Kind, Leaf, Entry, magic, kind_of, is_id, is_count, is_length, is_level, entry_place, HeaderValue, IsNext, Follow, IsHeader, IsSpelled, MetaFault, Result, bytes_of, has_digest, header_size, header_spelling, subst, to_be_bytes, w16, next_read, opening_checks, digest_checks, field_checks, entry_checks, count_at, count_in, ReachEnd, kind_at, digest_at, entry_at, is_end, zeros_in_front}
+use Rattle.container_meta.proofs.Prelude.{◌≡◌, ℕ, zero, suc, ◌+◌, ◌-◌, ◌*◌, ◌^◌, ◌≤◌, true, false, List, [], ◌∷◌, ◌++◌, length, Some, Ok, refl, sym, ap, ◌∙◌, arith, append_assoc, length-append, eq-eqb, ◌==◌, nat_le, is_some, unwrap_or, w32, w64, le-leb, leb-true, append-nil, sum_by-append, bytes_eq, bytes_eq-Decides, sha256, byte_at, checked, passes, AllHold, both, both_true, range-range, range-first, range-second, range-whole, CONTAINER_GATE, DATA_BYTES, HEADER_BYTES, MOST_ENTRIES, Kind, Leaf, Entry, magic, kind_of, is_id, is_count, is_length, is_level, entry_place, HeaderValue, IsNext, Err, Follow, IsHeader, IsSpelled, MetaFault, Result, bytes_of, has_digest, header_size, header_spelling, subst, to_be_bytes, w16, next_read, opening_checks, digest_checks, field_checks, entry_checks, count_at, count_in, ReachEnd, kind_at, digest_at, entry_at, is_end, zeros_in_front}
 use Rattle.std.proofs.Common.{Bool, Option}
 use Rattle.std.specs.Prelude.{IfOk, if◌then◌else◌}
 use Rattle.std.specs.Int.{from_be_bytes}
@@ -7,11 +7,12 @@ use Rattle.base_model.proofs.Ranges.{byte-range}
 use Rattle.std.proofs.Math.Dec.{eqb-suc-zero}
 use Rattle.base_model.specs.Bytes.{range, zeros}
 use Rattle.base_model.specs.Numbers.{number_at, seven_at}
-use Rattle.base_model.proofs.Checks.{checked_all, then_step, not_false}
+use Rattle.base_model.proofs.Checks.{checked_all, checked_ok, then_step, not_false}
 use Rattle.base_model.proofs.Numbers.{number_2, number_4, number_8}
 use Rattle.container_meta.specs.Format.{is_data_length}
 use Rattle.container_meta.specs.Spelling.{entry_spelling, entries_spelling, fields_spelling}
-use Rattle.container_meta.specs.Reading.{zeros_end, entries_at, header_at}
+use Rattle.container_meta.specs.Reading.{field, zeros_end, entries_at, header_at}
+use Rattle.container_meta.specs.declared.fault.MetaFault.TheVariants.{Gate, Magic}
 use Rattle.container_meta.proofs.Lists.{zeros_in_front-zeros}
 use Rattle.container_meta.proofs.Spelled.{entries_spelling-cons, bytes_of-push}
 use Rattle.container_meta.proofs.Numbers.{length-entry_spelling, entry_again}
@@ -100,6 +101,10 @@ zeros_end_of from count place bytes e h =
 pub small_count : (n : ℕ) → is_count n ≡ true → n ≤ MOST_ENTRIES
 small_count n h = leb-true n MOST_ENTRIES (both (nat_le 1 n) (nat_le n MOST_ENTRIES) h).1
 
+-- a header ends before its data
+pub header_fits : (h : HeaderValue) → IsHeader h → header_size h ≤ HEADER_BYTES
+header_fits h allowed = omega (arith, small_count (length h.entries) allowed.count)
+
 small_id : (n : ℕ) → is_id n ≡ true → n ≤ 2 ^ 64 - 2
 small_id n h = leb-true n (2 ^ 64 - 2) (both (nat_le 1 n) (nat_le n (2 ^ 64 - 2)) h).1
 
@@ -146,17 +151,42 @@ part_of_both at n a b within same =
     let from : 0 + at ≡ at = omega arith in
     ap (λ (k : ℕ). range k n a) (sym from) ∙ sym (range-range at n 0 24 a within) ∙ ap (range at n) same ∙ range-range at n 0 24 b within ∙ ap (λ (k : ℕ). range k n b) from
 
+-- the count of entries goes by the gate, the magic and the count
+abbrev counted_by : ℕ → List ℕ → ℕ → Result ℕ MetaFault
+counted_by gate name count =
+    checked (
+      record { holds = gate == CONTAINER_GATE; fault = Gate gate } ∷ record { holds = bytes_eq name magic; fault = Magic }
+      ∷ field 18 count (is_count count) ∷ []
+    )
+    count
+
+pub same_count_in : (a b : List ℕ) → range 0 24 a ≡ range 0 24 b → count_in a ≡ count_in b
+same_count_in a b same =
+    let gate : byte_at 0 a ≡ byte_at 0 b = sym (byte-range 0 0 24 a (omega arith)) ∙ ap (byte_at 0) same ∙ byte-range 0 0 24 b (omega arith) in
+    ap (λ (g : ℕ). counted_by g (range 1 7 a) (count_at a)) gate
+    ∙ ap (λ (n : List ℕ). counted_by (byte_at 0 b) n (count_at a)) (part_of_both 1 7 a b (omega arith) same)
+    ∙ ap (counted_by (byte_at 0 b) (range 1 7 b)) (same_count a b (part_of_both 18 2 a b (omega arith) same))
+
 -- bytes that begin as a header does have its count of entries
 pub counted : (h : HeaderValue) (bytes : List ℕ) → IsHeader h → range 0 24 bytes ≡ range 0 24 (header_spelling h) → count_in bytes ≡ Ok (length h.entries)
 counted h bytes allowed begun =
     let spelling : List ℕ = header_spelling h in
     let p = parts_of_spelling h spelling allowed.entries (range-whole (header_size h) spelling (length-header_spelling h allowed)) in
     let f = fields_read h spelling allowed p in
-    let gate : byte_at 0 bytes ≡ CONTAINER_GATE = sym (byte-range 0 0 24 bytes (omega arith)) ∙ ap (byte_at 0) begun ∙ byte-range 0 0 24 spelling (omega arith) ∙ p.gate in
-    let count : count_at bytes ≡ length h.entries = same_count bytes spelling (part_of_both 18 2 bytes spelling (omega arith) begun) ∙ f.count_is in
-    let opening : AllHold (opening_checks bytes) =
-    (eq-eqb (byte_at 0 bytes) CONTAINER_GATE gate, ((bytes_eq-Decides (range 1 7 bytes) magic).1 (part_of_both 1 7 bytes spelling (omega arith) begun ∙ f.name), (ap is_count count ∙ allowed.count, tt))) in
-    checked_all (opening_checks bytes) (count_at bytes) opening ∙ ap (λ (n : ℕ). (let r : Result ℕ MetaFault = Ok n in r)) count
+    let opening : AllHold (opening_checks spelling) =
+    (eq-eqb (byte_at 0 spelling) CONTAINER_GATE p.gate, ((bytes_eq-Decides (range 1 7 spelling) magic).1 f.name, (ap is_count f.count_is ∙ allowed.count, tt))) in
+    same_count_in bytes spelling begun ∙ checked_all (opening_checks spelling) (count_at spelling) opening
+    ∙ ap (λ (n : ℕ). (let r : Result ℕ MetaFault = Ok n in r)) f.count_is
+
+-- all bytes before the data reach to the end of any header
+pub reach_all : (bytes : List ℕ) → HEADER_BYTES ≤ length bytes → ReachEnd bytes
+reach_all bytes long = (omega (arith, long), reach (count_in bytes) refl)
+  where
+    reach : (r : Result ℕ MetaFault) → count_in bytes ≡ r → IfOk r (λ n. entry_place n ≤ length bytes)
+    reach (Ok n) is =
+        let held = checked_ok (opening_checks bytes) (count_at bytes) n is in
+        omega (arith, long, small_count (count_at bytes) held.0.1.1.0, held.1)
+    reach (Err e) is = tt
 
 -- a header that stands at a place is read from bytes that stand there, if they reach to its end
 pub spelled_in : (h : HeaderValue) (bytes image : List ℕ) (at : ℕ) → ReachEnd bytes → range at (length bytes) image ≡ bytes → IsHeader h →

@@ -1,5 +1,5 @@
 -- The one spelling of each header and of each container.
-use Rattle.std.specs.Prelude.{◌≡◌, ℕ, ◌*◌, ◌-◌, List, [], ◌∷◌, ◌++◌, length, sum_by, Bool, true, false, Some}
+use Rattle.std.specs.Prelude.{◌≡◌, ℕ, ◌*◌, ◌-◌, List, [], ◌∷◌, ◌++◌, length, sum_by, Bool, true, false, Option, Some, option_map}
 use Rattle.base_model.specs.Bytes.{range, zeros}
 use Rattle.std.specs.List.{flat_map, list_any}
 use Rattle.std.specs.Str.{bytes_eq}
@@ -23,6 +23,10 @@ pub record HeaderValue : Type 0 where
 -- a header without entries, with these
 abbrev pub with_entries : Header → List Entry → HeaderValue
 with_entries h entries = record { id = h.id; kind = h.kind; data_length = h.data_length; entries = entries }
+
+-- what a slot holds, if it is open: a header without entries, with these
+abbrev pub held_with : Option Header → List Entry → Option HeaderValue
+held_with held entries = option_map (λ h. with_entries h entries) held
 
 abbrev pub view : Meta → HeaderValue
 view m = record { id = m.id; kind = m.kind; data_length = m.data_length; entries = m.entries.items }

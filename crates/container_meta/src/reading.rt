@@ -4,6 +4,7 @@ ghost use Rattle.std.specs.Prelude.{◌≡◌, ℕ, ◌+◌, ◌*◌, ◌-◌, �
 ghost use Rattle.std.specs.Int.{w32};
 ghost use Rattle.base_model.specs.Checks.{checked, passes};
 ghost use Rattle.container_meta.specs.Format.{entry_place};
+ghost use Rattle.disk_format.specs.declared.numbers.TheConstants.{HEADER_BYTES};
 ghost use Rattle.base_model.specs.Bytes.{range};
 ghost use Rattle.base_model.specs.Numbers.{number_at};
 ghost use Rattle.container_meta.specs.declared.fault.MetaFault.TheVariants.{Field};
@@ -69,7 +70,8 @@ fn checked_count(bytes: &[u8]) -> Result<u16, MetaFault>
 /// magic and the count of entries are right. Of others no more than 512 are looked at.
 pub fn header_end(bytes: &[u8]) -> usize
     requires { entry_place 0 ≤ length bytes.now }
-    ensures { result ≡ end_of (count_in bytes.now) }
+    ensures end { result ≡ end_of (count_in bytes.now) }
+    ensures before_data { result ≤ HEADER_BYTES }
 {
     match checked_count(bytes) {
         Ok(count) => 512 + 48 * usize::from(count),

@@ -1,5 +1,7 @@
 -- What an image keeps of a store where parts of it are as they were.
 use Rattle.store_model.proofs.Prelude.{◌≡◌, inl, inr, ℕ, ◌+◌, ◌-◌, ◌<◌, ◌≤◌, Bool, List, [], ◌∷◌, ◌++◌, length, Option, Some, None, sym, ◌∙◌, ap, arith, AllByRecursion, sum_by-append, sum_by-cons, sha256, range, byte_at, FIRST_SLOT, SLOT_BYTES, RecordValue, SelectorValue, slot_at, data_at, selector_at, cell_at, half_cells, Entry, Kind, HeaderValue, IsHeader, bytes_of, HoldsSelector, IsOlder, KnowsOther, StandFrom, HoldsSlot, HoldSlots, AreHeaders, Copy, newest, HasFormat, AreCopies, bytes_at}
+use Rattle.container_meta.specs.Spelling.{header_size}
+use Rattle.container_meta.proofs.Again.{header_fits}
 use Rattle.base_model.proofs.ByteAt.{byte_of_range}
 use Rattle.disk_format.specs.declared.numbers.TheConstants.{FIRST_HALF}
 use Rattle.container_meta.specs.Spelling.{Follow}
@@ -81,7 +83,7 @@ module _ (slot : ℕ) (old new : List ℕ) (same : SameSlot slot old new) where
   -- what it holds
   pub slot_kept : (held : Option HeaderValue) → HoldsSlot old slot held → HoldsSlot new slot held
   slot_kept None closed = λ opened. closed (sym (byte_of_range (slot_at slot) old new (same (slot_at slot) 1 (omega arith) (omega arith))) ∙ opened)
-  slot_kept (Some h) holds = (holds.0, same (slot_at slot) 49664 (omega arith) (omega arith) ∙ holds.1)
+  slot_kept (Some h) holds = (holds.0, same (slot_at slot) (header_size h) (omega arith) (omega (arith, header_fits h holds.0)) ∙ holds.1)
 
   -- the bytes of a segment
   pub place_kept : (offset n : ℕ) → offset + n ≤ 212480 → range (data_at slot + offset) n new ≡ range (data_at slot + offset) n old

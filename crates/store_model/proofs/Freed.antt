@@ -1,5 +1,6 @@
 -- Slots once one of them is closed, and the image whose gate was cleared.
 use Rattle.store_model.proofs.Prelude.{◌≡◌, ◌≢◌, ◌⊎◌, inl, inr, ℕ, zero, suc, ◌+◌, ◌<◌, ◌≤◌, List, [], ◌∷◌, ◌++◌, length, get_or, Option, Some, None, refl, sym, ◌∙◌, ap, subst, arith, slice_get, range, byte_at, SameOutside, byte-range, FIRST_SLOT, SLOT_BYTES, slot_at, HeaderValue, with_freed, HasNoGate, SameButGates, IsPartlyFreed, Store, Encodes, IsValidFor, HoldsSlot, HoldSlots, AreHeaders, IsUnusedId, DifferentIds, free_slots, ids_of, without_slot, HasJournal}
+use Rattle.container_meta.specs.Spelling.{header_size}
 use Rattle.std.proofs.Common.{slice_set}
 use Rattle.std.proofs.lemmas.List.{ext_get_or}
 use Rattle.base_model.proofs.Frames.{byte_before, byte_after}
@@ -171,7 +172,7 @@ unfreed_same slot h old new same before after =
     by_place i (inl below) = byte_before i (slot_at slot) 1 old new below same
     by_place i (inr (inl above)) = byte_after i (slot_at slot) 1 old new above same
     by_place i (inr (inr here)) =
-        subst (λ (k : ℕ). byte_at k new ≡ byte_at k old) (sym here) (first_is (slot_at slot) 49664 old new (omega arith) (after.1 ∙ sym before.1))
+        subst (λ (k : ℕ). byte_at k new ≡ byte_at k old) (sym here) (first_is (slot_at slot) (header_size h) old new (omega arith) (after.1 ∙ sym before.1))
 
 -- ---- gates of some slots
 

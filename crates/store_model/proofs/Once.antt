@@ -2,7 +2,8 @@
 use Rattle.store_model.proofs.Prelude.{◌≡◌, ◌≢◌, inl, inr, ℕ, suc, ◌+◌, ◌-◌, ◌<◌, ◌≤◌, Bool, true, false, IsTrue, List, [], ◌∷◌, length, Option, Some, None, refl, sym, ◌∙◌, ap, subst, arith, eqb_tells, range, byte_at, byte-range, RECORD_GATE, SELECTOR_GATE, slot_at, selector_at, cell_at, half_cells, RecordValue, SelectorValue, HeaderValue, NameMap, names_with, HoldsSelector, IsOlder, KnowsOther, StandFrom, HoldsSlot, HoldSlots, Store, Encodes}
 use Rattle.std.specs.FinMap as finite
 use Rattle.store_model.specs.Journal.{Follow, HoldsRecords}
-use Rattle.store_model.proofs.Spellings.{same_format, same_selector, gate_of_selector, same_record, gate_of_record, same_header, gate_of_header}
+use Rattle.container_meta.specs.Spelling.{header_size}
+use Rattle.store_model.proofs.Spellings.{same_format, same_selector, gate_of_selector, same_record, gate_of_record, same_header_at, gate_of_header}
 
 no_truth : IsTrue false → ⊥
 no_truth is = cc
@@ -16,9 +17,9 @@ first_byte at count part image some is =
 
 pub slot_once : (slot : ℕ) (a b : Option HeaderValue) (image : List ℕ) → HoldsSlot image slot a → HoldsSlot image slot b → a ≡ b
 slot_once slot None None image one other = refl
-slot_once slot None (Some h) image one other = absurd (one (first_byte (slot_at slot) 49664 _ image (omega arith) other.1 ∙ gate_of_header h))
-slot_once slot (Some h) None image one other = absurd (other (first_byte (slot_at slot) 49664 _ image (omega arith) one.1 ∙ gate_of_header h))
-slot_once slot (Some h) (Some g) image one other = ap Some (same_header h g one.0 other.0 (sym one.1 ∙ other.1))
+slot_once slot None (Some h) image one other = absurd (one (first_byte (slot_at slot) (header_size h) _ image (omega arith) other.1 ∙ gate_of_header h))
+slot_once slot (Some h) None image one other = absurd (other (first_byte (slot_at slot) (header_size h) _ image (omega arith) one.1 ∙ gate_of_header h))
+slot_once slot (Some h) (Some g) image one other = ap Some (same_header_at h g (slot_at slot) image one.0 other.0 one.1 other.1)
 
 pub slots_once : (slot : ℕ) (cs ds : List (Option HeaderValue)) (image : List ℕ) → length cs ≡ length ds → HoldSlots slot cs image → HoldSlots slot ds image → cs ≡ ds
 slots_once slot [] [] image many one other = refl

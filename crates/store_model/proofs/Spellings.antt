@@ -1,18 +1,18 @@
 -- No two values have one spelling.
-use Rattle.store_model.proofs.Prelude.{◌≡◌, ℕ, ◌-◌, ◌^◌, ◌<◌, ◌≤◌, true, List, [], ◌∷◌, ◌++◌, length, take, get_or, Some, refl, sym, ◌∙◌, ap, subst, arith, append_assoc, length-append, nat_le, leb-true, sha256, byte_at, SELECTOR_GATE, RECORD_GATE, CONTAINER_GATE, MOST_FILE, selector_cell, Root, Change, RecordValue, IsRecord, IsChange, SelectorValue, Entry, Kind, kind_byte, HeaderValue, IsHeader}
+use Rattle.store_model.proofs.Prelude.{◌≡◌, ℕ, ◌+◌, ◌-◌, ◌^◌, ◌<◌, ◌≤◌, true, List, [], ◌∷◌, ◌++◌, length, take, get_or, Some, refl, sym, ◌∙◌, ap, subst, arith, append_assoc, length-append, nat_le, leb-true, sha256, byte_at, SELECTOR_GATE, RECORD_GATE, CONTAINER_GATE, MOST_FILE, selector_cell, Root, Change, RecordValue, IsRecord, IsChange, SelectorValue, Entry, Kind, kind_byte, HeaderValue, IsHeader}
 use Rattle.std.proofs.Common.{◌*◌, drop}
 use Rattle.std.specs.Int.{w16, w32, w64, to_be_bytes, from_be_bytes}
 use Rattle.std.proofs.lemmas.List.Concat.{flat_map-cons}
 use Rattle.std.proofs.lemmas.Nat.{from_be_bytes-to_be_bytes_2, from_be_bytes-to_be_bytes_4, from_be_bytes-to_be_bytes_8}
 use Rattle.sha2.proofs.Facts256.{length-sha256}
-use Rattle.base_model.specs.Bytes.{zeros}
+use Rattle.base_model.specs.Bytes.{range, zeros}
 use Rattle.base_model.proofs.Checks.{both}
-use Rattle.base_model.proofs.Ranges.{length-zeros}
+use Rattle.base_model.proofs.Ranges.{length-zeros, range-range}
 use Rattle.disk_format.specs.declared.numbers.TheConstants.{FORMAT_GATE}
 use Rattle.disk_format.specs.Cells.{sealed, format_fields, format_cell, selector_fields, operation_of, root_in, record_front, record_fields, record_cell, IsSelector}
 use Rattle.disk_format.specs.Cells.Change.{Put, Delete}
-use Rattle.container_meta.specs.Format.{is_id, is_count, is_data_length, kind_of}
-use Rattle.container_meta.specs.Spelling.{Follow, IsNext, entry_spelling, entries_spelling, fields_spelling, front_spelling, header_spelling}
+use Rattle.container_meta.specs.Format.{entry_place, is_id, is_count, is_data_length, kind_of}
+use Rattle.container_meta.specs.Spelling.{Follow, IsNext, entry_spelling, entries_spelling, fields_spelling, front_spelling, header_size, header_spelling}
 use Rattle.store_model.proofs.Copies.{length_within}
 
 -- ---- lists and numbers
@@ -199,21 +199,21 @@ same_entry kind before a b next also same =
         → (let x : Entry = record { digest = d; offset = k; length = m; level = i } in x) ≡ record { digest = e; offset = l; length = n; level = j }
     by_fields d e k l m n i j p q r s = cc
 
-entries_first : (e : Entry) (es : List Entry) (rest : List ℕ) → entries_spelling (e ∷ es) ++ rest ≡ entry_spelling e ++ (entries_spelling es ++ rest)
+entries_first : (e : Entry) (es : List Entry) → entries_spelling (e ∷ es) ≡ entry_spelling e ++ entries_spelling es
 unfolding entries_spelling
-entries_first e es rest = ap (λ (l : List ℕ). l ++ rest) (flat_map-cons entry_spelling e es) ∙ append_assoc (entry_spelling e) (entries_spelling es) rest
+entries_first e es = flat_map-cons entry_spelling e es
 
-same_entries : (kind : Kind) (before es fs : List Entry) (rest end : List ℕ) → length es ≡ length fs → Follow kind before es → Follow kind before fs →
-    entries_spelling es ++ rest ≡ entries_spelling fs ++ end → es ≡ fs
-same_entries kind before [] [] rest end many follow also same = refl
-same_entries kind before [] (b ∷ fs) rest end many follow also same = absurd (omega (arith, many))
-same_entries kind before (a ∷ es) [] rest end many follow also same = absurd (omega (arith, many))
-same_entries kind before (a ∷ es) (b ∷ fs) rest end many follow also same =
-    let parts = same_parts (entry_spelling a) (entry_spelling b) (entries_spelling es ++ rest) (entries_spelling fs ++ end)
-    (length_entry a follow.0.digest ∙ sym (length_entry b also.0.digest)) (sym (entries_first a es rest) ∙ same ∙ entries_first b fs end) in
+same_entries : (kind : Kind) (before es fs : List Entry) → length es ≡ length fs → Follow kind before es → Follow kind before fs →
+    entries_spelling es ≡ entries_spelling fs → es ≡ fs
+same_entries kind before [] [] many follow also same = refl
+same_entries kind before [] (b ∷ fs) many follow also same = absurd (omega (arith, many))
+same_entries kind before (a ∷ es) [] many follow also same = absurd (omega (arith, many))
+same_entries kind before (a ∷ es) (b ∷ fs) many follow also same =
+    let parts = same_parts (entry_spelling a) (entry_spelling b) (entries_spelling es) (entries_spelling fs)
+    (length_entry a follow.0.digest ∙ sym (length_entry b also.0.digest)) (sym (entries_first a es) ∙ same ∙ entries_first b fs) in
     let first : a ≡ b = same_entry kind before a b follow.0 also.0 parts.0 in
     let theirs : Follow kind (before ++ a ∷ []) fs = subst (λ (x : Entry). Follow kind (before ++ x ∷ []) fs) (sym first) also.1 in
-    ap (λ (x : Entry). x ∷ es) first ∙ ap (λ (xs : List Entry). b ∷ xs) (same_entries kind (before ++ a ∷ []) es fs rest end (omega (arith, many)) follow.1 theirs parts.1)
+    ap (λ (x : Entry). x ∷ es) first ∙ ap (λ (xs : List Entry). b ∷ xs) (same_entries kind (before ++ a ∷ []) es fs (omega (arith, many)) follow.1 theirs parts.1)
 
 id_small : (id : ℕ) → is_id id ≡ true → id < 2 ^ 64
 id_small id is = let most = leb-true id (2 ^ 64 - 2) (both (nat_le 1 id) (nat_le id (2 ^ 64 - 2)) is).1 in omega (arith, most)
@@ -258,10 +258,7 @@ module _ (h : HeaderValue) where
   unfolding front_spelling
   gate_of_header = refl
 
-  front_first : header_spelling h ≡ front ++ (entries_spelling h.entries ++ zeros (49152 - 48 * length h.entries))
-  front_first = append_assoc front (entries_spelling h.entries) (zeros (49152 - 48 * length h.entries))
-
-pub same_header : (a b : HeaderValue) → IsHeader a → IsHeader b → header_spelling a ≡ header_spelling b → a ≡ b
+same_header : (a b : HeaderValue) → IsHeader a → IsHeader b → header_spelling a ≡ header_spelling b → a ≡ b
 same_header a b right also same =
     let id = same_8 a.id b.id (id_small a.id right.id) (id_small b.id also.id) (sym (id_spelled a) ∙ ap (λ (l : List ℕ). take 8 (drop 8 l)) same ∙ id_spelled b) in
     let kind = same_kind a.kind b.kind right.kind also.kind (sym (kind_spelled a) ∙ ap (λ (l : List ℕ). get_or l 16 0) same ∙ kind_spelled b) in
@@ -269,13 +266,26 @@ same_header a b right also same =
     (sym (entries_spelled a) ∙ ap (λ (l : List ℕ). take 2 (drop 18 l)) same ∙ entries_spelled b) in
     let size = same_4 a.data_length b.data_length (data_few a.data_length right.data_length) (data_few b.data_length also.data_length)
     (sym (data_spelled a) ∙ ap (λ (l : List ℕ). take 4 (drop 20 l)) same ∙ data_spelled b) in
-    let parts = same_parts (front a) (front b) (entries_spelling a.entries ++ zeros (49152 - 48 * length a.entries))
-    (entries_spelling b.entries ++ zeros (49152 - 48 * length b.entries))
-    (length_front a ∙ sym (length_front b)) (sym (front_first a) ∙ same ∙ front_first b) in
+    let parts = same_parts (front a) (front b) (entries_spelling a.entries) (entries_spelling b.entries) (length_front a ∙ sym (length_front b)) same in
     let theirs : Follow a.kind [] b.entries = subst (λ (k : Kind). Follow k [] b.entries) (sym kind) also.entries in
-    let entries = same_entries a.kind [] a.entries b.entries (zeros (49152 - 48 * length a.entries)) (zeros (49152 - 48 * length b.entries)) many right.entries theirs parts.1 in
+    let entries = same_entries a.kind [] a.entries b.entries many right.entries theirs parts.1 in
     by_fields a.id b.id a.kind b.kind a.data_length b.data_length a.entries b.entries id kind size entries
   where
     by_fields : (k l : ℕ) (c d : Kind) (m n : ℕ) (e f : List Entry) → k ≡ l → c ≡ d → m ≡ n → e ≡ f
         → (let x : HeaderValue = record { id = k; kind = c; data_length = m; entries = e } in x) ≡ record { id = l; kind = d; data_length = n; entries = f }
     by_fields k l c d m n e f p q r s = cc
+
+entries_counted : (h : HeaderValue) → range 18 2 (header_spelling h) ≡ to_be_bytes w16 (length h.entries)
+unfolding range
+entries_counted h = entries_spelled h
+
+count_at_slot : (h : HeaderValue) (at : ℕ) (image : List ℕ) → range at (header_size h) image ≡ header_spelling h → range (at + 18) 2 image ≡ to_be_bytes w16 (length h.entries)
+count_at_slot h at image is = sym (range-range 18 2 at (header_size h) image (omega arith)) ∙ ap (range 18 2) is ∙ entries_counted h
+
+-- a place has one header: where it ends goes by the count that it says
+pub same_header_at : (a b : HeaderValue) (at : ℕ) (image : List ℕ) → IsHeader a → IsHeader b → range at (header_size a) image ≡ header_spelling a →
+    range at (header_size b) image ≡ header_spelling b → a ≡ b
+same_header_at a b at image right also is other =
+    let many = same_2 (length a.entries) (length b.entries) (count_few (length a.entries) right.count) (count_few (length b.entries) also.count)
+    (sym (count_at_slot a at image is) ∙ count_at_slot b at image other) in
+    same_header a b right also (sym is ∙ ap (λ (n : ℕ). range at (entry_place n) image) many ∙ other)

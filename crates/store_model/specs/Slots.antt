@@ -7,16 +7,16 @@ use Rattle.container_meta.specs.declared.entry.Entry.{Entry}
 use Rattle.container_meta.specs.declared.kind.Kind.{Kind}
 use Rattle.container_meta.specs.Segments.{Segment}
 use Rattle.container_meta.specs.Format.{kind_byte}
-use Rattle.container_meta.specs.Spelling.{HeaderValue, IsHeader, header_of, header_spelling}
-use Rattle.disk_format.specs.declared.numbers.TheConstants.{CONTAINER_GATE, HEADER_BYTES}
+use Rattle.container_meta.specs.Spelling.{HeaderValue, IsHeader, header_of, header_size, header_spelling}
+use Rattle.disk_format.specs.declared.numbers.TheConstants.{CONTAINER_GATE}
 use Rattle.disk_format.specs.Layout.{slot_at, data_at}
 use Rattle.container_meta.specs.declared.place.Place.{Place}
 use Rattle.container_meta.specs.Places.{PlaceMap}
 
--- a slot is closed, or has a right header
+-- a slot is closed, or has a right header; what stands between that and its data is free
 abbrev pub HoldsSlot : List ℕ → ℕ → Option HeaderValue → Type 0
 HoldsSlot image slot None = byte_at (slot_at slot) image ≢ CONTAINER_GATE
-HoldsSlot image slot (Some h) = IsHeader h × (range (slot_at slot) HEADER_BYTES image ≡ header_spelling h)
+HoldsSlot image slot (Some h) = IsHeader h × (range (slot_at slot) (header_size h) image ≡ header_spelling h)
 
 -- segments stand one after the other, from a byte of the image on
 abbrev pub StandAt : ℕ → List Segment → List ℕ → Type 0

@@ -18,14 +18,14 @@ returns-in_err-write_container-clause-writes g c =
     passed (λ x. Writes (Seals c.args.slot c.args.id filled.kind filled.segments) (IsSealed c.args.slot c.args.id filled.kind filled.segments) x old new) blames
     c.from_residual.result e c.from_residual.ensures.1
     (writes_sealed c.args.slot c.args.id _ _ c.encode-digest.new.image (ending_of (blames e)) _ _ c.requires.place
-    (record { size = size; right = c.encode-digest.ensures.header; header = c.encode-digest.ensures.front; stored = c.encode-digest.ensures.stored })
+    (record { size = size; header = c.encode-digest.ensures.header; stored = c.encode-digest.ensures.stored })
     c.in_err-write_container.ensures.writes)
 
 pub returns-clause-writes : goal.returns-clause-writes
 returns-clause-writes g c =
     let size : length c.encode-digest.new.image ≡ SLOT_BYTES = omega arith in
     writes_sealed c.args.slot c.args.id _ _ c.encode-digest.new.image Done _ _ c.requires.place
-    (record { size = size; right = c.encode-digest.ensures.header; header = c.encode-digest.ensures.front; stored = c.encode-digest.ensures.stored })
+    (record { size = size; header = c.encode-digest.ensures.header; stored = c.encode-digest.ensures.stored })
     c.in_ok-write_container.ensures.writes
 
 pub returns-clause-whole : goal.returns-clause-whole

@@ -62,4 +62,3 @@ returns-clause-digest c =
 pub returns-clause-stored : goal.returns-clause-stored
 returns-clause-stored c = subst (λ (l : List ℕ). StandFrom 0 c.args.self.now.segments l) (sym (returns-clause-image c))
     (stand_in_spelling c.args.id c.args.self.now.kind c.args.self.now.segments (returns-clause-header c).0)
-

@@ -1,7 +1,8 @@
 -- Why a step of a collection is refused, of the whole call: by what reads returned since it began.
 use Rattle.backup_engine.proofs.Prelude.{◌≡◌, ◌≢◌, inl, inr, ◌+◌, ◌<◌, ◌≤◌, ℕ, zero, suc, List, [], ◌∷◌, ◌++◌, drop, get_or, length, Option, None, Some, refl, sym, ◌∙◌, subst, arith, Contains, AllByRecursion, Contains-append_right, Contains-get_or, range, Known, Entry, Kind, PlaceMap, HeaderValue, Reads, Shows, DiskView, IsLater, Both, shown_content, SourceView, SinkView, LAST_ID, size_of, slot_at, IsScanFault, HasMarkedAll, Moment, Touches, HasStage, Stage, Mark, Filter, Select, SweepStage, Flush, Release, End, of_each, Refusal, Memory, DiskRead, DiskWrite, Corrupt, Numbers, Damaged, Refused, SameBefore, WereFound, HoldsSlot, IsIndexOf, bytes_at, FindsNames, Holds, IsCaused, IsUnmarked, IsUnwritten, ShownSince, ShownThere, Collect}
 use Rattle.std.proofs.lemmas.List.Sums.{sum_by-append, sum_by-cons}
-use Rattle.container_log.specs.Parts.{header_bytes}
+use Rattle.container_meta.specs.Spelling.{header_size}
+use Rattle.container_meta.proofs.Again.{header_fits}
 use Rattle.container_meta.specs.Segments.{Contents}
 use Rattle.container_meta.specs.Spelling.{Follow, IsHeader, bytes_of}
 use Rattle.copy_forward.specs.Copying.{IsCopyRefusal}
@@ -103,7 +104,11 @@ module _ (percent : ℕ) (v w : DiskView) (source : SourceView) (sink : SinkView
           (
             at_is,
             inl
-                (record { bytes = damage.bytes; first = damage.first; are_found = since_reads same (λ image. header_bytes slot image ≡ damage.bytes) damage.are_found }),
+                (record {
+                  bytes = damage.bytes;
+                  first = damage.first;
+                  are_found = since_reads same (λ image. range (slot_at slot) (length damage.bytes) image ≡ damage.bytes) damage.are_found;
+                }),
           ),
         ),
       )
@@ -170,17 +175,19 @@ module _ (percent : ℕ) (v w : DiskView) (source : SourceView) (sink : SinkView
         let was = both_from (SameBefore (slot_at slots)) old.disk.content new.content image (sym last.only.content_is ∙ told) moved in
         still was.0 image was.1.1 (shown_content old.disk new P was.0 shown was.1.0)) shown
 
-    since_header : (bytes : List ℕ) → Shows old.disk new (λ image. header_bytes slot image ≡ bytes) → ShownSince v w (λ image. header_bytes slot image ≡ bytes)
-    since_header bytes = since_before (λ image. header_bytes slot image ≡ bytes) (λ was image same is. same.before (slot_at slot) 49664 (omega (arith, below)) ∙ is)
+    since_header : (bytes : List ℕ) → length bytes ≤ 49664 → Shows old.disk new (λ image. range (slot_at slot) (length bytes) image ≡ bytes)
+        → ShownSince v w (λ image. range (slot_at slot) (length bytes) image ≡ bytes)
+    since_header bytes few = since_before (λ image. range (slot_at slot) (length bytes) image ≡ bytes) (λ was image same is. same.before (slot_at slot) (length bytes)
+        (omega (arith, below, few)) ∙ is)
 
     since_held : (h : HeaderValue) → Shows old.disk new (λ image. HoldsSlot image slot (Some h)) → ShownSince v w (λ image. HoldsSlot image slot (Some h))
-    since_held h = since_before (λ image. HoldsSlot image slot (Some h)) (λ was image same is. (is.0, same.before (slot_at slot) 49664 (omega (arith, below)) ∙ is.1))
+    since_held h = since_before (λ image. HoldsSlot image slot (Some h)) (λ was image same is. (is.0, same.before (slot_at slot) (header_size h) (omega (arith, below, header_fits h is.0)) ∙ is.1))
 
     source_header : Came → HasSome slot → (refusal : Refusal) → IsHeaderRefusal old.tables.held old.disk new slot refusal → IsCausedBy refusal
     source_header came some Memory cause = tt
     source_header came some DiskRead cause = tt
     source_header came some (Damaged at why) (at_is, inl damage) =
-        inr (holds, inl (slot, (at_is, inl (record { bytes = damage.bytes; first = damage.first; are_found = since_header damage.bytes damage.are_found }))))
+        inr (holds, inl (slot, (at_is, inl (record { bytes = damage.bytes; first = damage.first; are_found = since_header damage.bytes damage.first.within damage.are_found }))))
     source_header came some (Damaged at why) (at_is, inr other) =
         inr (holds, inl (slot, (at_is, inr (other_header holds.store old.tables.held v w old.disk new slot why came some since_held other))))
     source_header came some refusal cause = absurd cause

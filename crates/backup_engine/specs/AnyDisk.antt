@@ -2,12 +2,11 @@
 use Rattle.std.specs.Prelude.{◌≡◌, ◌≢◌, ◌⊎◌, ℕ, ◌+◌, ◌<◌, ◌≤◌, List, [], length, Contains, sum_by, is_some, slice_get, Option, None, Some, Err}
 use Rattle.std.specs.FinMap as finite
 use Rattle.std.specs.List.{AllByRecursion, concat}
-use Rattle.base_model.specs.Bytes.{byte_at}
+use Rattle.base_model.specs.Bytes.{byte_at, range}
 use Rattle.base_model.specs.Fault.{Rose}
 use Rattle.base_model.specs.Known.{Known, KnownWith, Appended}
 use Rattle.base_model.specs.Checks.{passes}
 use Rattle.container_log.specs.Faults.{IsDamage}
-use Rattle.container_log.specs.Parts.{header_bytes}
 use Rattle.disk_format.specs.declared.numbers.TheConstants.{FORMAT_GATE, LAST_ID, RESERVE}
 use Rattle.disk_format.specs.Layout.{IsSlotCount, size_of, slot_at}
 use Rattle.namespace.specs.Listing.{listing_of}
@@ -201,7 +200,7 @@ pub record HasOtherHeader (store : Store) (disk disk_now : DiskView) (slot : ℕ
 abbrev pub HasBadHeader : Store → DiskView → DiskView → Refusal → Type 0
 HasBadHeader store disk disk_now (Damaged at why) =
     (slot : ℕ) × ((at ≡ slot_at slot)
-    × (IsDamage (λ bytes. ShownSince disk disk_now (λ image. header_bytes slot image ≡ bytes)) why
+    × (IsDamage (λ bytes. ShownSince disk disk_now (λ image. range (slot_at slot) (length bytes) image ≡ bytes)) why
     ⊎ HasOtherHeader store disk disk_now slot why))
 HasBadHeader store disk disk_now refusal = ⊥
 

@@ -110,6 +110,7 @@ pub(crate) fn why_of(bytes: &[u8], fault: MetaFault) -> Option<Why>
 #[tactic(auto, using(crate::proofs::Differ::fault_differs, crate::proofs::Differ::fault_is_named))]
 pub(crate) fn header_into(at: u64, bytes: &[u8], entries: &mut Vec<Entry>) -> Result<Header, LogFault>
     requires length { ReachEnd bytes.now }
+    requires within { length bytes.now ≤ HEADER_BYTES }
     requires room { MOST_ENTRIES ≤ vec_capacity entries.old }
     ensures found { IfOk result (λ h. IsSpelled (with_entries h entries.new.items) bytes.now) }
     ensures digest { IfOk result (λ h. h.digest ≡ header_digest (with_entries h entries.new.items)) }
@@ -131,7 +132,8 @@ pub(crate) fn header_into(at: u64, bytes: &[u8], entries: &mut Vec<Entry>) -> Re
 // The header in bytes that stand at a byte of the disk.
 #[tactic(auto, using(crate::proofs::Differ::fault_differs))]
 fn header_in(alloc: Global, at: u64, bytes: &[u8]) -> Result<Meta, LogFault>
-    requires { ReachEnd bytes.now }
+    requires length { ReachEnd bytes.now }
+    requires within { length bytes.now ≤ HEADER_BYTES }
     ensures found { IfOk result (λ m. IsSpelled (view m) bytes.now) }
     ensures digest { IfOk result (λ m. m.digest ≡ header_digest (view m)) }
     ensures only { (h : HeaderValue) → IsSpelled h bytes.now → UnlessFailed fails (λ m. view m ≡ h) result }

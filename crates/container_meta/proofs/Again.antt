@@ -1,5 +1,5 @@
 -- What is spelled is read again.
-use Rattle.container_meta.proofs.Prelude.{◌≡◌, ℕ, zero, suc, ◌+◌, ◌-◌, ◌*◌, ◌^◌, ◌≤◌, true, false, List, [], ◌∷◌, ◌++◌, length, Some, Ok, refl, sym, ap, ◌∙◌, arith, append_assoc, length-append, eq-eqb, ◌==◌, nat_le, is_some, unwrap_or, w32, w64, le-leb, leb-true, append-nil, sum_by-append, bytes_eq, bytes_eq-Decides, sha256, byte_at, checked, passes, AllHold, both, both_true, range-range, range-first, range-second, range-whole, CONTAINER_GATE, DATA_BYTES, HEADER_BYTES, MOST_ENTRIES, Kind, Leaf, Entry, magic, kind_of, is_id, is_count, is_length, is_level, entry_place, HeaderValue, IsNext, Err, Follow, IsHeader, IsSpelled, MetaFault, Result, bytes_of, has_digest, header_size, header_spelling, subst, to_be_bytes, w16, next_read, opening_checks, digest_checks, field_checks, entry_checks, count_at, count_in, ReachEnd, kind_at, digest_at, entry_at, is_end, zeros_in_front}
+use Rattle.container_meta.proofs.Prelude.{◌≡◌, ℕ, zero, suc, ◌+◌, ◌-◌, ◌*◌, ◌^◌, ◌≤◌, true, false, List, [], ◌∷◌, ◌++◌, length, Some, Ok, refl, sym, ap, ◌∙◌, arith, append_assoc, length-append, eq-eqb, ◌==◌, nat_le, is_some, unwrap_or, w32, w64, le-leb, leb-true, append-nil, sum_by-append, bytes_eq, bytes_eq-Decides, sha256, byte_at, checked, passes, AllHold, both, both_true, range-range, range-first, range-second, range-whole, CONTAINER_GATE, DATA_BYTES, HEADER_BYTES, MOST_ENTRIES, Kind, Leaf, Entry, magic, kind_of, is_id, is_count, is_length, is_level, entry_place, HeaderValue, IsNext, Err, Follow, IsHeader, IsSpelled, MetaFault, Result, bytes_of, has_digest, header_size, header_spelling, subst, w16, next_read, opening_checks, digest_checks, field_checks, entry_checks, count_at, count_in, ReachEnd, kind_at, digest_at, entry_at, is_end, zeros_in_front}
 use Rattle.std.proofs.Common.{Bool, Option}
 use Rattle.std.specs.Prelude.{IfOk, if◌then◌else◌}
 use Rattle.std.specs.Int.{from_be_bytes}

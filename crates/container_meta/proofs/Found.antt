@@ -1,5 +1,5 @@
 -- What is read has the bytes as its spelling.
-use Rattle.container_meta.proofs.Prelude.{◌≡◌, ℕ, zero, suc, ◌+◌, ◌-◌, ◌*◌, ◌≤◌, ◌<◌, true, List, [], ◌∷◌, ◌++◌, length, Some, Result, Ok, Err, refl, sym, ap, subst, ◌∙◌, arith, append_assoc, length-append, inl, inr, ◌==◌, nat_le, is_some, unwrap_or, bytes_eq, w16, w32, w64, to_be_bytes, cases_lt, eqb-true, leb-true, append-nil, nil_from_length, bytes_eq-Decides, sha256, byte_at, checked, passes, ◌>>=◌, AllHold, both, IsBytes, spelled_4, length-range, range-join, CONTAINER_GATE, MOST_ENTRIES, Kind, Leaf, Entry, Header, MetaFault, magic, kind_byte, kind_of, is_count, is_length, entry_place, HeaderValue, with_entries, IsNext, Follow, IsHeader, bytes_of, has_digest, IsSpelled, next_read, opening_checks, digest_checks, field_checks, entry_checks, count_at, count_in, ReachEnd, kind_at, digest_at, entry_at, is_end, zeros_in_front}
+use Rattle.container_meta.proofs.Prelude.{◌≡◌, ℕ, zero, suc, ◌+◌, ◌*◌, ◌≤◌, ◌<◌, true, List, [], ◌∷◌, ◌++◌, length, Some, Result, Ok, Err, refl, sym, ap, subst, ◌∙◌, arith, append_assoc, length-append, inl, inr, ◌==◌, nat_le, is_some, unwrap_or, bytes_eq, w16, w32, w64, to_be_bytes, cases_lt, eqb-true, leb-true, append-nil, nil_from_length, bytes_eq-Decides, sha256, byte_at, checked, passes, ◌>>=◌, AllHold, both, IsBytes, spelled_4, length-range, range-join, CONTAINER_GATE, MOST_ENTRIES, Kind, Leaf, Entry, Header, MetaFault, magic, kind_byte, kind_of, is_count, is_length, entry_place, HeaderValue, with_entries, IsNext, Follow, IsHeader, bytes_of, has_digest, IsSpelled, next_read, opening_checks, digest_checks, field_checks, entry_checks, count_at, count_in, ReachEnd, kind_at, digest_at, entry_at, is_end, zeros_in_front}
 use Rattle.std.specs.Prelude.{IfOk}
 use Rattle.base_model.specs.Bytes.{range, zeros}
 use Rattle.base_model.specs.Checks.{Check}

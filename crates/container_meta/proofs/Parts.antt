@@ -1,5 +1,5 @@
 -- A header has its spelling where its parts stand in their places.
-use Rattle.container_meta.proofs.Prelude.{◌≡◌, ℕ, suc, ◌+◌, ◌-◌, ◌*◌, ◌≤◌, List, [], ◌∷◌, ◌++◌, length, get_or, refl, sym, ap, ◌∙◌, arith, length-append, w16, w32, w64, to_be_bytes, take_all, sha256, length-sha256, byte_at, range-range, range-join, range-first, range-second, range-one, range-whole, length-zeros, CONTAINER_GATE, Kind, Entry, magic, kind_byte, HeaderValue, header_size, header_spelling, Follow, IsHeader}
+use Rattle.container_meta.proofs.Prelude.{◌≡◌, ℕ, suc, ◌+◌, ◌*◌, ◌≤◌, List, [], ◌∷◌, ◌++◌, length, get_or, refl, sym, ap, ◌∙◌, arith, length-append, w16, w32, w64, to_be_bytes, take_all, sha256, length-sha256, byte_at, range-range, range-join, range-first, range-second, range-one, range-whole, length-zeros, CONTAINER_GATE, Kind, Entry, magic, kind_byte, HeaderValue, header_size, header_spelling, Follow, IsHeader}
 use Rattle.base_model.specs.Bytes.{range, zeros}
 use Rattle.base_model.proofs.Ranges.{byte-range}
 use Rattle.container_meta.specs.Spelling.{entry_spelling, entries_spelling, fields_spelling, front_spelling}

@@ -1,14 +1,13 @@
 -- The header of the tables is that of the store, unless two headers share a digest.
-use Rattle.std.proofs.Common.{◌≡◌, ◌≢◌, ◌⊎◌, inl, inr, ℕ, Bool, true, false, List, ◌++◌, ◌*◌, ◌-◌, length, take, drop, Option, Some, refl, sym, ap, ◌∙◌}
+use Rattle.std.proofs.Common.{◌≡◌, ◌≢◌, ◌⊎◌, inl, inr, ℕ, Bool, true, false, List, ◌++◌, length, take, drop, Option, Some, refl, sym, ap, ◌∙◌}
 use Rattle.std.specs.Prelude.{slice_get}
 use Rattle.std.specs.Str.{bytes_eq}
 use Rattle.std.proofs.lemmas.List.{take_at}
 use Rattle.std.proofs.Math.Seq.{drop-append_seam}
 use Rattle.std.proofs.lemmas.Slice.Eq.{bytes_eq-Decides}
-use Rattle.base_model.specs.Bytes.{zeros}
 use Rattle.base_model.proofs.Checks.{unequal}
 use Rattle.sha2.specs.Sha256.{sha256}
-use Rattle.container_meta.specs.Spelling.{HeaderValue, IsHeader, entries_spelling, fields_spelling, front_spelling, header_digest, header_spelling}
+use Rattle.container_meta.specs.Spelling.{HeaderValue, IsHeader, entries_spelling, fields_spelling, front_spelling, header_digest}
 use Rattle.container_meta.proofs.Spelled.{length-fields_spelling}
 use Rattle.store_model.proofs.Spellings.{same_header}
 use Rattle.store_state.specs.declared.slot_table.SlotCount.{SlotCount}
@@ -36,9 +35,8 @@ same_bytes g h right also many same =
     let parts = same_rest f k (entries_spelling h.entries) (entries_spelling g.entries) 23 (length-fields_spelling h.id h.kind (length h.entries) h.data_length)
     (length-fields_spelling g.id g.kind (length g.entries) g.data_length) same in
     same_header h g also right
-    (ap (λ (l : List ℕ). front_spelling l (entries_spelling h.entries) ++ entries_spelling h.entries ++ zeros (49152 - 48 * length h.entries)) parts.0
-    ∙ ap (λ (l : List ℕ). front_spelling k l ++ l ++ zeros (49152 - 48 * length h.entries)) parts.1
-    ∙ ap (λ (n : ℕ). front_spelling k (entries_spelling g.entries) ++ entries_spelling g.entries ++ zeros (49152 - 48 * n)) many)
+    (ap (λ (l : List ℕ). front_spelling l (entries_spelling h.entries) ++ entries_spelling h.entries) parts.0
+    ∙ ap (λ (l : List ℕ). front_spelling k l ++ l) parts.1)
 
 digests_of : (a b : SlotCount) → Some a ≡ Some b → a ≡ b
 digests_of a b same = cc

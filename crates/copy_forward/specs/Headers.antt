@@ -3,7 +3,7 @@ use Rattle.std.specs.Prelude.{◌≡◌, ◌⊎◌, ℕ, ◌==◌, List, [], ◌
 use Rattle.std.specs.Str.{bytes_eq}
 use Rattle.base_model.specs.Checks.{Check, passes}
 use Rattle.container_log.specs.Faults.{IsDamage}
-use Rattle.container_log.specs.Parts.{header_bytes, ReadAs}
+use Rattle.container_log.specs.Parts.{ReadAt}
 use Rattle.container_meta.specs.Format.{kind_byte}
 use Rattle.container_meta.specs.Spelling.{HeaderValue, IsHeader, header_digest}
 use Rattle.dd_disk.specs.Shows.{Shows}
@@ -45,7 +45,7 @@ pub record IsOtherHeader (t : SlotTable) (old new : DiskView) (slot : ℕ) (why 
 
 -- how the header of a slot is damaged: what was found in its place breaks the format, by its first fault, or is another header
 abbrev pub IsHeaderDamage : SlotTable → DiskView → DiskView → ℕ → Why → Type 0
-IsHeaderDamage t old new slot why = IsDamage (ReadAs old new (header_bytes slot)) why ⊎ IsOtherHeader t old new slot why
+IsHeaderDamage t old new slot why = IsDamage (ReadAt old new (slot_at slot)) why ⊎ IsOtherHeader t old new slot why
 
 -- ---- why a header is not given
 
@@ -53,7 +53,7 @@ IsHeaderDamage t old new slot why = IsDamage (ReadAs old new (header_bytes slot)
 abbrev pub IsFormatRefusal : DiskView → DiskView → ℕ → Refusal → Type 0
 IsFormatRefusal old new slot Memory = Unit {0}
 IsFormatRefusal old new slot DiskRead = Unit {0}
-IsFormatRefusal old new slot (Damaged at why) = (at ≡ slot_at slot) × IsDamage (ReadAs old new (header_bytes slot)) why
+IsFormatRefusal old new slot (Damaged at why) = (at ≡ slot_at slot) × IsDamage (ReadAt old new (slot_at slot)) why
 IsFormatRefusal old new slot refusal = ⊥
 
 -- the same, or it is another header than that of the table

@@ -2,7 +2,7 @@
 ghost use Rattle.std.specs.Prelude.{◌≡◌, ◌+◌, ◌<◌, ◌≤◌, Some, length, IfOk, IfErr};
 ghost use Rattle.base_model.specs.Checks.{passes};
 ghost use Rattle.container_log.specs.Faults.{IsDamage};
-ghost use Rattle.container_log.specs.Parts.{header_bytes, ReadAs};
+ghost use Rattle.container_log.specs.Parts.{ReadAt};
 ghost use Rattle.container_meta.specs.Format.{kind_byte};
 ghost use Rattle.container_meta.specs.Spelling.{HeaderValue, IsHeader, header_digest, view};
 ghost use Rattle.dd_disk.specs.Ending.{ending, Reads, UnlessFailed};

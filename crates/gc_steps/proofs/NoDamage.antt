@@ -3,9 +3,9 @@ use Rattle.gc_steps.proofs.Prelude.{◌≡◌, ◌≢◌, ◌≤◌, inl, inr, �
 use Rattle.std.proofs.Common.{◌&&◌, get_or}
 use Rattle.std.specs.List.{Contains}
 use Rattle.container_log.specs.Faults.{IsDamage}
-use Rattle.container_log.specs.Parts.{header_bytes, ReadAs}
+use Rattle.container_log.specs.Parts.{ReadAt}
 use Rattle.container_meta.specs.declared.kind.Kind.TheVariants.{Tree}
-use Rattle.container_meta.proofs.Again.{header_again}
+use Rattle.container_meta.proofs.Again.{header_again, spelled_in}
 use Rattle.disk_format.specs.declared.why.Why.TheVariants.{Digest, Field}
 use Rattle.gc_enumerate.specs.Faults.{IsCorrupt}
 use Rattle.gc_enumerate.specs.Scanning.{IsEntryFault, IsNoNode, IsNodeFault, node_fault}
@@ -111,11 +111,12 @@ module _ (index : PlaceMap) (store : Store) (files : Files) (image : List ℕ) (
   -- ---- a header
 
   -- the header of a slot that has a container keeps the format
-  header_right : (slot : ℕ) (why : Why) → HasHeader store.held slot → IsDamage (ReadAs old new (header_bytes slot)) why → ⊥
+  header_right : (slot : ℕ) (why : Why) → HasHeader store.held slot → IsDamage (ReadAt old new (slot_at slot)) why → ⊥
   header_right slot why has damage =
       let is = slot_held slot store.held (Some has.header) image holds.right.slots_are has.there in
-      let read : header_bytes slot image ≡ damage.bytes = shown_content old new (λ (i : List ℕ). header_bytes slot i ≡ damage.bytes) image damage.are_found content in
-      let good = header_again damage.bytes has.header damage.first.long is.0 (sym read ∙ is.1) in
+      let read : range (slot_at slot) (length damage.bytes) image ≡ damage.bytes =
+      shown_content old new (λ (i : List ℕ). range (slot_at slot) (length damage.bytes) i ≡ damage.bytes) image damage.are_found content in
+      let good = header_again damage.bytes has.header damage.first.long (spelled_in has.header damage.bytes image (slot_at slot) damage.first.long read is.0 is.1) in
       let bad = damage.first.first in
       absurd (let both = sym good ∙ bad in cc)
 

@@ -1,10 +1,10 @@
 -- Over a disk that tells its content, a source is not copied, and what was copied is not written, for want of memory or of an id alone, or as the disk failed.
-use Rattle.gc_sweep.proofs.Prelude.{◌≡◌, ◌≢◌, inl, inr, ℕ, ◌+◌, List, [], ◌∷◌, drop, get_or, Option, Some, None, refl, sym, ◌∙◌, ap, subst, sha256, Entry, Kind, Place, kind_byte, PlaceMap, Contents, HeaderValue, IsCopyRefusal, Planned, Source, planned, source_of, Shows, DiskView, shown_content, LiveKeys, Refusal, Memory, entry_key, HoldSlots, IsPartialIndexOf, place_of, bytes_at, slot_held, RepresentsSlots, SlotTable, Tables, CopyNext, Sweep, IsCopyStepRefusal, HasNext, IsSweeping}
+use Rattle.gc_sweep.proofs.Prelude.{slot_at, ◌≡◌, ◌≢◌, inl, inr, ℕ, ◌+◌, List, [], ◌∷◌, drop, get_or, Option, Some, None, refl, sym, ◌∙◌, ap, subst, sha256, Entry, Kind, Place, kind_byte, PlaceMap, Contents, HeaderValue, IsCopyRefusal, Planned, Source, planned, source_of, Shows, DiskView, shown_content, LiveKeys, Refusal, Memory, entry_key, HoldSlots, IsPartialIndexOf, place_of, bytes_at, slot_held, RepresentsSlots, SlotTable, Tables, CopyNext, Sweep, IsCopyStepRefusal, HasNext, IsSweeping}
 use Rattle.std.specs.Prelude.{slice_get}
 use Rattle.base_model.specs.Bytes.{range}
 use Rattle.container_log.specs.Faults.{IsDamage}
-use Rattle.container_log.specs.Parts.{header_bytes, ReadAs}
-use Rattle.container_meta.proofs.Again.{header_again}
+use Rattle.container_log.specs.Parts.{ReadAt}
+use Rattle.container_meta.proofs.Again.{header_again, spelled_in}
 use Rattle.copy_forward.specs.Copying.{IsSourceRefusal}
 use Rattle.copy_forward.specs.Entries.{IsRemoveRefusal}
 use Rattle.copy_forward.specs.Headers.{IsHeaderRefusal}
@@ -31,11 +31,12 @@ module _ (index : PlaceMap) (held : List (Option HeaderValue)) (image : List ℕ
     (partial : IsPartialIndexOf held index) (t : SlotTable)
     (slots : RepresentsSlots held t) (old new : DiskView) (content : old.content ≡ Some image) where
   -- the header of a slot that has a container keeps the format
-  header_right : (slot : ℕ) (h : HeaderValue) (why : Why) → slice_get held slot ≡ Some (Some h) → IsDamage (ReadAs old new (header_bytes slot)) why → ⊥
+  header_right : (slot : ℕ) (h : HeaderValue) (why : Why) → slice_get held slot ≡ Some (Some h) → IsDamage (ReadAt old new (slot_at slot)) why → ⊥
   header_right slot h why there damage =
       let is = slot_held slot held (Some h) image stand there in
-      let read : header_bytes slot image ≡ damage.bytes = shown_content old new (λ (i : List ℕ). header_bytes slot i ≡ damage.bytes) image damage.are_found content in
-      let good = header_again damage.bytes h damage.first.long is.0 (sym read ∙ is.1) in
+      let read : range (slot_at slot) (length damage.bytes) image ≡ damage.bytes =
+      shown_content old new (λ (i : List ℕ). range (slot_at slot) (length damage.bytes) i ≡ damage.bytes) image damage.are_found content in
+      let good = header_again damage.bytes h damage.first.long (spelled_in h damage.bytes image (slot_at slot) damage.first.long read is.0 is.1) in
       let bad = damage.first.first in
       absurd (let both = sym good ∙ bad in cc)
 

@@ -1,10 +1,10 @@
 -- A disk on which containers are given back, one after the other.
-use Rattle.recovery.proofs.Prelude.{◌⊎◌, inl, inr, ℕ, zero, suc, ◌+◌, ◌<◌, ◌≤◌, List, [], ◌∷◌, ◌++◌, length, take, get_or, slice_set, Bool, Option, Some, None, Result, Ok, Err, OnErr, refl, sym, ◌∙◌, ap, subst, arith, slice_get, take_all, range, byte_at, Known, KnownWith, byte-written, byte-range, Frees, IsFreed, HeaderValue, Done, Broken, DiskView, IsLater, IsDurable, CrashLeaves, Puts, Writes, later_here, later_on, leaves_on, leaves_weaker, reads_here, reads_leave, slot_at, RESERVE, Top, FreesSome, IsLeastSpare, IsPartlyFreed, SameButGates, with_all_freed, Store, Encodes, HoldsSlot, HoldSlots, some_same, IsVisited, IsLeastIn, IsLeastOf, IsReady, LeavesFreed, GivesBack, StopsGiving, IsGiving}
+use Rattle.recovery.proofs.Prelude.{◌⊎◌, inl, inr, ℕ, zero, suc, ◌+◌, ◌<◌, ◌≤◌, List, [], ◌∷◌, ◌++◌, length, take, slice_set, Bool, Option, Some, None, Result, Ok, Err, OnErr, refl, sym, ◌∙◌, ap, subst, arith, slice_get, take_all, byte_at, Known, KnownWith, byte-written, Frees, IsFreed, HeaderValue, Done, Broken, DiskView, IsLater, IsDurable, CrashLeaves, Puts, Writes, later_here, later_on, leaves_on, leaves_weaker, reads_here, reads_leave, slot_at, RESERVE, Top, FreesSome, IsLeastSpare, IsPartlyFreed, SameButGates, with_all_freed, Store, Encodes, HoldsSlot, HoldSlots, some_same, IsVisited, IsLeastIn, IsLeastOf, IsReady, LeavesFreed, GivesBack, StopsGiving, IsGiving}
 use Rattle.std.proofs.Common.{◌≡◌}
-use Rattle.std.proofs.lemmas.List.{ext_get_or, get_or_past}
+use Rattle.std.proofs.lemmas.List.{get_or_past}
 use Rattle.base_model.specs.Frames.{SameOutside}
 use Rattle.base_model.proofs.Frames.{byte_before, byte_after}
-use Rattle.store_model.proofs.Freed.{encodes_freed, same_gate, same_more, same_none}
+use Rattle.store_model.proofs.Freed.{encodes_freed, same_gate, same_more, same_none, unfreed_same}
 use Rattle.recovery.specs.Making.{AreClear, ImagesFreed, Stands, IsSteady}
 use Rattle.recovery.proofs.Spare.{least_given, none_given, enough_given, ready_after, all_freed_more, frees_more}
 
@@ -17,27 +17,6 @@ slot_held from zero (d ∷ held) c image holds there =
     subst (λ (s : ℕ). HoldsSlot image s c) (omega arith) (subst (λ (x : Option HeaderValue). HoldsSlot image from x) (some_same d c there) holds.0)
 slot_held from (suc index) (d ∷ held) c image holds there =
     subst (λ (s : ℕ). HoldsSlot image s c) (omega arith) (slot_held (from + 1) index held c image holds.1 there)
-
--- the first byte of a part
-first_is : (at count : ℕ) (old new : List ℕ) → 1 ≤ count → range at count new ≡ range at count old → byte_at at new ≡ byte_at at old
-first_is at count old new some same =
-    let place : at + 0 ≡ at = omega arith in
-    ap (λ (k : ℕ). byte_at k new) (sym place) ∙ sym (byte-range 0 at count new (omega (arith, some))) ∙ ap (byte_at 0) same
-    ∙ byte-range 0 at count old (omega (arith, some)) ∙ ap (λ (k : ℕ). byte_at k old) place
-
--- a slot that has its header still: the image is as it was
-unfreed_same : (slot : ℕ) (h : HeaderValue) (old new : List ℕ) → SameOutside (slot_at slot) 1 old new → HoldsSlot old slot (Some h) → HoldsSlot new slot (Some h) → new ≡ old
-unfreed_same slot h old new same before after =
-    ext_get_or 0 new old same.size (λ i below. by_place i (place_of i))
-  where
-    place_of : (i : ℕ) → (i < slot_at slot) ⊎ ((slot_at slot + 1 ≤ i) ⊎ (i ≡ slot_at slot))
-    place_of i = grind (arith)
-
-    by_place : (i : ℕ) → (i < slot_at slot) ⊎ ((slot_at slot + 1 ≤ i) ⊎ (i ≡ slot_at slot)) → get_or new i 0 ≡ get_or old i 0
-    by_place i (inl below) = byte_before i (slot_at slot) 1 old new below same
-    by_place i (inr (inl above)) = byte_after i (slot_at slot) 1 old new above same
-    by_place i (inr (inr here)) =
-        subst (λ (k : ℕ). byte_at k new ≡ byte_at k old) (sym here) (first_is (slot_at slot) 49664 old new (omega arith) (after.1 ∙ sym before.1))
 
 -- ---- gates that were cleared
 

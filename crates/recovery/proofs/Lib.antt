@@ -13,4 +13,5 @@ pub mod Small
 mod Spare
 mod Steps
 mod Storing
+mod Used
 pub mod Walked

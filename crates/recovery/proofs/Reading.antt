@@ -2,9 +2,10 @@
 use Rattle.recovery.proofs.Prelude.{◌≢◌, inl, inr, ℕ, zero, suc, ◌+◌, ◌<◌, List, [], ◌∷◌, ◌++◌, length, Option, None, Some, refl, sym, ap, ◌∙◌, subst, arith, length-append, range, Field, slot_at, DiskView, OnlyReads, Shows, always, weaker, until, since, HeaderValue, IsHeader, Refusal, Memory, DiskRead, Damaged, HoldsSlot, HoldSlots, AreHeaders, IsUnusedId, DifferentIds, fails, AreSlots, IsSlotDamage, HoldsDamage, IsSlotsRefusal}
 use Rattle.std.proofs.Common.{◌≡◌}
 use Rattle.std.specs.Prelude.{IsTrue}
-use Rattle.disk_format.specs.declared.numbers.TheConstants.{HEADER_BYTES}
+use Rattle.base_model.proofs.Ranges.{range-whole}
 use Rattle.dd_disk.proofs.Shows.{both}
-use Rattle.container_meta.specs.Spelling.{header_spelling}
+use Rattle.container_meta.specs.Spelling.{header_size, header_spelling}
+use Rattle.container_meta.proofs.Parts.{length-header_spelling}
 use Rattle.store_model.proofs.Once.{slots_once}
 use Rattle.store_model.proofs.Spellings.{gate_of_header}
 use Rattle.store_state.specs.declared.containers.Containers.{Containers}
@@ -78,7 +79,7 @@ may_follow slot k held image s = by_here s.here refl
 
 -- ---- what is read
 
-headers_push : (held : List (Option HeaderValue)) (c : Option HeaderValue) → AreHeaders held → MayFollow held c → AreHeaders (held ++ c ∷ [])
+pub headers_push : (held : List (Option HeaderValue)) (c : Option HeaderValue) → AreHeaders held → MayFollow held c → AreHeaders (held ++ c ∷ [])
 headers_push [] None right may = tt
 headers_push [] (Some h) right may = (may.0, tt)
 headers_push (None ∷ held) None right may = headers_push held None right tt
@@ -86,18 +87,23 @@ headers_push (None ∷ held) (Some h) right may = headers_push held (Some h) rig
 headers_push (Some g ∷ held) None right may = (right.0, headers_push held None right.1 tt)
 headers_push (Some g ∷ held) (Some h) right may = (right.0, headers_push held (Some h) right.1 (may.0, may.1.1))
 
-differ_push : (held : List (Option HeaderValue)) (c : Option HeaderValue) → DifferentIds held → MayFollow held c → DifferentIds (held ++ c ∷ [])
+pub differ_push : (held : List (Option HeaderValue)) (c : Option HeaderValue) → DifferentIds held → MayFollow held c → DifferentIds (held ++ c ∷ [])
 differ_push held None differ may = different-push-none held differ
 differ_push held (Some h) differ may = different-push held h differ may.1
 
 -- a used id is damage
 pub used_id : (shown : (List ℕ → Type 0) → Type 0) (before : List (Option HeaderValue)) (slot : ℕ) (h : HeaderValue) → IsHeader h → (IsUnusedId h.id before → ⊥)
-    → shown (λ image. range (slot_at slot) HEADER_BYTES image ≡ header_spelling h) → HoldsDamage shown (λ bytes. IsSlotDamage before bytes (Field 8 h.id)) (slot_at slot)
+    → shown (λ image. range (slot_at slot) (length (header_spelling h)) image ≡ header_spelling h) → HoldsDamage shown (λ bytes. IsSlotDamage before bytes (Field 8 h.id)) (slot_at slot)
 used_id shown before slot h right used read =
     record {
       bytes = header_spelling h;
       gate = gate_of_header h;
-      damage_is = inr (record { header = h; right = right; spelled = refl; used = used; named = refl });
+      damage_is = inr (record {
+        header = h;
+        spelled = (right, range-whole (header_size h) (header_spelling h) (length-header_spelling h right));
+        used = used;
+        named = refl;
+      });
       read_as = read;
     }
 
@@ -110,12 +116,12 @@ damage_of shown before slot (Damaged at why) is = (is.0, record { bytes = is.1.b
 damage_of shown before slot _ is = absurd is
 
 -- no slot yet
-pub none_yet : (v : DiskView) (tables : Containers) → RepresentsContainers [] tables → AreSlots (Shows v v) 0 tables
+abbrev pub none_yet : (v : DiskView) (tables : Containers) → RepresentsContainers [] tables → AreSlots (Shows v v) 0 tables
 none_yet v tables are = record { held = []; many = refl; right = tt; different = tt; represents = are; holds = always v v _ (λ image sized. tt) }
 
 module _ (old mid new : DiskView) (slot : ℕ) (tables : Containers) (part : AreSlots (Shows old mid) slot tables) (before : OnlyReads old mid) (reads : OnlyReads mid new) where
   -- one more slot
-  pub more : (after : Containers) (c : Option HeaderValue) → MayFollow part.held c → Shows mid new (λ image. HoldsSlot image slot c) →
+  abbrev pub more : (after : Containers) (c : Option HeaderValue) → MayFollow part.held c → Shows mid new (λ image. HoldsSlot image slot c) →
       RepresentsContainers (part.held ++ c ∷ []) after
       → AreSlots (Shows old new) (slot + 1) after
   more after c may seen are =

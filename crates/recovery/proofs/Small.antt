@@ -1,5 +1,5 @@
 -- What is found on an image is less than a count can hold.
-use Rattle.recovery.proofs.Prelude.{ℕ, zero, suc, ◌+◌, ◌*◌, ◌-◌, ◌^◌, ◌≤◌, ◌<◌, Bool, true, false, cond, List, [], ◌∷◌, ◌++◌, length, Option, None, Some, Result, Ok, Err, refl, sym, ap, subst, ◌∙◌, arith, length-append, leb-true, range, byte_at, w64, HeaderValue, CONTAINER_GATE, RECORD_GATE, cell_at, slot_at, Found, nothing, and_then, cell_with, Damage, Counts, Tally, image_found, nothing_counted, AreCounted}
+use Rattle.recovery.proofs.Prelude.{ℕ, zero, suc, ◌+◌, ◌*◌, ◌-◌, ◌^◌, ◌≤◌, ◌<◌, Bool, true, false, cond, List, [], ◌∷◌, ◌++◌, length, Option, None, Some, Result, Ok, Err, refl, ap, arith, length-append, leb-true, range, byte_at, w64, HeaderValue, CONTAINER_GATE, RECORD_GATE, cell_at, slot_at, Found, nothing, and_then, cell_with, Damage, Counts, Tally, image_found, nothing_counted, AreCounted}
 use Rattle.std.proofs.Common.{◌≡◌, ◌==◌, nat_le}
 use Rattle.std.specs.Option.{option_to_list}
 use Rattle.base_model.specs.Checks.{checked, passes, ◌>>=◌}
@@ -9,8 +9,8 @@ use Rattle.base_model.proofs.Checks.{bind_ok, both, checked_ok, ok_is}
 use Rattle.container_meta.specs.declared.entry.Entry.{Entry}
 use Rattle.container_meta.specs.declared.fault.MetaFault.{MetaFault}
 use Rattle.container_meta.specs.declared.kind.Kind.{Kind}
-use Rattle.container_meta.specs.Reading.{count_at, digest_checks, end_checks, entries_at, field_checks, header_at, kind_at, next_read, opening_checks}
-use Rattle.container_log.specs.Inspecting.{copies_found, copy_found, header_damage, header_found, header_in, id_damage, ids_with, slot_bytes, slot_found, slots_found}
+use Rattle.container_meta.specs.Reading.{count_at, digest_checks, entries_at, field_checks, header_at, kind_at, next_read, opening_checks}
+use Rattle.container_log.specs.Inspecting.{copies_found, copy_found, header_damage, header_found, id_damage, ids_with, slot_bytes, slot_found, slots_found}
 use Rattle.disk_format.specs.Cells.{SelectorValue}
 use Rattle.disk_format.specs.Layout.{half_cells, selector_at}
 use Rattle.inspection.specs.Found.{copy_with, only_damage}
@@ -121,7 +121,7 @@ value : List ℕ → Kind → List Entry → HeaderValue
 value bytes kind entries = record { id = number_at w64 8 bytes; kind = kind; data_length = number_at w32 20 bytes; entries = entries }
 
 at_end : List ℕ → Kind → List Entry → Result HeaderValue MetaFault
-at_end bytes kind entries = passes (end_checks bytes) >>= λ z. Ok (value bytes kind entries)
+at_end bytes kind entries = Ok (value bytes kind entries)
 
 at_entries : List ℕ → ℕ → Kind → Result HeaderValue MetaFault
 at_entries bytes count kind = entries_at kind (number_at w32 20 bytes) count [] bytes >>= at_end bytes kind
@@ -139,8 +139,7 @@ header_few bytes h e =
     let b = bind_ok (passes (digest_checks bytes)) (at_fields bytes a.0) h a.2 in
     let d = bind_ok (checked (field_checks bytes) (kind_at bytes)) (at_entries bytes a.0) h b.2 in
     let f = bind_ok (entries_at d.0 (number_at w32 20 bytes) a.0 [] bytes) (at_end bytes d.0) h d.2 in
-    let g = bind_ok (passes (end_checks bytes)) (λ (z : Unit {0}). Ok (value bytes d.0 f.0)) h f.2 in
-    let same : f.0 ≡ h.entries = ap (λ (v : HeaderValue). v.entries) (ok_is {F = MetaFault} (value bytes d.0 f.0) h g.2) in
+    let same : f.0 ≡ h.entries = ap (λ (v : HeaderValue). v.entries) (ok_is {F = MetaFault} (value bytes d.0 f.0) h f.2) in
     let opened = checked_ok (opening_checks bytes) (count_at bytes) a.0 a.1 in
     let few : count_at bytes ≤ 1024 = leb-true (count_at bytes) 1024 (both (nat_le 1 (count_at bytes)) (nat_le (count_at bytes) 1024) opened.0.1.1.0).1 in
     omega (arith, few, opened.1, entries_long d.0 (number_at w32 20 bytes) a.0 [] f.0 bytes f.1, ap length same)
@@ -163,21 +162,21 @@ header_small slot ids bytes (Ok h) few =
       together (cell_with (id_damage slot ids h.id))
           (copies_found slot h.entries bytes),
     )
-header_small slot ids bytes (Err fault) few = omega (arith, one_cell (header_damage slot (range 0 49664 bytes) fault))
+header_small slot ids bytes (Err fault) few = omega (arith, one_cell (header_damage slot bytes fault))
 
 slot_small : (slot : ℕ) (ids bytes : List ℕ) → weight (slot_found slot ids bytes) ≤ 2050
 unfolding slot_found
-slot_small slot ids bytes = header_small slot ids bytes (header_in bytes) (λ h is. header_few (range 0 49664 bytes) h is)
+slot_small slot ids bytes = header_small slot ids bytes (header_at bytes) (header_few bytes)
 
 slots_small : (left slot : ℕ) (ids image : List ℕ) → weight (slots_found left slot ids image) ≤ 2050 * left
 unfolding slots_found
 slots_small zero slot ids image = omega arith
 slots_small (suc left) slot ids image =
     let bytes = slot_bytes slot image in
-    let rest = slots_small left (suc slot) (ids_with ids (header_in bytes)) image in
-    either (byte_at (slot_at slot) image == CONTAINER_GATE) (and_then (slot_found slot ids bytes) (slots_found left (suc slot) (ids_with ids (header_in bytes)) image))
+    let rest = slots_small left (suc slot) (ids_with ids (header_at bytes)) image in
+    either (byte_at (slot_at slot) image == CONTAINER_GATE) (and_then (slot_found slot ids bytes) (slots_found left (suc slot) (ids_with ids (header_at bytes)) image))
     (slots_found left (suc slot) ids image) (2050 * suc left)
-    (omega (arith, rest, slot_small slot ids bytes, together (slot_found slot ids bytes) (slots_found left (suc slot) (ids_with ids (header_in bytes)) image)))
+    (omega (arith, rest, slot_small slot ids bytes, together (slot_found slot ids bytes) (slots_found left (suc slot) (ids_with ids (header_at bytes)) image)))
     (omega (arith, slots_small left (suc slot) ids image))
 
 pub image_small : (slots : ℕ) (image : List ℕ) → slots ≤ 65536 → weight (image_found slots image) < 2 ^ 64 - 1

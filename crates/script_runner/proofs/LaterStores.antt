@@ -7,6 +7,7 @@ use Rattle.base_model.specs.Bytes.{range}
 use Rattle.base_model.proofs.Ranges.{byte-range}
 use Rattle.disk_format.specs.declared.numbers.TheConstants.{CONTAINER_GATE, SLOT_BYTES}
 use Rattle.store_model.specs.Slots.{HoldsSlot, HoldSlots}
+use Rattle.container_meta.specs.Spelling.{header_size}
 use Rattle.store_model.proofs.Spellings.{gate_of_header}
 
 -- ---- bytes
@@ -37,7 +38,7 @@ slot_of from (suc slot) (d ∷ ds) c image holds is =
     subst (λ (k : ℕ). HoldsSlot image k c) place (slot_of (from + 1) slot ds c image holds.1 is)
 
 open_slot : (slot : ℕ) (h : HeaderValue) (image : List ℕ) → HoldsSlot image slot (Some h) → byte_at (slot_at slot) image ≡ CONTAINER_GATE
-open_slot slot h image holds = first_of (slot_at slot) 49664 _ image (omega arith) holds.1 ∙ gate_of_header h
+open_slot slot h image holds = first_of (slot_at slot) (header_size h) _ image (omega arith) holds.1 ∙ gate_of_header h
 
 -- ---- the store
 

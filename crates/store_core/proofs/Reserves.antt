@@ -3,13 +3,11 @@ use Rattle.store_core.proofs.Prelude.{◌≡◌, ◌≢◌, inl, inr, ℕ, zero,
 use Rattle.std.specs.Prelude.{slice_get}
 use Rattle.base_model.specs.Bytes.{byte_at}
 use Rattle.base_model.proofs.Ranges.{byte-range}
-use Rattle.container_meta.proofs.Again.{small_count}
-use Rattle.container_meta.proofs.Parts.{parts_of_spelling}
-use Rattle.disk_format.specs.declared.numbers.TheConstants.{HEADER_BYTES}
 use Rattle.actor_parts.specs.declared.step.Answer.TheVariants as answers
 use Rattle.actor_parts.specs.StepValue as asked
 use Rattle.refusals.specs.declared.refusal.Refusal.TheVariants as refusals
 use Rattle.store_model.proofs.Freed.{slot_held}
+use Rattle.store_model.proofs.Once.{slot_once}
 use Rattle.store_core.specs.Frame.{HasReserveIn, ReserveStays}
 use Rattle.store_core.proofs.CoreRuns.{running_step, stopped_reads, was_running}
 use Rattle.store_core.proofs.Frames.{Leads, begins, keeps_counted, keeps_here, keeps_record, keeps_sealed, some_not_none, step_leads}
@@ -67,19 +65,11 @@ first_is at count old new some same =
 still_closed : (slot : ℕ) (old new : List ℕ) → range (slot_at slot) SLOT_BYTES new ≡ range (slot_at slot) SLOT_BYTES old → HoldsSlot old slot None → HoldsSlot new slot None
 still_closed slot old new same closed open_gate = closed (sym (first_is (slot_at slot) SLOT_BYTES old new (omega arith) same) ∙ open_gate)
 
--- a slot whose gate is closed has no container
-not_open : (image : List ℕ) (slot : ℕ) (c : Option HeaderValue) → HoldsSlot image slot c → HoldsSlot image slot None → c ≡ None
-not_open image slot None holds closed = refl
-not_open image slot (Some h) holds closed =
-    let bytes : List ℕ = range (slot_at slot) HEADER_BYTES image in
-    let parts = parts_of_spelling h bytes (small_count (length h.entries) holds.0.count) holds.0.entries holds.1 in
-    absurd (closed (ap (λ (at : ℕ). byte_at at image) (omega arith) ∙ sym (byte-range 0 (slot_at slot) HEADER_BYTES image (omega arith)) ∙ parts.gate))
-
 module _ (u : Store) (image : List ℕ) (right : Encodes image u) where
   closed_in : (slot : ℕ) → slot < length u.held → HoldsSlot image slot None → slice_get u.held slot ≡ Some None
   closed_in slot below closed =
       let c = there u.held slot below in
-      c.1 ∙ ap (λ (x : Option HeaderValue). Some x) (not_open image slot c.0 (slot_held slot u.held c.0 image right.slots_are c.1) closed)
+      c.1 ∙ ap (λ (x : Option HeaderValue). Some x) (slot_once slot c.0 None image (slot_held slot u.held c.0 image right.slots_are c.1) closed)
 
 -- as many slots
 one_size : (a b : ℕ) → size_of a ≡ size_of b → a ≡ b

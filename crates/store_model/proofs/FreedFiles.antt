@@ -1,5 +1,5 @@
 -- Files, and the reserve of slots, once containers that no file needs are given back.
-use Rattle.store_model.proofs.Prelude.{◌≡◌, ◌≢◌, ◌⊎◌, inl, inr, ℕ, zero, suc, ◌+◌, ◌<◌, ◌≤◌, List, [], ◌∷◌, length, take, Option, Some, None, refl, sym, ◌∙◌, ap, subst, arith, AllByRecursion, slice_get, eqb_tells, sha256, SLOT_BYTES, slot_at, Entry, Kind, HeaderValue, SameOutside, AreAmong, Stands, Files, with_freed, HasNoGate, SameButGates, IsPartlyFreed, Store, Encodes, AreCopies, names_of, last_sequence, IsReachable, HoldsNone, AreHeaders, HoldsSlot, newest, free_slots, first_free, without_slot, KeepsCopies, AreFilesOf, IsStoreOf, StandsFor, HasNewest}
+use Rattle.store_model.proofs.Prelude.{◌≡◌, ◌≢◌, ◌⊎◌, inl, inr, ℕ, zero, suc, ◌+◌, ◌<◌, ◌≤◌, List, [], ◌∷◌, take, Option, Some, None, refl, sym, ◌∙◌, ap, subst, arith, AllByRecursion, slice_get, eqb_tells, sha256, SLOT_BYTES, slot_at, Entry, Kind, HeaderValue, SameOutside, AreAmong, Stands, Files, with_freed, HasNoGate, SameButGates, IsPartlyFreed, Store, Encodes, AreCopies, names_of, last_sequence, IsReachable, HoldsNone, AreHeaders, HoldsSlot, newest, free_slots, first_free, without_slot, KeepsCopies, AreFilesOf, IsStoreOf, StandsFor, HasNewest}
 use Rattle.std.specs.FinMap as finite
 use Rattle.std.proofs.lemmas.Bool.Decides.{leb_tells}
 use Rattle.disk_format.specs.declared.numbers.TheConstants.{RESERVE}
@@ -11,7 +11,7 @@ use Rattle.store_model.specs.Standing.{CanBeOpened}
 use Rattle.store_model.proofs.Copies.{headers_of_right}
 use Rattle.store_model.proofs.Frames.{SameSlot}
 use Rattle.store_model.proofs.Free.{first_closed, some_free}
-use Rattle.store_model.proofs.Freed.{closed_there, encodes_freed, same_gate, slot_held, unfreed_same, other_there, there_before, same_before}
+use Rattle.store_model.proofs.Freed.{closed_there, encodes_freed, same_gate, slot_held, unfreed_same, other_there, there_before}
 use Rattle.store_model.proofs.FreedTrees.{newest_freed, none_after, none_of_fewer, needed_file}
 use Rattle.store_model.proofs.HeldSlots.{SameHeld, AreSo, so_still, copy_still, IsNodeEntry, nodes_so, so_nodes, IsAmongThese, among_so, so_among}
 use Rattle.store_model.proofs.Once.{store_once}

@@ -1,6 +1,6 @@
 -- No two values have one spelling.
 use Rattle.store_model.proofs.Prelude.{◌≡◌, ℕ, ◌+◌, ◌-◌, ◌^◌, ◌<◌, ◌≤◌, true, List, [], ◌∷◌, ◌++◌, length, take, get_or, Some, refl, sym, ◌∙◌, ap, subst, arith, append_assoc, length-append, nat_le, leb-true, sha256, byte_at, SELECTOR_GATE, RECORD_GATE, CONTAINER_GATE, MOST_FILE, selector_cell, Root, Change, RecordValue, IsRecord, IsChange, SelectorValue, Entry, Kind, kind_byte, HeaderValue, IsHeader}
-use Rattle.std.proofs.Common.{◌*◌, drop}
+use Rattle.std.proofs.Common.{drop}
 use Rattle.std.specs.Int.{w16, w32, w64, to_be_bytes, from_be_bytes}
 use Rattle.std.proofs.lemmas.List.Concat.{flat_map-cons}
 use Rattle.std.proofs.lemmas.Nat.{from_be_bytes-to_be_bytes_2, from_be_bytes-to_be_bytes_4, from_be_bytes-to_be_bytes_8}
@@ -258,7 +258,7 @@ module _ (h : HeaderValue) where
   unfolding front_spelling
   gate_of_header = refl
 
-same_header : (a b : HeaderValue) → IsHeader a → IsHeader b → header_spelling a ≡ header_spelling b → a ≡ b
+pub same_header : (a b : HeaderValue) → IsHeader a → IsHeader b → header_spelling a ≡ header_spelling b → a ≡ b
 same_header a b right also same =
     let id = same_8 a.id b.id (id_small a.id right.id) (id_small b.id also.id) (sym (id_spelled a) ∙ ap (λ (l : List ℕ). take 8 (drop 8 l)) same ∙ id_spelled b) in
     let kind = same_kind a.kind b.kind right.kind also.kind (sym (kind_spelled a) ∙ ap (λ (l : List ℕ). get_or l 16 0) same ∙ kind_spelled b) in

@@ -1,5 +1,5 @@
 -- An image stands for one map of files at most: a tree is told by its level, its digest, and what is held of it.
-use Rattle.store_model.proofs.Prelude.{◌≡◌, ℕ, ◌≤◌, List, [], ◌∷◌, length, Option, refl, sym, ◌∙◌, ap, subst, arith, AllByRecursion, sum_by-cons, sum_by-append, key_of, MOST_FILE, Root, HeaderValue, ByCount, Contents, IsNode, spelling, Trees, Empty, Node, NoTree, Then, leaves, leaves_below, of_segment, tree_of, contents_of, Copy, newest, root_of, bytes_at, HasNewest, HoldsTree, HoldsTrees}
+use Rattle.store_model.proofs.Prelude.{◌≡◌, ℕ, ◌≤◌, List, [], ◌∷◌, length, Option, refl, sym, ◌∙◌, ap, subst, arith, AllByRecursion, sum_by-cons, sum_by-append, key_of, MOST_FILE, Root, HeaderValue, ByCount, Contents, IsNode, spelling, Trees, Empty, Node, NoTree, Then, leaves, leaves_below, of_segment, contents_of, Copy, newest, root_of, bytes_at, HasNewest, HoldsTree, HoldsTrees}
 use Rattle.std.specs.Prelude.{sum_by}
 use Rattle.std.specs.List.{concat}
 use Rattle.merkle_file.specs.declared.node.Child.{Child}

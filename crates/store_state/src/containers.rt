@@ -1,15 +1,15 @@
 //! The containers of a store in memory.
-ghost use Rattle.std.specs.Prelude.{◌≡◌, ◌∷◌, ◌++◌, [], List, Option, None, Some, length, not, false};
-ghost use Rattle.std.specs.Prelude.{◌≤◌, IsTrue, option_map, OnOk, IfSome};
+ghost use Rattle.std.specs.Prelude.{◌≡◌, ◌∷◌, ◌++◌, [], List, Option, None, Some, length, false};
+ghost use Rattle.std.specs.Prelude.{◌≤◌, OnOk, IfSome};
 ghost use Rattle.disk_format.specs.declared.numbers.TheConstants.{MOST_SLOTS as MANY};
-ghost use Rattle.container_meta.specs.Spelling.{HeaderValue, IsHeader, header_digest, view, has_digest};
+ghost use Rattle.container_meta.specs.Spelling.{HeaderValue, IsHeader, header_digest, with_entries, held_with, has_digest};
 ghost use Rattle.container_meta.specs.declared.entry.Entry.{Entry as EntryValue};
-ghost use Rattle.store_model.specs.Slots.{AreHeaders, IsUnusedId, place_of, free_slots};
+ghost use Rattle.store_model.specs.Slots.{AreHeaders, place_of, free_slots};
 ghost use Rattle.store_state.specs.Containers.{RepresentsContainers, ArePart, is_newer};
 ghost use Rattle.store_state.specs.Tables.{count_of};
 
 use crate::slot_table::{SlotCount, closed, zeros_in};
-use container_meta::{Entry, Key, Kind, Meta, Place, key_of};
+use container_meta::{Entry, Header, Key, Kind, Place, key_of};
 use segment_index::StoreIndex;
 use std::alloc::{AllocError, Global};
 
@@ -38,16 +38,16 @@ pub(crate) fn place_in(slot: u32, entry: &Entry) -> Place
 }
 
 // What a container holds.
-fn count_in(meta: &Meta) -> SlotCount
-    requires right { IsHeader (view meta.now) }
-    requires digest { meta.now.digest ≡ header_digest (view meta.now) }
-    ensures { result ≡ count_of (Some (view meta.now)) }
+fn count_in(header: &Header, entries: &[Entry]) -> SlotCount
+    requires right { IsHeader (with_entries header.now entries.now) }
+    requires digest { header.now.digest ≡ header_digest (with_entries header.now entries.now) }
+    ensures { result ≡ count_of (Some (with_entries header.now entries.now)) }
 {
-    let digest = meta.digest;
+    let digest = header.digest;
     SlotCount {
-        kind: meta.kind,
-        entries: meta.entries.len() as u32,
-        bytes: meta.data_length,
+        kind: header.kind,
+        entries: entries.len() as u32,
+        bytes: header.data_length,
         digest,
     }
 }
@@ -102,40 +102,29 @@ impl Containers {
     }
 
     // Takes the entries of the container that stands after the slots that were read.
-    fn add_entries(&mut self, slot: u32, meta: &Meta) -> Result<(), AllocError>
-        requires { IsHeader (view meta.now) }
-        ensures { OnOk result ((held : List (Option HeaderValue)) → ArePart held slot meta.now.id meta.now.kind [] self.old
-            → ArePart held slot meta.now.id meta.now.kind meta.now.entries.items self.new) }
+    fn add_entries(&mut self, slot: u32, header: &Header, entries: &[Entry]) -> Result<(), AllocError>
+        requires { IsHeader (with_entries header.now entries.now) }
+        ensures { OnOk result ((held : List (Option HeaderValue)) → ArePart held slot header.now.id header.now.kind [] self.old
+            → ArePart held slot header.now.id header.now.kind entries.now self.new) }
     {
-        for entry in &meta.entries {
-            self.add_entry(slot, meta.id, meta.kind, entry)?;
+        for entry in entries {
+            self.add_entry(slot, header.id, header.kind, entry)?;
         }
         Ok(())
     }
 
     /// Takes one more slot, which has a container; `slot` is its number.
-    pub fn add(&mut self, slot: u32, meta: &Meta) -> Result<(), AllocError>
-        requires right { IsHeader (view meta.now) }
-        requires digest { meta.now.digest ≡ header_digest (view meta.now) }
+    pub fn add(&mut self, slot: u32, header: &Header, entries: &[Entry]) -> Result<(), AllocError>
+        requires right { IsHeader (with_entries header.now entries.now) }
+        requires digest { header.now.digest ≡ header_digest (with_entries header.now entries.now) }
         ensures { OnOk result ((held : List (Option HeaderValue)) → slot ≡ length held → RepresentsContainers held self.old
-            → RepresentsContainers (held ++ Some (view meta.now) ∷ []) self.new) }
+            → RepresentsContainers (held ++ Some (with_entries header.now entries.now) ∷ []) self.new) }
     {
-        self.add_entries(slot, meta)?;
-        self.ids.push(meta.id)?;
-        self.counts.push(count_in(meta))?;
-        self.last_id = self.last_id.max(meta.id);
+        self.add_entries(slot, header, entries)?;
+        self.ids.push(header.id)?;
+        self.counts.push(count_in(header, entries))?;
+        self.last_id = self.last_id.max(header.id);
         Ok(())
-    }
-
-    /// Whether no container has this id, which isn't 0.
-    pub fn is_unused_id(&self, id: u64) -> bool
-        requires { 1 ≤ id }
-        ensures unused { (held : List (Option HeaderValue)) → RepresentsContainers held self.now
-            → IsTrue result → IsUnusedId id held }
-        ensures used { (held : List (Option HeaderValue)) → RepresentsContainers held self.now → IsTrue (not result)
-            → ¬ (IsUnusedId id held) }
-    {
-        !self.ids.contains(&id)
     }
 
     /// How many slots are closed.
@@ -147,15 +136,15 @@ impl Containers {
         zeros_in(&self.ids)
     }
 
-    /// Takes what the next slot holds; `slot` is its number.
-    pub fn take(&mut self, slot: u32, held: &Option<Meta>) -> Result<(), AllocError>
-        requires right { IfSome held.now (λ m. IsHeader (view m)) }
-        requires digest { IfSome held.now (λ m. m.digest ≡ header_digest (view m)) }
+    /// Takes what the next slot holds, if it is open with these entries; `slot` is its number.
+    pub fn take(&mut self, slot: u32, held: &Option<Header>, entries: &[Entry]) -> Result<(), AllocError>
+        requires right { IfSome held.now (λ h. IsHeader (with_entries h entries.now)) }
+        requires digest { IfSome held.now (λ h. h.digest ≡ header_digest (with_entries h entries.now)) }
         ensures { OnOk result ((before : List (Option HeaderValue)) → slot ≡ length before → RepresentsContainers before self.old
-            → RepresentsContainers (before ++ option_map view held.now ∷ []) self.new) }
+            → RepresentsContainers (before ++ held_with held.now entries.now ∷ []) self.new) }
     {
         match held {
-            Some(meta) => self.add(slot, meta),
+            Some(header) => self.add(slot, header, entries),
             None => self.add_closed(),
         }
     }

@@ -1,5 +1,4 @@
-use Rattle.std.proofs.Common.{ℕ, ◌≡◌, ◌+◌, ◌≤◌, List, ◌++◌, length, take, drop, sym, subst, arith, ap, ◌∙◌}
-use Rattle.std.proofs.lemmas.List.{length-drop}
+use Rattle.std.proofs.Common.{ℕ, List, ◌++◌, take, drop, sym, subst, arith, ap}
 use Rattle.dd_disk.proofs.Shows.{both, weaker}
 use Rattle.disk_format.specs.Layout.{slot_at}
 use Rattle.container_log.specs.Parts.{ReadAt}

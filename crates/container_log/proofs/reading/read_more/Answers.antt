@@ -4,7 +4,6 @@ use borrow.Rule.Slice.PartMut.{put_mid}
 use Rattle.base_model.specs.Bytes.{range}
 use Rattle.disk_format.specs.Layout.{slot_at}
 use Rattle.container_log.specs.Parts.{ReadAt}
-use Rattle.container_log.proofs.FirstBytes.{long}
 use Rattle.container_log.proofs.reading.read_more.Goals as goal
 
 pub returns-clause-first : goal.returns-clause-first

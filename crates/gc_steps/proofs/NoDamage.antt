@@ -1,7 +1,8 @@
 -- The next step of a collection finds no damage and misses nothing, where the content of the disk stands for files.
-use Rattle.gc_steps.proofs.Prelude.{◌≡◌, ◌≢◌, ◌≤◌, inl, inr, ℕ, zero, suc, Bool, true, false, List, [], ◌∷◌, ◌++◌, Option, Some, None, refl, sym, ◌∙◌, ap, subst, arith, if◌then◌else◌, slice_get, eq-eqb, eqb-true, All-contains, All-from_recursion, Contains-append_right, sha256, Part, byte_at, key_of, Entry, Kind, Leaf, Place, is_level, kind_byte, PlaceMap, HeaderValue, IsHeader, Shows, DiskView, shown_content, Why, IsToScan, Scan, ScanFault, IsNode, Refusal, Corrupt, Damaged, Missing, Numbers, Files, Store, entry_key, HoldsSlot, IsPartialIndexOf, newest, place_of, IsStoreOf, bytes_at, slot_held, IsNodeEntry, have_levels, newest_so, nodes_so, finds, Represents, RepresentsSlots, SlotTable, Tables, Collection, Stage, Next, IsFlushStepRefusal, IsEntriesFault, IsMarkRefusal, scan_for, MarksAreClosed, ShowsAt, step_refusal, is_old, is_old_slot, IsStepRefusal, moment, HasStage, IsUnderWay}
+use Rattle.gc_steps.proofs.Prelude.{slot_at, length, ◌≡◌, ◌≢◌, ◌≤◌, inl, inr, ℕ, zero, suc, Bool, true, false, List, [], ◌∷◌, ◌++◌, Option, Some, None, refl, sym, ◌∙◌, ap, subst, arith, if◌then◌else◌, slice_get, eq-eqb, eqb-true, All-contains, All-from_recursion, Contains-append_right, sha256, Part, byte_at, key_of, Entry, Kind, Leaf, Place, is_level, kind_byte, PlaceMap, HeaderValue, IsHeader, Shows, DiskView, shown_content, Why, IsToScan, Scan, ScanFault, IsNode, Refusal, Corrupt, Damaged, Missing, Numbers, Files, Store, entry_key, HoldsSlot, IsPartialIndexOf, newest, place_of, IsStoreOf, bytes_at, slot_held, IsNodeEntry, have_levels, newest_so, nodes_so, finds, Represents, RepresentsSlots, SlotTable, Tables, Collection, Stage, Next, IsFlushStepRefusal, IsEntriesFault, IsMarkRefusal, scan_for, MarksAreClosed, ShowsAt, step_refusal, is_old, is_old_slot, IsStepRefusal, moment, HasStage, IsUnderWay}
 use Rattle.std.proofs.Common.{◌&&◌, get_or}
 use Rattle.std.specs.List.{Contains}
+use Rattle.base_model.specs.Bytes.{range}
 use Rattle.container_log.specs.Faults.{IsDamage}
 use Rattle.container_log.specs.Parts.{ReadAt}
 use Rattle.container_meta.specs.declared.kind.Kind.TheVariants.{Tree}

@@ -1,5 +1,5 @@
 -- Over a disk that tells its content, a source is not copied, and what was copied is not written, for want of memory or of an id alone, or as the disk failed.
-use Rattle.gc_sweep.proofs.Prelude.{slot_at, ◌≡◌, ◌≢◌, inl, inr, ℕ, ◌+◌, List, [], ◌∷◌, drop, get_or, Option, Some, None, refl, sym, ◌∙◌, ap, subst, sha256, Entry, Kind, Place, kind_byte, PlaceMap, Contents, HeaderValue, IsCopyRefusal, Planned, Source, planned, source_of, Shows, DiskView, shown_content, LiveKeys, Refusal, Memory, entry_key, HoldSlots, IsPartialIndexOf, place_of, bytes_at, slot_held, RepresentsSlots, SlotTable, Tables, CopyNext, Sweep, IsCopyStepRefusal, HasNext, IsSweeping}
+use Rattle.gc_sweep.proofs.Prelude.{length, slot_at, ◌≡◌, ◌≢◌, inl, inr, ℕ, ◌+◌, List, [], ◌∷◌, drop, get_or, Option, Some, None, refl, sym, ◌∙◌, ap, subst, sha256, Entry, Kind, Place, kind_byte, PlaceMap, Contents, HeaderValue, IsCopyRefusal, Planned, Source, planned, source_of, Shows, DiskView, shown_content, LiveKeys, Refusal, Memory, entry_key, HoldSlots, IsPartialIndexOf, place_of, bytes_at, slot_held, RepresentsSlots, SlotTable, Tables, CopyNext, Sweep, IsCopyStepRefusal, HasNext, IsSweeping}
 use Rattle.std.specs.Prelude.{slice_get}
 use Rattle.base_model.specs.Bytes.{range}
 use Rattle.container_log.specs.Faults.{IsDamage}

@@ -1,6 +1,6 @@
 -- What the lines of a `collect` come to, in a run of the machine of files: the names stay, it chose by what they need, and what it gave
 -- back held nothing that they need.
-use Rattle.std.specs.Prelude.{◌≡◌, ◌⊎◌, ◌≤◌, ℕ, suc, List as ListOf, [], ◌∷◌, length, Some, None}
+use Rattle.std.specs.Prelude.{◌≡◌, ◌⊎◌, ◌+◌, ◌<◌, ◌≤◌, ℕ, suc, List as ListOf, [], ◌∷◌, length, Some, None}
 use Rattle.std.specs.List.{AllByRecursion}
 use Rattle.container_meta.specs.declared.kind.Kind.{Kind}
 use Rattle.container_meta.specs.Segments.{Segment, segment_key}
@@ -15,11 +15,12 @@ use Rattle.script_lines.specs.ReplyValue as replies
 use Rattle.store_model.specs.Image.{Store}
 use Rattle.store_model.specs.Needed.{Needs}
 use Rattle.store_model.specs.Reserve.{IsSpare}
-use Rattle.store_model.specs.Slots.{last_id}
+use Rattle.store_model.specs.Slots.{AreHeaders, free_slots, last_id}
 use Rattle.store_model.specs.Steps.{FlushContainer, FreeContainer, StoreChange, changed}
 use Rattle.store_machine.specs.ByMap.{AfterOpening, ByMap, FileMachine, Through}
 use Rattle.store_machine.specs.Collected.{Collected, HasContainer, HasIds}
 use Rattle.store_machine.specs.Collecting.{Makes, MayBreak, freed_in, ids_before, keys_written}
+use Rattle.store_machine.specs.CollectsByNeed.{FreesUpTo, GivesBackByNeed, TakesIds, written_in}
 use Rattle.store_machine.specs.Commands.{Collect, EndsRefused, EndsWith, IsDone, IsEnded, MayGoOn, Replied, printed}
 use Rattle.store_machine.specs.Lines.{AreDid}
 use Rattle.store_machine.specs.Machine.{Collection, Found, Running, Stepped, stopped}
@@ -80,8 +81,16 @@ pub record HasChosen (percent : ℕ) (now : Found (ListOf ℕ)) (opened : Store)
 
 -- ---- how far it came
 
+-- It wrote its containers under the ids after the last, one after the other, and that is the last one now. It gave back only containers that
+-- were there when it began; and wrote fewer than there are slots, where one was closed then.
+pub record CountsIds (changes : ListOf StoreChange) (opened : Store) (last : ℕ) : Type 0 where
+  pub ids : TakesIds (last_id opened.held) changes
+  pub last_is : last ≡ last_id opened.held + written_in changes
+  pub earlier : FreesUpTo (last_id opened.held) changes opened
+  pub few : 1 ≤ free_slots opened.held → written_in changes < length opened.held
+
 -- It came to its end: so many containers were given back, and so many segments written; the machine runs, and no collection does. Its steps
--- did what it had selected (Collected.antt), if no two containers had one id.
+-- did what it had selected (Collected.antt), and by what the names need (CollectsByNeed.antt), if no two containers had one id.
 pub record HasSwept (percent freed copied : ℕ) (m n : FileMachine) (opened : Store) : Type 0 where
   pub begun : FileMachine
   pub last : FileMachine
@@ -93,7 +102,10 @@ pub record HasSwept (percent freed copied : ℕ) (m n : FileMachine) (opened : S
   pub ran : last.collection ≡ Some c
   pub chosen : HasChosen percent m.now opened c
   pub sweeps : Sweeps m.now c.changes opened n.store
+  pub counts : CountsIds c.changes opened n.last_id
   pub collected : HasIds m.store m.last_id → Collected of_files freed copied made begun last n run
+  pub by_need : HasIds m.store m.last_id → AreHeaders opened.held
+      → GivesBackByNeed (NamesNeed of_files m.now) percent opened n.store c.changes
   pub freed_is : freed ≡ freed_in c.changes
   pub copied_is : copied ≡ length (keys_written c.changes)
   pub runs : n.state ≡ Running
@@ -108,6 +120,7 @@ HasBroken n = (before : FileMachine) × (stores : ListOf Store) × (n ≡ stoppe
 pub record SweptSoFar (rs : ListOf Replied) (m n : FileMachine) (opened : Store) : Type 0 where
   pub changes : ListOf StoreChange
   pub sweeps : Sweeps m.now changes opened n.store
+  pub counts : CountsIds changes opened n.last_id
   pub runs : (EndsRefused DiskWrite rs → ⊥) → n.state ≡ Running
   pub broke : EndsRefused DiskWrite rs → HasBroken n
 

@@ -15,8 +15,13 @@ use Rattle.store_model.specs.Indexing.{entry_key}
 use Rattle.store_model.specs.Slots.{Copy, newest, place_of}
 use Rattle.store_model.proofs.Copies.{lies, some_same}
 use Rattle.store_machine.specs.Asked as asked
-use Rattle.store_machine.specs.Collecting.{Goes, Went}
-use Rattle.store_machine.specs.CollectsAlone.{CountsIds}
+use Rattle.store_machine.specs.Collecting.{Goes, IsCollecting, Went, next_by, phase_by}
+use Rattle.disk_format.specs.declared.numbers.TheConstants.{RESERVE}
+use Rattle.container_meta.specs.Spelling.{IsHeader, header_of}
+use Rattle.store_model.specs.Slots.{free_slots}
+use Rattle.store_model.proofs.Filled.{free_less}
+use Rattle.store_model.proofs.Freed.{free_freed}
+use Rattle.store_machine.specs.CollectsAlone.{CountsIds, HasRoomStill}
 use Rattle.store_machine.specs.CollectsByNeed.{FreesUpTo, TakesIds, written_in}
 use Rattle.store_machine.specs.Done as done
 use Rattle.store_machine.specs.Machine.{Stage}
@@ -67,6 +72,27 @@ pub record IsSourced (opened : Store) (c : C) (s : Sweep) : Type 0 where
   pub waiting : (id : ℕ) → Contains s.waiting id → Contains (sources_in c) id
   pub ready : (id : ℕ) → Contains s.ready id → Contains (sources_in c) id
 
+-- The slots of the reserve are closed, or will be, once what is ready is given back; what waits does so for copies; and unless something is to
+-- be given back next, nothing is ready.
+pub record HasRoomAt (opened store : Store) (next : Phase) (s : Sweep) : Type 0 where
+  pub waits : s.filled ≢ [] → s.waiting ≢ []
+  pub room : RESERVE ≤ free_slots opened.held → RESERVE ≤ free_slots store.held + length s.ready
+  pub idle : (next ≡ phases.Release) ⊎ (s.ready ≡ [])
+
+abbrev pub RoomAt : Store → Store → Stage → Type 0
+RoomAt opened store (Marking left) = store ≡ opened
+RoomAt opened store Recording = store ≡ opened
+RoomAt opened store (Sweeping next s) = HasRoomAt opened store next s
+
+-- where it is not to give a container back, they are closed
+pub room_in : (opened store : Store) (c : C) (phase : Phase) → RoomAt opened store c.stage → IsCollecting phase store (Some c) → phase ≢ phases.Release → HasRoomStill opened store
+room_in opened store c phase room_at is other room = by c.stage room_at is
+  where
+    by : (stage : Stage) → RoomAt opened store stage → phase ≡ phase_by store.held c stage → RESERVE ≤ free_slots store.held
+    by (Marking left) same at = subst (λ (x : Store). RESERVE ≤ free_slots x.held) (sym same) room
+    by Recording same at = subst (λ (x : Store). RESERVE ≤ free_slots x.held) (sym same) room
+    by (Sweeping next s) has at = ⊎_elim (λ release. absurd (other (at ∙ release))) (λ none. omega (arith, has.room room, ap length none)) has.idle
+
 abbrev pub SourcedAt : Store → C → Stage → Type 0
 SourcedAt opened c (Marking left) = Unit {0}
 SourcedAt opened c Recording = Unit {0}
@@ -84,14 +110,34 @@ adds_none : (first last : ℕ) (s : Store) (changes : ListOf StoreChange) → ch
 adds_none first last s changes none =
     subst (AddsIds first last s) (sym none) (record { ids = tt; last_is = omega arith; earlier = tt })
 
-pub record Sourced (opened : Store) (last : ℕ) (c : C) : Type 0 where
+pub record Sourced (opened store : Store) (last : ℕ) (c : C) : Type 0 where
   pub ids : TakesIds (last_id opened.held) c.changes
   pub last_is : last ≡ last_id opened.held + written_in c.changes
   pub earlier : FreesUpTo (last_id opened.held) c.changes opened
   pub at : SourcedAt opened c c.stage
+  pub room : RoomAt opened store c.stage
+
+-- what comes next where something is ready
+idle_by : (held : ListOf (Option HeaderValue)) (sources : ListOf ℕ) (source : ℕ) (ready : ListOf ℕ) (filled : ListOf (ListOf ℕ))
+    → (next_by held sources source ready filled ≡ phases.Release) ⊎ (ready ≡ [])
+idle_by held sources source [] filled = inr refl
+idle_by held sources source (id ∷ ids) filled = inl refl
+
+not_empty : {X : Type 0} (xs : ListOf X) (x : X) → xs ++ x ∷ [] ≢ []
+not_empty [] x is = absurd (let wrong : 1 ≡ 0 = ap length is in omega (arith, wrong))
+not_empty (y ∷ ys) x is = absurd (let wrong : suc (length (ys ++ x ∷ [])) ≡ 0 = ap length is in omega (arith, wrong))
+
+some_in : {X : Type 0} (xs : ListOf X) → xs ≢ [] → 1 ≤ length xs
+some_in [] some = absurd (some refl)
+some_in (x ∷ xs) some = omega arith
+
+-- a container that is right has segments
+some_keys : (id : ℕ) (kind : Kind) (segments : ListOf Segment) → IsHeader (header_of id kind segments) → keys_of kind segments ≢ []
+some_keys id kind [] right is = absurd (let wrong : false ≡ true = right.count in cc)
+some_keys id kind (x ∷ xs) right is = absurd (let wrong : suc (length (keys_of kind xs)) ≡ 0 = ap length is in omega (arith, wrong))
 
 module _ (percent : ℕ) (now : Found (ListOf ℕ)) (opened : Store) (m : FileMachine) (same : m.now ≡ now) (c : C) (tied : Tied percent now opened m.store c)
-    (so : Sourced opened m.last_id c) where
+    (so : Sourced opened m.store m.last_id c) where
   abbrev Needed : ListOf ℕ → Type 0
   Needed key = NamesNeed of_files now key
 
@@ -289,8 +335,97 @@ module _ (percent : ℕ) (now : Found (ListOf ℕ)) (opened : Store) (m : FileMa
       })
   sourced_by phase w goes = absurd goes
 
+  -- ---- the reserve
+
+  no_change : (w : Went) (store : Store) → w.changes ≡ [] → Makes w.changes m.store store → store ≡ m.store
+  no_change w store none makes = subst (λ (xs : ListOf StoreChange). Makes xs m.store store) none makes
+
+  at_room : (next : Phase) (s : Sweep) → c.stage ≡ Sweeping next s → HasRoomAt opened m.store next s
+  at_room next s is = subst (RoomAt opened m.store) is so.room
+
+  idle_now : (t : Sweep) → (next_of m.store.held (sources_in c) t ≡ phases.Release) ⊎ (t.ready ≡ [])
+  idle_now t = idle_by m.store.held (sources_in c) t.source t.ready t.filled
+
+  room_to : (w : Went) (store : Store) (next : Phase) (t : Sweep) → w.stage ≡ Sweeping next t → HasRoomAt opened store next t → RoomAt opened store w.stage
+  room_to w store next t is room = subst (RoomAt opened store) (sym is) room
+
+  still_opened : (w : Went) (store : Store) → w.changes ≡ [] → Makes w.changes m.store store → m.store ≡ opened → store ≡ opened
+  still_opened w store none makes was = no_change w store none makes ∙ was
+
+  opened_at : c.stage ≡ Recording → m.store ≡ opened
+  opened_at was = subst (RoomAt opened m.store) was so.room
+
+  room_mark : (w : Went) (store : Store) (left : ℕ) → w.stage ≡ marking left → store ≡ opened → RoomAt opened store w.stage
+  room_mark w store left is same = subst (RoomAt opened store) (sym is) (by left)
+    where
+      by : (n : ℕ) → RoomAt opened store (marking n)
+      by zero = same
+      by (suc n) = same
+
+  module _ (w : Went) (store : Store) (s t : Sweep) (next : Phase) (was : HasRoomAt opened m.store phases.Copy s) (none_ready : s.ready ≡ []) (unmoved : store ≡ m.store) where
+    abbrev free : ℕ
+    free = free_slots store.held
+
+    roomy : RESERVE ≤ free_slots opened.held → RESERVE ≤ free
+    roomy room = omega (arith, was.room room, ap length none_ready, ap (λ (x : Store). free_slots x.held) unmoved)
+
+    copied_room : Ends phases.Flush s t next → HasRoomAt opened store next t
+    copied_room (inl (to, entry, then, inl (grown, waiting, ready))) = record {
+      waits = λ some none. not_empty s.waiting _ (sym waiting ∙ none);
+      room = λ room. omega (arith, roomy room);
+      idle = inr ready;
+    }
+    copied_room (inl (to, entry, then, inr (inl (filled, waiting, ready)))) = record {
+      waits = λ some none. was.waits (λ empty. some (filled ∙ empty)) (sym waiting ∙ none);
+      room = λ room. omega (arith, roomy room);
+      idle = ⊎_elim (λ release. inl (then ∙ release)) (λ empty. inr empty) (idle_now t);
+    }
+    copied_room (inl (to, entry, then, inr (inr (unknown, filled, waiting, ready)))) = absurd (unknown tt)
+    copied_room (inr (to, entry, then, some, some_now, waiting, ready)) = record {
+      waits = λ more none. was.waits some (sym waiting ∙ none);
+      room = λ room. omega (arith, roomy room);
+      idle = inr ready;
+    }
+
+  room_by : (phase : Phase) (w : Went) (store : Store) → Goes of_files phase c m w → Makes w.changes m.store store → RoomAt opened store w.stage
+  room_by phases.Mark w store (left, was, is, (recorded, none, forgotten)) makes =
+      room_mark w store left is (still_opened w store none makes (subst (RoomAt opened m.store) was so.room))
+  room_by phases.Filter w store goes makes = subst (RoomAt opened store) (sym goes.2) (still_opened w store goes.4 makes (opened_at goes.1))
+  room_by phases.Select w store (was, all, is, (recorded, none, forgotten)) makes =
+      let same : store ≡ opened = still_opened w store none makes (opened_at was) in
+      room_to w store _ _ is (record {
+        waits = λ some. absurd (some refl);
+        room = λ room. omega (arith, room, ap (λ (x : Store). free_slots x.held) same);
+        idle = inr refl;
+      })
+  room_by phases.Copy w store (s, t, next, was, is, recorded, none, below, ready, grows, over, ends) makes =
+      room_to w store next t is (copied_room w store s t next (at_room phases.Copy s was) ready (no_change w store none makes) ends)
+  room_by phases.Flush w store (s, t, kind, segments, was, one, keys, t_is, is, recorded, forgotten, copies) makes =
+      let at = at_room phases.Flush s was in
+      let made : Makes (FlushContainer (suc m.last_id) kind segments ∷ []) m.store store = subst (λ (xs : ListOf StoreChange). Makes xs m.store store) one makes in
+      let none : s.ready ≡ [] = ⊎_elim (λ e. absurd (let wrong : phases.Flush ≡ phases.Release = e in cc)) (λ empty. empty) at.idle in
+      let waiting : 1 ≤ length s.waiting = some_in s.waiting (at.waits (λ empty. some_keys (suc m.last_id) kind segments made.0.right (keys ∙ empty))) in
+      let less : suc (free_slots store.held) ≡ free_slots m.store.held =
+      subst (λ (x : Store). suc (free_slots x.held) ≡ free_slots m.store.held) (sym made.1) (free_less (header_of (suc m.last_id) kind segments) m.store.held (omega (arith, made.0.slot))) in
+      room_to w store _ t is (record {
+        waits = λ some. absurd (some (ap (λ (x : Sweep). x.filled) t_is));
+        room = λ room. omega (arith, less, made.0.slot, waiting, ap (λ (x : Sweep). length x.ready) t_is);
+        idle = idle_now t;
+      })
+  room_by phases.Release w store (s, t, id, slot, rest, was, ready, one, (header, there, id_is), t_is, is, recorded, forgotten, spare) makes =
+      let at = at_room phases.Release s was in
+      let made : Makes (FreeContainer slot ∷ []) m.store store = subst (λ (xs : ListOf StoreChange). Makes xs m.store store) one makes in
+      let more : free_slots store.held ≡ suc (free_slots m.store.held) =
+      subst (λ (x : Store). free_slots x.held ≡ suc (free_slots m.store.held)) (sym made.1) (free_freed slot header m.store.held there) in
+      room_to w store _ t is (record {
+        waits = λ some none. at.waits (λ empty. some (ap (λ (x : Sweep). x.filled) t_is ∙ empty)) (sym (ap (λ (x : Sweep). x.waiting) t_is) ∙ none);
+        room = λ room. omega (arith, at.room room, more, ap length ready, ap (λ (x : Sweep). length x.ready) t_is);
+        idle = idle_now t;
+      })
+  room_by phase w store goes makes = absurd goes
+
   pub sourced_on : (phase : Phase) (w : Went) (store : Store) → Goes of_files phase c m w → Makes w.changes m.store store
-      → Sourced opened (last_by w.changes m.last_id) (now_at w)
+      → Sourced opened store (last_by w.changes m.last_id) (now_at w)
   sourced_on phase w store goes makes =
       let adds = adds_ids phase w goes in
       record {
@@ -298,9 +433,15 @@ module _ (percent : ℕ) (now : Found (ListOf ℕ)) (opened : Store) (m : FileMa
         last_is = omega (arith, adds.last_is, so.last_is, written_then c.changes w.changes);
         earlier = frees_then first c.changes w.changes opened m.store tied.sweeps.makes so.earlier adds.earlier;
         at = sourced_by phase w goes;
+        room = room_by phase w store goes makes;
       }
 
 -- ---- what is counted
+
+-- its beginning
+pub room_first : (opened store : Store) (left : ℕ) → store ≡ opened → RoomAt opened store (marking left)
+room_first opened store zero same = same
+room_first opened store (suc left) same = same
 
 -- nothing was written yet
 pub sourced_first : (opened : Store) (c : C) (left : ℕ) → SourcedAt opened c (marking left)
@@ -310,7 +451,7 @@ sourced_first opened c (suc left) = tt
 pub none_given : (opened : Store) (last : ℕ) → last ≡ last_id opened.held → CountsIds [] opened last
 none_given opened last is = record { ids = tt; last_is = omega (arith, is); earlier = tt; few = λ some. omega (arith, some, free_within opened.held) }
 
-pub counts_of : (now : Found (ListOf ℕ)) (opened store : Store) (last : ℕ) (c : C) → Sweeps now c.changes opened store → Sourced opened last c → CountsIds c.changes opened last
+pub counts_of : (now : Found (ListOf ℕ)) (opened store : Store) (last : ℕ) (c : C) → Sweeps now c.changes opened store → Sourced opened store last c → CountsIds c.changes opened last
 counts_of now opened store last c sweeps so = record {
   ids = so.ids;
   last_is = so.last_is;
@@ -326,13 +467,13 @@ pub record Under (percent : ℕ) (now : Found (ListOf ℕ)) (opened : Store) (m 
   pub c : C
   pub ran : m.collection ≡ Some c
   pub tied : Tied percent now opened m.store c
-  pub sourced : Sourced opened m.last_id c
+  pub sourced : Sourced opened m.store m.last_id c
 
 module _ (percent : ℕ) (now : Found (ListOf ℕ)) (opened : Store) where
   goes_on : (m : FileMachine) → Under percent now opened m → (phase : Phase) (n : FileMachine) → GoesOn of_files phase m n → Under percent now opened n
   goes_on m u phase n goes =
       let own : u.c ≡ goes.c = same_some u.c goes.c (sym u.ran ∙ goes.ran) in
-      let so : (d : C) → u.c ≡ d → Sourced opened m.last_id d = (λ d is. subst (Sourced opened m.last_id) is u.sourced) in
+      let so : (d : C) → u.c ≡ d → Sourced opened m.store m.last_id d = (λ d is. subst (Sourced opened m.store m.last_id) is u.sourced) in
       let tied : Tied percent now opened m.store goes.c = subst (Tied percent now opened m.store) own u.tied in
       record {
         same = ap (λ (x : FileMachine). x.now) goes.others ∙ u.same;
@@ -340,7 +481,7 @@ module _ (percent : ℕ) (now : Found (ListOf ℕ)) (opened : Store) where
         c = _;
         ran = ap (λ (x : FileMachine). x.collection) goes.others;
         tied = tied_on percent now opened m u.same goes.c tied phase goes.went n.store goes.goes goes.makes;
-        sourced = subst (λ (last : ℕ). Sourced opened last (now_at percent now opened m u.same goes.c tied (so goes.c own) goes.went))
+        sourced = subst (λ (last : ℕ). Sourced opened n.store last (now_at percent now opened m u.same goes.c tied (so goes.c own) goes.went))
             (sym (ap (λ (x : FileMachine). x.last_id) goes.others))
             (sourced_on percent now opened m u.same goes.c tied (so goes.c own) phase goes.went n.store goes.goes goes.makes);
       }

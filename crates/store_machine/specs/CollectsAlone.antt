@@ -5,7 +5,7 @@ use Rattle.std.specs.List.{AllByRecursion}
 use Rattle.container_meta.specs.declared.kind.Kind.{Kind}
 use Rattle.container_meta.specs.Segments.{Segment, segment_key}
 use Rattle.container_meta.specs.Spelling.{HeaderValue, bytes_of}
-use Rattle.disk_format.specs.declared.numbers.TheConstants.{LAST_ID}
+use Rattle.disk_format.specs.declared.numbers.TheConstants.{LAST_ID, RESERVE}
 use Rattle.gc_select.specs.declared.liveness.ContainerLiveness.{ContainerLiveness}
 use Rattle.gc_select.specs.Selecting.{ids_of}
 use Rattle.refusals.specs.declared.refusal.Refusal.{Refusal}
@@ -81,13 +81,17 @@ pub record HasChosen (percent : ℕ) (now : Found (ListOf ℕ)) (opened : Store)
 
 -- ---- how far it came
 
--- It wrote its containers under the ids after the last, one after the other, and that is the last one now. It gave back only containers that
--- were there when it began; and wrote fewer than there are slots, where one was closed then.
+-- It wrote its containers under the ids after the last, one after the other, and that is the last one now. It gave back only containers
+-- that were there when it began; and wrote fewer than there are slots, where one was closed then.
 pub record CountsIds (changes : ListOf StoreChange) (opened : Store) (last : ℕ) : Type 0 where
   pub ids : TakesIds (last_id opened.held) changes
   pub last_is : last ≡ last_id opened.held + written_in changes
   pub earlier : FreesUpTo (last_id opened.held) changes opened
   pub few : 1 ≤ free_slots opened.held → written_in changes < length opened.held
+
+-- the slots of the reserve are closed, if they were
+abbrev pub HasRoomStill : Store → Store → Type 0
+HasRoomStill opened store = RESERVE ≤ free_slots opened.held → RESERVE ≤ free_slots store.held
 
 -- It came to its end: so many containers were given back, and so many segments written; the machine runs, and no collection does. Its steps
 -- did what it had selected (Collected.antt), and by what the names need (CollectsByNeed.antt), if no two containers had one id.
@@ -103,6 +107,7 @@ pub record HasSwept (percent freed copied : ℕ) (m n : FileMachine) (opened : S
   pub chosen : HasChosen percent m.now opened c
   pub sweeps : Sweeps m.now c.changes opened n.store
   pub counts : CountsIds c.changes opened n.last_id
+  pub room : HasRoomStill opened n.store
   pub collected : HasIds m.store m.last_id → Collected of_files freed copied made begun last n run
   pub by_need : HasIds m.store m.last_id → AreHeaders opened.held
       → GivesBackByNeed (NamesNeed of_files m.now) percent opened n.store c.changes
@@ -115,12 +120,13 @@ pub record HasSwept (percent freed copied : ℕ) (m n : FileMachine) (opened : S
 abbrev pub HasBroken : FileMachine → Type 0
 HasBroken n = (before : FileMachine) × (stores : ListOf Store) × (n ≡ stopped None stores before) × MayBreak of_files before stores
 
--- It came so far: this was changed until then; and only where a write failed the machine is stopped, by that store, or one that the change
--- would have made.
+-- It came so far: this was changed until then, and but for want of memory the slots of the reserve are closed; and only where a write failed
+-- the machine is stopped, by that store, or one that the change would have made.
 pub record SweptSoFar (rs : ListOf Replied) (m n : FileMachine) (opened : Store) : Type 0 where
   pub changes : ListOf StoreChange
   pub sweeps : Sweeps m.now changes opened n.store
   pub counts : CountsIds changes opened n.last_id
+  pub room : (EndsRefused Memory rs → ⊥) → (EndsRefused DiskWrite rs → ⊥) → HasRoomStill opened n.store
   pub runs : (EndsRefused DiskWrite rs → ⊥) → n.state ≡ Running
   pub broke : EndsRefused DiskWrite rs → HasBroken n
 

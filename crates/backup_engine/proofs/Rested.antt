@@ -12,7 +12,7 @@ use Rattle.store_machine.specs.Needs.{NamesNeed}
 use Rattle.store_machine.specs.Opening.{Opens, Stands}
 use Rattle.store_machine.specs.Runs.{IsPassedFrom, Run}
 use Rattle.core_machine.specs.FileOpenings.{opening}
-use Rattle.core_machine.proofs.FileNames.{needs_reach}
+use Rattle.store_machine.proofs.Reached.{needs_reach}
 use Rattle.backup_engine.specs.AnswersByMap.{EndsBy}
 
 -- a store at rest, that no one has open

@@ -61,6 +61,3 @@ pub is_collecting : (store : Store) (t : SlotTable) (swept : Bool) (a : Option (
     → RepresentsSlots store.held t → IsUnderWay t k → Runs t swept a k → phase ≡ phase_at k.stage k.sweep.next → IsCollecting phase store a
 is_collecting store t swept a k phase right slots under runs is =
     subst (IsCollecting phase store) (sym runs.ran) (is ∙ sym (phase_so store.held t swept runs.c k right slots runs.same under))
-
-pub some_runs : (t : SlotTable) (swept : Bool) (a : Option (Collection Root)) (k : CoreCollection) → Runs t swept a k → is_some a ≡ true
-some_runs t swept a k runs = ap is_some runs.ran

@@ -1,5 +1,5 @@
 -- What a collection that ran alone gave back and copied, by what the names need.
-use Rattle.store_machine.proofs.Prelude.{◌≡◌, ◌≢◌, ◌⊎◌, ◌+◌, ◌<◌, ◌≤◌, inl, inr, ⊎_elim, ℕ, zero, suc, Bool, true, false, nat_lt, ListOf, [], ◌∷◌, ◌++◌, get_or, length, ◌==◌, Contains, Option, Some, None, option_map, refl, sym, ◌∙◌, ap, subst, arith, AllByRecursion, Entry, Kind, Segment, HeaderValue, header_of, ContainerLiveness, ids_of, there_before, with_freed, Store, IsSpare, first_free, free_slots, last_id, with_slot, ChangeName, FlushContainer, FreeContainer, SealContainer, StoreChange, with_sealed, cases_lt, FileMachine, EachOnce, HasContainer, HasIds, ids_before, keys_written, sources_in, Sweeps, Found, NamesNeed, of_files}
+use Rattle.store_machine.proofs.Prelude.{◌≡◌, ◌≢◌, ◌⊎◌, ◌↔◌, ◌+◌, ◌<◌, ◌≤◌, inl, inr, ⊎_elim, ℕ, zero, suc, Bool, true, false, nat_lt, ListOf, [], ◌∷◌, ◌++◌, get_or, length, ◌==◌, Contains, Option, Some, None, option_map, refl, sym, ◌∙◌, ap, subst, arith, AllByRecursion, Entry, Kind, Segment, HeaderValue, header_of, ContainerLiveness, ids_of, there_before, with_freed, Store, IsSpare, first_free, free_slots, last_id, with_slot, ChangeName, FlushContainer, FreeContainer, SealContainer, StoreChange, with_sealed, cases_lt, FileMachine, EachOnce, HasContainer, HasIds, ids_before, keys_written, sources_in, Sweeps, Found, NamesNeed, of_files}
 use Rattle.std.proofs.Common.{◌*◌, find, slice_get}
 use Rattle.std.specs.Prelude.{◌||◌, nat_le, if◌then◌else◌}
 use Rattle.disk_format.specs.declared.numbers.TheConstants.{MOST_ENTRIES}
@@ -20,9 +20,9 @@ use Rattle.store_model.specs.Slots.{AreHeaders, Copy, newest, place_of}
 use Rattle.store_model.proofs.Copies.{length_within, lies, newest_within, some_same}
 use Rattle.store_machine.specs.CollectsAlone.{HasChosen, IsRecorded}
 use Rattle.store_machine.specs.CollectsByNeed.{Chooses, GivesBackByNeed, IsChosen, IsGone, IsLittle, IsMoved, IsToCopy, TakesIds}
-use Rattle.store_machine.proofs.Moved.{Spares, needs_written, all_so, carried, filled_there, found_key, none_needed, rank, rank_least, spares_of, still_newest, written}
+use Rattle.store_machine.proofs.Moved.{Spares, needs_written, spares_as, all_so, carried, filled_there, found_key, none_needed, rank, rank_least, spares_of, still_newest, written}
 use Rattle.store_machine.proofs.Sources.{IsOfSource, is_in}
-use Rattle.store_machine.proofs.SweptAlone.{C, id_within}
+use Rattle.store_machine.proofs.SweptAlone.{C, id_within, sums_same}
 use Rattle.store_machine.proofs.Swept.{head_of, in_tail}
 
 -- ---- tests
@@ -173,20 +173,20 @@ find_record [] id (k, below, is) = absurd (omega (arith, below))
 find_record (r ∷ rs) id (zero, below, is) = (r, (is, head_of r rs))
 find_record (r ∷ rs) id (suc k, below, is) = let rest = find_record rs id (k, omega (arith, below), is) in (rest.0, (rest.1.0, in_tail r rs rest.0 rest.1.1))
 
-module _ (percent : ℕ) (now : Found (ListOf ℕ)) (opened after : Store) (c : C) (ids : HasIds opened (last_id opened.held)) (headers : AreHeaders opened.held)
+module _ (P : ListOf ℕ → Type 0) (percent : ℕ) (now : Found (ListOf ℕ)) (words : (key : ListOf ℕ) → P key ↔ NamesNeed of_files now key) (opened after : Store) (c : C) (ids : HasIds opened (last_id opened.held)) (headers : AreHeaders opened.held)
     (chosen : HasChosen percent now opened c) (sweeps : Sweeps now c.changes opened after) (takes : TakesIds (last_id opened.held) c.changes)
     (copied : (key : ListOf ℕ) → Contains (keys_written c.changes) key → IsOfSource opened c key)
     (gone : (slot : ℕ) (h : HeaderValue) → HasContainer after slot h → ¬ (Contains (sources_in c) h.id))
     (stay : (slot : ℕ) (h : HeaderValue) → HasContainer opened slot h → ¬ (Contains (sources_in c) h.id) → HasContainer after slot h)
     (once : EachOnce (keys_written c.changes)) where
-  abbrev P : ListOf ℕ → Type 0
-  P = NamesNeed of_files now
+  abbrev Names : ListOf ℕ → Type 0
+  Names = NamesNeed of_files now
 
   abbrev held : ListOf (Option HeaderValue)
   held = opened.held
 
   spares : Spares P c.changes opened after
-  spares = spares_of now c.changes opened after sweeps
+  spares = spares_as Names P (λ key. (words key).0) c.changes opened after (spares_of now c.changes opened after sweeps)
 
   -- ---- what is known of a container
 
@@ -201,7 +201,8 @@ module _ (percent : ℕ) (now : Found (ListOf ℕ)) (opened after : Store) (c : 
       let slot_is : is.slot ≡ slot = ids.differ is.slot slot is.header h is.there there (sym is.id_is ∙ same) in
       let header_is : is.header ≡ h = some_same is.header h (some_same (Some is.header) (Some h) (sym is.there ∙ ap (slice_get held) slot_is ∙ there)) in (
         subst (λ (k : ℕ). SumsNeeded P held h.kind k h.entries r.live) slot_is
-            (subst (λ (g : HeaderValue). SumsNeeded P held g.kind is.slot g.entries r.live) header_is is.live_is),
+            (subst (λ (g : HeaderValue). SumsNeeded P held g.kind is.slot g.entries r.live) header_is
+            (sums_same Names P (λ key. (words key).1) (λ key. (words key).0) held is.header.kind is.slot is.header.entries r.live is.live_is)),
         is.all_is ∙ ap (λ (g : HeaderValue). bytes_of g.entries) header_is,
       )
 
@@ -279,7 +280,7 @@ module _ (percent : ℕ) (now : Found (ListOf ℕ)) (opened after : Store) (c : 
       }
 
   needed_of_written : (key : ListOf ℕ) → Contains (keys_written c.changes) key → P key
-  needed_of_written key has = needs_written now c.changes opened after sweeps key has
+  needed_of_written key has = (words key).1 (needs_written now c.changes opened after sweeps key has)
 
   -- ---- what it chose
 

@@ -18,6 +18,8 @@ use Rattle.store_machine.proofs.Passing.{sure_found}
 use Rattle.store_machine.proofs.Quiet.{IsSure, running_sure}
 use Rattle.store_machine.proofs.Stepwise.{At, Desks, Fresh, IsFailure, NotOpened, Over, Step, WasOpened, ends_from, ends_over, ends_so, lines_after, no_actor, not_barred, one_step, opened_store, unopened_ends, unopened_found, unopened_printed, unopened_refusal, unopened_store, unopened_undone}
 use Rattle.store_machine.proofs.ByNeed.{gives_back}
+use Rattle.store_model.specs.Reserve.{IsReachable}
+use Rattle.store_machine.proofs.Reached.{needs_just}
 use Rattle.store_machine.proofs.Sources.{IsSourced, SourcedAt, Under, all_went, counts_of, none_given, room_first, room_in, sourced_first}
 use Rattle.store_machine.proofs.SweptAlone.{C, ByStage, has_chosen, opened_ids, same_some}
 use Rattle.store_machine.proofs.Swept.{none_filled, none_in}
@@ -81,7 +83,7 @@ module _ (percent : ℕ) (start : FileMachine) (opened : Store) where
     pub changes : ListOf StoreChange
     pub sweeps : Sweeps start.now changes opened n.store
     pub counts : CountsIds changes opened n.last_id
-    pub room : (reply ≡ replies.Refused refusals.Memory → ⊥) → (reply ≡ replies.Refused refusals.DiskWrite → ⊥) → HasRoomStill opened n.store
+    pub room : (reply ≡ replies.Refused refusals.DiskWrite → ⊥) → HasRoomStill opened n.store
     pub runs : (reply ≡ replies.Refused refusals.DiskWrite → ⊥) → n.state ≡ Running
     pub broke : reply ≡ replies.Refused refusals.DiskWrite → HasBroken n
 
@@ -96,12 +98,12 @@ module _ (percent : ℕ) (start : FileMachine) (opened : Store) where
 
   -- it runs, and these changes were made
   runs_so : (reply : ReplyValue) (n : FileMachine) (changes : ListOf StoreChange) → Sweeps start.now changes opened n.store → CountsIds changes opened n.last_id
-      → ((reply ≡ replies.Refused refusals.Memory → ⊥) → HasRoomStill opened n.store) → n.state ≡ Running → (reply ≡ replies.Refused refusals.DiskWrite → ⊥) → SoFar reply n
+      → HasRoomStill opened n.store → n.state ≡ Running → (reply ≡ replies.Refused refusals.DiskWrite → ⊥) → SoFar reply n
   runs_so reply n changes sweeps counts room runs other = record {
     changes = changes;
     sweeps = sweeps;
     counts = counts;
-    room = λ no_memory whole. room no_memory;
+    room = λ _. room;
     runs = λ _. runs;
     broke = λ is. absurd (other is);
   }
@@ -128,7 +130,7 @@ module _ (percent : ℕ) (start : FileMachine) (opened : Store) where
     undone = λ _. (
       refl,
       runs_so (replies.Opened files) d.machine [] (none_swept d.machine at.store) (none_counted d.machine d.machine.store fresh.last at.store)
-          (λ _. room_opened d.machine at.store) at.runs
+          (room_opened d.machine at.store) at.runs
           (λ wrong. let no : replies.Opened files ≡ replies.Refused refusals.DiskWrite = wrong in cc),
     );
     refused = λ refusal wrong. absurd (let no : replies.Opened files ≡ replies.Refused refusal = wrong in cc);
@@ -213,7 +215,7 @@ module _ (percent : ℕ) (start : FileMachine) (opened : Store) where
           done = λ d. absurd d;
           undone = λ _. (
             refl,
-            runs_so (replies.Collecting snapshot) mid.machine [] (none_swept mid.machine store) counts (λ _. room_opened mid.machine store) runs
+            runs_so (replies.Collecting snapshot) mid.machine [] (none_swept mid.machine store) counts (room_opened mid.machine store) runs
                 (λ wrong. let no : replies.Collecting snapshot ≡ replies.Refused refusals.DiskWrite = wrong in cc),
           );
           refused = λ refusal wrong. absurd (let no : replies.Collecting snapshot ≡ replies.Refused refusal = wrong in cc);
@@ -233,7 +235,7 @@ module _ (percent : ℕ) (start : FileMachine) (opened : Store) where
         (ap (λ (x : FileMachine). x.now) same ∙ at.same) (running_sure mid.machine.state runs)
         (runs_so (replies.Refused refusal) mid.machine [] (none_swept mid.machine (ap (λ (x : FileMachine). x.store) same ∙ at.store))
         (subst (CountsIds [] opened) (sym (ap (λ (x : FileMachine). x.last_id) same)) (none_counted d.machine d.machine.store fresh.last at.store))
-        (λ _. room_opened mid.machine (ap (λ (x : FileMachine). x.store) same ∙ at.store)) runs
+        (room_opened mid.machine (ap (λ (x : FileMachine). x.store) same ∙ at.store)) runs
         (λ wrong. other (let both : replies.Refused refusal ≡ replies.Refused refusals.DiskWrite = wrong in cc)))
 
     begins_not : (a : ℕ) (refusal : Refusal) → reply ≡ replies.Refused refusal → RefusesOn of_files a (asked.GcStart percent) refusal d.machine mid.machine → Next
@@ -303,7 +305,7 @@ module _ (percent : ℕ) (start : FileMachine) (opened : Store) where
             by_need = λ ids headers.
                 let all = all_did ids in
                 let same : all.c ≡ u.c = same_some all.c u.c (sym all.ran ∙ u.ran) in
-                gives_back percent start.now opened mid.machine.store u.c (runs.opened_ids ids) headers chosen sweeps u.sourced.ids sourced.written
+                gives_back (IsReachable start.now.names) percent start.now (needs_just start.now) opened mid.machine.store u.c (runs.opened_ids ids) headers chosen sweeps u.sourced.ids sourced.written
                 (λ slot h has source. all.gone slot h has (subst (λ (x : C). Contains (sources_in x) h.id) (sym same) source))
                 (λ slot h was not. all.stay slot h (subst (λ (x : Store). HasContainer x slot h) (sym runs.store_is) was)
                 (λ source. not (subst (λ (x : C). Contains (sources_in x) h.id) same source)))
@@ -315,25 +317,25 @@ module _ (percent : ℕ) (start : FileMachine) (opened : Store) where
           }
 
       stays : (refusal : Refusal) → refusal ≢ refusals.DiskWrite → reply ≡ replies.Refused refusal → CollectRefusal k refusal
-          → ((replies.Refused refusal ≡ replies.Refused refusals.Memory → ⊥) → HasRoomStill opened k.store) → mid.machine ≡ k → Last
+          → HasRoomStill opened k.store → mid.machine ≡ k → Last
       stays refusal other is cause room same =
           let up : mid.machine.state ≡ Running = ap (λ (x : FileMachine). x.state) same ∙ u.runs in
           stops text none lines.Sweep reply mid refusal is (subst (λ (x : FileMachine). CollectRefusal x refusal) (sym same) cause) (ap (λ (x : FileMachine). x.now) same ∙ u.same)
           (running_sure mid.machine.state up)
           (runs_so (replies.Refused refusal) mid.machine u.c.changes (subst (λ (x : FileMachine). Sweeps start.now u.c.changes opened x.store) (sym same) u.tied.sweeps)
           (subst (λ (x : FileMachine). CountsIds u.c.changes opened x.last_id) (sym same) counted)
-          (subst (λ (x : FileMachine). (replies.Refused refusal ≡ replies.Refused refusals.Memory → ⊥) → HasRoomStill opened x.store) (sym same) room) up
+          (subst (λ (x : FileMachine). HasRoomStill opened x.store) (sym same) room) up
           (λ wrong. other (let both : replies.Refused refusal ≡ replies.Refused refusals.DiskWrite = wrong in cc)))
 
       refused_by : (refusal : Refusal) → reply ≡ replies.Refused refusal → RefusesGcStep of_files refusal k mid.machine → Last
       refused_by refusals.NotCollecting is (none_runs, same) = absurd (let wrong : None ≡ Some u.c = sym none_runs ∙ u.ran in cc)
       refused_by refusals.Memory is (some, same) =
-          stays refusals.Memory (λ e. let wrong : refusals.Memory ≡ refusals.DiskWrite = e in cc) is tt (λ other. absurd (other refl)) same
+          stays refusals.Memory (λ e. let wrong : refusals.Memory ≡ refusals.DiskWrite = e in cc) is tt (room_so some.0 some.1 some.2) same
       refused_by refusals.Numbers is (flush, last, same) =
           stays refusals.Numbers (λ e. let wrong : refusals.Numbers ≡ refusals.DiskWrite = e in cc) is last
-          (λ _. room_so phases.Flush flush (λ e. let wrong : phases.Flush ≡ phases.Release = e in cc)) same
+          (room_so phases.Flush flush (λ e. let wrong : phases.Flush ≡ phases.Release = e in cc)) same
       refused_by refusals.DiskRead is (some, same) =
-          stays refusals.DiskRead (λ e. let wrong : refusals.DiskRead ≡ refusals.DiskWrite = e in cc) is tt (λ _. reads some) same
+          stays refusals.DiskRead (λ e. let wrong : refusals.DiskRead ≡ refusals.DiskWrite = e in cc) is tt (reads some) same
         where
           reads : IsCollecting phases.Mark k.store k.collection ⊎ IsCollecting phases.Filter k.store k.collection ⊎ IsCollecting phases.Copy k.store k.collection
               ⊎ (IsCollecting phases.Flush k.store k.collection × (k.last_id < LAST_ID)) → HasRoomStill opened k.store
@@ -347,7 +349,7 @@ module _ (percent : ℕ) (start : FileMachine) (opened : Store) where
             changes = u.c.changes;
             sweeps = subst (λ (x : FileMachine). Sweeps start.now u.c.changes opened x.store) (sym others) u.tied.sweeps;
             counts = subst (λ (x : FileMachine). CountsIds u.c.changes opened x.last_id) (sym others) counted;
-            room = λ _ whole. absurd (whole refl);
+            room = λ whole. absurd (whole refl);
             runs = λ not. absurd (not refl);
             broke = λ _. (k, stores, others, may);
           })
@@ -445,8 +447,7 @@ collects_by_map percent (one ∷ more) ss m e runs lines_are ran =
                   changes = far.1.changes;
                   sweeps = far.1.sweeps;
                   counts = far.1.counts;
-                  room = λ no_memory whole. far.1.room (λ is. no_memory (ends_from (λ one. one.reply ≡ replies.Refused refusals.Memory) one more is))
-                      (λ is. whole (ends_from (λ one. one.reply ≡ replies.Refused refusals.DiskWrite) one more is));
+                  room = λ whole. far.1.room (λ is. whole (ends_from (λ one. one.reply ≡ replies.Refused refusals.DiskWrite) one more is));
                   runs = λ not. far.1.runs (λ is. not (ends_from (λ one. one.reply ≡ replies.Refused refusals.DiskWrite) one more is));
                   broke = λ end. far.1.broke (ends_so (λ one. one.reply ≡ replies.Refused refusals.DiskWrite) one more end);
                 }),

@@ -40,6 +40,17 @@ spares_by now (FlushContainer id kind segments ∷ more) s t each (can, makes) k
     (can, spares_by now more (changed (FlushContainer id kind segments) s) t each.1 makes keeps.1)
 spares_by now (FreeContainer slot ∷ more) s t each (can, makes) keeps = (keeps.0, spares_by now more (changed (FreeContainer slot) s) t each.1 makes keeps.1)
 
+-- by another word for what is needed
+pub spares_as : (P Q : ListOf ℕ → Type 0) → ((key : ListOf ℕ) → Q key → P key) → (changes : ListOf StoreChange) (s t : Store) → Spares P changes s t → Spares Q changes s t
+spares_as P Q to [] s t spares = spares
+spares_as P Q to (SealContainer id kind segments ∷ more) s t spares = absurd spares
+spares_as P Q to (ChangeName name change ∷ more) s t spares = absurd spares
+spares_as P Q to (FlushContainer id kind segments ∷ more) s t spares = (spares.0, spares_as P Q to more (with_sealed id kind segments s) t spares.1)
+spares_as P Q to (FreeContainer slot ∷ more) s t spares = (
+  record { header = spares.0.header; holds = spares.0.holds; none = λ key copy needs. spares.0.none key copy (to key needs) },
+  spares_as P Q to more (with_freed slot s) t spares.1,
+)
+
 pub spares_of : (now : Found (ListOf ℕ)) (changes : ListOf StoreChange) (s t : Store) → Sweeps now changes s t → Spares (NamesNeed of_files now) changes s t
 spares_of now changes s t sweeps = spares_by now changes s t sweeps.each sweeps.makes sweeps.keeps
 

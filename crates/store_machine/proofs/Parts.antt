@@ -183,11 +183,3 @@ pub one_left : (o : Option (Collection (List ℕ))) (d : Collection Root) → op
     → (c : Collection (List ℕ)) × (o ≡ Some c) × (d ≡ forget_collection c)
 one_left None d is = absurd (let wrong : None ≡ Some d = is in cc)
 one_left (Some c) d is = (c, refl, let same : forget_collection c ≡ d = cc in sym same)
-
-pub some_back : (o : Option (Collection (List ℕ))) → is_some (option_map forget_collection o) ≡ true → is_some o ≡ true
-some_back None is = is
-some_back (Some c) is = is
-
-pub some_left : (o : Option (Collection (List ℕ))) → is_some o ≡ true → is_some (option_map forget_collection o) ≡ true
-some_left None is = is
-some_left (Some c) is = is

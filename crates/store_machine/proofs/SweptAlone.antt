@@ -62,7 +62,7 @@ opened_ids start opened last (slots, frees) last_is ids = record {
 -- ---- what is recorded
 
 -- the sum of what is needed is one, by two words for it
-sums_same : (P Q : ListOf ℕ → Type 0) → ((key : ListOf ℕ) → P key → Q key) → ((key : ListOf ℕ) → Q key → P key) → (held : ListOf (Option HeaderValue)) (kind : Kind) (slot : ℕ)
+pub sums_same : (P Q : ListOf ℕ → Type 0) → ((key : ListOf ℕ) → P key → Q key) → ((key : ListOf ℕ) → Q key → P key) → (held : ListOf (Option HeaderValue)) (kind : Kind) (slot : ℕ)
     (es : ListOf Entry) (sum : ℕ) → SumsNeeded P held kind slot es sum → SumsNeeded Q held kind slot es sum
 sums_same P Q to from held kind slot [] sum is = is
 sums_same P Q to from held kind slot (e ∷ es) sum (inl ((needed, place), (rest, is, more))) =

@@ -14,7 +14,7 @@ use Rattle.script_lines.specs.ReplyText.{reply_line}
 use Rattle.script_lines.specs.ReplyValue as replies
 use Rattle.store_model.specs.Image.{Store}
 use Rattle.store_model.specs.Needed.{Needs}
-use Rattle.store_model.specs.Reserve.{IsSpare}
+use Rattle.store_model.specs.Reserve.{IsReachable, IsSpare}
 use Rattle.store_model.specs.Slots.{AreHeaders, free_slots, last_id}
 use Rattle.store_model.specs.Steps.{FlushContainer, FreeContainer, StoreChange, changed}
 use Rattle.store_machine.specs.ByMap.{AfterOpening, ByMap, FileMachine, Through}
@@ -110,7 +110,7 @@ pub record HasSwept (percent freed copied : ℕ) (m n : FileMachine) (opened : S
   pub room : HasRoomStill opened n.store
   pub collected : HasIds m.store m.last_id → Collected of_files freed copied made begun last n run
   pub by_need : HasIds m.store m.last_id → AreHeaders opened.held
-      → GivesBackByNeed (NamesNeed of_files m.now) percent opened n.store c.changes
+      → GivesBackByNeed (IsReachable m.now.names) percent opened n.store c.changes
   pub freed_is : freed ≡ freed_in c.changes
   pub copied_is : copied ≡ length (keys_written c.changes)
   pub runs : n.state ≡ Running
@@ -120,13 +120,13 @@ pub record HasSwept (percent freed copied : ℕ) (m n : FileMachine) (opened : S
 abbrev pub HasBroken : FileMachine → Type 0
 HasBroken n = (before : FileMachine) × (stores : ListOf Store) × (n ≡ stopped None stores before) × MayBreak of_files before stores
 
--- It came so far: this was changed until then, and but for want of memory the slots of the reserve are closed; and only where a write failed
--- the machine is stopped, by that store, or one that the change would have made.
+-- It came so far: this was changed until then; and only where a write failed the machine is stopped, by that store, or one that the change
+-- would have made, and fewer slots may be closed.
 pub record SweptSoFar (rs : ListOf Replied) (m n : FileMachine) (opened : Store) : Type 0 where
   pub changes : ListOf StoreChange
   pub sweeps : Sweeps m.now changes opened n.store
   pub counts : CountsIds changes opened n.last_id
-  pub room : (EndsRefused Memory rs → ⊥) → (EndsRefused DiskWrite rs → ⊥) → HasRoomStill opened n.store
+  pub room : (EndsRefused DiskWrite rs → ⊥) → HasRoomStill opened n.store
   pub runs : (EndsRefused DiskWrite rs → ⊥) → n.state ≡ Running
   pub broke : EndsRefused DiskWrite rs → HasBroken n
 

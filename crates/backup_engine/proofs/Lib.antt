@@ -99,6 +99,7 @@ pub mod WaySeals
 pub mod Ways
 pub mod WholeCall
 pub mod AnswersByMap
+mod CollectBytes
 pub mod CollectByMap
 pub mod EndsMade
 pub mod NamesByMap

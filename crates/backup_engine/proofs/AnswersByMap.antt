@@ -17,7 +17,7 @@ use Rattle.backup_engine.proofs.Rested.{AtEnd, crash_by, left_by}
 -- ---- what was said
 
 -- what a call said, whatever room was made before
-told : (D : Type 0) (view : D → DiskView) (command : CommandLine) (given : List ℕ) (rs : List Replied) (ending : Option Ending) (disk disk_now : DiskView)
+pub told : (D : Type 0) (view : D → DiskView) (command : CommandLine) (given : List ℕ) (rs : List Replied) (ending : Option Ending) (disk disk_now : DiskView)
     (source source_now : SourceView) (sink sink_now : SinkView) (AreSo : List Replied → Type 0)
     → ((v : DiskView) → SpeaksAs command given ending rs v disk_now source source_now sink sink_now → Speaks AreSo ending rs v disk_now sink sink_now)
     → DoesCommand D view command given rs ending disk disk_now source source_now sink sink_now → AreSo rs ⊎ Silent ending rs sink sink_now

@@ -23,7 +23,8 @@ pub use Rattle.backup_engine.specs.AnswersByMap.{AnswersByMap, AnswersEachCall, 
 pub use Rattle.backup_engine.specs.AnyDisk.{EndsDurable, FindsBeforeWriting, FindsNames, Formats, GivesBack, HasAdded, HasSwept, Holds, IsCaused, IsDeleted, IsStored, IsUnlikeNode, IsUnmarked, IsUnwritten, OnAnyDisk, ReadsSince, ShownSince, ShownThere, Took, WroteOnAny, disk_ending, room_in}
 pub use Rattle.backup_engine.specs.ByFiles.{CutsAmong, FailsAlone, RefusedByFiles, RunsByFiles, RunsEachByFiles}
 pub use Rattle.backup_engine.specs.CallsByFiles.{CallsRunByFiles}
-pub use Rattle.backup_engine.specs.Collected.{FreesUpTo, HasNoIdLeft, collected_line, written_in}
+pub use Rattle.backup_engine.specs.Collected.{HasNoIdLeft, collected_line}
+pub use Rattle.store_machine.specs.CollectsByNeed.{FreesUpTo, written_in}
 pub use Rattle.backup_engine.specs.Collecting.{CollectRun, WritesCollected}
 pub use Rattle.backup_engine.specs.Feeding.{Fills, IsFed, MayBe, SessionLaws, Stops, opens_of}
 pub use Rattle.backup_engine.specs.Frame.{KeepsOthers, KeepsRest, LiesBeside, MayFill, SameButSlotsOf}

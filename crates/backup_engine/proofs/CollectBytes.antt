@@ -73,10 +73,10 @@ module _ (a : ℕ) (m n : FileMachine) (runs : m.state ≡ Running) (old new : L
   swept_slot (inl (unchanged, bytes)) slot h was has = same_slot bytes slot h was
   swept_slot (inr (inl (id, (filled, (is, (store, (encodes, but)), held, held_now))))) slot h was has =
       but.slots_are slot (within slot h was store encodes) (λ free.
-          let same : m.store ≡ store = store_once old m.store store right encodes in
-          let here : slot ≡ first_free m.store.held = free ∙ ap (λ (s : Store). first_free s.held) (sym same) in
-          let closed = first_closed m.store.held (omega (arith, held_within m.store.held slot h was, here)) in
-          (let wrong : Some None ≡ Some (Some h) = sym closed ∙ subst (λ (k : ℕ). slice_get m.store.held k ≡ Some (Some h)) here was in absurd cc))
+      let same : m.store ≡ store = store_once old m.store store right encodes in
+      let here : slot ≡ first_free m.store.held = free ∙ ap (λ (s : Store). first_free s.held) (sym same) in
+      let closed = first_closed m.store.held (omega (arith, held_within m.store.held slot h was, here)) in
+      (let wrong : Some None ≡ Some (Some h) = sym closed ∙ subst (λ (k : ℕ). slice_get m.store.held k ≡ Some (Some h)) here was in absurd cc))
   swept_slot (inr (inr (freed, (is, (store, (encodes, but)))))) slot h was has =
       but.rest.slots_are slot (within slot h was store encodes)
       (λ same. (there_before freed slot h m.store.held (subst (λ (s : Store). HasContainer s slot h) is has)).0 (sym same))
@@ -97,7 +97,8 @@ module _ (a : ℕ) (m n : FileMachine) (runs : m.state ≡ Running) (old new : L
       stays (ap (λ (x : FileMachine). x.state) ends.others) (ap (λ (x : FileMachine). x.last_id) ends.others) (ap (λ (x : FileMachine). x.store) ends.others) bytes
   done_keeps answer does bytes = absurd does
 
-  refuses_keeps : (refusal : Refusal) → (refusal ≡ refusals.DiskWrite → ⊥) → RefusesGcStep of_files refusal m n → BytesOf asked.GcStep (Err refusal) m n old new → StepKeeps m n old new
+  refuses_keeps : (refusal : Refusal) → (refusal ≡ refusals.DiskWrite → ⊥) → RefusesGcStep of_files refusal m n → BytesOf asked.GcStep (Err refusal) m n old new
+      → StepKeeps m n old new
   refuses_keeps refusals.NotCollecting other (none, same) bytes = refused_none same bytes
   refuses_keeps refusals.Memory other (lack, same) bytes = refused_same same bytes
   refuses_keeps refusals.Numbers other (flush, last, same) bytes = refused_same same bytes

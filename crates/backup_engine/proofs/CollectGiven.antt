@@ -184,9 +184,6 @@ module _ (given : List ℕ) (percent : ℕ) (S : List ℕ → Type 0) (m : Store
             )
 
   -- by changes that led to it
-  abbrev Gave : ℕ → ℕ → Store → Type 0
-  Gave freed copied opened = KnownWith w.content (Collected m.files freed copied opened old)
-
   gave_by : (whole : EndsRefused DiskWrite (all_lines S rs m store v w runs) → ⊥) (opened : Store) → opened ≡ first → (changes : List StoreChange)
       → Sweeps start.now changes opened end.store → (freed copied : ℕ) → freed ≡ freed_in changes → copied ≡ copied_in changes → (new : List ℕ) → Encodes new end.store → Stays new
       → Collected m.files freed copied opened old new

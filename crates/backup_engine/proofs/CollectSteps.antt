@@ -466,11 +466,6 @@ module _ (s : Store) (index : PlaceMap) (v : DiskView) (sized : v.size ≡ size_
               (release_durable (state old) (state new) before goes.after before.stage before.sweep.next goes.steps) touched;
         }
 
-    -- the store then, and the changes so far
-    pub more_is : (one_more.after ≡ changed.store_now) × (one_more.changes ≡ so.changes ++ changed.changes)
-    unfolding one_more
-    more_is = (refl, refl)
-
   pub all_steps : (phases : List Phase) (old new : C) → SoFar old → CollectionRun C state phases old new → SoFar new
   all_steps [] old new so run = subst SoFar (sym run) so
   all_steps (phase ∷ phases) old new so run = all_steps phases run.0 new (one_more phase old run.0 so run.1.0) run.1.1

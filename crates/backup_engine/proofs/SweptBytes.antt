@@ -50,9 +50,6 @@ pub record IsFramed (s : Store) (freed filled : List ℕ) (base : List ℕ) (v :
   pub told : (bytes : List ℕ) × (v.content ≡ Some bytes)
   pub each : (c : List ℕ) → v.images c → SameButSlotsOf s freed filled base c
 
-pub content_framed : (s : Store) (freed filled : List ℕ) (base : List ℕ) (v : DiskView) → IsFramed s freed filled base v → KnownWith v.content (SameButSlotsOf s freed filled base)
-content_framed s freed filled base v framed = (framed.told.0, framed.told.1, framed.each framed.told.0 (v.as_read framed.told.0 framed.told.1))
-
 module _ (s : Store) (freed filled : List ℕ) (base : List ℕ) (old new : DiskView) (framed : IsFramed s freed filled base old) where
   abbrev Leaves : (List ℕ → Type 0) → Type 0
   Leaves P = CrashLeaves P old new

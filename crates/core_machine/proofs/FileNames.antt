@@ -1,13 +1,7 @@
 -- What the names of the machine of files need is just what can be reached of their files; and of an image that is a store of files the names
 -- have the roots of these.
-use Rattle.core_machine.proofs.Prelude.{◌≡◌, ℕ, zero, suc, Bool, true, false, cond, List, [], ◌∷◌, Option, Some, None, option_map, refl, sym, ◌∙◌, ap, subst, arith, nat_list_cmp_total, eq_by_cmp, Contains-append_right, HeaderValue, Root, Named, Store, last_sequence, names_of, IsReachable, FitsFile, files_fit, SameNow, Found, NamesNeed, IsNamedBy, of_files, order}
-use Rattle.std.proofs.Common.{map, Contains, Ordering, Less, Equal, T}
-use Rattle.std.specs.Cmp.{tied_itself}
-use Rattle.std.specs.Ordering.{is_eq}
+use Rattle.core_machine.proofs.Prelude.{◌≡◌, ℕ, List, Option, Some, None, option_map, refl, sym, ◌∙◌, ap, subst, HeaderValue, Root, Named, Store, last_sequence, names_of, FitsFile, files_fit, SameNow, Found, IsNamedBy, of_files}
 use Rattle.std.specs.FinMap as finite
-use Rattle.std.specs.FinMap.Entries.{below_all, find, is_sorted}
-use Rattle.namespace.proofs.Again.{first, second, is_less}
-use Rattle.namespace.proofs.Entries.{is_equal}
 use Rattle.store_model.specs.Standing.{IsFileOf, IsStoreOf}
 use Rattle.store_model.specs.Trees.{root_of}
 

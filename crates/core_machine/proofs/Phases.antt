@@ -1,6 +1,6 @@
 -- A collection that runs in a core is the machine's, and its next step is of the same kind.
-use Rattle.core_machine.proofs.Prelude.{◌≡◌, ℕ, ◌<◌, ◌≤◌, Bool, true, List, length, Option, Some, None, refl, sym, ◌∙◌, ap, subst, le-ltb, lt-ltb, Root, HeaderValue, ContainerLiveness, CoreCollection, CoreStage, phase_at, HasStage, IsUnderWay, Phase, Store, AreHeaders, RepresentsSlots, SlotTable, IsCollecting, ids_before, phase_by, sources_in, Marking, Recording, Sweeping, SameCollection, SameRun, SameStage}
-use Rattle.std.specs.Prelude.{if◌then◌else◌, is_some, nat_lt}
+use Rattle.core_machine.proofs.Prelude.{◌≡◌, ℕ, ◌<◌, ◌≤◌, Bool, List, length, Option, Some, None, refl, sym, ◌∙◌, ap, subst, le-ltb, lt-ltb, Root, HeaderValue, ContainerLiveness, CoreCollection, CoreStage, phase_at, HasStage, IsUnderWay, Phase, Store, AreHeaders, RepresentsSlots, SlotTable, IsCollecting, ids_before, phase_by, sources_in, Marking, Recording, Sweeping, SameCollection, SameRun, SameStage}
+use Rattle.std.specs.Prelude.{if◌then◌else◌, nat_lt}
 use Rattle.gc_steps.specs.declared.collection.Stage.TheVariants as core
 use Rattle.refusals.specs.declared.refusal.Phase.TheVariants as phases
 use Rattle.store_machine.specs.Machine.{Collection, Stage}

@@ -1,6 +1,6 @@
 -- What a collection that ran alone gave back and copied, by what the names need.
-use Rattle.store_machine.proofs.Prelude.{◌≡◌, ◌≢◌, ◌⊎◌, ◌↔◌, ◌+◌, ◌<◌, ◌≤◌, inl, inr, ⊎_elim, ℕ, zero, suc, Bool, true, false, nat_lt, ListOf, [], ◌∷◌, ◌++◌, get_or, length, ◌==◌, Contains, Option, Some, None, option_map, refl, sym, ◌∙◌, ap, subst, arith, AllByRecursion, Entry, Kind, Segment, HeaderValue, header_of, ContainerLiveness, ids_of, there_before, with_freed, Store, IsSpare, first_free, free_slots, last_id, with_slot, ChangeName, FlushContainer, FreeContainer, SealContainer, StoreChange, with_sealed, cases_lt, FileMachine, EachOnce, HasContainer, HasIds, ids_before, keys_written, sources_in, Sweeps, Found, NamesNeed, of_files}
-use Rattle.std.proofs.Common.{◌*◌, find, slice_get}
+use Rattle.store_machine.proofs.Prelude.{◌≡◌, ◌⊎◌, ◌↔◌, ◌+◌, ◌<◌, ◌≤◌, inl, inr, ⊎_elim, ℕ, zero, suc, Bool, true, false, nat_lt, ListOf, [], ◌∷◌, ◌++◌, length, ◌==◌, Contains, Option, Some, None, option_map, refl, sym, ◌∙◌, ap, subst, arith, AllByRecursion, Entry, Kind, HeaderValue, header_of, ContainerLiveness, ids_of, there_before, with_freed, Store, IsSpare, last_id, ChangeName, FlushContainer, FreeContainer, SealContainer, StoreChange, with_sealed, cases_lt, EachOnce, HasContainer, HasIds, ids_before, keys_written, sources_in, Sweeps, Found, NamesNeed, of_files}
+use Rattle.std.proofs.Common.{◌*◌, slice_get}
 use Rattle.std.specs.Prelude.{◌||◌, nat_le, if◌then◌else◌}
 use Rattle.disk_format.specs.declared.numbers.TheConstants.{MOST_ENTRIES}
 use Rattle.container_meta.specs.Format.{is_count}
@@ -173,7 +173,8 @@ find_record [] id (k, below, is) = absurd (omega (arith, below))
 find_record (r ∷ rs) id (zero, below, is) = (r, (is, head_of r rs))
 find_record (r ∷ rs) id (suc k, below, is) = let rest = find_record rs id (k, omega (arith, below), is) in (rest.0, (rest.1.0, in_tail r rs rest.0 rest.1.1))
 
-module _ (P : ListOf ℕ → Type 0) (percent : ℕ) (now : Found (ListOf ℕ)) (words : (key : ListOf ℕ) → P key ↔ NamesNeed of_files now key) (opened after : Store) (c : C) (ids : HasIds opened (last_id opened.held)) (headers : AreHeaders opened.held)
+module _ (P : ListOf ℕ → Type 0) (percent : ℕ) (now : Found (ListOf ℕ))
+    (words : (key : ListOf ℕ) → P key ↔ NamesNeed of_files now key) (opened after : Store) (c : C) (ids : HasIds opened (last_id opened.held)) (headers : AreHeaders opened.held)
     (chosen : HasChosen percent now opened c) (sweeps : Sweeps now c.changes opened after) (takes : TakesIds (last_id opened.held) c.changes)
     (copied : (key : ListOf ℕ) → Contains (keys_written c.changes) key → IsOfSource opened c key)
     (gone : (slot : ℕ) (h : HeaderValue) → HasContainer after slot h → ¬ (Contains (sources_in c) h.id))

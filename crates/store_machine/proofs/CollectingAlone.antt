@@ -305,7 +305,8 @@ module _ (percent : ℕ) (start : FileMachine) (opened : Store) where
             by_need = λ ids headers.
                 let all = all_did ids in
                 let same : all.c ≡ u.c = same_some all.c u.c (sym all.ran ∙ u.ran) in
-                gives_back (IsReachable start.now.names) percent start.now (needs_just start.now) opened mid.machine.store u.c (runs.opened_ids ids) headers chosen sweeps u.sourced.ids sourced.written
+                gives_back (IsReachable start.now.names) percent start.now (needs_just start.now) opened mid.machine.store u.c (runs.opened_ids ids) headers chosen sweeps
+                u.sourced.ids sourced.written
                 (λ slot h has source. all.gone slot h has (subst (λ (x : C). Contains (sources_in x) h.id) (sym same) source))
                 (λ slot h was not. all.stay slot h (subst (λ (x : Store). HasContainer x slot h) (sym runs.store_is) was)
                 (λ source. not (subst (λ (x : C). Contains (sources_in x) h.id) same source)))

@@ -1,7 +1,7 @@
 -- The ids of the containers that a collection writes and gives back, and how many it writes.
-use Rattle.store_machine.proofs.Prelude.{◌≡◌, ◌+◌, ◌<◌, ◌≤◌, ℕ, zero, suc, Bool, true, false, nat_lt, ListOf, [], ◌∷◌, ◌++◌, length, Option, Some, None, refl, sym, ◌∙◌, ap, subst, arith, AllByRecursion, HeaderValue, header_of, with_freed, Store, first_free, free_slots, with_slot, ChangeName, FlushContainer, FreeContainer, SealContainer, StoreChange, with_sealed, Makes}
+use Rattle.store_machine.proofs.Prelude.{◌≡◌, ◌+◌, ◌<◌, ◌≤◌, ℕ, zero, suc, Bool, true, false, nat_lt, ListOf, [], ◌∷◌, ◌++◌, length, Option, Some, None, refl, sym, ap, subst, arith, AllByRecursion, HeaderValue, header_of, with_freed, Store, first_free, free_slots, with_slot, ChangeName, FlushContainer, FreeContainer, SealContainer, StoreChange, with_sealed, Makes}
 use Rattle.std.proofs.Common.{if◌then◌else◌, slice_get}
-use Rattle.std.proofs.lemmas.Bool.{lt-ltb, ltb-false, ltb-true}
+use Rattle.std.proofs.lemmas.Bool.{lt-ltb, ltb-true}
 use Rattle.store_model.specs.Slots.{without_slot}
 use Rattle.store_model.specs.Steps.{changed}
 use Rattle.store_model.proofs.Filled.{free_less, length-with_slot}

@@ -1,5 +1,5 @@
 -- A step of the machine of files is one of the machine of roots, once all but the roots is forgotten.
-use Rattle.store_machine.proofs.Prelude.{◌≡◌, inl, inr, ◌≤◌, ◌<◌, ◌-◌, ◌^◌, ℕ, suc, true, false, [], ◌∷◌, ◌++◌, length, map, Contains, is_some, Option, Some, None, option_map, Result, Ok, Err, refl, sym, ◌∙◌, ap, subst, ACTORS, PinMap, pin_of, KindSegment, segment_key, Root, Put, Gone, half_cells, LAST_ID, MOST_NAMES, RESERVE, Top, start_of, PartKind, Phase, Refusal, Store, free_slots, last_id, with_freed, CanRise, CanSeal, with_change, with_sealed, Asked, Begins, GoesOn, IsCollecting, Makes, MayBreak, last_by, marking, marks_of, phase_in, swept_by, Done, Forgets, Rests, SameNow, SamePart, SameState, asked_of, forget_collection, Answers, ByState, Claims, Deletes, Does, GivesBytes, GivesUp, HasName, HasNumbers, HasRoom, HasSlot, IsAtEnd, IsAtRightPart, IsUnkept, broken_by, Keeps, LacksNumbers, MayCommit, OpensValue, Refuses, RefusesClaim, RefusesCommit, RefusesDelete, RefusesGcStep, RefusesOn, RefusesRead, RefusesSeal, Seals, LegalBy, counted, with_name, without_name, Collection, Found, Idle, Writing, Reading, RunState, Running, Stopped, all_idle, keeping, kind_of, one_more, part_in, put_at, forgotten_beside, keys_kept, keys_of, values_read, with_pins, MayBeFound, MayRefuseOpening, Reopens, freeing, IsStuck, of_files, of_roots, top_of}
+use Rattle.store_machine.proofs.Prelude.{◌≡◌, inl, inr, ◌≤◌, ◌<◌, ◌-◌, ◌^◌, ℕ, suc, false, [], ◌∷◌, ◌++◌, length, map, Contains, Option, Some, None, option_map, Result, Ok, Err, refl, sym, ◌∙◌, ap, subst, ACTORS, PinMap, pin_of, KindSegment, segment_key, Root, Put, Gone, half_cells, LAST_ID, MOST_NAMES, RESERVE, Top, start_of, PartKind, Phase, Refusal, Store, free_slots, last_id, with_freed, CanRise, CanSeal, with_change, with_sealed, Asked, Begins, GoesOn, IsCollecting, Makes, MayBreak, last_by, marking, marks_of, phase_in, swept_by, Done, Forgets, Rests, SameNow, SamePart, SameState, asked_of, forget_collection, Answers, ByState, Claims, Deletes, Does, GivesBytes, GivesUp, HasName, HasNumbers, HasRoom, HasSlot, IsAtEnd, IsAtRightPart, IsUnkept, broken_by, Keeps, LacksNumbers, MayCommit, OpensValue, Refuses, RefusesClaim, RefusesCommit, RefusesDelete, RefusesGcStep, RefusesOn, RefusesRead, RefusesSeal, Seals, LegalBy, counted, with_name, without_name, Collection, Found, Idle, Writing, Reading, RunState, Running, Stopped, all_idle, keeping, kind_of, one_more, part_in, put_at, forgotten_beside, keys_kept, keys_of, values_read, with_pins, MayBeFound, MayRefuseOpening, Reopens, freeing, IsStuck, of_files, of_roots, top_of}
 use Rattle.std.proofs.Common.{List, slice_get}
 use Rattle.std.specs.FinMap as finite
 use Rattle.container_meta.specs.Segments.{Contents}

@@ -1,9 +1,8 @@
 -- What a collection copied lies in the containers that it wrote, and is needed; and the newest copy of each other key that is needed stays.
-use Rattle.store_machine.proofs.Prelude.{◌≡◌, ◌⊎◌, ◌+◌, ◌<◌, ◌≤◌, ◌≢◌, inl, inr, ⊎_elim, ℕ, zero, suc, Bool, true, false, nat_lt, ListOf, [], ◌∷◌, ◌++◌, length, map, Option, Some, None, option_map, refl, sym, ◌∙◌, ap, subst, arith, Contains, AllByRecursion, Contains-append_cases, Contains-append_left, Entry, Kind, Segment, segment_key, HeaderValue, header_of, there_before, with_freed, Store, IsSpare, first_free, free_slots, last_id, with_slot, ChangeName, FlushContainer, FreeContainer, SealContainer, StoreChange, with_sealed, EachOnce, Makes, keys_written, Sweeps, Found, NamesNeed, keys_of, of_files}
-use Rattle.std.proofs.Common.{◌*◌, cond, find, if◌then◌else◌, slice_get}
+use Rattle.store_machine.proofs.Prelude.{◌≡◌, ◌⊎◌, ◌+◌, ◌<◌, ◌≤◌, ◌≢◌, inl, inr, ⊎_elim, ℕ, zero, suc, Bool, true, false, nat_lt, ListOf, [], ◌∷◌, ◌++◌, length, map, Option, Some, None, option_map, refl, sym, ◌∙◌, ap, subst, arith, Contains, AllByRecursion, Contains-append_cases, Contains-append_left, Entry, Kind, Segment, segment_key, HeaderValue, header_of, there_before, with_freed, Store, IsSpare, first_free, free_slots, with_slot, ChangeName, FlushContainer, FreeContainer, SealContainer, StoreChange, with_sealed, EachOnce, Makes, keys_written, Sweeps, Found, NamesNeed, keys_of, of_files}
+use Rattle.std.proofs.Common.{cond, find, if◌then◌else◌, slice_get}
 use Rattle.std.proofs.lemmas.Bool.{ltb-false, ltb-true}
 use Rattle.std.proofs.lemmas.List.Elements.{Contains-append_right}
-use Rattle.std.proofs.lemmas.Option.{slice_get-get_or}
 use Rattle.std.proofs.lemmas.Slice.Eq.{bytes_eq-Decides}
 use Rattle.std.specs.Str.{bytes_eq}
 use Rattle.sha2.specs.Sha256.{sha256}
@@ -11,10 +10,10 @@ use Rattle.base_model.specs.Bytes.{key_of}
 use Rattle.container_meta.specs.Format.{kind_byte}
 use Rattle.container_meta.specs.Segments.{entries_from}
 use Rattle.store_model.specs.Indexing.{entry_key}
-use Rattle.store_model.specs.Needed.{IsNeededCopy, Needs, SumsNeeded}
-use Rattle.store_model.specs.Slots.{AreHeaders, Copy, copy_in, newer, newest, place_of}
+use Rattle.store_model.specs.Needed.{IsNeededCopy, SumsNeeded}
+use Rattle.store_model.specs.Slots.{Copy, copy_in, newer, newest}
 use Rattle.store_model.specs.Steps.{CanFlush, changed}
-use Rattle.store_model.proofs.Copies.{lies, newest_within, some_same}
+use Rattle.store_model.proofs.Copies.{some_same}
 use Rattle.store_model.proofs.CopyIds.{newest_id}
 use Rattle.store_model.proofs.FreedTrees.{in_head, in_tail, newest_freed}
 use Rattle.store_model.proofs.HeldSlots.{found_so}

@@ -1,5 +1,5 @@
 -- Parts and collections of a machine of files and of one of roots that has forgotten the rest.
-use Rattle.store_machine.proofs.Prelude.{◌≡◌, ℕ, zero, suc, true, [], ◌∷◌, ◌++◌, map, replicate, slice_index_or, slice_set, is_some, Option, Some, None, option_map, refl, sym, ◌∙◌, ap, subst, PinMap, Root, Top, Phase, Store, IsCollecting, Rests, SamePart, forget_collection, Collection, Machine, Part, Idle, Writing, Reading, keeping, kind_of, keys_kept, values_read}
+use Rattle.store_machine.proofs.Prelude.{◌≡◌, ℕ, zero, suc, [], ◌∷◌, ◌++◌, map, replicate, slice_index_or, slice_set, Option, Some, None, option_map, refl, sym, ◌∙◌, ap, subst, PinMap, Root, Top, Phase, Store, IsCollecting, Rests, SamePart, forget_collection, Collection, Machine, Part, Idle, Writing, Reading, keeping, kind_of, keys_kept, values_read}
 use Rattle.std.proofs.Common.{List}
 use Rattle.std.specs.FinMap as finite
 use Rattle.store_model.specs.Trees.{root_of}

@@ -1,5 +1,5 @@
 -- What the names of the machine of files need is just what can be reached of their files.
-use Rattle.store_machine.proofs.Prelude.{◌≡◌, ◌↔◌, ℕ, zero, suc, Bool, true, false, ListOf, [], ◌∷◌, Option, Some, None, refl, sym, ◌∙◌, ap, arith, nat_list_cmp_total, eq_by_cmp, Contains, map, Found, NamesNeed, of_files}
+use Rattle.store_machine.proofs.Prelude.{◌≡◌, ◌↔◌, ℕ, zero, suc, Bool, true, false, [], ◌∷◌, Some, None, refl, sym, ◌∙◌, ap, arith, nat_list_cmp_total, eq_by_cmp, Contains, map, Found, NamesNeed, of_files}
 use Rattle.std.proofs.Common.{cond, List, Ordering, Less, Equal, T}
 use Rattle.std.proofs.lemmas.List.Elements.{Contains-append_right}
 use Rattle.std.specs.Cmp.{tied_itself}

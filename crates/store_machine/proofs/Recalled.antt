@@ -1,5 +1,5 @@
 -- What is so of the machine of roots is so of a machine of files that it has forgotten, where the roots tell it.
-use Rattle.store_machine.proofs.Prelude.{◌≡◌, inl, inr, ◌≤◌, ◌<◌, ◌-◌, ◌^◌, ℕ, true, length, is_some, Option, Some, None, option_map, sym, ◌∙◌, ap, subst, PinMap, Root, half_cells, LAST_ID, MOST_NAMES, RESERVE, Top, Phase, Store, free_slots, CanRise, IsCollecting, Forgets, SamePart, SameState, forget_collection, HasName, HasNumbers, HasRoom, HasSlot, IsUnkept, Keeps, LacksNumbers, MayCommit, Collection, Found, Idle, Writing, Reading, Stopped, keeping, kind_of, part_in, put_at, of_files, of_roots}
+use Rattle.store_machine.proofs.Prelude.{◌≡◌, inl, inr, ◌≤◌, ◌<◌, ◌-◌, ◌^◌, ℕ, length, Option, Some, None, option_map, sym, ◌∙◌, ap, subst, PinMap, Root, half_cells, LAST_ID, MOST_NAMES, RESERVE, Top, Phase, Store, free_slots, CanRise, IsCollecting, Forgets, SamePart, SameState, forget_collection, HasName, HasNumbers, HasRoom, HasSlot, IsUnkept, Keeps, LacksNumbers, MayCommit, Collection, Found, Idle, Writing, Reading, Stopped, keeping, kind_of, part_in, put_at, of_files, of_roots}
 use Rattle.std.proofs.Common.{List}
 use Rattle.container_meta.specs.Segments.{Contents}
 use Rattle.store_model.specs.Trees.{root_of}

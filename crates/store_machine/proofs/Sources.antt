@@ -1,5 +1,5 @@
 -- A collection, no other step of which comes between: which containers it copied from and gives back, and the ids of those that it wrote.
-use Rattle.store_machine.proofs.Prelude.{◌≡◌, ◌≢◌, ◌⊎◌, ◌+◌, ◌<◌, ◌≤◌, inl, inr, ⊎_elim, ℕ, zero, suc, Bool, true, false, nat_lt, ListOf, [], ◌∷◌, ◌++◌, get_or, length, Contains, Option, Some, None, option_map, Result, Ok, refl, sym, ◌∙◌, ap, subst, arith, Contains-append_cases, Contains-push_cases, Entry, Kind, Segment, HeaderValue, Phase, Refusal, Store, last_id, FlushContainer, FreeContainer, StoreChange, Asked, FileMachine, Gathered, GoesOn, GoesOver, Makes, TakesAll, TakesOne, keys_written, last_by, marking, next_of, sources_in, Sweeps, Done, ByState, Legal, AreDid, Collection, Found, RunState, Running, Marking, Recording, Sweep, Sweeping, NamesNeed, keys_of, Run, of_files}
+use Rattle.store_machine.proofs.Prelude.{◌≡◌, ◌≢◌, ◌⊎◌, ◌+◌, ◌<◌, ◌≤◌, inl, inr, ⊎_elim, ℕ, zero, suc, Bool, true, false, nat_lt, ListOf, [], ◌∷◌, ◌++◌, get_or, length, Contains, Option, Some, None, option_map, Result, Ok, refl, sym, ◌∙◌, ap, subst, arith, Contains-append_cases, Contains-push_cases, Entry, Kind, Segment, HeaderValue, Phase, Refusal, Store, last_id, FlushContainer, FreeContainer, StoreChange, Asked, FileMachine, Gathered, GoesOn, GoesOver, Makes, TakesAll, TakesOne, keys_written, last_by, marking, next_of, sources_in, Sweeps, Done, ByState, Legal, AreDid, Found, RunState, Running, Marking, Recording, Sweep, Sweeping, NamesNeed, keys_of, Run, of_files}
 use Rattle.std.proofs.Common.{slice_get}
 use Rattle.std.proofs.lemmas.Bool.{ltb-true}
 use Rattle.std.proofs.lemmas.Grind.{get_or_default_zero}
@@ -9,7 +9,6 @@ use Rattle.std.proofs.lemmas.Option.{slice_get-get_or}
 use Rattle.base_model.proofs.Checks.{both}
 use Rattle.container_meta.specs.declared.place.Place.{Place}
 use Rattle.gc_select.proofs.Chosen.{chosen_which}
-use Rattle.gc_select.specs.Selecting.{is_selected}
 use Rattle.refusals.specs.declared.refusal.Phase.TheVariants as phases
 use Rattle.store_model.specs.Indexing.{entry_key}
 use Rattle.store_model.specs.Slots.{Copy, newest, place_of}
@@ -25,7 +24,6 @@ use Rattle.store_machine.specs.CollectsAlone.{CountsIds, HasRoomStill}
 use Rattle.store_machine.specs.CollectsByNeed.{FreesUpTo, TakesIds, written_in}
 use Rattle.store_machine.specs.Done as done
 use Rattle.store_machine.specs.Machine.{Stage}
-use Rattle.store_machine.specs.Needs.{IndexHas}
 use Rattle.store_machine.proofs.Counted.{few_written, free_within, frees_then, takes_then, written_then}
 use Rattle.store_machine.proofs.Moved.{spares_of, still_newest}
 use Rattle.store_machine.proofs.Stepwise.{Step}
@@ -194,8 +192,8 @@ module _ (percent : ℕ) (now : Found (ListOf ℕ)) (opened : Store) (m : FileMa
     taken_copy : (e : Entry) (key : ListOf ℕ) → Needed key → option_map (λ (x : Copy). x.place) (newest 0 m.store.held key) ≡ Some (place_of slot e) → IsOfSource opened c key
     taken_copy e key needed has = ⊎_elim (λ was. sourced.written key was) (λ not. by (newest 0 m.store.held key) refl has not) (is_in (keys_written c.changes) key)
       where
-        by : (found : Option Copy) → newest 0 m.store.held key ≡ found → option_map (λ (x : Copy). x.place) found ≡ Some (place_of slot e) → ¬ (Contains (keys_written c.changes) key)
-            → IsOfSource opened c key
+        by : (found : Option Copy) → newest 0 m.store.held key ≡ found → option_map (λ (x : Copy). x.place) found ≡ Some (place_of slot e)
+            → ¬ (Contains (keys_written c.changes) key) → IsOfSource opened c key
         by None is wrong not = absurd (let no : None ≡ Some (place_of slot e) = wrong in cc)
         by (Some copy) is place not =
             let at = lies 0 m.store.held key copy is in
@@ -406,7 +404,8 @@ module _ (percent : ℕ) (now : Found (ListOf ℕ)) (opened : Store) (m : FileMa
       let none : s.ready ≡ [] = ⊎_elim (λ e. absurd (let wrong : phases.Flush ≡ phases.Release = e in cc)) (λ empty. empty) at.idle in
       let waiting : 1 ≤ length s.waiting = some_in s.waiting (at.waits (λ empty. some_keys (suc m.last_id) kind segments made.0.right (keys ∙ empty))) in
       let less : suc (free_slots store.held) ≡ free_slots m.store.held =
-      subst (λ (x : Store). suc (free_slots x.held) ≡ free_slots m.store.held) (sym made.1) (free_less (header_of (suc m.last_id) kind segments) m.store.held (omega (arith, made.0.slot))) in
+      subst (λ (x : Store). suc (free_slots x.held) ≡ free_slots m.store.held) (sym made.1)
+      (free_less (header_of (suc m.last_id) kind segments) m.store.held (omega (arith, made.0.slot))) in
       room_to w store _ t is (record {
         waits = λ some. absurd (some (ap (λ (x : Sweep). x.filled) t_is));
         room = λ room. omega (arith, less, made.0.slot, waiting, ap (λ (x : Sweep). length x.ready) t_is);
@@ -451,7 +450,8 @@ sourced_first opened c (suc left) = tt
 pub none_given : (opened : Store) (last : ℕ) → last ≡ last_id opened.held → CountsIds [] opened last
 none_given opened last is = record { ids = tt; last_is = omega (arith, is); earlier = tt; few = λ some. omega (arith, some, free_within opened.held) }
 
-pub counts_of : (now : Found (ListOf ℕ)) (opened store : Store) (last : ℕ) (c : C) → Sweeps now c.changes opened store → Sourced opened store last c → CountsIds c.changes opened last
+pub counts_of : (now : Found (ListOf ℕ)) (opened store : Store) (last : ℕ) (c : C) → Sweeps now c.changes opened store → Sourced opened store last c
+    → CountsIds c.changes opened last
 counts_of now opened store last c sweeps so = record {
   ids = so.ids;
   last_is = so.last_is;

@@ -1,5 +1,5 @@
 -- What a step of a collection leaves in a slot: the container that it had, or one that came with the step, under a greater id than all before.
-use Rattle.store_machine.proofs.Prelude.{◌≡◌, ◌⊎◌, ◌<◌, ◌≤◌, inl, inr, ℕ, suc, ListOf, [], ◌∷◌, refl, sym, ap, subst, arith, Kind, Segment, HeaderValue, header_of, Phase, there_before, Store, FlushContainer, FreeContainer, StoreChange, HasContainer, GoesOn, Makes, last_by, Collection, Machine, Values}
+use Rattle.store_machine.proofs.Prelude.{◌≡◌, ◌⊎◌, ◌<◌, ◌≤◌, inl, inr, ℕ, suc, ListOf, [], ◌∷◌, ap, subst, arith, Kind, Segment, HeaderValue, header_of, Phase, there_before, with_sealed, Store, FlushContainer, FreeContainer, StoreChange, HasContainer, GoesOn, Makes, last_by, Collection, Machine, Values}
 use Rattle.refusals.specs.declared.refusal.Phase.TheVariants as phases
 use Rattle.store_machine.specs.Collecting.{Goes, Went}
 use Rattle.store_machine.proofs.Moved.{filled_there}
@@ -33,7 +33,8 @@ module _ {V R : Type 0} (v : Values V R) where
         by (inl none) = inl (subst (λ (s : Store). HasContainer s slot h) (made [] none) has)
         by (inr (inl (kind, segments, is))) =
             let makes = made (FlushContainer (suc m.last_id) kind segments ∷ []) is in
-            elim (filled_there (header_of (suc m.last_id) kind segments) h m.store.held slot (omega (arith, makes.0.slot)) (subst (λ (s : Store). HasContainer s slot h) makes.1 has)) [
+            let there : HasContainer (with_sealed (suc m.last_id) kind segments m.store) slot h = subst (λ (s : Store). HasContainer s slot h) makes.1 has in
+            elim (filled_there (header_of (suc m.last_id) kind segments) h m.store.held slot (omega (arith, makes.0.slot)) there) [
               | inl here ↦ inr (omega (arith, ap (λ (x : HeaderValue). x.id) here.1))
               | inr before ↦ inl before
             ]

@@ -1,17 +1,14 @@
 -- A collection, no other step of which comes between: what it recorded and changed since the store was opened.
-use Rattle.store_machine.proofs.Prelude.{◌≡◌, ◌≤◌, inl, inr, ⊎_elim, ℕ, zero, suc, ListOf, [], ◌∷◌, ◌++◌, Contains, Option, Some, None, Result, Ok, sym, ◌∙◌, ap, subst, arith, AllByRecursion, Contains-push_cases, Entry, Kind, Segment, segment_key, HeaderValue, ContainerLiveness, ids_of, Phase, Refusal, FreesTo, with_freed, Store, IsSpare, last_id, ChangeName, FlushContainer, FreeContainer, SealContainer, StoreChange, there_before, Asked, FileMachine, MakesRoom, HasContainer, HasIds, Gathered, GoesOn, IsRecordOf, Makes, TakesAll, TakesOne, ids_before, keys_written, marking, Sweeps, Done, ByState, Legal, AreDid, Collection, Found, RunState, Running, Marking, Recording, Sweep, Sweeping, HasCopy, IsNeeded, NamesNeed, keys_of, Run, of_files}
+use Rattle.store_machine.proofs.Prelude.{◌≡◌, ◌≤◌, inl, inr, ⊎_elim, ℕ, zero, suc, ListOf, [], ◌∷◌, ◌++◌, Contains, Option, Some, None, sym, ◌∙◌, ap, subst, arith, AllByRecursion, Contains-push_cases, Entry, Kind, Segment, segment_key, HeaderValue, ContainerLiveness, ids_of, Phase, FreesTo, with_freed, Store, IsSpare, last_id, ChangeName, FlushContainer, FreeContainer, SealContainer, StoreChange, there_before, FileMachine, MakesRoom, HasContainer, HasIds, Gathered, IsRecordOf, Makes, TakesAll, TakesOne, ids_before, keys_written, marking, Sweeps, Collection, Found, Marking, Recording, Sweep, Sweeping, HasCopy, IsNeeded, NamesNeed, keys_of, of_files}
 use Rattle.std.proofs.Common.{slice_get}
 use Rattle.std.specs.FinMap as finite
 use Rattle.refusals.specs.declared.refusal.Phase.TheVariants as phases
 use Rattle.store_model.specs.Needed.{SumsNeeded}
 use Rattle.store_model.specs.Steps.{changed}
-use Rattle.store_machine.specs.Asked as asked
 use Rattle.store_machine.specs.Collecting.{Goes, Went}
 use Rattle.store_machine.specs.CollectsAlone.{HasChosen, IsNeededCopy, IsOfSweep, IsRecorded, KeepsNeeded}
-use Rattle.store_machine.specs.Done as done
 use Rattle.store_machine.specs.Machine.{Stage}
 use Rattle.store_machine.specs.Needs.{NeededSince, OneNeeds}
-use Rattle.store_machine.proofs.Stepwise.{Step}
 use Rattle.store_machine.proofs.Swept.{filled_at, head_of, in_tail, none_filled, none_in}
 
 abbrev pub C : Type 0

@@ -77,9 +77,9 @@ IsMoved P percent held held_now kind slot e =
     × ((copy : Copy) × ((newest 0 held (entry_key kind e) ≡ Some copy) × IsChosen P percent held copy.place.slot))
 
 -- A collection that came to its end chose so, P being what is needed. Each container that is left was there, in the same slot, or came
--- since, under an id above all of before. Each entry of one that came is the newest copy of a key that had to be copied, and each such key
--- has its newest copy in one; each needed key that had a copy has one. At the percentage 0 nothing was copied. Each container that is left
--- holds the newest copy of some needed key; at 100 they hold nothing else.
+-- since, under an id above all of before. Each entry of one that came is the newest copy of a key that had to be copied, and each such
+-- key has its newest copy in one; each needed key that had a copy has one. At the percentage 0 nothing was copied. Each container that is
+-- left holds the newest copy of some needed key; at 100 they hold nothing else.
 pub record GivesBackByNeed (P : List ℕ → Type 0) (percent : ℕ) (opened after : Store) (changes : List StoreChange) : Type 0 where
   pub chooses : Chooses P percent opened.held after.held changes
   pub since : (slot : ℕ) (h : HeaderValue) → HasContainer after slot h → HasContainer opened slot h ⊎ (last_id opened.held < h.id)
@@ -87,7 +87,8 @@ pub record GivesBackByNeed (P : List ℕ → Type 0) (percent : ℕ) (opened aft
       → AllByRecursion (IsMoved P percent opened.held after.held h.kind slot) h.entries
   pub all_moved : (key : List ℕ) → IsToCopy P percent opened.held key
       → (now : Copy) × ((newest 0 after.held key ≡ Some now) × (last_id opened.held < now.id))
-  pub kept : (key : List ℕ) (copy : Copy) → P key → newest 0 opened.held key ≡ Some copy → (now : Copy) × (newest 0 after.held key ≡ Some now)
+  pub kept : (key : List ℕ) (copy : Copy) → P key → newest 0 opened.held key ≡ Some copy
+      → (now : Copy) × (newest 0 after.held key ≡ Some now)
   pub none_copied : percent ≡ 0 → keys_written changes ≡ []
   pub none_spare : (slot : ℕ) → ¬ (IsSpare P after.held slot)
   pub full : percent ≡ 100 → (slot : ℕ) (h : HeaderValue) → HasContainer after slot h

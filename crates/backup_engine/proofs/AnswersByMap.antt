@@ -1,5 +1,5 @@
 -- A command that ran no line answers by the map; and so does any whose lines do.
-use Rattle.backup_engine.proofs.Prelude.{◌≡◌, ◌⊎◌, inl, inr, ℕ, IsTrue, List, [], Option, Some, None, refl, sym, ◌∙◌, ap, subst, arith, DiskView, SinkView, SourceView, Refusal, DiskWrite, Refused, ByteSet, HasNoCollisions, IsIn, OpensAs, Stored, Store, IsSegmentOf, fails, FileMachine, ListsThrough, Replied, Found, RunState, MayBeFound, of_files, FileDesk, IsOfFound, MayStand, stored_in, unopened, files_begin, AnswersByMap, IsLeftAs, WasNotDone, WroteFile, CutsAmong, FailsAlone, RefusedByFiles, RunsByFiles, RunsEachByFiles, CommandLine, Format, Ingest, Restore, Collect, SpeaksAs, Speaks, DoesCommand}
+use Rattle.backup_engine.proofs.Prelude.{◌≡◌, ◌⊎◌, inl, inr, ℕ, IsTrue, List, [], Option, Some, None, refl, sym, ◌∙◌, ap, subst, arith, DiskView, SinkView, SourceView, Refusal, DiskWrite, Refused, ByteSet, HasNoCollisions, IsIn, OpensAs, Stored, Store, IsSegmentOf, fails, FileMachine, ListsThrough, Replied, Found, RunState, MayBeFound, of_files, FileDesk, IsOfFound, MayStand, stored_in, unopened, files_begin, AnswersByMap, IsLeftAs, WroteFile, CutsAmong, FailsAlone, RefusedByFiles, RunsByFiles, RunsEachByFiles, CommandLine, Format, Ingest, Restore, Collect, SpeaksAs, Speaks, DoesCommand}
 use Rattle.std.proofs.lemmas.List.{append-nil}
 use Rattle.std.specs.FinMap as finite
 use Rattle.reply_text.specs.declared.ending.Ending.{Ending}

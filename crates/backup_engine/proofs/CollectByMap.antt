@@ -1,5 +1,5 @@
 -- A `collect` answers by the map, by the law of its lines.
-use Rattle.backup_engine.proofs.Prelude.{◌≡◌, ◌⊎◌, inl, inr, ℕ, List, [], ◌∷◌, Option, Some, None, refl, sym, ◌∙◌, subst, DiskView, SinkView, Sink, Refused, ReplyValue, IsIn, Stored, Store, ListsThrough, AllFollow, Replied, unopened, AnswersByMap, AnswersEachCall, Wrote, CutsAmong, RunsByFiles, Collect, EndsFailing, WhyRefused, IsCollect, OpensAs, files_begin, ap, length, arith, collecting, said}
+use Rattle.backup_engine.proofs.Prelude.{◌≡◌, ◌⊎◌, inl, inr, ℕ, List, [], Option, Some, None, refl, sym, ◌∙◌, subst, DiskView, SinkView, Sink, Refused, IsIn, Stored, Store, ListsThrough, AllFollow, Replied, unopened, AnswersByMap, AnswersEachCall, Wrote, CutsAmong, RunsByFiles, Collect, EndsFailing, WhyRefused, IsCollect, OpensAs, files_begin, ap, length, arith, said}
 use Rattle.reply_text.specs.declared.ending.Ending.{Ending}
 use Rattle.script_lines.specs.Grammar as lines
 use Rattle.script_lines.specs.ReplyValue as replies

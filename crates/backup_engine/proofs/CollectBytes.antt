@@ -1,5 +1,5 @@
 -- Containers that steps of a collection left are byte for byte what they were, by what each step does to the content.
-use Rattle.backup_engine.proofs.Prelude.{◌≡◌, ◌⊎◌, ◌≢◌, inl, inr, ◌+◌, ◌<◌, ◌≤◌, ℕ, zero, suc, List, [], ◌∷◌, ◌++◌, Option, Some, None, Result, Ok, Err, refl, sym, ◌∙◌, ap, subst, arith, slice_get, AllByRecursion, KnownWith, range, HeaderValue, slot_at, SLOT_BYTES, Refusal, DiskWrite, Refused, ReplyValue, FreesTo, HasNoGate, with_freed, Encodes, Store, FileMachine, Lines, Replied, RunState, Running, Stepped, of_files, MayStand, IsIn, store_once, first_free, there_before, some_same}
+use Rattle.backup_engine.proofs.Prelude.{◌≡◌, ◌⊎◌, ◌≢◌, inl, inr, ◌+◌, ◌<◌, ◌≤◌, ℕ, List, [], ◌∷◌, ◌++◌, Option, Some, None, Result, Ok, Err, refl, sym, ◌∙◌, ap, subst, arith, slice_get, AllByRecursion, range, HeaderValue, slot_at, SLOT_BYTES, Refusal, DiskWrite, ReplyValue, FreesTo, HasNoGate, with_freed, Encodes, Store, FileMachine, Lines, Replied, RunState, Running, Stepped, of_files, MayStand, store_once, first_free, there_before}
 use Rattle.std.proofs.lemmas.Bool.{cases_lt}
 use Rattle.refusals.specs.declared.refusal.Phase.{Phase}
 use Rattle.refusals.specs.declared.refusal.Refusal.TheVariants as refusals
@@ -15,8 +15,8 @@ use Rattle.store_machine.specs.Collected.{HasContainer}
 use Rattle.store_machine.specs.Collecting.{GoesOn}
 use Rattle.store_machine.specs.Done.{Done}
 use Rattle.store_machine.specs.Done as done
-use Rattle.store_machine.specs.Legal.{ByState, Does, Legal, LegalBy, Refuses, RefusesGcStep}
-use Rattle.store_machine.specs.Lines.{AreDid, Desk, Line, reply_of, step_of}
+use Rattle.store_machine.specs.Legal.{ByState, Does, Legal, LegalBy, RefusesGcStep}
+use Rattle.store_machine.specs.Lines.{AreDid, Line, reply_of, step_of}
 use Rattle.store_machine.specs.Opening.{Stands}
 use Rattle.store_machine.specs.Runs.{Run}
 use Rattle.store_machine.proofs.Steady.{goes_last, goes_since}

@@ -1,5 +1,5 @@
 -- What a `collect` gave back, and why it was refused, by the law of its lines and by what its steps did to the bytes.
-use Rattle.backup_engine.proofs.Prelude.{◌≡◌, ◌⊎◌, inl, inr, ◌+◌, ◌<◌, ◌≤◌, ℕ, zero, suc, List, [], ◌∷◌, ◌++◌, length, Option, Some, None, Ok, Err, refl, sym, ◌∙◌, ap, subst, arith, Contains, slice_get, AllByRecursion, Known, KnownWith, DiskView, SinkView, range, HeaderValue, slot_at, SLOT_BYTES, LAST_ID, RESERVE, Refusal, DiskRead, DiskWrite, Memory, Numbers, Sink, Refused, ReplyValue, IsIn, ByteSet, HasNoCollisions, OpensAs, Stored, FreesTo, with_all_freed, with_freed, Store, Encodes, IsReachable, IsSpare, free_slots, last_id, newest, IsStoreOf, IsSegmentOf, StoreChange, SealContainer, ChangeName, FlushContainer, FreeContainer, with_sealed, SweepsSpare, copied_in, ListsThrough, FileMachine, MakesRoom, Replied, RunState, Running, Stepped, Found, MayBeFound, of_files, MayStand, unopened, id_below, store_once, FreesUpTo, written_in, RunsByFiles, Collect, GivesSlotsBack, IsLeftWith, WhyRefused, RefusedBy, WroteReply, collected_line, HasNoIdLeft, IsCollect, collecting, said, of_each}
+use Rattle.backup_engine.proofs.Prelude.{◌≡◌, ◌⊎◌, inl, inr, ◌<◌, ◌≤◌, ℕ, List, [], ◌∷◌, ◌++◌, length, Option, Some, None, refl, sym, ◌∙◌, ap, subst, arith, slice_get, AllByRecursion, KnownWith, DiskView, SinkView, range, HeaderValue, slot_at, SLOT_BYTES, LAST_ID, RESERVE, Refusal, DiskRead, DiskWrite, Memory, Numbers, Sink, Refused, ReplyValue, Stored, FreesTo, with_all_freed, with_freed, Store, Encodes, IsReachable, IsSpare, free_slots, last_id, newest, StoreChange, SealContainer, ChangeName, FlushContainer, FreeContainer, with_sealed, SweepsSpare, copied_in, FileMachine, MakesRoom, Replied, RunState, Running, Found, MayBeFound, of_files, unopened, id_below, RunsByFiles, Collect, GivesSlotsBack, IsLeftWith, RefusedBy, WroteReply, collected_line, HasNoIdLeft, IsCollect, collecting, said}
 use Rattle.std.proofs.lemmas.List.{append-nil, length-append, length-map}
 use Rattle.reply_text.specs.declared.ending.Ending.{Ending}
 use Rattle.script_lines.specs.Grammar as lines
@@ -9,28 +9,26 @@ use Rattle.container_meta.specs.Segments.{segment_key}
 use Rattle.gc_sweep.proofs.InSlots.{one_slot}
 use Rattle.store_core.specs.Releases.{freed_in}
 use Rattle.store_model.specs.Freeing.{IsLeastSpare}
-use Rattle.store_model.specs.Reserve.{HoldsJustNeeded}
 use Rattle.store_model.specs.Slots.{AreHeaders, Copy, DifferentIds}
 use Rattle.store_model.proofs.Copies.{headers_of_right}
 use Rattle.store_model.proofs.Freed.{different_without, headers_without}
 use Rattle.store_model.proofs.Reached.{reached_held}
 use Rattle.store_machine.specs.Collected.{HasContainer, HasIds}
 use Rattle.store_machine.specs.Collecting.{Makes, freed_in as freed_by, keys_written}
-use Rattle.store_machine.specs.CollectsAlone.{CollectRefusal, CollectedAlone, CollectsByMap, CountsIds, HasSwept, IsOfSweep, KeepsNeeded, Sweeps, SweptSoFar}
+use Rattle.store_machine.specs.CollectsAlone.{CollectRefusal, CollectedAlone, HasSwept, IsOfSweep, KeepsNeeded, Sweeps, SweptSoFar}
 use Rattle.store_machine.specs.CollectsByNeed.{GivesBackByNeed}
 use Rattle.store_machine.specs.Commands.{EndsRefused, EndsWith, IsDone, last_of, printed}
 use Rattle.store_machine.specs.Commands as machine
 use Rattle.store_machine.specs.Needs.{NamesNeed, keys_of}
-use Rattle.store_machine.specs.Opening.{Opens}
-use Rattle.store_machine.proofs.Reached.{needs_just, reach_needs}
+use Rattle.store_machine.proofs.Reached.{reach_needs}
 use Rattle.core_machine.specs.Bytes.{MadeRoom}
 use Rattle.backup_engine.specs.AnswersByMap.{OpensStore}
 use Rattle.backup_engine.specs.Collected.{Collected, CollectedAll}
 use Rattle.backup_engine.specs.CollectsByMap.{CollectsFor}
-use Rattle.backup_engine.proofs.CollectBytes.{IsGcLine, KeepsSlots, RunKeeps, all_gc, before_room, room_keeps, run_keeps}
+use Rattle.backup_engine.proofs.CollectBytes.{IsGcLine, RunKeeps, all_gc, room_keeps, run_keeps}
 use Rattle.backup_engine.proofs.EarlierFrees.{frees_later}
 use Rattle.backup_engine.proofs.EarlierIds.{frees, frees_from, last_freed, all_freed, slots_freed, sweeps_from, written_frees}
-use Rattle.backup_engine.proofs.Rested.{WasStore, all_lines, all_steps, has_reserve, last, left_so, ran, rested, room_made}
+use Rattle.backup_engine.proofs.Rested.{WasStore, all_lines, has_reserve, last, left_so, rested, room_made}
 
 -- ---- room is made in one way
 

@@ -8,7 +8,7 @@ use Rattle.backup_engine.proofs.Called.{Called}
 use Rattle.backup_engine.proofs.CollectKept.{done_any, ends_found, ends_frame, stopped_any, unbegun_any, unbegun_found, unbegun_frame, untold_any}
 use Rattle.backup_engine.proofs.CollectLines.{stopped_run, swept_run, unbegun_run}
 use Rattle.backup_engine.proofs.CollectSteps.{collection_later}
-use Rattle.backup_engine.proofs.Replied.{is_done, replied_sent, wrote_sent}
+use Rattle.backup_engine.proofs.Replied.{replied_sent, wrote_sent}
 use Rattle.backup_engine.proofs.Returned.{one_later}
 use Rattle.backup_engine.proofs.ReadSteps.{steps_of}
 

@@ -1,5 +1,5 @@
 -- Changes of a collection once room was made, as changes of the store of which room was made.
-use Rattle.backup_engine.proofs.Prelude.{◌≡◌, ◌+◌, ◌≤◌, ℕ, List, [], ◌∷◌, ◌++◌, length, Option, Some, refl, sym, ◌∙◌, ap, subst, arith, KnownWith, DiskView, shown_content, LAST_ID, id_below, RoomMade, Refusal, Numbers, Refused, SweepsSpare, ByteSet, IsIn, OpensAs, Stored, FreesTo, with_all_freed, with_freed, Store, Encodes, last_id, FreeContainer, StoreChange, store_once, FreesUpTo, HasNoIdLeft, written_in, CommandLine, Collect, RefusedBy, WhyRefused}
+use Rattle.backup_engine.proofs.Prelude.{◌≡◌, ◌≤◌, ℕ, List, [], ◌∷◌, ◌++◌, length, refl, sym, ◌∙◌, subst, arith, id_below, SweepsSpare, FreesTo, with_all_freed, with_freed, Store, last_id, FreeContainer, StoreChange, FreesUpTo, written_in}
 use Rattle.store_model.proofs.Freed.{length-without_slot}
 use Rattle.store_state.proofs.Taken.{last_without}
 

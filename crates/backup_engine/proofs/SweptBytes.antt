@@ -1,6 +1,6 @@
 -- What a step of a collection leaves of the bytes, whatever they are: all before the end of the slots, but gates of containers that were given
 -- back, and slots that were filled.
-use Rattle.backup_engine.proofs.Prelude.{◌≡◌, inl, inr, ◌+◌, ◌≤◌, ℕ, List, [], ◌∷◌, Some, None, refl, ◌∙◌, subst, arith, range, SameOutside, KnownWith, CrashLeaves, DiskView, OnlyReads, SteppedFrom, leaves_weaker, size_of, slot_at, Touches, Stage, Mark, Filter, Select, SweepStage, Flush, Release, End, slot_in_turn, ChangesSlotAlone, SameButSlotOf, Changes, SameBefore, HasNoGate, IsValidFor, Store, HasFree, first_free, Represents, Tables, LiesBeside, SameButSlotsOf}
+use Rattle.backup_engine.proofs.Prelude.{◌≡◌, inl, inr, ◌+◌, ◌≤◌, ℕ, List, [], ◌∷◌, Some, None, refl, ◌∙◌, subst, arith, range, SameOutside, CrashLeaves, DiskView, OnlyReads, SteppedFrom, leaves_weaker, size_of, slot_at, Touches, Stage, Mark, Filter, Select, SweepStage, Flush, Release, End, slot_in_turn, ChangesSlotAlone, SameButSlotOf, Changes, SameBefore, HasNoGate, IsValidFor, Store, HasFree, first_free, Represents, Tables, LiesBeside, SameButSlotsOf}
 use Rattle.dd_disk.specs.Ending.{Ending}
 use Rattle.dd_disk.proofs.Later.{reads_leave}
 use Rattle.gc_sweep.specs.declared.sweep.Next.{Next}

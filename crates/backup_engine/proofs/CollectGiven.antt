@@ -24,7 +24,7 @@ use Rattle.store_machine.proofs.Reached.{reach_needs}
 use Rattle.core_machine.specs.Bytes.{MadeRoom}
 use Rattle.backup_engine.specs.AnswersByMap.{OpensStore}
 use Rattle.backup_engine.specs.Collected.{Collected, CollectedAll}
-use Rattle.backup_engine.specs.CollectsByMap.{CollectsFor}
+use Rattle.backup_engine.specs.CollectsByMap.{CollectsFor, RunsOutBy}
 use Rattle.backup_engine.proofs.CollectBytes.{IsGcLine, RunKeeps, all_gc, room_keeps, run_keeps}
 use Rattle.backup_engine.proofs.EarlierFrees.{frees_later}
 use Rattle.backup_engine.proofs.EarlierIds.{frees, frees_from, last_freed, all_freed, slots_freed, sweeps_from, written_frees}
@@ -290,22 +290,22 @@ module _ (given : List ℕ) (percent : ℕ) (S : List ℕ → Type 0) (m : Store
     answers_done ending sink sink_now (inl is) wrote =
         subst (λ (e : Option Ending). CollectsFor percent given e m old v.content w.content sink sink_now) (sym is) (record {
           why = tt;
-          store = opens_done (λ s. GivesSlotsBack percent None m.files s old w.content sink sink_now)
-              (freed, copied, (done_gave, subst (λ (e : Option Ending). WroteReply (collected_line freed copied) e sink sink_now) is wrote));
+          store = opens_done (λ s. GivesSlotsBack percent None m.files s old w.content sink sink_now × RunsOutBy None m.files s w.content)
+              ((freed, copied, (done_gave, subst (λ (e : Option Ending). WroteReply (collected_line freed copied) e sink sink_now) is wrote)), tt);
         })
     answers_done ending sink sink_now (inr is) wrote =
         subst (λ (e : Option Ending). CollectsFor percent given e m old v.content w.content sink sink_now) (sym is) (record {
           why = tt;
-          store = opens_done (λ s. GivesSlotsBack percent (Some Sink) m.files s old w.content sink sink_now)
-              (freed, copied, (done_gave, subst (λ (e : Option Ending). WroteReply (collected_line freed copied) e sink sink_now) is wrote));
+          store = opens_done (λ s. GivesSlotsBack percent (Some Sink) m.files s old w.content sink sink_now × RunsOutBy (Some Sink) m.files s w.content)
+              ((freed, copied, (done_gave, subst (λ (e : Option Ending). WroteReply (collected_line freed copied) e sink sink_now) is wrote)), tt);
         })
 
     -- there was no memory for the reply
     answers_untold : (sink sink_now : SinkView) → CollectsFor percent given (Some (Refused Memory)) m old v.content w.content sink sink_now
     answers_untold sink sink_now = record {
       why = left_at swept.runs (swept.room (reserve_of opened room)) (λ s. Unit {0}) tt;
-      store = opens_done (λ s. GivesSlotsBack percent (Some (Refused Memory)) m.files s old w.content sink sink_now)
-          (freed, copied, (done_gave.0, done_gave.1, done_gave.2.collected));
+      store = opens_done (λ s. GivesSlotsBack percent (Some (Refused Memory)) m.files s old w.content sink sink_now × Unit {0})
+          ((freed, copied, (done_gave.0, done_gave.1, done_gave.2.collected)), tt);
     }
 
   -- ---- it was refused
@@ -400,11 +400,26 @@ module _ (given : List ℕ) (percent : ℕ) (S : List ℕ → Type 0) (m : Store
     gave_at Numbers is may = some_gave (λ same. let no : Numbers ≡ DiskWrite = is ∙ same in cc)
     gave_at r is may = absurd may
 
+    runs_out : (r : Refusal) → r ≡ refusal → CollectRefusal end r → RunsOutBy (Some (Refused r)) m.files begun w.content
+    runs_out Numbers is over =
+        let bytes = left_bytes (whole (λ same. let no : Numbers ≡ DiskWrite = is ∙ same in cc)) in
+        record {
+          changes = so.changes;
+          after = end.store;
+          left = (bytes.0, bytes.1, bytes.2.0);
+          chain = spare_as P start.now (reach_needs start.now) so.changes begun end.store so.sweeps.each so.sweeps.makes so.sweeps.keeps;
+          ids = omega (arith, over, so.counts.last_is);
+          earlier = so.counts.earlier;
+          few = so.counts.few (omega (arith, reserve_of begun made_room));
+        }
+    runs_out r is may = tt
+
     answers_refused : CollectsFor percent given (Some (Refused refusal)) m old v.content w.content sink sink_now
     answers_refused = record {
       why = why_by refusal refl (collected.refused refusal refused);
-      store = opens_refused (λ s. GivesSlotsBack percent (Some (Refused refusal)) m.files s old w.content sink sink_now)
-          (gave_at refusal refl (collected.refused refusal refused));
+      store = opens_refused
+          (λ s. GivesSlotsBack percent (Some (Refused refusal)) m.files s old w.content sink sink_now × RunsOutBy (Some (Refused refusal)) m.files s w.content)
+          (gave_at refusal refl (collected.refused refusal refused), runs_out refusal refl (collected.refused refusal refused));
     }
 
   -- ---- however it ended

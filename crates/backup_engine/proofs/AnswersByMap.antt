@@ -1,5 +1,5 @@
 -- A command that ran no line answers by the map; and so does any whose lines do.
-use Rattle.backup_engine.proofs.Prelude.{◌≡◌, ◌⊎◌, inl, inr, ℕ, IsTrue, List, [], Option, Some, None, refl, sym, ◌∙◌, ap, subst, arith, DiskView, SinkView, SourceView, Refusal, DiskWrite, Refused, ByteSet, HasNoCollisions, IsIn, OpensAs, Stored, Store, IsSegmentOf, fails, FileMachine, ListsThrough, Replied, Found, RunState, MayBeFound, of_files, FileDesk, IsOfFound, MayStand, stored_in, unopened, files_begin, AnswersByMap, IsLeftAs, WasNotDone, WroteFile, CutsAmong, FailsAlone, RefusedByFiles, RunsByFiles, RunsEachByFiles, CommandLine, Format, Ingest, Restore, Collect, SpeaksAs, Speaks, DoesCommand}
+use Rattle.backup_engine.proofs.Prelude.{◌≡◌, ◌⊎◌, inl, inr, ℕ, IsTrue, List, [], Option, Some, None, refl, sym, ◌∙◌, ap, subst, arith, DiskView, SinkView, SourceView, Refusal, DiskWrite, Refused, ByteSet, HasNoCollisions, IsIn, OpensAs, Stored, Store, IsSegmentOf, fails, FileMachine, ListsThrough, Replied, Found, RunState, MayBeFound, of_files, FileDesk, IsOfFound, MayStand, stored_in, unopened, files_begin, AnswersByMap, IsLeftAs, WroteFile, CutsAmong, FailsAlone, RefusedByFiles, RunsByFiles, RunsEachByFiles, CommandLine, Format, Ingest, Restore, Collect, SpeaksAs, Speaks, DoesCommand}
 use Rattle.std.proofs.lemmas.List.{append-nil}
 use Rattle.std.specs.FinMap as finite
 use Rattle.reply_text.specs.declared.ending.Ending.{Ending}
@@ -17,7 +17,7 @@ use Rattle.backup_engine.proofs.Rested.{AtEnd, crash_by, left_by}
 -- ---- what was said
 
 -- what a call said, whatever room was made before
-told : (D : Type 0) (view : D → DiskView) (command : CommandLine) (given : List ℕ) (rs : List Replied) (ending : Option Ending) (disk disk_now : DiskView)
+pub told : (D : Type 0) (view : D → DiskView) (command : CommandLine) (given : List ℕ) (rs : List Replied) (ending : Option Ending) (disk disk_now : DiskView)
     (source source_now : SourceView) (sink sink_now : SinkView) (AreSo : List Replied → Type 0)
     → ((v : DiskView) → SpeaksAs command given ending rs v disk_now source source_now sink sink_now → Speaks AreSo ending rs v disk_now sink sink_now)
     → DoesCommand D view command given rs ending disk disk_now source source_now sink sink_now → AreSo rs ⊎ Silent ending rs sink sink_now

@@ -173,10 +173,6 @@ module _ (C : Type 0) (state : C → CoreState) (v w : DiskView) (old new : C) (
       settled = reads_settled store.slots (state old).disk (state mid).disk (settled C state v w old new called store.slots) rested.disk.only;
     }
 
-    pub begun_is : (so_begun.after ≡ store) × (so_begun.changes ≡ [])
-    unfolding so_begun
-    begun_is = (refl, refl)
-
     leaves_begun : (base : List ℕ) → v.content ≡ Some base → CrashLeaves (IsBut store base) (state old).disk (state mid).disk
     leaves_begun base told =
         let here : (state old).disk.content ≡ Some base = called.first.only.content_is ∙ told in

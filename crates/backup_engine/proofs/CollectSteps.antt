@@ -51,13 +51,6 @@ some_ready (x ∷ xs) some = Contains-get_or (x ∷ xs) 0 0 (omega arith)
 
 -- ---- what a step changes
 
--- a container of copies is written, under the next id, or the source in turn is given back, or nothing is changed
-abbrev pub IsChangeOf : Stage → Next → Sweep → ℕ → Store → List StoreChange → Store → Type 0
-IsChangeOf SweepStage (Flush source entry) sweep last after changes now =
-    (changes ≡ FlushContainer (last + 1) sweep.buffer.kind sweep.buffer.segments ∷ []) × (now ≡ with_sealed (last + 1) sweep.buffer.kind sweep.buffer.segments after)
-IsChangeOf SweepStage (Release source entry) sweep last after changes now = (changes ≡ FreeContainer (slot_in_turn sweep) ∷ []) × (now ≡ with_freed (slot_in_turn sweep) after)
-IsChangeOf stage next sweep last after changes now = (changes ≡ []) × (now ≡ after)
-
 module _ (s after : Store) (freed filled : List ℕ) (slots : SweptSlots s after freed filled) (old new : Moment) (represents : Represents after None old.tables)
     (valid : IsValidFor old.disk.size after)
     (runs : Runs old.disk.size None old.tables) (under : IsUnderWay old.tables.held old.collection) (began : old.collection.snapshot ≤ last_id s.held + 1)
@@ -111,7 +104,6 @@ module _ (s after : Store) (freed filled : List ℕ) (slots : SweptSlots s after
     pub freed_many : freed_in changes ≡ freed_by (phase_at stage next)
     pub copied_many : copied_in changes ≡ copies_by stage next c.sweep
     pub store_now : Store
-    pub change_is : IsChangeOf stage next c.sweep old.tables.held.last_id after changes store_now
     pub chain : ChangesTo changes after store_now
     pub represents_now : Represents store_now None new.tables
     pub valid_now : IsValidFor old.disk.size store_now
@@ -127,14 +119,13 @@ module _ (s after : Store) (freed filled : List ℕ) (slots : SweptSlots s after
 
   changed_none : (stage : Stage) (next : Next) → freed_by (phase_at stage next) ≡ 0 → copies_by stage next c.sweep ≡ 0 → freed_with stage next c.sweep freed ≡ freed →
       filled_with stage next after filled ≡ filled
-      → IsChangeOf stage next c.sweep old.tables.held.last_id after [] after → new.tables ≡ old.tables → Changed stage next
-  changed_none stage next none_freed none_copied freed_same filled_same change same = record {
+      → new.tables ≡ old.tables → Changed stage next
+  changed_none stage next none_freed none_copied freed_same filled_same same = record {
     changes = [];
     each = tt;
     freed_many = sym none_freed;
     copied_many = sym none_copied;
     store_now = after;
-    change_is = change;
     chain = refl;
     represents_now = subst (λ (t : Tables). Represents after None t) (sym same) represents;
     valid_now = valid;
@@ -150,10 +141,10 @@ module _ (s after : Store) (freed filled : List ℕ) (slots : SweptSlots s after
   }
 
   pub changed_by : (stage : Stage) (next : Next) → c.stage ≡ stage → c.sweep.next ≡ next → TablesAfter stage next old new → Changed stage next
-  changed_by (Mark level slot) next is next_is same = changed_none (Mark level slot) next refl refl refl refl (refl, refl) same
-  changed_by (Filter slot) next is next_is same = changed_none (Filter slot) next refl refl refl refl (refl, refl) same
-  changed_by Select next is next_is same = changed_none Select next refl refl refl refl (refl, refl) same
-  changed_by SweepStage (Copy source entry) is next_is same = changed_none SweepStage (Copy source entry) refl refl refl refl (refl, refl) same
+  changed_by (Mark level slot) next is next_is same = changed_none (Mark level slot) next refl refl refl refl same
+  changed_by (Filter slot) next is next_is same = changed_none (Filter slot) next refl refl refl refl same
+  changed_by Select next is next_is same = changed_none Select next refl refl refl refl same
+  changed_by SweepStage (Copy source entry) is next_is same = changed_none SweepStage (Copy source entry) refl refl refl refl same
   changed_by SweepStage (Flush source entry) is next_is (slot, writes) =
       let id : ℕ = old.tables.held.last_id + 1 in
       let h : HeaderValue = header_of id c.sweep.buffer.kind c.sweep.buffer.segments in
@@ -164,7 +155,6 @@ module _ (s after : Store) (freed filled : List ℕ) (slots : SweptSlots s after
         freed_many = refl;
         copied_many = omega arith;
         store_now = with_sealed id c.sweep.buffer.kind c.sweep.buffer.segments after;
-        change_is = (refl, refl);
         chain = (wrote.0, refl);
         represents_now = wrote.1;
         valid_now = valid_sealed id c.sweep.buffer.kind c.sweep.buffer.segments after wrote.0 old.disk.size valid;
@@ -186,7 +176,6 @@ module _ (s after : Store) (freed filled : List ℕ) (slots : SweptSlots s after
         freed_many = refl;
         copied_many = refl;
         store_now = with_freed slot after;
-        change_is = (refl, refl);
         chain = (free_in_turn source entry is next_is, refl);
         represents_now = gives.represents after None (λ places known. absurd (let wrong = known in cc)) represents;
         valid_now = valid_freed old.disk.size slot after valid;
@@ -201,7 +190,7 @@ module _ (s after : Store) (freed filled : List ℕ) (slots : SweptSlots s after
             (arith, new_without (last_id s.held) slot in_turn.header after.held in_turn.there (omega (arith, in_turn.old, began)));
         frees_now = (old_in_turn source entry is next_is, tt);
       }
-  changed_by SweepStage End is next_is same = changed_none SweepStage End refl refl refl refl (refl, refl) same
+  changed_by SweepStage End is next_is same = changed_none SweepStage End refl refl refl refl same
 
 -- ---- marking comes first
 
@@ -465,11 +454,6 @@ module _ (s : Store) (index : PlaceMap) (v : DiskView) (sized : v.size ≡ size_
               (so.represents.slots_are ∙ so.slots_are)
               (release_durable (state old) (state new) before goes.after before.stage before.sweep.next goes.steps) touched;
         }
-
-    -- the store then, and the changes so far
-    pub more_is : (one_more.after ≡ changed.store_now) × (one_more.changes ≡ so.changes ++ changed.changes)
-    unfolding one_more
-    more_is = (refl, refl)
 
   pub all_steps : (phases : List Phase) (old new : C) → SoFar old → CollectionRun C state phases old new → SoFar new
   all_steps [] old new so run = subst SoFar (sym run) so

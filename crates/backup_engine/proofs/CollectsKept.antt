@@ -7,9 +7,8 @@ use Rattle.backup_engine.specs.Collecting.{FinishRun, IsStopped}
 use Rattle.backup_engine.proofs.Called.{Called}
 use Rattle.backup_engine.proofs.CollectKept.{done_any, ends_found, ends_frame, stopped_any, unbegun_any, unbegun_found, unbegun_frame, untold_any}
 use Rattle.backup_engine.proofs.CollectLines.{stopped_run, swept_run, unbegun_run}
-use Rattle.backup_engine.proofs.CollectMap.{done_map, stopped_map, unbegun_map, untold_map}
 use Rattle.backup_engine.proofs.CollectSteps.{collection_later}
-use Rattle.backup_engine.proofs.Replied.{is_done, replied_sent, wrote_sent}
+use Rattle.backup_engine.proofs.Replied.{replied_sent, wrote_sent}
 use Rattle.backup_engine.proofs.Returned.{one_later}
 use Rattle.backup_engine.proofs.ReadSteps.{steps_of}
 
@@ -28,7 +27,7 @@ module _ (C : Type 0) (state : C → CoreState) (v w : DiskView) (old new : C) (
   unbegun : (refusal : Refusal) → Starts C state percent (Err refusal) old new → (source : SourceView) (sink : SinkView) →
       Keeps (Collect percent) [] (Some (Refused refusal)) v w source source sink sink
   unbegun refusal start source sink = record {
-    map = unbegun_map C state v w old new called percent refusal start sink;
+    map = λ known is among m distinct right stands. tt;
     any = unbegun_any C state v w old new called percent refusal start source sink;
     frame = unbegun_frame C state v w old new called percent refusal start;
     found = unbegun_found C state v w old new called percent refusal start;
@@ -40,7 +39,7 @@ module _ (C : Type 0) (state : C → CoreState) (v w : DiskView) (old new : C) (
     stopped : (refusal : Refusal) → Sweeps C state (Err refusal) mid new → (source : SourceView) (sink : SinkView) →
         Keeps (Collect percent) [] (Some (Refused refusal)) v w source source sink sink
     stopped refusal sweeps source sink = record {
-      map = stopped_map C state v w old new called percent snapshot mid start refusal sweeps sink;
+      map = λ known is among m distinct right stands. tt;
       any = stopped_any C state v w old new called percent snapshot mid start refusal sweeps source sink;
       frame = ends_frame C state v w old new called percent snapshot mid start (Err refusal) sweeps (Some (Refused refusal));
       found = ends_found C state v w old new called percent snapshot mid start (Err refusal) sweeps;
@@ -56,7 +55,7 @@ module _ (C : Type 0) (state : C → CoreState) (v w : DiskView) (old new : C) (
           let replied = replied_sent (collected_line freed copied) result sink sink_now sent in
           let wrote = wrote_sent (collected_line freed copied) result sink sink_now sent in
           record {
-            map = done_map C state v w old new called percent snapshot mid start freed copied sweeps ending sink sink_now (is_done ending sink sink_now replied) wrote;
+            map = λ known is among m distinct right stands. tt;
             any = done_any C state v w old new called percent snapshot mid start freed copied sweeps ending source sink sink_now replied wrote;
             frame = ends_frame C state v w old new called percent snapshot mid start (Ok (answers.Done freed copied)) sweeps ending;
             found = ends_found C state v w old new called percent snapshot mid start (Ok (answers.Done freed copied)) sweeps;
@@ -66,7 +65,7 @@ module _ (C : Type 0) (state : C → CoreState) (v w : DiskView) (old new : C) (
 
       untold : (source : SourceView) (sink : SinkView) → Keeps (Collect percent) [] (Some (Refused Memory)) v w source source sink sink
       untold source sink = record {
-        map = untold_map C state v w old new called percent snapshot mid start freed copied sweeps sink;
+        map = λ known is among m distinct right stands. tt;
         any = untold_any C state v w old new called percent snapshot mid start freed copied sweeps source sink;
         frame = ends_frame C state v w old new called percent snapshot mid start (Ok (answers.Done freed copied)) sweeps (Some (Refused Memory));
         found = ends_found C state v w old new called percent snapshot mid start (Ok (answers.Done freed copied)) sweeps;

@@ -1,11 +1,11 @@
 -- How an `ingest` or a `collect` ended over a store for which room was made, or was there, of all of the call.
-use Rattle.backup_engine.proofs.Prelude.{◌≡◌, inl, inr, ◌≤◌, ℕ, IsTrue, List, Option, Some, Err, refl, subst, KnownWith, DiskView, shown_content, SinkView, IsNotFull, RoomMade, RoomUnmade, Refusal, Full, Refused, IsGivenUp, IsNotRead, IsReadFrom, CoreState, ByteSet, IsIn, IsOf, OpensAs, Stored, Store, Encodes, RESERVE, free_slots, store_once, fails, CommandLine, Format, Ingest, Restore, Collect, EndsFailing, EndsSo, KeepsEachMap}
+use Rattle.backup_engine.proofs.Prelude.{◌≡◌, inl, inr, ◌≤◌, ℕ, IsTrue, List, Option, Some, Err, refl, subst, KnownWith, DiskView, shown_content, SinkView, IsNotFull, RoomMade, RoomUnmade, Refusal, DiskWrite, Full, Refused, IsGivenUp, IsNotRead, IsReadFrom, CoreState, ByteSet, IsIn, IsOf, OpensAs, Stored, Store, Encodes, RESERVE, free_slots, store_once, fails, CommandLine, Format, Ingest, Restore, Collect, EndsFailing, EndsSo, KeepsEachMap}
 use Rattle.recovery.specs.Opening.{Opens}
 use Rattle.reply_text.specs.declared.ending.Ending.{Ending}
 use Rattle.backup_engine.specs.Line.{Delete}
 use Rattle.backup_engine.specs.Line as table
-use Rattle.backup_engine.specs.Promise.{EndsEachMap}
-use Rattle.backup_engine.proofs.EarlierIds.{refused_earlier}
+use Rattle.refusals.specs.declared.refusal.Refusal.TheVariants.{Clash}
+use Rattle.backup_engine.specs.Promise.{EndsEachMap, RefusedBy, WhyRefused}
 
 -- ---- two slots or more were closed
 
@@ -23,7 +23,7 @@ read_runs v c read among m image told opens =
 -- what failed
 failed : (command : CommandLine) (given : List ℕ) (ending : Option Ending) (m : Stored) (v w : DiskView) → EndsFailing ending → EndsSo command given ending m v w
 failed (Ingest name) given ending m v w is = inr is
-failed (Collect percent) given ending m v w is = inr is
+failed (Collect percent) given ending m v w is = tt
 failed (Format slots) given ending m v w is = tt
 failed (Restore name) given ending m v w is = tt
 failed (Delete name) given ending m v w is = tt
@@ -33,8 +33,7 @@ pub ends_here : (command : CommandLine) (given : List ℕ) (ending : Option Endi
     → KeepsEachMap command given ending v w sink sink_now → EndsEachMap command given ending v w
 ends_here (Ingest name) given ending sink sink_now v w runs keeps old told among m distinct segments opens =
     inl (keeps old told among m distinct segments (runs among m old told opens)).0
-ends_here (Collect percent) given ending sink sink_now v w runs keeps old told among m distinct segments opens =
-    inl (keeps old told among m distinct segments (runs among m old told opens)).0
+ends_here (Collect percent) given ending sink sink_now v w runs keeps old told among m distinct segments opens = tt
 ends_here (Format slots) given ending sink sink_now v w runs keeps old told among m distinct segments opens = tt
 ends_here (Restore name) given ending sink sink_now v w runs keeps old told among m distinct segments opens = tt
 ends_here (Delete name) given ending sink sink_now v w runs keeps old told among m distinct segments opens = tt
@@ -49,14 +48,24 @@ made_stands v mid made old told among m opens =
     let now = made.content old told in
     (now.0, now.1, now.2.2.stands among m opens)
 
+-- why an `ingest` was refused does not go by the content before
+cause_earlier : (name given : List ℕ) (m : Stored) (later before content : Option (List ℕ)) (refusal : Refusal) → RefusedBy (Ingest name) given m later content refusal
+    → RefusedBy (Ingest name) given m before content refusal
+cause_earlier name given m later before content DiskWrite is = tt
+cause_earlier name given m later before content (Clash key at) is = is
+cause_earlier name given m later before content refusal is = is
+
+refused_earlier : (name given : List ℕ) (m : Stored) (later before content : Option (List ℕ)) (ending : Option Ending) → WhyRefused (Ingest name) given m later content ending
+    → WhyRefused (Ingest name) given m before content ending
+refused_earlier name given m later before content (Some (Refused refusal)) is = cause_earlier name given m later before content refusal is
+refused_earlier name given m later before content ending is = tt
+
 pub ends_made : (command : CommandLine) (given : List ℕ) (ending : Option Ending) (sink sink_now : SinkView) (v mid w : DiskView) → RoomMade v mid
     → KeepsEachMap command given ending mid w sink sink_now → EndsEachMap command given ending v w
 ends_made (Ingest name) given ending sink sink_now v mid w made keeps old told among m distinct segments opens =
     let there = made_stands v mid made old told among m opens in
-    inl (refused_earlier v mid made old told among m opens (Ingest name) given w.content ending (keeps there.0 there.1 among m distinct segments there.2).0)
-ends_made (Collect percent) given ending sink sink_now v mid w made keeps old told among m distinct segments opens =
-    let there = made_stands v mid made old told among m opens in
-    inl (refused_earlier v mid made old told among m opens (Collect percent) given w.content ending (keeps there.0 there.1 among m distinct segments there.2).0)
+    inl (refused_earlier name given m mid.content v.content w.content ending (keeps there.0 there.1 among m distinct segments there.2).0)
+ends_made (Collect percent) given ending sink sink_now v mid w made keeps old told among m distinct segments opens = tt
 ends_made (Format slots) given ending sink sink_now v mid w made keeps old told among m distinct segments opens = tt
 ends_made (Restore name) given ending sink sink_now v mid w made keeps old told among m distinct segments opens = tt
 ends_made (Delete name) given ending sink sink_now v mid w made keeps old told among m distinct segments opens = tt

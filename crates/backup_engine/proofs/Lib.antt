@@ -12,9 +12,6 @@ pub mod CollectFrame
 pub mod CollectKept
 pub mod CollectCounts
 pub mod CollectLines
-pub mod CollectMap
-pub mod CollectMaps
-pub mod CollectStays
 pub mod CollectSteps
 pub mod CollectsKept
 pub mod Commanded
@@ -43,7 +40,6 @@ pub mod ListKept
 pub mod ListScripts
 pub mod Lists
 pub mod ListsFormat
-pub mod Moved
 pub mod NameLines
 pub mod NamesKept
 pub mod NewContainers
@@ -99,6 +95,8 @@ pub mod WaySeals
 pub mod Ways
 pub mod WholeCall
 pub mod AnswersByMap
+mod CollectBytes
+mod CollectGiven
 pub mod CollectByMap
 pub mod EndsMade
 pub mod NamesByMap

@@ -43,14 +43,6 @@ ingest_failed name given S m old before content told is DiskRead fails = left_wi
 ingest_failed name given S m old before content told is DiskWrite fails = tt
 ingest_failed name given S m old before content told is refusal fails = absurd (false_not_true fails)
 
-collect_failed : (percent : ℕ) (given : List ℕ) (S : List ℕ → Type 0) (m : Stored) (old : List ℕ) (before content : Option (List ℕ)) → content ≡ Some old → IsOf S m old →
-    (refusal : Refusal) → IsTrue (fails refusal)
-    → RefusedBy (Collect percent) given m before content refusal
-collect_failed percent given S m old before content told is Memory fails = left_with S m old content (λ store. Unit {0}) told is tt
-collect_failed percent given S m old before content told is DiskRead fails = left_with S m old content (λ store. Unit {0}) told is tt
-collect_failed percent given S m old before content told is DiskWrite fails = tt
-collect_failed percent given S m old before content told is refusal fails = absurd (false_not_true fails)
-
 -- ---- a store that was not opened
 
 -- a store that has two free slots is refused as memory or the disk failed, and for nothing else
@@ -70,10 +62,6 @@ module _ (v w : DiskView) (refusal : Refusal) (is : IsUnopened v w refusal) wher
   ingest_ends : (name given : List ℕ) → RefusedOver (Ingest name) given refusal v w
   ingest_ends name given old known among m distinct right stands =
       ingest_failed name given (IsIn among) m old v.content w.content (is.reads.only.content_is ∙ known) stands refusal (map_fails (IsIn among) m old known stands)
-
-  collect_ends : (percent : ℕ) → RefusedOver (Collect percent) [] refusal v w
-  collect_ends percent old known among m distinct right stands =
-      collect_failed percent [] (IsIn among) m old v.content w.content (is.reads.only.content_is ∙ known) stands refusal (map_fails (IsIn among) m old known stands)
 
 ingest_caused : (v w : DiskView) (name given : List ℕ) (source : SourceView) (sink : SinkView) (refusal : Refusal) → IsOpenRefusal (Shows v w) v.size refusal
     → IsCaused (Ingest name) given v w source source sink sink (Some (Refused refusal))
@@ -190,7 +178,7 @@ unopened_list v w refusal is source sink = record {
 pub unopened_collect : (v w : DiskView) (refusal : Refusal) → IsUnopened v w refusal → (percent : ℕ) (source : SourceView) (sink : SinkView)
     → Keeps (Collect percent) [] (Some (Refused refusal)) v w source source sink sink
 unopened_collect v w refusal is percent source sink = record {
-  map = reads_map (Collect percent) [] refusal v w sink sink is.reads.only (collect_ends v w refusal is percent);
+  map = λ old known among m distinct right stands. tt;
   any = record {
     took = (refl, refl);
     caused = collect_caused v w percent source sink refusal is.cause;

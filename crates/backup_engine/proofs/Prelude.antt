@@ -23,7 +23,8 @@ pub use Rattle.backup_engine.specs.AnswersByMap.{AnswersByMap, AnswersEachCall, 
 pub use Rattle.backup_engine.specs.AnyDisk.{EndsDurable, FindsBeforeWriting, FindsNames, Formats, GivesBack, HasAdded, HasSwept, Holds, IsCaused, IsDeleted, IsStored, IsUnlikeNode, IsUnmarked, IsUnwritten, OnAnyDisk, ReadsSince, ShownSince, ShownThere, Took, WroteOnAny, disk_ending, room_in}
 pub use Rattle.backup_engine.specs.ByFiles.{CutsAmong, FailsAlone, RefusedByFiles, RunsByFiles, RunsEachByFiles}
 pub use Rattle.backup_engine.specs.CallsByFiles.{CallsRunByFiles}
-pub use Rattle.backup_engine.specs.Collected.{FreesUpTo, HasNoIdLeft, collected_line, written_in}
+pub use Rattle.backup_engine.specs.Collected.{HasNoIdLeft, collected_line}
+pub use Rattle.store_machine.specs.CollectsByNeed.{FreesUpTo, written_in}
 pub use Rattle.backup_engine.specs.Collecting.{CollectRun, WritesCollected}
 pub use Rattle.backup_engine.specs.Feeding.{Fills, IsFed, MayBe, SessionLaws, Stops, opens_of}
 pub use Rattle.backup_engine.specs.Frame.{KeepsOthers, KeepsRest, LiesBeside, MayFill, SameButSlotsOf}
@@ -148,15 +149,13 @@ pub use Rattle.script_runner.specs.Sessions.{kind_in}
 pub use Rattle.segment_index.specs.Changes.{Changes, SameBefore}
 pub use Rattle.session_turns.specs.Turns.{Asks, Feeds, TakesTurns, TurnRun, TurnsStopped}
 pub use Rattle.sha2.specs.Sha256.{sha256}
-pub use Rattle.store_core.proofs.AnySteps.{any_step, changes_told, keeps_files}
+pub use Rattle.store_core.proofs.AnySteps.{changes_told, keeps_files}
 pub use Rattle.store_core.proofs.Damage.{never_damaged}
 pub use Rattle.store_core.proofs.GcSteps.{end_reads}
 pub use Rattle.store_core.proofs.KeepingFiles.{file_step}
-pub use Rattle.store_core.proofs.Leading.{Leads}
 pub use Rattle.store_core.proofs.RunningOn.{step_runs}
 pub use Rattle.store_core.proofs.SafeSteps.{alone}
 pub use Rattle.store_core.proofs.Stepping.{step_later}
-pub use Rattle.store_core.specs.Chosen.{Chooses}
 pub use Rattle.store_core.specs.Collecting.{GcRow, GoesOn, IsNotMade, StartRow, TouchesBy, at_moment}
 pub use Rattle.store_core.specs.Core.{CoreStep, Effect, IndexesAll, KeepsTables, Makes, NamesOne, OpenRow, ReadRow, Rests, SealsOne, Steps, StepsOr, StopsAfter, next_id}
 pub use Rattle.store_core.specs.Frame.{HadContainer}

@@ -1,7 +1,6 @@
 -- What a command leaves that did no more than read.
-use Rattle.backup_engine.proofs.Prelude.{◌⊎◌, ◌≡◌, inl, inr, ℕ, List, [], Option, Some, refl, ◌∙◌, arith, DiskView, OnlyReads, SinkView, Refusal, DiskWrite, Refused, IsOf, Store, Encodes, Adds, CommandLine, Format, Ingest, Restore, Collect, GivesSlotsBack, LeavesMeanwhile, RefusedBy, SinceStart, KeepsEachMap, KeepsRest, KeepsOthers, IsSameDisk}
+use Rattle.backup_engine.proofs.Prelude.{◌⊎◌, ◌≡◌, inl, inr, ℕ, List, [], Option, Some, refl, ◌∙◌, arith, DiskView, OnlyReads, SinkView, Refusal, DiskWrite, Refused, IsOf, Store, Encodes, Adds, CommandLine, Format, Ingest, Restore, Collect, LeavesMeanwhile, RefusedBy, SinceStart, KeepsEachMap, KeepsRest, KeepsOthers, IsSameDisk}
 use Rattle.reply_text.specs.declared.ending.Ending.{Ending}
-use Rattle.store_model.specs.Files.{Files}
 use Rattle.backup_engine.specs.AnyDisk.{IsUnchanged}
 use Rattle.backup_engine.specs.Line.{Delete}
 use Rattle.backup_engine.specs.Line as table
@@ -73,13 +72,6 @@ added_none : (name given : List ℕ) (refusal : Refusal) (store : Store) (old : 
 added_none name given DiskWrite store old content told right = tt
 added_none name given refusal store old content told right = record { changes = []; after = store; chain = refl; once = tt; content_is = (old, told, right) }
 
--- and gives nothing back
-gave_none : (percent : ℕ) (refusal : Refusal) (files : Files) (store : Store) (old : List ℕ) (content : Option (List ℕ)) (sink sink_now : SinkView) → content ≡ Some old
-    → Encodes old store → GivesSlotsBack percent (Some (Refused refusal)) files store old content sink sink_now
-gave_none percent DiskWrite files store old content sink sink_now told right = tt
-gave_none percent refusal files store old content sink sink_now told right =
-    (0, 0, (old, told, record { changes = []; freed_are = refl; copied_are = refl; after = store; chain = refl; right = right; stays = λ slot h is. inl (is, refl) }))
-
 -- what was refused, and only read
 pub reads_map : (command : CommandLine) (given : List ℕ) (refusal : Refusal) (v w : DiskView) (sink sink_now : SinkView) → OnlyReads v w
     → RefusedOver command given refusal v w → KeepsEachMap command given (Some (Refused refusal)) v w sink sink_now
@@ -87,10 +79,7 @@ reads_map (Ingest name) given refusal v w sink sink_now reads why old known amon
   why old known among m distinct right is,
   λ first told store encodes. added_none name given refusal store first w.content (reads.content_is ∙ told) encodes,
 )
-reads_map (Collect percent) given refusal v w sink sink_now reads why old known among m distinct right is = (
-  why old known among m distinct right is,
-  λ first told store encodes. gave_none percent refusal m.files store first w.content sink sink_now (reads.content_is ∙ told) encodes,
-)
+reads_map (Collect percent) given refusal v w sink sink_now reads why old known among m distinct right is = tt
 reads_map (Format slots) given refusal v w sink sink_now reads why old known among m distinct right is = tt
 reads_map (Restore name) given refusal v w sink sink_now reads why old known among m distinct right is = tt
 reads_map (Delete name) given refusal v w sink sink_now reads why old known among m distinct right is = tt

@@ -12,7 +12,7 @@ use Rattle.store_machine.specs.Needs.{NamesNeed}
 use Rattle.store_machine.specs.Opening.{Opens, Stands}
 use Rattle.store_machine.specs.Runs.{IsPassedFrom, Run}
 use Rattle.core_machine.specs.FileOpenings.{opening}
-use Rattle.core_machine.proofs.FileNames.{needs_reach}
+use Rattle.store_machine.proofs.Reached.{needs_reach}
 use Rattle.backup_engine.specs.AnswersByMap.{EndsBy}
 
 -- a store at rest, that no one has open
@@ -175,19 +175,16 @@ module _ (S : List ℕ → Type 0) (rs : List Replied) (m : Stored) (store : Sto
   -- ---- the store at the end
 
   -- the opening made room
+  pub room_made : FreesTo (NamesNeed of_files (rested m store).now) runs.opens.freed store runs.opened.store
+  room_made = subst (λ (x : Found (List ℕ)). FreesTo (NamesNeed of_files x) runs.opens.freed store runs.opened.store) (runs.opens.may tt)
+      (subst (λ (s : Store). FreesTo (NamesNeed of_files runs.opens.found) runs.opens.freed s runs.opened.store) (only_one store runs.opens.before (runs.opens.same tt))
+      (runs.opens.frees tt))
+
   pub opened_room : (opened : Store) × MakesRoom (rested m store) opened
-  opened_room = (
-    runs.opened.store,
-    (
-      runs.opens.freed,
-      subst (λ (x : Found (List ℕ)). FreesTo (NamesNeed of_files x) runs.opens.freed store runs.opened.store) (runs.opens.may tt)
-          (subst (λ (s : Store). FreesTo (NamesNeed of_files runs.opens.found) runs.opens.freed s runs.opened.store)
-          (only_one store runs.opens.before (runs.opens.same tt)) (runs.opens.frees tt)),
-    ),
-  )
+  opened_room = (runs.opened.store, (runs.opens.freed, room_made))
 
   -- what the opening left has its reserve
-  has_reserve : (now : Store) → CanBeOpened store m.files → MakesRoom (rested m store) now → RESERVE ≤ free_slots now.held
+  pub has_reserve : (now : Store) → CanBeOpened store m.files → MakesRoom (rested m store) now → RESERVE ≤ free_slots now.held
   has_reserve now can (slots, frees) =
       let P : List ℕ → Type 0 = NamesNeed of_files (rested m store).now in
       let is : now ≡ with_all_freed slots store = freed_to P slots store now frees in
@@ -206,9 +203,9 @@ module _ (S : List ℕ → Type 0) (rs : List Replied) (m : Stored) (store : Sto
     pub is_store : IsStore now w.content
     is_store = (runs.stands.content.0, runs.stands.content.1, subst (Encodes runs.stands.content.0) store_is may.is.holds.right)
 
-    -- and where the names stay it is of these files, if it is what the opening left
-    pub left_with : (P : Store → Type 0) → WasStore m store v → MakesRoom (rested m store) now → last.now ≡ (rested m store).now → P now → IsLeftWith m w.content P
-    left_with P was room still has = (now, (runs.stands.content.0, runs.stands.content.1, is), has_reserve now was.can room, has)
+    -- and where the names stay it is of these files
+    pub left_so : RESERVE ≤ free_slots now.held → (P : Store → Type 0) → last.now ≡ (rested m store).now → P now → IsLeftWith m w.content P
+    left_so reserve P still has = (now, (runs.stands.content.0, runs.stands.content.1, is), reserve, has)
       where
         found_is : may.found ≡ (rested m store).now
         found_is = subst (λ (state : RunState (List ℕ)). MayBeFound of_files state last.now may.found) at.0 may.may ∙ still
@@ -216,3 +213,7 @@ module _ (S : List ℕ → Type 0) (rs : List Replied) (m : Stored) (store : Sto
         is : IsStoreOf now m.files runs.stands.content.0
         is = subst (λ (s : Store). IsStoreOf s m.files runs.stands.content.0) store_is
             (subst (λ (x : Found (List ℕ)). IsStoreOf may.store x.names runs.stands.content.0) found_is may.is.holds)
+
+    -- so it is of what the opening left
+    pub left_with : (P : Store → Type 0) → WasStore m store v → MakesRoom (rested m store) now → last.now ≡ (rested m store).now → P now → IsLeftWith m w.content P
+    left_with P was room still has = left_so (has_reserve now was.can room) P still has

@@ -1,6 +1,6 @@
 -- What a step of a collection leaves of the bytes, whatever they are: all before the end of the slots, but gates of containers that were given
 -- back, and slots that were filled.
-use Rattle.backup_engine.proofs.Prelude.{◌≡◌, inl, inr, ◌+◌, ◌≤◌, ℕ, List, [], ◌∷◌, Some, None, refl, ◌∙◌, subst, arith, range, SameOutside, KnownWith, CrashLeaves, DiskView, OnlyReads, SteppedFrom, leaves_weaker, size_of, slot_at, Touches, Stage, Mark, Filter, Select, SweepStage, Flush, Release, End, slot_in_turn, ChangesSlotAlone, SameButSlotOf, Changes, SameBefore, HasNoGate, IsValidFor, Store, HasFree, first_free, Represents, Tables, LiesBeside, SameButSlotsOf}
+use Rattle.backup_engine.proofs.Prelude.{◌≡◌, inl, inr, ◌+◌, ◌≤◌, ℕ, List, [], ◌∷◌, Some, None, refl, ◌∙◌, subst, arith, range, SameOutside, CrashLeaves, DiskView, OnlyReads, SteppedFrom, leaves_weaker, size_of, slot_at, Touches, Stage, Mark, Filter, Select, SweepStage, Flush, Release, End, slot_in_turn, ChangesSlotAlone, SameButSlotOf, Changes, SameBefore, HasNoGate, IsValidFor, Store, HasFree, first_free, Represents, Tables, LiesBeside, SameButSlotsOf}
 use Rattle.dd_disk.specs.Ending.{Ending}
 use Rattle.dd_disk.proofs.Later.{reads_leave}
 use Rattle.gc_sweep.specs.declared.sweep.Next.{Next}
@@ -49,9 +49,6 @@ module _ (s : Store) (freed filled : List ℕ) (base d c : List ℕ) (but : Same
 pub record IsFramed (s : Store) (freed filled : List ℕ) (base : List ℕ) (v : DiskView) : Type 0 where
   pub told : (bytes : List ℕ) × (v.content ≡ Some bytes)
   pub each : (c : List ℕ) → v.images c → SameButSlotsOf s freed filled base c
-
-pub content_framed : (s : Store) (freed filled : List ℕ) (base : List ℕ) (v : DiskView) → IsFramed s freed filled base v → KnownWith v.content (SameButSlotsOf s freed filled base)
-content_framed s freed filled base v framed = (framed.told.0, framed.told.1, framed.each framed.told.0 (v.as_read framed.told.0 framed.told.1))
 
 module _ (s : Store) (freed filled : List ℕ) (base : List ℕ) (old new : DiskView) (framed : IsFramed s freed filled base old) where
   abbrev Leaves : (List ℕ → Type 0) → Type 0

@@ -50,12 +50,6 @@ with_closed zero (suc slot) h (c ∷ cs) closed = closed
 with_closed (suc place) zero h (c ∷ cs) closed = closed
 with_closed (suc place) (suc slot) h (c ∷ cs) closed = with_closed place slot h cs closed
 
--- the slot of the container has no other
-with_one : (h g : HeaderValue) (held : List (Option HeaderValue)) → 1 ≤ free_slots held → slice_get (with_slot (first_free held) h held) (first_free held) ≡ Some (Some g) → g ≡ h
-with_one h g [] some there = absurd (omega (arith, some))
-with_one h g (None ∷ cs) some there = sym (some_same h g (some_same (Some h) (Some g) there))
-with_one h g (Some x ∷ cs) some there = with_one h g cs some there
-
 without_closed : (place slot : ℕ) (held : List (Option HeaderValue)) → slice_get (without_slot place held) slot ≡ Some None → (place ≡ slot) ⊎ (slice_get held slot ≡ Some None)
 without_closed place slot [] closed = inr closed
 without_closed zero zero (c ∷ cs) closed = inl refl
@@ -65,10 +59,6 @@ without_closed (suc place) (suc slot) (c ∷ cs) closed = elim (without_closed p
 
 -- ---- all of them
 
--- the slot has no container of before
-abbrev pub IsRenewed : Store → Store → ℕ → Type 0
-IsRenewed s after slot = (h : HeaderValue) → slice_get after.held slot ≡ Some (Some h) → last_id s.held < h.id
-
 -- A store came from another by changes of a collection. Each slot that was closed by them had a container of the first store, and each that was
 -- filled was closed in it, or by them.
 pub record SweptSlots (s after : Store) (freed filled : List ℕ) : Type 0 where
@@ -76,10 +66,9 @@ pub record SweptSlots (s after : Store) (freed filled : List ℕ) : Type 0 where
   pub may : AllByRecursion (MayFill s freed) filled
   pub there : (slot : ℕ) (h : HeaderValue) → slice_get after.held slot ≡ Some (Some h) → (slice_get s.held slot ≡ Some (Some h)) ⊎ (last_id s.held < h.id)
   pub closed : (slot : ℕ) → slice_get after.held slot ≡ Some None → MayFill s freed slot
-  pub renewed : AllByRecursion (IsRenewed s after) filled
 
 pub no_slots : (s : Store) → SweptSlots s s [] []
-no_slots s = record { had = tt; may = tt; there = λ slot h there. inl there; closed = λ slot closed. inl closed; renewed = tt }
+no_slots s = record { had = tt; may = tt; there = λ slot h there. inl there; closed = λ slot closed. inl closed }
 
 -- where more slots were closed
 pub may_more : (s : Store) (slot : ℕ) (freed : List ℕ) (other : ℕ) → MayFill s freed other → MayFill s (slot ∷ freed) other
@@ -97,7 +86,6 @@ module _ (s after : Store) (freed filled : List ℕ) (slots : SweptSlots s after
       | inl same ↦ inr (subst (Contains (slot ∷ freed)) same (Contains-get_or (slot ∷ freed) 0 0 (omega arith)))
       | inr was ↦ may_more s slot freed other (slots.closed other was)
     ];
-    renewed = all-more (IsRenewed s after) (IsRenewed s (with_freed slot after)) filled (λ other new h there. new h (there_before slot other h after.held there).1) slots.renewed;
   }
 
   -- or one is written, under an id above all of before
@@ -114,12 +102,6 @@ module _ (s after : Store) (freed filled : List ℕ) (slots : SweptSlots s after
       | inr was ↦ slots.there slot g was
     ]
 
-    still_renewed : (slot : ℕ) → IsRenewed s after slot → IsRenewed s filled_store slot
-    still_renewed slot new g there = elim (with_there place slot h g after.held there) [
-      | inl same ↦ omega (arith, above, ap (λ (x : HeaderValue). x.id) same)
-      | inr was ↦ new g was
-    ]
-
     pub was_closed : MayFill s freed place
     was_closed = slots.closed place (first_closed after.held (some_free after.held some))
 
@@ -129,8 +111,4 @@ module _ (s after : Store) (freed filled : List ℕ) (slots : SweptSlots s after
       may = (was_closed, slots.may);
       there = new_there;
       closed = λ slot closed. slots.closed slot (with_closed place slot h after.held closed);
-      renewed = (
-        λ g there. omega (arith, above, ap (λ (x : HeaderValue). x.id) (with_one h g after.held some there)),
-        all-more (IsRenewed s after) (IsRenewed s filled_store) filled still_renewed slots.renewed,
-      );
     }

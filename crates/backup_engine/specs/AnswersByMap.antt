@@ -91,7 +91,7 @@ pub record OpensStore (m : Stored) (old : List ℕ) (P : Store → Type 0) : Typ
   pub has : P opened
 
 -- A `delete` puts a record into it that the name is gone, and nothing else; of a write or a sync of that that failed nothing is said. A
--- `list` leaves it. (What an `ingest` adds, and a `collect` gives back, the call itself says: Promise.antt.)
+-- `list` leaves it. (What an `ingest` adds the call itself says, Promise.antt; what a `collect` gives back, CollectsByMap.antt.)
 abbrev pub ChangesStore : CommandLine → Option Ending → Store → Option (List ℕ) → Type 0
 ChangesStore (Delete name) None opened content = IsStore (with_change name Gone opened) content
 ChangesStore (Delete name) (Some Sink) opened content = IsStore (with_change name Gone opened) content

@@ -1,24 +1,19 @@
 -- What a `collect` gives back and copies, and says of it (docs/MODEL.md, 'The promise').
-use Rattle.std.specs.Prelude.{◌≡◌, ◌⊎◌, ◌+◌, ◌<◌, ◌≤◌, ℕ, List, [], ◌∷◌, length, slice_get, Option, Some}
+use Rattle.std.specs.Prelude.{◌≡◌, ◌⊎◌, ◌+◌, ◌<◌, ◌≤◌, ℕ, List, length, slice_get, Some}
 use Rattle.std.specs.List.{AllByRecursion}
 use Rattle.base_model.specs.Bytes.{range}
-use Rattle.container_meta.specs.declared.entry.Entry.{Entry}
-use Rattle.container_meta.specs.declared.kind.Kind.{Kind}
 use Rattle.container_meta.specs.Spelling.{HeaderValue}
 use Rattle.disk_format.specs.declared.numbers.TheConstants.{LAST_ID, SLOT_BYTES}
 use Rattle.disk_format.specs.Layout.{slot_at}
 use Rattle.script_lines.specs.ReplyText.{reply_line}
 use Rattle.script_lines.specs.ReplyValue as replies
-use Rattle.store_core.specs.Chosen.{Chooses, IsChosen}
 use Rattle.store_core.specs.Releases.{SweepsSpare, copied_in, freed_in}
 use Rattle.store_model.specs.Files.{Files}
-use Rattle.store_model.specs.Freeing.{with_freed}
 use Rattle.store_model.specs.Image.{Store, Encodes}
-use Rattle.store_model.specs.Indexing.{entry_key}
-use Rattle.store_model.specs.Needed.{IsNeededCopy}
 use Rattle.store_model.specs.Reserve.{HoldsJustNeeded, IsReachable, IsSpare}
 use Rattle.store_model.specs.Slots.{Copy, last_id, newest}
-use Rattle.store_model.specs.Steps.{StoreChange, FlushContainer, FreeContainer, changed}
+use Rattle.store_model.specs.Steps.{StoreChange, FlushContainer, FreeContainer}
+use Rattle.store_machine.specs.CollectsByNeed.{Chooses, FreesUpTo, IsChosen, IsMoved, written_in}
 
 -- `collected freed F copied C`
 abbrev pub collected_line : ℕ → ℕ → List ℕ
@@ -29,19 +24,6 @@ abbrev pub IsOfCollection : StoreChange → Type 0
 IsOfCollection (FlushContainer id kind segments) = Unit {0}
 IsOfCollection (FreeContainer slot) = Unit {0}
 IsOfCollection change = ⊥
-
--- how many containers of copies changes write
-abbrev pub written_in : List StoreChange → ℕ
-written_in [] = 0
-written_in (FlushContainer id kind segments ∷ more) = 1 + written_in more
-written_in (change ∷ more) = written_in more
-
--- each container that these changes give back has an id up to this one
-abbrev pub FreesUpTo : ℕ → List StoreChange → Store → Type 0
-FreesUpTo last [] s = Unit {0}
-FreesUpTo last (FreeContainer slot ∷ more) s =
-    ((h : HeaderValue) → slice_get s.held slot ≡ Some (Some h) → h.id ≤ last) × FreesUpTo last more (with_freed slot s)
-FreesUpTo last (change ∷ more) s = FreesUpTo last more (changed change s)
 
 -- The content that was a store is one to which such changes lead: containers of copies were written, with so many segments in all, and so
 -- many containers given back, each of which held, in its turn, the newest copy of no key that these files need. All else of the store is as
@@ -57,13 +39,6 @@ pub record Collected (files : Files) (freed copied : ℕ) (store : Store) (old n
   pub stays : (slot : ℕ) (h : HeaderValue) → slice_get after.held slot ≡ Some (Some h)
       → ((slice_get store.held slot ≡ Some (Some h)) × (range (slot_at slot) SLOT_BYTES new ≡ range (slot_at slot) SLOT_BYTES old))
       ⊎ (last_id store.held < h.id)
-
--- The entry is the newest copy of a key of which P holds. The newest copy that the key had before lay in a container of which little is
--- needed.
-abbrev pub IsMoved : (List ℕ → Type 0) → ℕ → List (Option HeaderValue) → List (Option HeaderValue) → Kind → ℕ → Entry → Type 0
-IsMoved P percent held held_now kind slot e =
-    IsNeededCopy P held_now kind slot e
-    × ((copy : Copy) × ((newest 0 held (entry_key kind e) ≡ Some copy) × IsChosen P percent held copy.place.slot))
 
 -- Of each container that was there it is known how many of its bytes the files need: where that is less than the percentage, or nothing,
 -- it is gone, and else it stands. Copied were just the keys that the files need whose newest copies lay in those that are gone, each once:

@@ -5,6 +5,7 @@ pub mod CallsByFiles
 pub mod Checking
 pub mod Collected
 pub mod Collecting
+pub mod CollectsByMap
 pub mod Frame
 pub mod Giving
 pub mod Line

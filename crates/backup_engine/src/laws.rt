@@ -1,6 +1,7 @@
 //! Laws of calls of `backup`, one after the other (docs/MODEL.md, 'Lists of commands').
 ghost use Rattle.std.specs.Prelude.{List, ℕ};
 ghost use Rattle.backup_engine.specs.AnswersByMap.{AnswersEachCall};
+ghost use Rattle.backup_engine.specs.CollectsByMap.{CollectsEachCall};
 ghost use Rattle.backup_engine.specs.Line.{Ingest, Restore, Delete, Collect};
 ghost use Rattle.backup_engine.specs.Line as table;
 ghost use Rattle.backup_engine.specs.Lists.{IsPromised, StandsEmpty, FormatBegins, LeavesPossible, AnswersByTheMap, RunsByTheMap, SurvivesACrash};
@@ -13,14 +14,16 @@ use store_machine::{
 
 /// A single command answers by the map: over a disk that stands for one, also where its opening gives containers back first, it ends as the
 /// plain map has it, or fails for want of memory or as a call of the disk failed; it writes what the map says; and it leaves the map as it
-/// was, or as it is after the command, at its end and at each moment. So it is by what the top call says of its lines. The function does
-/// nothing.
+/// was, or as it is after the command, at its end and at each moment. A `collect` gives back just the containers of which the files need
+/// less than the percentage, or nothing, copies just what they need of these, each once, and says how many both are. So it is by what the
+/// top call says of its lines. The function does nothing.
 pub fn a_command_answers_by_the_map<D: Disk>()
     ensures list { AnswersEachCall D D.view table.List }
     ensures restore { (name : List ℕ) → AnswersEachCall D D.view (Restore name) }
     ensures delete { (name : List ℕ) → AnswersEachCall D D.view (Delete name) }
     ensures ingest { (name : List ℕ) → AnswersEachCall D D.view (Ingest name) }
     ensures collect { (percent : ℕ) → AnswersEachCall D D.view (Collect percent) }
+    ensures collected { (percent : ℕ) → CollectsEachCall D D.view percent }
 {
     a_list_tells_the_names();
     a_restore_gives_its_file();

@@ -4,7 +4,7 @@ use Rattle.std.proofs.Common.{Contains}
 use Rattle.store_model.specs.Freeing.{IsLeastSpare}
 use Rattle.store_model.proofs.FreedFiles.{frees_first}
 use Rattle.store_machine.specs.Opening.{Stands}
-use Rattle.core_machine.proofs.FileNames.{needs_reach, reach_needs}
+use Rattle.store_machine.proofs.Reached.{needs_reach, reach_needs}
 
 -- ---- what may stand
 

@@ -12,7 +12,7 @@ use Rattle.store_machine.specs.Machine.{Part, Idle, Writing}
 use Rattle.store_machine.specs.Needs.{IsNeeded}
 use Rattle.store_machine.proofs.Swept.{in_cases}
 use Rattle.core_machine.specs.Refines as refines
-use Rattle.core_machine.proofs.FileNames.{needs_reach}
+use Rattle.store_machine.proofs.Reached.{needs_reach}
 
 -- ---- the parts of actors
 

@@ -11,7 +11,7 @@ use Rattle.store_machine.specs.Machine.{Idle, Writing}
 use Rattle.core_machine.specs.Files.{Takes}
 use Rattle.core_machine.proofs.BelowRoots.{Below, below_closed, files_below, root_below, root_taken, taken_below, taken_closed}
 use Rattle.core_machine.proofs.CollectNeeds.{needs_closed, needs_here}
-use Rattle.core_machine.proofs.FileNames.{needs_reach, reach_needs}
+use Rattle.store_machine.proofs.Reached.{needs_reach, reach_needs}
 use Rattle.core_machine.proofs.FileNeeds.{AllFit, PartsFit}
 use Rattle.core_machine.proofs.FileParts.{IsKeptBy, fit_at, kept_by, kept_there, many_same, read_by, read_there, reading_fits, writing_fits}
 use Rattle.core_machine.proofs.Lives.{IsClosed}

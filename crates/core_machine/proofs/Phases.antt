@@ -1,6 +1,6 @@
 -- A collection that runs in a core is the machine's, and its next step is of the same kind.
-use Rattle.core_machine.proofs.Prelude.{◌≡◌, ℕ, ◌<◌, ◌≤◌, Bool, true, List, length, Option, Some, None, refl, sym, ◌∙◌, ap, subst, le-ltb, lt-ltb, Root, HeaderValue, ContainerLiveness, CoreCollection, CoreStage, phase_at, HasStage, IsUnderWay, Phase, Store, AreHeaders, RepresentsSlots, SlotTable, IsCollecting, ids_before, phase_by, sources_in, Marking, Recording, Sweeping, SameCollection, SameRun, SameStage}
-use Rattle.std.specs.Prelude.{if◌then◌else◌, is_some, nat_lt}
+use Rattle.core_machine.proofs.Prelude.{◌≡◌, ℕ, ◌<◌, ◌≤◌, Bool, List, length, Option, Some, None, refl, sym, ◌∙◌, ap, subst, le-ltb, lt-ltb, Root, HeaderValue, ContainerLiveness, CoreCollection, CoreStage, phase_at, HasStage, IsUnderWay, Phase, Store, AreHeaders, RepresentsSlots, SlotTable, IsCollecting, ids_before, phase_by, sources_in, Marking, Recording, Sweeping, SameCollection, SameRun, SameStage}
+use Rattle.std.specs.Prelude.{if◌then◌else◌, nat_lt}
 use Rattle.gc_steps.specs.declared.collection.Stage.TheVariants as core
 use Rattle.refusals.specs.declared.refusal.Phase.TheVariants as phases
 use Rattle.store_machine.specs.Machine.{Collection, Stage}
@@ -61,6 +61,3 @@ pub is_collecting : (store : Store) (t : SlotTable) (swept : Bool) (a : Option (
     → RepresentsSlots store.held t → IsUnderWay t k → Runs t swept a k → phase ≡ phase_at k.stage k.sweep.next → IsCollecting phase store a
 is_collecting store t swept a k phase right slots under runs is =
     subst (IsCollecting phase store) (sym runs.ran) (is ∙ sym (phase_so store.held t swept runs.c k right slots runs.same under))
-
-pub some_runs : (t : SlotTable) (swept : Bool) (a : Option (Collection Root)) (k : CoreCollection) → Runs t swept a k → is_some a ≡ true
-some_runs t swept a k runs = ap is_some runs.ran

@@ -1,5 +1,5 @@
 -- A step of a collection that is refused, as the machine of roots has it.
-use Rattle.core_machine.proofs.Prelude.{◌≡◌, ◌⊎◌, inl, inr, ℕ, suc, ◌<◌, List, [], ◌∷◌, drop, Option, Some, None, Err, refl, sym, ◌∙◌, ap, subst, arith, Bool, Entry, PlaceMap, Planned, Source, DiskView, LAST_ID, LiveKeys, Next, CoreSweep, slot_in_turn, CoreCollection, CoreStage, KeepsMarks, IsStepRefusal, phase_at, IsUnderWay, Phase, Refusal, with_freed, Store, with_sealed, SlotTable, at_moment, StopsAfter, CoreState, IsCollecting, MayBreak, IsAtRightPart, Refuses, Running, Stopped, Sweeping, of_roots, SameCollection, SameRun, ids_at, NamesGc, changes_of, HasIndex, IsMachine}
+use Rattle.core_machine.proofs.Prelude.{◌≡◌, ◌≢◌, ◌⊎◌, inl, inr, ℕ, suc, ◌<◌, List, [], ◌∷◌, drop, Option, Some, None, Err, refl, sym, ◌∙◌, ap, subst, arith, Bool, Entry, PlaceMap, Planned, Source, DiskView, LAST_ID, LiveKeys, Next, CoreSweep, slot_in_turn, CoreCollection, CoreStage, KeepsMarks, IsStepRefusal, phase_at, IsUnderWay, Phase, Refusal, with_freed, Store, with_sealed, SlotTable, at_moment, StopsAfter, CoreState, IsCollecting, MayBreak, IsAtRightPart, Refuses, Running, Stopped, Sweeping, of_roots, SameCollection, SameRun, ids_at, NamesGc, changes_of, HasIndex, IsMachine}
 use Rattle.std.proofs.Common.{map}
 use Rattle.container_meta.specs.Segments.{Contents}
 use Rattle.copy_forward.specs.Copying.{IsCopyRefusal}
@@ -23,7 +23,7 @@ use Rattle.store_model.specs.Steps.{changed}
 use Rattle.actor_parts.specs.StepValue as steps
 use Rattle.store_machine.specs.Asked as asked
 use Rattle.core_machine.proofs.FreedSources.{in_turn}
-use Rattle.core_machine.proofs.Phases.{Runs, is_collecting, some_runs}
+use Rattle.core_machine.proofs.Phases.{Runs, is_collecting}
 use Rattle.core_machine.proofs.Rows.{M, as_it_was, same_at, stopped_at}
 use Rattle.core_machine.proofs.SweptOn.{at_sweep}
 
@@ -45,8 +45,22 @@ abbrev IsScanned : Phase → Type 0
 IsScanned phases.Mark = Unit {0}
 IsScanned phase = ⊥
 
+-- all but those that give a container back take memory
+abbrev IsTaking : Phase → Type 0
+IsTaking phases.Release = ⊥
+IsTaking phase = Unit {0}
+
+takes_on : (phase : Phase) → IsTaking phase → phase ≢ phases.Release
+takes_on phase takes is = subst IsTaking is takes
+
+read_takes : (phase : Phase) → IsRead phase → IsTaking phase
+read_takes phases.Mark may = tt
+read_takes phases.Filter may = tt
+read_takes phases.Copy may = tt
+read_takes phase may = absurd may
+
 abbrev Unmade : Phase → Refusal → Type 0
-Unmade phase refusals.Memory = Unit {0}
+Unmade phase refusals.Memory = IsTaking phase
 Unmade phase refusals.DiskRead = IsRead phase
 Unmade phase (refusals.Corrupt slot offset count want got) = IsCompared phase
 Unmade phase (refusals.Missing key) = IsScanned phase
@@ -57,7 +71,7 @@ Unmade phase refusal = ⊥
 
 header_unmade : (phase : Phase) → IsRead phase → (t : SlotTable) (old new : DiskView) (slot : ℕ) (refusal : Refusal) → IsHeaderRefusal t old new slot refusal
     → Unmade phase refusal
-header_unmade phase may t old new slot refusals.Memory is = tt
+header_unmade phase may t old new slot refusals.Memory is = read_takes phase may
 header_unmade phase may t old new slot refusals.DiskRead is = may
 header_unmade phase may t old new slot (refusals.Damaged at why) is = may
 header_unmade phase may t old new slot refusal is = absurd is
@@ -178,7 +192,7 @@ module _ {followed : Bool} (c : CoreState) (m : M) (at : IsMachine followed m c)
   scans_at phase may is = absurd may
 
   refused : (phase : Phase) (refusal : Refusal) → Unmade phase refusal → IsCollecting phase m.store m.collection → Refuses of_roots a asked.GcStep refusal m m
-  refused phase refusals.Memory may is = (some_runs t m.swept m.collection k r, refl)
+  refused phase refusals.Memory may is = ((phase, is, takes_on phase may), refl)
   refused phase refusals.DiskRead may is = (no_part, (reads_at _ phase may is, refl))
   refused phase (refusals.Corrupt slot offset bytes want got) may is = (no_part, (compares_at phase may is, ((λ known. known), refl)))
   refused phase (refusals.Missing key) may is = (no_part, (scans_at phase may is, ((λ known. known), refl)))
@@ -284,7 +298,7 @@ module _ {followed : Bool} (c : CoreState) (m : M) (at : IsMachine followed m c)
   not_flushed : (refusal : Refusal) → phase_at k.stage k.sweep.next ≡ phases.Flush → IsCollecting phases.Flush m.store m.collection
       → (m.last_id < LAST_ID → MayBreak of_roots m written)
       → IsFlushStepRefusal c.tables c.known refusal → after ≡ k → KeepsMap c.known d.known refusal → StopsAfter steps.GcStep (Err refusal) c.acknowledged d.stop → Left refusal
-  not_flushed refusals.Memory now is broke cause same stays stops = (m, (some_runs t m.swept m.collection k r, refl), rested (kept_run same) stays stops, tt)
+  not_flushed refusals.Memory now is broke cause same stays stops = (m, ((phases.Flush, is, takes_on phases.Flush tt), refl), rested (kept_run same) stays stops, tt)
   not_flushed refusals.Numbers now is broke cause same stays stops = (m, (no_part, (is, omega (arith, cause, at.last_id), refl)), rested (kept_run same) stays stops, tt)
   not_flushed refusals.DiskRead now is broke cause same stays stops =
       (m, (no_part, (inr (inr (inr (is, omega (arith, cause.0, at.last_id)))), refl)), rested (kept_run same) stays stops, tt)

@@ -1,5 +1,5 @@
 -- The lines of a `collect` keep the names, choose by what they need, and give back only what they don't need.
-use Rattle.store_machine.proofs.Prelude.{◌≡◌, ◌≢◌, ◌⊎◌, inl, inr, ℕ, zero, suc, ListOf, [], ◌∷◌, ◌++◌, length, Contains, Some, None, Result, Ok, Err, refl, sym, ◌∙◌, ap, subst, Refusal, LineValue, ReplyValue, Store, last_id, StoreChange, Asked, FileMachine, AreBetween, HasIds, IsCollecting, freed_in, keys_written, marking, marks_of, Sweeps, Collect, Follows, IsDone, Replied, text_of, Done, Answers, ByState, Does, Legal, RefusesGcStep, RefusesOn, AreDid, Line, reply_of, step_of, Found, Idle, RunState, Running, Stopped, keys_kept, values_read, MayBeFound, Run, of_files}
+use Rattle.store_machine.proofs.Prelude.{◌≡◌, ◌≢◌, ◌⊎◌, ◌<◌, ◌≤◌, inl, inr, ℕ, zero, suc, ListOf, [], ◌∷◌, ◌++◌, length, Contains, Some, None, Result, Ok, Err, refl, sym, ◌∙◌, ap, subst, LAST_ID, RESERVE, Phase, Refusal, LineValue, ReplyValue, Store, free_slots, last_id, StoreChange, Asked, FileMachine, AreBetween, EachOnce, HasContainer, HasIds, sources_in, IsCollecting, freed_in, keys_written, marking, marks_of, Sweeps, Collect, Follows, IsDone, Replied, text_of, Done, Answers, ByState, Does, Legal, RefusesGcStep, RefusesOn, AreDid, Line, reply_of, step_of, Found, Idle, RunState, Running, Sweeping, Stopped, keys_kept, values_read, MayBeFound, Run, of_files}
 use Rattle.std.specs.FinMap as finite
 use Rattle.refusals.specs.declared.refusal.Phase.TheVariants as phases
 use Rattle.refusals.specs.declared.refusal.Refusal.TheVariants as refusals
@@ -7,8 +7,9 @@ use Rattle.script_lines.specs.Grammar as lines
 use Rattle.script_lines.specs.ReplyText.{reply_line}
 use Rattle.script_lines.specs.ReplyValue as replies
 use Rattle.store_machine.specs.Asked as asked
-use Rattle.store_machine.specs.Collecting.{Ends as EndsCollection}
-use Rattle.store_machine.specs.CollectsAlone.{CollectRefusal, CollectedAlone, CollectsByMap, HasBroken, HasSwept, SweptSoFar}
+use Rattle.store_machine.specs.Collecting.{Ends as EndsCollection, phase_by}
+use Rattle.store_machine.specs.Collected.{Collected as Did}
+use Rattle.store_machine.specs.CollectsAlone.{CollectRefusal, CollectedAlone, CollectsByMap, CountsIds, HasBroken, HasRoomStill, HasSwept, SweptSoFar}
 use Rattle.store_machine.specs.Done as done
 use Rattle.store_machine.specs.Lines.{Ends, IsLast}
 use Rattle.store_machine.proofs.Ended.{collects_what_it_selected}
@@ -16,7 +17,11 @@ use Rattle.store_machine.proofs.Ingesting.{run_one, run_parts}
 use Rattle.store_machine.proofs.Passing.{sure_found}
 use Rattle.store_machine.proofs.Quiet.{IsSure, running_sure}
 use Rattle.store_machine.proofs.Stepwise.{At, Desks, Fresh, IsFailure, NotOpened, Over, Step, WasOpened, ends_from, ends_over, ends_so, lines_after, no_actor, not_barred, one_step, opened_store, unopened_ends, unopened_found, unopened_printed, unopened_refusal, unopened_store, unopened_undone}
-use Rattle.store_machine.proofs.SweptAlone.{C, ByStage, Under, all_went, has_chosen, opened_ids, same_some}
+use Rattle.store_machine.proofs.ByNeed.{gives_back}
+use Rattle.store_model.specs.Reserve.{IsReachable}
+use Rattle.store_machine.proofs.Reached.{needs_just}
+use Rattle.store_machine.proofs.Sources.{IsSourced, SourcedAt, Under, all_went, counts_of, none_given, room_first, room_in, sourced_first}
+use Rattle.store_machine.proofs.SweptAlone.{C, ByStage, has_chosen, opened_ids, same_some}
 use Rattle.store_machine.proofs.Swept.{none_filled, none_in}
 
 -- steps that went on are between the beginning of a collection and its end
@@ -61,6 +66,7 @@ module _ (percent : ℕ) (start : FileMachine) (opened : Store) where
     pub old : FileMachine
     pub legal : Legal of_files (step_of of_files a (asked.GcStart percent) (Ok (done.Started snapshot))) old d.machine
     pub ids : HasIds start.store start.last_id → HasIds old.store old.last_id
+    pub opened_ids : HasIds start.store start.last_id → HasIds opened (last_id opened.held)
     pub store_is : d.machine.store ≡ opened
     pub under : Under percent start.now opened d.machine
 
@@ -76,6 +82,8 @@ module _ (percent : ℕ) (start : FileMachine) (opened : Store) where
   pub record SoFar (reply : ReplyValue) (n : FileMachine) : Type 0 where
     pub changes : ListOf StoreChange
     pub sweeps : Sweeps start.now changes opened n.store
+    pub counts : CountsIds changes opened n.last_id
+    pub room : (reply ≡ replies.Refused refusals.DiskWrite → ⊥) → HasRoomStill opened n.store
     pub runs : (reply ≡ replies.Refused refusals.DiskWrite → ⊥) → n.state ≡ Running
     pub broke : reply ≡ replies.Refused refusals.DiskWrite → HasBroken n
 
@@ -89,9 +97,24 @@ module _ (percent : ℕ) (start : FileMachine) (opened : Store) where
     pub refused : (refusal : Refusal) → reply ≡ replies.Refused refusal → CollectRefusal d.machine refusal
 
   -- it runs, and these changes were made
-  runs_so : (reply : ReplyValue) (n : FileMachine) (changes : ListOf StoreChange) → Sweeps start.now changes opened n.store → n.state ≡ Running
-      → (reply ≡ replies.Refused refusals.DiskWrite → ⊥) → SoFar reply n
-  runs_so reply n changes sweeps runs other = record { changes = changes; sweeps = sweeps; runs = λ _. runs; broke = λ is. absurd (other is) }
+  runs_so : (reply : ReplyValue) (n : FileMachine) (changes : ListOf StoreChange) → Sweeps start.now changes opened n.store → CountsIds changes opened n.last_id
+      → HasRoomStill opened n.store → n.state ≡ Running → (reply ≡ replies.Refused refusals.DiskWrite → ⊥) → SoFar reply n
+  runs_so reply n changes sweeps counts room runs other = record {
+    changes = changes;
+    sweeps = sweeps;
+    counts = counts;
+    room = λ _. room;
+    runs = λ _. runs;
+    broke = λ is. absurd (other is);
+  }
+
+  room_opened : (n : FileMachine) → n.store ≡ opened → HasRoomStill opened n.store
+  room_opened n is room = subst (λ (s : Store). RESERVE ≤ free_slots s.held) (sym is) room
+
+  -- no id is given yet
+  none_counted : (n : FileMachine) (store : Store) → n.last_id ≡ last_id store.held → store ≡ opened → CountsIds [] opened n.last_id
+  none_counted n store last is =
+      none_given opened n.last_id (last ∙ ap (λ (s : Store). last_id s.held) is)
 
   none_swept : (n : FileMachine) → n.store ≡ opened → Sweeps start.now [] opened n.store
   none_swept n is = record { each = tt; makes = is; keeps = tt }
@@ -106,7 +129,8 @@ module _ (percent : ℕ) (start : FileMachine) (opened : Store) where
     done = λ d. absurd d;
     undone = λ _. (
       refl,
-      runs_so (replies.Opened files) d.machine [] (none_swept d.machine at.store) at.runs
+      runs_so (replies.Opened files) d.machine [] (none_swept d.machine at.store) (none_counted d.machine d.machine.store fresh.last at.store)
+          (room_opened d.machine at.store) at.runs
           (λ wrong. let no : replies.Opened files ≡ replies.Refused refusals.DiskWrite = wrong in cc),
     );
     refused = λ refusal wrong. absurd (let no : replies.Opened files ≡ replies.Refused refusal = wrong in cc);
@@ -145,6 +169,8 @@ module _ (percent : ℕ) (start : FileMachine) (opened : Store) where
     begins a (done.Started snapshot) is (none_ran, snapshot_is, others) =
         let runs : mid.machine.state ≡ Running = ap (λ (x : FileMachine). x.state) others ∙ at.runs in
         let store : mid.machine.store ≡ opened = ap (λ (x : FileMachine). x.store) others ∙ at.store in
+        let counts : CountsIds [] opened mid.machine.last_id =
+        subst (CountsIds [] opened) (sym (ap (λ (x : FileMachine). x.last_id) others)) (none_counted d.machine d.machine.store fresh.last at.store) in
         by_reply text none (lines.Gc percent) reply mid (replies.Collecting snapshot) is (record {
           same = ap (λ (x : FileMachine). x.now) others ∙ at.same;
           sure = running_sure mid.machine.state runs;
@@ -157,6 +183,8 @@ module _ (percent : ℕ) (start : FileMachine) (opened : Store) where
               legal = subst (λ (st : RunState (ListOf ℕ)). ByState of_files st a (asked.GcStart percent) (Ok (done.Started snapshot)) d.machine mid.machine)
                   (sym at.runs) (none_ran, snapshot_is, others);
               ids = opened_ids start d.machine.store d.machine.last_id fresh.room fresh.last;
+              opened_ids = λ ids. subst (λ (s : Store). HasIds s (last_id s.held)) at.store
+                  (opened_ids start d.machine.store (last_id d.machine.store.held) fresh.room refl ids);
               store_is = store;
               under = record {
                 same = ap (λ (x : FileMachine). x.now) others ∙ at.same;
@@ -173,6 +201,13 @@ module _ (percent : ℕ) (start : FileMachine) (opened : Store) where
                   stage = begins_at opened (new_collection percent snapshot d.machine) (marks_of d.machine.store.held) refl;
                   filled = λ key has. absurd (none_in key (subst (λ (ks : ListOf (ListOf ℕ)). Contains ks key) (none_filled (marks_of d.machine.store.held)) has));
                 };
+                sourced = record {
+                  ids = tt;
+                  last_is = counts.last_is;
+                  earlier = tt;
+                  at = sourced_first opened (new_collection percent snapshot d.machine) (marks_of d.machine.store.held);
+                  room = room_first opened mid.machine.store (marks_of d.machine.store.held) store;
+                };
               };
             },
             refl,
@@ -180,7 +215,7 @@ module _ (percent : ℕ) (start : FileMachine) (opened : Store) where
           done = λ d. absurd d;
           undone = λ _. (
             refl,
-            runs_so (replies.Collecting snapshot) mid.machine [] (none_swept mid.machine store) runs
+            runs_so (replies.Collecting snapshot) mid.machine [] (none_swept mid.machine store) counts (room_opened mid.machine store) runs
                 (λ wrong. let no : replies.Collecting snapshot ≡ replies.Refused refusals.DiskWrite = wrong in cc),
           );
           refused = λ refusal wrong. absurd (let no : replies.Collecting snapshot ≡ replies.Refused refusal = wrong in cc);
@@ -198,7 +233,9 @@ module _ (percent : ℕ) (start : FileMachine) (opened : Store) where
         let runs : mid.machine.state ≡ Running = ap (λ (x : FileMachine). x.state) same ∙ at.runs in
         stops text none (lines.Gc percent) reply mid refusal is (subst (λ (x : FileMachine). CollectRefusal x refusal) (sym same) cause)
         (ap (λ (x : FileMachine). x.now) same ∙ at.same) (running_sure mid.machine.state runs)
-        (runs_so (replies.Refused refusal) mid.machine [] (none_swept mid.machine (ap (λ (x : FileMachine). x.store) same ∙ at.store)) runs
+        (runs_so (replies.Refused refusal) mid.machine [] (none_swept mid.machine (ap (λ (x : FileMachine). x.store) same ∙ at.store))
+        (subst (CountsIds [] opened) (sym (ap (λ (x : FileMachine). x.last_id) same)) (none_counted d.machine d.machine.store fresh.last at.store))
+        (room_opened mid.machine (ap (λ (x : FileMachine). x.store) same ∙ at.store)) runs
         (λ wrong. other (let both : replies.Refused refusal ≡ replies.Refused refusals.DiskWrite = wrong in cc)))
 
     begins_not : (a : ℕ) (refusal : Refusal) → reply ≡ replies.Refused refusal → RefusesOn of_files a (asked.GcStart percent) refusal d.machine mid.machine → Next
@@ -228,9 +265,27 @@ module _ (percent : ℕ) (start : FileMachine) (opened : Store) where
     Last = After reply (text ++ text_of (Collect percent) [] lines.Sweep reply) mid
 
     module _ (made : ListOf Step) (did : AreDid of_files made) (k : FileMachine) (run : Run of_files made d.machine k) (u : Under percent start.now opened k) where
+      counted : CountsIds u.c.changes opened k.last_id
+      counted = counts_of start.now opened k.store k.last_id u.c u.tied.sweeps u.sourced
+
+      -- by what came next
+      room_so : (phase : Phase) → IsCollecting phase k.store k.collection → phase ≢ phases.Release → HasRoomStill opened k.store
+      room_so phase next other = room_in opened k.store u.c phase u.sourced.room (subst (IsCollecting phase k.store) u.ran next) other
+
       ended : (a freed copied : ℕ) → EndsCollection of_files freed copied k mid.machine → HasSwept percent freed copied start mid.machine opened
       ended a freed copied ends =
           let own : u.c ≡ ends.c = same_some u.c ends.c (sym u.ran ∙ ends.ran) in
+          let sweeps : Sweeps start.now u.c.changes opened mid.machine.store =
+          subst (Sweeps start.now u.c.changes opened) (sym (ap (λ (x : FileMachine). x.store) ends.others)) u.tied.sweeps in
+          let stage : u.c.stage ≡ Sweeping phases.End ends.s = ap (λ (x : C). x.stage) own ∙ ends.at_end in
+          let chosen = has_chosen percent start.now opened k.store u.c phases.End ends.s u.tied stage in
+          let sourced : IsSourced opened u.c ends.s = subst (SourcedAt opened u.c) stage u.sourced.at in
+          let all_did : HasIds start.store start.last_id → Did of_files freed copied made d.machine k mid.machine run =
+          λ ids. collects_what_it_selected of_files tt percent runs.snapshot freed copied
+          (step_of of_files runs.a (asked.GcStart percent) (Ok (done.Started runs.snapshot)))
+          (step_of of_files a asked.GcStep (Ok (done.Collected freed copied))) made d.machine k mid.machine runs.old (runs.ids ids) refl refl runs.legal run
+          (did_between made did) refl refl
+          (subst (λ (st : RunState (ListOf ℕ)). ByState of_files st a asked.GcStep (Ok (done.Collected freed copied)) k mid.machine) (sym u.runs) ends) in
           record {
             begun = d.machine;
             last = k;
@@ -240,37 +295,62 @@ module _ (percent : ℕ) (start : FileMachine) (opened : Store) where
             store_is = runs.store_is;
             c = u.c;
             ran = u.ran;
-            chosen = has_chosen percent start.now opened k.store u.c phases.End ends.s u.tied (ap (λ (x : C). x.stage) own ∙ ends.at_end);
-            sweeps = subst (Sweeps start.now u.c.changes opened) (sym (ap (λ (x : FileMachine). x.store) ends.others)) u.tied.sweeps;
-            collected = λ ids. collects_what_it_selected of_files tt percent runs.snapshot freed copied
-                (step_of of_files runs.a (asked.GcStart percent) (Ok (done.Started runs.snapshot)))
-                (step_of of_files a asked.GcStep (Ok (done.Collected freed copied))) made d.machine k mid.machine runs.old (runs.ids ids) refl refl runs.legal run
-                (did_between made did) refl refl
-                (subst (λ (st : RunState (ListOf ℕ)). ByState of_files st a asked.GcStep (Ok (done.Collected freed copied)) k mid.machine) (sym u.runs) ends);
+            chosen = chosen;
+            sweeps = sweeps;
+            counts = subst (CountsIds u.c.changes opened) (sym (ap (λ (x : FileMachine). x.last_id) ends.others)) counted;
+            room = subst (λ (x : FileMachine). HasRoomStill opened x.store) (sym ends.others)
+                (room_in opened k.store u.c phases.End u.sourced.room (let is : phases.End ≡ phase_by k.store.held u.c u.c.stage = sym (ap (phase_by k.store.held u.c) stage) in is)
+                (λ e. let wrong : phases.End ≡ phases.Release = e in cc));
+            collected = all_did;
+            by_need = λ ids headers.
+                let all = all_did ids in
+                let same : all.c ≡ u.c = same_some all.c u.c (sym all.ran ∙ u.ran) in
+                gives_back (IsReachable start.now.names) percent start.now (needs_just start.now) opened mid.machine.store u.c (runs.opened_ids ids) headers chosen sweeps
+                u.sourced.ids sourced.written
+                (λ slot h has source. all.gone slot h has (subst (λ (x : C). Contains (sources_in x) h.id) (sym same) source))
+                (λ slot h was not. all.stay slot h (subst (λ (x : Store). HasContainer x slot h) (sym runs.store_is) was)
+                (λ source. not (subst (λ (x : C). Contains (sources_in x) h.id) same source)))
+                (subst (λ (x : C). EachOnce (keys_written x.changes)) same all.once);
             freed_is = ends.freed_is ∙ ap (λ (x : C). freed_in x.changes) (sym own);
             copied_is = ends.copied_is ∙ ap (λ (x : C). length (keys_written x.changes)) (sym own);
             runs = ap (λ (x : FileMachine). x.state) ends.others ∙ u.runs;
             none_runs = ap (λ (x : FileMachine). x.collection) ends.others;
           }
 
-      stays : (refusal : Refusal) → refusal ≢ refusals.DiskWrite → reply ≡ replies.Refused refusal → CollectRefusal k refusal → mid.machine ≡ k → Last
-      stays refusal other is cause same =
+      stays : (refusal : Refusal) → refusal ≢ refusals.DiskWrite → reply ≡ replies.Refused refusal → CollectRefusal k refusal
+          → HasRoomStill opened k.store → mid.machine ≡ k → Last
+      stays refusal other is cause room same =
           let up : mid.machine.state ≡ Running = ap (λ (x : FileMachine). x.state) same ∙ u.runs in
           stops text none lines.Sweep reply mid refusal is (subst (λ (x : FileMachine). CollectRefusal x refusal) (sym same) cause) (ap (λ (x : FileMachine). x.now) same ∙ u.same)
           (running_sure mid.machine.state up)
-          (runs_so (replies.Refused refusal) mid.machine u.c.changes (subst (λ (x : FileMachine). Sweeps start.now u.c.changes opened x.store) (sym same) u.tied.sweeps) up
+          (runs_so (replies.Refused refusal) mid.machine u.c.changes (subst (λ (x : FileMachine). Sweeps start.now u.c.changes opened x.store) (sym same) u.tied.sweeps)
+          (subst (λ (x : FileMachine). CountsIds u.c.changes opened x.last_id) (sym same) counted)
+          (subst (λ (x : FileMachine). HasRoomStill opened x.store) (sym same) room) up
           (λ wrong. other (let both : replies.Refused refusal ≡ replies.Refused refusals.DiskWrite = wrong in cc)))
 
       refused_by : (refusal : Refusal) → reply ≡ replies.Refused refusal → RefusesGcStep of_files refusal k mid.machine → Last
       refused_by refusals.NotCollecting is (none_runs, same) = absurd (let wrong : None ≡ Some u.c = sym none_runs ∙ u.ran in cc)
-      refused_by refusals.Memory is (some, same) = stays refusals.Memory (λ e. let wrong : refusals.Memory ≡ refusals.DiskWrite = e in cc) is tt same
-      refused_by refusals.Numbers is (flush, last, same) = stays refusals.Numbers (λ e. let wrong : refusals.Numbers ≡ refusals.DiskWrite = e in cc) is last same
-      refused_by refusals.DiskRead is (some, same) = stays refusals.DiskRead (λ e. let wrong : refusals.DiskRead ≡ refusals.DiskWrite = e in cc) is tt same
+      refused_by refusals.Memory is (some, same) =
+          stays refusals.Memory (λ e. let wrong : refusals.Memory ≡ refusals.DiskWrite = e in cc) is tt (room_so some.0 some.1 some.2) same
+      refused_by refusals.Numbers is (flush, last, same) =
+          stays refusals.Numbers (λ e. let wrong : refusals.Numbers ≡ refusals.DiskWrite = e in cc) is last
+          (room_so phases.Flush flush (λ e. let wrong : phases.Flush ≡ phases.Release = e in cc)) same
+      refused_by refusals.DiskRead is (some, same) =
+          stays refusals.DiskRead (λ e. let wrong : refusals.DiskRead ≡ refusals.DiskWrite = e in cc) is tt (reads some) same
+        where
+          reads : IsCollecting phases.Mark k.store k.collection ⊎ IsCollecting phases.Filter k.store k.collection ⊎ IsCollecting phases.Copy k.store k.collection
+              ⊎ (IsCollecting phases.Flush k.store k.collection × (k.last_id < LAST_ID)) → HasRoomStill opened k.store
+          reads (inl at) = room_so phases.Mark at (λ e. let wrong : phases.Mark ≡ phases.Release = e in cc)
+          reads (inr (inl at)) = room_so phases.Filter at (λ e. let wrong : phases.Filter ≡ phases.Release = e in cc)
+          reads (inr (inr (inl at))) = room_so phases.Copy at (λ e. let wrong : phases.Copy ≡ phases.Release = e in cc)
+          reads (inr (inr (inr at))) = room_so phases.Flush at.0 (λ e. let wrong : phases.Flush ≡ phases.Release = e in cc)
       refused_by refusals.DiskWrite is (stores, may, others) =
           stops text none lines.Sweep reply mid refusals.DiskWrite is tt (ap (λ (x : FileMachine). x.now) others ∙ u.same)
           (subst IsSure (sym (ap (λ (x : FileMachine). x.state) others)) tt) (record {
             changes = u.c.changes;
             sweeps = subst (λ (x : FileMachine). Sweeps start.now u.c.changes opened x.store) (sym others) u.tied.sweeps;
+            counts = subst (λ (x : FileMachine). CountsIds u.c.changes opened x.last_id) (sym others) counted;
+            room = λ whole. absurd (whole refl);
             runs = λ not. absurd (not refl);
             broke = λ _. (k, stores, others, may);
           })
@@ -367,6 +447,8 @@ collects_by_map percent (one ∷ more) ss m e runs lines_are ran =
                 opened_store (SweptSoFar (one ∷ more) m e.machine) one more m e.machine was.files was.reply_is was.opened was.room (record {
                   changes = far.1.changes;
                   sweeps = far.1.sweeps;
+                  counts = far.1.counts;
+                  room = λ whole. far.1.room (λ is. whole (ends_from (λ one. one.reply ≡ replies.Refused refusals.DiskWrite) one more is));
                   runs = λ not. far.1.runs (λ is. not (ends_from (λ one. one.reply ≡ replies.Refused refusals.DiskWrite) one more is));
                   broke = λ end. far.1.broke (ends_so (λ one. one.reply ≡ replies.Refused refusals.DiskWrite) one more end);
                 }),

@@ -1,5 +1,5 @@
 -- A step of the machine of files is one of the machine of roots, once all but the roots is forgotten.
-use Rattle.store_machine.proofs.Prelude.{◌≡◌, inl, inr, ◌≤◌, ◌<◌, ◌-◌, ◌^◌, ℕ, suc, true, false, [], ◌∷◌, ◌++◌, length, map, Contains, is_some, Option, Some, None, option_map, Result, Ok, Err, refl, sym, ◌∙◌, ap, subst, ACTORS, PinMap, pin_of, KindSegment, segment_key, Root, Put, Gone, half_cells, LAST_ID, MOST_NAMES, RESERVE, Top, start_of, PartKind, Phase, Refusal, Store, free_slots, last_id, with_freed, CanRise, CanSeal, with_change, with_sealed, Asked, Begins, GoesOn, IsCollecting, Makes, MayBreak, last_by, marking, marks_of, phase_in, swept_by, Done, Forgets, Rests, SameNow, SamePart, SameState, asked_of, forget_collection, Answers, ByState, Claims, Deletes, Does, GivesBytes, GivesUp, HasName, HasNumbers, HasRoom, HasSlot, IsAtEnd, IsAtRightPart, IsUnkept, broken_by, Keeps, LacksNumbers, MayCommit, OpensValue, Refuses, RefusesClaim, RefusesCommit, RefusesDelete, RefusesGcStep, RefusesOn, RefusesRead, RefusesSeal, Seals, LegalBy, counted, with_name, without_name, Collection, Found, Idle, Writing, Reading, RunState, Running, Stopped, all_idle, keeping, kind_of, one_more, part_in, put_at, forgotten_beside, keys_kept, keys_of, values_read, with_pins, MayBeFound, MayRefuseOpening, Reopens, freeing, IsStuck, of_files, of_roots, top_of}
+use Rattle.store_machine.proofs.Prelude.{◌≡◌, inl, inr, ◌≤◌, ◌<◌, ◌-◌, ◌^◌, ℕ, suc, false, [], ◌∷◌, ◌++◌, length, map, Contains, Option, Some, None, option_map, Result, Ok, Err, refl, sym, ◌∙◌, ap, subst, ACTORS, PinMap, pin_of, KindSegment, segment_key, Root, Put, Gone, half_cells, LAST_ID, MOST_NAMES, RESERVE, Top, start_of, PartKind, Phase, Refusal, Store, free_slots, last_id, with_freed, CanRise, CanSeal, with_change, with_sealed, Asked, Begins, GoesOn, IsCollecting, Makes, MayBreak, last_by, marking, marks_of, phase_in, swept_by, Done, Forgets, Rests, SameNow, SamePart, SameState, asked_of, forget_collection, Answers, ByState, Claims, Deletes, Does, GivesBytes, GivesUp, HasName, HasNumbers, HasRoom, HasSlot, IsAtEnd, IsAtRightPart, IsUnkept, broken_by, Keeps, LacksNumbers, MayCommit, OpensValue, Refuses, RefusesClaim, RefusesCommit, RefusesDelete, RefusesGcStep, RefusesOn, RefusesRead, RefusesSeal, Seals, LegalBy, counted, with_name, without_name, Collection, Found, Idle, Writing, Reading, RunState, Running, Stopped, all_idle, keeping, kind_of, one_more, part_in, put_at, forgotten_beside, keys_kept, keys_of, values_read, with_pins, MayBeFound, MayRefuseOpening, Reopens, freeing, IsStuck, of_files, of_roots, top_of}
 use Rattle.std.proofs.Common.{List, slice_get}
 use Rattle.std.specs.FinMap as finite
 use Rattle.container_meta.specs.Segments.{Contents}
@@ -16,7 +16,7 @@ use Rattle.store_machine.specs.Legal.{Commits, IsLacked, taken_by}
 use Rattle.store_machine.specs.Needs.{HasLength}
 use Rattle.store_machine.specs.Opening.{Opens}
 use Rattle.store_machine.proofs.ForgottenCollection.{goes_same}
-use Rattle.store_machine.proofs.Parts.{F, G, FilePart, RootPart, part_at, set_at, all_same, kind_same, idle_same, writing_same, reading_same, kept_map, keys_same, read_same, map_two, collecting, some_left}
+use Rattle.store_machine.proofs.Parts.{F, G, FilePart, RootPart, part_at, set_at, all_same, kind_same, idle_same, writing_same, reading_same, kept_map, keys_same, read_same, map_two, collecting}
 use Rattle.store_machine.proofs.SameNames.{gone_same, knows_same, len_same, listing_same, none_same, put_same, some_same, values_same}
 use Rattle.store_machine.proofs.Walks.{ends_both, more_both, next_leaf, start_both}
 
@@ -50,9 +50,6 @@ module _ (m : F) (r : G) (same : Forgets m r) where
 
   none_runs : m.collection ≡ None → r.collection ≡ None
   none_runs none = same.collection ∙ ap (option_map forget_collection) none
-
-  some_runs : is_some m.collection ≡ true → is_some r.collection ≡ true
-  some_runs is = subst (λ (o : Option (Collection Root)). is_some o ≡ true) (sym same.collection) (some_left m.collection is)
 
   one_runs : (c : Collection (List ℕ)) → m.collection ≡ Some c → r.collection ≡ Some (forget_collection c)
   one_runs c ran = same.collection ∙ ap (option_map forget_collection) ran
@@ -520,7 +517,7 @@ module _ (m : F) (r : G) (same : Forgets m r) where
 
   uncollected : (refusal : Refusal) (n : F) → RefusesGcStep of_files refusal m n → Left (λ t. RefusesGcStep of_roots refusal r t) n
   uncollected refusals.NotCollecting n (none, others) = stays (λ t. RefusesGcStep of_roots refusals.NotCollecting r t) n others (none_runs none, refl)
-  uncollected refusals.Memory n (some, others) = stays (λ t. RefusesGcStep of_roots refusals.Memory r t) n others (some_runs some, refl)
+  uncollected refusals.Memory n (some, others) = stays (λ t. RefusesGcStep of_roots refusals.Memory r t) n others ((some.0, runs some.0 some.1, some.2), refl)
   uncollected refusals.Numbers n (is, none, others) =
       stays (λ t. RefusesGcStep of_roots refusals.Numbers r t) n others (runs phases.Flush is, on_id (λ id. LAST_ID ≤ id) none, refl)
   uncollected refusals.DiskRead n (inl is, others) = stays (λ t. RefusesGcStep of_roots refusals.DiskRead r t) n others (inl (runs phases.Mark is), refl)

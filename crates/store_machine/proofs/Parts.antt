@@ -1,5 +1,5 @@
 -- Parts and collections of a machine of files and of one of roots that has forgotten the rest.
-use Rattle.store_machine.proofs.Prelude.{◌≡◌, ℕ, zero, suc, true, [], ◌∷◌, ◌++◌, map, replicate, slice_index_or, slice_set, is_some, Option, Some, None, option_map, refl, sym, ◌∙◌, ap, subst, PinMap, Root, Top, Phase, Store, IsCollecting, Rests, SamePart, forget_collection, Collection, Machine, Part, Idle, Writing, Reading, keeping, kind_of, keys_kept, values_read}
+use Rattle.store_machine.proofs.Prelude.{◌≡◌, ℕ, zero, suc, [], ◌∷◌, ◌++◌, map, replicate, slice_index_or, slice_set, Option, Some, None, option_map, refl, sym, ◌∙◌, ap, subst, PinMap, Root, Top, Phase, Store, IsCollecting, Rests, SamePart, forget_collection, Collection, Machine, Part, Idle, Writing, Reading, keeping, kind_of, keys_kept, values_read}
 use Rattle.std.proofs.Common.{List}
 use Rattle.std.specs.FinMap as finite
 use Rattle.store_model.specs.Trees.{root_of}
@@ -183,11 +183,3 @@ pub one_left : (o : Option (Collection (List ℕ))) (d : Collection Root) → op
     → (c : Collection (List ℕ)) × (o ≡ Some c) × (d ≡ forget_collection c)
 one_left None d is = absurd (let wrong : None ≡ Some d = is in cc)
 one_left (Some c) d is = (c, refl, let same : forget_collection c ≡ d = cc in sym same)
-
-pub some_back : (o : Option (Collection (List ℕ))) → is_some (option_map forget_collection o) ≡ true → is_some o ≡ true
-some_back None is = is
-some_back (Some c) is = is
-
-pub some_left : (o : Option (Collection (List ℕ))) → is_some o ≡ true → is_some (option_map forget_collection o) ≡ true
-some_left None is = is
-some_left (Some c) is = is

@@ -1,10 +1,10 @@
 -- What is so of the machine of roots is so of a machine of files that it has forgotten, where the roots tell it.
-use Rattle.store_machine.proofs.Prelude.{◌≡◌, inl, inr, ◌≤◌, ◌<◌, ◌-◌, ◌^◌, ℕ, true, length, is_some, Option, Some, None, option_map, sym, ◌∙◌, ap, subst, PinMap, Root, half_cells, LAST_ID, MOST_NAMES, RESERVE, Top, Phase, Store, free_slots, CanRise, IsCollecting, Forgets, SamePart, SameState, forget_collection, HasName, HasNumbers, HasRoom, HasSlot, IsUnkept, Keeps, LacksNumbers, MayCommit, Collection, Found, Idle, Writing, Reading, Stopped, keeping, kind_of, part_in, put_at, of_files, of_roots}
+use Rattle.store_machine.proofs.Prelude.{◌≡◌, inl, inr, ◌≤◌, ◌<◌, ◌-◌, ◌^◌, ℕ, length, Option, Some, None, option_map, sym, ◌∙◌, ap, subst, PinMap, Root, half_cells, LAST_ID, MOST_NAMES, RESERVE, Top, Phase, Store, free_slots, CanRise, IsCollecting, Forgets, SamePart, SameState, forget_collection, HasName, HasNumbers, HasRoom, HasSlot, IsUnkept, Keeps, LacksNumbers, MayCommit, Collection, Found, Idle, Writing, Reading, Stopped, keeping, kind_of, part_in, put_at, of_files, of_roots}
 use Rattle.std.proofs.Common.{List}
 use Rattle.container_meta.specs.Segments.{Contents}
 use Rattle.store_model.specs.Trees.{root_of}
 use Rattle.store_machine.specs.Legal.{HasSlotAndId}
-use Rattle.store_machine.proofs.Parts.{F, G, FilePart, RootPart, ReadsFile, part_at, set_at, kind_same, idle_back, writing_back, reading_back, kept_map, collecting_back, none_left, one_left, some_back}
+use Rattle.store_machine.proofs.Parts.{F, G, FilePart, RootPart, ReadsFile, part_at, set_at, kind_same, idle_back, writing_back, reading_back, kept_map, collecting_back, none_left, one_left}
 use Rattle.store_machine.proofs.SameNames.{knows_same, len_same}
 
 module _ (m : F) (r : G) (same : Forgets m r) where
@@ -37,9 +37,6 @@ module _ (m : F) (r : G) (same : Forgets m r) where
 
   pub none_runs : r.collection ≡ None → m.collection ≡ None
   none_runs none = none_left m.collection (sym same.collection ∙ none)
-
-  pub some_runs : is_some r.collection ≡ true → is_some m.collection ≡ true
-  some_runs is = some_back m.collection (subst (λ (o : Option (Collection Root)). is_some o ≡ true) same.collection is)
 
   pub one_runs : (d : Collection Root) → r.collection ≡ Some d → (c : Collection (List ℕ)) × (m.collection ≡ Some c) × (d ≡ forget_collection c)
   one_runs d ran = one_left m.collection d (sym same.collection ∙ ran)

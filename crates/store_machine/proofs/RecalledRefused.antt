@@ -8,7 +8,7 @@ use Rattle.store_model.specs.Trees.{root_of}
 use Rattle.store_machine.specs.Asked as asked
 use Rattle.store_machine.proofs.Forgotten.{taken_same}
 use Rattle.store_machine.proofs.Parts.{F, G, put_told, set_told}
-use Rattle.store_machine.proofs.Recalled.{Recalls, goes, stays, stop, id_back, keeps_back, kind_is, knows, may_commit, no_numbers, none_runs, numbers, on_id, on_store, reading, rooms, runs, slot_back, some_runs, unkept_back, writing}
+use Rattle.store_machine.proofs.Recalled.{Recalls, goes, stays, stop, id_back, keeps_back, kind_is, knows, may_commit, no_numbers, none_runs, numbers, on_id, on_store, reading, rooms, runs, slot_back, unkept_back, writing}
 use Rattle.store_machine.proofs.SameNames.{gone_same, len_same, none_back, put_same}
 use Rattle.store_machine.proofs.Walks.{ends_both}
 
@@ -127,7 +127,8 @@ module _ (m : F) (r : G) (same : Forgets m r) where
 
   uncollected : (refusal : Refusal) (t : G) → RefusesGcStep of_roots refusal r t → (a : ℕ) → Added a asked.GcStep refusal t → Left (λ n. RefusesGcStep of_files refusal m n) t
   uncollected refusals.NotCollecting t (none, others) a adds = stays m r same (λ n. RefusesGcStep of_files refusals.NotCollecting m n) t others (none_runs m r same none, refl)
-  uncollected refusals.Memory t (some, others) a adds = stays m r same (λ n. RefusesGcStep of_files refusals.Memory m n) t others (some_runs m r same some, refl)
+  uncollected refusals.Memory t (some, others) a adds = stays m r same (λ n. RefusesGcStep of_files refusals.Memory m n) t others
+      ((some.0, runs m r same some.0 some.1, some.2), refl)
   uncollected refusals.Numbers t (is, none, others) a adds =
       stays m r same (λ n. RefusesGcStep of_files refusals.Numbers m n) t others (runs m r same phases.Flush is, on_id m r same (λ id. LAST_ID ≤ id) none, refl)
   uncollected refusals.DiskRead t (inl is, others) a adds = stays m r same (λ n. RefusesGcStep of_files refusals.DiskRead m n) t others (inl (runs m r same phases.Mark is), refl)

@@ -1,17 +1,14 @@
 -- A collection, no other step of which comes between: what it recorded and changed since the store was opened.
-use Rattle.store_machine.proofs.Prelude.{◌≡◌, ◌≤◌, inl, inr, ⊎_elim, ℕ, zero, suc, ListOf, [], ◌∷◌, ◌++◌, Contains, Option, Some, None, Result, Ok, sym, ◌∙◌, ap, subst, arith, AllByRecursion, Contains-push_cases, Entry, Kind, Segment, segment_key, HeaderValue, ContainerLiveness, ids_of, Phase, Refusal, FreesTo, with_freed, Store, IsSpare, last_id, ChangeName, FlushContainer, FreeContainer, SealContainer, StoreChange, there_before, Asked, FileMachine, MakesRoom, HasContainer, HasIds, Gathered, GoesOn, IsRecordOf, Makes, TakesAll, TakesOne, ids_before, keys_written, marking, Sweeps, Done, ByState, Legal, AreDid, Collection, Found, RunState, Running, Marking, Recording, Sweep, Sweeping, HasCopy, IsNeeded, NamesNeed, keys_of, Run, of_files}
+use Rattle.store_machine.proofs.Prelude.{◌≡◌, ◌≤◌, inl, inr, ⊎_elim, ℕ, zero, suc, ListOf, [], ◌∷◌, ◌++◌, Contains, Option, Some, None, sym, ◌∙◌, ap, subst, arith, AllByRecursion, Contains-push_cases, Entry, Kind, Segment, segment_key, HeaderValue, ContainerLiveness, ids_of, Phase, FreesTo, with_freed, Store, IsSpare, last_id, ChangeName, FlushContainer, FreeContainer, SealContainer, StoreChange, there_before, FileMachine, MakesRoom, HasContainer, HasIds, Gathered, IsRecordOf, Makes, TakesAll, TakesOne, ids_before, keys_written, marking, Sweeps, Collection, Found, Marking, Recording, Sweep, Sweeping, HasCopy, IsNeeded, NamesNeed, keys_of, of_files}
 use Rattle.std.proofs.Common.{slice_get}
 use Rattle.std.specs.FinMap as finite
 use Rattle.refusals.specs.declared.refusal.Phase.TheVariants as phases
 use Rattle.store_model.specs.Needed.{SumsNeeded}
 use Rattle.store_model.specs.Steps.{changed}
-use Rattle.store_machine.specs.Asked as asked
 use Rattle.store_machine.specs.Collecting.{Goes, Went}
 use Rattle.store_machine.specs.CollectsAlone.{HasChosen, IsNeededCopy, IsOfSweep, IsRecorded, KeepsNeeded}
-use Rattle.store_machine.specs.Done as done
 use Rattle.store_machine.specs.Machine.{Stage}
 use Rattle.store_machine.specs.Needs.{NeededSince, OneNeeds}
-use Rattle.store_machine.proofs.Stepwise.{Step}
 use Rattle.store_machine.proofs.Swept.{filled_at, head_of, in_tail, none_filled, none_in}
 
 abbrev pub C : Type 0
@@ -38,7 +35,7 @@ each_then (x ∷ xs) ys (one, first) next = (one, each_then xs ys first next)
 -- ---- ids
 
 -- no container has a greater id than the last
-id_within : (held : ListOf (Option HeaderValue)) (slot : ℕ) (h : HeaderValue) → slice_get held slot ≡ Some (Some h) → h.id ≤ last_id held
+pub id_within : (held : ListOf (Option HeaderValue)) (slot : ℕ) (h : HeaderValue) → slice_get held slot ≡ Some (Some h) → h.id ≤ last_id held
 id_within [] slot h is = absurd (let wrong : None ≡ Some (Some h) = is in cc)
 id_within (None ∷ cs) zero h is = absurd (let wrong : Some None ≡ Some (Some h) = is in cc)
 id_within (Some g ∷ cs) zero h is = let same : g ≡ h = (let both : Some (Some g) ≡ Some (Some h) = is in cc) in omega (arith, ap (λ (x : HeaderValue). x.id) same)
@@ -62,7 +59,7 @@ opened_ids start opened last (slots, frees) last_is ids = record {
 -- ---- what is recorded
 
 -- the sum of what is needed is one, by two words for it
-sums_same : (P Q : ListOf ℕ → Type 0) → ((key : ListOf ℕ) → P key → Q key) → ((key : ListOf ℕ) → Q key → P key) → (held : ListOf (Option HeaderValue)) (kind : Kind) (slot : ℕ)
+pub sums_same : (P Q : ListOf ℕ → Type 0) → ((key : ListOf ℕ) → P key → Q key) → ((key : ListOf ℕ) → Q key → P key) → (held : ListOf (Option HeaderValue)) (kind : Kind) (slot : ℕ)
     (es : ListOf Entry) (sum : ℕ) → SumsNeeded P held kind slot es sum → SumsNeeded Q held kind slot es sum
 sums_same P Q to from held kind slot [] sum is = is
 sums_same P Q to from held kind slot (e ∷ es) sum (inl ((needed, place), (rest, is, more))) =
@@ -70,7 +67,7 @@ sums_same P Q to from held kind slot (e ∷ es) sum (inl ((needed, place), (rest
 sums_same P Q to from held kind slot (e ∷ es) sum (inr (not, more)) = inr ((λ is. not (from _ is.0, is.1)), sums_same P Q to from held kind slot es sum more)
 
 -- what the collection takes as needed the names need
-names_need : (now : Found (ListOf ℕ)) (c : C) → c.values ≡ finite.values now.names → c.keys ≡ [] → (key : ListOf ℕ) → NeededSince of_files c key → NamesNeed of_files now key
+pub names_need : (now : Found (ListOf ℕ)) (c : C) → c.values ≡ finite.values now.names → c.keys ≡ [] → (key : ListOf ℕ) → NeededSince of_files c key → NamesNeed of_files now key
 names_need now c values keys key (inl needs) = subst (λ (vs : ListOf (ListOf ℕ)). OneNeeds of_files vs key) values needs
 names_need now c values keys key (inr has) = absurd (none_in key (subst (λ (ks : ListOf (ListOf ℕ)). Contains ks key) keys has))
 
@@ -111,13 +108,6 @@ pub record Tied (percent : ℕ) (now : Found (ListOf ℕ)) (opened store : Store
   pub records : AllByRecursion (IsRecorded now opened) c.recorded
   pub stage : ByStage opened c c.stage
   pub filled : (key : ListOf ℕ) → Contains (filled_at c.stage) key → NamesNeed of_files now key
-
-pub record Under (percent : ℕ) (now : Found (ListOf ℕ)) (opened : Store) (m : FileMachine) : Type 0 where
-  pub same : m.now ≡ now
-  pub runs : m.state ≡ Running
-  pub c : C
-  pub ran : m.collection ≡ Some c
-  pub tied : Tied percent now opened m.store c
 
 pub same_some : (a b : C) → Some a ≡ Some b → a ≡ b
 same_some a b is = cc
@@ -226,7 +216,7 @@ module _ (percent : ℕ) (now : Found (ListOf ℕ)) (opened : Store) (m : FileMa
   of_sweep phase w goes = absurd goes
 
   -- what it recorded by then
-  abbrev after : Went → C
+  abbrev pub after : Went → C
   after w = record c { stage = w.stage; recorded = w.recorded; changes = c.changes ++ w.changes }
 
   abbrev RecordsSo : Went → Type 0
@@ -269,7 +259,7 @@ module _ (percent : ℕ) (now : Found (ListOf ℕ)) (opened : Store) (m : FileMa
   records_so phases.Release w goes = swept w phases.Release goes.0 _ goes.1 goes.5 goes.10 goes.11
   records_so phase w goes = absurd goes
 
-  tied_on : (phase : Phase) (w : Went) (store : Store) → Goes of_files phase c m w → Makes w.changes m.store store → Tied percent now opened store (after w)
+  pub tied_on : (phase : Phase) (w : Went) (store : Store) → Goes of_files phase c m w → Makes w.changes m.store store → Tied percent now opened store (after w)
   tied_on phase w store goes makes =
       let so = records_so phase w goes in
       record {
@@ -286,26 +276,3 @@ module _ (percent : ℕ) (now : Found (ListOf ℕ)) (opened : Store) (m : FileMa
         stage = so.1;
         filled = filled_so phase w goes;
       }
-
-module _ (percent : ℕ) (now : Found (ListOf ℕ)) (opened : Store) where
-  goes_on : (m : FileMachine) → Under percent now opened m → (phase : Phase) (n : FileMachine) → GoesOn of_files phase m n → Under percent now opened n
-  goes_on m u phase n goes =
-      let tied : Tied percent now opened m.store goes.c = subst (Tied percent now opened m.store) (same_some u.c goes.c (sym u.ran ∙ goes.ran)) u.tied in
-      record {
-        same = ap (λ (x : FileMachine). x.now) goes.others ∙ u.same;
-        runs = ap (λ (x : FileMachine). x.state) goes.others ∙ u.runs;
-        c = _;
-        ran = ap (λ (x : FileMachine). x.collection) goes.others;
-        tied = tied_on percent now opened m u.same goes.c tied phase goes.went n.store goes.goes goes.makes;
-      }
-
-  -- so many steps went on
-  pub all_went : (made : ListOf Step) (m k : FileMachine) → Under percent now opened m → AreDid of_files made → Run of_files made m k → Under percent now opened k
-  all_went [] m k u did run = subst (Under percent now opened) (sym run) u
-  all_went (x ∷ xs) m k u (asked_is, (phase, answer_is), more) (mid, (legal, run)) =
-      let one : Legal of_files (record { actor = x.actor; asked = asked.GcStep; answer = Ok (done.Did phase) }) m mid =
-      subst (λ (s : Asked (ListOf ℕ)). Legal of_files (record { actor = x.actor; asked = s; answer = Ok (done.Did phase) }) m mid) asked_is
-      (subst (λ (r : Result Done Refusal). Legal of_files (record { actor = x.actor; asked = x.asked; answer = r }) m mid) answer_is legal) in
-      let goes : GoesOn of_files phase m mid =
-      subst (λ (st : RunState (ListOf ℕ)). ByState of_files st x.actor asked.GcStep (Ok (done.Did phase)) m mid) u.runs one in
-      all_went xs mid k (goes_on m u phase mid goes) more run

@@ -1,11 +1,11 @@
 -- What the lines of a `collect` come to, in a run of the machine of files: the names stay, it chose by what they need, and what it gave
 -- back held nothing that they need.
-use Rattle.std.specs.Prelude.{◌≡◌, ◌⊎◌, ◌≤◌, ℕ, suc, List as ListOf, [], ◌∷◌, length, Some, None}
+use Rattle.std.specs.Prelude.{◌≡◌, ◌⊎◌, ◌+◌, ◌<◌, ◌≤◌, ℕ, suc, List as ListOf, [], ◌∷◌, length, Some, None}
 use Rattle.std.specs.List.{AllByRecursion}
 use Rattle.container_meta.specs.declared.kind.Kind.{Kind}
 use Rattle.container_meta.specs.Segments.{Segment, segment_key}
 use Rattle.container_meta.specs.Spelling.{HeaderValue, bytes_of}
-use Rattle.disk_format.specs.declared.numbers.TheConstants.{LAST_ID}
+use Rattle.disk_format.specs.declared.numbers.TheConstants.{LAST_ID, RESERVE}
 use Rattle.gc_select.specs.declared.liveness.ContainerLiveness.{ContainerLiveness}
 use Rattle.gc_select.specs.Selecting.{ids_of}
 use Rattle.refusals.specs.declared.refusal.Refusal.{Refusal}
@@ -14,12 +14,13 @@ use Rattle.script_lines.specs.ReplyText.{reply_line}
 use Rattle.script_lines.specs.ReplyValue as replies
 use Rattle.store_model.specs.Image.{Store}
 use Rattle.store_model.specs.Needed.{Needs}
-use Rattle.store_model.specs.Reserve.{IsSpare}
-use Rattle.store_model.specs.Slots.{last_id}
+use Rattle.store_model.specs.Reserve.{IsReachable, IsSpare}
+use Rattle.store_model.specs.Slots.{AreHeaders, free_slots, last_id}
 use Rattle.store_model.specs.Steps.{FlushContainer, FreeContainer, StoreChange, changed}
 use Rattle.store_machine.specs.ByMap.{AfterOpening, ByMap, FileMachine, Through}
 use Rattle.store_machine.specs.Collected.{Collected, HasContainer, HasIds}
 use Rattle.store_machine.specs.Collecting.{Makes, MayBreak, freed_in, ids_before, keys_written}
+use Rattle.store_machine.specs.CollectsByNeed.{FreesUpTo, GivesBackByNeed, TakesIds, written_in}
 use Rattle.store_machine.specs.Commands.{Collect, EndsRefused, EndsWith, IsDone, IsEnded, MayGoOn, Replied, printed}
 use Rattle.store_machine.specs.Lines.{AreDid}
 use Rattle.store_machine.specs.Machine.{Collection, Found, Running, Stepped, stopped}
@@ -80,8 +81,20 @@ pub record HasChosen (percent : ℕ) (now : Found (ListOf ℕ)) (opened : Store)
 
 -- ---- how far it came
 
+-- It wrote its containers under the ids after the last, one after the other, and that is the last one now. It gave back only containers
+-- that were there when it began; and wrote fewer than there are slots, where one was closed then.
+pub record CountsIds (changes : ListOf StoreChange) (opened : Store) (last : ℕ) : Type 0 where
+  pub ids : TakesIds (last_id opened.held) changes
+  pub last_is : last ≡ last_id opened.held + written_in changes
+  pub earlier : FreesUpTo (last_id opened.held) changes opened
+  pub few : 1 ≤ free_slots opened.held → written_in changes < length opened.held
+
+-- the slots of the reserve are closed, if they were
+abbrev pub HasRoomStill : Store → Store → Type 0
+HasRoomStill opened store = RESERVE ≤ free_slots opened.held → RESERVE ≤ free_slots store.held
+
 -- It came to its end: so many containers were given back, and so many segments written; the machine runs, and no collection does. Its steps
--- did what it had selected (Collected.antt), if no two containers had one id.
+-- did what it had selected (Collected.antt), and by what the names need (CollectsByNeed.antt), if no two containers had one id.
 pub record HasSwept (percent freed copied : ℕ) (m n : FileMachine) (opened : Store) : Type 0 where
   pub begun : FileMachine
   pub last : FileMachine
@@ -93,7 +106,11 @@ pub record HasSwept (percent freed copied : ℕ) (m n : FileMachine) (opened : S
   pub ran : last.collection ≡ Some c
   pub chosen : HasChosen percent m.now opened c
   pub sweeps : Sweeps m.now c.changes opened n.store
+  pub counts : CountsIds c.changes opened n.last_id
+  pub room : HasRoomStill opened n.store
   pub collected : HasIds m.store m.last_id → Collected of_files freed copied made begun last n run
+  pub by_need : HasIds m.store m.last_id → AreHeaders opened.held
+      → GivesBackByNeed (IsReachable m.now.names) percent opened n.store c.changes
   pub freed_is : freed ≡ freed_in c.changes
   pub copied_is : copied ≡ length (keys_written c.changes)
   pub runs : n.state ≡ Running
@@ -104,10 +121,12 @@ abbrev pub HasBroken : FileMachine → Type 0
 HasBroken n = (before : FileMachine) × (stores : ListOf Store) × (n ≡ stopped None stores before) × MayBreak of_files before stores
 
 -- It came so far: this was changed until then; and only where a write failed the machine is stopped, by that store, or one that the change
--- would have made.
+-- would have made, and fewer slots may be closed.
 pub record SweptSoFar (rs : ListOf Replied) (m n : FileMachine) (opened : Store) : Type 0 where
   pub changes : ListOf StoreChange
   pub sweeps : Sweeps m.now changes opened n.store
+  pub counts : CountsIds changes opened n.last_id
+  pub room : (EndsRefused DiskWrite rs → ⊥) → HasRoomStill opened n.store
   pub runs : (EndsRefused DiskWrite rs → ⊥) → n.state ≡ Running
   pub broke : EndsRefused DiskWrite rs → HasBroken n
 

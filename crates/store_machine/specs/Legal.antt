@@ -15,6 +15,7 @@ use Rattle.namespace.specs.Listing.{NamedRoot}
 use Rattle.refusals.specs.declared.refusal.Difference.{Difference}
 use Rattle.refusals.specs.declared.refusal.PartKind.{PartKind}
 use Rattle.refusals.specs.declared.refusal.PartKind.TheVariants as kinds
+use Rattle.refusals.specs.declared.refusal.Phase.{Phase}
 use Rattle.refusals.specs.declared.refusal.Phase.TheVariants as phases
 use Rattle.refusals.specs.declared.refusal.Refusal.{Refusal}
 use Rattle.refusals.specs.declared.refusal.Refusal.TheVariants.{Memory, NoFile, BadName, TooMany, Full, Clash, WrongPart, Collecting, NotCollecting, DiskRead, DiskWrite, Stopped as IsStopped, Corrupt, Missing, Numbers, Damaged, Unpinned}
@@ -28,7 +29,7 @@ use Rattle.store_machine.specs.Asked.{Asked}
 use Rattle.store_machine.specs.Asked as asked
 use Rattle.store_machine.specs.Done.{Done}
 use Rattle.store_machine.specs.Done as done
-use Rattle.store_machine.specs.Machine.{Found, Machine, Idle, Writing, Reading, RunState, Running, Stopped, Stepped, keeping, kind_of, one_more, part_in, put_at, stopped}
+use Rattle.store_machine.specs.Machine.{Collection, Found, Machine, Idle, Writing, Reading, RunState, Running, Stopped, Stepped, keeping, kind_of, one_more, part_in, put_at, stopped}
 use Rattle.store_machine.specs.Needs.{HasCopy, HasLength, HoldsKey, IsClash, first_unkept, forgotten_beside, keys_of, with_pins}
 use Rattle.store_machine.specs.Opening.{Reopens}
 use Rattle.store_machine.specs.Values.{Values}
@@ -279,9 +280,13 @@ module _ {V R : Type 0} (v : Values V R) where
   RefusesRead a refusal m n = (value : V) × (rest after : R) × (part_in m a ≡ Reading value rest) × v.Stays rest refusal after
       × (n ≡ put_at m a (Reading value after))
 
+  -- a container is given back without any memory
+  abbrev pub MayLack : Store → Option (Collection V) → Type 0
+  MayLack store collection = (phase : Phase) × IsCollecting phase store collection × (phase ≢ phases.Release)
+
   abbrev pub RefusesGcStep : Refusal → Machine V R → Machine V R → Type 0
   RefusesGcStep NotCollecting m n = (m.collection ≡ None) × (n ≡ m)
-  RefusesGcStep Memory m n = (is_some m.collection ≡ true) × (n ≡ m)
+  RefusesGcStep Memory m n = MayLack m.store m.collection × (n ≡ m)
   RefusesGcStep Numbers m n = IsCollecting phases.Flush m.store m.collection × (LAST_ID ≤ m.last_id) × (n ≡ m)
   RefusesGcStep DiskRead m n = (IsCollecting phases.Mark m.store m.collection ⊎ IsCollecting phases.Filter m.store m.collection
       ⊎ IsCollecting phases.Copy m.store m.collection ⊎ (IsCollecting phases.Flush m.store m.collection × (m.last_id < LAST_ID))) × (n ≡ m)

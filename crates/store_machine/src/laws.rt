@@ -66,8 +66,10 @@ pub fn a_list_tells_the_names()
 
 /// After the lines of a `collect` the names are what they were, also at each moment of their steps. Where it was done it is printed how
 /// many containers were given back, each of which held the newest copy of nothing that the names need, and how many segments were copied;
-/// and what it selected is gone, by the percentage and by how much of each container the names need. Where it was refused the store has the
-/// changes that came before. Each refusal has its cause. The function does nothing.
+/// what it selected is gone, by the percentage and by how much of each container the names need, and what they need of that, and no more,
+/// was copied, each piece once; no container is left of which they need nothing, and at 100 percent they need all. Where it was refused the
+/// store has the changes that came before. The ids of what it wrote follow the last one, one after the other. Each refusal has its cause,
+/// and but for a write that failed the slots of the reserve are closed. The function does nothing.
 pub fn a_collect_keeps_the_names()
     ensures ended { CollectsByMap }
     ensures through { CollectsThrough }

@@ -1,4 +1,4 @@
-use Rattle.backup_engine.proofs.CollectByMap.{collect_by_map}
+use Rattle.backup_engine.proofs.CollectByMap.{collect_by_map, collects_by_map}
 use Rattle.backup_engine.proofs.IngestByMap.{ingest_by_map}
 use Rattle.backup_engine.proofs.NamesByMap.{delete_by_map, list_by_map}
 use Rattle.backup_engine.proofs.RestoreByMap.{restore_by_map}
@@ -22,3 +22,6 @@ returns-clause-collect g c =
 pub returns-clause-ingest : goal.returns-clause-ingest
 returns-clause-ingest g c =
     ingest_by_map _ g.D.Disk.view c.a_list_tells_the_names.ensures.through c.an_ingest_puts_its_file.ensures.ended c.an_ingest_puts_its_file.ensures.through
+
+pub returns-clause-collected : goal.returns-clause-collected
+returns-clause-collected g c = collects_by_map _ g.D.Disk.view c.a_collect_keeps_the_names.ensures.ended c.a_collect_keeps_the_names.ensures.through

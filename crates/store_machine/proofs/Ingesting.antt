@@ -66,11 +66,11 @@ none_made d e ss runs is run =
 
 -- ---- sessions
 
-index_set : (sessions : List (Option Session)) (s : Option Session) → 0 < length sessions → slice_index_or (slice_set sessions 0 s) 0 None ≡ s
+pub index_set : (sessions : List (Option Session)) (s : Option Session) → 0 < length sessions → slice_index_or (slice_set sessions 0 s) 0 None ≡ s
 index_set [] s some = absurd (omega (arith, some))
 index_set (x ∷ xs) s some = refl
 
-length_set : (sessions : List (Option Session)) (s : Option Session) → 0 < length sessions → 0 < length (slice_set sessions 0 s)
+pub length_set : (sessions : List (Option Session)) (s : Option Session) → 0 < length sessions → 0 < length (slice_set sessions 0 s)
 length_set [] s some = absurd (omega (arith, some))
 length_set (x ∷ xs) s some = omega arith
 

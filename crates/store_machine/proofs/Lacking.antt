@@ -37,7 +37,7 @@ some_key a b is = cc
 
 -- ---- two pieces of one key
 
-key_is : (p : Piece) → segment_key (piece_segment p).kind (piece_segment p).segment ≡ piece_key p
+pub key_is : (p : Piece) → segment_key (piece_segment p).kind (piece_segment p).segment ≡ piece_key p
 key_is (Data bytes) = refl
 key_is (Node n) = refl
 

@@ -1,4 +1,4 @@
--- How an `ingest` or a `collect` ended over a store for which room was made, or was there, of all of the call.
+-- How a `collect` ended over a store for which room was made, or was there, of all of the call.
 use Rattle.backup_engine.proofs.Prelude.{◌≡◌, inl, inr, ◌≤◌, ℕ, IsTrue, List, Option, Some, Err, refl, subst, KnownWith, DiskView, shown_content, SinkView, IsNotFull, RoomMade, RoomUnmade, Refusal, Full, Refused, IsGivenUp, IsNotRead, IsReadFrom, CoreState, ByteSet, IsIn, IsOf, OpensAs, Stored, Store, Encodes, RESERVE, free_slots, store_once, fails, CommandLine, Format, Ingest, Restore, Collect, EndsFailing, EndsSo, KeepsEachMap}
 use Rattle.recovery.specs.Opening.{Opens}
 use Rattle.reply_text.specs.declared.ending.Ending.{Ending}
@@ -22,7 +22,7 @@ read_runs v c read among m image told opens =
 
 -- what failed
 failed : (command : CommandLine) (given : List ℕ) (ending : Option Ending) (m : Stored) (v w : DiskView) → EndsFailing ending → EndsSo command given ending m v w
-failed (Ingest name) given ending m v w is = inr is
+failed (Ingest name) given ending m v w is = tt
 failed (Collect percent) given ending m v w is = inr is
 failed (Format slots) given ending m v w is = tt
 failed (Restore name) given ending m v w is = tt
@@ -31,8 +31,7 @@ failed table.List given ending m v w is = tt
 
 pub ends_here : (command : CommandLine) (given : List ℕ) (ending : Option Ending) (sink sink_now : SinkView) (v w : DiskView) → RunsIfOpened v
     → KeepsEachMap command given ending v w sink sink_now → EndsEachMap command given ending v w
-ends_here (Ingest name) given ending sink sink_now v w runs keeps old told among m distinct segments opens =
-    inl (keeps old told among m distinct segments (runs among m old told opens)).0
+ends_here (Ingest name) given ending sink sink_now v w runs keeps old told among m distinct segments opens = tt
 ends_here (Collect percent) given ending sink sink_now v w runs keeps old told among m distinct segments opens =
     inl (keeps old told among m distinct segments (runs among m old told opens)).0
 ends_here (Format slots) given ending sink sink_now v w runs keeps old told among m distinct segments opens = tt
@@ -51,9 +50,7 @@ made_stands v mid made old told among m opens =
 
 pub ends_made : (command : CommandLine) (given : List ℕ) (ending : Option Ending) (sink sink_now : SinkView) (v mid w : DiskView) → RoomMade v mid
     → KeepsEachMap command given ending mid w sink sink_now → EndsEachMap command given ending v w
-ends_made (Ingest name) given ending sink sink_now v mid w made keeps old told among m distinct segments opens =
-    let there = made_stands v mid made old told among m opens in
-    inl (refused_earlier v mid made old told among m opens (Ingest name) given w.content ending (keeps there.0 there.1 among m distinct segments there.2).0)
+ends_made (Ingest name) given ending sink sink_now v mid w made keeps old told among m distinct segments opens = tt
 ends_made (Collect percent) given ending sink sink_now v mid w made keeps old told among m distinct segments opens =
     let there = made_stands v mid made old told among m opens in
     inl (refused_earlier v mid made old told among m opens (Collect percent) given w.content ending (keeps there.0 there.1 among m distinct segments there.2).0)

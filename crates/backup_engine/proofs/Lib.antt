@@ -1,10 +1,8 @@
-pub mod Added
 pub mod ByFiles
 pub mod Called
 pub mod ClapLines
 pub mod ClapWords
 pub mod Checked
-pub mod Clashes
 pub mod CollectBegun
 pub mod CollectCauses
 pub mod CollectFaults
@@ -47,7 +45,6 @@ pub mod Moved
 pub mod NameLines
 pub mod NamesKept
 pub mod NewContainers
-pub mod NoGcSteps
 pub mod NotDone
 pub mod NotOpened
 pub mod Numbers
@@ -56,19 +53,13 @@ pub mod OtherHeaders
 mod Prelude
 pub mod PutCauses
 pub mod PutChanges
-pub mod PutEnds
 pub mod PutFrame
-pub mod PutMaps
 pub mod PutNames
-pub mod PutStops
 pub mod ReadSteps
 pub mod Reading
 pub mod Reopened
 pub mod Replied
 pub mod Returned
-pub mod RightPuts
-pub mod RightRoots
-pub mod SameRoom
 pub mod Saying
 pub mod SayingEnds
 pub mod SayingFed
@@ -105,6 +96,7 @@ pub mod NamesByMap
 pub mod NoneCut
 pub mod Rested
 pub mod RestoreByMap
+pub mod IngestMade
 pub mod IngestByMap
 pub mod IngestCuts
 pub mod IngestTails

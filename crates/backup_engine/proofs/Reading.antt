@@ -67,13 +67,7 @@ reads_frame command ending v w reads = record {
 abbrev pub RefusedOver : CommandLine → List ℕ → Refusal → DiskView → DiskView → Type 0
 RefusedOver command given refusal v w = OverEachMap IsOf given v (λ m. RefusedBy command given m v.content w.content refusal)
 
--- what was refused adds nothing to a content that stays
-added_none : (name given : List ℕ) (refusal : Refusal) (store : Store) (old : List ℕ) (content : Option (List ℕ)) → content ≡ Some old → Encodes old store
-    → Adds name given (Some (Refused refusal)) store content
-added_none name given DiskWrite store old content told right = tt
-added_none name given refusal store old content told right = record { changes = []; after = store; chain = refl; once = tt; content_is = (old, told, right) }
-
--- and gives nothing back
+-- what was refused gives nothing back, of a content that stays
 gave_none : (percent : ℕ) (refusal : Refusal) (files : Files) (store : Store) (old : List ℕ) (content : Option (List ℕ)) (sink sink_now : SinkView) → content ≡ Some old
     → Encodes old store → GivesSlotsBack percent (Some (Refused refusal)) files store old content sink sink_now
 gave_none percent DiskWrite files store old content sink sink_now told right = tt
@@ -83,10 +77,7 @@ gave_none percent refusal files store old content sink sink_now told right =
 -- what was refused, and only read
 pub reads_map : (command : CommandLine) (given : List ℕ) (refusal : Refusal) (v w : DiskView) (sink sink_now : SinkView) → OnlyReads v w
     → RefusedOver command given refusal v w → KeepsEachMap command given (Some (Refused refusal)) v w sink sink_now
-reads_map (Ingest name) given refusal v w sink sink_now reads why old known among m distinct right is = (
-  why old known among m distinct right is,
-  λ first told store encodes. added_none name given refusal store first w.content (reads.content_is ∙ told) encodes,
-)
+reads_map (Ingest name) given refusal v w sink sink_now reads why old known among m distinct right is = tt
 reads_map (Collect percent) given refusal v w sink sink_now reads why old known among m distinct right is = (
   why old known among m distinct right is,
   λ first told store encodes. gave_none percent refusal m.files store first w.content sink sink_now (reads.content_is ∙ told) encodes,

@@ -21,7 +21,6 @@ use Rattle.store_model.specs.Standing.{IsStoreOf, IsSegmentOf}
 use Rattle.store_model.specs.Trees.{bytes_at, node_key}
 use Rattle.store_state.specs.Comparing.{FirstDifference}
 use Rattle.store_state.specs.Refused.{fails}
-use Rattle.backup_engine.specs.Adding.{Adds}
 use Rattle.backup_engine.specs.Collected.{Collected, CollectedAll, HasNoIdLeft, collected_line}
 use Rattle.backup_engine.specs.Line.{CommandLine, Ingest, Delete, Collect}
 use Rattle.backup_engine.specs.PlainMap.{Refuses, room_of}
@@ -128,12 +127,9 @@ OverEachMap StandsAs given disk P =
 abbrev pub OfStoreBefore : DiskView → (Store → List ℕ → Type 0) → Type 0
 OfStoreBefore disk P = Known disk.content (λ old. (store : Store) → Encodes old store → P store old)
 
--- Over a content that is a store of the map m, with two closed slots or more: why an `ingest` or a `collect` was refused, and what it made
--- of the store. All else that they do to the map follows from their lines (AnswersByMap.antt), and so does all that the others do.
+-- Over a content that is a store of the map m, with two closed slots or more: why a `collect` was refused, and what it made of the store.
+-- All else that it does to the map follows from its lines (AnswersByMap.antt), and so does all that the others do.
 abbrev pub KeepsMap : CommandLine → List ℕ → Option Ending → Stored → DiskView → DiskView → SinkView → SinkView → Type 0
-KeepsMap (Ingest name) given ending m disk disk_now sink sink_now =
-    WhyRefused (Ingest name) given m disk.content disk_now.content ending
-    × OfStoreBefore disk (λ store old. Adds name given ending store disk_now.content)
 KeepsMap (Collect percent) given ending m disk disk_now sink sink_now =
     WhyRefused (Collect percent) given m disk.content disk_now.content ending
     × OfStoreBefore disk (λ store old. GivesSlotsBack percent ending m.files store old disk_now.content sink sink_now)
@@ -147,10 +143,8 @@ KeepsEachMap command given ending disk disk_now sink sink_now =
 abbrev pub EndsFailing : Option Ending → Type 0
 EndsFailing ending = (refusal : Refusal) × ((ending ≡ Some (Refused refusal)) × IsTrue (fails refusal))
 
--- So they were refused, also where the opening gave containers back first; or they failed.
+-- So it was refused, also where the opening gave containers back first; or it failed.
 abbrev pub EndsSo : CommandLine → List ℕ → Option Ending → Stored → DiskView → DiskView → Type 0
-EndsSo (Ingest name) given ending m disk disk_now =
-    WhyRefused (Ingest name) given m disk.content disk_now.content ending ⊎ EndsFailing ending
 EndsSo (Collect percent) given ending m disk disk_now =
     WhyRefused (Collect percent) given m disk.content disk_now.content ending ⊎ EndsFailing ending
 EndsSo command given ending m disk disk_now = Unit {0}

@@ -47,7 +47,7 @@ IsUntouched command ending disk disk_now = Unit {0}
 
 pub record Keeps (command : CommandLine) (given : List ℕ) (ending : Option Ending) (disk disk_now : DiskView)
     (source source_now : SourceView) (sink sink_now : SinkView) : Type 0 where
-  -- Over a disk that stands for a map an `ingest` or a `collect` ends for its cause, and makes this of the store.
+  -- Over a disk that stands for a map a `collect` ends for its cause, and makes this of the store.
   pub map : KeepsEachMap command given ending disk disk_now sink sink_now
   -- Over any disk, each ending has its cause.
   pub any : OnAnyDisk command given ending disk disk_now source source_now sink sink_now

@@ -102,7 +102,8 @@ module _ (name : List ℕ) (now : Found (List ℕ)) (opened : Store) where
       ⊎ ((refusal ≡ refusals.TooLong) × IsTooLong given line × (n ≡ k))
       ⊎ ((step : Asked (List ℕ)) × Writes k × IsDueStep of_files s step × Refuses of_files 0 step refusal k n
       × ((before : List Step) × (ss ≡ before ++ step_of of_files 0 step (Err refusal) ∷ [])))
-      ⊎ (Writes k × (s.ended ≡ true) × NothingIsDue of_files s × Refuses of_files 0 (asked.Commit name s.given) refusal k n)
+      ⊎ ((line ≡ lines.Commit 0 name) × Writes k × (s.ended ≡ true) × NothingIsDue of_files s
+      × Refuses of_files 0 (asked.Commit name s.given) refusal k n)
 
   -- it was, and at this machine the session had stored so much
   pub record Refused (given : List ℕ) (line : LineValue) (refusal : Refusal) (ss : List Step) (n : F) : Type 0 where
@@ -351,7 +352,7 @@ module _ (name : List ℕ) (now : Found (List ℕ)) (opened : Store) where
             same = same;
             runs = up;
             stores = stores;
-            how = inr (inr (inr (writes, on, nothing, refuses)));
+            how = inr (inr (inr (refl, writes, on, nothing, refuses)));
           })
 
       commit_acts : ended ≡ true → Commits of_files 0 name reply ss d mid → So (lines.Commit 0 name)

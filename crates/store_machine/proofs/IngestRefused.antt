@@ -12,7 +12,7 @@ use Rattle.script_lines.specs.Grammar as lines
 use Rattle.script_lines.specs.ReplyValue as replies
 use Rattle.store_model.specs.Trees.{root_of}
 use Rattle.store_machine.specs.Asked as asked
-use Rattle.store_machine.specs.Ingests.{IngestRefusal, IngestsByMap, IngestsClash, IsBroken, IsSealFor}
+use Rattle.store_machine.specs.Ingests.{AsksName, IngestRefusal, IngestsByMap, IngestsClash, IsBroken, IsSealFor}
 use Rattle.store_machine.specs.Legal.{IsKept}
 use Rattle.store_machine.specs.Needs.{IsClash}
 use Rattle.store_machine.specs.Storing.{AddsOnce, AsksPieces, HoldsFile, LacksPiece, MayCome, OfWhole}
@@ -123,11 +123,13 @@ module _ (name : List ℕ) (now : Found (List ℕ)) (opened : Store) (given : Li
 
     -- ---- by the commit
 
-    module _ (same : m.now ≡ now) (ended : s.ended ≡ true) (nothing : NothingIsDue of_files s) where
-      holds : n ≡ m → HoldsFile given n.store
-      holds others =
+    module _ (same : m.now ≡ now) (ended : s.ended ≡ true) (nothing : NothingIsDue of_files s) (commits : line ≡ lines.Commit 0 name) where
+      holds : n ≡ m → AsksName name given n.store line
+      holds others = (
+          commits,
           subst (λ (g : List ℕ). HoldsFile g n.store) given_is
-          (subst (λ (x : F). HoldsFile s.given x.store) (sym others) (holds_file opened s m stores ended nothing))
+          (subst (λ (x : F). HoldsFile s.given x.store) (sym others) (holds_file opened s m stores ended nothing)),
+      )
 
       commit_cause : (refusal : Refusal) → RefusesCommit of_files 0 name s.given refusal m n → Cause n refusal
       commit_cause refusals.Memory refuses = tt
@@ -166,8 +168,8 @@ module _ (name : List ℕ) (now : Found (List ℕ)) (opened : Store) (given : Li
         by (inr (inl (too_long, long, same))) = subst (Cause n) (sym too_long) long
         by (inr (inr (inl (step, writes, due, refuses, last)))) =
             turn_cause is.session is.given_is is.follow is.at n is.stores writes step (due_is_turn is.session step due) due refusal refuses
-        by (inr (inr (inr (writes, ended, nothing, refuses)))) =
-            committed_cause is.session is.given_is is.follow is.at n is.stores writes is.same ended nothing refusal refuses
+        by (inr (inr (inr (commits, writes, ended, nothing, refuses)))) =
+            committed_cause is.session is.given_is is.follow is.at n is.stores writes is.same ended nothing commits refusal refuses
 
     leaves_of : Rests name now given refusal is.at n
     leaves_of = by is.how
@@ -178,7 +180,7 @@ module _ (name : List ℕ) (now : Found (List ℕ)) (opened : Store) (given : Li
         by (inr (inr (inl (step, writes, due, refuses, last)))) =
             turn_leaves name now given is.at n is.runs step refusal (due_is_turn is.session step due)
             (due_of is.session is.given_is is.follow is.at n is.stores writes step due) refuses
-        by (inr (inr (inr (writes, ended, nothing, refuses)))) =
+        by (inr (inr (inr (commits, writes, ended, nothing, refuses)))) =
             committed_leaves name now given is.at n is.runs is.session.given is.given_is is.same refusal refuses
 
 -- ---- after a line
@@ -418,7 +420,7 @@ module _ (name : List ℕ) (one : Replied) (more : List Replied) (ss : List Step
           how (inr (inr (inl (step, writes, due, refuses, (before, steps))))) =
               (before, (step, (steps, λ more come. subst (λ (g : List ℕ). AsksPieces (g ++ more) step) is.given_is
               (due_asks opened is.session step due more (is.follow more come)))))
-          how (inr (inr (inr (writes, ended, nothing, (right, refuses))))) = absurd refuses
+          how (inr (inr (inr (commits, writes, ended, nothing, (right, refuses))))) = absurd refuses
 
       by : WasOpened ⊎ NotOpened → Asks key at
       by (inl was) = by_how was.opened (subst (λ (r : ReplyValue). After name m.now was.opened last.line r given ss e) clash was.after)

@@ -73,18 +73,22 @@ abbrev pub LacksPin : List ℕ → List ℕ → PinMap → Type 0
 LacksPin given key pins = ((seg : KindSegment) × IsTurnOf given seg × (first_unpinned seg pins ≡ Some key))
     ⊎ ((key ≡ root_key (root_of given)) × ¬ (IsKept pins (root_of given)))
 
+-- the name was asked for, once the store had all of the file
+abbrev pub AsksName : (name given : List ℕ) → Store → LineValue → Type 0
+AsksName name given store line = (line ≡ lines.Commit 0 name) × HoldsFile given store
+
 -- Why its last line is refused, by the machine that this left: of a container that finds no slot, or no id, a piece is held by nothing; once
 -- all of them are held the name counts. Want of memory is free, and a call of the disk that failed is told by its count of faults.
 abbrev pub IngestRefusal : (name given : List ℕ) → Found (List ℕ) → FileMachine → LineValue → Refusal → Type 0
 IngestRefusal name given now n line TooLong = IsTooLong given line
-IngestRefusal name given now n line BadName = ¬ (IsName name) × HoldsFile given n.store
+IngestRefusal name given now n line BadName = ¬ (IsName name) × AsksName name given n.store line
 IngestRefusal name given now n line TooMany =
-    IsName name × (finite.get now.names name ≡ None) × (MOST_NAMES ≤ finite.len now.names) × HoldsFile given n.store
+    IsName name × (finite.get now.names name ≡ None) × (MOST_NAMES ≤ finite.len now.names) × AsksName name given n.store line
 IngestRefusal name given now n line (Full free) =
     (free ≡ free_slots n.store.held) × (free ≤ RESERVE) × OfWhole given line (λ file. LacksPiece file n.store)
 IngestRefusal name given now n line Numbers = ((LAST_ID ≤ n.last_id) × (n.last_id ≡ last_id n.store.held) × (RESERVE < free_slots n.store.held)
     × OfWhole given line (λ file. LacksPiece file n.store))
-    ⊎ (IsName name × HasRoom of_files name n × LacksNumbers of_files n × HoldsFile given n.store)
+    ⊎ (IsName name × HasRoom of_files name n × LacksNumbers of_files n × AsksName name given n.store line)
 IngestRefusal name given now n line (Clash key at) = (seg : KindSegment) × IsTurnOf given seg × IsClash n.store n.forgotten seg key at
 IngestRefusal name given now n line (Unpinned key) = (pins : PinMap) × (part_in n 0 ≡ Writing pins) × LacksPin given key pins
 IngestRefusal name given now n line Memory = Unit {0}

@@ -1,5 +1,5 @@
 -- A command that ran no line answers by the map; and so does any whose lines do.
-use Rattle.backup_engine.proofs.Prelude.{◌≡◌, ◌⊎◌, inl, inr, ℕ, IsTrue, List, [], Option, Some, None, refl, sym, ◌∙◌, ap, subst, arith, DiskView, SinkView, SourceView, Refusal, DiskWrite, Refused, ByteSet, HasNoCollisions, IsIn, OpensAs, Stored, Store, IsSegmentOf, fails, FileMachine, ListsThrough, Replied, Found, RunState, MayBeFound, of_files, FileDesk, IsOfFound, MayStand, stored_in, unopened, files_begin, AnswersByMap, IsLeftAs, WasNotDone, WroteFile, CutsAmong, FailsAlone, RefusedByFiles, RunsByFiles, RunsEachByFiles, CommandLine, Format, Ingest, Restore, Collect, SpeaksAs, Speaks, DoesCommand, FreesTo, IsStore, KnownWith, Running, RunsWith, store_once}
+use Rattle.backup_engine.proofs.Prelude.{◌≡◌, ◌⊎◌, inl, inr, ℕ, IsTrue, List, [], Option, Some, None, refl, sym, ◌∙◌, ap, subst, arith, DiskView, SinkView, SourceView, Refusal, DiskWrite, Refused, ByteSet, HasNoCollisions, IsIn, OpensAs, Stored, Store, IsSegmentOf, fails, FileMachine, ListsThrough, Replied, Found, RunState, MayBeFound, of_files, FileDesk, IsOfFound, MayStand, stored_in, unopened, files_begin, AnswersByMap, IsLeftAs, WroteFile, CutsAmong, FailsAlone, RefusedByFiles, RunsByFiles, RunsEachByFiles, CommandLine, Format, Ingest, Restore, Collect, SpeaksAs, Speaks, DoesCommand, FreesTo, IsStore, KnownWith, Running, RunsWith, store_once}
 use Rattle.std.proofs.lemmas.List.{append-nil}
 use Rattle.std.specs.FinMap as finite
 use Rattle.reply_text.specs.declared.ending.Ending.{Ending}
@@ -99,20 +99,25 @@ module _ (S : List ℕ → Type 0) (command : CommandLine) (given : List ℕ) (m
         same_refusal : none.refusal ≡ refusal
         same_refusal = (let both : Some (Refused none.refusal) ≡ Some (Refused refusal) = sym none.ending_is in cc)
 
-        by : KnownWith w.content (LeavesUnopened none.refusal (unopened m store) none.next was.was.0) → (◌≡◌ {A = Option Ending} (Some (Refused refusal)) (Some (Refused DiskWrite)))
+        by : KnownWith w.content (LeavesUnopened none.refusal (unopened m store) none.next was.was.0)
+            → (◌≡◌ {A = Option Ending} (Some (Refused refusal)) (Some (Refused DiskWrite)))
             ⊎ KnownWith v.content (λ old. (w.content ≡ Some old) ⊎ OpensStore m old (λ opened. IsStore opened w.content))
         by (new, known, inl (stays, is)) = inr (was.was.0, was.was.1, inl (known ∙ ap (λ (bytes : List ℕ). Some bytes) is))
-        by (new, known, inr (found, (may, inl (after, (before, (encodes, (freed, (frees, gates, right)))))))) = inr (was.was.0, was.was.1, inr (record {
-          store = store;
-          right = was.was.2;
-          opened = after;
-          room = (
-            freed,
-            subst (λ (x : Found (List ℕ)). FreesTo (NamesNeed of_files x) freed store after) may
-                (subst (λ (s : Store). FreesTo (NamesNeed of_files found) freed s after) (store_once was.was.0 before store encodes was.was.2) frees),
-          );
-          has = (new, known, right);
-        }))
+        by (new, known, inr (found, (may, inl (after, (before, (encodes, (freed, (frees, gates, right)))))))) = inr (
+          was.was.0,
+          was.was.1,
+          inr (record {
+            store = store;
+            right = was.was.2;
+            opened = after;
+            room = (
+              freed,
+              subst (λ (x : Found (List ℕ)). FreesTo (NamesNeed of_files x) freed store after) may
+                  (subst (λ (s : Store). FreesTo (NamesNeed of_files found) freed s after) (store_once was.was.0 before store encodes was.was.2) frees),
+            );
+            has = (new, known, right);
+          }),
+        )
         by (new, known, inr (found, (may, inr (write, began)))) = inl (ap (λ (r : Refusal). Some (Refused r)) (sym same_refusal ∙ write))
 
     pub unopened_answers : AnswersByMap S command given (Some (Refused refusal)) m v w sink sink_now
@@ -160,14 +165,20 @@ module _ (S : List ℕ → Type 0) (command : CommandLine) (given : List ℕ) (m
     unasked_store =
         let running : runs.opened.state ≡ Running = ap (λ (n : FileMachine). n.state) runs.opens.others in
         let at : RunsWith (last S [] m store v w runs) runs.opened.store =
-        subst (λ (e : FileDesk). RunsWith e.machine runs.opened.store) (sym runs.lines_are.1) (running, refl) in
-        ((refusal, (refl, fails_so)), inr (was.was.0, was.was.1, inr (record {
-          store = store;
-          right = was.was.2;
-          opened = runs.opened.store;
-          room = room_made S [] m store v w runs;
-          has = is_store S [] m store v w runs runs.opened.store at;
-        })))
+        subst (λ (e : FileDesk). RunsWith e.machine runs.opened.store) (sym runs.lines_are.1) (running, refl) in (
+          (refusal, (refl, fails_so)),
+          inr (
+            was.was.0,
+            was.was.1,
+            inr (record {
+              store = store;
+              right = was.was.2;
+              opened = runs.opened.store;
+              room = room_made S [] m store v w runs;
+              has = is_store S [] m store v w runs runs.opened.store at;
+            }),
+          ),
+        )
 
     pub unasked_answers : AnswersByMap S command given (Some (Refused refusal)) m v w sink sink_now
     unasked_answers = record {

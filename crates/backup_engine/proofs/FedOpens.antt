@@ -1,5 +1,5 @@
 -- What is still to be sealed of a session stays while calls are made.
-use Rattle.backup_engine.proofs.Prelude.{◌≡◌, ℕ, zero, suc, List, [], ◌∷◌, map, Some, None, refl, ap, Kind, SessionState, opens_of, IsOneOf}
+use Rattle.backup_engine.proofs.Prelude.{◌≡◌, zero, suc, List, [], ◌∷◌, map, Some, None, refl, ap, Kind, SessionState, opens_of, IsOneOf}
 use Rattle.ingest_session.specs.Calls.{KeepsItem}
 use Rattle.ingest_session.proofs.Sealing as sealing
 

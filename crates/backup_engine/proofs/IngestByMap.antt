@@ -7,7 +7,6 @@ use Rattle.script_lines.specs.Grammar as lines
 use Rattle.script_lines.specs.ReplyValue as replies
 use Rattle.store_machine.specs.Ingests.{Ingested, IngestsByMap, IngestsClash, IngestsThrough, IsPut}
 use Rattle.store_machine.specs.Commands as machine
-use Rattle.store_machine.specs.Commands.{given_by}
 use Rattle.refusals.specs.declared.refusal.Refusal.TheVariants.{Unpinned}
 use Rattle.backup_engine.specs.AnswersByMap.{EndsBy}
 use Rattle.backup_engine.specs.Singles.{begun}
@@ -17,7 +16,7 @@ use Rattle.backup_engine.proofs.SinglesRun.{ingest_memory}
 use Rattle.backup_engine.proofs.IngestCuts.{put_cut}
 use Rattle.backup_engine.proofs.IngestMade.{done_adds, ingested, opened, refused_adds, refused_by, room, source_adds}
 use Rattle.backup_engine.proofs.IngestTails.{ArePut, Commit, Finish, IsCommit, IsTail, Nothing, Push, Tail, commit_last, last_push, push_tail, put_follows, put_lines, pushes_give, pushes_last, tail_end}
-use Rattle.backup_engine.proofs.Rested.{CanBeIf, WasStore, all_lines, all_steps, answers_by, as_found, last, opened_room, ran, rested, was_store}
+use Rattle.backup_engine.proofs.Rested.{CanBeIf, WasStore, all_lines, answers_by, as_found, last, rested, was_store}
 
 module _ (given name : List ℕ) where
   abbrev Now : Stored → Found (List ℕ)
@@ -82,7 +81,8 @@ module _ (given name : List ℕ) where
 
   -- ---- what it answers
 
-  module _ (S : List ℕ → Type 0) (m : Stored) (store : Store) (v w : DiskView) (was : WasStore m store v) (ingests : IngestsByMap) (clashes : IngestsClash) (through : IngestsThrough) where
+  module _ (S : List ℕ → Type 0) (m : Stored) (store : Store) (v w : DiskView) (was : WasStore m store v) (ingests : IngestsByMap) (clashes : IngestsClash)
+      (through : IngestsThrough) where
     module _ (pushes : List Digits) (tail : Tail) (is : IsTail given name pushes tail) (runs : RunsByFiles S (put_lines given name pushes tail) (unopened m store) v w) where
       abbrev rs : List Replied
       rs = put_lines given name pushes tail
@@ -231,8 +231,8 @@ module _ (given name : List ℕ) where
         let memory = ingest_memory name given ending source source_now rs are none in
         record { none = none; refusal = Memory; ending_is = memory; wrote = same_written Memory memory }
 
-    ingest_spoken : IngestsByMap → IngestsClash → IngestsThrough → IsIngest name given ending source source_now rs → (rs ≡ []) ⊎ AnswersOpened (Ingest name) given ending rs (view old) (view new)
-        sink sink_now
+    ingest_spoken : IngestsByMap → IngestsClash → IngestsThrough → IsIngest name given ending source source_now rs
+        → (rs ≡ []) ⊎ AnswersOpened (Ingest name) given ending rs (view old) (view new) sink sink_now
     ingest_spoken ingests clashes through are = elim (ingest_so ending source source_now rs are) [
       | inl none ↦ inl none
       | inr (tail, ((pushes, (is, lines_are)), ends)) ↦ inr (λ among m first distinct given_in known opens runs.

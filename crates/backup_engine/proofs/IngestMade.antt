@@ -1,16 +1,14 @@
 -- What an `ingest` made of the store, and why it was refused, by the law of its lines.
-use Rattle.backup_engine.proofs.Prelude.{◌≡◌, ◌≢◌, ◌⊎◌, inl, inr, ◌≤◌, ◌<◌, ◌+◌, ◌^◌, ◌-◌, ℕ, zero, suc, true, false, List, [], ◌∷◌, ◌++◌, length, slice_get, Option, Some, None, option_map, Result, Ok, Err, refl, sym, ◌∙◌, ap, subst, arith, AllByRecursion, sha256, KnownWith, DiskView, Leaf, Tree, KindSegment, Segment, HeaderValue, header_of, IsName, half_cells, MOST_FILE, RESERVE, node_digest, spelling, Memory, NoFile, BadName, TooLong, Full, Clash, Numbers, DiskRead, DiskWrite, Length, Byte, Refusal, Sink, Refused, LineValue, pushed_bytes, ReplyValue, Piece, Data, Node, IsPieceOf, HasPieceOf, piece_bytes, piece_key, piece_segment, bytes_at, free_slots, newest, Store, Encodes, store_once, Put, StoreChange, SealContainer, ChangeName, FlushContainer, FreeContainer, with_change, root_of, node_key, FileMachine, MakesRoom, RunsWith, EndsWith, Replied, Found, Running, RunState, MayBeFound, of_files, MayStand, unopened, ChangesTo, Adds, AddsOnce, AddsTo, RunsByFiles, Ingest, IsLeftWith, RefusedBy, HasTwins, Digits, pushed, push_lines, refused, said, Stored}
+use Rattle.backup_engine.proofs.Prelude.{◌≡◌, ◌⊎◌, inl, inr, ◌≤◌, ◌<◌, ◌+◌, ◌^◌, ◌-◌, ℕ, zero, suc, true, false, List, [], ◌∷◌, ◌++◌, length, slice_get, Option, Some, option_map, Result, Ok, Err, refl, sym, ◌∙◌, ap, subst, arith, AllByRecursion, sha256, KnownWith, DiskView, Leaf, Tree, KindSegment, Segment, header_of, IsName, half_cells, MOST_FILE, RESERVE, spelling, Memory, BadName, TooLong, Full, Clash, Numbers, DiskRead, DiskWrite, Length, Byte, Refusal, Refused, pushed_bytes, Data, Node, HasPieceOf, piece_bytes, piece_key, piece_segment, bytes_at, free_slots, newest, Store, Encodes, store_once, Put, StoreChange, SealContainer, ChangeName, FlushContainer, FreeContainer, with_change, root_of, FileMachine, MakesRoom, RunsWith, EndsWith, Replied, Found, Running, RunState, of_files, MayStand, unopened, ChangesTo, Adds, AddsOnce, AddsTo, RunsByFiles, Ingest, IsLeftWith, RefusedBy, HasTwins, Digits, pushed, refused, said, Stored}
 use Rattle.std.specs.FinMap as finite
-use Rattle.std.proofs.Common.{Contains, is_some}
+use Rattle.std.proofs.Common.{is_some}
 use Rattle.std.proofs.lemmas.List.{append-nil, length-append}
 use Rattle.base_model.proofs.Ranges.{range-range}
 use Rattle.base_model.specs.Bytes.{range}
 use Rattle.disk_format.specs.Layout.{slot_at}
 use Rattle.disk_format.specs.declared.numbers.TheConstants.{LAST_ID, MOST_NAMES, SLOT_BYTES}
-use Rattle.merkle_file.specs.Node as node
 use Rattle.refusals.specs.declared.refusal.Difference.{Difference}
 use Rattle.refusals.specs.declared.refusal.Refusal.TheVariants.{TooMany, Unpinned}
-use Rattle.reply_text.specs.declared.ending.Ending.{Ending}
 use Rattle.script_lines.specs.Grammar as lines
 use Rattle.script_lines.specs.ReplyValue as replies
 use Rattle.container_meta.specs.Segments.{segment_key}
@@ -18,7 +16,7 @@ use Rattle.store_model.specs.Slots.{Copy, last_id}
 use Rattle.store_model.specs.Steps.{changed}
 use Rattle.store_model.proofs.Copies.{headers_of_right}
 use Rattle.store_model.proofs.Filled.{free_less}
-use Rattle.store_model.proofs.Frames.{SameSlot, SameSlots}
+use Rattle.store_model.proofs.Frames.{SameSlots}
 use Rattle.store_model.proofs.HeldSlots.{all_held, copy_still}
 use Rattle.store_model.proofs.Sound.{last_within}
 use Rattle.store_machine.specs.Asked.{Asked}
@@ -39,12 +37,10 @@ use Rattle.store_machine.specs.Needs.{HasLength}
 use Rattle.store_machine.specs.Runs.{Run}
 use Rattle.store_machine.specs.Storing as storing
 use Rattle.store_machine.specs.Storing.{AsksPieces, HoldsFile, MayCome}
-use Rattle.core_machine.specs.Bytes.{BytesOf, ClashesWith, SameStore}
-use Rattle.core_machine.specs.FileOpenings.{opening}
+use Rattle.core_machine.specs.Bytes.{BytesOf, ClashesWith}
 use Rattle.script_runner.specs.LinesAreFileRuns.{ChangesContent}
 use Rattle.script_runner.specs.LinesAreRuns.{Traced}
-use Rattle.store_state.specs.Comparing.{FirstDifference}
-use Rattle.backup_engine.specs.PlainMap.{HasAll, HasNoRoomForName, HasPieces, LacksNumbers, LacksPiece, Refuses, room_of}
+use Rattle.backup_engine.specs.PlainMap.{HasNoRoomForName, HasPieces, LacksNumbers, LacksPiece, Refuses, room_of}
 use Rattle.backup_engine.specs.Promise.{DifferBy, HoldsTwin}
 use Rattle.backup_engine.specs.Singles.{begun}
 use Rattle.backup_engine.proofs.IngestTails.{Commit, Finish, IsTail, Nothing, Push, Tail, ends_with, last_push, push_comes, put_follows, put_lines, pushes_give, tail_comes, tail_end}
@@ -138,8 +134,8 @@ slots_same old new slots same slot above below p n from to =
     ∙ range-range q n (slot_at slot) SLOT_BYTES old (omega (arith, from, to)))
 
 -- the step that was refused leaves the machine
-clash_stays : (step : Asked (List ℕ)) (given key : List ℕ) (at : Difference) (j n : FileMachine) → AsksPieces given step → Legal of_files (step_of of_files 0 step (Err (Clash key at))) j n
-    → n ≡ j
+clash_stays : (step : Asked (List ℕ)) (given key : List ℕ) (at : Difference) (j n : FileMachine) → AsksPieces given step
+    → Legal of_files (step_of of_files 0 step (Err (Clash key at))) j n → n ≡ j
 clash_stays (asked.Claim seg) given key at j n asks is = by j.state is
   where
     by : (state : RunState (List ℕ)) → ByState of_files state 0 (asked.Claim seg) (Err (Clash key at)) j n → n ≡ j
@@ -175,10 +171,13 @@ clash_twin S given step key at n new st runs same_store right asks l = by step a
         let twin : clash.store ≡ st = store_once l.old clash.store st clash.right here in
         let but : same.0 ≡ st = store_once l.old same.0 st same.1.0 here in
         let slots : SameSlots 0 st.slots l.old new =
-        subst (λ (b : List ℕ). SameSlots 0 st.slots l.old b) (sym own) (subst (λ (x : Store). SameSlots 0 x.slots l.old bytes) but (slots_same l.old bytes same.0.slots same.1.1.slots_are)) in
-        twin_of given (record { kind = filled.kind; segment = s }) l.old new key at st (at_one (λ x. HasPieceOf given (record { kind = filled.kind; segment = x })) filled.segments index s asks there) clash twin
+        subst (λ (b : List ℕ). SameSlots 0 st.slots l.old b) (sym own)
+        (subst (λ (x : Store). SameSlots 0 x.slots l.old bytes) but (slots_same l.old bytes same.0.slots same.1.1.slots_are)) in
+        twin_of given (record { kind = filled.kind; segment = s }) l.old new key at st
+        (at_one (λ x. HasPieceOf given (record { kind = filled.kind; segment = x })) filled.segments index s asks there) clash twin
         (copy_still l.old new st.held key clash.copy (headers_of_right l.old st here)
-        (all_held l.old new 0 st.held (subst (λ (count : ℕ). SameSlots 0 count l.old new) (sym here.many) slots)) (ap (λ (x : Store). newest 0 x.held key) (sym twin) ∙ clash.copy_is))
+        (all_held l.old new 0 st.held (subst (λ (count : ℕ). SameSlots 0 count l.old new) (sym here.many) slots))
+        (ap (λ (x : Store). newest 0 x.held key) (sym twin) ∙ clash.copy_is))
     by step asks stays bytes = absurd asks
 
 -- ---- the lines
@@ -188,7 +187,8 @@ push_told : (prev : Replied) (count : ℕ) (pushes : List Digits) (given name : 
     → (last_push given name prev count pushes).reply ≡ replies.Refused refusal → ⊥
 push_told prev count [] given name refusal told is = told is
 push_told prev count (d ∷ more) given name refusal told is =
-    push_told (said (lines.Push 0 d.digits) (replies.Pushed 0 (count + length (pushed_bytes d.digits)))) (count + length (pushed_bytes d.digits)) more given name refusal (λ wrong. cc) is
+    push_told (said (lines.Push 0 d.digits) (replies.Pushed 0 (count + length (pushed_bytes d.digits)))) (count + length (pushed_bytes d.digits)) more given name refusal
+    (λ wrong. cc) is
 
 push_undone : (prev : Replied) (count : ℕ) (pushes : List Digits) (given name : List ℕ) → (machine.IsDone (machine.Ingest name) prev.reply → ⊥)
     → machine.IsDone (machine.Ingest name) (last_push given name prev count pushes).reply → ⊥
@@ -378,7 +378,8 @@ module _ (given name : List ℕ) (S : List ℕ → Type 0) (m : Stored) (store :
           trace xs step steps_are =
               let whole_run : (run : Run of_files runs.steps runs.opened end) × Traced of_files (ChangesContent S) runs.steps runs.opened end run runs.bytes.0 w.content =
               (run_of of_files rs runs.steps (machine.desk runs.opened) runs.next runs.lines_are, runs.bytes.1.1) in
-              let here = subst (λ (ys : List (Stepped (List ℕ))). (run : Run of_files ys runs.opened end) × Traced of_files (ChangesContent S) ys runs.opened end run runs.bytes.0 w.content)
+              let here =
+              subst (λ (ys : List (Stepped (List ℕ))). (run : Run of_files ys runs.opened end) × Traced of_files (ChangesContent S) ys runs.opened end run runs.bytes.0 w.content)
               steps_are whole_run in
               trace_last S xs (step_of of_files 0 step (Err (Clash key at))) runs.opened end here.0 runs.bytes.0 w.content runs.bytes.1.0.1 here.1
 

@@ -128,7 +128,8 @@ module _ (given name : List ℕ) where
 
   abbrev pub last_push : Replied → ℕ → List Digits → Replied
   last_push prev count [] = prev
-  last_push prev count (d ∷ more) = last_push (said (lines.Push 0 d.digits) (replies.Pushed 0 (count + length (pushed_bytes d.digits)))) (count + length (pushed_bytes d.digits)) more
+  last_push prev count (d ∷ more) =
+      last_push (said (lines.Push 0 d.digits) (replies.Pushed 0 (count + length (pushed_bytes d.digits)))) (count + length (pushed_bytes d.digits)) more
 
   tail_is_last : (all : List Digits) (tail : Tail) (prev : Replied) → machine.last_of (prev ∷ tail_lines all tail) ≡ Some (tail_end tail prev)
   tail_is_last all Nothing prev = refl

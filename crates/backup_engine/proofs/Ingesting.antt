@@ -1,5 +1,5 @@
 -- What `ingest` keeps: over any disk, and of the rest.
-use Rattle.backup_engine.proofs.Prelude.{◌≡◌, ◌⊎◌, inl, inr, List, ℕ, Some, None, Result, Ok, Err, refl, sym, subst, DiskView, SourceView, SinkView, Refusal, Sink, Refused, stored_line, root_of, Sent, CoreState, Ingest, KeepsEachMap, PutRun, IsPutRefusal, IsHeard, Replies, IngestRun, Keeps, ending_in}
+use Rattle.backup_engine.proofs.Prelude.{◌≡◌, List, ℕ, Some, Result, Ok, Err, refl, DiskView, SourceView, SinkView, CoreState, Ingest, IsHeard, IngestRun, Keeps, ending_in}
 use Rattle.reply_text.specs.declared.ending.Ending.{Ending}
 use Rattle.reply_text.specs.declared.ending.Ending.TheVariants.{Source}
 use Rattle.backup_engine.proofs.Called.{Called}

@@ -103,11 +103,12 @@ ChangesStore (Delete name) given (Some ending) opened content = IsStore opened c
 ChangesStore table.List given ending opened content = IsStore opened content
 ChangesStore command given ending opened content = Unit {0}
 
--- The store was not opened, or no line was run, and it failed: the content is as it was, or room was made in it and nothing else; or a write
--- or a sync failed.
+-- The store was not opened, or no line was run, and it failed: the content is as it was, or room was made in it and nothing else; or a
+-- write or a sync failed.
 abbrev pub StaysUnopened : Option Ending → Stored → Option (List ℕ) → Option (List ℕ) → Type 0
 StaysUnopened ending m before content = EndsFailing ending
-    × ((ending ≡ Some (Refused DiskWrite)) ⊎ KnownWith before (λ old. (content ≡ Some old) ⊎ OpensStore m old (λ opened. IsStore opened content)))
+    × ((ending ≡ Some (Refused DiskWrite))
+    ⊎ KnownWith before (λ old. (content ≡ Some old) ⊎ OpensStore m old (λ opened. IsStore opened content)))
 
 -- ---- all of it
 

@@ -1,6 +1,6 @@
 -- What is still to be sealed of a file that goes on from what was given, after some answers: however the bytes came between these, it is
 -- one. And what a seal leaves has no key of what was sealed.
-use Rattle.ingest_session.proofs.Prelude.{◌≡◌, ◌∙◌, ℕ, Bool, true, false, List, [], ◌∷◌, ◌++◌, Some, refl, sym, ap, subst, append-nil, append_assoc, reverse, AllByRecursion, list_any, Kind, Leaf, Tree, Contents, KindSegment, Segment, has_key, segment_key, segments_of, Answer, Absent, Held, Sealed, Due, Claim, Seal, due_in, item_kind, open_of, MayFollow, History, HasHistory, answered, item_if, same_kind, sealed_for, item_of, IsSession, SessionState, HasItem, IsAhead, turn_node, IsAnswerFor, IsSettled, told_by, leaf_key, node_key}
+use Rattle.ingest_session.proofs.Prelude.{◌≡◌, ◌∙◌, ℕ, Bool, true, false, List, [], ◌∷◌, ◌++◌, Some, refl, sym, ap, subst, append-nil, append_assoc, reverse, AllByRecursion, list_any, Kind, Leaf, Tree, Contents, Segment, has_key, segment_key, Answer, Absent, Held, Sealed, Due, Claim, Seal, due_in, item_kind, open_of, MayFollow, History, HasHistory, answered, item_if, same_kind, sealed_for, item_of, IsSession, SessionState, turn_node, IsAnswerFor, IsSettled, told_by, leaf_key, node_key}
 use Rattle.std.proofs.Common.{if◌then◌else◌, ◌≢◌, Option, None, map}
 use Rattle.std.proofs.lemmas.Bool.{or_parts}
 use Rattle.std.proofs.lemmas.Slice.Eq.{bytes_eq-Decides}
@@ -14,7 +14,7 @@ use Rattle.ingest_session.proofs.Members.{IsIn, all_of, in_none, in_right}
 use Rattle.ingest_session.proofs.Replayed.{Reaches}
 use Rattle.ingest_session.proofs.Runs.{Came, IsSame, Point, one_point}
 use Rattle.ingest_session.proofs.Sealing.{kept, told_kept, seals_were_absent}
-use Rattle.ingest_session.proofs.Waiting.{has_turn, on_and_off, waits_for_another}
+use Rattle.ingest_session.proofs.Waiting.{has_turn, on_and_off}
 
 same_back : {A : Type 0} (xs ys zs : List A) → xs ++ ys ≡ xs ++ zs → ys ≡ zs
 same_back [] ys zs is = is

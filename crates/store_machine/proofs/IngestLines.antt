@@ -1,5 +1,5 @@
 -- What is so after each line of an `ingest`: what its session has stored by then, and which step was refused.
-use Rattle.store_machine.proofs.Prelude.{◌≡◌, ◌≢◌, ◌⊎◌, inl, inr, ◌≤◌, ◌<◌, ℕ, Bool, true, false, [], ◌∷◌, ◌++◌, length, slice_index_or, slice_set, Option, Some, None, Result, Ok, Err, refl, sym, ◌∙◌, ap, subst, PinMap, MOST_FILE, PartKind, Refusal, LineValue, pushed_bytes, ReplyValue, Store, Asked, AllFollow, Follows, Ingest, IsPush, Lines, Replied, given_after, given_by, Done, Answers, ByState, Does, Legal, Refuses, AreTurns, Bars, Finishes, IsDueStep, Line, NothingIsDue, Pushes, Session, TurnsStop, actor_of, kind_at, kind_by, new_session, reply_of, session_of, step_of, takes, unless_refused, Found, Part, Idle, RunState, Running, Stopped, Writing, kind_of, part_in, Run, of_files}
+use Rattle.store_machine.proofs.Prelude.{◌≡◌, ◌⊎◌, inl, inr, ◌<◌, ℕ, Bool, true, false, [], ◌∷◌, ◌++◌, length, slice_index_or, slice_set, Option, Some, None, Result, Ok, Err, refl, sym, ◌∙◌, ap, subst, PinMap, MOST_FILE, Refusal, LineValue, pushed_bytes, ReplyValue, Store, Asked, AllFollow, Follows, Ingest, IsPush, Lines, Replied, given_after, given_by, Done, Answers, ByState, Does, Legal, Refuses, AreTurns, Bars, Finishes, IsDueStep, Line, NothingIsDue, Pushes, Session, TurnsStop, actor_of, kind_at, kind_by, new_session, reply_of, session_of, step_of, takes, unless_refused, Found, Part, Idle, RunState, Running, Stopped, Writing, kind_of, part_in, Run, of_files}
 use Rattle.std.proofs.Common.{List, append-nil, append_assoc}
 use Rattle.std.specs.FinMap as finite
 use Rattle.refusals.specs.declared.refusal.PartKind.TheVariants as kinds
@@ -17,7 +17,7 @@ use Rattle.store_machine.proofs.Ingesting.{D, Gives, Ready, index_set as session
 use Rattle.store_machine.proofs.Quiet.{F, Step, answers, by_of, due_is_quiet, step_done, told_ok, turns_go}
 use Rattle.store_machine.proofs.Restoring.{index_set, length_set}
 use Rattle.store_machine.proofs.Stepwise.{last_from}
-use Rattle.store_machine.proofs.Storing.{GoesOn, Stores, new_stores, stores_ended, stores_more, stores_still, turns_store}
+use Rattle.store_machine.proofs.Storing.{GoesOn, Stores, stores_ended, stores_more, stores_still, turns_store}
 
 -- ---- the first actor writes
 
@@ -252,7 +252,8 @@ module _ (name : List ℕ) (now : Found (List ℕ)) (opened : Store) where
           let legal = run_one (step_of of_files 0 step told) (step_of of_files 0 step told ∷ []) parts.0 mid.machine refl parts.2 in
           told_so parts.0 told is by turned.goes.state (answers 0 step told parts.0 mid.machine quiet turned.goes.state (by_of 0 step told parts.0 mid.machine quiet legal))
           (turned.goes.now ∙ goes.ready.same) (turned.given ∙ given_of s was) (turned.ended ∙ ended_of s was)
-          (turns_store opened made s t d.machine parts.0 goes.ready.runs turns parts.1 (stores_of s was)) (turns_write made s t d.machine parts.0 goes.ready.runs turns parts.1 goes.writes)
+          (turns_store opened made s t d.machine parts.0 goes.ready.runs turns parts.1 (stores_of s was))
+          (turns_write made s t d.machine parts.0 goes.ready.runs turns parts.1 goes.writes)
         where
           told_so : (k : F) (told : Result Done Refusal) → ss ≡ made ++ step_of of_files 0 step told ∷ [] → reply ≡ reply_of 0 told → k.state ≡ Running
               → Answers of_files 0 step told k mid.machine → k.now ≡ now → t.given ≡ given → t.ended ≡ ended → Stores opened t k → Writes k → So line
@@ -318,11 +319,14 @@ module _ (name : List ℕ) (now : Found (List ℕ)) (opened : Store) where
       finish_acts : ended ≡ false → Finishes of_files 0 reply ss d mid → So (lines.Finish 0)
       finish_acts off (s, (was, sessions), none, inl is) =
           let same : mid.machine ≡ d.machine = run_as [] none in
-          so (lines.Finish 0) (replies.Finished 0 (length s.given)) is
-          ((gives_now (record s { ended = true }) (sessions ∙ ap (λ (r : ReplyValue). slice_set d.sessions 0 (Some (unless_refused r (record s { ended = true }) s))) is) given true
-          (given_of s was) refl (ap (λ (x : F). x.now) same ∙ goes.ready.same) (ap (λ (x : F). x.state) same ∙ goes.ready.runs)
-          (stay_writes d.machine mid.machine (ap (λ (x : F). x.parts) same) goes.writes)
-          (subst (λ (x : F). Stores opened (record s { ended = true }) x) (sym same) (stores_ended opened s d.machine (ended_of s was ∙ off) (stores_of s was)))), refl)
+          so (lines.Finish 0) (replies.Finished 0 (length s.given)) is (
+            (gives_now (record s { ended = true })
+                (sessions ∙ ap (λ (r : ReplyValue). slice_set d.sessions 0 (Some (unless_refused r (record s { ended = true }) s))) is) given true
+                (given_of s was) refl (ap (λ (x : F). x.now) same ∙ goes.ready.same) (ap (λ (x : F). x.state) same ∙ goes.ready.runs)
+                (stay_writes d.machine mid.machine (ap (λ (x : F). x.parts) same) goes.writes)
+                (subst (λ (x : F). Stores opened (record s { ended = true }) x) (sym same) (stores_ended opened s d.machine (ended_of s was ∙ off) (stores_of s was)))),
+            refl,
+          )
       finish_acts off (s, (was, sessions), none, inr is) =
           refused_so (lines.Finish 0) refusals.Memory (λ refusal. refl) is (record {
             session = s;

@@ -1,5 +1,5 @@
 -- What the lines of an `ingest` come to: what they are refused by, what they add to the store, and what they print.
-use Rattle.store_machine.proofs.Prelude.{◌≡◌, ◌≢◌, ◌⊎◌, inl, inr, ◌≤◌, ◌<◌, ℕ, suc, Bool, true, false, [], ◌∷◌, ◌++◌, length, Option, Some, None, Result, Ok, Err, refl, sym, ◌∙◌, ap, subst, AllByRecursion, PinMap, first_unpinned, Kind, KindSegment, Segment, IsName, Put, LAST_ID, MOST_NAMES, RESERVE, PartKind, Refusal, LineValue, ReplyValue, Store, StoreChange, with_change, root_key, free_slots, last_id, Asked, AfterOpening, AllFollow, AreLinesOf, EndsRefused, EndsWith, Follows, Ingest, IsDone, IsNotOpened, Lines, MakesRoom, Makes, OnceOpened, Replied, desk, given_after, given_by, last_of, printed, text_of, AddsIn, IsDueOf, HasRoom, LacksNumbers, Refuses, RefusesClaim, RefusesCommit, RefusesSeal, IsDueStep, Line, NothingIsDue, Session, new_session, reply_of, step_of, Found, Running, kind_of, part_in, first_unkept, or_else, Reopens, of_files}
+use Rattle.store_machine.proofs.Prelude.{◌≡◌, ◌≢◌, ◌⊎◌, inl, inr, ◌≤◌, ◌<◌, ℕ, suc, true, false, [], ◌∷◌, ◌++◌, Option, Some, None, Err, refl, sym, ◌∙◌, ap, subst, AllByRecursion, PinMap, first_unpinned, Kind, KindSegment, Segment, Put, LAST_ID, MOST_NAMES, RESERVE, PartKind, Refusal, LineValue, ReplyValue, Store, StoreChange, with_change, root_key, free_slots, last_id, Asked, AfterOpening, AllFollow, AreLinesOf, EndsRefused, EndsWith, Follows, Ingest, IsDone, IsNotOpened, Lines, MakesRoom, Makes, OnceOpened, Replied, desk, given_after, given_by, last_of, printed, text_of, AddsIn, IsDueOf, HasRoom, LacksNumbers, Refuses, RefusesClaim, RefusesCommit, RefusesSeal, IsDueStep, Line, NothingIsDue, Session, new_session, reply_of, step_of, Found, Running, kind_of, part_in, first_unkept, or_else, Reopens, of_files}
 use Rattle.std.proofs.Common.{List, slice_get}
 use Rattle.std.specs.FinMap as finite
 use Rattle.std.proofs.lemmas.List.{append-nil}
@@ -126,9 +126,9 @@ module _ (name : List ℕ) (now : Found (List ℕ)) (opened : Store) (given : Li
     module _ (same : m.now ≡ now) (ended : s.ended ≡ true) (nothing : NothingIsDue of_files s) (commits : line ≡ lines.Commit 0 name) where
       holds : n ≡ m → AsksName name given n.store line
       holds others = (
-          commits,
-          subst (λ (g : List ℕ). HoldsFile g n.store) given_is
-          (subst (λ (x : F). HoldsFile s.given x.store) (sym others) (holds_file opened s m stores ended nothing)),
+        commits,
+        subst (λ (g : List ℕ). HoldsFile g n.store) given_is
+            (subst (λ (x : F). HoldsFile s.given x.store) (sym others) (holds_file opened s m stores ended nothing)),
       )
 
       commit_cause : (refusal : Refusal) → RefusesCommit of_files 0 name s.given refusal m n → Cause n refusal
@@ -361,11 +361,14 @@ module _ (name : List ℕ) (one : Replied) (more : List Replied) (ss : List Step
           opened_so : Went m.now one.reply [] mid → Opened m one.reply mid → WasOpened ⊎ NotOpened
           opened_so went (inl (files, reply_is, at, fresh)) =
               let begins : After name m.now mid.machine.store one.line one.reply [] made mid =
-              subst (λ (r : ReplyValue). After name m.now mid.machine.store one.line r [] made mid) (sym reply_is) (record {
-                ready = subst (λ (r : ReplyValue). Stage m.now r [] mid) reply_is went.stage;
-                rests = record { part = at.part_is; none = at.none; some = at.some };
-                stores = new_stores mid.machine.store mid.machine refl fresh.none_forgotten fresh.last;
-              }, refl) in
+              subst (λ (r : ReplyValue). After name m.now mid.machine.store one.line r [] made mid) (sym reply_is) (
+                record {
+                  ready = subst (λ (r : ReplyValue). Stage m.now r [] mid) reply_is went.stage;
+                  rests = record { part = at.part_is; none = at.none; some = at.some };
+                  stores = new_stores mid.machine.store mid.machine refl fresh.none_forgotten fresh.last;
+                },
+                refl,
+              ) in
               inl (record {
                 opened = mid.machine.store;
                 files = files;
@@ -417,9 +420,17 @@ module _ (name : List ℕ) (one : Replied) (more : List Replied) (ss : List Step
           how : How name m.now opened given last.line (refusals.Clash key at) ss is.session is.at e.machine → Asks key at
           how (inl (memory, same)) = absurd cc
           how (inr (inl (too_long, long, same))) = absurd cc
-          how (inr (inr (inl (step, writes, due, refuses, (before, steps))))) =
-              (before, (step, (steps, λ more come. subst (λ (g : List ℕ). AsksPieces (g ++ more) step) is.given_is
-              (due_asks opened is.session step due more (is.follow more come)))))
+          how (inr (inr (inl (step, writes, due, refuses, (before, steps))))) = (
+            before,
+            (
+              step,
+              (
+                steps,
+                λ more come. subst (λ (g : List ℕ). AsksPieces (g ++ more) step) is.given_is
+                    (due_asks opened is.session step due more (is.follow more come)),
+              ),
+            ),
+          )
           how (inr (inr (inr (commits, writes, ended, nothing, (right, refuses))))) = absurd refuses
 
       by : WasOpened ⊎ NotOpened → Asks key at

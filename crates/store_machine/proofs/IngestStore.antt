@@ -1,21 +1,17 @@
 -- What a step of an `ingest` that is refused leaves of the store.
-use Rattle.store_machine.proofs.Prelude.{◌≡◌, ◌⊎◌, inl, inr, ℕ, None, suc, Bool, true, false, [], ◌∷◌, ◌++◌, Some, Result, Ok, Err, refl, sym, ◌∙◌, ap, subst, AllByRecursion, KindSegment, Put, Refusal, LineValue, pushed_bytes, ReplyValue, Store, ChangeName, FlushContainer, FreeContainer, SealContainer, StoreChange, with_change, with_sealed, Asked, AfterOpening, IsNotOpened, OnceOpened, Makes, AllFollow, Follows, Ingest, IsDone, IsPush, Lines, Replied, given_after, given_by, Done, AddsIn, IsDueOf, broken_by, with_name, Answers, ByState, Does, Legal, Refuses, RefusesClaim, RefusesCommit, RefusesSeal, Bars, AreTurns, IsDueStep, Line, Pushes, Session, TurnsStop, reply_of, step_of, Found, RunState, Running, Stopped, Run, of_files}
+use Rattle.store_machine.proofs.Prelude.{◌≡◌, inl, inr, ℕ, None, suc, [], ◌∷◌, Some, Ok, refl, sym, ◌∙◌, ap, subst, KindSegment, Put, Refusal, ReplyValue, Store, with_sealed, Asked, Done, IsDueOf, broken_by, with_name, Refuses, RefusesClaim, RefusesCommit, RefusesSeal, IsDueStep, Session, reply_of, Found, Running, Stopped, of_files}
 use Rattle.std.proofs.Common.{List}
-use Rattle.std.proofs.lemmas.List.{append-nil, append_assoc}
+use Rattle.std.proofs.lemmas.List.{append-nil}
 use Rattle.container_meta.specs.Segments.{Contents}
 use Rattle.ingest_session.specs.declared.due.Due.TheVariants as dues
 use Rattle.refusals.specs.declared.refusal.Refusal.TheVariants as refusals
-use Rattle.script_lines.specs.Grammar as lines
 use Rattle.script_lines.specs.ReplyValue as replies
 use Rattle.store_model.specs.Trees.{root_of}
 use Rattle.store_machine.specs.Asked as asked
 use Rattle.store_machine.specs.Done as done
-use Rattle.store_machine.specs.Ingests.{IsBroken, IsSealFor}
-use Rattle.store_machine.specs.Lines.{Commits}
-use Rattle.store_machine.proofs.Ingesting.{D, Gives, Next, Ready, Stage, Went, next, run_one, run_parts, same_session}
-use Rattle.store_machine.proofs.Quiet.{F, Step, answers, by_of, due_is_quiet, step_done, told_ok, turns_go}
-use Rattle.store_machine.proofs.Stepwise.{Opened, ends_from, ends_so, last_from, opened_store}
-use Rattle.store_machine.proofs.SweptAlone.{makes_then}
+use Rattle.store_machine.specs.Ingests.{IsBroken}
+use Rattle.store_machine.proofs.Quiet.{F}
+use Rattle.store_machine.proofs.Stepwise.{Opened}
 
 -- a claim or a seal
 abbrev pub IsTurn : Asked (List ℕ) → Type 0

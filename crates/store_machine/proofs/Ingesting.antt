@@ -1,5 +1,5 @@
 -- The lines of an `ingest` put the file that was given under its name, and do nothing else of the names: what may be found at their end.
-use Rattle.store_machine.proofs.Prelude.{◌≡◌, ◌⊎◌, inl, inr, ◌≤◌, ◌<◌, ◌-◌, ◌^◌, ℕ, Bool, true, false, [], ◌∷◌, ◌++◌, length, slice_index_or, slice_set, Option, Some, None, Result, Ok, Err, refl, sym, ◌∙◌, ap, subst, arith, MOST_FILE, Refusal, LineValue, pushed_bytes, ReplyValue, Store, Asked, AllFollow, AreLinesOf, EndsRefused, EndsWith, Follows, Ingest, IsDone, IsPush, Lines, Replied, given_after, given_by, Done, HasRoomFor, IsPut, Answers, ByState, Does, HasNumbers, Legal, MayCommit, Refuses, RefusesCommit, with_name, Acts, Desk, Finishes, Line, Pushes, Session, TurnsStop, all_none, new_session, reply_of, session_of, step_of, unless_refused, Found, RunState, Running, Stopped, MayBeFound, Reopens, freeing, desk, Run, of_files}
+use Rattle.store_machine.proofs.Prelude.{◌≡◌, ◌⊎◌, inl, inr, ◌≤◌, ◌<◌, ◌-◌, ◌^◌, ℕ, Bool, true, false, [], ◌∷◌, ◌++◌, length, slice_index_or, slice_set, Option, Some, None, Result, Ok, Err, refl, sym, ◌∙◌, ap, subst, arith, MOST_FILE, Refusal, LineValue, pushed_bytes, ReplyValue, Store, AllFollow, AreLinesOf, EndsRefused, EndsWith, Follows, Ingest, IsDone, IsPush, Lines, Replied, given_after, given_by, Done, HasRoomFor, IsPut, Answers, ByState, Does, HasNumbers, Legal, MayCommit, Refuses, RefusesCommit, with_name, Acts, Desk, Finishes, Line, Pushes, Session, TurnsStop, all_none, new_session, reply_of, session_of, step_of, unless_refused, Found, RunState, Running, Stopped, MayBeFound, Reopens, freeing, desk, Run, of_files}
 use Rattle.std.proofs.Common.{List}
 use Rattle.refusals.specs.declared.refusal.Refusal.TheVariants as refusals
 use Rattle.script_lines.specs.Grammar as lines

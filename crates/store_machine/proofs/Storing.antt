@@ -1,5 +1,5 @@
 -- What the turns of a session have put into a store, and left out of it: pieces of its file, each of them once.
-use Rattle.store_machine.proofs.Prelude.{◌≡◌, ◌≢◌, ◌⊎◌, inl, inr, ◌∙◌, ◌≤◌, ◌<◌, ◌+◌, ℕ, suc, Bool, true, false, [], ◌∷◌, ◌++◌, length, Contains, Option, Some, None, Result, Ok, Err, refl, sym, ap, subst, arith, AllByRecursion, Kind, KindSegment, Segment, segment_key, HeaderValue, header_of, segments_of, Answer, Refusal, Store, SealContainer, ChangeName, FlushContainer, FreeContainer, StoreChange, with_sealed, first_free, free_slots, last_id, Claim, due_in, open_of, IsDueFor, History, HasHistory, SessionState, turn_node, IsSettled, of_kind, IsIn, Asked, Done, Makes, Claims, Does, Legal, Seals, AreTurns, IsDueStep, NothingIsDue, Session, answer_of, new_session, Machine, Running, Stepped, Run, of_files, IsDueOf}
+use Rattle.store_machine.proofs.Prelude.{◌≡◌, ◌≢◌, inl, inr, ◌∙◌, ◌≤◌, ◌<◌, ◌+◌, ℕ, suc, true, false, [], ◌∷◌, ◌++◌, length, Contains, Some, None, Result, Ok, refl, sym, ap, subst, arith, AllByRecursion, Kind, KindSegment, Segment, segment_key, header_of, segments_of, Answer, Refusal, Store, SealContainer, ChangeName, FlushContainer, FreeContainer, StoreChange, with_sealed, first_free, free_slots, last_id, Claim, due_in, open_of, IsDueFor, History, HasHistory, SessionState, turn_node, IsSettled, of_kind, IsIn, Asked, Done, Makes, Claims, Does, Legal, Seals, AreTurns, IsDueStep, NothingIsDue, Session, answer_of, new_session, Running, Run, of_files, IsDueOf}
 use Rattle.std.proofs.Common.{List, append_assoc, append-nil}
 use Rattle.actor_parts.specs.declared.step.Answer.TheVariants as answers
 use Rattle.container_meta.specs.declared.entry.Entry.{Entry}
@@ -9,7 +9,7 @@ use Rattle.container_meta.specs.Segments.{Contents, entries_from}
 use Rattle.container_meta.specs.Spelling.{IsHeader}
 use Rattle.base_model.specs.Bytes.{key_of}
 use Rattle.store_model.specs.Pieces.{HasPieceOf, piece_segment}
-use Rattle.store_model.specs.Slots.{newest, with_slot}
+use Rattle.store_model.specs.Slots.{newest}
 use Rattle.store_model.specs.Steps.{CanSeal}
 use Rattle.store_model.proofs.Filled.{last_new}
 use Rattle.store_model.proofs.NewestSealed.{entry_copy, newest_of_entries}
@@ -19,9 +19,7 @@ use Rattle.ingest_session.specs.declared.due.Due.TheVariants as dues
 use Rattle.ingest_session.specs.Due.{item_kind}
 use Rattle.ingest_session.specs.Facts.{IsKept, MayFollow}
 use Rattle.ingest_session.specs.History.{item_if}
-use Rattle.ingest_session.specs.Items.{item_of}
 use Rattle.ingest_session.specs.Moving.{IsOffered}
-use Rattle.ingest_session.specs.Told.{IsAnswerFor, told_by}
 use Rattle.ingest_session.proofs.Ends.{all_is_kept, bytes_are_counted}
 use Rattle.ingest_session.proofs.Facts.{opens_are_pieces, turns_are_pieces}
 use Rattle.ingest_session.proofs.KeptOn.{KeptBy, after_kept, kept_here, none_kept}
@@ -327,16 +325,20 @@ module _ (opened : Store) where
     seal_turn : (filled : Contents) (id : ℕ) → IsDueStep of_files s (asked.Seal filled) → Seals of_files 0 filled id m n → After (answers.Sealed id)
     seal_turn filled id (dues.Seal kind, is, filled_is) does =
         let whole : ◌≡◌ {A = Contents} filled (record { kind = kind; segments = (open_of is.session kind).segments }) = filled_is ∙ open_is is.session is.history is.has kind in
-        let due_of : IsDueOf is.history.given (asked.Seal filled) =
-        (s.ended, s.answers, subst (λ (g : List ℕ). IsDueStep of_files (record { given = g; ended = s.ended; answers = s.answers }) (asked.Seal filled)) (sym is.given_is)
-        (dues.Seal kind, is, filled_is)) in
+        let due_of : IsDueOf is.history.given (asked.Seal filled) = (
+          s.ended,
+          s.answers,
+          subst (λ (g : List ℕ). IsDueStep of_files (record { given = g; ended = s.ended; answers = s.answers }) (asked.Seal filled)) (sym is.given_is)
+              (dues.Seal kind, is, filled_is),
+        ) in
         there (dues.Seal kind) is (answers.Sealed id)
         (sealed_stores is.session is.history is.has m n (here (dues.Seal kind) is) id kind is.settled is.due_is
         (subst (λ (c : Contents). IsDueOf is.history.given (asked.Seal c)) whole due_of) (subst (λ (c : Contents). Seals of_files 0 c id m n) whole does))
     seal_turn filled id (dues.Claim, is, asks) does = absurd asks
     seal_turn filled id (dues.Nothing, is, asks) does = absurd asks
 
-    turn_stores : (step : Asked (List ℕ)) (answer : Done) (told : Answer) → IsDueStep of_files s step → answer_of (Ok answer) ≡ Some told → Does of_files 0 step answer m n → After told
+    turn_stores : (step : Asked (List ℕ)) (answer : Done) (told : Answer) → IsDueStep of_files s step → answer_of (Ok answer) ≡ Some told
+        → Does of_files 0 step answer m n → After told
     turn_stores (asked.Claim seg) done.Held told due is does = subst After (same_some answers.Held told is) (held_turn seg due does)
     turn_stores (asked.Claim seg) done.Absent told due is (keeps, lacks, others) = subst After (same_some answers.Absent told is) (absent_turn seg due (lacks (inl tt)) others)
     turn_stores (asked.Seal filled) (done.Sealed id) told due is does = subst After (same_some (answers.Sealed id) told is) (seal_turn filled id due does)

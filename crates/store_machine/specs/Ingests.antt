@@ -18,7 +18,6 @@ use Rattle.script_lines.specs.Grammar.{LineValue, pushed_bytes}
 use Rattle.script_lines.specs.Grammar as lines
 use Rattle.store_model.specs.Image.{Store}
 use Rattle.store_model.specs.Refusals.{root_key}
-use Rattle.store_model.specs.Pieces.{HasPieceOf}
 use Rattle.store_model.specs.Slots.{free_slots, last_id}
 use Rattle.store_model.specs.Steps.{SealContainer, StoreChange, with_change, with_sealed}
 use Rattle.store_model.specs.Trees.{root_of}
@@ -77,8 +76,8 @@ LacksPin given key pins = ((seg : KindSegment) × IsTurnOf given seg × (first_u
 abbrev pub AsksName : (name given : List ℕ) → Store → LineValue → Type 0
 AsksName name given store line = (line ≡ lines.Commit 0 name) × HoldsFile given store
 
--- Why its last line is refused, by the machine that this left: of a container that finds no slot, or no id, a piece is held by nothing; once
--- all of them are held the name counts. Want of memory is free, and a call of the disk that failed is told by its count of faults.
+-- Why its last line is refused, by the machine that this left: of a container that finds no slot, or no id, a piece is held by nothing;
+-- once all of them are held the name counts. Want of memory is free, and a call of the disk that failed is told by its count of faults.
 abbrev pub IngestRefusal : (name given : List ℕ) → Found (List ℕ) → FileMachine → LineValue → Refusal → Type 0
 IngestRefusal name given now n line TooLong = IsTooLong given line
 IngestRefusal name given now n line BadName = ¬ (IsName name) × AsksName name given n.store line
@@ -86,7 +85,8 @@ IngestRefusal name given now n line TooMany =
     IsName name × (finite.get now.names name ≡ None) × (MOST_NAMES ≤ finite.len now.names) × AsksName name given n.store line
 IngestRefusal name given now n line (Full free) =
     (free ≡ free_slots n.store.held) × (free ≤ RESERVE) × OfWhole given line (λ file. LacksPiece file n.store)
-IngestRefusal name given now n line Numbers = ((LAST_ID ≤ n.last_id) × (n.last_id ≡ last_id n.store.held) × (RESERVE < free_slots n.store.held)
+IngestRefusal name given now n line Numbers =
+    ((LAST_ID ≤ n.last_id) × (n.last_id ≡ last_id n.store.held) × (RESERVE < free_slots n.store.held)
     × OfWhole given line (λ file. LacksPiece file n.store))
     ⊎ (IsName name × HasRoom of_files name n × LacksNumbers of_files n × AsksName name given n.store line)
 IngestRefusal name given now n line (Clash key at) = (seg : KindSegment) × IsTurnOf given seg × IsClash n.store n.forgotten seg key at
@@ -154,8 +154,8 @@ IngestsByMap = (name : List ℕ) (rs : List Replied) (ss : List (Stepped (List �
 abbrev pub IngestsClash : Type 0
 IngestsClash = (name : List ℕ) (rs : List Replied) (ss : List (Stepped (List ℕ))) (m : FileMachine) (e : Desk (List ℕ) (List (List ℕ)))
     → m.state ≡ Running → AreLinesOf (Ingest name) rs → Lines of_files rs ss (desk m) e
-    → (key : List ℕ) (at : Difference) → (end : EndsRefused (Clash key at) rs) → (before : List (Stepped (List ℕ))) × ((step : Asked (List ℕ))
-    × ((ss ≡ before ++ step_of of_files 0 step (Err (Clash key at)) ∷ [])
+    → (key : List ℕ) (at : Difference) → (end : EndsRefused (Clash key at) rs)
+    → (before : List (Stepped (List ℕ))) × ((step : Asked (List ℕ)) × ((ss ≡ before ++ step_of of_files 0 step (Err (Clash key at)) ∷ [])
     × OfWhole (given_by 0 [] rs) end.0.line (λ file. AsksPieces file step)))
 
 -- ---- at each moment of their steps

@@ -1,5 +1,5 @@
 -- An `ingest` answers by the map, by the law of its lines.
-use Rattle.backup_engine.proofs.Prelude.{◌≡◌, ◌⊎◌, inl, inr, ℕ, List, [], ◌∷◌, ◌++◌, Option, Some, None, refl, sym, ◌∙◌, ap, subst, DiskView, SinkView, SourceView, Refusal, DiskWrite, Memory, Sink, Refused, stored_line, ReplyValue, ByteSet, IsIn, OpensAs, Stored, with_stored, Store, IsSegmentOf, root_of, FileMachine, ListsThrough, Replied, Found, RunState, MayBeFound, of_files, stored_in, unopened, AnswersByMap, AnswersEachCall, IsLeftAs, Wrote, CutsAmong, RunsByFiles, Ingest, CanBeDone, WroteReply, Digits, IsIngest, finish_lines, pushed, push_lines, refused, said, DoesCommand, Adds, HasTwins, IsCaused}
+use Rattle.backup_engine.proofs.Prelude.{◌≡◌, ◌⊎◌, inl, inr, ℕ, List, [], ◌∷◌, ◌++◌, Option, Some, None, refl, sym, ◌∙◌, ap, subst, DiskView, SinkView, SourceView, Refusal, DiskWrite, Memory, Sink, Refused, stored_line, ReplyValue, ByteSet, IsIn, OpensAs, Stored, with_stored, Store, IsSegmentOf, root_of, FileMachine, ListsThrough, Replied, Found, RunState, MayBeFound, of_files, stored_in, unopened, AnswersByMap, AnswersEachCall, IsLeftAs, Wrote, CutsAmong, RunsByFiles, Ingest, CanBeDone, WroteReply, Digits, IsIngest, finish_lines, pushed, push_lines, refused, said, DoesCommand, Adds, HasNoCollisions}
 use Rattle.std.proofs.lemmas.List.{append-nil}
 use Rattle.reply_text.specs.declared.ending.Ending.{Ending}
 use Rattle.reply_text.specs.declared.ending.Ending.TheVariants.{Source}
@@ -7,7 +7,6 @@ use Rattle.script_lines.specs.Grammar as lines
 use Rattle.script_lines.specs.ReplyValue as replies
 use Rattle.store_machine.specs.Ingests.{Ingested, IngestsByMap, IngestsClash, IngestsThrough, IsPut}
 use Rattle.store_machine.specs.Commands as machine
-use Rattle.refusals.specs.declared.refusal.Refusal.TheVariants.{Unpinned}
 use Rattle.backup_engine.specs.AnswersByMap.{EndsBy}
 use Rattle.backup_engine.specs.Singles.{begun}
 use Rattle.backup_engine.proofs.AnswersByMap.{AnswersOpened, answers_call, is_write}
@@ -82,7 +81,7 @@ module _ (given name : List ℕ) where
   -- ---- what it answers
 
   module _ (S : List ℕ → Type 0) (m : Stored) (store : Store) (v w : DiskView) (was : WasStore m store v) (ingests : IngestsByMap) (clashes : IngestsClash)
-      (through : IngestsThrough) where
+      (through : IngestsThrough) (distinct : HasNoCollisions S) (given_in : (bytes : List ℕ) → IsSegmentOf given bytes → S bytes) where
     module _ (pushes : List Digits) (tail : Tail) (is : IsTail given name pushes tail) (runs : RunsByFiles S (put_lines given name pushes tail) (unopened m store) v w) where
       abbrev rs : List Replied
       rs = put_lines given name pushes tail
@@ -153,44 +152,40 @@ module _ (given name : List ℕ) where
     -- why it was refused
     module _ (pushes : List Digits) (tail : Tail) (is : IsTail given name pushes tail) (runs : RunsByFiles S (put_lines given name pushes tail) (unopened m store) v w)
         (refusal : Refusal) (refuses : (tail_end given name tail (last_push given name begun 0 pushes)).reply ≡ replies.Refused refusal)
-        (twins : (key : List ℕ) → refusal ≡ Unpinned key → HasTwins given key) (sink sink_now : SinkView)
-        (wrote : Wrote (Ingest name) given m (Some (Refused refusal)) sink sink_now) where
+        (sink sink_now : SinkView) (wrote : Wrote (Ingest name) given m (Some (Refused refusal)) sink sink_now) where
       refused_answers : ((x : Found (List ℕ)) → MayBeFound of_files (end pushes tail is runs).state (end pushes tail is runs).now x → (d : List ℕ) → OpensAs S (stored_in x) d
           → IsLeftAs S (Ingest name) given m (Some (Refused refusal)) d) → AnswersByMap S (Ingest name) given (Some (Refused refusal)) m v w sink sink_now
       refused_answers leaves =
           ingest_answers pushes tail is runs (Some (Refused refusal)) sink sink_now tt leaves
-          (refused_by given name S m store v w was ingests pushes tail is runs refusal refuses twins clashes) wrote
+          (refused_by given name S m store v w was ingests pushes tail is runs refusal refuses clashes distinct given_in) wrote
           (refused_adds given name S m store v w was ingests pushes tail is runs refusal refuses (is_write refusal))
-
-    abbrev Twins : Option Ending → Type 0
-    Twins ending = (refusal : Refusal) → ending ≡ Some (Refused refusal) → (key : List ℕ) → refusal ≡ Unpinned key → HasTwins given key
 
     -- by the ending
     put_answers : (ending : Option Ending) (tail : Tail) → EndsAs ending tail → (pushes : List Digits) → IsTail given name pushes tail
-        → RunsByFiles S (put_lines given name pushes tail) (unopened m store) v w → Twins ending → (sink sink_now : SinkView)
+        → RunsByFiles S (put_lines given name pushes tail) (unopened m store) v w → (sink sink_now : SinkView)
         → Wrote (Ingest name) given m ending sink sink_now → AnswersByMap S (Ingest name) given ending m v w sink sink_now
-    put_answers None (Commit (replies.Committed a sequence)) ends pushes is runs twins sink sink_now wrote =
+    put_answers None (Commit (replies.Committed a sequence)) ends pushes is runs sink sink_now wrote =
         ingest_answers pushes (Commit (replies.Committed a sequence)) is runs None sink sink_now (committed_can pushes (replies.Committed a sequence) is runs tt)
         (committed_left pushes (replies.Committed a sequence) is runs tt) (committed_can pushes (replies.Committed a sequence) is runs tt) wrote
         (done_adds given name S m store v w was ingests pushes (Commit (replies.Committed a sequence)) is runs refl tt)
-    put_answers (Some Sink) (Commit (replies.Committed a sequence)) ends pushes is runs twins sink sink_now wrote =
+    put_answers (Some Sink) (Commit (replies.Committed a sequence)) ends pushes is runs sink sink_now wrote =
         ingest_answers pushes (Commit (replies.Committed a sequence)) is runs (Some Sink) sink sink_now (committed_can pushes (replies.Committed a sequence) is runs tt)
         (committed_left pushes (replies.Committed a sequence) is runs tt) (committed_can pushes (replies.Committed a sequence) is runs tt) wrote
         (done_adds given name S m store v w was ingests pushes (Commit (replies.Committed a sequence)) is runs refl tt)
-    put_answers (Some Source) Nothing ends pushes is runs twins sink sink_now wrote =
+    put_answers (Some Source) Nothing ends pushes is runs sink sink_now wrote =
         ingest_answers pushes Nothing is runs (Some Source) sink sink_now tt
         (λ x may d opens. as_found S x (Now m) d (still pushes Nothing is runs (λ none. none) x may) opens) (name, refl) wrote
         (source_adds given name S m store v w was ingests pushes Nothing is runs refl)
-    put_answers (Some (Refused refusal)) (Push digits reason) ends pushes is runs twins sink sink_now wrote =
-        refused_answers pushes (Push digits reason) is runs refusal (ap replies.Refused (sym ends)) (twins refusal refl) sink sink_now wrote
+    put_answers (Some (Refused refusal)) (Push digits reason) ends pushes is runs sink sink_now wrote =
+        refused_answers pushes (Push digits reason) is runs refusal (ap replies.Refused (sym ends)) sink sink_now wrote
         (λ x may d opens. same_left refusal d (as_found S x (Now m) d (still pushes (Push digits reason) is runs (λ none. none) x may) opens))
-    put_answers (Some (Refused refusal)) (Finish reason) ends pushes is runs twins sink sink_now wrote =
-        refused_answers pushes (Finish reason) is runs refusal (ap replies.Refused (sym ends)) (twins refusal refl) sink sink_now wrote
+    put_answers (Some (Refused refusal)) (Finish reason) ends pushes is runs sink sink_now wrote =
+        refused_answers pushes (Finish reason) is runs refusal (ap replies.Refused (sym ends)) sink sink_now wrote
         (λ x may d opens. same_left refusal d (as_found S x (Now m) d (still pushes (Finish reason) is runs (λ none. none) x may) opens))
-    put_answers (Some (Refused refusal)) (Commit (replies.Refused reason)) ends pushes is runs twins sink sink_now wrote =
-        refused_answers pushes (Commit (replies.Refused reason)) is runs refusal (ap replies.Refused (sym ends)) (twins refusal refl) sink sink_now wrote
+    put_answers (Some (Refused refusal)) (Commit (replies.Refused reason)) ends pushes is runs sink sink_now wrote =
+        refused_answers pushes (Commit (replies.Refused reason)) is runs refusal (ap replies.Refused (sym ends)) sink sink_now wrote
         (uncommitted_left pushes (replies.Refused reason) is runs refusal (ap replies.Refused (sym ends)))
-    put_answers ending tail ends pushes is runs twins sink sink_now wrote = absurd ends
+    put_answers ending tail ends pushes is runs sink sink_now wrote = absurd ends
 
   -- ---- of a call
 
@@ -203,25 +198,6 @@ module _ (given name : List ℕ) where
       | inr none ↦ subst (λ (e : Option Ending). WroteReply (stored_line name (root_of given)) e sink sink_now) (sym none.ending_is)
           (ap (λ (s : SinkView). s.written) none.sink_is)
     ]
-
-    -- where a pin was lacked two nodes of the file have one digest
-    ingest_twins : (rs ≡ [] → ⊥) → (refusal : Refusal) → ending ≡ Some (Refused refusal) → (key : List ℕ) → refusal ≡ Unpinned key → HasTwins given key
-    ingest_twins some refusal is key same = elim does.way [
-      | inl (inl ((keeps, speaks), no_room)) ↦ unpinned_twins (view old) keeps.any.caused
-      | inl (inr (mid, (made, later, (keeps, speaks)))) ↦ unpinned_twins (view mid) keeps.any.caused
-      | inr none ↦ absurd (some none.none)
-    ]
-      where
-        here : ending ≡ Some (Refused (Unpinned key))
-        here = is ∙ ap (λ (r : Refusal). Some (Refused r)) same
-
-        unpinned_twins : (d : DiskView) → IsCaused (Ingest name) given d (view new) source source_now sink sink_now ending → HasTwins given key
-        unpinned_twins d caused = by (subst (IsCaused (Ingest name) given d (view new) source source_now sink sink_now) here caused)
-          where
-            by : IsCaused (Ingest name) given d (view new) source source_now sink sink_now (Some (Refused (Unpinned key))) → HasTwins given key
-            by (inl (cause, same)) = absurd cause
-            by (inr (added, inl twins)) = twins
-            by (inr (added, inr unlike)) = absurd unlike.refused
 
     same_written : (refusal : Refusal) → ending ≡ Some (Refused refusal) → sink_now.written ≡ sink.written
     same_written refusal is = subst (λ (e : Option Ending). WroteReply (stored_line name (root_of given)) e sink sink_now) is ingest_wrote
@@ -236,9 +212,9 @@ module _ (given name : List ℕ) where
     ingest_spoken ingests clashes through are = elim (ingest_so ending source source_now rs are) [
       | inl none ↦ inl none
       | inr (tail, ((pushes, (is, lines_are)), ends)) ↦ inr (λ among m first distinct given_in known opens runs.
-          put_answers (IsIn among) m opens.store (view old) (view new) (was_store (IsIn among) m (view old) first known opens) ingests clashes through ending tail ends pushes is
-          (subst (λ (l : List Replied). RunsByFiles (IsIn among) l (unopened m opens.store) (view old) (view new)) lines_are runs)
-          (ingest_twins (λ none. let wrong : put_lines given name pushes tail ≡ [] = sym lines_are ∙ none in cc)) sink sink_now ingest_wrote)
+          put_answers (IsIn among) m opens.store (view old) (view new) (was_store (IsIn among) m (view old) first known opens) ingests clashes through distinct given_in
+          ending tail ends pushes is
+          (subst (λ (l : List Replied). RunsByFiles (IsIn among) l (unopened m opens.store) (view old) (view new)) lines_are runs) sink sink_now ingest_wrote)
     ]
 
     ingest_cuts : IsIngest name given ending source source_now rs → (among : ByteSet) → ((bytes : List ℕ) → IsSegmentOf given bytes → IsIn among bytes) → (m : FileMachine)

@@ -1,5 +1,5 @@
 -- What an `ingest` made of the store, and why it was refused, by the law of its lines.
-use Rattle.backup_engine.proofs.Prelude.{◌≡◌, ◌⊎◌, inl, inr, ◌≤◌, ◌<◌, ◌+◌, ◌^◌, ◌-◌, ℕ, zero, suc, true, false, List, [], ◌∷◌, ◌++◌, length, slice_get, Option, Some, option_map, Result, Ok, Err, refl, sym, ◌∙◌, ap, subst, arith, AllByRecursion, sha256, KnownWith, DiskView, Leaf, Tree, KindSegment, Segment, header_of, IsName, half_cells, MOST_FILE, RESERVE, spelling, Memory, BadName, TooLong, Full, Clash, Numbers, DiskRead, DiskWrite, Length, Byte, Refusal, Refused, pushed_bytes, Data, Node, HasPieceOf, piece_bytes, piece_key, piece_segment, bytes_at, free_slots, newest, Store, Encodes, store_once, Put, StoreChange, SealContainer, ChangeName, FlushContainer, FreeContainer, with_change, root_of, FileMachine, MakesRoom, RunsWith, EndsWith, Replied, Found, Running, RunState, of_files, MayStand, unopened, ChangesTo, Adds, AddsOnce, AddsTo, RunsByFiles, Ingest, IsLeftWith, RefusedBy, HasTwins, Digits, pushed, refused, said, Stored}
+use Rattle.backup_engine.proofs.Prelude.{◌≡◌, ◌⊎◌, inl, inr, ◌≤◌, ◌<◌, ◌+◌, ◌^◌, ◌-◌, ℕ, zero, suc, true, false, List, [], ◌∷◌, ◌++◌, length, slice_get, Option, Some, option_map, Result, Ok, Err, refl, sym, ◌∙◌, ap, subst, arith, AllByRecursion, sha256, KnownWith, DiskView, Leaf, Tree, KindSegment, Segment, header_of, IsName, half_cells, MOST_FILE, RESERVE, spelling, Memory, BadName, TooLong, Full, Clash, Numbers, DiskRead, DiskWrite, Length, Byte, Refusal, Refused, pushed_bytes, Data, Node, HasPieceOf, piece_bytes, piece_key, piece_segment, bytes_at, free_slots, newest, Store, Encodes, store_once, Put, StoreChange, SealContainer, ChangeName, FlushContainer, FreeContainer, with_change, root_of, FileMachine, MakesRoom, RunsWith, EndsWith, Replied, Found, Running, RunState, of_files, MayStand, unopened, ChangesTo, Adds, AddsOnce, AddsTo, RunsByFiles, Ingest, IsLeftWith, RefusedBy, HasTwins, Digits, pushed, refused, said, Stored, HasNoCollisions, IsSegmentOf, IsPieceOf, ◌≢◌, Piece}
 use Rattle.std.specs.FinMap as finite
 use Rattle.std.proofs.Common.{is_some}
 use Rattle.std.proofs.lemmas.List.{append-nil, length-append}
@@ -35,6 +35,7 @@ use Rattle.store_machine.specs.Needs as needs
 use Rattle.store_machine.specs.Opening.{Stands}
 use Rattle.store_machine.specs.Needs.{HasLength}
 use Rattle.store_machine.specs.Runs.{Run}
+use Rattle.store_machine.specs.Twins.{PiecesAreTwins}
 use Rattle.store_machine.specs.Storing as storing
 use Rattle.store_machine.specs.Storing.{AsksPieces, HoldsFile, MayCome}
 use Rattle.core_machine.specs.Bytes.{BytesOf, ClashesWith}
@@ -179,6 +180,27 @@ clash_twin S given step key at n new st runs same_store right asks l = by step a
         (all_held l.old new 0 st.held (subst (λ (count : ℕ). SameSlots 0 count l.old new) (sym here.many) slots))
         (ap (λ (x : Store). newest 0 x.held key) (sym twin) ∙ clash.copy_is))
     by step asks stays bytes = absurd asks
+
+-- ---- two pieces of one key
+
+same_digest : (a b : ℕ) (xs ys : List ℕ) → a ∷ xs ≡ b ∷ ys → xs ≡ ys
+same_digest a b xs ys is = cc
+
+first_same : (a b : ℕ) (xs ys : List ℕ) → a ∷ xs ≡ b ∷ ys → a ≡ b
+first_same a b xs ys is = cc
+
+-- they are nodes, as no two segments have one digest
+two_nodes : (S : List ℕ → Type 0) (given key : List ℕ) → HasNoCollisions S → ((bytes : List ℕ) → IsSegmentOf given bytes → S bytes) → PiecesAreTwins given key → HasTwins given key
+two_nodes S given key distinct given_in twins =
+    by twins.one twins.other twins.one_of twins.other_of twins.differ (sym twins.one_key ∙ twins.other_key) twins.one_key twins.other_key
+  where
+    by : (p q : Piece) → IsPieceOf given p → IsPieceOf given q → piece_bytes p ≢ piece_bytes q → piece_key p ≡ piece_key q → key ≡ piece_key p → key ≡ piece_key q
+        → HasTwins given key
+    by (Data a) (Data b) one other differ same one_key other_key =
+        absurd (differ (distinct a b (given_in a one) (given_in b other) (same_digest 0 0 (sha256 a) (sha256 b) same)))
+    by (Node n) (Node m) one other differ same one_key other_key = (n, m, one, other, λ is. differ (ap spelling is), one_key, other_key)
+    by (Data a) (Node m) one other differ same one_key other_key = absurd (omega (arith, first_same 0 1 (sha256 a) (sha256 (spelling m)) same))
+    by (Node n) (Data b) one other differ same one_key other_key = absurd (omega (arith, first_same 1 0 (sha256 (spelling n)) (sha256 b) same))
 
 -- ---- the lines
 
@@ -362,7 +384,7 @@ module _ (given name : List ℕ) (S : List ℕ → Type 0) (m : Stored) (store :
         let now = is_store S rs m store v w runs end.store at in
         last_within end.store.held (headers_of_right now.0 end.store now.2)
 
-    module _ (twins : (key : List ℕ) → refusal ≡ Unpinned key → HasTwins given key) (clashes : IngestsClash) where
+    module _ (clashes : IngestsClash) (distinct : HasNoCollisions S) (given_in : (bytes : List ℕ) → IsSegmentOf given bytes → S bytes) where
       -- what clashed is a node of the file
       clash_left : (key : List ℕ) (at : Difference) → refusal ≡ Clash key at → RefusedBy (Ingest name) given m v.content w.content (Clash key at)
       clash_left key at same =
@@ -443,8 +465,9 @@ module _ (given name : List ℕ) (S : List ℕ → Type 0) (m : Stored) (store :
           lacking same_now (inl most) = inl (ap (λ (x : Found (List ℕ)). x.last) (sym same_now) ∙ most)
           lacking same_now (inr full) = inr full
       refused_ends (Clash key at) same may = clash_left key at same
-      refused_ends (Unpinned key) same may =
-          left refused_undone (refused_whole (λ write. let wrong : Unpinned key ≡ DiskWrite = sym same ∙ write in cc)) (λ s. HasTwins given key) (twins key same)
+      refused_ends (Unpinned key) same (lacks, twins) =
+          left refused_undone (refused_whole (λ write. let wrong : Unpinned key ≡ DiskWrite = sym same ∙ write in cc)) (λ s. HasTwins given key)
+          (two_nodes S given key distinct given_in (subst (λ (g : List ℕ). PiecesAreTwins g key) whole (twins comes.0 comes.1.1)))
       refused_ends r same may = absurd may
 
       pub refused_by : RefusedBy (Ingest name) given m v.content w.content refusal

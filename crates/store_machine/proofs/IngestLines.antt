@@ -1,5 +1,5 @@
 -- What is so after each line of an `ingest`: what its session has stored by then, and which step was refused.
-use Rattle.store_machine.proofs.Prelude.{◌≡◌, ◌⊎◌, inl, inr, ◌<◌, ℕ, Bool, true, false, [], ◌∷◌, ◌++◌, length, slice_index_or, slice_set, Option, Some, None, Result, Ok, Err, refl, sym, ◌∙◌, ap, subst, PinMap, MOST_FILE, Refusal, LineValue, pushed_bytes, ReplyValue, Store, Asked, AllFollow, Follows, Ingest, IsPush, Lines, Replied, given_after, given_by, Done, Answers, ByState, Does, Legal, Refuses, AreTurns, Bars, Finishes, IsDueStep, Line, NothingIsDue, Pushes, Session, TurnsStop, actor_of, kind_at, kind_by, new_session, reply_of, session_of, step_of, takes, unless_refused, Found, Part, Idle, RunState, Running, Stopped, Writing, kind_of, part_in, Run, of_files}
+use Rattle.store_machine.proofs.Prelude.{◌≡◌, ◌⊎◌, inl, inr, ◌<◌, ℕ, Bool, true, false, [], ◌∷◌, ◌++◌, length, slice_index_or, slice_set, Option, Some, None, Result, Ok, Err, refl, sym, ◌∙◌, ap, subst, MOST_FILE, Refusal, LineValue, pushed_bytes, ReplyValue, Store, Asked, AllFollow, Follows, Ingest, IsPush, Lines, Replied, given_after, given_by, Done, Answers, ByState, Refuses, AreTurns, Bars, Finishes, IsDueStep, Line, NothingIsDue, Pushes, Session, TurnsStop, actor_of, kind_at, kind_by, new_session, reply_of, session_of, step_of, takes, unless_refused, Found, Part, Idle, RunState, Running, Stopped, Writing, kind_of, part_in, Run, of_files}
 use Rattle.std.proofs.Common.{List, append-nil, append_assoc}
 use Rattle.std.specs.FinMap as finite
 use Rattle.refusals.specs.declared.refusal.PartKind.TheVariants as kinds
@@ -12,58 +12,35 @@ use Rattle.store_machine.specs.Ingests.{IsTooLong}
 use Rattle.store_machine.specs.Legal.{Commits as IsCommitted}
 use Rattle.store_machine.specs.Lines.{Commits}
 use Rattle.store_machine.specs.Storing.{MayCome}
-use Rattle.store_machine.proofs.IngestStore.{IsRefusal, IsTurn, due_is_turn, unrefused}
+use Rattle.store_machine.proofs.IngestStore.{IsRefusal, unrefused}
 use Rattle.store_machine.proofs.Ingesting.{D, Gives, Ready, index_set as session_set, length_set as sessions_set, run_one, run_parts, same_session}
-use Rattle.store_machine.proofs.Quiet.{F, Step, answers, by_of, due_is_quiet, step_done, told_ok, turns_go}
+use Rattle.store_machine.proofs.Pinned.{new_pinned, pinned_ended, pinned_more}
+use Rattle.store_machine.proofs.Quiet.{F, Step, answers, by_of, due_is_quiet, turns_go}
 use Rattle.store_machine.proofs.Restoring.{index_set, length_set}
 use Rattle.store_machine.proofs.Stepwise.{last_from}
+use Rattle.store_machine.proofs.TwinSteps.{Writes as Keeps, turns_on}
 use Rattle.store_machine.proofs.Storing.{GoesOn, Stores, stores_ended, stores_more, stores_still, turns_store}
 
 -- ---- the first actor writes
 
-pub record Writes (m : F) : Type 0 where
-  pub pins : PinMap
-  pub is : part_in m 0 ≡ Writing pins
+-- and has pinned what is kept of what it gives
+pub record Writes (m : F) (s : Session) : Type 0 where
+  pub keeps : Keeps m 0 s
   pub some : 0 < length m.parts
 
-abbrev Parts : Type 0
-Parts = List (Part (List ℕ) (List (List ℕ)))
+turns_write : (xs : List Step) (s t : Session) (m n : F) → AreTurns of_files 0 xs s t → Run of_files xs m n → Writes m s → Writes n t
+turns_write xs s t m n turns run w =
+    let went = turns_on of_files 0 xs s t m n turns run w.some w.keeps in
+    record { keeps = went.writes; some = subst (λ (count : ℕ). 0 < count) (sym went.beside.many) w.some }
 
-put_writes : (m n : F) (pins : PinMap) → 0 < length m.parts → n.parts ≡ slice_set m.parts 0 (Writing pins) → Writes n
-put_writes m n pins some is = record {
-  pins = pins;
-  is = ap (λ (ps : Parts). slice_index_or ps 0 Idle) is ∙ index_set m.parts (Writing pins) some;
-  some = subst (λ (ps : Parts). 0 < length ps) (sym is) (length_set m.parts (Writing pins) some);
-}
+-- more is given, or that was all of it
+more_writes : (m : F) (s : Session) (bytes : List ℕ) → s.ended ≡ false → Writes m s → Writes m (record s { given = s.given ++ bytes })
+more_writes m s bytes off w =
+    record { keeps = record { pins = w.keeps.pins; is = w.keeps.is; pinned = pinned_more s w.keeps.pins bytes off w.keeps.pinned }; some = w.some }
 
-stay_writes : (m n : F) → n.parts ≡ m.parts → Writes m → Writes n
-stay_writes m n is w = record {
-  pins = w.pins;
-  is = ap (λ (ps : Parts). slice_index_or ps 0 Idle) is ∙ w.is;
-  some = subst (λ (ps : Parts). 0 < length ps) (sym is) w.some;
-}
-
--- ---- turns
-
-turn_writes : (step : Asked (List ℕ)) (answer : Done) (m n : F) → IsTurn step → Writes m → Does of_files 0 step answer m n → Writes n
-turn_writes (asked.Claim seg) done.Held m n turn w does = put_writes m n _ w.some (ap (λ (x : F). x.parts) does.others)
-turn_writes (asked.Claim seg) done.Absent m n turn w (keeps, told, others) = stay_writes m n (ap (λ (x : F). x.parts) others) w
-turn_writes (asked.Seal filled) (done.Sealed id) m n turn w does = put_writes m n _ w.some (ap (λ (x : F). x.parts) does.others)
-turn_writes (asked.Claim seg) answer m n turn w does = absurd does
-turn_writes (asked.Seal filled) answer m n turn w does = absurd does
-turn_writes step answer m n turn w does = absurd turn
-
-turns_write : (xs : List Step) (s t : Session) (m n : F) → m.state ≡ Running → AreTurns of_files 0 xs s t → Run of_files xs m n → Writes m → Writes n
-turns_write [] s t m n runs turns run w = stay_writes m n (ap (λ (x : F). x.parts) run) w
-turns_write (x ∷ xs) s t m n runs (actor, due, (answer, told, more)) (mid, (legal, run)) w =
-    let d = told_ok x.answer answer told in
-    let quiet = due_is_quiet s x.asked due in
-    let own : Legal of_files (record { actor = 0; asked = x.asked; answer = Ok d.0 }) m mid =
-    subst (λ (a : ℕ). Legal of_files (record { actor = a; asked = x.asked; answer = Ok d.0 }) m mid) actor
-    (subst (λ (r : Result Done Refusal). Legal of_files (record { actor = x.actor; asked = x.asked; answer = r }) m mid) d.1 legal) in
-    let does : Does of_files 0 x.asked d.0 m mid = answers 0 x.asked (Ok d.0) m mid quiet runs (by_of 0 x.asked (Ok d.0) m mid quiet own) in
-    let one = step_done 0 x.asked d.0 m mid quiet runs own in
-    turns_write xs (record s { answers = s.answers ++ answer ∷ [] }) t mid n one.state more run (turn_writes x.asked d.0 m mid (due_is_turn s x.asked due) w does)
+ended_writes : (m : F) (s : Session) → s.ended ≡ false → Writes m s → Writes m (record s { ended = true })
+ended_writes m s off w =
+    record { keeps = record { pins = w.keeps.pins; is = w.keeps.is; pinned = pinned_ended s w.keeps.pins off w.keeps.pinned }; some = w.some }
 
 -- at the opening the first actor is at nothing
 pub record Rests (d : D) : Type 0 where
@@ -93,16 +70,16 @@ module _ (name : List ℕ) (now : Found (List ℕ)) (opened : Store) where
   pub record Goes (given : List ℕ) (ended : Bool) (d : D) : Type 0 where
     pub ready : Ready now d
     pub gives : Gives given ended d
-    pub writes : Writes d.machine
+    pub writes : Writes d.machine gives.session
     pub stores : Stores opened gives.session d.machine
 
   -- why a line was refused: there was no memory, or the file is too long; or by a turn, the last of these steps; or by the commit
   abbrev pub How : List ℕ → LineValue → Refusal → List Step → Session → F → F → Type 0
   How given line refusal ss s k n = ((refusal ≡ refusals.Memory) × (n ≡ k))
       ⊎ ((refusal ≡ refusals.TooLong) × IsTooLong given line × (n ≡ k))
-      ⊎ ((step : Asked (List ℕ)) × Writes k × IsDueStep of_files s step × Refuses of_files 0 step refusal k n
+      ⊎ ((step : Asked (List ℕ)) × Writes k s × IsDueStep of_files s step × Refuses of_files 0 step refusal k n
       × ((before : List Step) × (ss ≡ before ++ step_of of_files 0 step (Err refusal) ∷ [])))
-      ⊎ ((line ≡ lines.Commit 0 name) × Writes k × (s.ended ≡ true) × NothingIsDue of_files s
+      ⊎ ((line ≡ lines.Commit 0 name) × Writes k s × (s.ended ≡ true) × NothingIsDue of_files s
       × Refuses of_files 0 (asked.Commit name s.given) refusal k n)
 
   -- it was, and at this machine the session had stored so much
@@ -176,7 +153,16 @@ module _ (name : List ℕ) (now : Found (List ℕ)) (opened : Store) where
               given_is = refl;
               ended_is = refl;
             };
-            writes = put_writes d.machine mid.machine finite.empty opens.rests.some (ap (λ (x : F). x.parts) others);
+            writes = record {
+              keeps = record {
+                pins = finite.empty;
+                is = ap (λ (ps : List (Part (List ℕ) (List (List ℕ)))). slice_index_or ps 0 Idle) (ap (λ (x : F). x.parts) others)
+                    ∙ index_set d.machine.parts (Writing finite.empty) opens.rests.some;
+                pinned = new_pinned;
+              };
+              some = subst (λ (ps : List (Part (List ℕ) (List (List ℕ)))). 0 < length ps) (sym (ap (λ (x : F). x.parts) others))
+                  (length_set d.machine.parts (Writing finite.empty) opens.rests.some);
+            };
             stores = stores_still opened new_session d.machine mid.machine (ap (λ (x : F). x.store) others) (ap (λ (x : F). x.forgotten) others)
                 (ap (λ (x : F). x.last_id) others) opens.stores;
           })
@@ -217,6 +203,9 @@ module _ (name : List ℕ) (now : Found (List ℕ)) (opened : Store) where
       stores_of : (s : Session) → session_of of_files d 0 ≡ Some s → Stores opened s d.machine
       stores_of s was = subst (λ (u : Session). Stores opened u d.machine) (sym (own s was)) goes.stores
 
+      writes_of : (s : Session) → session_of of_files d 0 ≡ Some s → Writes d.machine s
+      writes_of s was = subst (λ (u : Session). Writes d.machine u) (sym (own s was)) goes.writes
+
       given_of : (s : Session) → session_of of_files d 0 ≡ Some s → s.given ≡ given
       given_of s was = ap (λ (u : Session). u.given) (own s was) ∙ goes.gives.given_is
 
@@ -253,10 +242,10 @@ module _ (name : List ℕ) (now : Found (List ℕ)) (opened : Store) where
           told_so parts.0 told is by turned.goes.state (answers 0 step told parts.0 mid.machine quiet turned.goes.state (by_of 0 step told parts.0 mid.machine quiet legal))
           (turned.goes.now ∙ goes.ready.same) (turned.given ∙ given_of s was) (turned.ended ∙ ended_of s was)
           (turns_store opened made s t d.machine parts.0 goes.ready.runs turns parts.1 (stores_of s was))
-          (turns_write made s t d.machine parts.0 goes.ready.runs turns parts.1 goes.writes)
+          (turns_write made s t d.machine parts.0 turns parts.1 (writes_of s was))
         where
           told_so : (k : F) (told : Result Done Refusal) → ss ≡ made ++ step_of of_files 0 step told ∷ [] → reply ≡ reply_of 0 told → k.state ≡ Running
-              → Answers of_files 0 step told k mid.machine → k.now ≡ now → t.given ≡ given → t.ended ≡ ended → Stores opened t k → Writes k → So line
+              → Answers of_files 0 step told k mid.machine → k.now ≡ now → t.given ≡ given → t.ended ≡ ended → Stores opened t k → Writes k t → So line
           told_so k (Ok answer) is by up does same given_is ended_is stores writes = absurd (unrefused 0 answer (subst IsRefusal (sym reply_is ∙ by) tt))
           told_so k (Err other) is by up refuses same given_is ended_is stores writes =
               refused_so line other none by (record {
@@ -272,7 +261,7 @@ module _ (name : List ℕ) (now : Found (List ℕ)) (opened : Store) where
 
       -- it is given by the session, which has the place of the old one
       gives_now : (after : Session) → mid.sessions ≡ slice_set d.sessions 0 (Some after) → (bytes : List ℕ) (end : Bool) → after.given ≡ bytes → after.ended ≡ end
-          → mid.machine.now ≡ now → mid.machine.state ≡ Running → Writes mid.machine → Stores opened after mid.machine → Goes bytes end mid
+          → mid.machine.now ≡ now → mid.machine.state ≡ Running → Writes mid.machine after → Stores opened after mid.machine → Goes bytes end mid
       gives_now after sessions bytes end given_is ended_is same runs writes stores = record {
         ready = record {
           same = same;
@@ -300,7 +289,7 @@ module _ (name : List ℕ) (now : Found (List ℕ)) (opened : Store) where
           (gives_now (record t { given = t.given ++ bytes })
           (sessions ∙ ap (λ (r : ReplyValue). slice_set d.sessions 0 (Some (unless_refused r (record t { given = t.given ++ bytes }) t))) is) (given ++ bytes) false
           (ap (λ (g : List ℕ). g ++ bytes) (turned.given ∙ given_of s was)) still (turned.goes.now ∙ goes.ready.same) turned.goes.state
-          (turns_write ss s t d.machine mid.machine goes.ready.runs turns run goes.writes)
+          (more_writes mid.machine t bytes still (turns_write ss s t d.machine mid.machine turns run (writes_of s was)))
           (stores_more opened t mid.machine still (turns_store opened ss s t d.machine mid.machine goes.ready.runs turns run (stores_of s was)) bytes))
       push_acts digits off (s, t, (was, sessions), room, inl (turns, inr (is, long))) =
           let turned = turns_go 0 ss s t d.machine mid.machine goes.ready.runs turns run in
@@ -323,7 +312,7 @@ module _ (name : List ℕ) (now : Found (List ℕ)) (opened : Store) where
             (gives_now (record s { ended = true })
                 (sessions ∙ ap (λ (r : ReplyValue). slice_set d.sessions 0 (Some (unless_refused r (record s { ended = true }) s))) is) given true
                 (given_of s was) refl (ap (λ (x : F). x.now) same ∙ goes.ready.same) (ap (λ (x : F). x.state) same ∙ goes.ready.runs)
-                (stay_writes d.machine mid.machine (ap (λ (x : F). x.parts) same) goes.writes)
+                (subst (λ (x : F). Writes x (record s { ended = true })) (sym same) (ended_writes d.machine s (ended_of s was ∙ off) (writes_of s was)))
                 (subst (λ (x : F). Stores opened (record s { ended = true }) x) (sym same) (stores_ended opened s d.machine (ended_of s was ∙ off) (stores_of s was)))),
             refl,
           )
@@ -342,7 +331,7 @@ module _ (name : List ℕ) (now : Found (List ℕ)) (opened : Store) where
       -- ---- it commits
 
       committed_so : (t : Session) (k : F) (told : Result Done Refusal) → reply ≡ reply_of 0 told → k.state ≡ Running → k.now ≡ now → t.given ≡ given → t.ended ≡ true
-          → NothingIsDue of_files t → Stores opened t k → Writes k → Answers of_files 0 (asked.Commit name t.given) told k mid.machine → So (lines.Commit 0 name)
+          → NothingIsDue of_files t → Stores opened t k → Writes k t → Answers of_files 0 (asked.Commit name t.given) told k mid.machine → So (lines.Commit 0 name)
       committed_so t k (Ok (done.Committed sequence)) is up same given_is on nothing stores writes does =
           so (lines.Commit 0 name) (replies.Committed 0 sequence) is
           ((record { session = t; at = k; given_is = given_is; ended = on; runs = up; stores = stores; sequence = sequence; does = does }), refl)
@@ -368,7 +357,7 @@ module _ (name : List ℕ) (now : Found (List ℕ)) (opened : Store) where
           let legal = run_one step (step ∷ []) parts.0 mid.machine refl parts.2 in
           committed_so t parts.0 told by turned.goes.state (turned.goes.now ∙ goes.ready.same) (turned.given ∙ given_of s was) (turned.ended ∙ ended_of s was ∙ end) nothing
           (turns_store opened made s t d.machine parts.0 goes.ready.runs turns parts.1 (stores_of s was))
-          (turns_write made s t d.machine parts.0 goes.ready.runs turns parts.1 goes.writes)
+          (turns_write made s t d.machine parts.0 turns parts.1 (writes_of s was))
           (subst (λ (st : RunState (List ℕ)). ByState of_files st 0 (asked.Commit name t.given) told parts.0 mid.machine) turned.goes.state legal)
 
     push_after : (digits : List ℕ) → Goes given false d → Line of_files (lines.Push 0 digits) reply ss d mid → So (lines.Push 0 digits)

@@ -15,6 +15,7 @@ use Rattle.store_machine.specs.Asked as asked
 use Rattle.store_machine.specs.Ingests.{AsksName, IngestRefusal, IngestsByMap, IngestsClash, IsBroken, IsSealFor}
 use Rattle.store_machine.specs.Legal.{IsKept}
 use Rattle.store_machine.specs.Needs.{IsClash}
+use Rattle.store_machine.specs.Twins.{HasTwins, PiecesAreTwins}
 use Rattle.store_machine.specs.Storing.{AddsOnce, AsksPieces, HoldsFile, LacksPiece, MayCome, OfWhole}
 use Rattle.store_machine.proofs.IngestLines.{After, Goes, How, Refused, Writes, all_after}
 use Rattle.store_machine.proofs.IngestStore.{IsOther, IsTurn, Rests, committed_leaves, due_is_turn, stays, turn_leaves}
@@ -22,6 +23,7 @@ use Rattle.store_machine.proofs.Ingesting.{D, Kept, Stage, Went, ingests_kept, o
 use Rattle.store_machine.proofs.Passing.{sure_found}
 use Rattle.store_machine.proofs.Quiet.{F, Step}
 use Rattle.store_machine.proofs.Stepwise.{IsFailure, Opened, Over, ends_from, ends_over, ends_so, last_from, last_is, one_of, opened_by, opened_store}
+use Rattle.store_machine.proofs.TwinSteps.{commit_lacks, turn_lacks}
 use Rattle.store_machine.proofs.Storing.{GoesOn, Stores, due_asks, holds_file, new_stores, seal_lacks_piece}
 
 -- the first segment that lacks a child
@@ -46,7 +48,7 @@ module _ (name : List ℕ) (now : Found (List ℕ)) (opened : Store) (given : Li
   abbrev Cause : F → Refusal → Type 0
   Cause n refusal = IngestRefusal name given now n line refusal
 
-  module _ (s : Session) (given_is : s.given ≡ given) (follow : (more : List ℕ) → MayCome more line → GoesOn more s) (m n : F) (stores : Stores opened s m) (w : Writes m) where
+  module _ (s : Session) (given_is : s.given ≡ given) (follow : (more : List ℕ) → MayCome more line → GoesOn more s) (m n : F) (stores : Stores opened s m) (w : Writes m s) where
     -- ---- by a turn
 
     due_of : (step : Asked (List ℕ)) → IsDueStep of_files s step → IsDueOf given step
@@ -57,11 +59,14 @@ module _ (name : List ℕ) (now : Found (List ℕ)) (opened : Store) (given : Li
         subst (λ (g : List ℕ). LacksPiece (g ++ more) n.store) given_is
         (subst (λ (x : F). LacksPiece (s.given ++ more) x.store) (sym others) (seal_lacks_piece opened s m stores filled due more (follow more come)))
 
+    -- where a pin was lacked, however the file goes on
+    twins : (key : List ℕ) → HasTwins s.given s.ended key → OfWhole given line (λ file. PiecesAreTwins file key)
+    twins key has more come = subst (λ (g : List ℕ). PiecesAreTwins (g ++ more) key) given_is (has.whole more (follow more come))
+
     claim_cause : (seg : KindSegment) → IsDueStep of_files s (asked.Claim seg) → (refusal : Refusal) → RefusesClaim of_files 0 seg refusal m n → Cause n refusal
     claim_cause seg due (refusals.Unpinned key) ((pins, was, un), others) = (
-      pins,
-      ap (λ (x : F). part_in x 0) others ∙ was,
-      inl (seg, (asked.Claim seg, due_of (asked.Claim seg) due, refl), un),
+      (pins, ap (λ (x : F). part_in x 0) others ∙ was, inl (seg, (asked.Claim seg, due_of (asked.Claim seg) due, refl), un)),
+      twins key (turn_lacks of_files 0 s m n w.some w.keeps (asked.Claim seg) key due ((pins, was, un), others)),
     )
     claim_cause seg due refusals.Memory others = tt
     claim_cause seg due refusals.DiskRead refuses = tt
@@ -74,17 +79,12 @@ module _ (name : List ℕ) (now : Found (List ℕ)) (opened : Store) (given : Li
     seal_cause filled due refusals.Memory others = tt
     seal_cause filled due (refusals.Unpinned key) ((pins, was, un), others) =
         let one = unkept_one filled.kind filled.segments pins key un in (
-          pins,
-          ap (λ (x : F). part_in x 0) others ∙ was,
-          inl (
-            record { kind = filled.kind; segment = one.1 },
-            (
-              asked.Seal filled,
-              due_of (asked.Seal filled) due,
-              (refl, (one.0, one.2)),
-            ),
-            one.3,
+          (
+            pins,
+            ap (λ (x : F). part_in x 0) others ∙ was,
+            inl (record { kind = filled.kind; segment = one.1 }, (asked.Seal filled, due_of (asked.Seal filled) due, (refl, (one.0, one.2))), one.3),
           ),
+          twins key (turn_lacks of_files 0 s m n w.some w.keeps (asked.Seal filled) key due ((pins, was, un), others)),
         )
     seal_cause filled due (refusals.Full free) (keeps, free_is, few, others) =
         (free_is ∙ sym (ap (λ (x : F). free_slots x.store.held) others), few, lacks filled due others)
@@ -108,7 +108,7 @@ module _ (name : List ℕ) (now : Found (List ℕ)) (opened : Store) (given : Li
 
     -- it writes, as a turn and a commit take it
     right_part : (kind : PartKind) → kind ≡ kind_of (part_in m 0) → kind ≢ kinds.Writing → ⊥
-    right_part kind is differ = differ (is ∙ ap kind_of w.is)
+    right_part kind is differ = differ (is ∙ ap kind_of w.keeps.is)
 
     turn_cause : (step : Asked (List ℕ)) → IsTurn step → IsDueStep of_files s step → (refusal : Refusal) → Refuses of_files 0 step refusal m n → Cause n refusal
     turn_cause (asked.Claim seg) turn due (refusals.WrongPart kind) ((kind_is, (taken, by, differ)), others) =
@@ -138,12 +138,15 @@ module _ (name : List ℕ) (now : Found (List ℕ)) (opened : Store) (given : Li
           let has = subst (λ (f : Found (List ℕ)). (finite.get f.names name ≡ None) × (MOST_NAMES ≤ finite.len f.names)) same (none, many) in
           (good, has.0, has.1, holds others)
       commit_cause (refusals.Unpinned key) (good, room, key_is, (pins, was, not), others) = (
-        pins,
-        ap (λ (x : F). part_in x 0) others ∙ was,
-        inr (
-          key_is ∙ ap (λ (f : List ℕ). root_key (root_of f)) given_is,
-          λ kept. not (subst (λ (f : List ℕ). IsKept pins (root_of f)) (sym given_is) kept),
+        (
+          pins,
+          ap (λ (x : F). part_in x 0) others ∙ was,
+          inr (
+            key_is ∙ ap (λ (f : List ℕ). root_key (root_of f)) given_is,
+            λ kept. not (subst (λ (f : List ℕ). IsKept pins (root_of f)) (sym given_is) kept),
+          ),
         ),
+        twins key (commit_lacks of_files 0 s m n w.some w.keeps (λ file. refl) name key ended nothing (good, room, key_is, (pins, was, not), others)),
       )
       commit_cause refusals.Numbers (may, lacks, others) =
           inr (may.named, subst (HasRoom of_files name) (sym others) may.room, subst (LacksNumbers of_files) (sym others) lacks, holds others)
@@ -153,7 +156,7 @@ module _ (name : List ℕ) (now : Found (List ℕ)) (opened : Store) (given : Li
       committed_cause : (refusal : Refusal) → Refuses of_files 0 (asked.Commit name s.given) refusal m n → Cause n refusal
       committed_cause (refusals.WrongPart kind) ((kind_is, (taken, by, differ)), others) =
           let taken_is : taken ≡ kinds.Writing = (let both : Some taken ≡ Some kinds.Writing = sym by in cc) in
-          absurd (differ (kind_is ∙ ap kind_of w.is ∙ sym taken_is))
+          absurd (differ (kind_is ∙ ap kind_of w.keeps.is ∙ sym taken_is))
       committed_cause refusals.Memory refuses = commit_cause refusals.Memory refuses
       committed_cause refusal (right, refuses) = commit_cause refusal refuses
 

@@ -32,6 +32,7 @@ use Rattle.store_machine.specs.Lines.{Desk, IsDueStep, step_of}
 use Rattle.store_machine.specs.Machine.{Found, Running, Stepped, Stopped, Writing, part_in}
 use Rattle.store_machine.specs.Opening.{MayBeFound}
 use Rattle.store_machine.specs.Storing.{AddsOnce, AsksPieces, HoldsFile, LacksPiece, MayCome, OfWhole}
+use Rattle.store_machine.specs.Twins.{PiecesAreTwins}
 use Rattle.store_machine.specs.Values.{of_files}
 
 -- ---- the name
@@ -90,7 +91,8 @@ IngestRefusal name given now n line Numbers =
     × OfWhole given line (λ file. LacksPiece file n.store))
     ⊎ (IsName name × HasRoom of_files name n × LacksNumbers of_files n × AsksName name given n.store line)
 IngestRefusal name given now n line (Clash key at) = (seg : KindSegment) × IsTurnOf given seg × IsClash n.store n.forgotten seg key at
-IngestRefusal name given now n line (Unpinned key) = (pins : PinMap) × (part_in n 0 ≡ Writing pins) × LacksPin given key pins
+IngestRefusal name given now n line (Unpinned key) = ((pins : PinMap) × (part_in n 0 ≡ Writing pins) × LacksPin given key pins)
+    × OfWhole given line (λ file. PiecesAreTwins file key)
 IngestRefusal name given now n line Memory = Unit {0}
 IngestRefusal name given now n line DiskRead = Unit {0}
 IngestRefusal name given now n line DiskWrite = Unit {0}

@@ -1,18 +1,20 @@
 -- A command that ran no line answers by the map; and so does any whose lines do.
-use Rattle.backup_engine.proofs.Prelude.{◌≡◌, ◌⊎◌, inl, inr, ℕ, IsTrue, List, [], Option, Some, None, refl, sym, ◌∙◌, ap, subst, arith, DiskView, SinkView, SourceView, Refusal, DiskWrite, Refused, ByteSet, HasNoCollisions, IsIn, OpensAs, Stored, Store, IsSegmentOf, fails, FileMachine, ListsThrough, Replied, Found, RunState, MayBeFound, of_files, FileDesk, IsOfFound, MayStand, stored_in, unopened, files_begin, AnswersByMap, IsLeftAs, WroteFile, CutsAmong, FailsAlone, RefusedByFiles, RunsByFiles, RunsEachByFiles, CommandLine, Format, Ingest, Restore, Collect, SpeaksAs, Speaks, DoesCommand}
+use Rattle.backup_engine.proofs.Prelude.{◌≡◌, ◌⊎◌, inl, inr, ℕ, IsTrue, List, [], Option, Some, None, refl, sym, ◌∙◌, ap, subst, arith, DiskView, SinkView, SourceView, Refusal, DiskWrite, Refused, ByteSet, HasNoCollisions, IsIn, OpensAs, Stored, Store, IsSegmentOf, fails, FileMachine, ListsThrough, Replied, Found, RunState, MayBeFound, of_files, FileDesk, IsOfFound, MayStand, stored_in, unopened, files_begin, AnswersByMap, IsLeftAs, WroteFile, CutsAmong, FailsAlone, RefusedByFiles, RunsByFiles, RunsEachByFiles, CommandLine, Format, Ingest, Restore, Collect, SpeaksAs, Speaks, DoesCommand, FreesTo, IsStore, KnownWith, Running, RunsWith, store_once}
 use Rattle.std.proofs.lemmas.List.{append-nil}
 use Rattle.std.specs.FinMap as finite
 use Rattle.reply_text.specs.declared.ending.Ending.{Ending}
 use Rattle.store_machine.specs.Commands.{List as ListNames}
+use Rattle.store_machine.specs.Needs.{NamesNeed}
 use Rattle.store_machine.specs.Opening.{GivesBackSome}
+use Rattle.core_machine.specs.Bytes.{LeavesUnopened}
 use Rattle.backup_engine.specs.AnswersByMap as answers
-use Rattle.backup_engine.specs.AnswersByMap.{AnswersEachMap}
+use Rattle.backup_engine.specs.AnswersByMap.{AnswersEachMap, OpensStore, StaysUnopened}
 use Rattle.backup_engine.specs.Line.{Delete}
 use Rattle.backup_engine.specs.Line as table
 use Rattle.backup_engine.proofs.FailsAlone.{refusal_fails}
 use Rattle.backup_engine.proofs.NotDone.{not_sink}
 use Rattle.backup_engine.proofs.Ran.{Silent}
-use Rattle.backup_engine.proofs.Rested.{AtEnd, crash_by, left_by}
+use Rattle.backup_engine.proofs.Rested.{AtEnd, WasStore, crash_by, is_store, last, left_by, room_made, was_store}
 
 -- ---- what was said
 
@@ -55,6 +57,11 @@ nothing_written (Delete name) given m refusal sink sink_now same = same
 nothing_written table.List given m refusal sink sink_now same = same
 nothing_written (Collect percent) given m refusal sink sink_now same = (0, 0, same)
 
+-- a write failed, or not
+pub is_write : (refusal : Refusal) → (refusal ≡ DiskWrite) ⊎ ((refusal ≡ DiskWrite) → ⊥)
+is_write DiskWrite = inl refl
+is_write refusal = inr (λ is. cc)
+
 -- a map that stays is one that a command which was refused may leave
 pub refused_left : (S : List ℕ → Type 0) (command : CommandLine) (given : List ℕ) (m : Stored) (refusal : Refusal) (d : List ℕ) → OpensAs S m d
     → IsLeftAs S command given m (Some (Refused refusal)) d
@@ -64,7 +71,7 @@ refused_left S command given m refusal d is = is
 -- ---- no line was run
 
 module _ (S : List ℕ → Type 0) (command : CommandLine) (given : List ℕ) (m : Stored) (store : Store) (refusal : Refusal) (v w : DiskView) (sink sink_now : SinkView)
-    (same : sink_now.written ≡ sink.written) where
+    (same : sink_now.written ≡ sink.written) (was : WasStore m store v) where
   as_first : (d : List ℕ) → IsOfFound S (unopened m store) d → OpensAs S m d
   as_first d found = subst (λ (x : Found (List ℕ)). OpensAs S (stored_in x) d) found.1 found.2
 
@@ -85,11 +92,39 @@ module _ (S : List ℕ → Type 0) (command : CommandLine) (given : List ℕ) (m
         let is : none.refusal ≡ refusal = (let both : Some (Refused none.refusal) ≡ Some (Refused refusal) = sym none.ending_is in cc) in
         subst (λ (r : Refusal). IsTrue (fails r)) is (refusal_fails none.refusal none.opens.0)
 
+    -- nothing was written, or room was made
+    unopened_store : StaysUnopened (Some (Refused refusal)) m v.content w.content
+    unopened_store = ((refusal, (refl, fails_so)), by (none.bytes was.was.0 was.was.1))
+      where
+        same_refusal : none.refusal ≡ refusal
+        same_refusal = (let both : Some (Refused none.refusal) ≡ Some (Refused refusal) = sym none.ending_is in cc)
+
+        by : KnownWith w.content (LeavesUnopened none.refusal (unopened m store) none.next was.was.0)
+            → (◌≡◌ {A = Option Ending} (Some (Refused refusal)) (Some (Refused DiskWrite)))
+            ⊎ KnownWith v.content (λ old. (w.content ≡ Some old) ⊎ OpensStore m old (λ opened. IsStore opened w.content))
+        by (new, known, inl (stays, is)) = inr (was.was.0, was.was.1, inl (known ∙ ap (λ (bytes : List ℕ). Some bytes) is))
+        by (new, known, inr (found, (may, inl (after, (before, (encodes, (freed, (frees, gates, right)))))))) = inr (
+          was.was.0,
+          was.was.1,
+          inr (record {
+            store = store;
+            right = was.was.2;
+            opened = after;
+            room = (
+              freed,
+              subst (λ (x : Found (List ℕ)). FreesTo (NamesNeed of_files x) freed store after) may
+                  (subst (λ (s : Store). FreesTo (NamesNeed of_files found) freed s after) (store_once was.was.0 before store encodes was.was.2) frees),
+            );
+            has = (new, known, right);
+          }),
+        )
+        by (new, known, inr (found, (may, inr (write, began)))) = inl (ap (λ (r : Refusal). Some (Refused r)) (sym same_refusal ∙ write))
+
     pub unopened_answers : AnswersByMap S command given (Some (Refused refusal)) m v w sink sink_now
     unopened_answers = record {
       by_map = inr (refusal, (refl, fails_so));
       wrote = nothing_written command given m refusal sink sink_now same;
-      store = inr (refusal, (refl, fails_so));
+      store = inr unopened_store;
       left = record {
         content = (
           none.leaves.content.0,
@@ -125,11 +160,31 @@ module _ (S : List ℕ → Type 0) (command : CommandLine) (given : List ℕ) (m
     leaves x may d opens =
         refused_left S command given m refusal d (subst (λ (y : Found (List ℕ)). OpensAs S (stored_in y) d) (still x may) opens)
 
+    -- room was made in the store, and that is all
+    unasked_store : StaysUnopened (Some (Refused refusal)) m v.content w.content
+    unasked_store =
+        let running : runs.opened.state ≡ Running = ap (λ (n : FileMachine). n.state) runs.opens.others in
+        let at : RunsWith (last S [] m store v w runs) runs.opened.store =
+        subst (λ (e : FileDesk). RunsWith e.machine runs.opened.store) (sym runs.lines_are.1) (running, refl) in (
+          (refusal, (refl, fails_so)),
+          inr (
+            was.was.0,
+            was.was.1,
+            inr (record {
+              store = store;
+              right = was.was.2;
+              opened = runs.opened.store;
+              room = room_made S [] m store v w runs;
+              has = is_store S [] m store v w runs runs.opened.store at;
+            }),
+          ),
+        )
+
     pub unasked_answers : AnswersByMap S command given (Some (Refused refusal)) m v w sink sink_now
     unasked_answers = record {
       by_map = inr (refusal, (refl, fails_so));
       wrote = nothing_written command given m refusal sink sink_now same;
-      store = inr (refusal, (refl, fails_so));
+      store = inr unasked_store;
       left = left_by S [] m store v w runs command given (Some (Refused refusal)) leaves;
       crash = crash_by S [] m store v w runs command given (Some (Refused refusal)) leaves ListNames (refl, tt) through tt;
     }
@@ -157,11 +212,11 @@ module _ (command : CommandLine) (given : List ℕ) (ending : Option Ending) (rs
           let fails_so = alone none among (unopened m opens.store) distinct (cuts among given_in (unopened m opens.store)) (old, known, files_begin among m old opens) so.refusal
           so.ending_is in
           subst (λ (e : Option Ending). AnswersByMap (IsIn among) command given e m v w sink sink_now) (sym so.ending_is)
-          (unasked_answers (IsIn among) command given m opens.store so.refusal v w sink sink_now so.wrote through fails_so
+          (unasked_answers (IsIn among) command given m opens.store so.refusal v w sink sink_now so.wrote (was_store (IsIn among) m v old known opens) through fails_so
           (subst (λ (l : List Replied). RunsByFiles (IsIn among) l (unopened m opens.store) v w) none runs))
       by so (inr refused) =
           subst (λ (e : Option Ending). AnswersByMap (IsIn among) command given e m v w sink sink_now) (sym so.ending_is)
-          (unopened_answers (IsIn among) command given m opens.store so.refusal v w sink sink_now so.wrote rs
+          (unopened_answers (IsIn among) command given m opens.store so.refusal v w sink sink_now so.wrote (was_store (IsIn among) m v old known opens) rs
           (subst (λ (e : Option Ending). RefusedByFiles (IsIn among) e rs (unopened m opens.store) v w) so.ending_is refused))
 
   -- where lines were

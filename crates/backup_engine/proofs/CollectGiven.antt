@@ -28,7 +28,7 @@ use Rattle.backup_engine.specs.CollectsByMap.{CollectsFor, RunsOutBy}
 use Rattle.backup_engine.proofs.CollectBytes.{IsGcLine, RunKeeps, all_gc, room_keeps, run_keeps}
 use Rattle.backup_engine.proofs.EarlierFrees.{frees_later}
 use Rattle.backup_engine.proofs.EarlierIds.{frees, frees_from, last_freed, all_freed, slots_freed, sweeps_from, written_frees}
-use Rattle.backup_engine.proofs.Rested.{WasStore, all_lines, has_reserve, last, left_so, rested, room_made}
+use Rattle.backup_engine.proofs.Rested.{WasStore, all_lines, has_reserve, last, left_at as left_of, frees_to as frees_of, rested}
 
 -- ---- room is made in one way
 
@@ -151,7 +151,7 @@ module _ (given : List ℕ) (percent : ℕ) (S : List ℕ → Type 0) (m : Store
   -- the law speaks of the store that was opened
   opened_is : (opened : Store) → MakesRoom start opened → opened ≡ first
   opened_is opened (slots, frees_to) =
-      room_once names slots runs.opens.freed store opened first right.different frees_to (room_made S rs m store v w runs)
+      room_once names slots runs.opens.freed store opened first right.different frees_to (frees_of S rs m store v w runs)
 
   -- ---- bytes
 
@@ -203,7 +203,7 @@ module _ (given : List ℕ) (percent : ℕ) (S : List ℕ → Type 0) (m : Store
   names_still up = collected.found end.now (subst (λ (state : RunState (List ℕ)). MayBeFound of_files state end.now end.now) (sym up) refl)
 
   left_at : end.state ≡ Running → (RESERVE ≤ free_slots end.store.held) → (Q : Store → Type 0) → Q end.store → IsLeftWith m w.content Q
-  left_at up reserve Q has = left_so S rs m store v w runs end.store (up, refl) reserve Q (names_still up) has
+  left_at up reserve Q has = left_of S rs m store v w runs end.store (up, refl) Q reserve (names_still up) has
 
   reserve_of : (opened : Store) → MakesRoom start opened → RESERVE ≤ free_slots opened.held
   reserve_of opened room = has_reserve S rs m store v w runs opened was.can room

@@ -27,7 +27,6 @@ module _ (C : Type 0) (state : C → CoreState) (v w : DiskView) (old new : C) (
   unbegun : (refusal : Refusal) → Starts C state percent (Err refusal) old new → (source : SourceView) (sink : SinkView) →
       Keeps (Collect percent) [] (Some (Refused refusal)) v w source source sink sink
   unbegun refusal start source sink = record {
-    map = λ known is among m distinct right stands. tt;
     any = unbegun_any C state v w old new called percent refusal start source sink;
     frame = unbegun_frame C state v w old new called percent refusal start;
     found = unbegun_found C state v w old new called percent refusal start;
@@ -39,7 +38,6 @@ module _ (C : Type 0) (state : C → CoreState) (v w : DiskView) (old new : C) (
     stopped : (refusal : Refusal) → Sweeps C state (Err refusal) mid new → (source : SourceView) (sink : SinkView) →
         Keeps (Collect percent) [] (Some (Refused refusal)) v w source source sink sink
     stopped refusal sweeps source sink = record {
-      map = λ known is among m distinct right stands. tt;
       any = stopped_any C state v w old new called percent snapshot mid start refusal sweeps source sink;
       frame = ends_frame C state v w old new called percent snapshot mid start (Err refusal) sweeps (Some (Refused refusal));
       found = ends_found C state v w old new called percent snapshot mid start (Err refusal) sweeps;
@@ -55,7 +53,6 @@ module _ (C : Type 0) (state : C → CoreState) (v w : DiskView) (old new : C) (
           let replied = replied_sent (collected_line freed copied) result sink sink_now sent in
           let wrote = wrote_sent (collected_line freed copied) result sink sink_now sent in
           record {
-            map = λ known is among m distinct right stands. tt;
             any = done_any C state v w old new called percent snapshot mid start freed copied sweeps ending source sink sink_now replied wrote;
             frame = ends_frame C state v w old new called percent snapshot mid start (Ok (answers.Done freed copied)) sweeps ending;
             found = ends_found C state v w old new called percent snapshot mid start (Ok (answers.Done freed copied)) sweeps;
@@ -65,7 +62,6 @@ module _ (C : Type 0) (state : C → CoreState) (v w : DiskView) (old new : C) (
 
       untold : (source : SourceView) (sink : SinkView) → Keeps (Collect percent) [] (Some (Refused Memory)) v w source source sink sink
       untold source sink = record {
-        map = λ known is among m distinct right stands. tt;
         any = untold_any C state v w old new called percent snapshot mid start freed copied sweeps source sink;
         frame = ends_frame C state v w old new called percent snapshot mid start (Ok (answers.Done freed copied)) sweeps (Some (Refused Memory));
         found = ends_found C state v w old new called percent snapshot mid start (Ok (answers.Done freed copied)) sweeps;

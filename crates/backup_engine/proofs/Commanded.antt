@@ -1,17 +1,15 @@
 -- A single command over a store for which room was made, or was there; or that was not opened: what the top call says of it.
 use Rattle.backup_engine.proofs.Prelude.{◌≡◌, inl, inr, List, [], ℕ, Option, Some, refl, subst, DiskView, IsLater, SinkView, SourceView, Replied, IsNotFull, RoomMade, RoomUnmade, Refusal, Full, Refused, IsNotRead, Holds, Took, CommandLine, FailsAlone, RunsEachByFiles, SpeaksAs, DoesCommand, Keeps}
 use Rattle.reply_text.specs.declared.ending.Ending.{Ending}
-use Rattle.backup_engine.proofs.EndsMade.{RunsIfOpened, ends_here, ends_made, ends_unmade, ends_unread}
 
 module _ (D : Type 0) (view : D → DiskView) (command : CommandLine) (given : List ℕ) (v w : DiskView) (source source_now : SourceView) (sink sink_now : SinkView) where
   -- it was opened as it was
-  pub does_here : (rs : List Replied) (ending : Option Ending) → RunsIfOpened v → Keeps command given ending v w source source_now sink sink_now →
+  pub does_here : (rs : List Replied) (ending : Option Ending) → Keeps command given ending v w source source_now sink sink_now →
       SpeaksAs command given ending rs v w source source_now sink sink_now
       → RunsEachByFiles ending rs v w → (rs ≡ [] → FailsAlone ending rs v) → Holds v w → DoesCommand D view command given rs ending v w source source_now sink sink_now
-  does_here rs ending runs keeps speaks by_files alone holds = record {
+  does_here rs ending keeps speaks by_files alone holds = record {
     by_files = by_files;
     fails_alone = alone;
-    ends = ends_here command given ending sink sink_now v w runs keeps.map;
     took = keeps.any.took;
     way = inl (inl ((keeps, speaks), λ free is. holds));
   }
@@ -23,7 +21,6 @@ module _ (D : Type 0) (view : D → DiskView) (command : CommandLine) (given : L
   does_made rs ending mid made keeps speaks by_files alone later = record {
     by_files = by_files;
     fails_alone = alone;
-    ends = ends_made command given ending sink sink_now v (view mid) w made keeps.map;
     took = keeps.any.took;
     way = inl (inr (mid, (made, later, (keeps, speaks))));
   }
@@ -42,7 +39,6 @@ module _ (D : Type 0) (view : D → DiskView) (command : CommandLine) (given : L
   does_unread is not keeps speaks by_files alone = record {
     by_files = by_files;
     fails_alone = alone;
-    ends = ends_unread command given refusal v w is not;
     took = keeps.any.took;
     way = inl (inl ((keeps, speaks), λ free is. absurd (full_not refusal free is not)));
   }
@@ -53,7 +49,6 @@ module _ (D : Type 0) (view : D → DiskView) (command : CommandLine) (given : L
   does_unmade is took by_files alone = record {
     by_files = by_files;
     fails_alone = alone;
-    ends = ends_unmade command given refusal v w is;
     took = took;
     way = inr (record { refusal = refusal; ending_is = refl; unmade = is; none = refl; source_is = refl; sink_is = refl });
   }

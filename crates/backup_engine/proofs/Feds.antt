@@ -8,7 +8,8 @@ use Rattle.ingest_session.specs.History.{Places}
 use Rattle.ingest_session.specs.Settling.{KeepsOpen}
 use Rattle.session_turns.proofs.Told.{told}
 use Rattle.ingest_session.proofs.KeptPieces.{kept_absent, kept_held, kept_sealed}
-use Rattle.backup_engine.proofs.FedOpens.{one_of_map, opens_held, opens_stay}
+use Rattle.ingest_session.proofs.OpenOn.{opens_held}
+use Rattle.backup_engine.proofs.FedOpens.{one_of_map, opens_stay}
 use Rattle.backup_engine.proofs.Ways.{way_as}
 
 -- ---- a new session

@@ -89,7 +89,6 @@ module _ (slots : ℕ) (v w : DiskView) where
     pub refused_keeps : (refusal : Refusal) (sink : SinkView) → IsFormatRefusal shown v.size slots refusal → Acts (ending_of (blames refusal)) v w
         → Keeps (Format slots) [] (Some (Refused refusal)) v w source source sink sink
     refused_keeps refusal sink wrong acts = record {
-      map = λ old known among m distinct right stands. tt;
       any = record {
         took = (refl, refl);
         caused = caused refusal source sink wrong;
@@ -110,7 +109,6 @@ module _ (slots : ℕ) (v w : DiskView) where
         WroteReply (formatted_line slots) ending sink sink_now
         → Keeps (Format slots) [] ending v w source source sink sink_now
     done_keeps ending sink sink_now replied formats durable acts wrote = record {
-      map = λ old known among m distinct right stands. tt;
       any = record {
         took = (refl, refl);
         caused = done_caused ending source sink sink_now replied formats;

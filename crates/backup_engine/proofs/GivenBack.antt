@@ -12,7 +12,6 @@ module _ (C : Type 0) (state : C → CoreState) (v w : DiskView) (old new : C) (
   given_out =
       let reads = of_call C state v w old new was name source sink sink_now result out in
       record {
-        map = λ old known among m distinct right stands. tt;
         any = given_on_any C state v w old new was name source sink sink_now result out;
         frame = reads_frame (Restore name) (ending_in result) v w reads.only;
         found = tt;

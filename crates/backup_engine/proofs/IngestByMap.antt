@@ -1,21 +1,21 @@
 -- An `ingest` answers by the map, by the law of its lines.
-use Rattle.backup_engine.proofs.Prelude.{◌≡◌, ◌⊎◌, inl, inr, ℕ, List, [], ◌∷◌, ◌++◌, Option, Some, None, refl, sym, ◌∙◌, ap, subst, DiskView, SinkView, SourceView, Refusal, DiskWrite, Memory, Sink, Refused, stored_line, ReplyValue, ByteSet, IsIn, OpensAs, Stored, with_stored, Store, IsSegmentOf, root_of, FileMachine, ListsThrough, Replied, Found, RunState, MayBeFound, of_files, stored_in, unopened, AnswersByMap, AnswersEachCall, IsLeftAs, Wrote, CutsAmong, RunsByFiles, Ingest, CanBeDone, EndsFailing, EndsSo, WroteReply, Digits, IsIngest, finish_lines, pushed, push_lines, refused, said, DoesCommand}
+use Rattle.backup_engine.proofs.Prelude.{◌≡◌, ◌⊎◌, inl, inr, ℕ, List, [], ◌∷◌, ◌++◌, Option, Some, None, refl, sym, ◌∙◌, ap, subst, DiskView, SinkView, SourceView, Refusal, DiskWrite, Memory, Sink, Refused, stored_line, ReplyValue, ByteSet, IsIn, OpensAs, Stored, with_stored, Store, IsSegmentOf, root_of, FileMachine, ListsThrough, Replied, Found, RunState, MayBeFound, of_files, stored_in, unopened, AnswersByMap, AnswersEachCall, IsLeftAs, Wrote, CutsAmong, RunsByFiles, Ingest, CanBeDone, WroteReply, Digits, IsIngest, finish_lines, pushed, push_lines, refused, said, DoesCommand, Adds, HasNoCollisions}
 use Rattle.std.proofs.lemmas.List.{append-nil}
 use Rattle.reply_text.specs.declared.ending.Ending.{Ending}
 use Rattle.reply_text.specs.declared.ending.Ending.TheVariants.{Source}
 use Rattle.script_lines.specs.Grammar as lines
 use Rattle.script_lines.specs.ReplyValue as replies
-use Rattle.store_machine.specs.Ingests.{Ingested, IngestsByMap, IngestsThrough, IsPut}
+use Rattle.store_machine.specs.Ingests.{Ingested, IngestsByMap, IngestsClash, IngestsThrough, IsPut}
 use Rattle.store_machine.specs.Commands as machine
-use Rattle.store_machine.specs.Commands.{given_by}
 use Rattle.backup_engine.specs.AnswersByMap.{EndsBy}
 use Rattle.backup_engine.specs.Singles.{begun}
-use Rattle.backup_engine.proofs.AnswersByMap.{AnswersOpened, answers_call}
+use Rattle.backup_engine.proofs.AnswersByMap.{AnswersOpened, answers_call, is_write}
 use Rattle.backup_engine.proofs.Ran.{Silent}
 use Rattle.backup_engine.proofs.SinglesRun.{ingest_memory}
 use Rattle.backup_engine.proofs.IngestCuts.{put_cut}
-use Rattle.backup_engine.proofs.IngestTails.{ArePut, Commit, Finish, IsCommit, IsTail, Nothing, Push, Tail, commit_last, push_tail, put_follows, put_lines, pushes_give, pushes_last}
-use Rattle.backup_engine.proofs.Rested.{CanBeIf, WasStore, all_lines, all_steps, answers_by, as_found, last, opened_room, ran, rested, was_store}
+use Rattle.backup_engine.proofs.IngestMade.{done_adds, ingested, opened, refused_adds, refused_by, room, source_adds}
+use Rattle.backup_engine.proofs.IngestTails.{ArePut, Commit, Finish, IsCommit, IsTail, Nothing, Push, Tail, commit_last, last_push, push_tail, put_follows, put_lines, pushes_give, pushes_last, tail_end}
+use Rattle.backup_engine.proofs.Rested.{CanBeIf, WasStore, all_lines, answers_by, as_found, last, rested, was_store}
 
 module _ (given name : List ℕ) where
   abbrev Now : Stored → Found (List ℕ)
@@ -80,7 +80,8 @@ module _ (given name : List ℕ) where
 
   -- ---- what it answers
 
-  module _ (S : List ℕ → Type 0) (m : Stored) (store : Store) (v w : DiskView) (was : WasStore m store v) (ingests : IngestsByMap) (through : IngestsThrough) where
+  module _ (S : List ℕ → Type 0) (m : Stored) (store : Store) (v w : DiskView) (was : WasStore m store v) (ingests : IngestsByMap) (clashes : IngestsClash)
+      (through : IngestsThrough) (distinct : HasNoCollisions S) (given_in : (bytes : List ℕ) → IsSegmentOf given bytes → S bytes) where
     module _ (pushes : List Digits) (tail : Tail) (is : IsTail given name pushes tail) (runs : RunsByFiles S (put_lines given name pushes tail) (unopened m store) v w) where
       abbrev rs : List Replied
       rs = put_lines given name pushes tail
@@ -91,25 +92,21 @@ module _ (given name : List ℕ) where
       abbrev end : FileMachine
       end = last S rs m store v w runs
 
-      pub ingested : Ingested name (given_by 0 [] all) all (rested m store) end
-      ingested = ingests name all (all_steps S rs m store v w runs) (rested m store) runs.next refl (refl, put_follows given name pushes tail runs.files)
-          (ran S rs m store v w runs)
-
       -- where its last line is not the name's the map stays
       still : (IsCommit given name tail → ⊥) → (x : Found (List ℕ)) → MayBeFound of_files end.state end.now x → x ≡ Now m
-      still none x may = elim (ingested.found x may) [
+      still none x may = elim ((ingested given name S m store v w was ingests pushes tail is runs).found x may) [
         | inl same ↦ same
         | inr put ↦ absurd (pushes_last given name pushes tail begun 0 pushes (λ no. cc) none put.1)
       ]
 
       pub ingest_answers : (ending : Option Ending) (sink sink_now : SinkView) → CanBeIf (Ingest name) given m ending
           → ((x : Found (List ℕ)) → MayBeFound of_files end.state end.now x → (d : List ℕ) → OpensAs S (stored_in x) d → IsLeftAs S (Ingest name) given m ending d)
-          → EndsBy (Ingest name) given m v.content w.content ending ⊎ EndsFailing ending → Wrote (Ingest name) given m ending sink sink_now
-          → AnswersByMap S (Ingest name) given ending m v w sink sink_now
-      ingest_answers ending sink sink_now can leaves by_map wrote =
-          let room = opened_room S rs m store v w runs in
+          → EndsBy (Ingest name) given m v.content w.content ending → Wrote (Ingest name) given m ending sink sink_now
+          → Adds name given ending (opened given name S m store v w was ingests pushes tail is runs) w.content → AnswersByMap S (Ingest name) given ending m v w sink sink_now
+      ingest_answers ending sink sink_now can leaves by_map wrote adds =
           answers_by S rs m store v w runs (Ingest name) given ending leaves was (machine.Ingest name) (refl, put_follows given name pushes tail runs.files) (through name) sink
-          sink_now can by_map wrote (room.0, (room.1, tt))
+          sink_now can (inl by_map) wrote
+          (opened given name S m store v w was ingests pushes tail is runs, (room given name S m store v w was ingests pushes tail is runs, adds))
 
     -- the name was asked for
     module _ (pushes : List Digits) (reply : ReplyValue) (is : pushed pushes ≡ given) (runs : RunsByFiles S (put_lines given name pushes (Commit reply)) (unopened m store) v w)
@@ -128,8 +125,8 @@ module _ (given name : List ℕ) where
 
         so : Ingested name given put_all (rested m store) put_end
         so =
-            subst (λ (g : List ℕ). Ingested name g put_all (rested m store) put_end) (pushes_give given name pushes reply 0 pushes [] ∙ is)
-            (ingested pushes (Commit reply) is runs)
+            subst (λ (g : List ℕ). Ingested name g put_all (rested m store) put_end) (pushes_give given name pushes (Commit reply) 0 pushes [] ∙ is)
+            (ingested given name S m store v w was ingests pushes (Commit reply) is runs)
 
         committed_left : machine.IsDone (machine.Ingest name) reply → (x : Found (List ℕ)) → MayBeFound of_files put_end.state put_end.now x → (d : List ℕ)
             → OpensAs S (stored_in x) d → OpensAs S (with_stored m name given) d
@@ -152,29 +149,43 @@ module _ (given name : List ℕ) where
     same_left DiskWrite d is = inl is
     same_left refusal d is = is
 
+    -- why it was refused
+    module _ (pushes : List Digits) (tail : Tail) (is : IsTail given name pushes tail) (runs : RunsByFiles S (put_lines given name pushes tail) (unopened m store) v w)
+        (refusal : Refusal) (refuses : (tail_end given name tail (last_push given name begun 0 pushes)).reply ≡ replies.Refused refusal)
+        (sink sink_now : SinkView) (wrote : Wrote (Ingest name) given m (Some (Refused refusal)) sink sink_now) where
+      refused_answers : ((x : Found (List ℕ)) → MayBeFound of_files (end pushes tail is runs).state (end pushes tail is runs).now x → (d : List ℕ) → OpensAs S (stored_in x) d
+          → IsLeftAs S (Ingest name) given m (Some (Refused refusal)) d) → AnswersByMap S (Ingest name) given (Some (Refused refusal)) m v w sink sink_now
+      refused_answers leaves =
+          ingest_answers pushes tail is runs (Some (Refused refusal)) sink sink_now tt leaves
+          (refused_by given name S m store v w was ingests pushes tail is runs refusal refuses clashes distinct given_in) wrote
+          (refused_adds given name S m store v w was ingests pushes tail is runs refusal refuses (is_write refusal))
+
     -- by the ending
     put_answers : (ending : Option Ending) (tail : Tail) → EndsAs ending tail → (pushes : List Digits) → IsTail given name pushes tail
-        → RunsByFiles S (put_lines given name pushes tail) (unopened m store) v w → EndsSo (Ingest name) given ending m v w → (sink sink_now : SinkView)
+        → RunsByFiles S (put_lines given name pushes tail) (unopened m store) v w → (sink sink_now : SinkView)
         → Wrote (Ingest name) given m ending sink sink_now → AnswersByMap S (Ingest name) given ending m v w sink sink_now
-    put_answers None (Commit (replies.Committed a sequence)) ends pushes is runs why sink sink_now wrote =
+    put_answers None (Commit (replies.Committed a sequence)) ends pushes is runs sink sink_now wrote =
         ingest_answers pushes (Commit (replies.Committed a sequence)) is runs None sink sink_now (committed_can pushes (replies.Committed a sequence) is runs tt)
-        (committed_left pushes (replies.Committed a sequence) is runs tt) (inl (committed_can pushes (replies.Committed a sequence) is runs tt)) wrote
-    put_answers (Some Sink) (Commit (replies.Committed a sequence)) ends pushes is runs why sink sink_now wrote =
+        (committed_left pushes (replies.Committed a sequence) is runs tt) (committed_can pushes (replies.Committed a sequence) is runs tt) wrote
+        (done_adds given name S m store v w was ingests pushes (Commit (replies.Committed a sequence)) is runs refl tt)
+    put_answers (Some Sink) (Commit (replies.Committed a sequence)) ends pushes is runs sink sink_now wrote =
         ingest_answers pushes (Commit (replies.Committed a sequence)) is runs (Some Sink) sink sink_now (committed_can pushes (replies.Committed a sequence) is runs tt)
-        (committed_left pushes (replies.Committed a sequence) is runs tt) (inl (committed_can pushes (replies.Committed a sequence) is runs tt)) wrote
-    put_answers (Some Source) Nothing ends pushes is runs why sink sink_now wrote =
+        (committed_left pushes (replies.Committed a sequence) is runs tt) (committed_can pushes (replies.Committed a sequence) is runs tt) wrote
+        (done_adds given name S m store v w was ingests pushes (Commit (replies.Committed a sequence)) is runs refl tt)
+    put_answers (Some Source) Nothing ends pushes is runs sink sink_now wrote =
         ingest_answers pushes Nothing is runs (Some Source) sink sink_now tt
-        (λ x may d opens. as_found S x (Now m) d (still pushes Nothing is runs (λ none. none) x may) opens) (inl (name, refl)) wrote
-    put_answers (Some (Refused refusal)) (Push digits reason) ends pushes is runs why sink sink_now wrote =
-        ingest_answers pushes (Push digits reason) is runs (Some (Refused refusal)) sink sink_now tt
-        (λ x may d opens. same_left refusal d (as_found S x (Now m) d (still pushes (Push digits reason) is runs (λ none. none) x may) opens)) why wrote
-    put_answers (Some (Refused refusal)) (Finish reason) ends pushes is runs why sink sink_now wrote =
-        ingest_answers pushes (Finish reason) is runs (Some (Refused refusal)) sink sink_now tt
-        (λ x may d opens. same_left refusal d (as_found S x (Now m) d (still pushes (Finish reason) is runs (λ none. none) x may) opens)) why wrote
-    put_answers (Some (Refused refusal)) (Commit (replies.Refused reason)) ends pushes is runs why sink sink_now wrote =
-        ingest_answers pushes (Commit (replies.Refused reason)) is runs (Some (Refused refusal)) sink sink_now tt
-        (uncommitted_left pushes (replies.Refused reason) is runs refusal (ap replies.Refused (sym ends))) why wrote
-    put_answers ending tail ends pushes is runs why sink sink_now wrote = absurd ends
+        (λ x may d opens. as_found S x (Now m) d (still pushes Nothing is runs (λ none. none) x may) opens) (name, refl) wrote
+        (source_adds given name S m store v w was ingests pushes Nothing is runs refl)
+    put_answers (Some (Refused refusal)) (Push digits reason) ends pushes is runs sink sink_now wrote =
+        refused_answers pushes (Push digits reason) is runs refusal (ap replies.Refused (sym ends)) sink sink_now wrote
+        (λ x may d opens. same_left refusal d (as_found S x (Now m) d (still pushes (Push digits reason) is runs (λ none. none) x may) opens))
+    put_answers (Some (Refused refusal)) (Finish reason) ends pushes is runs sink sink_now wrote =
+        refused_answers pushes (Finish reason) is runs refusal (ap replies.Refused (sym ends)) sink sink_now wrote
+        (λ x may d opens. same_left refusal d (as_found S x (Now m) d (still pushes (Finish reason) is runs (λ none. none) x may) opens))
+    put_answers (Some (Refused refusal)) (Commit (replies.Refused reason)) ends pushes is runs sink sink_now wrote =
+        refused_answers pushes (Commit (replies.Refused reason)) is runs refusal (ap replies.Refused (sym ends)) sink sink_now wrote
+        (uncommitted_left pushes (replies.Refused reason) is runs refusal (ap replies.Refused (sym ends)))
+    put_answers ending tail ends pushes is runs sink sink_now wrote = absurd ends
 
   -- ---- of a call
 
@@ -196,14 +207,14 @@ module _ (given name : List ℕ) where
         let memory = ingest_memory name given ending source source_now rs are none in
         record { none = none; refusal = Memory; ending_is = memory; wrote = same_written Memory memory }
 
-    ingest_spoken : IngestsByMap → IngestsThrough → IsIngest name given ending source source_now rs → (rs ≡ []) ⊎ AnswersOpened (Ingest name) given ending rs (view old) (view new)
-        sink sink_now
-    ingest_spoken ingests through are = elim (ingest_so ending source source_now rs are) [
+    ingest_spoken : IngestsByMap → IngestsClash → IngestsThrough → IsIngest name given ending source source_now rs
+        → (rs ≡ []) ⊎ AnswersOpened (Ingest name) given ending rs (view old) (view new) sink sink_now
+    ingest_spoken ingests clashes through are = elim (ingest_so ending source source_now rs are) [
       | inl none ↦ inl none
       | inr (tail, ((pushes, (is, lines_are)), ends)) ↦ inr (λ among m first distinct given_in known opens runs.
-          put_answers (IsIn among) m opens.store (view old) (view new) (was_store (IsIn among) m (view old) first known opens) ingests through ending tail ends pushes is
-          (subst (λ (l : List Replied). RunsByFiles (IsIn among) l (unopened m opens.store) (view old) (view new)) lines_are runs)
-          (does.ends first known among m distinct given_in opens) sink sink_now ingest_wrote)
+          put_answers (IsIn among) m opens.store (view old) (view new) (was_store (IsIn among) m (view old) first known opens) ingests clashes through distinct given_in
+          ending tail ends pushes is
+          (subst (λ (l : List Replied). RunsByFiles (IsIn among) l (unopened m opens.store) (view old) (view new)) lines_are runs) sink sink_now ingest_wrote)
     ]
 
     ingest_cuts : IsIngest name given ending source source_now rs → (among : ByteSet) → ((bytes : List ℕ) → IsSegmentOf given bytes → IsIn among bytes) → (m : FileMachine)
@@ -214,9 +225,9 @@ module _ (given name : List ℕ) where
           (λ files opened bytes opens cut. given_in bytes (put_cut given name pushes tail is opened bytes cut))
     ]
 
-pub ingest_by_map : (D : Type 0) (view : D → DiskView) → ListsThrough → IngestsByMap → IngestsThrough → (name : List ℕ) → AnswersEachCall D view (Ingest name)
-ingest_by_map D view lists ingests through name given rs ending old new source source_now sink sink_now does =
+pub ingest_by_map : (D : Type 0) (view : D → DiskView) → ListsThrough → IngestsByMap → IngestsClash → IngestsThrough → (name : List ℕ) → AnswersEachCall D view (Ingest name)
+ingest_by_map D view lists ingests clashes through name given rs ending old new source source_now sink sink_now does =
     answers_call D view (Ingest name) given rs ending old new source source_now sink sink_now (IsIngest name given ending source source_now) (λ v speaks. speaks) lists
     (ingest_silent given name D view rs ending old new source source_now sink sink_now does)
     (ingest_cuts given name D view rs ending old new source source_now sink sink_now does)
-    (ingest_spoken given name D view rs ending old new source source_now sink sink_now does ingests through) does
+    (ingest_spoken given name D view rs ending old new source source_now sink sink_now does ingests clashes through) does

@@ -5,6 +5,7 @@ use Rattle.std.proofs.lemmas.List.{append-nil}
 use Rattle.script_lines.specs.Grammar as lines
 use Rattle.script_lines.specs.ReplyValue as replies
 use Rattle.store_machine.specs.Ingests.{EndsCommitting}
+use Rattle.store_machine.specs.Storing.{MayCome}
 use Rattle.store_machine.specs.Commands as machine
 use Rattle.store_machine.specs.Commands.{IsPush, ends, given_by}
 use Rattle.backup_engine.specs.Singles.{begun}
@@ -72,11 +73,17 @@ module _ (given name : List ℕ) where
 
   -- ---- what was given
 
-  pub pushes_give : (all : List Digits) (reply : ReplyValue) (count : ℕ) (pushes : List Digits) (first : List ℕ)
-      → given_by 0 first (push_lines count pushes ++ tail_lines all (Commit reply)) ≡ first ++ pushed pushes
-  pushes_give all reply count [] first = sym (append-nil first)
-  pushes_give all reply count (d ∷ more) first =
-      pushes_give all reply (count + length (pushed_bytes d.digits)) more (first ++ pushed_bytes d.digits) ∙ append_assoc first (pushed_bytes d.digits) (pushed more)
+  tail_gives : (all : List Digits) (tail : Tail) (first : List ℕ) → given_by 0 first (tail_lines all tail) ≡ first
+  tail_gives all Nothing first = refl
+  tail_gives all (Push digits refusal) first = refl
+  tail_gives all (Finish refusal) first = refl
+  tail_gives all (Commit reply) first = refl
+
+  pub pushes_give : (all : List Digits) (tail : Tail) (count : ℕ) (pushes : List Digits) (first : List ℕ)
+      → given_by 0 first (push_lines count pushes ++ tail_lines all tail) ≡ first ++ pushed pushes
+  pushes_give all tail count [] first = tail_gives all tail first ∙ sym (append-nil first)
+  pushes_give all tail count (d ∷ more) first =
+      pushes_give all tail (count + length (pushed_bytes d.digits)) more (first ++ pushed_bytes d.digits) ∙ append_assoc first (pushed_bytes d.digits) (pushed more)
 
   -- ---- the last line
 
@@ -111,3 +118,41 @@ module _ (given name : List ℕ) where
   commit_last all reply one count [] = refl
   commit_last all reply one count (d ∷ more) =
       commit_last all reply (said (lines.Push 0 d.digits) (replies.Pushed 0 (count + length (pushed_bytes d.digits)))) (count + length (pushed_bytes d.digits)) more
+
+  -- which one it is
+  abbrev pub tail_end : Tail → Replied → Replied
+  tail_end Nothing prev = prev
+  tail_end (Push digits refusal) prev = refused (lines.Push 0 digits) refusal
+  tail_end (Finish refusal) prev = refused (lines.Finish 0) refusal
+  tail_end (Commit reply) prev = said (lines.Commit 0 name) reply
+
+  abbrev pub last_push : Replied → ℕ → List Digits → Replied
+  last_push prev count [] = prev
+  last_push prev count (d ∷ more) =
+      last_push (said (lines.Push 0 d.digits) (replies.Pushed 0 (count + length (pushed_bytes d.digits)))) (count + length (pushed_bytes d.digits)) more
+
+  tail_is_last : (all : List Digits) (tail : Tail) (prev : Replied) → machine.last_of (prev ∷ tail_lines all tail) ≡ Some (tail_end tail prev)
+  tail_is_last all Nothing prev = refl
+  tail_is_last all (Push digits refusal) prev = refl
+  tail_is_last all (Finish refusal) prev = refl
+  tail_is_last all (Commit reply) prev = refl
+
+  pub ends_with : (all : List Digits) (tail : Tail) (prev : Replied) (count : ℕ) (pushes : List Digits)
+      → machine.last_of (prev ∷ push_lines count pushes ++ tail_lines all tail) ≡ Some (tail_end tail (last_push prev count pushes))
+  ends_with all tail prev count [] = tail_is_last all tail prev
+  ends_with all tail prev count (d ∷ more) =
+      ends_with all tail (said (lines.Push 0 d.digits) (replies.Pushed 0 (count + length (pushed_bytes d.digits)))) (count + length (pushed_bytes d.digits)) more
+
+  -- what may come of the file after a push
+  pub push_comes : (rest : List ℕ) (prev : Replied) (count : ℕ) (pushes : List Digits) → MayCome rest prev.line → MayCome rest (last_push prev count pushes).line
+  push_comes rest prev count [] may = may
+  push_comes rest prev count (d ∷ more) may =
+      push_comes rest (said (lines.Push 0 d.digits) (replies.Pushed 0 (count + length (pushed_bytes d.digits)))) (count + length (pushed_bytes d.digits)) more tt
+
+  -- what comes of it after the last line
+  pub tail_comes : (pushes : List Digits) (tail : Tail) → IsTail pushes tail → (prev : Replied) → ((rest : List ℕ) → MayCome rest prev.line)
+      → (rest : List ℕ) × ((given ≡ pushed pushes ++ rest) × MayCome rest (tail_end tail prev).line)
+  tail_comes pushes Nothing (rest, is) prev may = (rest, (is, may rest))
+  tail_comes pushes (Push digits refusal) (rest, is) prev may = (pushed_bytes digits ++ rest, (is ∙ append_assoc (pushed pushes) (pushed_bytes digits) rest, tt))
+  tail_comes pushes (Finish refusal) is prev may = ([], (sym is ∙ sym (append-nil (pushed pushes)), refl))
+  tail_comes pushes (Commit reply) is prev may = ([], (sym is ∙ sym (append-nil (pushed pushes)), refl))

@@ -1,10 +1,8 @@
-pub mod Added
 pub mod ByFiles
 pub mod Called
 pub mod ClapLines
 pub mod ClapWords
 pub mod Checked
-pub mod Clashes
 pub mod CollectBegun
 pub mod CollectCauses
 pub mod CollectFaults
@@ -43,7 +41,6 @@ pub mod ListsFormat
 pub mod NameLines
 pub mod NamesKept
 pub mod NewContainers
-pub mod NoGcSteps
 pub mod NotDone
 pub mod NotOpened
 pub mod Numbers
@@ -52,19 +49,13 @@ pub mod OtherHeaders
 mod Prelude
 pub mod PutCauses
 pub mod PutChanges
-pub mod PutEnds
 pub mod PutFrame
-pub mod PutMaps
 pub mod PutNames
-pub mod PutStops
 pub mod ReadSteps
 pub mod Reading
 pub mod Reopened
 pub mod Replied
 pub mod Returned
-pub mod RightPuts
-pub mod RightRoots
-pub mod SameRoom
 pub mod Saying
 pub mod SayingEnds
 pub mod SayingFed
@@ -98,11 +89,11 @@ pub mod AnswersByMap
 mod CollectBytes
 mod CollectGiven
 pub mod CollectByMap
-pub mod EndsMade
 pub mod NamesByMap
 pub mod NoneCut
 pub mod Rested
 pub mod RestoreByMap
+pub mod IngestMade
 pub mod IngestByMap
 pub mod IngestCuts
 pub mod IngestTails

@@ -63,7 +63,6 @@ module _ (C : Type 0) (state : C → CoreState) (v w : DiskView) (old new : C) (
     were_listed : (ending : Option Ending) (source : SourceView) (sink sink_now : SinkView) → IsReplied ending sink sink_now → WroteReply (listing_text files) ending sink sink_now
         → Keeps table.List [] ending v w source source sink sink_now
     were_listed ending source sink sink_now replied wrote = record {
-      map = λ old known among m distinct right stands. tt;
       any = record {
         took = (refl, refl);
         caused = caused ending source sink sink_now replied;

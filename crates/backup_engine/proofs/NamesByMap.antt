@@ -15,7 +15,7 @@ use Rattle.backup_engine.specs.AnswersByMap.{EndsBy}
 use Rattle.backup_engine.specs.Line.{Delete}
 use Rattle.backup_engine.specs.Line as table
 use Rattle.backup_engine.specs.PlainMap.{MayDelete, room_of}
-use Rattle.backup_engine.proofs.AnswersByMap.{AnswersOpened, answers_call}
+use Rattle.backup_engine.proofs.AnswersByMap.{AnswersOpened, answers_call, is_write}
 use Rattle.backup_engine.proofs.Ran.{delete_ran, list_ran, ran_cuts, ran_silent}
 use Rattle.backup_engine.proofs.Rested.{CanBeIf, all_lines, all_steps, answers_by, as_found, last, is_store, left_with, ran, rested, stays_left, was_store, WasStore}
 
@@ -26,10 +26,6 @@ refused_end rs line refusal is = (said line (replies.Refused refusal), is, refl)
 
 same_last : (rs : List Replied) (one other : Replied) → machine.last_of rs ≡ Some one → machine.last_of rs ≡ Some other → one ≡ other
 same_last rs one other is last = let both : Some one ≡ Some other = sym is ∙ last in cc
-
-is_write : (refusal : Refusal) → (refusal ≡ DiskWrite) ⊎ ((refusal ≡ DiskWrite) → ⊥)
-is_write DiskWrite = inl refl
-is_write refusal = inr (λ is. cc)
 
 -- ---- list
 
@@ -213,15 +209,15 @@ module _ (given name : List ℕ) where
           (subst P (ins.undone not_done) has)
 
       undone_store : (refusal ≡ DiskWrite) ⊎ ((refusal ≡ DiskWrite) → ⊥) → (opened : Store)
-          × (MakesRoom (rested m store) opened × ChangesStore (Delete name) (Some (Refused refusal)) opened w.content)
+          × (MakesRoom (rested m store) opened × ChangesStore (Delete name) given (Some (Refused refusal)) opened w.content)
       undone_store (inl is) =
-          (deleted.store.0, (deleted.store.1, subst (λ (r : Refusal). ChangesStore (Delete name) (Some (Refused r)) deleted.store.0 w.content) (sym is) tt))
+          (deleted.store.0, (deleted.store.1, subst (λ (r : Refusal). ChangesStore (Delete name) given (Some (Refused r)) deleted.store.0 w.content) (sym is) tt))
       undone_store (inr other) =
           let ins = deleted.store.2 in
           let opened : Store = deleted.store.0 in
           (opened, (deleted.store.1, unchanged refusal other opened (is_store S ds m store v w runs opened (ins.runs (only_so other), ins.undone not_done))))
         where
-          unchanged : (r : Refusal) → ((r ≡ DiskWrite) → ⊥) → (opened : Store) → IsStore opened w.content → ChangesStore (Delete name) (Some (Refused r)) opened w.content
+          unchanged : (r : Refusal) → ((r ≡ DiskWrite) → ⊥) → (opened : Store) → IsStore opened w.content → ChangesStore (Delete name) given (Some (Refused r)) opened w.content
           unchanged DiskWrite not opened is = tt
           unchanged r not opened is = is
 

@@ -23,7 +23,6 @@ module _ (C : Type 0) (state : C → CoreState) (v w : DiskView) (old new : C) (
         let replied = replied_sent (deleted_line name) result sink sink_now sent in
         let wrote = wrote_sent (deleted_line name) result sink sink_now sent in
         record {
-          map = λ old known among m distinct right stands. tt;
           any = done_any C state v w old new called name answer step.0 step.1 ending source sink sink_now replied wrote;
           frame = done_frame C state v w old new called name answer step.0 step.1 ending sink sink_now replied;
           found = tt;
@@ -35,7 +34,6 @@ module _ (C : Type 0) (state : C → CoreState) (v w : DiskView) (old new : C) (
     undeleted : (refusal : Refusal) → RefusesStep 0 (asked.Delete name) refusal (state old) (state new) →
         Keeps (Delete name) [] (Some (Refused refusal)) v w source source sink sink
     undeleted refusal step = record {
-      map = λ old known among m distinct right stands. tt;
       any = undone_any C state v w old new called name refusal step.0 step.1 source sink;
       frame = undone_frame C state v w old new called name refusal step.0 step.1;
       found = tt;

@@ -4,44 +4,10 @@ use Rattle.recovery.specs.Opening.{Opens}
 use Rattle.backup_engine.specs.Line.{Delete}
 use Rattle.backup_engine.specs.Line as table
 use Rattle.backup_engine.proofs.Called.{Called}
-use Rattle.backup_engine.proofs.Reading.{RefusedOver, since_start, reads_frame, reads_map, unchanged}
-
--- ---- over a map
+use Rattle.backup_engine.proofs.Reading.{since_start, reads_frame, unchanged}
 
 pub not_sink : (refusal : Refusal) → ¬ (Refused refusal ≡ Sink)
 not_sink refusal is = cc
-
--- the content is a store of the map's files
-pub left_with : (S : List ℕ → Type 0) (m : Stored) (old : List ℕ) (content : Option (List ℕ)) (P : Store → Type 0) → content ≡ Some old → (is : IsOf S m old) → P is.store →
-    IsLeftWith m content P
-left_with S m old content P told is holds = (is.store, (old, told, is.stands.holds), is.reserve, holds)
-
--- want of memory, whatever the map is
-no_memory : (command : CommandLine) (given : List ℕ) (S : List ℕ → Type 0) (m : Stored) (old : List ℕ) (before content : Option (List ℕ)) → content ≡ Some old → IsOf S m old →
-    RefusedBy command given m before content Memory
-no_memory (Format slots) given S m old before content told is = left_with S m old content (λ store. Unit {0}) told is tt
-no_memory (Ingest name) given S m old before content told is = left_with S m old content (λ store. Unit {0}) told is tt
-no_memory (Restore name) given S m old before content told is = left_with S m old content (λ store. Unit {0}) told is tt
-no_memory (Delete name) given S m old before content told is = left_with S m old content (λ store. Unit {0}) told is tt
-no_memory table.List given S m old before content told is = left_with S m old content (λ store. Unit {0}) told is tt
-no_memory (Collect percent) given S m old before content told is = left_with S m old content (λ store. Unit {0}) told is tt
-
--- and whatever the command is
-memory_ends : (command : CommandLine) (given : List ℕ) (v w : DiskView) → OnlyReads v w → RefusedOver command given Memory v w
-memory_ends command given v w reads old known among m distinct right is = no_memory command given (IsIn among) m old v.content w.content (reads.content_is ∙ known) is
-
-false_not_true : false ≡ true → ⊥
-false_not_true wrong = cc
-
--- memory or the disk failed, whatever the map is
-ingest_failed : (name given : List ℕ) (S : List ℕ → Type 0) (m : Stored) (old : List ℕ) (before content : Option (List ℕ)) → content ≡ Some old → IsOf S m old →
-    (refusal : Refusal) →
-    IsTrue (fails refusal)
-    → RefusedBy (Ingest name) given m before content refusal
-ingest_failed name given S m old before content told is Memory fails = left_with S m old content (λ store. Unit {0}) told is tt
-ingest_failed name given S m old before content told is DiskRead fails = left_with S m old content (λ store. Unit {0}) told is tt
-ingest_failed name given S m old before content told is DiskWrite fails = tt
-ingest_failed name given S m old before content told is refusal fails = absurd (false_not_true fails)
 
 -- ---- a store that was not opened
 
@@ -58,10 +24,6 @@ module _ (v w : DiskView) (refusal : Refusal) (is : IsUnopened v w refusal) wher
   pub map_fails : (S : List ℕ → Type 0) (m : Stored) (old : List ℕ) → v.content ≡ Some old → IsOf S m old → IsTrue (fails refusal)
   map_fails S m old known stands =
       fails_alone stands.store refusal stands.reserve (shown_content v w (IsGivenUp refusal) old is.given_up known stands.store stands.stands.holds.right)
-
-  ingest_ends : (name given : List ℕ) → RefusedOver (Ingest name) given refusal v w
-  ingest_ends name given old known among m distinct right stands =
-      ingest_failed name given (IsIn among) m old v.content w.content (is.reads.only.content_is ∙ known) stands refusal (map_fails (IsIn among) m old known stands)
 
 ingest_caused : (v w : DiskView) (name given : List ℕ) (source : SourceView) (sink : SinkView) (refusal : Refusal) → IsOpenRefusal (Shows v w) v.size refusal
     → IsCaused (Ingest name) given v w source source sink sink (Some (Refused refusal))
@@ -81,7 +43,6 @@ pub unopened_ingest : (v w : DiskView) (refusal : Refusal) → IsUnopened v w re
     Known source.left (λ all. given ≡ all)
     → Keeps (Ingest name) given (Some (Refused refusal)) v w source source sink sink
 unopened_ingest v w refusal is name given source sink took = record {
-  map = reads_map (Ingest name) given refusal v w sink sink is.reads.only (ingest_ends v w refusal is name given);
   any = record {
     took = λ all told. (took all told, tt);
     caused = ingest_caused v w name given source sink refusal is.cause;
@@ -100,7 +61,6 @@ unopened_ingest v w refusal is name given source sink took = record {
 pub unopened_restore : (v w : DiskView) (refusal : Refusal) → IsUnopened v w refusal → (name : List ℕ) (source : SourceView) (sink : SinkView)
     → Keeps (Restore name) [] (Some (Refused refusal)) v w source source sink sink
 unopened_restore v w refusal is name source sink = record {
-  map = λ old known among m distinct right stands. tt;
   any = record {
     took = (refl, refl);
     caused = restore_caused v w name [] source sink refusal is.cause;
@@ -140,7 +100,6 @@ collect_caused v w percent source sink refusal cause = inl cause
 pub unopened_delete : (v w : DiskView) (refusal : Refusal) → IsUnopened v w refusal → (name : List ℕ) (source : SourceView) (sink : SinkView)
     → Keeps (Delete name) [] (Some (Refused refusal)) v w source source sink sink
 unopened_delete v w refusal is name source sink = record {
-  map = λ old known among m distinct right stands. tt;
   any = record {
     took = (refl, refl);
     caused = delete_caused v w name source sink refusal is.cause;
@@ -159,7 +118,6 @@ unopened_delete v w refusal is name source sink = record {
 pub unopened_list : (v w : DiskView) (refusal : Refusal) → IsUnopened v w refusal → (source : SourceView) (sink : SinkView)
     → Keeps table.List [] (Some (Refused refusal)) v w source source sink sink
 unopened_list v w refusal is source sink = record {
-  map = λ old known among m distinct right stands. tt;
   any = record {
     took = (refl, refl);
     caused = list_caused v w source sink refusal is.cause;
@@ -178,7 +136,6 @@ unopened_list v w refusal is source sink = record {
 pub unopened_collect : (v w : DiskView) (refusal : Refusal) → IsUnopened v w refusal → (percent : ℕ) (source : SourceView) (sink : SinkView)
     → Keeps (Collect percent) [] (Some (Refused refusal)) v w source source sink sink
 unopened_collect v w refusal is percent source sink = record {
-  map = λ old known among m distinct right stands. tt;
   any = record {
     took = (refl, refl);
     caused = collect_caused v w percent source sink refusal is.cause;
@@ -241,7 +198,6 @@ pub without_memory : (command : CommandLine) (given : List ℕ) (v w : DiskView)
     Took command given (Some (Refused Memory)) source source_now → source_now.faults ≡ source.faults
     → Keeps command given (Some (Refused Memory)) v w source source_now sink sink
 without_memory command given v w source source_now sink reads took faults = record {
-  map = reads_map command given Memory v w sink sink reads.only (memory_ends command given v w reads.only);
   any = record {
     took = took;
     caused = tt;

@@ -68,7 +68,6 @@ module _ (C : Type 0) (state : C → CoreState) (v w : DiskView) (old new : C) (
 
     kept : Keeps (Restore name) [] (Some (endings.Refused refusal)) v w source source sink sink
     kept = record {
-      map = λ old known among m distinct right stands. tt;
       any = record {
         took = (refl, refl);
         caused = caused_by refusal row.0;

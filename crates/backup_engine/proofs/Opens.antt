@@ -13,7 +13,6 @@ use Rattle.backup_engine.proofs.Lending.{below, lent_end, lent_view, made_there}
 use Rattle.backup_engine.proofs.NotDone.{holds}
 use Rattle.backup_engine.proofs.Unlent.{holds as holds_back}
 use Rattle.backup_engine.proofs.FailsAlone.{fails_memory}
-use Rattle.backup_engine.proofs.EndsMade.{read_runs}
 
 -- a core that was opened is fresh
 pub opened_fresh : (D : Type 0) (view : D → DiskView) (v : DiskView) (c : CoreState) → OpensCore D view v c → IsRunning c → IsFresh c
@@ -140,7 +139,7 @@ module _ (D : Type 0) (view : D → DiskView) (C : Type 0) (state : C → CoreSt
           → DoesCommand D view command given rs ending (view first.now) w source source_now sink sink_now
       does_opened (inl read) goes =
           let went = goes first (called first read) in
-          does_here D view command given (view first.now) w source source_now sink sink_now rs ending (read_runs (lent first) (state old) read) went.0 went.1 by_files
+          does_here D view command given (view first.now) w source source_now sink sink_now rs ending went.0 went.1 by_files
           alone (read_holds first read)
       does_opened (inr is) goes =
           let went = goes is.0 (called is.0 is.1.1) in

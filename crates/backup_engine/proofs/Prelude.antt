@@ -18,7 +18,8 @@ pub use Rattle.actor_parts.specs.StepValue.{IsStep, StepValue}
 pub use Rattle.actor_parts.specs.declared.actor.TheConstants.{ACTORS}
 pub use Rattle.actor_parts.specs.declared.part.Part.TheVariants.{Idle, Writing}
 pub use Rattle.actor_parts.specs.declared.step.Answer.{Answer}
-pub use Rattle.backup_engine.specs.Adding.{Adds, AddsOnce, AddsTo}
+pub use Rattle.backup_engine.specs.Adding.{Adds, AddsTo}
+pub use Rattle.store_machine.specs.Storing.{AddsOnce}
 pub use Rattle.backup_engine.specs.AnswersByMap.{AnswersByMap, AnswersEachCall, ChangesStore, IsLeftAs, IsStore, LeavesAs, MayBeMeanwhile, WasNotDone, Wrote, WroteFile}
 pub use Rattle.backup_engine.specs.AnyDisk.{EndsDurable, FindsBeforeWriting, FindsNames, Formats, GivesBack, HasAdded, HasSwept, Holds, IsCaused, IsDeleted, IsStored, IsUnlikeNode, IsUnmarked, IsUnwritten, OnAnyDisk, ReadsSince, ShownSince, ShownThere, Took, WroteOnAny, disk_ending, room_in}
 pub use Rattle.backup_engine.specs.ByFiles.{CutsAmong, FailsAlone, RefusedByFiles, RunsByFiles, RunsEachByFiles}
@@ -36,7 +37,7 @@ pub use Rattle.backup_engine.specs.Lists.{Call}
 pub use Rattle.backup_engine.specs.Naming.{DeleteRun, ListRun, WritesNames}
 pub use Rattle.backup_engine.specs.Noted.{status_by}
 pub use Rattle.backup_engine.specs.PlainMap.{CanBeDone, HasNoRoomForName, HasTwins, IsPiece, LacksNumbers, Refuses, RefusesIngest, Room, map_after}
-pub use Rattle.backup_engine.specs.Promise.{EndsFailing, EndsSo, GivesSlotsBack, IsLeftWith, KeepsEachMap, KeepsMap, LeavesMeanwhile, MayChange, RefusedBy, SinceStart, WhyRefused, WroteReply}
+pub use Rattle.backup_engine.specs.Promise.{EndsFailing, GivesSlotsBack, IsLeftWith, LeavesMeanwhile, MayChange, RefusedBy, SinceStart, WhyRefused, WroteReply}
 pub use Rattle.backup_engine.specs.Putting.{AreKept, AreNew, Way, length_in}
 pub use Rattle.backup_engine.specs.Reopening.{HasNoRoom}
 pub use Rattle.backup_engine.specs.Running.{AreWhole, EndsGiving, EndsPut, GiveRun, HoldsPieces, IsAskedFor, IsDoneBefore, IsFresh, IsGiven, IsGivenOut, IsLastPut, IsNoCommit, IsNotOpened, IsOk, IsOneOf, IsPutRefusal, IsPutStep, IsRead, IsWholeAt, PutRun, WroteGiven, WroteLast, seal_by, seals_of}

@@ -6,7 +6,6 @@ use Rattle.actor_parts.specs.declared.step.Answer.TheVariants as answers
 use Rattle.actor_parts.specs.StepValue as asked
 use Rattle.store_model.specs.Steps.{changed}
 use Rattle.store_core.specs.Core.{Row}
-use Rattle.backup_engine.proofs.NoGcSteps.{asked_no_gc}
 
 -- ---- the steps but the last one, and the last one
 
@@ -370,6 +369,15 @@ module _ (s : Store) (old new : CoreState) (on : IsOn s old) where
   put_last name bytes put asked.Stat answer asks last effect = absurd last
   put_last name bytes put (asked.GcStart percent) answer asks last effect = absurd last
   put_last name bytes put asked.GcStep answer asks last effect = absurd last
+
+-- it is none of a collection
+asked_no_gc : (name given : List ℕ) (step : StepValue) (put : List ℕ) → IsAskedFor name given step put → IsNoGcStep step
+asked_no_gc name given asked.GcStep put is = absurd is
+asked_no_gc name given asked.Begin put is = tt
+asked_no_gc name given (asked.Claim seg) put is = tt
+asked_no_gc name given (asked.Seal filled) put is = tt
+asked_no_gc name given (asked.Commit n root) put is = tt
+asked_no_gc name given step put is = absurd is
 
 module _ (C : Type 0) (state : C → CoreState) (name bytes : List ℕ) (s : Store) where
   ends_at : (result : Result Unit Refusal) (mid new : C) → IsOn s (state mid) → EndsBy C state name bytes result mid new → EndsAt name result s (state new)

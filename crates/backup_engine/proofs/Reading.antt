@@ -1,10 +1,9 @@
 -- What a command leaves that did no more than read.
-use Rattle.backup_engine.proofs.Prelude.{◌⊎◌, ◌≡◌, inl, inr, ℕ, List, [], Option, Some, refl, ◌∙◌, arith, DiskView, OnlyReads, SinkView, Refusal, DiskWrite, Refused, IsOf, Store, Encodes, Adds, CommandLine, Format, Ingest, Restore, Collect, LeavesMeanwhile, RefusedBy, SinceStart, KeepsEachMap, KeepsRest, KeepsOthers, IsSameDisk}
+use Rattle.backup_engine.proofs.Prelude.{◌⊎◌, ◌≡◌, inl, inr, ℕ, List, [], Option, Some, refl, ◌∙◌, arith, DiskView, OnlyReads, SinkView, Refusal, DiskWrite, Refused, IsOf, Store, Encodes, Adds, CommandLine, Format, Ingest, Restore, Collect, LeavesMeanwhile, RefusedBy, SinceStart, KeepsRest, KeepsOthers, IsSameDisk}
 use Rattle.reply_text.specs.declared.ending.Ending.{Ending}
 use Rattle.backup_engine.specs.AnyDisk.{IsUnchanged}
 use Rattle.backup_engine.specs.Line.{Delete}
 use Rattle.backup_engine.specs.Line as table
-use Rattle.backup_engine.specs.Promise.{OverEachMap}
 
 -- ---- what stays
 
@@ -59,28 +58,3 @@ reads_frame command ending v w reads = record {
   content = λ old known. (old, reads.content_is ∙ known, kept command ending old);
   crash = λ old known. reads_leave v w reads _;
 }
-
--- ---- over a map
-
--- what the plain map says of why a command was refused
-abbrev pub RefusedOver : CommandLine → List ℕ → Refusal → DiskView → DiskView → Type 0
-RefusedOver command given refusal v w = OverEachMap IsOf given v (λ m. RefusedBy command given m v.content w.content refusal)
-
--- what was refused adds nothing to a content that stays
-added_none : (name given : List ℕ) (refusal : Refusal) (store : Store) (old : List ℕ) (content : Option (List ℕ)) → content ≡ Some old → Encodes old store
-    → Adds name given (Some (Refused refusal)) store content
-added_none name given DiskWrite store old content told right = tt
-added_none name given refusal store old content told right = record { changes = []; after = store; chain = refl; once = tt; content_is = (old, told, right) }
-
--- what was refused, and only read
-pub reads_map : (command : CommandLine) (given : List ℕ) (refusal : Refusal) (v w : DiskView) (sink sink_now : SinkView) → OnlyReads v w
-    → RefusedOver command given refusal v w → KeepsEachMap command given (Some (Refused refusal)) v w sink sink_now
-reads_map (Ingest name) given refusal v w sink sink_now reads why old known among m distinct right is = (
-  why old known among m distinct right is,
-  λ first told store encodes. added_none name given refusal store first w.content (reads.content_is ∙ told) encodes,
-)
-reads_map (Collect percent) given refusal v w sink sink_now reads why old known among m distinct right is = tt
-reads_map (Format slots) given refusal v w sink sink_now reads why old known among m distinct right is = tt
-reads_map (Restore name) given refusal v w sink sink_now reads why old known among m distinct right is = tt
-reads_map (Delete name) given refusal v w sink sink_now reads why old known among m distinct right is = tt
-reads_map table.List given refusal v w sink sink_now reads why old known among m distinct right is = tt

@@ -66,8 +66,8 @@ meanwhile S command given m (Some ending) d can is = inl is
 
 module _ (S : List ℕ → Type 0) (rs : List Replied) (m : Stored) (store : Store) (v w : DiskView) (runs : RunsByFiles S rs (unopened m store) v w) where
   -- what it made of the store that was opened
-  abbrev pub MakesStore : CommandLine → Option Ending → Type 0
-  MakesStore line ending = (opened : Store) × (MakesRoom (rested m store) opened × ChangesStore line ending opened w.content)
+  abbrev pub MakesStore : CommandLine → List ℕ → Option Ending → Type 0
+  MakesStore line given ending = (opened : Store) × (MakesRoom (rested m store) opened × ChangesStore line given ending opened w.content)
 
   abbrev pub all_lines : List Replied
   all_lines = said lines.Reopen (replies.Opened runs.files) ∷ rs
@@ -162,7 +162,7 @@ module _ (S : List ℕ → Type 0) (rs : List Replied) (m : Stored) (store : Sto
             ]
 
     pub answers_by : WasStore m store v → (command : Command) → AreLinesOf command all_lines → Through command → (sink sink_now : SinkView) → CanBeIf line given m ending
-        → EndsBy line given m v.content w.content ending ⊎ EndsFailing ending → Wrote line given m ending sink sink_now → MakesStore line ending
+        → EndsBy line given m v.content w.content ending ⊎ EndsFailing ending → Wrote line given m ending sink sink_now → MakesStore line given ending
         → AnswersByMap S line given ending m v w sink sink_now
     answers_by was command are through sink sink_now can by_map wrote (opened, (room, changes)) = record {
       by_map = by_map;
@@ -175,13 +175,16 @@ module _ (S : List ℕ → Type 0) (rs : List Replied) (m : Stored) (store : Sto
   -- ---- the store at the end
 
   -- the opening made room
-  pub room_made : FreesTo (NamesNeed of_files (rested m store).now) runs.opens.freed store runs.opened.store
-  room_made = subst (λ (x : Found (List ℕ)). FreesTo (NamesNeed of_files x) runs.opens.freed store runs.opened.store) (runs.opens.may tt)
+  pub frees_to : FreesTo (NamesNeed of_files (rested m store).now) runs.opens.freed store runs.opened.store
+  frees_to = subst (λ (x : Found (List ℕ)). FreesTo (NamesNeed of_files x) runs.opens.freed store runs.opened.store) (runs.opens.may tt)
       (subst (λ (s : Store). FreesTo (NamesNeed of_files runs.opens.found) runs.opens.freed s runs.opened.store) (only_one store runs.opens.before (runs.opens.same tt))
       (runs.opens.frees tt))
 
+  pub room_made : MakesRoom (rested m store) runs.opened.store
+  room_made = (runs.opens.freed, frees_to)
+
   pub opened_room : (opened : Store) × MakesRoom (rested m store) opened
-  opened_room = (runs.opened.store, (runs.opens.freed, room_made))
+  opened_room = (runs.opened.store, room_made)
 
   -- what the opening left has its reserve
   pub has_reserve : (now : Store) → CanBeOpened store m.files → MakesRoom (rested m store) now → RESERVE ≤ free_slots now.held
@@ -203,9 +206,9 @@ module _ (S : List ℕ → Type 0) (rs : List Replied) (m : Stored) (store : Sto
     pub is_store : IsStore now w.content
     is_store = (runs.stands.content.0, runs.stands.content.1, subst (Encodes runs.stands.content.0) store_is may.is.holds.right)
 
-    -- and where the names stay it is of these files
-    pub left_so : RESERVE ≤ free_slots now.held → (P : Store → Type 0) → last.now ≡ (rested m store).now → P now → IsLeftWith m w.content P
-    left_so reserve P still has = (now, (runs.stands.content.0, runs.stands.content.1, is), reserve, has)
+    -- and where the names stay it is of these files, if it has its reserve
+    pub left_at : (P : Store → Type 0) → RESERVE ≤ free_slots now.held → last.now ≡ (rested m store).now → P now → IsLeftWith m w.content P
+    left_at P reserve still has = (now, (runs.stands.content.0, runs.stands.content.1, is), reserve, has)
       where
         found_is : may.found ≡ (rested m store).now
         found_is = subst (λ (state : RunState (List ℕ)). MayBeFound of_files state last.now may.found) at.0 may.may ∙ still
@@ -214,6 +217,6 @@ module _ (S : List ℕ → Type 0) (rs : List Replied) (m : Stored) (store : Sto
         is = subst (λ (s : Store). IsStoreOf s m.files runs.stands.content.0) store_is
             (subst (λ (x : Found (List ℕ)). IsStoreOf may.store x.names runs.stands.content.0) found_is may.is.holds)
 
-    -- so it is of what the opening left
+    -- as what the opening left has
     pub left_with : (P : Store → Type 0) → WasStore m store v → MakesRoom (rested m store) now → last.now ≡ (rested m store).now → P now → IsLeftWith m w.content P
-    left_with P was room still has = left_so (has_reserve now was.can room) P still has
+    left_with P was room still has = left_at P (has_reserve now was.can room) still has

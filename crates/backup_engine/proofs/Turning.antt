@@ -13,7 +13,7 @@ use Rattle.ingest_session.specs.Moving.{IsOffered}
 use Rattle.ingest_session.specs.Told.{IsSettled}
 use Rattle.ingest_session.proofs.Waiting.{claimed_turn}
 use Rattle.ingest_session.proofs.Waiting.{session_of}
-use Rattle.backup_engine.proofs.FedOpens.{left_differs, opens_absent}
+use Rattle.ingest_session.proofs.OpenOn.{left_differs, opens_absent}
 use Rattle.backup_engine.proofs.Feds.{fed_absent, fed_held, fed_sealed}
 use Rattle.backup_engine.proofs.KeptPieces as pieces
 use Rattle.backup_engine.proofs.WayClaims.{held_or_absent, way_absent, way_held}

@@ -313,7 +313,6 @@ module _ (loans loans_now : List ℕ) (v w : DiskView) where
     pub ingest_kept : (ending : Option Ending) → Keeps (Ingest name) given ending lent lent_now source source_now sink sink_now →
         Keeps (Ingest name) given ending v w source source_now sink sink_now
     ingest_kept ending is = record {
-      map = is.map;
       any = record {
         took = is.any.took;
         caused = ingest_caused ending is.any.caused;
@@ -332,7 +331,6 @@ module _ (loans loans_now : List ℕ) (v w : DiskView) where
     pub restore_kept : (ending : Option Ending) → Keeps (Restore name) given ending lent lent_now source source_now sink sink_now →
         Keeps (Restore name) given ending v w source source_now sink sink_now
     restore_kept ending is = record {
-      map = is.map;
       any = record {
         took = is.any.took;
         caused = restore_caused ending is.any.caused;
@@ -351,7 +349,6 @@ module _ (loans loans_now : List ℕ) (v w : DiskView) where
     pub delete_kept : (ending : Option Ending) → Keeps (Delete name) given ending lent lent_now source source_now sink sink_now →
         Keeps (Delete name) given ending v w source source_now sink sink_now
     delete_kept ending is = record {
-      map = is.map;
       any = record {
         took = is.any.took;
         caused = delete_caused ending is.any.caused;
@@ -370,7 +367,6 @@ module _ (loans loans_now : List ℕ) (v w : DiskView) where
     pub list_kept : (ending : Option Ending) → Keeps table.List given ending lent lent_now source source_now sink sink_now →
         Keeps table.List given ending v w source source_now sink sink_now
     list_kept ending is = record {
-      map = is.map;
       any = record {
         took = is.any.took;
         caused = list_caused ending is.any.caused;
@@ -389,7 +385,6 @@ module _ (loans loans_now : List ℕ) (v w : DiskView) where
     pub collect_kept : (percent : ℕ) (ending : Option Ending) → Keeps (Collect percent) given ending lent lent_now source source_now sink sink_now →
         Keeps (Collect percent) given ending v w source source_now sink sink_now
     collect_kept percent ending is = record {
-      map = is.map;
       any = record {
         took = is.any.took;
         caused = collect_caused percent ending is.any.caused;

@@ -18,6 +18,7 @@ use Rattle.store_model.specs.Image.{Store, Encodes}
 use Rattle.store_model.specs.Standing.{IsSegmentOf, file_listing}
 use Rattle.store_model.specs.Steps.{with_change}
 use Rattle.store_model.specs.Trees.{root_of}
+use Rattle.backup_engine.specs.Adding.{Adds}
 use Rattle.backup_engine.specs.Collected.{collected_line}
 use Rattle.backup_engine.specs.Line.{CommandLine, Format, Ingest, Restore, Delete, Collect}
 use Rattle.backup_engine.specs.Line as table
@@ -90,15 +91,24 @@ pub record OpensStore (m : Stored) (old : List ℕ) (P : Store → Type 0) : Typ
   pub room : MakesRoom (unopened m store) opened
   pub has : P opened
 
--- A `delete` puts a record into it that the name is gone, and nothing else; of a write or a sync of that that failed nothing is said. A
--- `list` leaves it. (What an `ingest` adds the call itself says, Promise.antt; what a `collect` gives back, CollectsByMap.antt.)
-abbrev pub ChangesStore : CommandLine → Option Ending → Store → Option (List ℕ) → Type 0
-ChangesStore (Delete name) None opened content = IsStore (with_change name Gone opened) content
-ChangesStore (Delete name) (Some Sink) opened content = IsStore (with_change name Gone opened) content
-ChangesStore (Delete name) (Some (Refused DiskWrite)) opened content = Unit {0}
-ChangesStore (Delete name) (Some ending) opened content = IsStore opened content
-ChangesStore table.List ending opened content = IsStore opened content
-ChangesStore command ending opened content = Unit {0}
+-- An `ingest` adds pieces of its file to it, each of them once, and its name. A `delete` puts a record into it that the name is gone, and
+-- nothing else; of a write or a sync of that that failed nothing is said. A `list` leaves it. (What a `collect` gives back:
+-- CollectsByMap.antt.)
+abbrev pub ChangesStore : CommandLine → List ℕ → Option Ending → Store → Option (List ℕ) → Type 0
+ChangesStore (Ingest name) given ending opened content = Adds name given ending opened content
+ChangesStore (Delete name) given None opened content = IsStore (with_change name Gone opened) content
+ChangesStore (Delete name) given (Some Sink) opened content = IsStore (with_change name Gone opened) content
+ChangesStore (Delete name) given (Some (Refused DiskWrite)) opened content = Unit {0}
+ChangesStore (Delete name) given (Some ending) opened content = IsStore opened content
+ChangesStore table.List given ending opened content = IsStore opened content
+ChangesStore command given ending opened content = Unit {0}
+
+-- The store was not opened, or no line was run, and it failed: the content is as it was, or room was made in it and nothing else; or a
+-- write or a sync failed.
+abbrev pub StaysUnopened : Option Ending → Stored → Option (List ℕ) → Option (List ℕ) → Type 0
+StaysUnopened ending m before content = EndsFailing ending
+    × ((ending ≡ Some (Refused DiskWrite))
+    ⊎ KnownWith before (λ old. (content ≡ Some old) ⊎ OpensStore m old (λ opened. IsStore opened content)))
 
 -- ---- all of it
 
@@ -109,8 +119,8 @@ pub record AnswersByMap (S : List ℕ → Type 0) (command : CommandLine) (given
     (disk disk_now : DiskView) (sink sink_now : SinkView) : Type 0 where
   pub by_map : EndsBy command given m disk.content disk_now.content ending ⊎ EndsFailing ending
   pub wrote : Wrote command given m ending sink sink_now
-  pub store : KnownWith disk.content (λ old. OpensStore m old (λ opened. ChangesStore command ending opened disk_now.content))
-      ⊎ EndsFailing ending
+  pub store : KnownWith disk.content (λ old. OpensStore m old (λ opened. ChangesStore command given ending opened disk_now.content))
+      ⊎ StaysUnopened ending m disk.content disk_now.content
   pub left : LeavesAs (IsLeftAs S command given m ending) ending disk disk_now
   pub crash : LeavesMeanwhile (MayBeMeanwhile S command given m ending) disk disk_now
 

@@ -57,8 +57,8 @@ use Rattle.read_steps.specs.Opening.{HasRoot, top_of}
 use Rattle.read_steps.specs.Walking.{GivesAll, IsNextRefusal}
 use Rattle.store_core.specs.Releases.{copied_in, freed_in}
 use Rattle.store_core.specs.Runs.{ChangesTo}
-use Rattle.backup_engine.specs.Adding.{AddsOnce}
 use Rattle.store_machine.specs.CollectsByNeed.{FreesUpTo, written_in}
+use Rattle.store_machine.specs.Storing.{AddsOnce}
 use Rattle.backup_engine.specs.Collected.{IsOfCollection, collected_line}
 use Rattle.backup_engine.specs.Line.{CommandLine, Format, Ingest, Restore, Delete, Collect, name_of}
 use Rattle.backup_engine.specs.Line as table

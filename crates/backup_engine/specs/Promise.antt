@@ -21,7 +21,6 @@ use Rattle.store_model.specs.Standing.{IsStoreOf, IsSegmentOf}
 use Rattle.store_model.specs.Trees.{bytes_at, node_key}
 use Rattle.store_state.specs.Comparing.{FirstDifference}
 use Rattle.store_state.specs.Refused.{fails}
-use Rattle.backup_engine.specs.Adding.{Adds}
 use Rattle.backup_engine.specs.Collected.{Collected, CollectedAll, HasNoIdLeft, collected_line}
 use Rattle.backup_engine.specs.Line.{CommandLine, Ingest, Delete, Collect}
 use Rattle.backup_engine.specs.PlainMap.{Refuses, room_of}
@@ -117,39 +116,6 @@ pub record LeavesMeanwhile (P : List ℕ → Type 0) (disk disk_now : DiskView) 
 abbrev pub Stands : (List ℕ → Type 0) → DiskView → Type 0
 Stands P v = KnownWith v.content P × ((c : List ℕ) → v.images c → P c)
 
--- what is so of each map that the content stands for, where no two different data segments have one digest: of a set of those that the disk
--- holds and is given
-abbrev pub OverEachMap : ((List ℕ → Type 0) → Stored → List ℕ → Type 0) → List ℕ → DiskView → (Stored → Type 0) → Type 0
-OverEachMap StandsAs given disk P =
-    Known disk.content (λ old. (among : ByteSet) (m : Stored) → HasNoCollisions (IsIn among)
-    → ((bytes : List ℕ) → IsSegmentOf given bytes → IsIn among bytes) → StandsAs (IsIn among) m old → P m)
-
--- P is so of the store that the content was
-abbrev pub OfStoreBefore : DiskView → (Store → List ℕ → Type 0) → Type 0
-OfStoreBefore disk P = Known disk.content (λ old. (store : Store) → Encodes old store → P store old)
-
--- Over a content that is a store of the map m, with two closed slots or more: why an `ingest` was refused, and what it made of the store.
--- All else that it does to the map follows from its lines (AnswersByMap.antt), and so does all that the others do; what a `collect` gives
--- back, and why it is refused, too (CollectsByMap.antt).
-abbrev pub KeepsMap : CommandLine → List ℕ → Option Ending → Stored → DiskView → DiskView → SinkView → SinkView → Type 0
-KeepsMap (Ingest name) given ending m disk disk_now sink sink_now =
-    WhyRefused (Ingest name) given m disk.content disk_now.content ending
-    × OfStoreBefore disk (λ store old. Adds name given ending store disk_now.content)
-KeepsMap command given ending m disk disk_now sink sink_now = Unit {0}
-
-abbrev pub KeepsEachMap : CommandLine → List ℕ → Option Ending → DiskView → DiskView → SinkView → SinkView → Type 0
-KeepsEachMap command given ending disk disk_now sink sink_now =
-    OverEachMap IsOf given disk (λ m. KeepsMap command given ending m disk disk_now sink sink_now)
-
 -- it was not done, as there was no memory, or a call of the disk failed
 abbrev pub EndsFailing : Option Ending → Type 0
 EndsFailing ending = (refusal : Refusal) × ((ending ≡ Some (Refused refusal)) × IsTrue (fails refusal))
-
--- So it was refused, also where the opening gave containers back first; or it failed.
-abbrev pub EndsSo : CommandLine → List ℕ → Option Ending → Stored → DiskView → DiskView → Type 0
-EndsSo (Ingest name) given ending m disk disk_now =
-    WhyRefused (Ingest name) given m disk.content disk_now.content ending ⊎ EndsFailing ending
-EndsSo command given ending m disk disk_now = Unit {0}
-
-abbrev pub EndsEachMap : CommandLine → List ℕ → Option Ending → DiskView → DiskView → Type 0
-EndsEachMap command given ending disk disk_now = OverEachMap OpensAs given disk (λ m. EndsSo command given ending m disk disk_now)

@@ -17,7 +17,7 @@ use Rattle.store_core.specs.Core.{IndexesAll, OfEachIndexed}
 use Rattle.store_core.specs.Keeping.{kept_of}
 use Rattle.store_core.specs.Runs.{ChangesTo, CoreRun, FileEvent, events_of}
 use Rattle.store_core.specs.State.{CoreState, IsUp}
-use Rattle.backup_engine.specs.Adding.{AddsOnce}
+use Rattle.store_machine.specs.Storing.{AddsOnce}
 use Rattle.backup_engine.specs.Running.{IsDoneBefore, IsOneOf, IsPutStep, seals_of}
 
 -- ---- what is kept

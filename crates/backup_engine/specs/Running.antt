@@ -27,7 +27,7 @@ use Rattle.store_core.specs.Core.{OfEachIndexed, CoreStep}
 use Rattle.store_core.specs.Keeping.{kept_by}
 use Rattle.store_core.specs.Runs.{CoreRun, FileEvent, events_of, opens, given_to}
 use Rattle.store_core.specs.State.{CoreState, Event, IsUp}
-use Rattle.backup_engine.specs.Adding.{AddsOnce}
+use Rattle.store_machine.specs.Storing.{AddsOnce}
 use Rattle.backup_engine.specs.AnyDisk.{IsUnlikeNode, ReadsSince, room_in}
 use Rattle.backup_engine.specs.Line.{Ingest}
 use Rattle.backup_engine.specs.Singles.{IsFirstOf}

@@ -18,7 +18,7 @@ use Rattle.backup_engine.specs.Checking.{ChecksDisk}
 use Rattle.backup_engine.specs.Frame.{KeepsOthers}
 use Rattle.backup_engine.specs.Line.{CommandLine, Format, TableLine, Single, Run, Check}
 use Rattle.backup_engine.specs.Noted.{AreNoted, status_by}
-use Rattle.backup_engine.specs.Promise.{EndsEachMap, KeepsEachMap, SinceStart}
+use Rattle.backup_engine.specs.Promise.{SinceStart}
 use Rattle.backup_engine.specs.Script.{KeepsScript}
 use Rattle.backup_engine.specs.Seen.{Seen}
 use Rattle.backup_engine.specs.Singles.{SpeaksAs}
@@ -47,8 +47,6 @@ IsUntouched command ending disk disk_now = Unit {0}
 
 pub record Keeps (command : CommandLine) (given : List ℕ) (ending : Option Ending) (disk disk_now : DiskView)
     (source source_now : SourceView) (sink sink_now : SinkView) : Type 0 where
-  -- Over a disk that stands for a map an `ingest` ends for its cause, and makes this of the store.
-  pub map : KeepsEachMap command given ending disk disk_now sink sink_now
   -- Over any disk, each ending has its cause.
   pub any : OnAnyDisk command given ending disk disk_now source source_now sink sink_now
   -- And whatever the disk holds, what was open stays.
@@ -108,7 +106,6 @@ pub record DoesCommand (D : Type 0) (view : D → DiskView) (command : CommandLi
     (ending : Option Ending) (disk disk_now : DiskView) (source source_now : SourceView) (sink sink_now : SinkView) : Type 0 where
   pub by_files : RunsEachByFiles ending rs disk disk_now
   pub fails_alone : rs ≡ [] → FailsAlone ending rs disk
-  pub ends : EndsEachMap command given ending disk disk_now
   pub took : Took command given ending source source_now
   pub way : OnceThereWasRoom D view (λ v. Keeps command given ending v disk_now source source_now sink sink_now
       × SpeaksAs command given ending rs v disk_now source source_now sink sink_now) ending disk disk_now

@@ -13,10 +13,11 @@ use store_machine::{
 };
 
 /// A single command answers by the map: over a disk that stands for one, also where its opening gives containers back first, it ends as the
-/// plain map has it, or fails for want of memory or as a call of the disk failed; it writes what the map says; and it leaves the map as it
-/// was, or as it is after the command, at its end and at each moment. A `collect` gives back just the containers of which the files need
-/// less than the percentage, or nothing, copies just what they need of these, each once, and says how many both are. So it is by what the
-/// top call says of its lines. The function does nothing.
+/// plain map has it, or fails for want of memory or as a call of the disk failed; it writes what the map says; an `ingest` adds pieces of
+/// its file to the store, each of them once, and its name, and a `delete` a record; and it leaves the map as it was, or as it is after the
+/// command, at its end and at each moment. A `collect` gives back just the containers of which the files need less than the percentage, or
+/// nothing, copies just what they need of these, each once, and says how many both are. So it is by what the top call says of its lines. The
+/// function does nothing.
 pub fn a_command_answers_by_the_map<D: Disk>()
     ensures list { AnswersEachCall D D.view table.List }
     ensures restore { (name : List ℕ) → AnswersEachCall D D.view (Restore name) }

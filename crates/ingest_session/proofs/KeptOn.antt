@@ -43,7 +43,7 @@ module _ (s : SessionState) (h : History) (more : List ℕ) (has : HasHistory s 
         subst (λ (xs : List Segment). IsIn x (xs ++ g.sealed kind)) (same.held kind ∙ sym (comes.held kind))
         (subst (λ (xs : List Segment). IsIn x (is.from.held kind ++ xs)) (same.sealed kind ∙ sym (comes.sealed kind)) is.there)
 
-  here : Reaches true all s h
+  pub here : Reaches true all s h
   here = reaches true all s h has extends
 
   pub kept_here : (kind : Kind) (x : Segment) → IsKept h kind x → KeptBy all h.answers kind x
@@ -54,7 +54,7 @@ module _ (s : SessionState) (h : History) (more : List ℕ) (has : HasHistory s 
 
   -- so it is after an answer more
   module _ (answer : Answer) (settled : IsSettled s) (right : IsAnswerFor answer (due_in s)) where
-    after : Reaches true all (told_by answer s) (answered answer s h)
+    pub after : Reaches true all (told_by answer s) (answered answer s h)
     after = told_reach true all s h answer has extends settled right here
 
     pub kept_after : (kind : Kind) (x : Segment) → IsKept (answered answer s h) kind x → KeptBy all (h.answers ++ answer ∷ []) kind x

@@ -33,3 +33,4 @@ pub mod DueOnes
 pub mod KeptOnes
 pub mod KeptPieces
 pub mod KeptOn
+pub mod OpenOn

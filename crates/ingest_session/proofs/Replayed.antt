@@ -3,14 +3,14 @@ use Rattle.ingest_session.proofs.Prelude.{◌≡◌, ◌≤◌, ◌⊎◌, inl, 
 use Rattle.std.proofs.Common.{not, if◌then◌else◌, Option, None}
 use Rattle.std.proofs.lemmas.List.{reverse-append}
 use Rattle.merkle_file.specs.Node as node
-use Rattle.ingest_session.specs.History.{Begun, sealed_by}
+use Rattle.ingest_session.specs.History.{Begun, absent_by, sealed_by}
 use Rattle.ingest_session.specs.Told as told
 use Rattle.ingest_session.proofs.Agreeing.{Agrees, like}
 use Rattle.ingest_session.proofs.Answering.{known}
 use Rattle.ingest_session.proofs.CutOnce.{cut_alike}
 use Rattle.ingest_session.proofs.Following.{AreFinished, IsBuilt, begun}
 use Rattle.ingest_session.proofs.Growing.{few_pushed}
-use Rattle.ingest_session.proofs.Replaying.{Core, IsLike, core_of, finished_at, held_alike, places_alike_by, sealed_alike, session_at, told_alike, turn_at, unturned, waiting_turn, any_waits}
+use Rattle.ingest_session.proofs.Replaying.{Core, IsLike, absent_alike_by, core_of, finished_at, held_alike, places_alike_by, sealed_alike, session_at, told_alike, turn_at, unturned, waiting_turn, any_waits}
 use Rattle.ingest_session.proofs.Runs.{Came, IsSame, Point, Skips, Stays, skip_more, start, told_at}
 use Rattle.ingest_session.proofs.Settled.{settles_by, settling_keeps}
 use Rattle.ingest_session.proofs.Waiting.{claimed_has_turn, on_and_off, session_of, waiting_has_turn}
@@ -233,6 +233,7 @@ module _ (ended : Bool) (segments : List (List ℕ)) where
     pub core : from.core ≡ core_of s
     pub skips : Skips ended segments (core_of s) from.placed h.placed
     pub held : (kind : Kind) → h.held kind ≡ from.held kind
+    pub absent : (kind : Kind) → h.absent kind ≡ from.absent kind
     pub sealed : (kind : Kind) → h.sealed kind ≡ from.sealed kind
 
   contents_are : (c : Contents) (kind : Kind) → c.kind ≡ kind → c.segments ≡ [] → ◌≡◌ {A = Contents} c (record { kind = kind; segments = [] })
@@ -248,14 +249,15 @@ module _ (ended : Bool) (segments : List (List ℕ)) where
 
   -- a call that puts nothing in its place
   same_reach : (s t : SessionState) (h g : History) → core_of t ≡ core_of s → g.placed ≡ h.placed → g.answers ≡ h.answers →
-      ((kind : Kind) → g.held kind ≡ h.held kind) → ((kind : Kind) → g.sealed kind ≡ h.sealed kind) → Reaches s h → Reaches t g
-  same_reach s t h g core placed answers held sealed before = record {
+      ((kind : Kind) → g.held kind ≡ h.held kind) → ((kind : Kind) → g.absent kind ≡ h.absent kind) → ((kind : Kind) → g.sealed kind ≡ h.sealed kind) → Reaches s h → Reaches t g
+  same_reach s t h g core placed answers held absent sealed before = record {
     from = before.from;
     came = subst (λ (told : List Answer). Came ended segments (reverse told) before.from) (sym answers) before.came;
     core = before.core ∙ sym core;
     skips = subst (λ (c : Core). Skips ended segments c before.from.placed g.placed) (sym core)
         (subst (λ (ps : List Piece). Skips ended segments (core_of s) before.from.placed ps) (sym placed) before.skips);
     held = λ kind. held kind ∙ before.held kind;
+    absent = λ kind. absent kind ∙ before.absent kind;
     sealed = λ kind. sealed kind ∙ before.sealed kind;
   }
 
@@ -279,6 +281,7 @@ module _ (ended : Bool) (segments : List (List ℕ)) where
             (subst (λ (ps : List Piece). Skips ended segments (core_of s) before.from.placed (h.placed ++ ps)) alike.pieces
             (skip_more ended segments (core_of s) before.from.placed h.placed before.skips (alike.there ∙ there)));
         held = before.held;
+        absent = before.absent;
         sealed = before.sealed;
       }
 
@@ -294,7 +297,7 @@ module _ (ended : Bool) (segments : List (List ℕ)) where
       ap (λ (c : Core). session_at ended segments c h.placed) before.core in
       let new = answered answer s h in
       let point : Point =
-      record { core = core_of (told_by answer s); placed = new.placed; held = new.held; sealed = new.sealed } in
+      record { core = core_of (told_by answer s); placed = new.placed; held = new.held; absent = new.absent; sealed = new.sealed } in
       let same : IsSame point (told_at ended segments answer (record before.from { placed = h.placed })) =
       record {
         core = sym (told_alike s (session_at ended segments (core_of s) h.placed) answer alike right)
@@ -305,6 +308,10 @@ module _ (ended : Bool) (segments : List (List ℕ)) where
             ap (λ (ss : List Segment). ss ++ held_by kind answer s) (before.held kind)
             ∙ ap (λ (ss : List Segment). before.from.held kind ++ ss) (sym (held_alike kind s (session_at ended segments (core_of s) h.placed) answer alike))
             ∙ sym (ap (λ (u : SessionState). before.from.held kind ++ held_by kind answer u) here);
+        absent = λ kind.
+            ap (λ (ss : List Segment). ss ++ absent_by kind answer s) (before.absent kind)
+            ∙ ap (λ (ss : List Segment). before.from.absent kind ++ ss) (sym (absent_alike_by kind s (session_at ended segments (core_of s) h.placed) answer alike))
+            ∙ sym (ap (λ (u : SessionState). before.from.absent kind ++ absent_by kind answer u) here);
         sealed = λ kind.
             ap (λ (ss : List Segment). ss ++ sealed_by kind answer s) (before.sealed kind)
             ∙ ap (λ (ss : List Segment). before.from.sealed kind ++ ss) (sym (sealed_alike kind s (session_at ended segments (core_of s) h.placed) answer alike))
@@ -324,12 +331,13 @@ module _ (ended : Bool) (segments : List (List ℕ)) where
         core = refl;
         skips = Stays new.placed;
         held = λ kind. refl;
+        absent = λ kind. refl;
         sealed = λ kind. refl;
       }
 
   nothing_more : (s : SessionState) (h : History) → Reaches s h → Reaches s (record h { placed = h.placed ++ [] })
   nothing_more s h before =
-      same_reach s s h (record h { placed = h.placed ++ [] }) refl (append-nil h.placed) refl (λ kind. refl) (λ kind. refl) before
+      same_reach s s h (record h { placed = h.placed ++ [] }) refl (append-nil h.placed) refl (λ kind. refl) (λ kind. refl) (λ kind. refl) before
 
   moved_reach : (s t : SessionState) (h : History) (step : SettleStep s t) → HasHistory s h → Extends ended segments s h → Reaches s h
       → Reaches t (record h { placed = h.placed ++ moved step })
@@ -338,33 +346,34 @@ module _ (ended : Bool) (segments : List (List ℕ)) where
       ap core_of is
       ∙ ap (λ (w : Bool). record { leaves = s.leaves; nodes = s.nodes; waits = waiting_turn w (turn_in s) }) off
       ∙ sym (ap (λ (w : Bool). record { leaves = s.leaves; nodes = s.nodes; waits = waiting_turn w s.turn }) off) in
-      nothing_more t h (same_reach s t h h core refl refl (λ kind. refl) (λ kind. refl) before)
+      nothing_more t h (same_reach s t h h core refl refl (λ kind. refl) (λ kind. refl) (λ kind. refl) before)
   moved_reach s t h (Spelled _ _ is) has extends before =
-      nothing_more t h (same_reach s t h h (ap core_of is) refl refl (λ kind. refl) (λ kind. refl) before)
+      nothing_more t h (same_reach s t h h (ap core_of is) refl refl (λ kind. refl) (λ kind. refl) (λ kind. refl) before)
   moved_reach s t h (Advanced _ _ is) has extends before =
-      nothing_more t h (same_reach s t h h (ap core_of is.others) refl refl (λ kind. refl) (λ kind. refl) before)
+      nothing_more t h (same_reach s t h h (ap core_of is.others) refl refl (λ kind. refl) (λ kind. refl) (λ kind. refl) before)
   moved_reach s t h (Closed _ _ is) has extends before =
-      nothing_more t h (same_reach s t h h (ap core_of is.others) refl refl (λ kind. refl) (λ kind. refl) before)
+      nothing_more t h (same_reach s t h h (ap core_of is.others) refl refl (λ kind. refl) (λ kind. refl) (λ kind. refl) before)
   moved_reach s t h (PlacedNode _ _ there right some is) has extends before = there_reach s t h has extends there right (ap core_of is) before
   moved_reach s t h (PlacedFront _ _ there right empty is) has extends before = there_reach s t h has extends there right (ap core_of is) before
 
   pub reaches : (s : SessionState) (h : History) → HasHistory s h → Extends ended segments s h → Reaches s h
   reaches s _ (Begun _ is begun) extends = record {
-    from = record { core = core_of s; placed = []; held = λ kind. []; sealed = λ kind. [] };
-    came = record { core = begun_core s is begun; placed = refl; held = λ kind. refl; sealed = λ kind. refl };
+    from = record { core = core_of s; placed = []; held = λ kind. []; absent = λ kind. []; sealed = λ kind. [] };
+    came = record { core = begun_core s is begun; placed = refl; held = λ kind. refl; absent = λ kind. refl; sealed = λ kind. refl };
     core = refl;
     skips = Stays [];
     held = λ kind. refl;
+    absent = λ kind. refl;
     sealed = λ kind. refl;
   }
   reaches t _ (Pushed s _ h bytes has _ is) extends =
-      same_reach s t h (record h { given = h.given ++ bytes }) (ap core_of is.others) refl refl (λ kind. refl) (λ kind. refl)
+      same_reach s t h (record h { given = h.given ++ bytes }) (ap core_of is.others) refl refl (λ kind. refl) (λ kind. refl) (λ kind. refl)
       (reaches s h has (extends_more ended segments s t h (record h { given = h.given ++ bytes }) is.more is.queue refl is.ongoing extends))
   reaches t h (Ended s _ _ has _ is) extends =
-      same_reach s t h h (ap core_of is.others) refl refl (λ kind. refl) (λ kind. refl)
+      same_reach s t h h (ap core_of is.others) refl refl (λ kind. refl) (λ kind. refl) (λ kind. refl)
       (reaches s h has (extends_more ended segments s t h h _ is.queue refl is.ongoing extends))
   reaches t h (Asked s _ _ has after is) extends =
-      same_reach s t h h (ap core_of is) refl refl (λ kind. refl) (λ kind. refl)
+      same_reach s t h h (ap core_of is) refl refl (λ kind. refl) (λ kind. refl) (λ kind. refl)
       (reaches s h has (extends_same ended segments s t h h has (Asked s t h has after is) refl (sym (ap (λ (u : SessionState). u.ended) is)) extends))
   reaches t _ (Moved s _ h has after step) extends =
       let before = extends_same ended segments s t h (record h { placed = h.placed ++ moved step }) has (Moved s t h has after step) refl

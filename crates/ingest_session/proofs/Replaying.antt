@@ -3,7 +3,7 @@ use Rattle.ingest_session.proofs.Prelude.{◌≡◌, ◌∙◌, ℕ, Bool, true,
 use Rattle.std.proofs.Common.{if◌then◌else◌, Option, None}
 use Rattle.merkle_file.specs.Node as node
 use Rattle.ingest_session.specs.Due as due
-use Rattle.ingest_session.specs.History.{sealed_by}
+use Rattle.ingest_session.specs.History.{absent_by, sealed_by}
 use Rattle.ingest_session.specs.Told as told
 
 -- whose turn an item that waits has
@@ -232,6 +232,12 @@ seals_alike : (kind : Kind) (s t : SessionState) (due : Due) → core_of t ≡ c
 seals_alike kind s t (Seal other) core =
     ap (λ (c : Contents). if same_kind kind other then c.segments else []) (open_alike kind s t core)
 seals_alike kind s t due core = refl
+
+pub absent_alike_by : (kind : Kind) (s t : SessionState) (answer : Answer) → IsLike s t → absent_by kind answer t ≡ absent_by kind answer s
+absent_alike_by kind s t Absent like =
+    ap (λ (n : Option node.Contents). if same_kind kind (item_kind n) then item_of (turn_node t) t.queue ∷ [] else []) like.which
+    ∙ ap (λ (item : Segment). if same_kind kind (item_kind (turn_node s)) then item ∷ [] else []) like.item
+absent_alike_by kind s t other like = refl
 
 pub sealed_alike : (kind : Kind) (s t : SessionState) (answer : Answer) → IsLike s t → sealed_by kind answer t ≡ sealed_by kind answer s
 sealed_alike kind s t (Sealed id) like =

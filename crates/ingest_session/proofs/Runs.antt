@@ -1,7 +1,7 @@
 -- Answers, one after the other, to the session over a whole file: they make one of it.
 use Rattle.ingest_session.proofs.Prelude.{◌≡◌, ◌∙◌, ℕ, Bool, true, false, List, [], ◌∷◌, ◌++◌, refl, sym, ap, subst, Kind, Leaf, Tree, Segment, Answer, Piece, needs_no_step, held_by, placed_by, turn, SessionState, told_by}
 use Rattle.std.proofs.Common.{None}
-use Rattle.ingest_session.specs.History.{sealed_by}
+use Rattle.ingest_session.specs.History.{absent_by, sealed_by}
 use Rattle.ingest_session.proofs.Replaying.{Core, core_of, session_at}
 use Rattle.ingest_session.proofs.Waiting.{on_and_off}
 
@@ -16,12 +16,14 @@ pub record Point : Type 0 where
   pub core : Core
   pub placed : List Piece
   pub held : Kind → List Segment
+  pub absent : Kind → List Segment
   pub sealed : Kind → List Segment
 
 pub record IsSame (p q : Point) : Type 0 where
   pub core : p.core ≡ q.core
   pub placed : p.placed ≡ q.placed
   pub held : (kind : Kind) → p.held kind ≡ q.held kind
+  pub absent : (kind : Kind) → p.absent kind ≡ q.absent kind
   pub sealed : (kind : Kind) → p.sealed kind ≡ q.sealed kind
 
 abbrev pub start : Core
@@ -37,12 +39,13 @@ module _ (ended : Bool) (segments : List (List ℕ)) where
     core = core_of (told_by answer (at_point p));
     placed = p.placed ++ placed_by answer (at_point p);
     held = λ kind. p.held kind ++ held_by kind answer (at_point p);
+    absent = λ kind. p.absent kind ++ absent_by kind answer (at_point p);
     sealed = λ kind. p.sealed kind ++ sealed_by kind answer (at_point p);
   }
 
   -- These answers, the last of them first, were told, each where an item needs a step.
   abbrev pub Came : List Answer → Point → Type 0
-  Came [] p = IsSame p (record { core = start; placed = []; held = λ kind. []; sealed = λ kind. [] })
+  Came [] p = IsSame p (record { core = start; placed = []; held = λ kind. []; absent = λ kind. []; sealed = λ kind. [] })
   Came (answer ∷ before) p =
       (from : Point) × (stuck : List Piece) × Came before from × Skips ended segments from.core from.placed stuck
       × (needs_no_step (session_at ended segments from.core stuck) ≡ false) × IsSame p (told_at answer (record from { placed = stuck }))
@@ -63,13 +66,20 @@ module _ (ended : Bool) (segments : List (List ℕ)) where
   one_end c _ _ _ (Then placed one there skips) (Then _ other _ others) stuck also = one_end c _ one other skips others stuck also
 
   same_back : (p q : Point) → IsSame p q → IsSame q p
-  same_back p q is = record { core = sym is.core; placed = sym is.placed; held = λ kind. sym (is.held kind); sealed = λ kind. sym (is.sealed kind) }
+  same_back p q is = record {
+    core = sym is.core;
+    placed = sym is.placed;
+    held = λ kind. sym (is.held kind);
+    absent = λ kind. sym (is.absent kind);
+    sealed = λ kind. sym (is.sealed kind);
+  }
 
   same_on : (p q r : Point) → IsSame p q → IsSame q r → IsSame p r
   same_on p q r is then = record {
     core = is.core ∙ then.core;
     placed = is.placed ∙ then.placed;
     held = λ kind. is.held kind ∙ then.held kind;
+    absent = λ kind. is.absent kind ∙ then.absent kind;
     sealed = λ kind. is.sealed kind ∙ then.sealed kind;
   }
 
@@ -83,6 +93,9 @@ module _ (ended : Bool) (segments : List (List ℕ)) where
         held = λ kind.
             ap (λ (s : SessionState). p.held kind ++ held_by kind answer s) session
             ∙ ap (λ (ss : List Segment). ss ++ held_by kind answer (at_point q)) (is.held kind);
+        absent = λ kind.
+            ap (λ (s : SessionState). p.absent kind ++ absent_by kind answer s) session
+            ∙ ap (λ (ss : List Segment). ss ++ absent_by kind answer (at_point q)) (is.absent kind);
         sealed = λ kind.
             ap (λ (s : SessionState). p.sealed kind ++ sealed_by kind answer s) session
             ∙ ap (λ (ss : List Segment). ss ++ sealed_by kind answer (at_point q)) (is.sealed kind);
@@ -103,5 +116,5 @@ module _ (ended : Bool) (segments : List (List ℕ)) where
       let earlier = one_point before one.0 other.0 one.2 other.2 in
       let stuck = same_stuck one.0 other.0 one.1 other.1 earlier one.3 other.3 one.4 other.4 in
       let here : IsSame (record one.0 { placed = one.1 }) (record other.0 { placed = other.1 }) =
-      record { core = earlier.core; placed = stuck; held = earlier.held; sealed = earlier.sealed } in
+      record { core = earlier.core; placed = stuck; held = earlier.held; absent = earlier.absent; sealed = earlier.sealed } in
       same_on p _ q one.5 (same_on _ _ q (told_same answer (record one.0 { placed = one.1 }) (record other.0 { placed = other.1 }) here) (same_back q _ other.5))

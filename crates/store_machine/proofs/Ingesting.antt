@@ -1,5 +1,5 @@
 -- The lines of an `ingest` put the file that was given under its name, and do nothing else of the names: what may be found at their end.
-use Rattle.store_machine.proofs.Prelude.{◌≡◌, ◌⊎◌, inl, inr, ◌≤◌, ◌<◌, ◌-◌, ◌^◌, ℕ, Bool, true, false, [], ◌∷◌, ◌++◌, length, slice_index_or, slice_set, Option, Some, None, Result, Ok, Err, refl, sym, ◌∙◌, ap, subst, arith, MOST_FILE, Refusal, LineValue, pushed_bytes, ReplyValue, Store, Asked, AllFollow, AreLinesOf, EndsRefused, EndsWith, Follows, Ingest, IsDone, IsPush, Lines, Replied, given_after, given_by, Done, HasRoomFor, IsPut, Answers, ByState, Does, HasNumbers, Legal, MayCommit, Refuses, RefusesCommit, with_name, Acts, Desk, Finishes, Line, Pushes, Session, TurnsStop, all_none, new_session, reply_of, session_of, step_of, unless_refused, Found, RunState, Running, Stopped, MayBeFound, Reopens, freeing, desk, Run, of_files}
+use Rattle.store_machine.proofs.Prelude.{◌≡◌, ◌⊎◌, inl, inr, ◌≤◌, ◌<◌, ◌-◌, ◌^◌, ℕ, Bool, true, false, [], ◌∷◌, ◌++◌, length, slice_index_or, slice_set, Option, Some, None, Result, Ok, Err, refl, sym, ◌∙◌, ap, subst, arith, MOST_FILE, Refusal, LineValue, pushed_bytes, ReplyValue, Store, AllFollow, AreLinesOf, EndsRefused, EndsWith, Follows, Ingest, IsDone, IsPush, Lines, Replied, given_after, given_by, Done, HasRoomFor, IsPut, Answers, ByState, Does, HasNumbers, Legal, MayCommit, Refuses, RefusesCommit, with_name, Acts, Desk, Finishes, Line, Pushes, Session, TurnsStop, all_none, new_session, reply_of, session_of, step_of, unless_refused, Found, RunState, Running, Stopped, MayBeFound, Reopens, freeing, desk, Run, of_files}
 use Rattle.std.proofs.Common.{List}
 use Rattle.refusals.specs.declared.refusal.Refusal.TheVariants as refusals
 use Rattle.script_lines.specs.Grammar as lines
@@ -66,11 +66,11 @@ none_made d e ss runs is run =
 
 -- ---- sessions
 
-index_set : (sessions : List (Option Session)) (s : Option Session) → 0 < length sessions → slice_index_or (slice_set sessions 0 s) 0 None ≡ s
+pub index_set : (sessions : List (Option Session)) (s : Option Session) → 0 < length sessions → slice_index_or (slice_set sessions 0 s) 0 None ≡ s
 index_set [] s some = absurd (omega (arith, some))
 index_set (x ∷ xs) s some = refl
 
-length_set : (sessions : List (Option Session)) (s : Option Session) → 0 < length sessions → 0 < length (slice_set sessions 0 s)
+pub length_set : (sessions : List (Option Session)) (s : Option Session) → 0 < length sessions → 0 < length (slice_set sessions 0 s)
 length_set [] s some = absurd (omega (arith, some))
 length_set (x ∷ xs) s some = omega arith
 

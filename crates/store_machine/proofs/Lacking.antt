@@ -9,7 +9,7 @@ use Rattle.std.proofs.Common.{slice_get}
 use Rattle.ingest_session.proofs.Members.{one_of}
 use Rattle.actor_parts.specs.PinMap.{is_pin, has_pin}
 use Rattle.actor_parts.specs.Segments.{KeyPin, children_by, children_of, first_not_in, node_segment}
-use Rattle.store_model.specs.Pieces.{Data, Node, nodes_of_file, piece_bytes}
+use Rattle.store_model.specs.Pieces.{Data, HasPieceOf, Node, nodes_of_file, piece_bytes}
 use Rattle.store_model.specs.Trees.{root_of}
 use Rattle.ingest_session.specs.Facts.{IsKept, IsKeptChild}
 use Rattle.ingest_session.specs.Moving.{IsItem}
@@ -37,9 +37,17 @@ some_key a b is = cc
 
 -- ---- two pieces of one key
 
-key_is : (p : Piece) → segment_key (piece_segment p).kind (piece_segment p).segment ≡ piece_key p
+pub key_is : (p : Piece) → segment_key (piece_segment p).kind (piece_segment p).segment ≡ piece_key p
 key_is (Data bytes) = refl
 key_is (Node n) = refl
+
+bytes_of : (p : Piece) → (piece_segment p).segment.bytes ≡ piece_bytes p
+bytes_of (Data bytes) = refl
+bytes_of (Node n) = refl
+
+-- pieces of one segment have the same bytes
+same_long : (p x : Piece) → piece_segment p ≡ piece_segment x → piece_bytes x ≡ piece_bytes p
+same_long p x is = sym (bytes_of x) ∙ ap (λ (s : KindSegment). s.segment.bytes) (sym is) ∙ bytes_of p
 
 -- a segment is a piece of what is given
 abbrev pub IsPieceFor : List ℕ → Bool → KindSegment → Type 0
@@ -68,18 +76,33 @@ module _ (given : List ℕ) (ended : Bool) (few : length given ≤ MOST_FILE) wh
   same_piece (Node n) (Data b) one other key same = absurd (omega (arith, key_kind 1 0 (sha256 (node.spelling n)) (sha256 b) key))
 
   two_pieces : (one other : KindSegment) → IsPieceFor given ended one → IsPieceFor given ended other
+      → ((more : List ℕ) → (ended ≡ true → more ≡ []) → HasPieceOf (given ++ more) one × HasPieceOf (given ++ more) other)
       → segment_key one.kind one.segment ≡ segment_key other.kind other.segment → pin_of one ≢ pin_of other → HasTwins given ended (segment_key one.kind one.segment)
-  two_pieces one other (p, p_of, p_is) (q, q_of, q_is) same differ =
+  two_pieces one other (p, p_of, p_is) (q, q_of, q_is) both same differ =
       let one_key : segment_key one.kind one.segment ≡ piece_key p = ap (λ (s : KindSegment). segment_key s.kind s.segment) p_is ∙ key_is p in
       let other_key : segment_key one.kind one.segment ≡ piece_key q = same ∙ ap (λ (s : KindSegment). segment_key s.kind s.segment) q_is ∙ key_is q in
+      let bytes_differ : piece_bytes p ≢ piece_bytes q =
+      λ bytes. differ (ap pin_of (p_is ∙ ap piece_segment (same_piece p q p_of q_of (sym one_key ∙ other_key) bytes) ∙ sym q_is)) in
       record {
         one = p;
         other = q;
         one_of = p_of;
         other_of = q_of;
-        differ = λ bytes. differ (ap pin_of (p_is ∙ ap piece_segment (same_piece p q p_of q_of (sym one_key ∙ other_key) bytes) ∙ sym q_is));
+        differ = bytes_differ;
         one_key = one_key;
         other_key = other_key;
+        whole = λ more follow.
+            let x = (both more follow).0 in
+            let y = (both more follow).1 in
+            record {
+              one = x.0;
+              other = y.0;
+              one_of = x.1;
+              other_of = y.1;
+              differ = λ bytes. bytes_differ (sym (same_long p x.0 (sym p_is ∙ x.2)) ∙ bytes ∙ same_long q y.0 (sym q_is ∙ y.2));
+              one_key = ap (λ (s : KindSegment). segment_key s.kind s.segment) x.2 ∙ key_is x.0;
+              other_key = same ∙ ap (λ (s : KindSegment). segment_key s.kind s.segment) y.2 ∙ key_is y.0;
+            };
       }
 
 -- ---- what is kept of a session
@@ -104,7 +127,8 @@ module _ (s : SessionState) (h : History) (has : HasHistory s h) where
     twins : (kind : Kind) (x : Segment) → IsKept h kind x → has_pin pins (segment_key kind x) (pin_by kind x) ≡ false → Twins (segment_key kind x)
     twins kind x kept unpinned =
         let z = pinned kind x kept in
-        two_pieces h.given s.ended ((bytes_are_counted s h has).1) (of_kind kind x) (of_kind z.0 z.1) (kept_piece kind x kept) (kept_piece z.0 z.1 z.2) (sym z.3)
+        two_pieces h.given s.ended ((bytes_are_counted s h has).1) (of_kind kind x) (of_kind z.0 z.1) (kept_piece kind x kept) (kept_piece z.0 z.1 z.2)
+        (λ more follow. (kept_pieces kind x s h more has follow kept, kept_pieces z.0 z.1 s h more has follow z.2)) (sym z.3)
         (λ same. yes_and_no (has_pin pins (segment_key kind x) (pin_by kind x))
         (ap (is_pin (pin_by kind x)) (z.4 ∙ ap (λ (pin : Pin). Some pin) (sym same)) ∙ is_itself (pin_by kind x)) unpinned)
 

@@ -84,12 +84,14 @@ fails (refusals.Corrupt slot offset count want got) may = absurd (may tt)
 fails (refusals.Missing key) may = absurd (may tt)
 fails refusal may = absurd may
 
--- Room was made in the store, all actors are at nothing, no collection runs, and the last id is that of the containers.
+-- Room was made in the store, all actors are at nothing, no collection runs, the last id is that of the containers, and
+-- nothing is forgotten.
 pub record Fresh (start : FileMachine) (d : Desks) : Type 0 where
   pub room : MakesRoom start d.machine.store
   pub idle : d.machine.parts ≡ all_idle
   pub none_runs : d.machine.collection ≡ None
   pub last : d.machine.last_id ≡ last_id d.machine.store.held
+  pub none_forgotten : d.machine.forgotten ≡ []
 
 -- it was done, and all is at rest; or it was refused
 abbrev pub Opened : FileMachine → ReplyValue → Desks → Type 0
@@ -125,6 +127,7 @@ opened_by m mid reply (Ok (done.Reopened files)) runs is opens sessions =
         idle = ap (λ (x : FileMachine). x.parts) opens.others;
         none_runs = ap (λ (x : FileMachine). x.collection) opens.others;
         last = ap (λ (x : FileMachine). x.last_id) opens.others;
+        none_forgotten = ap (λ (x : FileMachine). x.forgotten) opens.others;
       },
     )
 opened_by m mid reply (Ok answer) runs is opens sessions = absurd opens

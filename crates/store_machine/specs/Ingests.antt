@@ -1,5 +1,5 @@
 -- What the lines of an `ingest` come to, in a run of the machine of files: what the plain map makes of it.
-use Rattle.std.specs.Prelude.{◌≡◌, ◌⊎◌, ◌<◌, ◌≤◌, ◌-◌, ◌^◌, ℕ, ◌∷◌, suc, Bool, true, List, [], ◌++◌, length, is_some, slice_get, Some, None}
+use Rattle.std.specs.Prelude.{◌≡◌, ◌⊎◌, ◌<◌, ◌≤◌, ◌-◌, ◌^◌, ℕ, ◌∷◌, suc, Bool, true, List, [], ◌++◌, length, is_some, slice_get, Some, None, Err}
 use Rattle.std.specs.FinMap as finite
 use Rattle.std.specs.List.{AllByRecursion}
 use Rattle.actor_parts.specs.declared.step.Answer.{Answer}
@@ -10,6 +10,7 @@ use Rattle.container_meta.specs.Segments.{KindSegment, Segment}
 use Rattle.disk_format.specs.Cells.{IsName}
 use Rattle.disk_format.specs.Cells.Change.{Put}
 use Rattle.disk_format.specs.declared.numbers.TheConstants.{LAST_ID, MOST_FILE, MOST_NAMES, RESERVE}
+use Rattle.refusals.specs.declared.refusal.Difference.{Difference}
 use Rattle.refusals.specs.declared.refusal.Refusal.{Refusal}
 use Rattle.refusals.specs.declared.refusal.Refusal.TheVariants.{Memory, BadName, TooLong, TooMany, Full, Clash, Numbers, Unpinned, DiskRead, DiskWrite}
 use Rattle.reply_text.specs.Text.{stored_line}
@@ -17,7 +18,7 @@ use Rattle.script_lines.specs.Grammar.{LineValue, pushed_bytes}
 use Rattle.script_lines.specs.Grammar as lines
 use Rattle.store_model.specs.Image.{Store}
 use Rattle.store_model.specs.Refusals.{root_key}
-use Rattle.store_model.specs.Slots.{free_slots}
+use Rattle.store_model.specs.Slots.{free_slots, last_id}
 use Rattle.store_model.specs.Steps.{SealContainer, StoreChange, with_change, with_sealed}
 use Rattle.store_model.specs.Trees.{root_of}
 use Rattle.store_machine.specs.Asked.{Asked}
@@ -27,9 +28,11 @@ use Rattle.store_machine.specs.Collecting.{Makes}
 use Rattle.store_machine.specs.Commands.{AreLinesOf, EndsRefused, EndsWith, Ingest, IsDone, IsEnded, Lines, MayGoOn, Replied, desk, given_by, printed}
 use Rattle.store_machine.specs.Legal.{broken_by, HasRoom, IsKept, LacksNumbers, with_name}
 use Rattle.store_machine.specs.Needs.{IsClash}
-use Rattle.store_machine.specs.Lines.{Desk, IsDueStep}
+use Rattle.store_machine.specs.Lines.{Desk, IsDueStep, step_of}
 use Rattle.store_machine.specs.Machine.{Found, Running, Stepped, Stopped, Writing, part_in}
 use Rattle.store_machine.specs.Opening.{MayBeFound}
+use Rattle.store_machine.specs.Storing.{AddsOnce, AsksPieces, HoldsFile, LacksPiece, MayCome, OfWhole}
+use Rattle.store_machine.specs.Twins.{PiecesAreTwins}
 use Rattle.store_machine.specs.Values.{of_files}
 
 -- ---- the name
@@ -70,17 +73,26 @@ abbrev pub LacksPin : List ℕ → List ℕ → PinMap → Type 0
 LacksPin given key pins = ((seg : KindSegment) × IsTurnOf given seg × (first_unpinned seg pins ≡ Some key))
     ⊎ ((key ≡ root_key (root_of given)) × ¬ (IsKept pins (root_of given)))
 
--- Why its last line is refused, by the machine that this left. Want of memory is free, and a call of the disk that failed is told by its
--- count of faults.
+-- the name was asked for, once the store had all of the file
+abbrev pub AsksName : (name given : List ℕ) → Store → LineValue → Type 0
+AsksName name given store line = (line ≡ lines.Commit 0 name) × HoldsFile given store
+
+-- Why its last line is refused, by the machine that this left: of a container that finds no slot, or no id, a piece is held by nothing;
+-- once all of them are held the name counts. Want of memory is free, and a call of the disk that failed is told by its count of faults.
 abbrev pub IngestRefusal : (name given : List ℕ) → Found (List ℕ) → FileMachine → LineValue → Refusal → Type 0
 IngestRefusal name given now n line TooLong = IsTooLong given line
-IngestRefusal name given now n line BadName = ¬ (IsName name)
+IngestRefusal name given now n line BadName = ¬ (IsName name) × AsksName name given n.store line
 IngestRefusal name given now n line TooMany =
-    IsName name × (finite.get now.names name ≡ None) × (MOST_NAMES ≤ finite.len now.names)
-IngestRefusal name given now n line (Full free) = (free ≡ free_slots n.store.held) × (free ≤ RESERVE)
-IngestRefusal name given now n line Numbers = (LAST_ID ≤ n.last_id) ⊎ (IsName name × HasRoom of_files name n × LacksNumbers of_files n)
+    IsName name × (finite.get now.names name ≡ None) × (MOST_NAMES ≤ finite.len now.names) × AsksName name given n.store line
+IngestRefusal name given now n line (Full free) =
+    (free ≡ free_slots n.store.held) × (free ≤ RESERVE) × OfWhole given line (λ file. LacksPiece file n.store)
+IngestRefusal name given now n line Numbers =
+    ((LAST_ID ≤ n.last_id) × (n.last_id ≡ last_id n.store.held) × (RESERVE < free_slots n.store.held)
+    × OfWhole given line (λ file. LacksPiece file n.store))
+    ⊎ (IsName name × HasRoom of_files name n × LacksNumbers of_files n × AsksName name given n.store line)
 IngestRefusal name given now n line (Clash key at) = (seg : KindSegment) × IsTurnOf given seg × IsClash n.store n.forgotten seg key at
-IngestRefusal name given now n line (Unpinned key) = (pins : PinMap) × (part_in n 0 ≡ Writing pins) × LacksPin given key pins
+IngestRefusal name given now n line (Unpinned key) = ((pins : PinMap) × (part_in n 0 ≡ Writing pins) × LacksPin given key pins)
+    × OfWhole given line (λ file. PiecesAreTwins file key)
 IngestRefusal name given now n line Memory = Unit {0}
 IngestRefusal name given now n line DiskRead = Unit {0}
 IngestRefusal name given now n line DiskWrite = Unit {0}
@@ -101,13 +113,14 @@ IsBroken name given now n = ((kind : Kind) × (segments : List Segment) × IsSea
     × (n.state ≡ Stopped None (with_sealed (suc n.last_id) kind segments n.store ∷ [])))
     ⊎ (n.state ≡ Stopped (Some (with_name of_files name given now)) (broken_by of_files name (Put (root_of given)) n.store))
 
--- Once the store was opened such containers were added, each where it could be, and then the name's record, where the last line was done.
--- It runs, unless a write failed.
+-- Once the store was opened such containers were added, each where it could be, with pieces of the file, however it goes on, that no
+-- container before it holds; and then the name's record, where the last line was done. It runs, unless a write failed.
 pub record AddsIn (name given : List ℕ) (rs : List Replied) (now : Found (List ℕ)) (n : FileMachine) (opened : Store) : Type 0 where
   pub changes : List StoreChange
   pub after : Store
   pub seals : AllByRecursion (IsSealFor given) changes
   pub makes : Makes changes opened after
+  pub once : (more : List ℕ) → EndsWith (λ one. MayCome more one.line) rs → AddsOnce (given ++ more) changes opened
   pub done : EndsWith (λ one. IsDone (Ingest name) one.reply) rs → n.store ≡ with_change name (Put (root_of given)) after
   pub undone : (EndsWith (λ one. IsDone (Ingest name) one.reply) rs → ⊥) → n.store ≡ after
   pub runs : (EndsRefused DiskWrite rs → ⊥) → n.state ≡ Running
@@ -136,6 +149,16 @@ abbrev pub IngestsByMap : Type 0
 IngestsByMap = (name : List ℕ) (rs : List Replied) (ss : List (Stepped (List ℕ))) (m : FileMachine) (e : Desk (List ℕ) (List (List ℕ)))
     → m.state ≡ Running → AreLinesOf (Ingest name) rs → Lines of_files rs ss (desk m) e
     → Ingested name (given_by 0 [] rs) rs m e.machine
+
+-- ---- a node that clashes
+
+-- The step that was refused since a node clashes is the last of them, and asked for pieces of the file, however it goes on.
+abbrev pub IngestsClash : Type 0
+IngestsClash = (name : List ℕ) (rs : List Replied) (ss : List (Stepped (List ℕ))) (m : FileMachine) (e : Desk (List ℕ) (List (List ℕ)))
+    → m.state ≡ Running → AreLinesOf (Ingest name) rs → Lines of_files rs ss (desk m) e
+    → (key : List ℕ) (at : Difference) → (end : EndsRefused (Clash key at) rs)
+    → (before : List (Stepped (List ℕ))) × ((step : Asked (List ℕ)) × ((ss ≡ before ++ step_of of_files 0 step (Err (Clash key at)) ∷ [])
+    × OfWhole (given_by 0 [] rs) end.0.line (λ file. AsksPieces file step)))
 
 -- ---- at each moment of their steps
 

@@ -15,7 +15,18 @@ abbrev pub IsOfGiven : List ℕ → Bool → Piece → Type 0
 IsOfGiven given ended (Data bytes) = (more : List ℕ) → (ended ≡ true → more ≡ []) → IsSegmentOf (given ++ more) bytes
 IsOfGiven given ended (Node n) = IsPieceOf given (Node n)
 
--- Two of them are of different bytes, and have one key: they are two segments, or two nodes, of one SHA-256.
+-- two pieces of a file are of different bytes, and have one key
+pub record PiecesAreTwins (file key : List ℕ) : Type 0 where
+  pub one : Piece
+  pub other : Piece
+  pub one_of : IsPieceOf file one
+  pub other_of : IsPieceOf file other
+  pub differ : piece_bytes one ≢ piece_bytes other
+  pub one_key : key ≡ piece_key one
+  pub other_key : key ≡ piece_key other
+
+-- Two of them are of different bytes, and have one key: they are two segments, or two nodes, of one SHA-256. And however the file goes on
+-- two pieces of it are.
 pub record HasTwins (given : List ℕ) (ended : Bool) (key : List ℕ) : Type 0 where
   pub one : Piece
   pub other : Piece
@@ -24,6 +35,7 @@ pub record HasTwins (given : List ℕ) (ended : Bool) (key : List ℕ) : Type 0 
   pub differ : piece_bytes one ≢ piece_bytes other
   pub one_key : key ≡ piece_key one
   pub other_key : key ≡ piece_key other
+  pub whole : (more : List ℕ) → (ended ≡ true → more ≡ []) → PiecesAreTwins (given ++ more) key
 
 module _ {V R : Type 0} (v : Values V R) where
   -- some actor of the desk gives it

@@ -3,7 +3,7 @@ ghost use Rattle.store_machine.specs.ByMap.{DeletesByMap, DeletesThrough, ListsB
 ghost use Rattle.store_machine.specs.CollectsAlone.{CollectsByMap, CollectsThrough};
 ghost use Rattle.store_machine.specs.Collected.{CollectsWhatItSelected};
 ghost use Rattle.store_machine.specs.Forgetting.{RunsAreForgotten, StepsAreForgotten};
-ghost use Rattle.store_machine.specs.Ingests.{IngestsByMap, IngestsThrough};
+ghost use Rattle.store_machine.specs.Ingests.{IngestsByMap, IngestsClash, IngestsThrough};
 ghost use Rattle.store_machine.specs.Remembering.{AddsNoMore, StepsAreRemembered};
 ghost use Rattle.store_machine.specs.Twins.{UnpinnedHasTwins};
 ghost use Rattle.store_machine.specs.Values.{of_files, of_roots};
@@ -25,11 +25,14 @@ pub fn steps_are_remembered()
 
 /// After the lines of an `ingest`, and whatever they were refused by, the names that may be found are those of before, or these with the
 /// file that was given under its name, which is good, and the file no longer than one may be; and so it is at each moment of their steps.
-/// The store is what the opening left, with containers of the file. Where the last line was done the names are the latter, the store has
-/// the name's record, and the file's root is printed. Each refusal has its cause, and only a write that failed leaves a doubt. The lines
-/// came to an end, or one is to come, as in each of the laws below. The function does nothing.
+/// The store is what the opening left, with containers of pieces of the file that no container before holds. Where the last line was done
+/// the names are the latter, the store has the name's record, and the file's root is printed. Each refusal has its cause: where a container
+/// found no slot, or no id, a piece is held by nothing, and by the name it is refused once all of them are held; what clashes is a piece.
+/// Only a write that failed leaves a doubt. The lines came to an end, or one is to come, as in each of the laws below. The function does
+/// nothing.
 pub fn an_ingest_puts_its_file()
     ensures ended { IngestsByMap }
+    ensures clashes { IngestsClash }
     ensures through { IngestsThrough }
 {}
 

@@ -21,7 +21,8 @@ returns-clause-collect g c =
 
 pub returns-clause-ingest : goal.returns-clause-ingest
 returns-clause-ingest g c =
-    ingest_by_map _ g.D.Disk.view c.a_list_tells_the_names.ensures.through c.an_ingest_puts_its_file.ensures.ended c.an_ingest_puts_its_file.ensures.through
+    ingest_by_map _ g.D.Disk.view c.a_list_tells_the_names.ensures.through c.an_ingest_puts_its_file.ensures.ended c.an_ingest_puts_its_file.ensures.clashes
+    c.an_ingest_puts_its_file.ensures.through
 
 pub returns-clause-collected : goal.returns-clause-collected
 returns-clause-collected g c = collects_by_map _ g.D.Disk.view c.a_collect_keeps_the_names.ensures.ended c.a_collect_keeps_the_names.ensures.through

@@ -4,7 +4,7 @@ use crate::words::{Fault, byte_of, bytes_of, number, words_of};
 use container_meta::{Entry, Fit, Kind, Meta, MetaFault, OpenContainer, Seg, decode};
 use std::alloc::{AllocError, Global};
 
-/// What the 49,664 bytes of a header and its entries are read as.
+/// What the 49,664 bytes before the data of a container are read as.
 pub(crate) fn header_text(alloc: Global, read: Option<Vec<u8>>) -> Result<String, Fault> {
     let Some(header) = read else {
         return Err(Fault::Place);

@@ -33,8 +33,10 @@ fn held<D: Disk>(alloc: Global, disk: &mut D) -> Result<Option<u64>, Fail> {
     if disk.size() < SIZE as u64 {
         return Err("the disk is too small".into());
     }
-    match read_slot(alloc, disk, 1) {
-        Ok(meta) => Ok(meta.map(|meta| meta.id)),
+    let mut raw = vec![in alloc; 0u8; 49_664]?;
+    let mut entries = Vec::with_capacity(alloc, 1_024)?;
+    match read_slot(disk, 1, raw.as_mut_slice(), &mut entries) {
+        Ok(header) => Ok(header.map(|header| header.id)),
         Err(_) => Err("the slot is damaged".into()),
     }
 }

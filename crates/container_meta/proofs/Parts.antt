@@ -43,9 +43,6 @@ pub record FieldParts (id : ℕ) (kind : Kind) (count data_length : ℕ) (bytes 
   pub count_is : range 18 2 bytes ≡ to_be_bytes w16 count
   pub length_is : range 20 4 bytes ≡ to_be_bytes w32 data_length
 
-abbrev spelled_fields : ℕ → Kind → ℕ → ℕ → List ℕ
-spelled_fields id kind count data_length = magic ++ to_be_bytes w64 id ++ kind_byte kind ∷ 0 ∷ to_be_bytes w16 count ++ to_be_bytes w32 data_length
-
 pub field_parts : (id : ℕ) (kind : Kind) (count data_length : ℕ) (bytes : List ℕ) → range 1 23 bytes ≡ fields_spelling id kind count data_length →
     FieldParts id kind count data_length bytes
 unfolding fields_spelling range

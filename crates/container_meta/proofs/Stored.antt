@@ -39,20 +39,6 @@ stand_in_spelling id kind ss allowed =
     (length-filled_up (header_of id kind ss) allowed)
     (append_assoc (filled_up (header_of id kind ss)) (data_of ss) (zeros (DATA_BYTES - bytes_in ss)))
 
-pub length-container_spelling : (id : ℕ) (kind : Kind) (ss : List Segment) → IsHeader (header_of id kind ss) → bytes_in ss ≤ DATA_BYTES →
-    length (container_spelling id kind ss) ≡ SLOT_BYTES
-length-container_spelling id kind ss allowed fits =
-    let header : List ℕ = filled_up (header_of id kind ss) in
-    length-append (header ++ data_of ss) (zeros (DATA_BYTES - bytes_in ss))
-    ∙ omega (
-      arith,
-      length-append header (data_of ss),
-      length-filled_up (header_of id kind ss) allowed,
-      length-flat_map (λ (s : Segment). s.bytes) ss,
-      length-zeros
-          (DATA_BYTES - bytes_in ss),
-    )
-
 -- a container begins with its header
 pub header-container_spelling : (id : ℕ) (kind : Kind) (ss : List Segment) → IsHeader (header_of id kind ss) → IsSpelled (header_of id kind ss) (container_spelling id kind ss)
 header-container_spelling id kind ss allowed =

@@ -28,9 +28,6 @@ removing known _ none cause = absurd cause
 abbrev pub AreOut : List (List ℕ) → Option PlaceMap → Option PlaceMap → Type 0
 AreOut keys had has = KnownMap had (λ m. has ≡ Some (without_keys keys m))
 
-pub none_out : (keys : List (List ℕ)) (had : Option PlaceMap) → keys ≡ [] → AreOut keys had had
-none_out keys had none m known = known ∙ ap (λ (ks : List (List ℕ)). Some (without_keys ks m)) (sym none)
-
 without_push : (keys : List (List ℕ)) (key : List ℕ) (m : PlaceMap) → without_keys (keys ++ key ∷ []) m ≡ finite.remove (without_keys keys m) key
 without_push [] key m = refl
 without_push (k ∷ ks) key m = without_push ks key (finite.remove m k)
@@ -41,6 +38,3 @@ pub one_out : (keys : List (List ℕ)) (i : ℕ) (d : List ℕ) (had mid has : O
 one_out keys i d had mid has within so_far one m known =
     one (without_keys (take i keys) m) (so_far m known)
     ∙ ap Some (sym (without_push (take i keys) (get_or keys i d) m) ∙ ap (λ (ks : List (List ℕ)). without_keys ks m) (sym (take_more keys i d within)))
-
-pub all_out : (keys : List (List ℕ)) (n : ℕ) (had has : Option PlaceMap) → length keys ≤ n → AreOut (take n keys) had has → AreOut keys had has
-all_out keys n had has past out = subst (λ (ks : List (List ℕ)). AreOut ks had has) (take_all n keys past) out

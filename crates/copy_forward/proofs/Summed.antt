@@ -13,9 +13,6 @@ use Rattle.gc_enumerate.specs.Live.{LiveKeys}
 use Rattle.copy_forward.specs.Entries.{IsDead, IsLiveCopy, SumsLive}
 
 module _ (index : PlaceMap) (live : LiveKeys) (kind : Kind) (slot : ℕ) where
-  pub none_summed : (es : List Entry) → es ≡ [] → SumsLive index live kind slot es 0
-  none_summed es none = subst (λ (xs : List Entry). SumsLive index live kind slot xs 0) (sym none) refl
-
   live_push : (es : List Entry) (e : Entry) (sum : ℕ) → IsLiveCopy index live kind slot e → SumsLive index live kind slot es sum
       → SumsLive index live kind slot (es ++ e ∷ []) (sum + e.length)
   live_push [] e sum is none = inl (is, (0, omega (arith, none), refl))
@@ -46,17 +43,7 @@ module _ (index : PlaceMap) (live : LiveKeys) (kind : Kind) (slot : ℕ) where
       subst (λ (n : ℕ). SumsLive index live kind slot (take (i + 1) es) n) (sym is)
       (dead_more es i d within sum so_far (λ copy. absurd (let wrong : true ≡ false = sym (tells.1 copy) ∙ dead in cc)))
 
-  pub summed_whole : (es : List Entry) (n sum : ℕ) → length es ≤ n → SumsLive index live kind slot (take n es) sum → SumsLive index live kind slot es sum
-  summed_whole es n sum past sums = subst (λ (xs : List Entry). SumsLive index live kind slot xs sum) (take_all n es past) sums
-
 -- ---- their bytes
 
 pub bytes_more : (es : List Entry) (i : ℕ) (d : Entry) → i < length es → bytes_of (take (i + 1) es) ≡ bytes_of (take i es) + (get_or es i d).length
 bytes_more es i d within = ap bytes_of (take_more es i d within) ∙ bytes_of-push (take i es) (get_or es i d)
-
-pub bytes_within : (es : List Entry) (i : ℕ) → bytes_of (take i es) ≤ bytes_of es
-bytes_within es i =
-    let length_of : Entry → ℕ = λ e. e.length in
-    let parts : sum_by length_of (take i es ++ drop i es) ≡ sum_by length_of (take i es) + sum_by length_of (drop i es) = sum_by-append length_of (take i es) (drop i es) in
-    let all : bytes_of es ≡ sum_by length_of (take i es) + sum_by length_of (drop i es) = ap bytes_of (sym (take-append-drop i es)) ∙ parts in
-    omega (arith, all)

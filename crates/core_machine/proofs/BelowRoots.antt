@@ -32,10 +32,6 @@ module _ (c : CoreState) (file : List ℕ) (rest : List (List ℕ)) (reader : Re
     taken_closed n copy node_is there key child =
         tree_closed store.held image n copy node_is key child (file_tree file) (right_file file takes.fits) (takes.whole store image at.represents told).tree_is_held there
 
-    -- the index has each
-    pub taken_indexed : (key : List ℕ) → Contains (tree_keys (file_tree file)) key → HasKey at.index key
-    taken_indexed key there = takes.indexed at.index at.index_known key ((takes.whole store image at.represents told).count key there)
-
     -- each is such where the root is, and with a node its children
     pub taken_below : (P : List ℕ → Type 0) → ((n : node.Contents) (copy : Copy) → HoldsNode store.held image n copy → P (node_key n) → All P (child_keys n))
         → ((key : List ℕ) → IsPartKey (core.Reading reader) key → P key) → (key : List ℕ) → Contains (tree_keys (file_tree file)) key → P key

@@ -61,9 +61,6 @@ module _ (S : List ℕ → Type 0) (store : Store) (stored : Stored) (old new : 
   pub reads_told : OnlyReads old.disk new.disk → Told (λ now. now ≡ image)
   reads_told reads = (image, reads.content_is ∙ here, refl)
 
-  pub before_told : SameBefore (slot_at store.slots) image image
-  before_told = before_same (slot_at store.slots) image
-
   abbrev Counts : Type 0
   Counts = Told (SameBefore (slot_at store.slots) image)
 

@@ -88,15 +88,3 @@ mutual
   some_below : (level : ℕ) (ts : Trees (List ℕ)) → 1 ≤ length (children_of of_segment ts) → AreBelow level ts → leaves_below ts ≡ [] → ⊥
   some_below level tree.NoTree some below none = omega (arith, some)
   some_below level (tree.Then t ts) some below none = some_leaf t below.1 (none_before (leaves t) (leaves_below ts) none)
-
-some_tree : (counts : ByteSet) (held : List (Option HeaderValue)) (image : List ℕ) (top : Top) (tops : List Top) (ts : List (Tree (List ℕ)))
-    → HeldAhead counts held image (top ∷ tops) ts → segments_in ts ≡ [] → ⊥
-some_tree counts held image top tops [] ahead none = let wrong : top ∷ tops ≡ [] = ahead.trees.tops in cc
-some_tree counts held image top tops (t ∷ ts) ahead none = some_leaf t ahead.trees.each.0 (none_before (leaves t) (segments_in ts) (sym (flat_map-cons leaves t ts) ∙ none))
-
--- the first of the segments
-pub some_segment : (counts : ByteSet) (held : List (Option HeaderValue)) (image : List ℕ) (top : Top) (tops : List Top) (segments : List (List ℕ))
-    → SegmentsAhead counts held image (top ∷ tops) segments
-    → (bytes : List ℕ) × ((rest : List (List ℕ)) × (segments ≡ bytes ∷ rest))
-some_segment counts held image top tops [] ahead = absurd (some_tree counts held image top tops ahead.trees ahead.held_ahead (sym ahead.segments_are))
-some_segment counts held image top tops (x ∷ xs) ahead = (x, (xs, refl))

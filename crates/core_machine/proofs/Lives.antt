@@ -24,18 +24,6 @@ lives_same P store old new c known_is content_is was = record {
   all = λ index image known told. was.all index image (sym known_is ∙ known) (sym content_is ∙ told);
 }
 
--- the index has each key of which P holds
-pub lives_indexed : (P : List ℕ → Type 0) (store : Store) (c : CoreState) (collection : Collection) → LivesJust P store c collection → (index : PlaceMap) (image : List ℕ)
-    → c.known ≡ Some index → c.disk.content ≡ Some image
-    → (key : List ℕ) → P key → HasKey index key
-lives_indexed P store c collection lives index image known told key needed = by_stage collection.stage (lives.all index image known told key needed)
-  where
-    by_stage : (stage : Stage) → IsLiveAtStage stage index store.held image collection.live key → HasKey index key
-    by_stage (Mark level slot) below = below.tree.is_held.count key below.there
-    by_stage (Filter slot) live = (live.0, live.1.0)
-    by_stage Select live = (live.0, live.1.0)
-    by_stage Sweep live = (live.0, live.1.0)
-
 -- ---- a step of the collection
 
 -- The children of each node that is held, and of whose key P holds, are such.

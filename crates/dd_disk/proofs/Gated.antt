@@ -36,11 +36,6 @@ pub gate_written : (at : ℕ) (cell old : List ℕ) → 1 ≤ length cell → at
 gate_written at [] old some room = absurd (omega arith)
 gate_written at (first ∷ body) old some room = written-after at first body old (omega arith)
 
--- the whole cell is one that a write may leave
-pub whole_torn : (at : ℕ) (cell old : List ℕ) → 1 ≤ length cell → CellTorn at cell old (written at cell old)
-whole_torn at [] old some = absurd (omega arith)
-whole_torn at (first ∷ body) old some = inr (first, refl)
-
 -- bytes torn after the gate
 pub body_torn : (at : ℕ) (cell bytes old new : List ℕ) → Torn (at + 1) (length (take (length cell - 1) (drop 1 cell))) old new → TornFrom at cell bytes old new
 body_torn at cell bytes old new torn = inl (subst (λ n. Torn (at + 1) n old new) (length_rest cell) torn)

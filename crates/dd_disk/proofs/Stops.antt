@@ -29,28 +29,7 @@ passed false call rest is = refl
 abbrev pub Passes : ℕ → List Call → ℕ → Type 0
 Passes stop calls i = reached stop calls ≡ take i calls ++ reached stop (drop i calls)
 
-pub passes_on : (stop : ℕ) (calls : List Call) (i : ℕ) (call : Call) → i < length calls → call ≡ get_or calls i call → is_left_out stop call ≡ false → Passes stop calls i →
-    Passes stop calls (i + 1)
-passes_on stop calls i call more here goes so_far =
-    let next : drop i calls ≡ call ∷ drop (i + 1) calls = drop_more calls i call more ∙ ap (λ (x : Call). x ∷ drop (i + 1) calls) (sym here) in
-    let one : take (i + 1) calls ≡ take i calls ++ call ∷ [] = take_more calls i call more ∙ ap (λ (x : Call). take i calls ++ x ∷ []) (sym here) in
-    so_far
-    ∙ ap (λ (l : List Call). take i calls ++ reached stop l) next
-    ∙ ap (λ (l : List Call). take i calls ++ l) (passed (is_left_out stop call) call (reached stop (drop (i + 1) calls)) goes)
-    ∙ sym (append_assoc (take i calls) (call ∷ []) (reached stop (drop (i + 1) calls)))
-    ∙ ap (λ (l : List Call). l ++ reached stop (drop (i + 1) calls)) (sym one)
-
-pub passes_to : (stop : ℕ) (calls : List Call) (i : ℕ) (call : Call) → i < length calls → call ≡ get_or calls i call → is_left_out stop call ≡ true → Passes stop calls i →
-    take i calls ≡ reached stop calls
-passes_to stop calls i call more here ends so_far =
-    let next : drop i calls ≡ call ∷ drop (i + 1) calls = drop_more calls i call more ∙ ap (λ (x : Call). x ∷ drop (i + 1) calls) (sym here) in
-    sym (so_far ∙ ap (λ (l : List Call). take i calls ++ reached stop l) next ∙ ap (λ (l : List Call). take i calls ++ l)
-    (stopped (is_left_out stop call) call (reached stop (drop (i + 1) calls)) ends) ∙ append-nil (take i calls))
-
 -- ---- the last sync
-
-pub synced_at : (calls : List Call) (i : ℕ) (call : Call) → i < length calls → call ≡ get_or calls i call → call.done ≡ true → call.asked ≡ Sync → EndsSynced (take (i + 1) calls)
-synced_at calls i call more here done asked = inr (take i calls, (call, take_more calls i call more ∙ ap (λ (x : Call). take i calls ++ x ∷ []) (sym here), done, asked))
 
 shown-push : (last : Call) (calls : List Call) (shown : List ℕ) → shown_after shown (calls ++ last ∷ []) ≡ shown_by last.asked (shown_after shown calls)
 shown-push last [] shown = refl

@@ -58,21 +58,6 @@ module _ (one next step : List ℕ → List ℕ → List ℕ → Type 0) (part r
     faults_are = counts_on e old.faults mid.faults new.faults first.faults_are second.faults_are;
   }
 
--- nothing was called
-pub writes_none : (step : List ℕ → List ℕ → List ℕ → Type 0) (whole : List ℕ → List ℕ → Type 0) (v : DiskView) → Writes step whole Refused v v
-writes_none step whole v = record {
-  later = later_here v;
-  steps = λ given known. record { now = λ c image. inl image; since = λ t c before was. inl was };
-  written = reads_here v;
-  faults_are = refl;
-}
-
--- on Ok the whole is there
-pub written_ok : {T E : Type 0} (blames : E → Blame) (result : Result T E) (step : List ℕ → List ℕ → List ℕ → Type 0) (whole : List ℕ → List ℕ → Type 0) (old new : DiskView)
-    → Writes step whole (ending blames result) old new → OnOk result (Known old.content (λ given. KnownWith new.content (whole given)))
-written_ok blames (Ok x) step whole old new writes = writes.written.0
-written_ok blames (Err e) step whole old new writes = tt
-
 -- what is less said of it
 module _ (step wider : List ℕ → List ℕ → List ℕ → Type 0) (whole more : List ℕ → List ℕ → Type 0) (old new : DiskView) (wholes : (given c : List ℕ) → old.content ≡ Some given →
     whole given c → more given c) where
@@ -93,8 +78,3 @@ module _ (step wider : List ℕ → List ℕ → List ℕ → Type 0) (whole mor
     written = written_weaker e writes.written;
     faults_are = writes.faults_are;
   }
-
--- an error that is handed on as another that blames the same
-pub writes_blamed : (step : List ℕ → List ℕ → List ℕ → Type 0) (whole : List ℕ → List ℕ → Type 0) (one other : Blame) (old new : DiskView) → one ≡ other →
-    Writes step whole (ending_of one) old new → Writes step whole (ending_of other) old new
-writes_blamed step whole one other old new same writes = subst (λ (b : Blame). Writes step whole (ending_of b) old new) same writes

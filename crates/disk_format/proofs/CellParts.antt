@@ -49,39 +49,10 @@ module _ (name : List ℕ) (root : Root) where
   unfolding sealed put_fields front rest
   regrouped = ap (λ (l : List ℕ). (RECORD_GATE ∷ front) ++ l) (grouped root.digest name (zeros (428 - length name)) (sha256 (put_fields 1 name root)))
 
-  pub size-put : byte_at 2 (put_cell 1 name root) ≡ length name
-  unfolding sealed put_fields
-  size-put = refl
-
-  pub length-put : range 11 8 (put_cell 1 name root) ≡ to_be_bytes w64 root.length
-  unfolding sealed put_fields range
-  length-put = refl
-
-  pub level-put : byte_at 19 (put_cell 1 name root) ≡ root.level
-  unfolding sealed put_fields
-  level-put = refl
-
   module _ (digest_long : length root.digest ≡ 32) where
     pub digest-put : range 20 32 (put_cell 1 name root) ≡ root.digest
     digest-put =
         ap (range 20 32) regrouped ∙ range-middle (RECORD_GATE ∷ front) root.digest (name ++ rest) 20 32 (omega (arith, length-front)) digest_long
-
-    pub name-put : range 52 (length name) (put_cell 1 name root) ≡ name
-    name-put =
-        ap (range 52 (length name)) (regrouped ∙ sym (append_assoc (RECORD_GATE ∷ front) root.digest (name ++ rest)))
-        ∙ range-middle ((RECORD_GATE ∷ front) ++ root.digest) name rest 52 (length name)
-        (omega (arith, length-append (RECORD_GATE ∷ front) root.digest, length-front, digest_long)) refl
-
-    pub length-put_fields : length name ≤ 428 → length (put_fields 1 name root) ≡ 479
-    unfolding put_fields
-    length-put_fields short = omega (
-      arith,
-      length-zeros (428 - length name),
-      digest_long,
-      length-append (root.digest ++ name) (zeros (428 - length name)),
-      length-append
-          root.digest name,
-    )
 
 -- ---- a cell by its parts
 

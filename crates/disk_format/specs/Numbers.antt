@@ -8,9 +8,6 @@ pub record HasNumbersOfCells : Type 0 where
   pub halves : FIRST_HALF ≡ 1536
   pub half_cells : HALF_CELLS ≡ 1024
   pub half : HALF_BYTES ≡ 524288
-  pub format_gate : FORMAT_GATE ≡ 0xD5
-  pub selector_gate : SELECTOR_GATE ≡ 0xB5
-  pub record_gate : RECORD_GATE ≡ 0xA5
   pub version : VERSION ≡ 1
   pub names : MOST_NAMES ≡ 512
   pub name : MOST_NAME ≡ 255

@@ -1,24 +1,15 @@
 -- What holds of keys that share one mark, however marks are kept.
-use Rattle.std.proofs.Common.{◌≡◌, ℕ, List, Some, refl, sym, subst}
+use Rattle.std.proofs.Common.{◌≡◌, ℕ, List, Some, refl}
 use Rattle.std.specs.FinMap as finite
 use Rattle.container_meta.specs.declared.place.Place.{Place}
 use Rattle.container_meta.specs.Places.{PlaceMap}
-use Rattle.gc_enumerate.specs.Live.{LiveKeys, IsLiveAt, SharesMark}
+use Rattle.gc_enumerate.specs.Live.{SharesMark}
 use Rattle.gc_enumerate.specs.Marking.{IsOneToOne}
 
 -- a key has its own mark
 pub own_mark : (key : List ℕ) (place : Place) → SharesMark key place key place
 unfolding SharesMark
 own_mark key place = refl
-
-pub shares_back : (key other : List ℕ) (place there : Place) → SharesMark key place other there → SharesMark other there key place
-unfolding SharesMark
-shares_back key other place there shares = sym shares
-
--- what shares the mark of a live key is live
-pub live_too : (live : LiveKeys) (key other : List ℕ) (place there : Place) → IsLiveAt live key place → SharesMark key place other there → IsLiveAt live other there
-unfolding IsLiveAt SharesMark
-live_too live key other place there is shares = subst (λ (k : List ℕ). IsLiveAt live k there) shares is
 
 -- no two keys of an index share one mark where no two have one place
 pub one_key : (m : PlaceMap) (key other : List ℕ) (place there : Place) → IsOneToOne m → finite.get m key ≡ Some place → finite.get m other ≡ Some there →

@@ -36,16 +36,7 @@ old_count snapshot t =
 pub few_sources : (t : SlotTable) (c d : Collection) → IsRecordedTo t c (length t.ids.items) → Chooses t c d → length d.sweep.sources.items ≤ old_from c.snapshot t 0
 few_sources t c d recorded chooses = omega (arith, few_chosen t c d.sweep.sources.items recorded chooses.each, old_count c.snapshot t)
 
--- A container that is sealed leaves as many that were there.
-pub sealed_old : (held : List (Option HeaderValue)) (t now : SlotTable) (c : Collection) (slot : ℕ) (h : HeaderValue) → IsFirstFree slot held → RepresentsSlots held t
-    → RepresentsSlots (with_slot slot h held) now → t.last_id < h.id → IsUnderWay t c → old_from c.snapshot now 0 ≡ old_from c.snapshot t 0
-sealed_old held t now c slot h free was is next under = old_many held t now c slot h free was is next under 0
-
 -- ---- as it goes on
-
--- So few there are at the beginning.
-pub few_begun : (t : SlotTable) (c : Collection) → c.sweep.sources.items ≡ [] → HasFewSources (old_from c.snapshot t 0) t c
-few_begun t c none = record { old = λ first. omega arith; chosen = omega (arith, ap length none) }
 
 -- Sources and snapshot stay, and the sources are not to be chosen again.
 pub few_on : (most : ℕ) (t u : SlotTable) (c d : Collection) → d.snapshot ≡ c.snapshot → d.sweep.sources ≡ c.sweep.sources
@@ -54,11 +45,6 @@ few_on most t u c d snapshot sources before few = record {
   old = λ first. let was = before first in omega (arith, few.old was.0, was.1, ap (λ (s : ℕ). old_from s u 0) snapshot);
   chosen = omega (arith, few.chosen, ap (λ (v : Vec ℕ Global). length v.items) sources);
 }
-
--- A container that is sealed leaves it so.
-pub few_sealed : (most : ℕ) (held : List (Option HeaderValue)) (t now : SlotTable) (c : Collection) (slot : ℕ) (h : HeaderValue) → IsFirstFree slot held → RepresentsSlots held t
-    → RepresentsSlots (with_slot slot h held) now → t.last_id < h.id → IsUnderWay t c → HasFewSources most t c → HasFewSources most now c
-few_sealed most held t now c slot h free was is next under few = few_on most t now c c refl refl (λ first. (first, sealed_old held t now c slot h free was is next under)) few
 
 module _ (most : ℕ) (t u : Tables) (known_before known : Option PlaceMap) (old new : DiskView) (c d : Collection) (few : HasFewSources most t.held c) where
   abbrev was : Moment
@@ -109,31 +95,3 @@ module _ (most : ℕ) (t u : Tables) (known_before known : Option PlaceMap) (old
 
   all_same : d ≡ c → StaysSo
   all_same is = (ap (λ (x : Collection). x.stage) is, ap (λ (x : Collection). x.snapshot) is, ap (λ (x : Collection). x.sweep.sources) is)
-
-  mark_kept : (level slot : ℕ) (refusal : Refusal) → KeepsMarks known_before old new level slot c d refusal → StaysSo
-  mark_kept level slot = by_refusal
-    where
-      by_memory : (d ≡ c) ⊎ MarksOnly known_before old new level slot c d → StaysSo
-      by_memory (inl is) = all_same is
-      by_memory (inr only) =
-          (ap (λ (x : Collection). x.stage) only.collection_is, ap (λ (x : Collection). x.snapshot) only.collection_is, ap (λ (x : Collection). x.sweep.sources) only.collection_is)
-
-      by_refusal : (refusal : Refusal) → KeepsMarks known_before old new level slot c d refusal → StaysSo
-      by_refusal Memory is = by_memory is
-      by_refusal _ is = all_same is
-
-  -- what a refusal leaves as it was
-  kept_so : (stage : Stage) (next : Next) (refusal : Refusal) → Keeps stage next was is_now refusal → StaysSo
-  kept_so (Mark level slot) next refusal keeps = mark_kept level slot refusal keeps.0
-  kept_so (Filter slot) next refusal keeps = all_same keeps.0
-  kept_so Select next refusal keeps = all_same keeps.0
-  kept_so Sweep (Copy source entry) refusal keeps = all_same keeps.0
-  kept_so Sweep (Flush source entry) refusal keeps = all_same keeps.0
-  kept_so Sweep (Release source entry) refusal keeps = all_same keeps
-  kept_so Sweep End refusal keeps = all_same keeps.0
-
-  -- A refusal leaves it so.
-  pub few_refused : (refusal : Refusal) → u ≡ t → Keeps c.stage c.sweep.next was is_now refusal → HasFewSources most u.held d
-  few_refused refusal same keeps =
-      let is = kept_so c.stage c.sweep.next refusal keeps in
-      same_few same is.1 is.2 (λ first. subst IsToChoose is.0 first)

@@ -107,11 +107,6 @@ module _ (chosen : ℕ) (t : SlotTable) (c after : Collection) (under : IsUnderW
       fewer chosen t t c after under (Filter slot) next at records.collection_is
       (omega (arith, to_filter chosen t next (slot + 1) (omega (arith, was.0.0)), one_fewer (is_old_slot c.snapshot t) (length t.ids.items) slot was.0.0 was.0.1))
 
-  pub fewer_to_choose : length after.sweep.sources.items ≤ chosen → c.stage ≡ Select → Chooses t c after → steps_to_come chosen t after < steps_to_come chosen t c
-  fewer_to_choose most at chooses =
-      let next : Collection = record c { stage = Sweep; sweep = after.sweep } in
-      fewer chosen t t c after under Select next at chooses.collection_is (omega (arith, begun_few t after.sweep.sources.items after.sweep chooses.begins, most))
-
 -- ---- at the beginning
 
 pub begun : (chosen : ℕ) (t : SlotTable) (c : Collection) → c.stage ≡ mark_level c.snapshot t MOST_LEVEL

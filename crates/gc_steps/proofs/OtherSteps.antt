@@ -18,13 +18,6 @@ module _ (index : PlaceMap) (store : Store) (old new : List ℕ) (parts : List P
   pub kept : KeepsCopies (HasKey index) store old store new → KeepsBoth index index store store parts parts old new c c
   kept keeps = fewer_roots index store store old new parts parts c refl keeps (λ key root. root)
 
-  -- A cell is made for a record.
-  pub cell_made : Follow 0 finite.empty store.records → KeepsCopies (HasKey index) store old (with_cell store) new
-      → KeepsBoth index index store (with_cell store) parts parts old new c c
-  cell_made follow keeps =
-      fewer_roots index store (with_cell store) old new parts parts c refl keeps
-      (λ key root. subst (λ (names : NameMap). IsRoot names parts key) (names_with_cell store follow) root)
-
 -- ---- a name changes
 
 module _ (index : PlaceMap) (store : Store) (old new : List ℕ) (parts : List Part) (c : Collection) (name : List ℕ) (follow : Follow 0 finite.empty store.records) where

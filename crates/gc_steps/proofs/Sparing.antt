@@ -377,13 +377,6 @@ live_copies index live now same kind slot [] has = has
 live_copies index live now same kind slot (e ∷ es) (inl has) = inl (has.0, (same (entry_key kind e) (place_of slot e)).1 has.1)
 live_copies index live now same kind slot (e ∷ es) (inr rest) = inr (live_copies index live now same kind slot es rest)
 
-pub as_spared : (P : List ℕ → Type 0) (index : PlaceMap) (held : List (Option HeaderValue)) (c : Collection) (now : LiveKeys) → IsAsLive c.live now → Spares P index held c
-    → Spares P index held (record c { live = now })
-as_spared P index held c now same was = record {
-  within = λ key place is. was.within key place ((same key place).0 is);
-  spared = λ slot h there. by_stage c.stage slot h (was.spared slot h there);
-  alone = alone_by c.stage was.alone;
-}
   where
     on : (slot : ℕ) (h : HeaderValue) → IsSpared index c slot h → IsSpared index (record c { live = now }) slot h
     on slot h has = live_copies index c.live now same h.kind slot h.entries has

@@ -15,7 +15,7 @@ use Rattle.store_model.specs.Steps.{CanChangeName, HoldsFor, change_of, name_of}
 use Rattle.store_model.proofs.Journaled.{with_journal, journal_above, files_above, held_for, change_stands}
 use Rattle.store_model.proofs.Valid.{valid_change}
 use Rattle.store_state.specs.Refused.{blames}
-use Rattle.ingest_steps.specs.Naming.{MayDelete, MayName, IsChanged, StandsStill, commanding, changing_journal}
+use Rattle.ingest_steps.specs.Naming.{MayDelete, IsChanged, StandsStill, commanding, changing_journal}
 use Rattle.ingest_steps.proofs.Recorded.{count_of_cell, same_cell, checkpoint_told, record_same, names_told}
 use Rattle.ingest_steps.proofs.Renewed.{alone, append_after, append_between, half_of, checkpoint_after, checkpoint_between}
 
@@ -39,10 +39,6 @@ there_after r names new root put is =
 pub record_is : (t : Tables) (name : List ℕ) (change : Change) (r : RecordValue) (number : ℕ) → r ≡ record { sequence = number; name = name; change = change }
     → number ≡ suc t.journal.last → r ≡ record_after_last t name change
 record_is t name change r number is next = is ∙ ap (λ (n : ℕ). record { sequence = n; name = name; change = change }) next
-
--- a name that may have a root may be changed so
-pub of_put : (t : Tables) (name : List ℕ) (root : Root) → MayName t name → MayChange t name (Put root)
-of_put t name root may = record { named = may.named; place = may.room }
 
 pub of_delete : (t : Tables) (name : List ℕ) → MayDelete t name → MayChange t name Delete
 of_delete t name may = record { named = may.named; place = may.there }

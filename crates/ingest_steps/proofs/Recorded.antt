@@ -2,7 +2,7 @@
 use Rattle.ingest_steps.proofs.Prelude.{◌≡◌, inl, inr, ℕ, suc, ◌+◌, ◌-◌, ◌<◌, Bool, true, false, List, [], ◌∷◌, length, refl, sym, ◌∙◌, ap, subst, arith, Change, RecordValue, half_cells, DiskView, SteppedFrom, Ending, Done, Broken, Writes, leaves_weaker, NameMap, names_with, puts_of, Appends, IsAppended, Checkpoints, IsCheckpointed, checkpointed, JournalValue, IsTold, Store, record_of, with_cell, with_checkpoint, with_change, store_has_cell, cell_here, cell_anew, Tables, RepresentsNames, record_after_last, tables_with, RecordsBy, IsRecordedBy, Records, IsRecorded, has_cell}
 use Rattle.std.proofs.Common.{max, if◌then◌else◌, length-append}
 use Rattle.std.specs.Prelude.{nat_lt}
-use Rattle.std.proofs.lemmas.Bool.{ltb-true, lt-ltb, le-ltb}
+use Rattle.std.proofs.lemmas.Bool.{ltb-true, lt-ltb}
 use Rattle.std.specs.FinMap as finite
 use Rattle.dd_disk.proofs.Writes.{IsUnrefused, writes_on}
 use Rattle.store_model.specs.Journal.{Follow, last_of}
@@ -11,7 +11,7 @@ use Rattle.store_model.proofs.Cells.{last_with_cell}
 use Rattle.store_model.proofs.NameChanges.{last_appended}
 use Rattle.store_model.proofs.Puts.{puts_leave}
 use Rattle.store_model.proofs.Records.{last_of_push, names_after_push}
-use Rattle.ingest_steps.specs.Recording.{IsHalfFull, journal_with_cell}
+use Rattle.ingest_steps.specs.Recording.{journal_with_cell}
 
 -- ---- what is written
 
@@ -53,9 +53,6 @@ count_of_cell journal free = ltb-true journal.count half_cells free
 
 pub cell_of_count : (journal : JournalValue) → journal.count < half_cells → has_cell journal ≡ true
 cell_of_count journal room = lt-ltb journal.count half_cells room
-
-pub none_of_count : (journal : JournalValue) → IsHalfFull journal → has_cell journal ≡ false
-none_of_count journal full = le-ltb journal.count half_cells full
 
 module _ (names : NameMap) (journal : JournalValue) where
   pub journal_here : has_cell journal ≡ true → journal_with_cell names journal ≡ journal

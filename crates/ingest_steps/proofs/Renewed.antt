@@ -1,5 +1,5 @@
 -- What an image has while a record is written, and after: a cell alone changes, or the other half of the journal too.
-use Rattle.ingest_steps.proofs.Prelude.{◌≡◌, ◌⊎◌, inl, inr, ℕ, ◌-◌, ◌<◌, ◌≤◌, Bool, true, false, List, [], ◌∷◌, ◌++◌, length, refl, sym, ◌∙◌, ap, subst, arith, Change, RecordValue, SelectorValue, half_cells, NameMap, HasPlace, puts_of, SameButNext, Appends, IsAppended, SameButHalf, Checkpoints, IsCheckpointed, JournalValue, IsTold, Store, names_of, HasJournal, appended, record_of, with_checkpoint, SameTo, SameButJournal, IsAbove, names_checkpoint}
+use Rattle.ingest_steps.proofs.Prelude.{◌≡◌, ◌⊎◌, inl, inr, ℕ, ◌-◌, ◌<◌, ◌≤◌, Bool, true, false, List, [], ◌∷◌, ◌++◌, refl, sym, ◌∙◌, ap, subst, arith, Change, RecordValue, SelectorValue, half_cells, NameMap, HasPlace, puts_of, SameButNext, Appends, IsAppended, SameButHalf, Checkpoints, IsCheckpointed, JournalValue, IsTold, Store, names_of, HasJournal, appended, record_of, with_checkpoint, SameTo, SameButJournal, IsAbove, names_checkpoint}
 use Rattle.disk_format.specs.declared.numbers.TheConstants.{FIRST_HALF}
 use Rattle.disk_format.specs.Cells.{IsName}
 use Rattle.base_model.specs.Bytes.{byte_at}

@@ -1,5 +1,5 @@
 -- What a checkpoint leaves: the journal that stood, or the new one.
-use Rattle.journal_cells.proofs.Prelude.{◌≡◌, ◌≢◌, ◌⊎◌, inl, inr, ℕ, zero, suc, ◌+◌, ◌-◌, ◌*◌, ◌≤◌, ◌<◌, Bool, true, false, List, [], ◌∷◌, ◌++◌, length, max, refl, sym, ap, subst, ◌∙◌, arith, rules, length-append, append_assoc, eqb-true, eqb-false, byte_at, SameOutside, byte-written, same_written, byte_after, range-first, range-join, range-one, range-range, range-second, range-whole, range-written, CELL_BYTES, HALF_BYTES, SELECTOR_GATE, RecordValue, SelectorValue, IsRecord, IsSelector, record_cell, selector_cell, least_size, selector_at, cell_at, half_cells, CellTorn, DiskView, Ending, Torn, Writes, same_cell, writes_weaker, NameMap, names_with, names_after, puts_of, HoldsJournal, HoldsSelector, IsOlder, KnowsOther, Follow, StandFrom, ClosedFrom, last_of, FreshHalf, cells_of, IsFreshHalf, cells_filled, half_filled, gate_closed, replaced, Replaces, JournalValue, IsTold}
+use Rattle.journal_cells.proofs.Prelude.{◌≡◌, ◌≢◌, ◌⊎◌, inl, inr, ℕ, zero, suc, ◌+◌, ◌-◌, ◌*◌, ◌≤◌, ◌<◌, Bool, true, false, List, [], ◌∷◌, ◌++◌, length, refl, sym, ap, subst, ◌∙◌, arith, rules, length-append, append_assoc, eqb-true, eqb-false, byte_at, SameOutside, byte-written, same_written, byte_after, range-first, range-join, range-one, range-range, range-second, range-whole, range-written, CELL_BYTES, HALF_BYTES, SELECTOR_GATE, RecordValue, SelectorValue, IsRecord, IsSelector, record_cell, selector_cell, least_size, selector_at, cell_at, half_cells, CellTorn, DiskView, Ending, Torn, Writes, same_cell, writes_weaker, NameMap, names_with, names_after, puts_of, HoldsJournal, HoldsSelector, IsOlder, KnowsOther, Follow, StandFrom, ClosedFrom, last_of, FreshHalf, cells_of, IsFreshHalf, cells_filled, half_filled, gate_closed, replaced, Replaces, JournalValue, IsTold}
 use Rattle.std.proofs.Common.{◌==◌}
 use Rattle.std.specs.Prelude.{IsTrue}
 use Rattle.std.specs.List.{AllByRecursion}
@@ -451,18 +451,3 @@ module _ (journal : JournalValue) (names : NameMap) (new : FreshHalf) (is : IsFr
       (λ given c known put. all_replaced open_gate given c (omega (arith, size, old.sized given known)) put) e
       (λ given d c known image torn. replaces open_gate (sym is_open) given d c (omega (arith, size, old.sized given known)) (omega (arith, size, old.image_sized d image)) torn)
       (subst (λ (h : ℕ). Writes (Replaces open_gate h new) (λ given c. c ≡ replaced open_gate h new given) e old after) here writes)
-
-  -- the journal in memory, of the same half
-  pub renewed_is : (half generation count previous last : ℕ) → half ≡ new.next.half → generation ≡ new.next.generation → count ≡ new.count → previous ≡ new.previous →
-      last ≡ max journal.last new.previous
-      → (let j : JournalValue = record { half = half; generation = generation; other_open = true; count = count; previous = previous; last = last } in j) ≡ checkpointed names
-      journal
-  renewed_is half generation count previous last half_is generation_is count_is previous_is last_is =
-      of_fields half generation count previous last (half_is ∙ ap (λ (s : SelectorValue). s.half) is.next_is) (generation_is ∙ ap (λ (s : SelectorValue). s.generation) is.next_is)
-      (count_is ∙ is.count)
-      (previous_is ∙ is.previous) (last_is ∙ ap (max journal.last) is.previous)
-    where
-      of_fields : (h g c p l : ℕ) → h ≡ 1 - journal.half → g ≡ journal.generation + 1 → c ≡ length (puts_of names) → p ≡ last_of 0 (puts_of names) →
-          l ≡ max journal.last (last_of 0 (puts_of names))
-          → (let j : JournalValue = record { half = h; generation = g; other_open = true; count = c; previous = p; last = l } in j) ≡ checkpointed names journal
-      of_fields h g c p l one two three four five = cc

@@ -134,9 +134,6 @@ module _ (half from cell : ℕ) (old mid new : DiskView) (above : from ≤ cell)
         },
       )
 
-pub all_closed : (half from cell : ℕ) (old new : DiskView) → half_cells ≤ cell → Shows old new (AreClosed half from cell) → Shows old new (ClosedFrom half from)
-all_closed half from cell old new all closed = weaker old new (λ image sized is c above below. is c above (omega (arith, all, below))) closed
-
 -- ---- the records, and what is past them
 
 module _ (half : ℕ) (old new : DiskView) where

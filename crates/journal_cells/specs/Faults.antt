@@ -75,12 +75,6 @@ abbrev pub IsCellFault : (CellFault → Type 0) → (CellFault → Type 0) → C
 IsCellFault kind found Memory = Unit {0}
 IsCellFault kind found fault = IsReadFault kind found fault
 
--- A write or a sync failed, or there was no memory.
-abbrev pub IsWriteFault : CellFault → Type 0
-IsWriteFault Memory = Unit {0}
-IsWriteFault DiskWrite = Unit {0}
-IsWriteFault _ = ⊥
-
 -- ---- readers of bytes
 
 -- the fault that was answered is what a reader finds in bytes; want of memory is free, and no disk is asked

@@ -53,10 +53,6 @@ open_tree t ts n room right level =
       room = room_below n.level n.children ts right.above right.most (omega (arith, here, level)) room.1;
     }
 
-pub nonempty : (items : List Top) → IsNodeNext (reverse items) → 0 < length items
-nonempty [] h = absurd h
-nonempty (t ∷ ts) h = omega arith
-
 -- the last element comes first in the reversed list
 pub reverse_last : (items : List Top) (d : Top) → 0 < length items → reverse items ≡ get_or items (length items - 1) d ∷ reverse (take (length items - 1) items)
 reverse_last items d some =

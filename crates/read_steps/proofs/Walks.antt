@@ -330,17 +330,6 @@ pub copy_refused : (known : Option PlaceMap) (breaks : ℕ → Why → List ℕ 
 copy_refused known breaks old new t (Damaged at why) cause = inl cause
 copy_refused known breaks old new t refusal cause = cause
 
-pub node_refused : (known : Option PlaceMap) (breaks : ℕ → Why → List ℕ → Type 0) (old new : DiskView) (before : List Top) (digest : List ℕ) → IsNodeNamed before digest →
-    (refusal : Refusal)
-    → IsCopyRefusal known breaks old new (1 ∷ digest) digest refusal → IsWalkRefusal known breaks old new before before refusal
-node_refused known breaks old new [] digest named refusal cause = absurd named
-node_refused known breaks old new (t ∷ ts) digest named refusal cause = record {
-  walked = walked_none (WasRead known old new) (t ∷ ts);
-  cause = copy_refused known breaks old new t refusal
-      (subst (λ (key : List ℕ). IsCopyRefusal known breaks old new key t.digest refusal) (sym (key_of_node t named.0))
-      (subst (λ (d : List ℕ). IsCopyRefusal known breaks old new (1 ∷ d) d refusal) named.1 cause));
-}
-
 -- ---- what a walk wants
 
 same_top : (k l m n : ℕ) (d e : List ℕ) → k ≡ l → m ≡ n → d ≡ e → (let t : Top = record { length = k; level = m; digest = d } in t) ≡ record { length = l; level = n; digest = e }

@@ -53,9 +53,6 @@ of_words word (Some rest) =
 abbrev pub line_of : List ℕ → Option LineValue
 line_of bytes = of_words (before_space bytes) (after_space bytes)
 
-pub one_word : (word : List ℕ) → HasNoSpace word → line_of word ≡ of_one word
-one_word word none = rw (before-all word none, after-all word none) refl
-
 words : (word rest : List ℕ) → HasNoSpace word → line_of (word ++ (32 ∷ rest)) ≡ of_words word (Some rest)
 words word rest none = rw (before-word word rest none, after-word word rest none) refl
 

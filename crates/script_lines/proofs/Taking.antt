@@ -73,13 +73,6 @@ take_both a b s t u l m n first second = record {
   within = second.within;
 }
 
--- nothing of a line was taken yet
-pub at_start : (s : ReaderState) (left : Option (List ℕ)) → s.taken ≤ MOST_SCRIPT → IsInLine s (record s { line = [] }) left left
-at_start s left within = record {
-  takes = record { rest = λ all told. (all, told, refl); counted = omega arith; within = within };
-  part = record { short = omega arith; not_ended = refl };
-}
-
 -- the source was read, where no byte was ready
 pub read_on : (first old mid : ReaderState) (begun left now : Option (List ℕ)) → IsInLine first old begun left → TakesOff [] old mid left now → mid.line ≡ old.line →
     IsInLine first mid begun now

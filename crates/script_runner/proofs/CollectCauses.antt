@@ -22,11 +22,6 @@ abbrev pub IsRestCause : Refusal → Type 0
 IsRestCause refusals.Numbers = Unit {0}
 IsRestCause refusal = IsReadCause refusal
 
--- what may be
-abbrev pub IsCollectCause : Refusal → Type 0
-IsCollectCause refusals.DiskWrite = Unit {0}
-IsCollectCause refusal = IsRestCause refusal
-
 -- And by the step: a write may fail where it copies, writes or gives back, and there nothing else is a cause of the last; where it writes no id
 -- may be left, and then no write fails.
 abbrev pub IsCauseAt : Stage → Next → Tables → Refusal → Type 0
@@ -36,13 +31,6 @@ IsCauseAt Sweep (Flush source entry) t refusals.Numbers = LAST_ID ≤ t.held.las
 IsCauseAt Sweep (Release source entry) t refusal = refusal ≡ refusals.DiskWrite
 IsCauseAt Sweep End t refusal = ⊥
 IsCauseAt stage next t refusal = IsReadCause refusal
-
-scan_cause : (fault : ScanFault) (refusal : Refusal) → refusal ≡ step_refusal fault → IsHarmless ⊥ refusal → IsReadCause refusal
-scan_cause faults.Memory refusal is harmless = subst IsReadCause (sym is) tt
-scan_cause faults.DiskRead refusal is harmless = subst IsReadCause (sym is) tt
-scan_cause (faults.Damaged at why) refusal is harmless = absurd (subst (IsHarmless ⊥) is harmless)
-scan_cause (faults.Corrupt at offset count want got) refusal is harmless = absurd (subst (IsHarmless ⊥) is harmless)
-scan_cause (faults.Missing key) refusal is harmless = absurd (subst (IsHarmless ⊥) is harmless)
 
 header_cause : (t : SlotTable) (old new : DiskView) (slot : ℕ) (refusal : Refusal) → IsHeaderRefusal t old new slot refusal → IsHarmless ⊥ refusal → IsReadCause refusal
 header_cause t old new slot refusals.Memory cause harmless = tt
@@ -73,35 +61,6 @@ module _ (old : Moment) (new : DiskView) where
   filter_cause slot next refusals.DiskRead cause harmless = tt
   filter_cause slot next (refusals.Damaged at why) cause harmless = absurd harmless
   filter_cause slot next refusal cause harmless = absurd cause
-
-  pub cause_at : (stage : Stage) (next : Next) (refusal : Refusal) → IsStepRefusal stage next old new refusal → IsHarmless ⊥ refusal → IsCauseAt stage next old.tables refusal
-  cause_at (Mark level slot) next refusal (inl cause) harmless = header_cause old.tables.held old.disk new slot refusal cause harmless
-  cause_at (Mark level slot) next refusal (inr stops) harmless = scan_cause stops.fault refusal stops.refusal_is harmless
-  cause_at (Filter slot) next refusal cause harmless = filter_cause slot next refusal cause harmless
-  cause_at Select next refusal cause harmless = subst IsReadCause (sym cause) tt
-  cause_at Sweep (Copy source entry) refusal cause harmless =
-      copy_cause source entry old.tables refusal (copying_cause old.tables.held old.known old.disk new old.collection.live source entry old.collection.sweep refusal cause) harmless
-  cause_at Sweep (Flush source entry) refusal cause harmless = flush_cause source entry old.tables old.known refusal cause harmless
-  cause_at Sweep (Release source entry) refusal cause harmless = cause
-  cause_at Sweep End refusal cause harmless = absurd cause
-
--- so it is one that may be
-read_collects : (refusal : Refusal) → IsReadCause refusal → IsCollectCause refusal
-read_collects refusals.Memory is = tt
-read_collects refusals.DiskRead is = tt
-read_collects refusal is = absurd is
-
-pub collect_cause : (stage : Stage) (next : Next) (t : Tables) (refusal : Refusal) → IsCauseAt stage next t refusal → IsCollectCause refusal
-collect_cause (Mark level slot) next t refusal cause = read_collects refusal cause
-collect_cause (Filter slot) next t refusal cause = read_collects refusal cause
-collect_cause Select next t refusal cause = read_collects refusal cause
-collect_cause Sweep (Copy source entry) t refusals.DiskWrite cause = tt
-collect_cause Sweep (Copy source entry) t refusal cause = read_collects refusal cause
-collect_cause Sweep (Flush source entry) t refusals.DiskWrite cause = tt
-collect_cause Sweep (Flush source entry) t refusals.Numbers cause = tt
-collect_cause Sweep (Flush source entry) t refusal cause = read_collects refusal cause
-collect_cause Sweep (Release source entry) t refusal cause = subst IsCollectCause (sym cause) tt
-collect_cause Sweep End t refusal cause = absurd cause
 
 -- ---- a step that was made
 

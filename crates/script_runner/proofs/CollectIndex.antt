@@ -29,7 +29,3 @@ module _ (old new : CoreState) where
   index_kept Sweep (Flush source entry) t refusal before after rests cause keeps = absurd rests
   index_kept Sweep (Release source entry) t refusal before after rests cause keeps = absurd (no_release refusal rests cause)
   index_kept Sweep End t refusal before after rests cause keeps = keeps.1
-
-  pub rest_index : (refusal : Refusal) (row : IsNotMade refusal old new) → IsRestCause refusal → IsCauseAt row.before.stage row.before.sweep.next old.tables refusal →
-      new.known ≡ old.known
-  rest_index refusal row rests cause = index_kept row.before.stage row.before.sweep.next old.tables refusal row.before row.after rests cause row.kept

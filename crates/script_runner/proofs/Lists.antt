@@ -23,17 +23,6 @@ set_here place none x xs below = get_or-set_same xs place x none below
 pub set_same : {T : Type 0} (place : ℕ) (none : T) (xs : List T) → slice_set xs place (slice_index_or xs place none) ≡ xs
 set_same place none xs = set-get_or xs place none
 
--- past the end there is none
-pub none_past : {T : Type 0} (place : ℕ) (none : T) (xs : List T) → length xs ≤ place → slice_index_or xs place none ≡ none
-none_past place none xs past = get_or_past xs place none past
-
--- where something is found there is a place
-pub some_within : {T : Type 0} (place : ℕ) (none x : T) (xs : List T) → slice_index_or xs place none ≡ x → none ≢ x → place < length xs
-some_within place none x xs is some = elim (cases_lt place (length xs)) [
-  | inl below ↦ below
-  | inr past ↦ absurd (some (sym (none_past place none xs past) ∙ is))
-]
-
 -- ---- idle actors
 
 pub idle_part : (actor : ℕ) → actor < ACTORS → part_of (replicate ACTORS core_parts.Idle) actor ≡ core_parts.Idle

@@ -186,11 +186,6 @@ module _ (C : Type 0) (state : C → CoreState) (t : Account) (r s : RunnerState
   of_start percent refusals.DiskRead told row = absurd (let wrong : Some told.0 ≡ None = sym told.1 ∙ row.cause.cause in cc)
   of_start percent refusal told row = absurd row.cause.cause
 
-  -- none of these stops the store
-  start_goes : (refusal : Refusal) → IsOfStart refusal → stops refusal ≡ false
-  start_goes refusals.DiskWrite is = absurd is
-  start_goes refusal is = refl
-
   not_started : (percent : ℕ) (refusal : Refusal) → Admits (lines.Gc percent) r.sessions (state r.core) → Starts C state percent (Err refusal) r.core s.core →
       s.sessions ≡ r.sessions
       → Told C state (lines.Gc percent) (replies.Refused refusal) t s

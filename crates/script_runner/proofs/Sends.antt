@@ -5,14 +5,6 @@ use Rattle.reply_text.specs.declared.ending.Ending.{Ending}
 use Rattle.reply_text.specs.declared.ending.Ending.TheVariants as endings
 use Rattle.script_runner.specs.Runner.{SendsReply, Sent, Tells}
 
--- of a line that doesn't end the script
-pub sent_so : (line : LineValue) (reply : ReplyValue) (text : List ℕ) (result : Result (Unit {0}) Ending) (sink sink_now : SinkView) → ends line reply ≡ false →
-    text ≡ reply_line reply → Sent text result sink sink_now
-    → SendsReply line reply result sink sink_now
-sent_so line reply text (Ok u) sink sink_now on is sent = (on, subst (λ (t : List ℕ). Sent t (Ok tt) sink sink_now) is sent)
-sent_so line reply text (Err endings.Sink) sink sink_now on is sent = subst (λ (t : List ℕ). Sent t (Err endings.Sink) sink sink_now) is sent
-sent_so line reply text (Err e) sink sink_now on is sent = absurd sent
-
 pub told_so : (line : LineValue) (reply : ReplyValue) (result : Result (Unit {0}) Ending) (sink sink_now : SinkView) → ends line reply ≡ false → ¬ (IsAcknowledged reply) →
     Tells reply result sink sink_now → SendsReply line reply result sink sink_now
 told_so line reply (Ok u) sink sink_now on none tells = (on, tells)

@@ -34,13 +34,6 @@ left_by most t (Some c) = steps_to_come most t c
 abbrev pub left_in : ℕ → CoreState → ℕ
 left_in most c = left_by most c.tables.held c.collection
 
-few_most : (t : SlotTable) (running : Option Collection) → few_by (most_by t running) t running
-few_most t None = tt
-few_most t (Some c) = record { old = λ first. omega arith; chosen = omega arith }
-
-pub few_at_first : (c : CoreState) → IsFewIn (most_in c) c
-few_at_first c = few_most c.tables.held c.collection
-
 -- ---- a step
 
 pub few_after : (most : ℕ) (phase : Phase) (old new : CoreState) → IsUnderWayIn old.tables.held old.collection → IsFewIn most old → (goes : GoesOn phase old new)

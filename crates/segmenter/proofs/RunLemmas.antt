@@ -47,10 +47,6 @@ HasCut-finish taken shown hand before =
     ∙ before.first []
     ∙ ap (λ bytes. shown ++ segments_of bytes) (append-nil hand.bytes)
 
--- a stream of which nothing was taken
-pub HasCut-start : HasCut [] [] empty_hand
-HasCut-start = record { kept = refl; first = λ more. refl; whole = λ h. cc }
-
 -- the same, where the rest is one segment or nothing
 pub HasCut-last : (taken : List ℕ) (shown : List (List ℕ)) (hand : Hand) (bytes : List ℕ) (empty : Bool) → HasCut taken shown hand →
     hand.bytes ≡ bytes → (empty ≡ true → bytes ≡ []) → (empty ≡ false → segments_of bytes ≡ bytes ∷ []) →

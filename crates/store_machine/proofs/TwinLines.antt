@@ -23,10 +23,6 @@ use Rattle.store_machine.proofs.Writers.{IsNoOpening, IsOther, KeepsWriters, apa
 same_refusal : (a b : Refusal) → replies.Refused a ≡ replies.Refused b → a ≡ b
 same_refusal a b is = cc
 
--- a step that was refused is replied to so, and no other
-err_of : (a : ℕ) (refusal : Refusal) → reply_of a (Err refusal) ≡ replies.Refused refusal
-err_of a refusal = refl
-
 none_left : (sessions : List (Option Session)) (a : ℕ) → slice_index_or (all_none sessions) a None ≡ None
 none_left [] a = refl
 none_left (s ∷ ss) zero = refl

@@ -35,17 +35,11 @@ module _ (store : Store) where
   ] refl
 
   module _ (follow : Follow 0 finite.empty store.records) where
-    pub follow_checkpoint : Follow 0 finite.empty (with_checkpoint store).records
-    follow_checkpoint = puts_follow store.records follow
-
     pub names_checkpoint : names_of (with_checkpoint store) ≡ names_of store
     names_checkpoint = puts_leave store.records follow
 
     pub last_checkpoint : last_sequence (with_checkpoint store) ≡ last_sequence store
     last_checkpoint = omega (arith, puts_last store.records follow)
-
-    pub follow_with_cell : Follow 0 finite.empty (with_cell store).records
-    follow_with_cell = with_cell_is (λ s. Follow 0 finite.empty s.records) (λ free. follow) (λ full. follow_checkpoint)
 
     pub names_with_cell : names_of (with_cell store) ≡ names_of store
     names_with_cell = with_cell_is (λ s. names_of s ≡ names_of store) (λ free. refl) (λ full. names_checkpoint)

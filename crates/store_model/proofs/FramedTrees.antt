@@ -98,10 +98,6 @@ module _ (store : Store) (image new : List ℕ) (right : Encodes image store) (s
   newest_unsealed key level bytes =
       newest_still image new store.held key level bytes (headers_of_right image store right) (others_held image new (first_free store.held) 0 store.held same (omega arith))
 
-  -- and a tree
-  pub tree_unsealed : (t : Tree (List ℕ)) → HoldsTree store.held image t → HoldsTree store.held new t
-  tree_unsealed = tree_on store.held store.held image new newest_unsealed
-
 -- ---- all before the end of the slots is as it was
 
 module _ (store : Store) (image new : List ℕ) (right : Encodes image store) (same : SameTo (slot_at store.slots) image new) where
@@ -117,14 +113,8 @@ module _ (store : Store) (image new : List ℕ) (right : Encodes image store) (s
   slots_are : HoldSlots 0 store.held new
   slots_are = slots_kept image new 0 store.held slots_same right.slots_are
 
-  pub encodes_framed : length new ≡ length image → Encodes new store
-  encodes_framed size = encodes_on store image new front size store.held right refl slots_are right.different
-
   pub newest_framed : (key : List ℕ) (level : ℕ) (bytes : List ℕ) → HasNewest store.held key level bytes image → HasNewest store.held key level bytes new
   newest_framed key level bytes = newest_still image new store.held key level bytes (headers_of_right image store right) held_same
-
-  pub tree_framed : (t : Tree (List ℕ)) → HoldsTree store.held image t → HoldsTree store.held new t
-  tree_framed = tree_on store.held store.held image new newest_framed
 
 -- the same store, of the same files
 pub stands_framed : (S : List ℕ → Type 0) (store : Store) (files : Files) (image new : List ℕ) → Stands S store files image → SameTo (slot_at store.slots) image new →

@@ -1,5 +1,5 @@
 -- Slots once one of them is closed, and the image whose gate was cleared.
-use Rattle.store_model.proofs.Prelude.{◌≡◌, ◌≢◌, ◌⊎◌, inl, inr, ℕ, zero, suc, ◌+◌, ◌<◌, ◌≤◌, List, [], ◌∷◌, ◌++◌, length, get_or, Option, Some, None, refl, sym, ◌∙◌, ap, subst, arith, slice_get, range, byte_at, SameOutside, byte-range, FIRST_SLOT, SLOT_BYTES, slot_at, HeaderValue, with_freed, HasNoGate, SameButGates, IsPartlyFreed, Store, Encodes, IsValidFor, HoldsSlot, HoldSlots, AreHeaders, IsUnusedId, DifferentIds, free_slots, ids_of, without_slot, HasJournal}
+use Rattle.store_model.proofs.Prelude.{◌≡◌, ◌≢◌, ◌⊎◌, inl, inr, ℕ, zero, suc, ◌+◌, ◌<◌, ◌≤◌, List, [], ◌∷◌, ◌++◌, length, get_or, Option, Some, None, refl, sym, ◌∙◌, ap, subst, arith, slice_get, range, byte_at, SameOutside, byte-range, FIRST_SLOT, SLOT_BYTES, slot_at, HeaderValue, with_freed, HasNoGate, SameButGates, Store, Encodes, IsValidFor, HoldsSlot, HoldSlots, AreHeaders, IsUnusedId, DifferentIds, free_slots, ids_of, without_slot, HasJournal}
 use Rattle.container_meta.specs.Spelling.{header_size}
 use Rattle.std.proofs.Common.{slice_set}
 use Rattle.std.proofs.lemmas.List.{ext_get_or}
@@ -132,14 +132,6 @@ encodes_freed slot h s old new right there same closed =
     encodes_on s old new (before_slots slot old new outside) same.size (without_slot slot s.held) right (length-without_slot slot s.held)
     (holds_without slot old new outside 0 slot s.held (omega arith) closed right.slots_are) (different_without slot s.held right.different)
 
--- with its header still, it is the store from before
-pub encodes_unfreed : (slot : ℕ) (h : HeaderValue) (s : Store) (old new : List ℕ) → Encodes old s → slice_get s.held slot ≡ Some (Some h) → SameOutside (slot_at slot) 1 old new
-    → HoldsSlot new slot (Some h) → Encodes new s
-encodes_unfreed slot h s old new right there same has =
-    let outside = gate_in_slot slot old new same in
-    encodes_on s old new (before_slots slot old new outside) same.size s.held right refl
-    (holds_again slot old new outside 0 slot (Some h) s.held (omega arith) there has right.slots_are) right.different
-
 -- what a slot holds
 pub slot_from : (from index : ℕ) (held : List (Option HeaderValue)) (c : Option HeaderValue) (image : List ℕ) → HoldSlots from held image → slice_get held index ≡ Some c →
     HoldsSlot image (from + index) c
@@ -215,6 +207,3 @@ same_before slots old new same p n within = same.same p n (gates_after slots p n
 -- and the journal
 pub journal_same : (s : Store) (freed old new : List ℕ) → Encodes old s → HasJournal s old → SameButGates freed old new → HasJournal s new
 journal_same s freed old new right has same = has_kept s old new (same_before freed old new same) has
-
-pub journal_freed : (s : Store) (freed old new : List ℕ) → Encodes old s → HasJournal s old → IsPartlyFreed s freed old new → HasJournal s new
-journal_freed s freed old new right has part = has_kept s old new (same_before _ old new part.same) has

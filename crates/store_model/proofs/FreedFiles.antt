@@ -1,5 +1,5 @@
 -- Files, and the reserve of slots, once containers that no file needs are given back.
-use Rattle.store_model.proofs.Prelude.{◌≡◌, ◌≢◌, ◌⊎◌, inl, inr, ℕ, zero, suc, ◌+◌, ◌<◌, ◌≤◌, List, [], ◌∷◌, take, Option, Some, None, refl, sym, ◌∙◌, ap, subst, arith, AllByRecursion, slice_get, eqb_tells, sha256, SLOT_BYTES, slot_at, Entry, Kind, HeaderValue, SameOutside, AreAmong, Stands, Files, with_freed, HasNoGate, SameButGates, IsPartlyFreed, Store, Encodes, AreCopies, names_of, last_sequence, IsReachable, HoldsNone, AreHeaders, HoldsSlot, newest, free_slots, first_free, without_slot, KeepsCopies, AreFilesOf, IsStoreOf, StandsFor, HasNewest}
+use Rattle.store_model.proofs.Prelude.{◌≡◌, ◌≢◌, ◌⊎◌, inl, inr, ℕ, zero, suc, ◌+◌, ◌<◌, ◌≤◌, List, [], ◌∷◌, take, Option, Some, None, refl, sym, ◌∙◌, ap, subst, arith, AllByRecursion, slice_get, eqb_tells, sha256, SLOT_BYTES, slot_at, Entry, Kind, HeaderValue, SameOutside, AreAmong, Stands, Files, with_freed, HasNoGate, SameButGates, IsPartlyFreed, Store, Encodes, AreCopies, names_of, last_sequence, IsReachable, HoldsNone, AreHeaders, HoldsSlot, newest, free_slots, first_free, without_slot, KeepsCopies, AreFilesOf, IsStoreOf, HasNewest}
 use Rattle.std.specs.FinMap as finite
 use Rattle.std.proofs.lemmas.Bool.Decides.{leb_tells}
 use Rattle.disk_format.specs.declared.numbers.TheConstants.{RESERVE}
@@ -15,7 +15,6 @@ use Rattle.store_model.proofs.Freed.{closed_there, encodes_freed, same_gate, slo
 use Rattle.store_model.proofs.FreedTrees.{newest_freed, none_after, none_of_fewer, needed_file}
 use Rattle.store_model.proofs.HeldSlots.{SameHeld, AreSo, so_still, copy_still, IsNodeEntry, nodes_so, so_nodes, IsAmongThese, among_so, so_among}
 use Rattle.store_model.proofs.Once.{store_once}
-use Rattle.store_model.proofs.SameFiles.{standing_agrees}
 
 -- ---- which slots are freed
 
@@ -372,16 +371,6 @@ opens_of S stored image is = record {
   last_is = is.last_is;
 }
 
--- and stands for its files
-pub stands_of : (S : List ℕ → Type 0) (stored : Stored) (image : List ℕ) → OpensAs S stored image → StandsFor stored.files stored.last image
-stands_of S stored image opens = record { store = opens.store; holds = opens.stands.holds; opens = opens.opens; last_is = sym opens.last_is }
-
 same_stored : (m n : Stored) → m.files ≡ n.files → m.last ≡ n.last → m ≡ n
 same_stored m n files last = ap (λ (x : Files). (let one : Stored = record { files = x; last = m.last } in one)) files
     ∙ ap (λ (x : ℕ). (let one : Stored = record { files = n.files; last = x } in one)) last
-
--- An image is opened as one map of files at most.
-pub opens_once : (S : List ℕ → Type 0) (m n : Stored) (image : List ℕ) → OpensAs S m image → OpensAs S n image → m ≡ n
-opens_once S m n image one other =
-    let agree = standing_agrees m.files n.files m.last n.last image (stands_of S m image one) (stands_of S n image other) in
-    same_stored m n agree.0 agree.1

@@ -1,18 +1,14 @@
 -- An image is a store of one map of files at most, and the file of a name is that of its root.
-use Rattle.store_model.proofs.Prelude.{◌≡◌, ℕ, Bool, true, false, ◌<◌, ◌≤◌, List, [], length, Option, Some, None, refl, sym, ◌∙◌, ap, subst, nat_le, nat_list_cmp_total, leb-true, sha256, MOST_FILE, Root, IsRoot, HeaderValue, Named, ByCount, Empty, of_segment, tree_of, Files, Store, Encodes, names_of, last_sequence, HasRoot, IsFileOf, IsStoreOf, StandsFor, root_of, HoldsTree}
+use Rattle.store_model.proofs.Prelude.{◌≡◌, ℕ, Bool, true, false, ◌≤◌, List, length, Option, Some, None, refl, sym, ◌∙◌, ap, subst, nat_le, nat_list_cmp_total, leb-true, MOST_FILE, Root, IsRoot, HeaderValue, Named, of_segment, Files, Store, Encodes, names_of, last_sequence, HasRoot, IsFileOf, IsStoreOf, StandsFor, root_of, HoldsTree}
 use Rattle.std.specs.Prelude.{◌&&◌}
 use Rattle.std.specs.FinMap as finite
-use Rattle.disk_format.specs.declared.numbers.TheConstants.{LEAST_SEGMENT}
 use Rattle.merkle_file.specs.Tree as tree
 use Rattle.merkle_file.specs.Tree.{Tree, Leaf}
-use Rattle.segmenter.proofs.SegmentLemmas.{segments_of-none}
 use Rattle.store_model.specs.Trees.{file_tree}
 use Rattle.store_model.proofs.Once.{store_once}
 use Rattle.store_model.proofs.Roots.{root_of_name}
 use Rattle.store_model.proofs.Sound.{sound_of_right}
 use Rattle.store_model.proofs.Unfolding.{bytes_agree}
-use Rattle.merkle_file.proofs.RootLaws.{none_is_empty, one_is_leaf}
-use Rattle.segmenter.proofs.LengthLemmas.{short_is_one}
 
 -- ---- one map of files
 
@@ -106,36 +102,9 @@ file_of_root name root store files image holds has =
     (subst (λ (o : Option Named). IsFileOf store.held image o (finite.get files name)) has.1 (holds.files_are name)) in
     record { bytes = some.0; filed = some.1; root_is = some.2; held = some.3 }
 
-none_filed : (held : List (Option HeaderValue)) (image : List ℕ) (named : Option Named) (file : Option (List ℕ)) → named ≡ None → IsFileOf held image named file → file ≡ None
-none_filed held image None None none is = refl
-none_filed held image None (Some bytes) none is = absurd is
-none_filed held image (Some named) file none is = absurd (let wrong : Some named ≡ None = none in cc)
-
--- a name that has no root has no file
-pub not_filed : (name : List ℕ) (s t : Store) (files : Files) (image : List ℕ) → Encodes image s → finite.get (names_of s) name ≡ None → IsStoreOf t files image →
-    finite.get files name ≡ None
-not_filed name s t files image right none holds =
-    none_filed t.held image (finite.get (names_of t) name) (finite.get files name)
-    (ap (λ (x : Store). finite.get (names_of x) name) (store_once image t s holds.right right) ∙ none) (holds.files_are name)
-
 -- ---- short files
-
--- a file of one segment is its tree's leaf, and the empty file has the empty tree
-pub tree_of_short : (bytes : List ℕ) → 0 < length bytes → length bytes ≤ LEAST_SEGMENT → file_tree bytes ≡ Leaf bytes
-unfolding file_tree
-tree_of_short bytes some few = ap (tree_of ByCount of_segment) (short_is_one bytes some few) ∙ one_is_leaf ByCount bytes
-
-pub tree_of_none : file_tree [] ≡ Empty
-unfolding file_tree
-tree_of_none = ap (tree_of ByCount of_segment) segments_of-none ∙ none_is_empty ByCount
 
 root_by : (bytes : List ℕ) (t : Tree (List ℕ)) → file_tree bytes ≡ t
     → root_of bytes ≡ (let top = tree.root_of of_segment t in record { length = length bytes; level = top.level; digest = top.digest })
 root_by bytes t is = ap (λ (u : Tree (List ℕ)). let top = tree.root_of of_segment u in let r : Root = record { length = length bytes; level = top.level; digest = top.digest } in
     r) is
-
-pub root_of_short : (bytes : List ℕ) → 0 < length bytes → length bytes ≤ LEAST_SEGMENT → root_of bytes ≡ record { length = length bytes; level = 0; digest = sha256 bytes }
-root_of_short bytes some few = root_by bytes (Leaf bytes) (tree_of_short bytes some few)
-
-pub root_of_none : root_of [] ≡ record { length = 0; level = 0; digest = sha256 [] }
-root_of_none = root_by [] Empty tree_of_none

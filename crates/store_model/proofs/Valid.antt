@@ -1,5 +1,5 @@
 -- What is so of a store still, once a container was sealed or a record was added.
-use Rattle.store_model.proofs.Prelude.{◌≡◌, ℕ, suc, ◌<◌, ◌≤◌, List, [], ◌∷◌, ◌++◌, length, refl, sym, ◌∙◌, subst, arith, length-append, Root, Change, RecordValue, IsChange, IsRecord, IsRoot, Kind, Segment, HeaderValue, header_of, NameMap, HasPlace, names_with, names_after, Files, last_of, last_id, free_slots, first_free, Store, IsValidFor, names_of, HasRoot, IsStoreOf, CanHold, with_sealed, record_of, with_cell, with_change}
+use Rattle.store_model.proofs.Prelude.{◌≡◌, ℕ, suc, ◌<◌, ◌≤◌, List, [], ◌∷◌, ◌++◌, sym, ◌∙◌, subst, arith, length-append, Change, RecordValue, IsChange, IsRecord, Kind, Segment, HeaderValue, header_of, NameMap, HasPlace, names_with, names_after, last_of, last_id, free_slots, first_free, Store, IsValidFor, names_of, CanHold, with_sealed, record_of, with_cell, with_change}
 use Rattle.std.specs.FinMap as finite
 use Rattle.namespace.specs.Names.{IsTaken}
 use Rattle.store_model.specs.Journal.{Follow}
@@ -7,8 +7,6 @@ use Rattle.store_model.specs.Steps.{CanChangeName}
 use Rattle.store_model.proofs.Filled.{length-with_slot, free_less, headers_with, last_new, different_with}
 use Rattle.store_model.proofs.Cells.{names_with_cell, last_with_cell, room_with_cell, valid_with_cell}
 use Rattle.store_model.proofs.NameChanges.{record_right, record_rises}
-use Rattle.store_model.proofs.Roots.{root_of_name}
-use Rattle.store_model.proofs.Sound.{sound_of_right}
 
 -- ---- a record more
 
@@ -67,7 +65,3 @@ module _ {spare : ℕ} (id : ℕ) (kind : Kind) (segments : List Segment) (store
   }
 
 -- ---- roots
-
--- the root of a name is one that a file may have
-pub root_of_store : (store : Store) (files : Files) (image name : List ℕ) (root : Root) → IsStoreOf store files image → HasRoot name root store → IsRoot root
-root_of_store store files image name root is has = root_of_name (length image) store name root (sound_of_right (length image) image store refl is.right) has

@@ -77,7 +77,3 @@ pub record IsBlankOf (slots : ℕ) (image : List ℕ) : Type 0 where
   pub count : IsSlotCount slots
   pub size : length image ≡ size_of slots
   pub closed : byte_at 0 image ≢ FORMAT_GATE
-
--- the size of a disk, and no store on it
-abbrev pub IsBlank : List ℕ → Type 0
-IsBlank image = (slots : ℕ) × IsBlankOf slots image

@@ -152,10 +152,6 @@ CanChange (ChangeName name change) store = CanChangeName name change store × Is
 CanChange (FlushContainer id kind segments) store = CanFlush id kind segments store
 CanChange (FreeContainer slot) store = CanFree slot store
 
--- One store comes from another by a change. Each step of the core names its own.
-abbrev pub StoreStep : Store → Store → Type 0
-StoreStep s t = (change : StoreChange) × CanChange change s × (t ≡ changed change s)
-
 -- every key
 abbrev pub AnyKey : List ℕ → Type 0
 AnyKey key = Unit {0}

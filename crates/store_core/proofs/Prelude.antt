@@ -107,7 +107,7 @@ pub use Rattle.store_core.specs.Finding.{IsNoSweep}
 pub use Rattle.store_core.specs.Finished.{AreCopiesOf, Collected, FindsLive, IsAdded, IsDid, IsOfCopies, WasRecorded, WereCopies, copied_keys, sealed_keys}
 pub use Rattle.store_core.specs.Frame.{IsOn, KeepsBytes}
 pub use Rattle.store_core.specs.Opening.{LeavesUnread}
-pub use Rattle.store_core.specs.Releases.{AreGcSteps, SweepsSpare, copied_in, ends_with, freed_in}
+pub use Rattle.store_core.specs.Releases.{SweepsSpare, copied_in, ends_with, freed_in}
 pub use Rattle.store_core.specs.Runs.{AreChangesBy, AreChangesOf, AreNoGcSteps, ChangesTo, CoreRun, FileEvent, FileRun, FileStep, IsAt, IsGivenRight, IsNoGcStep, IsReadNext, IsSafeIn, ReadsAlone, changes_by, changes_of, events_of, opens, stored_after, stored_by, stored_with}
 pub use Rattle.store_core.specs.State.{CoreState, Event, IsRunning, IsUnderWayIn, IsUp, UnlessStopped}
 pub use Rattle.store_core.specs.declared.stop.Stop.{Stop}

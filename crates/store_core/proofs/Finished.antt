@@ -15,7 +15,7 @@ use Rattle.gc_select.specs.Selecting.{ids_of}
 use Rattle.gc_steps.specs.UnderWay.{HasChosen}
 use Rattle.gc_steps.proofs.Chosen.{whole}
 use Rattle.gc_steps.proofs.CopiedOn.{GoesWell, IsCounted, begun_counted, goes_well}
-use Rattle.gc_steps.proofs.Lone.{filter_early, mark_early}
+use Rattle.gc_steps.proofs.FewSources.{filter_early, mark_early}
 use Rattle.gc_sweep.specs.declared.sweep.Next.{Next}
 use Rattle.gc_sweep.specs.declared.sweep.Next.TheVariants.{Copy}
 use Rattle.gc_sweep.proofs.KeyLists.{none_distinct}

@@ -150,7 +150,7 @@ pub use Rattle.script_runner.specs.Sessions.{kind_in}
 pub use Rattle.segment_index.specs.Changes.{Changes, SameBefore}
 pub use Rattle.session_turns.specs.Turns.{Asks, Feeds, TakesTurns, TurnRun, TurnsStopped}
 pub use Rattle.sha2.specs.Sha256.{sha256}
-pub use Rattle.store_core.proofs.AnySteps.{changes_told, keeps_files}
+pub use Rattle.store_core.proofs.AnySteps.{keeps_files}
 pub use Rattle.store_core.proofs.Damage.{never_damaged}
 pub use Rattle.store_core.proofs.GcSteps.{end_reads}
 pub use Rattle.store_core.proofs.KeepingFiles.{file_step}

@@ -8,8 +8,7 @@ use Rattle.actor_parts.specs.StepValue as asked
 use Rattle.reply_text.specs.declared.ending.Ending.{Ending}
 use Rattle.reply_text.specs.declared.ending.Ending.TheVariants as endings
 use Rattle.store_core.specs.Core.{Made}
-use Rattle.store_core.proofs.GivingFiles.{length_on}
-use Rattle.store_core.proofs.Stepping.{row_one}
+use Rattle.store_core.proofs.Stepping.{length_on, row_one}
 
 -- ---- one step
 

@@ -14,7 +14,7 @@ use Rattle.copy_forward.specs.Entries.{is_copy}
 use Rattle.copy_forward.specs.Planning.{HasLiveKey, IsFull, Takes}
 use Rattle.disk_format.specs.declared.numbers.TheConstants.{DATA_BYTES, MOST_ENTRIES}
 use Rattle.gc_sweep.proofs.InSlots.{at_copy, copy_at}
-use Rattle.store_core.proofs.ByNeed.{of_listed}
+use Rattle.store_core.proofs.CopiesOnce.{of_listed}
 use Rattle.store_model.specs.Indexing.{entry_key}
 use Rattle.store_model.specs.Slots.{Copy, place_of}
 use Rattle.store_machine.specs.Collecting.{HasNoRoom, bytes_filled, length_of}

@@ -10,7 +10,7 @@ use Rattle.gc_steps.proofs.CopiedOn.{goes_well}
 use Rattle.refusals.specs.declared.refusal.Refusal.TheVariants as refusals
 use Rattle.store_core.specs.Runs.{AreChangesBy}
 use Rattle.store_core.proofs.AtStore.{at_store}
-use Rattle.store_core.proofs.Releasing.{after, leads}
+use Rattle.store_core.proofs.AnySteps.{after, leads}
 use Rattle.store_machine.specs.Asked as asked
 use Rattle.store_machine.specs.Collecting.{GoesOn}
 use Rattle.store_machine.specs.Forgetting.{Forgets}

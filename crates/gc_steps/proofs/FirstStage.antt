@@ -139,14 +139,6 @@ not_first t snapshot slot within is_tree level low scanned =
     not_scanned level slot first.slot low first.no_later (subst (λ (s : Stage). WasScanned s level slot) is scanned)
 
 module _ (held : List (Option HeaderValue)) (image : List ℕ) (t : SlotTable) (snapshot : ℕ) (holds : HoldSlots 0 held image) (slots : RepresentsSlots held t) where
-  -- a container that came before the collection
-  pub old_there : (slot : ℕ) (h : HeaderValue) → slice_get held slot ≡ Some (Some h) → h.id < snapshot → is_old_slot snapshot t slot ≡ true
-  old_there slot h there old =
-      let right : IsHeader h = (slot_held slot held (Some h) image holds there).0 in
-      let some : 1 ≤ h.id = leb-true 1 h.id (first_true (nat_le 1 h.id) _ right.id) in
-      ap (λ (n : ℕ). not (n == 0) && nat_lt n snapshot) (ap (λ (ids : List ℕ). get_or ids slot 0) slots.ids_are ∙ id_there held slot h there)
-      ∙ both (not (h.id == 0)) (nat_lt h.id snapshot) (not_none h.id some) (lt-ltb h.id snapshot old)
-
   pub tree_there : (slot id : ℕ) → id < snapshot → HasTree held slot id → is_tree_slot snapshot t slot ≡ true
   tree_there slot id old is = tree_slot held t snapshot slots slot id old is
 

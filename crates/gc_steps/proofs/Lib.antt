@@ -17,7 +17,6 @@ pub mod Levels
 pub mod ListedKeys
 pub mod MakesSteps
 pub mod MapKept
-pub mod Lone
 pub mod Marked
 pub mod MarkedAll
 pub mod Nearer
@@ -52,4 +51,3 @@ pub mod SweepSteps
 pub mod TablesRun
 pub mod UnderWay
 pub mod Unseen
-pub mod WholeCopies

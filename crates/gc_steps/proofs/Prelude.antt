@@ -61,13 +61,12 @@ pub use Rattle.gc_steps.specs.MarksAreClosed.{IsPassed, MarksAreClosed, NewAreLi
 pub use Rattle.gc_steps.specs.Roots.{HasRootKey, IsListedKey, IsNameKey, IsNumberKey, IsPartKey, IsRoot, Marks, key_at, keys_as_pinned, keys_of_listed, keys_of_number, keys_of_part, keys_of_pin, keys_of_root, roots_of}
 pub use Rattle.gc_steps.specs.Safety.{IsNeeded, IsSafe, IsSafeAt}
 pub use Rattle.gc_steps.specs.Scanning.{ShowsAt, step_refusal}
-pub use Rattle.gc_steps.specs.Sparing.{CopiesAlone, IsSpared, IsSparedAt, IsWithin, Spares}
+pub use Rattle.gc_steps.specs.Sparing.{IsWithin}
 pub use Rattle.gc_steps.specs.Stages.{filter_at, filter_from, first_slot, is_old_slot, is_tree, is_tree_slot, mark_at, mark_from, mark_level, mark_on}
 pub use Rattle.gc_steps.specs.Starting.{AreFound, IsFound, IsStartRefusal, IsUnfound, StopsAt}
 pub use Rattle.gc_steps.specs.Stepping.{Flushes, GoesBy, IsStepRefusal, Keeps, Makes, Moment, RunsOn, StepsTo, TablesAfter, Touches, answer_at, moment}
 pub use Rattle.gc_steps.specs.StepsToCome.{old_from, steps_at, steps_to_come}
 pub use Rattle.gc_steps.specs.SweepIsSafe.{HoldsAt, SweepIsSafe}
-pub use Rattle.gc_steps.specs.Taking.{IsSourceId}
 pub use Rattle.gc_steps.specs.UnderWay.{HasStage, IsRecordedTo, IsUnderWay, old_ids}
 pub use Rattle.gc_steps.specs.declared.collection.Collection.{Collection}
 pub use Rattle.gc_steps.specs.declared.collection.Stage.{Stage}

@@ -2,8 +2,7 @@
 use Rattle.gc_steps.proofs.Prelude.{◌≡◌, ℕ, ◌<◌, List, length, Option, Some, refl, sym, ◌∙◌, ap, subst, arith, slice_get, PlaceMap, HeaderValue, bytes_of, SumsLive, DiskView, shown_content, LiveKeys, ContainerLiveness, id_at, header_in, Store, Files, HoldsSlot, IsStoreOf, Represents, RepresentsSlots, count_of, SlotCount, Tables, Collection, Records, recorded, recorded_by}
 use Rattle.std.proofs.Common.{get_or}
 use Rattle.store_model.proofs.Free.{as_many}
-use Rattle.gc_steps.proofs.SparingStages.{recorded_id_by, recorded_live_by}
-use Rattle.gc_steps.proofs.WholeCopies.{count_there}
+use Rattle.gc_steps.proofs.SparingStages.{count_there, recorded_id_by, recorded_live_by}
 
 -- so it is of the container in the slot
 pub record IsOfSlot (index : PlaceMap) (live : LiveKeys) (held : List (Option HeaderValue)) (slot : ℕ) (r : ContainerLiveness) : Type 0 where

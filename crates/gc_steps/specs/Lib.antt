@@ -15,5 +15,4 @@ pub mod Stepping
 pub mod Sparing
 pub mod StepsToCome
 pub mod SweepIsSafe
-pub mod Taking
 pub mod UnderWay

@@ -9,7 +9,7 @@ use Rattle.store_state.specs.Settled.{IsSettled}
 use Rattle.store_core.specs.Keeping.{IsHeldIn}
 use Rattle.store_core.proofs.KeepingSegments.{keeps_segments, stays_held, stays_settled}
 use Rattle.store_core.proofs.Leading.{Leads}
-use Rattle.store_core.proofs.Releasing.{leads}
+use Rattle.store_core.proofs.AnySteps.{leads}
 use Rattle.core_machine.specs.Files.{stored_in}
 use Rattle.core_machine.proofs.FileSteps.{by_gc}
 use Rattle.script_runner.proofs.CollectHolds.{gc_event}

@@ -81,11 +81,10 @@ pub use Rattle.session_turns.proofs.Results.{by_error}
 pub use Rattle.session_turns.proofs.TurnRuns.{turns_stay}
 pub use Rattle.session_turns.specs.Turns.{Asks, Feeds, IsPaused, IsRefusedTurn, TakesTurn, TurnRun, TurnsStopped}
 pub use Rattle.store_core.proofs.CoreRuns.{running_step}
-pub use Rattle.store_core.proofs.GivingFiles.{length_on, other_part}
 pub use Rattle.store_core.proofs.KeepingSegments.{all_on}
 pub use Rattle.store_core.proofs.Making.{up_of}
 pub use Rattle.store_core.proofs.Opened.{new_runs}
-pub use Rattle.store_core.proofs.Stepping.{row_one, step_later}
+pub use Rattle.store_core.proofs.Stepping.{length_on, other_part, row_one, step_later}
 pub use Rattle.store_core.specs.Collecting.{GcRow, StartRow, at_moment}
 pub use Rattle.store_core.specs.Core.{BeginRow, CommitRow, CoreStep, DeleteRow, Effect, EndRow, IsCount, NamesOne, ReadRow, Row, Steps, StepsOr}
 pub use Rattle.store_core.specs.Frame.{KeepsContainers, commands_in}

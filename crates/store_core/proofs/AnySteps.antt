@@ -1,8 +1,8 @@
 -- Steps of a run, those of a collection among them.
 use Rattle.actor_parts.specs.StepValue as asked
-use Rattle.store_core.proofs.Prelude.{Answer, AreChangesBy, AreChangesOf, AreNoGcSteps, FileEvent, FileStep, IsAt, IsNoGcStep, changes_by, changes_of, events_of, stored_by, ByteSet, HasNoCollisions, IsIn, CoreState, IndexesAll, Steps, [], List, None, Result, ap, refl, subst, sym, ◌++◌, ◌∙◌, ◌∷◌, ◌≡◌, ◌⊎◌, inl, inr, ℕ, Refusal, StepValue, Store, StoreChange, Stored, Part}
+use Rattle.store_core.proofs.Prelude.{Answer, AreChangesBy, FileEvent, FileStep, IsAt, IsNoGcStep, changes_by, stored_by, ByteSet, HasNoCollisions, IsIn, CoreState, IndexesAll, Steps, [], List, None, Result, ap, refl, subst, sym, ◌++◌, ◌∷◌, ◌≡◌, ◌⊎◌, inl, inr, Refusal, StepValue, Store, StoreChange, Stored, stored_with}
 use Rattle.store_core.specs.Runs.{KeepsFiles}
-use Rattle.store_core.proofs.Leading.{Leads, IsSpared}
+use Rattle.store_core.proofs.Leading.{Leads}
 use Rattle.store_core.proofs.KeepingFiles.{chain_on, file_step, run_running, NextOn}
 use Rattle.store_core.proofs.GcSteps.{gc_led}
 use Rattle.store_core.proofs.CoreRuns.{running_step, was_running}
@@ -22,22 +22,6 @@ gc_or_not (asked.Delete name) = inr tt
 gc_or_not asked.ListNames = inr tt
 gc_or_not (asked.GcStart percent) = inr tt
 gc_or_not asked.Stat = inr tt
-
--- what a step that no collection makes may not lose: nothing
-pub spared_other : (step : StepValue) (s : Store) (parts : List Part) (image key : List ℕ) → IsNoGcStep step → IsSpared step s parts image key
-spared_other asked.GcStep s parts image key other = absurd other
-spared_other asked.Begin s parts image key other = tt
-spared_other (asked.Claim seg) s parts image key other = tt
-spared_other (asked.Seal filled) s parts image key other = tt
-spared_other (asked.Commit name root) s parts image key other = tt
-spared_other asked.Abort s parts image key other = tt
-spared_other (asked.OpenRead name) s parts image key other = tt
-spared_other asked.ReadNext s parts image key other = tt
-spared_other asked.EndRead s parts image key other = tt
-spared_other (asked.Delete name) s parts image key other = tt
-spared_other asked.ListNames s parts image key other = tt
-spared_other (asked.GcStart percent) s parts image key other = tt
-spared_other asked.Stat s parts image key other = tt
 
 -- the changes of a step that no collection makes
 changes_same : (step : StepValue) (answer : Result Answer Refusal) → IsNoGcStep step → AreChangesBy step answer (changes_by step answer)
@@ -70,13 +54,6 @@ changes_only (asked.Delete name) answer changes other are = are
 changes_only asked.ListNames answer changes other are = are
 changes_only (asked.GcStart percent) answer changes other are = are
 changes_only asked.Stat answer changes other are = are
-
--- of steps without one of a collection the changes are those that their answers tell
-pub changes_told : (steps : List FileEvent) (changes : List StoreChange) → AreNoGcSteps (events_of steps) → AreChangesOf steps changes → changes ≡ changes_of steps
-changes_told [] changes others are = are
-changes_told (f ∷ fs) changes others are =
-    are.2 ∙ ap (λ (l : List StoreChange). l ++ are.1) (changes_only f.event.step f.event.answer are.0 others.0 are.3)
-    ∙ ap (λ (l : List StoreChange). changes_by f.event.step f.event.answer ++ l) (changes_told fs are.1 others.1 are.4)
 
 -- the same step by another name
 abbrev pub with_step : FileEvent → StepValue → FileEvent
@@ -133,3 +110,17 @@ module _ (C : Type 0) (state : C → CoreState) where
         is_at = reached.is_at;
         whole = λ none whole. reached.whole none.1 (leads.whole none.0 whole);
       }
+
+-- ---- a step of a collection, which leaves the files
+
+module _ (among : ByteSet) (distinct : HasNoCollisions (IsIn among)) (f : FileEvent) (s : Store) (stored : Stored) (old new : CoreState) (is : f.event.step ≡ asked.GcStep)
+    (step : FileStep (IsIn among) f old new)
+    (at : IsAt (IsIn among) s stored old) (stays : new.stop ≡ None) where
+  pub leads : Leads (IsIn among) s f (stored_by f stored) old new
+  leads = any_step among distinct f s stored old new step at stays
+
+  abbrev t : Store
+  t = leads.next.store
+
+  pub after : IsAt (IsIn among) t stored new
+  after = subst (λ (x : Stored). IsAt (IsIn among) t x new) (ap (λ (st : StepValue). stored_with st f.event.answer f.bytes stored) is) leads.next.is_at

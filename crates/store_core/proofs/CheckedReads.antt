@@ -10,9 +10,8 @@ use Rattle.read_steps.specs.Opening.{HasRoot}
 use Rattle.read_steps.specs.Walking.{WasRead, Walked, GivesAll, AnyBytes}
 use Rattle.read_steps.proofs.Walks.{walked_none, all_walked, all_given, reads_are_whole}
 use Rattle.store_core.specs.Runs.{GivesAsNamed, GivesByTree, ReadsAreChecked, EndsAreWhole, given_by, given_to, ends}
-use Rattle.store_core.proofs.GivingFiles.{other_part, length_on}
 use Rattle.store_core.proofs.OwnParts.{same_reader}
-use Rattle.store_core.proofs.Stepping.{ChangesOne, row_one}
+use Rattle.store_core.proofs.Stepping.{ChangesOne, length_on, other_part, row_one}
 
 -- the actor takes a file of this root, of which it was given these segments, the first of them first
 pub record Comes (actor : ℕ) (root : Root) (segments : List (List ℕ)) (c : CoreState) : Type 0 where

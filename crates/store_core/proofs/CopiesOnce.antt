@@ -1,5 +1,5 @@
 -- A key that a collection copied is not copied again: its newest copy lies in a container that came after the collection began.
-use Rattle.store_core.proofs.Prelude.{◌≡◌, ℕ, zero, suc, ◌+◌, ◌≤◌, Bool, true, false, cond, List, [], ◌∷◌, ◌++◌, length, map, Option, Some, None, refl, sym, ◌∙◌, ap, subst, arith, ◌||◌, if◌then◌else◌, nat_lt, AllByRecursion, bytes_eq, ltb-true, ltb-false, bytes_eq-Decides, sha256, key_of, Entry, Kind, kind_byte, PlaceMap, Segment, entries_from, segment_key, HeaderValue, copy_of, listed, Store, IsPartialIndexOf, newest, place_of, StoreChange, SealContainer, ChangeName, FlushContainer, FreeContainer, some_same, copied_keys}
+use Rattle.store_core.proofs.Prelude.{◌≡◌, ℕ, zero, suc, ◌+◌, ◌≤◌, Bool, true, false, cond, List, [], ◌∷◌, ◌++◌, length, map, Option, Some, None, refl, sym, ◌∙◌, ap, subst, arith, ◌||◌, if◌then◌else◌, nat_lt, AllByRecursion, bytes_eq, ltb-true, ltb-false, bytes_eq-Decides, sha256, key_of, Entry, Kind, kind_byte, PlaceMap, Segment, entries_from, segment_key, HeaderValue, copy_of, listed, Store, IsPartialIndexOf, newest, place_of, StoreChange, SealContainer, ChangeName, FlushContainer, FreeContainer, some_same, copied_keys, ◌⊎◌, inl, inr}
 use Rattle.std.proofs.Common.{find, option_map}
 use Rattle.std.specs.Prelude.{Contains, slice_get}
 use Rattle.std.specs.List.{IsDistinct}
@@ -34,6 +34,17 @@ listed_of (x ∷ xs) key (suc k, below, is) = listed_right (x ∷ []) xs key (li
 -- a key is none of these
 abbrev pub IsNoneOf : List (List ℕ) → List ℕ → Type 0
 IsNoneOf keys key = AllByRecursion (λ k. bytes_eq key k ≡ false) keys
+
+or_cases : (a b : Bool) → (a || b) ≡ true → (a ≡ true) ⊎ (b ≡ true)
+or_cases true b is = inl refl
+or_cases false b is = inr is
+
+pub of_listed : (keys : List (List ℕ)) (key : List ℕ) → listed keys key ≡ true → Contains keys key
+of_listed [] key has = absurd cc
+of_listed (x ∷ xs) key has = elim (or_cases (bytes_eq x key) (listed xs key) has) [
+  | inl same ↦ (0, omega arith, (bytes_eq-Decides x key).0 same)
+  | inr later ↦ let there = of_listed xs key later in (suc there.0, omega (arith, there.1), there.2)
+]
 
 pub none_listed : (keys : List (List ℕ)) (key : List ℕ) → (listed keys key ≡ true → ⊥) → IsNoneOf keys key
 none_listed [] key none = tt

@@ -1,5 +1,5 @@
 -- What a crash leaves at any moment of a run.
-use Rattle.store_core.proofs.Prelude.{◌≡◌, ◌⊎◌, inl, inr, ℕ, false, List, [], ◌∷◌, ◌+◌, ◌<◌, ◌≤◌, Option, Some, None, Result, Ok, Err, refl, sym, ◌∙◌, subst, arith, ap, suc, OnlyReads, CrashLeaves, SteppedFrom, reads_here, reads_leave, leaves_on, leaves_weaker, Change, Root, Delete, Put, Answer, StepValue, IsStep, Refusal, HasNoCollisions, ByteSet, IsIn, Stands, Store, last_sequence, with_sealed, with_change, Files, Stored, with_stored, without_stored, last_changed, Stop, Effect, SealsOne, NamesOne, StepsOr, StopsAfter, next_id, FileEvent, FileStep, FileRun, IsAt, IsGivenRight, stored_with, stored_by, stored_after, events_of, IsSafeIn, CoreState, IsUnderWayIn, Mark, Filter, Select, SweepStage, CopyNext, Flush, Release, End, Changes, SameBefore, Collection, HoldsAt, HasStage, IsUnderWay, HoldsSweep, slot_in_turn, IsSweeping, IsSafeAt, PlaceMap, Represents, Stage, Touches, TouchesBy, blames, ending, Ending, slot_at, with_freed, RESERVE, header_of, HasKey, free_slots, free_less, StandsSealed, free_reserve, reserve_by, headers_of_right, reached_less, reached_put, HasReserve, IsReachable, CanBeOpened, CoreInvariant, IndexesFiles}
+use Rattle.store_core.proofs.Prelude.{◌≡◌, ◌⊎◌, inl, inr, ℕ, false, List, [], ◌∷◌, ◌+◌, ◌<◌, ◌≤◌, Option, Some, None, Result, Ok, Err, refl, sym, ◌∙◌, subst, arith, ap, suc, OnlyReads, CrashLeaves, SteppedFrom, reads_here, reads_leave, leaves_on, leaves_weaker, Change, Root, Delete, Put, Answer, StepValue, IsStep, Refusal, HasNoCollisions, ByteSet, IsIn, Stands, Store, last_sequence, with_sealed, with_change, Files, Stored, with_stored, without_stored, last_changed, Stop, Effect, SealsOne, NamesOne, StepsOr, next_id, FileEvent, FileStep, FileRun, IsAt, IsGivenRight, stored_by, stored_after, events_of, IsSafeIn, CoreState, IsUnderWayIn, Mark, Filter, Select, SweepStage, CopyNext, Flush, Release, End, Changes, SameBefore, Collection, HoldsAt, HasStage, IsUnderWay, HoldsSweep, slot_in_turn, IsSweeping, IsSafeAt, PlaceMap, Represents, Stage, Touches, TouchesBy, blames, ending, Ending, slot_at, with_freed, RESERVE, header_of, HasKey, free_slots, free_less, StandsSealed, free_reserve, reserve_by, headers_of_right, reached_less, reached_put, HasReserve, IsReachable, CanBeOpened, CoreInvariant, IndexesFiles}
 use Rattle.container_meta.specs.Segments.{Contents}
 use Rattle.actor_parts.specs.StepValue as asked
 use Rattle.refusals.specs.declared.refusal.Refusal.TheVariants as refusals
@@ -9,7 +9,7 @@ use Rattle.store_model.proofs.Cells.{last_with_cell}
 use Rattle.ingest_steps.specs.Naming.{FilesStandStill}
 use Rattle.store_model.specs.Files.{with_file, without_file}
 use Rattle.store_model.specs.Files as files
-use Rattle.store_core.specs.Runs.{IsOnTheWay, IsRootOf, SurvivesCrashes, SurvivesSince, KeepsAcknowledged, stored_tried, stored_tried_by, EndsWithAll}
+use Rattle.store_core.specs.Runs.{IsOnTheWay, IsRootOf, SurvivesCrashes, SurvivesSince, KeepsAcknowledged, stored_tried}
 use Rattle.store_core.proofs.CoreRuns.{stopped_reads, core_run}
 use Rattle.gc_sweep.specs.declared.sweep.Next.{Next}
 use Rattle.store_core.proofs.AnySteps.{any_step, keeps_files}
@@ -360,129 +360,3 @@ module _ (C : Type 0) (state : C → CoreState) where
   keeps_acknowledged among first rest s stored old mid new distinct at before stays run below image since =
       let reached = keeps_files C state among first s stored old mid distinct at before stays in
       survives_crashes among rest reached.store (stored_after first stored) mid new distinct reached.is_at run below image since
-
--- ---- the end of a run
-
--- a step of a core that was stopped puts no file
-put_none : (step : StepValue) (at : ℕ) (bytes : List ℕ) (stored : Stored) → stored_with step (Err (refusals.Stopped at)) bytes stored ≡ stored
-put_none asked.Begin at bytes stored = refl
-put_none (asked.Claim seg) at bytes stored = refl
-put_none (asked.Seal filled) at bytes stored = refl
-put_none (asked.Commit name root) at bytes stored = refl
-put_none asked.Abort at bytes stored = refl
-put_none (asked.OpenRead name) at bytes stored = refl
-put_none asked.ReadNext at bytes stored = refl
-put_none asked.EndRead at bytes stored = refl
-put_none (asked.Delete name) at bytes stored = refl
-put_none asked.ListNames at bytes stored = refl
-put_none (asked.GcStart percent) at bytes stored = refl
-put_none asked.GcStep at bytes stored = refl
-put_none asked.Stat at bytes stored = refl
-
-tried_none : (step : StepValue) (at : ℕ) (bytes : List ℕ) (stored : Stored) → stored_tried step (Err (refusals.Stopped at)) bytes stored ≡ stored
-tried_none asked.Begin at bytes stored = refl
-tried_none (asked.Claim seg) at bytes stored = refl
-tried_none (asked.Seal filled) at bytes stored = refl
-tried_none (asked.Commit name root) at bytes stored = refl
-tried_none asked.Abort at bytes stored = refl
-tried_none (asked.OpenRead name) at bytes stored = refl
-tried_none asked.ReadNext at bytes stored = refl
-tried_none asked.EndRead at bytes stored = refl
-tried_none (asked.Delete name) at bytes stored = refl
-tried_none asked.ListNames at bytes stored = refl
-tried_none (asked.GcStart percent) at bytes stored = refl
-tried_none asked.GcStep at bytes stored = refl
-tried_none asked.Stat at bytes stored = refl
-
--- where a step didn't stop the core, what it tried is what it did
-tried_same : (step : StepValue) (answer : Result Answer Refusal) (count : ℕ) (stop : Option Stop) (bytes : List ℕ) (stored : Stored) → stop ≡ None
-    → StopsAfter step answer count stop → stored_tried step answer bytes stored ≡ stored_with step answer bytes stored
-tried_same (asked.Commit name root) (Err refusals.DiskWrite) count stop bytes stored none stops = absurd (let both = sym none ∙ stops in cc)
-tried_same (asked.Delete name) (Err refusals.DiskWrite) count stop bytes stored none stops = absurd (let both = sym none ∙ stops in cc)
-tried_same step answer count stop bytes stored none stops = refl
-
-put_refused : (step : StepValue) (refusal : Refusal) (bytes : List ℕ) (stored : Stored) → stored_with step (Err refusal) bytes stored ≡ stored
-put_refused asked.Begin refusal bytes stored = refl
-put_refused (asked.Claim seg) refusal bytes stored = refl
-put_refused (asked.Seal filled) refusal bytes stored = refl
-put_refused (asked.Commit name root) refusal bytes stored = refl
-put_refused asked.Abort refusal bytes stored = refl
-put_refused (asked.OpenRead name) refusal bytes stored = refl
-put_refused asked.ReadNext refusal bytes stored = refl
-put_refused asked.EndRead refusal bytes stored = refl
-put_refused (asked.Delete name) refusal bytes stored = refl
-put_refused asked.ListNames refusal bytes stored = refl
-put_refused (asked.GcStart percent) refusal bytes stored = refl
-put_refused asked.GcStep refusal bytes stored = refl
-put_refused asked.Stat refusal bytes stored = refl
-
--- what stopped the core put no file
-stop_puts_none : (step : StepValue) (answer : Result Answer Refusal) (count : ℕ) (stop : Option Stop) (s : Stop) (bytes : List ℕ) (stored : Stored) → stop ≡ Some s
-    → StopsAfter step answer count stop → stored_with step answer bytes stored ≡ stored
-stop_puts_none (asked.Seal filled) (Ok answer) count stop s bytes stored is stops = refl
-stop_puts_none (asked.Commit name root) (Ok answer) count stop s bytes stored is stops = absurd (let both = sym is ∙ stops in cc)
-stop_puts_none (asked.Delete name) (Ok answer) count stop s bytes stored is stops = absurd (let both = sym is ∙ stops in cc)
-stop_puts_none step (Ok answer) count stop s bytes stored is stops = refl
-stop_puts_none step (Err refusal) count stop s bytes stored is stops = put_refused step refusal bytes stored
-
-by_old_tried : (old : Option Stop) (f : FileEvent) (before after : CoreState) (stored : Stored) → StepsOr old f.event before after → after.stop ≡ None
-    → stored_tried f.event.step f.event.answer f.bytes stored ≡ stored_by f stored
-by_old_tried None f before after stored steps none = tried_same f.event.step f.event.answer before.acknowledged after.stop f.bytes stored none steps.stops
-by_old_tried (Some stop) f before after stored steps none =
-    ap (λ (a : Result Answer Refusal). stored_tried f.event.step a f.bytes stored) steps.answer_is ∙ tried_none f.event.step stop.at f.bytes stored
-    ∙ sym (ap (λ (a : Result Answer Refusal). stored_with f.event.step a f.bytes stored) steps.answer_is ∙ put_none f.event.step stop.at f.bytes stored)
-
-by_old_none : (old : Option Stop) (f : FileEvent) (before after : CoreState) (stored : Stored) (s : Stop) → StepsOr old f.event before after → after.stop ≡ Some s
-    → stored_by f stored ≡ stored
-by_old_none None f before after stored s steps is = stop_puts_none f.event.step f.event.answer before.acknowledged after.stop s f.bytes stored is steps.stops
-by_old_none (Some stop) f before after stored s steps is = ap (λ (a : Result Answer Refusal). stored_with f.event.step a f.bytes stored) steps.answer_is
-    ∙ put_none f.event.step stop.at f.bytes stored
-
-module _ (C : Type 0) (state : C → CoreState) (among : ByteSet) where
-  stopped_files : (stop : Stop) (steps : List FileEvent) (stored : Stored) (old new : C) → (state old).stop ≡ Some stop → FileRun C state (IsIn among) steps old new
-      → (stored_after steps stored ≡ stored) × (stored_tried_by steps stored ≡ stored)
-  stopped_files stop [] stored old new is run = (refl, refl)
-  stopped_files stop (f ∷ fs) stored old new is run =
-      let made = subst (λ (o : Option Stop). StepsOr o f.event (state old) (state run.0)) is run.1.0.made in
-      let rest = stopped_files stop fs stored run.0 new (made.same.stop_is ∙ is) run.1.1 in
-      let by : stored_by f stored ≡ stored = ap (λ (a : Result Answer Refusal). stored_with f.event.step a f.bytes stored) made.answer_is
-      ∙ put_none f.event.step stop.at f.bytes stored in
-      let tried : stored_tried f.event.step f.event.answer f.bytes stored ≡ stored = ap (λ (a : Result Answer Refusal). stored_tried f.event.step a f.bytes stored) made.answer_is
-      ∙ tried_none f.event.step stop.at f.bytes stored in
-      (ap (stored_after fs) by ∙ rest.0, ap (stored_tried_by fs) tried ∙ rest.1)
-
-module _ (C : Type 0) (state : C → CoreState) (among : ByteSet) (distinct : HasNoCollisions (IsIn among)) where
-  abbrev Ends : List FileEvent → Stored → List ℕ → Type 0
-  Ends steps stored image = OpensAs (IsIn among) (stored_after steps stored) image ⊎ OpensAs (IsIn among) (stored_tried_by steps stored) image
-
-  -- the first step, and the end of the others where it didn't stop the core
-  ends_by : (f : FileEvent) (fs : List FileEvent) (s : Store) (stored : Stored) (old mid new : C) → IsAt (IsIn among) s stored (state old)
-      → FileStep (IsIn among) f (state old) (state mid) → FileRun C state (IsIn among) fs mid new
-      → (image : List ℕ) → (state new).disk.images image → ((t : Store) → IsAt (IsIn among) t (stored_by f stored) (state mid) → Ends fs (stored_by f stored) image)
-      → (stop : Option Stop) → (state mid).stop ≡ stop → Ends (f ∷ fs) stored image
-  ends_by f fs s stored old mid new at step run image there others None is =
-      let next = (any_step among distinct f s stored (state old) (state mid) step at is).next in
-      let same = by_old_tried (state old).stop f (state old) (state mid) stored step.made is in
-      elim (others next.store next.is_at) [
-        | inl done ↦ inl done
-        | inr tried ↦ inr (subst (λ (m : Stored). OpensAs (IsIn among) (stored_tried_by fs m) image) (sym same) tried)
-      ]
-  ends_by f fs s stored old mid new at step run image there others (Some stop) is =
-      let first = by_stop among s stored (state old) (state mid) f.bytes distinct at (state old).stop f refl step.made step.asked step.given in
-      let reads = still_reads C state among distinct stop fs mid new is run in
-      let none = by_old_none (state old).stop f (state old) (state mid) stored stop step.made is in
-      let by = stopped_files C state among stop fs (stored_by f stored) mid new is run in
-      let tried = stopped_files C state among stop fs (stored_tried f.event.step f.event.answer f.bytes stored) mid new is run in
-      elim (first.now image (reads.images_are image there)) [
-        | inl before ↦ inl (subst (λ (m : Stored). OpensAs (IsIn among) m image) (sym (by.0 ∙ none)) before)
-        | inr after ↦ inr (subst (λ (m : Stored). OpensAs (IsIn among) m image) (sym tried.1) after)
-      ]
-
-  ends_all : (steps : List FileEvent) (s : Store) (stored : Stored) (old new : C) → IsAt (IsIn among) s stored (state old) → FileRun C state (IsIn among) steps old new
-      → (image : List ℕ) → (state new).disk.images image → Ends steps stored image
-  ends_all [] s stored old new at run image there = inl (image_at (IsIn among) s stored (state old) at image (subst (λ (c : C). (state c).disk.images image) run there))
-  ends_all (f ∷ fs) s stored old new at run image there =
-      ends_by f fs s stored old run.0 new at run.1.0 run.1.1 image there (λ t mid. ends_all fs t (stored_by f stored) run.0 new mid run.1.1 image there) (state run.0).stop refl
-
-pub ends_with_all : (C : Type 0) (state : C → CoreState) → EndsWithAll C state
-ends_with_all C state among steps s stored old new distinct at run image there = ends_all C state among distinct steps s stored old new at run image there

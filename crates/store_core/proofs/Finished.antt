@@ -1,6 +1,6 @@
 -- What a collection has done once it has ended, whatever steps of others came between its own.
-use Rattle.store_core.proofs.Prelude.{◌≡◌, inl, inr, ℕ, ◌<◌, ◌≤◌, true, false, List, [], ◌∷◌, ◌++◌, length, Option, Some, None, Result, Ok, Err, Vec, Global, refl, sym, ◌∙◌, ap, subst, arith, ◌⊎◌, ◌+◌, MOST_LEVEL, is_old_slot, HeaderValue, header_of, PlaceMap, bytes_eq, AllByRecursion, get_or_default_zero, Contains-get_or, Answer, StepValue, Kind, Segment, has_key, IsLater, IsLiveAt, LiveKeys, ContainerLiveness, IsSelectedId, selected, sources_of, Collection, Stage, Filter, Mark, Select, SweepStage, IsToChoose, Keeps, StepsTo, moment, phase_at, HoldsAt, HasStage, IsUnderWay, old_ids, chosen_which, level_early, held_at, IsStoreAfter, Flush, Release, End, slot_in_turn, HasNext, IsSweeping, sources_before, no_key, listed, Phase, Refusal, HasNoCollisions, ByteSet, IsIn, Stored, Store, first_free, ids_held, StoreChange, FreeContainer, Stop, IsNoEnd, NoneEnds, starts, Collects, GcEffect, GcRow, GoesOn, HasEnded, IsKeptKey, IsNotMade, MarksIn, StartRow, TouchesBy, at_moment, CoreStep, Row, Steps, StepsOr, StopsAfter, next_id, AreCopiesOf, Collected, IsDid, IsOfCopies, WasRecorded, WereCopies, copied_keys, AreGcSteps, copied_in, ends_with, freed_in, AreChangesBy, AreChangesOf, ChangesTo, FileEvent, FileRun, FileStep, IsAt, IsNoGcStep, IsSafeIn, changes_by, events_of, stored_after, stored_by, stored_with, CoreState, Event, IsUnderWayIn}
-use Rattle.std.proofs.Common.{append-nil, append_assoc, get_or}
+use Rattle.store_core.proofs.Prelude.{◌≡◌, inl, inr, ℕ, ◌<◌, ◌≤◌, true, false, List, [], ◌∷◌, ◌++◌, length, Option, Some, None, Result, Ok, Err, Vec, Global, refl, sym, ◌∙◌, ap, subst, arith, ◌⊎◌, ◌+◌, MOST_LEVEL, is_old_slot, HeaderValue, header_of, PlaceMap, bytes_eq, AllByRecursion, get_or_default_zero, Contains-get_or, Answer, StepValue, Kind, Segment, has_key, IsLater, IsLiveAt, LiveKeys, ContainerLiveness, IsSelectedId, selected, sources_of, Collection, Stage, Filter, Mark, Select, SweepStage, IsToChoose, Keeps, StepsTo, moment, phase_at, HoldsAt, HasStage, IsUnderWay, old_ids, chosen_which, level_early, held_at, IsStoreAfter, Flush, Release, End, slot_in_turn, HasNext, IsSweeping, sources_before, no_key, listed, Phase, Refusal, HasNoCollisions, ByteSet, IsIn, Stored, Store, first_free, ids_held, StoreChange, FreeContainer, Stop, IsNoEnd, NoneEnds, starts, Collects, GcEffect, GcRow, GoesOn, HasEnded, IsKeptKey, IsNotMade, MarksIn, StartRow, TouchesBy, at_moment, Row, Steps, StepsOr, StopsAfter, next_id, AreCopiesOf, IsDid, IsOfCopies, WasRecorded, WereCopies, copied_keys, copied_in, ends_with, freed_in, AreChangesBy, AreChangesOf, ChangesTo, FileEvent, FileRun, FileStep, IsAt, IsNoGcStep, IsSafeIn, changes_by, events_of, stored_after, stored_by, stored_with, CoreState, Event, IsUnderWayIn}
+use Rattle.std.proofs.Common.{append-nil, get_or}
 use Rattle.store_core.proofs.KeyFates.{KeepsFates, KeepsKeys, fates_left, fates_made, fates_none, fates_then, keys_other, keys_same, lies_first, none_selected, refused_unmarked, written_at_end}
 use Rattle.store_core.proofs.RecordedAll.{old_same}
 use Rattle.store_core.proofs.RecordedSums.{RecordsAll, RecordsOn, records_on, records_then}
@@ -15,7 +15,7 @@ use Rattle.gc_select.specs.Selecting.{ids_of}
 use Rattle.gc_steps.specs.UnderWay.{HasChosen}
 use Rattle.gc_steps.proofs.Chosen.{whole}
 use Rattle.gc_steps.proofs.CopiedOn.{GoesWell, IsCounted, begun_counted, goes_well}
-use Rattle.gc_steps.proofs.Lone.{filter_early, mark_early}
+use Rattle.gc_steps.proofs.FewSources.{filter_early, mark_early}
 use Rattle.gc_sweep.specs.declared.sweep.Next.{Next}
 use Rattle.gc_sweep.specs.declared.sweep.Next.TheVariants.{Copy}
 use Rattle.gc_sweep.proofs.KeyLists.{none_distinct}
@@ -545,15 +545,8 @@ module _ (among : ByteSet) (distinct : HasNoCollisions (IsIn among)) (f : FileEv
 
 -- ---- steps, one after the other
 
--- What steps of a collection keep of the changes so far, of the collection, and of what the core is at.
-abbrev pub IsKept : ByteSet → (List StoreChange → Collection → Store → Stored → CoreState → Type 0) → Type 1
-IsKept among Inv = (f : FileEvent) (s : Store) (stored : Stored) (old new : CoreState) (b : Collection) (before : List StoreChange) → FileStep (IsIn among) f old new
-    → new.stop ≡ None
-    → old.collection ≡ Some b → f.event.step ≡ asked.GcStep → (one : Goes among f b s stored old new) → Inv before b s stored old
-    → Inv (before ++ one.changes) one.a one.store (stored_by f stored) new
-
 module _ (C : Type 0) (state : C → CoreState) where
-  record Went (among : ByteSet) (Inv : List StoreChange → Collection → Store → Stored → CoreState → Type 0) (steps : List FileEvent) (b c : Collection) (s : Store)
+  record Went (among : ByteSet) (steps : List FileEvent) (b c : Collection) (s : Store)
       (stored : Stored) (mid new : C) (run : FileRun C state (IsIn among) steps mid new) : Type 0 where
     store : Store
     is_at : IsAt (IsIn among) store (stored_after steps stored) (state new)
@@ -573,14 +566,12 @@ module _ (C : Type 0) (state : C → CoreState) where
     finds : FindsAll C state (IsIn among) steps mid new run changes b c
     once : IsDistinct bytes_eq (copied_keys changes)
     others : (key : List ℕ) → IsSettled s b key → IsNoneOf (copied_keys changes) key
-    along : (before : List StoreChange) → AreGcSteps steps → Inv before b s stored (state mid) → Inv (before ++ changes) c store (stored_after steps stored) (state new)
 
-  went : (among : ByteSet) (Inv : List StoreChange → Collection → Store → Stored → CoreState → Type 0) → IsKept among Inv
-      → (steps : List FileEvent) (s : Store) (stored : Stored) (mid new : C) (b c : Collection) → HasNoCollisions (IsIn among) → IsAt (IsIn among) s stored (state mid)
+  went : (among : ByteSet) (steps : List FileEvent) (s : Store) (stored : Stored) (mid new : C) (b c : Collection) → HasNoCollisions (IsIn among) → IsAt (IsIn among) s stored (state mid)
       → (run : FileRun C state (IsIn among) steps mid new) → NoneEnds (events_of steps) → (state new).stop ≡ None → (state mid).collection ≡ Some b
       → (state new).collection ≡ Some c → IsQuiet b
-      → Went among Inv steps b c s stored mid new run
-  went among Inv kept [] s stored mid new b c distinct at run ends stays ran runs quiet =
+      → Went among steps b c s stored mid new run
+  went among [] s stored mid new b c distinct at run ends stays ran runs quiet =
       let same : c ≡ b = same_some c b (state new).collection runs (ap (λ (x : C). (state x).collection) run ∙ ran) in
       record {
         store = s;
@@ -601,14 +592,11 @@ module _ (C : Type 0) (state : C → CoreState) where
         finds = finds_none C state (IsIn among) mid new run b c same;
         once = none_distinct;
         others = λ key settled. tt;
-        along = λ before all inv.
-            subst (λ (changes : List StoreChange). Inv changes c s stored (state new)) (sym (append-nil before))
-            (subst (λ (x : Collection). Inv before x s stored (state new)) (sym same) (subst (λ (x : C). Inv before b s stored (state x)) (sym run) inv));
       }
-  went among Inv kept (f ∷ fs) s stored mid new b c distinct at run ends stays ran runs quiet =
+  went among (f ∷ fs) s stored mid new b c distinct at run ends stays ran runs quiet =
       let on : (state run.0).stop ≡ None = run_running C state among fs run.0 new run.1.1 stays in
       let one = step_goes among distinct f s stored (state mid) (state run.0) run.1.0 at on b ran quiet ends.0 in
-      let rest = went among Inv kept fs one.store (stored_by f stored) run.0 new one.a c distinct one.is_at run.1.1 ends.1 stays one.runs runs one.counts.quiet in
+      let rest = went among fs one.store (stored_by f stored) run.0 new one.a c distinct one.is_at run.1.1 ends.1 stays one.runs runs one.counts.quiet in
       let keeps : KeepsOn b c = keeps_then b one.a c one.keeps rest.keeps in
       record {
         store = rest.store;
@@ -645,9 +633,6 @@ module _ (C : Type 0) (state : C → CoreState) where
             let now = one.others key settled in
             subst (λ (keys : List (List ℕ)). IsNoneOf keys key) (sym (keys_then one.changes rest.changes))
             (all_then (λ k. bytes_eq key k ≡ false) (copied_keys one.changes) (copied_keys rest.changes) now.0 (rest.others key now.1));
-        along = λ before all inv.
-            subst (λ (changes : List StoreChange). Inv changes c rest.store (stored_after fs (stored_by f stored)) (state new)) (append_assoc before one.changes rest.changes)
-            (rest.along (before ++ one.changes) all.1 (kept f s stored (state mid) (state run.0) b before run.1.0 on ran all.0 one inv));
       }
 
   -- a core that ends a collection isn't stopped
@@ -656,20 +641,8 @@ module _ (C : Type 0) (state : C → CoreState) where
   ended_runs None e freed copied old new is answer_is steps = is
   ended_runs (Some stop) e freed copied old new is answer_is steps = absurd (let wrong = sym answer_is ∙ steps.answer_is in cc)
 
-  -- it collected, and what its steps keep is kept, where no others came between
-  pub record CollectedSo (among : ByteSet) (Inv : List StoreChange → Collection → Store → Stored → CoreState → Type 0) (percent snapshot freed copied : ℕ) (steps : List FileEvent)
-      (s : Store) (stored : Stored)
-      (begun new last : C) (run : FileRun C state (IsIn among) steps begun new) : Type 0 where
-    pub collected : Collected C state (IsIn among) percent snapshot freed copied steps s stored begun new last run
-    pub along : (b : Collection) → (state begun).collection ≡ Some b → AreGcSteps steps → Inv [] b s stored (state begun)
-        → Inv collected.changes collected.collection collected.store (stored_after steps stored) (state new)
-
-  pub collects_so : (among : ByteSet) (Inv : List StoreChange → Collection → Store → Stored → CoreState → Type 0) → IsKept among Inv
-      → (actor last_actor percent snapshot freed copied : ℕ) (buf last_buf : List ℕ)
-      (steps : List FileEvent) (s : Store) (stored : Stored) (old begun new last : C) → HasNoCollisions (IsIn among) → IsAt (IsIn among) s stored (state old)
-      → CoreStep (state old) (starts actor percent snapshot buf) (state begun) → (run : FileRun C state (IsIn among) steps begun new) → NoneEnds (events_of steps)
-      → CoreStep (state new) (ends_with last_actor freed copied last_buf) (state last) → CollectedSo among Inv percent snapshot freed copied steps s stored begun new last run
-  collects_so among Inv kept actor last_actor percent snapshot freed copied buf last_buf steps s stored old begun new last distinct at began run none_ends ended =
+  pub collects_in_all : CollectsInAll C state
+  collects_in_all among actor last_actor percent snapshot freed copied buf last_buf steps s stored old begun new last distinct at began run none_ends ended =
       let first : FileEvent = record { event = starts actor percent snapshot buf; bytes = [] } in
       let final : FileEvent = record { event = ends_with last_actor freed copied last_buf; bytes = [] } in
       let stays : (state new).stop ≡ None = ended_runs (state new).stop final.event freed copied (state new) (state last) refl refl ended in
@@ -687,7 +660,7 @@ module _ (C : Type 0) (state : C → CoreState) where
       let begun_at : IsAt (IsIn among) s stored (state begun) = subst (λ (x : Store). IsAt (IsIn among) x stored (state begun)) same_first led.next.is_at in
       let lies_from = lies_first (IsIn among) s stored (state begun) begun_at b row_first.runs (state old) at.represents.names_are.names_are begins.made.row.1
       (λ key place. (row_first.live key place).0) in
-      let all = went among Inv kept steps s stored begun new b c distinct begun_at run none_ends stays row_first.runs row.ran (λ early. none) in
+      let all = went among steps s stored begun new b c distinct begun_at run none_ends stays row_first.runs row.ran (λ early. none) in
       let over = any_step among distinct final all.store (stored_after steps stored) (state new) (state last)
       (record { asked = tt; given = tt; made = ended }) all.is_at ends.stops in
       let same_last : over.next.store ≡ all.store = subst (λ (changes : List StoreChange). ChangesTo changes all.store over.next.store) over.changes_are over.next.chain in
@@ -711,63 +684,53 @@ module _ (C : Type 0) (state : C → CoreState) where
       (λ (n : ℕ). Sweeps n c.sweep.sources.items all.changes s all.store) snapshot_is all.sweeps in
       let gone = none_selected snapshot percent c (state new).tables.held all.is_at.index all.store.held image sources sweeping row.at_end.1 holds.1 in
       record {
-        collected = record {
-          collection = c;
-          ran = row.ran;
-          snapshot_is = snapshot_is;
-          percent_is = percent_is;
-          recorded =
-              all.recorded (subst IsToChoose (sym row_first.stage_is) (level_early b.snapshot (state old).tables.held MOST_LEVEL)) row.at_end.0
-              ∙ ap (λ (n : ℕ). old_ids n (ids_held s.held)) (sym row_first.snapshot_is);
-          records = subst (AllByRecursion (WasRecorded C state (IsIn among) steps begun new run s.held))
-              (sym (all.records.adds ∙ ap (λ (rs : List ContainerLiveness). rs ++ all.records.more) row_first.nothing_yet.0)) all.records.each;
-          sources_are = sources;
-          store = all.store;
-          is_at = subst (λ (x : Store). IsAt (IsIn among) x (stored_after steps stored) (state last)) same_last over.next.is_at;
-          changes = all.changes;
-          changes_are = all.changes_are;
-          chain = all.chain;
-          gone = gone;
-          stands = λ slot h there other. stands_on snapshot c.sweep.sources.items all.changes s all.store slot h sweeps (λ source. other ((which h.id).0 source)) there;
-          added = λ h is. added_stands snapshot c.sweep.sources.items
-              (λ id above source.
-              let below : get_or c.sweep.sources.items source.0 0 < c.snapshot = holds.0.old source.0 source.1 in
-              let here : get_or c.sweep.sources.items source.0 0 ≡ id = sym (get_or_default_zero c.sweep.sources.items source.0 id source.1) ∙ source.2 in
-              omega (arith, above, below, here, snapshot_is)) all.changes s all.store h sweeps is;
-          no_other = λ slot h there. stood snapshot c.sweep.sources.items all.changes s all.store slot h sweeps there;
-          copies = all.copies;
-          once = all.once;
-          found = λ key. (
-            (λ copied. elim (all.finds.found key (inl copied)) [
-              | inl filled ↦ absurd (no_key b.sweep.buffer key row_first.nothing_yet.1.empty filled)
-              | inr found ↦ found
-            ]),
-            (λ found. elim (all.finds.copied key (inr found)) [
-              | inl copied ↦ copied
-              | inr filled ↦ absurd (no_key c.sweep.buffer key has.1 filled)
-            ]),
-          );
-          all_copied = λ key copy h copy_is there is_selected live.
-              written_at_end all.changes b c s all.store (state begun)
-              (state new) begun_at.index all.is_at.index key copy.place h all.fates begun_at.index_known all.is_at.index_known
-              (lies_from key copy h copy_is there) (λ still. gone copy.place.slot h still is_selected) live;
-          from_sources = λ key there. elim (all.from begun_at.index key begun_at.index_known there) [
+        collection = c;
+        ran = row.ran;
+        snapshot_is = snapshot_is;
+        percent_is = percent_is;
+        recorded =
+            all.recorded (subst IsToChoose (sym row_first.stage_is) (level_early b.snapshot (state old).tables.held MOST_LEVEL)) row.at_end.0
+            ∙ ap (λ (n : ℕ). old_ids n (ids_held s.held)) (sym row_first.snapshot_is);
+        records = subst (AllByRecursion (WasRecorded C state (IsIn among) steps begun new run s.held))
+            (sym (all.records.adds ∙ ap (λ (rs : List ContainerLiveness). rs ++ all.records.more) row_first.nothing_yet.0)) all.records.each;
+        sources_are = sources;
+        store = all.store;
+        is_at = subst (λ (x : Store). IsAt (IsIn among) x (stored_after steps stored) (state last)) same_last over.next.is_at;
+        changes = all.changes;
+        changes_are = all.changes_are;
+        chain = all.chain;
+        gone = gone;
+        stands = λ slot h there other. stands_on snapshot c.sweep.sources.items all.changes s all.store slot h sweeps (λ source. other ((which h.id).0 source)) there;
+        added = λ h is. added_stands snapshot c.sweep.sources.items
+            (λ id above source.
+            let below : get_or c.sweep.sources.items source.0 0 < c.snapshot = holds.0.old source.0 source.1 in
+            let here : get_or c.sweep.sources.items source.0 0 ≡ id = sym (get_or_default_zero c.sweep.sources.items source.0 id source.1) ∙ source.2 in
+            omega (arith, above, below, here, snapshot_is)) all.changes s all.store h sweeps is;
+        no_other = λ slot h there. stood snapshot c.sweep.sources.items all.changes s all.store slot h sweeps there;
+        copies = all.copies;
+        once = all.once;
+        found = λ key. (
+          (λ copied. elim (all.finds.found key (inl copied)) [
             | inl filled ↦ absurd (no_key b.sweep.buffer key row_first.nothing_yet.1.empty filled)
-            | inr from ↦ source_first (IsIn among) s stored (state begun) begun_at key c.snapshot c.sweep.sources.items (IsSelectedId snapshot percent c.liveness)
-                (λ id. (which id).0) from
-          ];
-          freed_is =
-              let counted : IsCounted c.sweep = all.counted (begun_counted (state old).tables.held [] b.sweep row_first.nothing_yet.1) in
-              omega (arith, counted, row.freed_is, ap (sources_before c.sweep) row.at_end.1, ap length (sweeping.waits has.1), ap length has.0);
-          given_back = omega (arith, all.on.freed_on, none.none_freed, row.freed_is);
-          copied_is = omega (arith, all.on.copied_on, none.none_copied, none.none_unwritten, written, row.copied_is);
-        };
-        along = λ first_one runs gc inv. all.along [] gc
-            (subst (λ (x : Collection). Inv [] x s stored (state begun)) (same_some first_one b (state begun).collection runs row_first.runs) inv);
+            | inr found ↦ found
+          ]),
+          (λ found. elim (all.finds.copied key (inr found)) [
+            | inl copied ↦ copied
+            | inr filled ↦ absurd (no_key c.sweep.buffer key has.1 filled)
+          ]),
+        );
+        all_copied = λ key copy h copy_is there is_selected live.
+            written_at_end all.changes b c s all.store (state begun)
+            (state new) begun_at.index all.is_at.index key copy.place h all.fates begun_at.index_known all.is_at.index_known
+            (lies_from key copy h copy_is there) (λ still. gone copy.place.slot h still is_selected) live;
+        from_sources = λ key there. elim (all.from begun_at.index key begun_at.index_known there) [
+          | inl filled ↦ absurd (no_key b.sweep.buffer key row_first.nothing_yet.1.empty filled)
+          | inr from ↦ source_first (IsIn among) s stored (state begun) begun_at key c.snapshot c.sweep.sources.items (IsSelectedId snapshot percent c.liveness)
+              (λ id. (which id).0) from
+        ];
+        freed_is =
+            let counted : IsCounted c.sweep = all.counted (begun_counted (state old).tables.held [] b.sweep row_first.nothing_yet.1) in
+            omega (arith, counted, row.freed_is, ap (sources_before c.sweep) row.at_end.1, ap length (sweeping.waits has.1), ap length has.0);
+        given_back = omega (arith, all.on.freed_on, none.none_freed, row.freed_is);
+        copied_is = omega (arith, all.on.copied_on, none.none_copied, none.none_unwritten, written, row.copied_is);
       }
-
-  pub collects_in_all : CollectsInAll C state
-  collects_in_all among actor last_actor percent snapshot freed copied buf last_buf steps s stored old begun new last distinct at began run none_ends ended =
-      (collects_so among (λ changes c t files core. Unit {0})
-      (λ f t files before after b changes step stays ran is one inv. tt) actor last_actor percent snapshot freed copied buf last_buf steps s stored old begun new last
-      distinct at began run none_ends ended).collected

@@ -1,5 +1,5 @@
 -- What a step that copies finds: just the keys that it finds come to be filled, beside those that were.
-use Rattle.store_core.proofs.Prelude.{◌≡◌, ◌⊎◌, inl, inr, ℕ, zero, suc, ◌+◌, ◌<◌, Bool, true, false, List, [], ◌∷◌, ◌++◌, length, take, map, Option, Some, None, refl, sym, ◌∙◌, ap, subst, arith, ◌≤◌, ◌||◌, AllByRecursion, bytes_eq, eqb-true, bytes_eq-Decides, key_of, Entry, Kind, kind_byte, PlaceMap, Segment, has_key, segment_key, HeaderValue, Plan, Planned, Source, planned, source_of, Shows, shown_content, IsLiveAt, Collection, Stage, SweepStage, StepsTo, HoldsAt, held_at, at_stage, Flush, Release, End, CopiesSource, TakesBy, HasNext, IsSweeping, sources_before, at_copy, copy_at, one_header, one_slot, listed, IsReadOf, ByteSet, IsIn, Stored, Store, HoldsSlot, place_of, some_same, SlotTable, at_moment, FindsLive, IsAt, IsSafeIn, CoreState, IsUnderWayIn}
+use Rattle.store_core.proofs.Prelude.{◌≡◌, ◌⊎◌, inl, inr, ℕ, zero, suc, ◌+◌, ◌<◌, Bool, true, false, List, [], ◌∷◌, ◌++◌, length, take, map, Option, Some, None, refl, sym, ◌∙◌, ap, subst, arith, ◌≤◌, ◌||◌, AllByRecursion, bytes_eq, eqb-true, bytes_eq-Decides, key_of, Entry, Kind, kind_byte, PlaceMap, Segment, has_key, segment_key, HeaderValue, Plan, Planned, Source, planned, source_of, Shows, shown_content, IsLiveAt, Collection, Stage, SweepStage, StepsTo, HoldsAt, held_at, at_stage, Flush, Release, End, CopiesSource, TakesBy, IsSweeping, sources_before, at_copy, copy_at, one_header, one_slot, listed, IsReadOf, ByteSet, IsIn, Stored, Store, HoldsSlot, place_of, some_same, SlotTable, at_moment, FindsLive, IsAt, IsSafeIn, CoreState, IsUnderWayIn}
 use Rattle.std.proofs.Common.{drop, get_or}
 use Rattle.std.specs.Prelude.{slice_get}
 use Rattle.std.specs.FinMap as finite
@@ -296,64 +296,6 @@ module _ (among : ByteSet) (s : Store) (stored : Stored) (old new : CoreState) (
         (went_over plan.ended refl has_plan.ends) there_found
         (at_copy (without_keys plan.dead.items index) h.kind copies.slot found (stays ∙ was)) in
         ap (has_key a.sweep.buffer) key_is ∙ ap (λ (c : Contents). has_key c (entry_key h.kind found)) has_plan.buffer_is ∙ has
-
-  -- ---- how far it came
-
-  source_below : source < length b.sweep.sources.items
-  source_below = (subst (HasNext old.tables.held b.sweep) next_is sweeping.next_is).0
-
-  sources_same : length a.sweep.sources.items ≡ length b.sweep.sources.items
-  sources_same = ap (λ (xs : _). length xs.items) copies.others.sources_are
-
-  -- The step went over the entries of a source from the one where it stood up to where it stopped, which is the source's end, or where it goes
-  -- on. Of those between each that is live, and the index's copy, is filled then; and nothing else is that was not filled before.
-  pub record WentOver : Type 0 where
-    pub slot : ℕ
-    pub header : HeaderValue
-    pub there : slice_get s.held slot ≡ Some (Some header)
-    pub source_is : header.id ≡ get_or b.sweep.sources.items source 0
-    pub within : source < length b.sweep.sources.items
-    pub stop : ℕ
-    pub from : entry ≤ stop
-    pub most : stop ≤ length header.entries
-    pub goes : ((stop ≡ length header.entries) × (sources_before a.sweep a.sweep.next ≡ suc source) × (entry_in a.sweep.next ≡ 0))
-        ⊎ ((sources_before a.sweep a.sweep.next ≡ source) × (entry_in a.sweep.next ≡ stop))
-    pub taken : (number : ℕ) (e : Entry) → number < stop → slice_get header.entries number ≡ Some e → is_copy index header.kind slot e ≡ true
-        → IsLiveAt b.live (entry_key header.kind e) (place_of slot e)
-        → has_key a.sweep.buffer (entry_key header.kind e) ≡ true
-    pub only : (key : List ℕ) → has_key a.sweep.buffer key ≡ true → (has_key b.sweep.buffer key ≡ true) ⊎ TookIn header slot stop key
-
-  pub goes_over : WentOver
-  goes_over = record {
-    slot = copies.slot;
-    header = h;
-    there = read.there;
-    source_is = read.id_is;
-    within = source_below;
-    stop = plan.next;
-    from = omega (arith, is.next_is);
-    most = is.within;
-    goes = by_end plan.ended refl has_plan.ends;
-    taken = λ number e below there copy live.
-        found_filled copies.slot number h e read.there read.id_is there (λ stopped here. omega (arith, below, stops plan.ended has_plan.ends stopped here)) copy live;
-    only = took_in;
-  }
-    where
-      by_end : (ended : Bool) → plan.ended ≡ ended → EndsBy ended old.tables.held copies.slot source plan b.sweep a.sweep
-          → ((plan.next ≡ length h.entries) × (sources_before a.sweep a.sweep.next ≡ suc source) × (entry_in a.sweep.next ≡ 0))
-          ⊎ ((sources_before a.sweep a.sweep.next ≡ source) × (entry_in a.sweep.next ≡ plan.next))
-      by_end true ended (inl (some, waits, ready, next)) =
-          let place = next_place old.tables.held b.sweep.sources.items plan.buffer (source + 1) 0 a.sweep (omega (arith, sources_same)) (omega (arith, source_below))
-          (λ none. absurd (omega (arith, none))) a.sweep.next next in
-          inl (eqb-true plan.next (length h.entries) (sym is.ended_is ∙ ended), omega (arith, place.0), place.1)
-      by_end true ended (inr (none, waits, ready, next)) =
-          inl (
-            eqb-true plan.next (length h.entries) (sym is.ended_is ∙ ended),
-            ap (sources_before a.sweep) next
-                ∙ (let one : source + 1 ≡ suc source = omega arith in one),
-            ap entry_in next,
-          )
-      by_end false ended (waits, ready, next) = inr (ap (sources_before a.sweep) next, ap entry_in next)
 
 -- ---- what a step found
 

@@ -201,9 +201,6 @@ pub may_seal_all : (S : List ℕ → Type 0) (k : Kind) (segments : List Segment
 may_seal_all S k [] right among = tt
 may_seal_all S k (s ∷ ss) right among = (may_seal S k s right.0 among.0, may_seal_all S k ss right.1 among.1)
 
-nothing_stands : (v : DiskView) → StandsFor (λ _. ⊥) v → ⊥
-nothing_stands v stands = stands.each stands.known.0 (v.as_read stands.known.0 stands.known.1)
-
 -- ---- each step
 
 module _ (among : ByteSet) (s : Store) (stored : Stored) (old new : CoreState) (actor : ℕ) (buf bytes : List ℕ) (distinct : HasNoCollisions (IsIn among))

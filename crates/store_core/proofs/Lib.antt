@@ -20,13 +20,10 @@ pub mod FoundCopies
 pub mod FoundSteps
 pub mod Frames
 pub mod GcSteps
-pub mod GivingFiles
-pub mod JustNeeded
 pub mod KeepingFiles
 pub mod KeepingSegments
 pub mod Leading
 pub mod KeyFates
-pub mod LoneRun
 pub mod Making
 pub mod MakingGc
 pub mod MarkedSteps
@@ -35,7 +32,6 @@ pub mod Opened
 pub mod OwnParts
 mod Prelude
 pub mod RunningOn
-pub mod Releasing
 pub mod RecordedAll
 pub mod RecordedSums
 pub mod Reserves
@@ -46,6 +42,5 @@ pub mod Sealing
 pub mod SparedRest
 pub mod Standing
 pub mod Stepping
-pub mod Tallied
 pub mod Unbegun
 pub mod WrittenCopies

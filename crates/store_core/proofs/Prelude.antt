@@ -50,7 +50,7 @@ pub use Rattle.gc_steps.proofs.Carried.{KeepsBoth}
 pub use Rattle.gc_steps.proofs.Chosen.{chosen_which}
 pub use Rattle.gc_steps.proofs.ClaimedPin.{one_more}
 pub use Rattle.gc_steps.proofs.FirstStage.{id_below, id_there}
-pub use Rattle.gc_steps.proofs.Lone.{level_early}
+pub use Rattle.gc_steps.proofs.FewSources.{level_early}
 pub use Rattle.gc_steps.proofs.Marked.{contains_first, contains_none, marks_none}
 pub use Rattle.gc_steps.proofs.Sparing.{held_at, ready_is_spare}
 pub use Rattle.gc_steps.proofs.SparingStages.{copied_leaves, entry_none}
@@ -61,7 +61,7 @@ pub use Rattle.gc_steps.specs.Finding.{HasMarkedAll, HeadersAreApart}
 pub use Rattle.gc_steps.specs.Marking.{KeepsMarks, Scans}
 pub use Rattle.gc_steps.specs.Roots.{IsPartKey, IsRoot, Marks, RootKeys, roots_of}
 pub use Rattle.gc_steps.specs.Safety.{IsNeeded, IsSafe, IsSafeAt}
-pub use Rattle.gc_steps.specs.Sparing.{IsWithin, Spares}
+pub use Rattle.gc_steps.specs.Sparing.{IsWithin}
 pub use Rattle.gc_steps.specs.Stages.{is_old_slot, mark_level}
 pub use Rattle.gc_steps.specs.Starting.{AreFound}
 pub use Rattle.gc_steps.specs.Stepping.{Flushes, IsStepRefusal, Keeps, Moment, StepsTo, TablesAfter, Touches, answer_at, moment, phase_at}
@@ -107,7 +107,7 @@ pub use Rattle.store_core.specs.Finding.{IsNoSweep}
 pub use Rattle.store_core.specs.Finished.{AreCopiesOf, Collected, FindsLive, IsAdded, IsDid, IsOfCopies, WasRecorded, WereCopies, copied_keys, sealed_keys}
 pub use Rattle.store_core.specs.Frame.{IsOn, KeepsBytes}
 pub use Rattle.store_core.specs.Opening.{LeavesUnread}
-pub use Rattle.store_core.specs.Releases.{AreGcSteps, SweepsSpare, copied_in, ends_with, freed_in}
+pub use Rattle.store_core.specs.Releases.{SweepsSpare, copied_in, ends_with, freed_in}
 pub use Rattle.store_core.specs.Runs.{AreChangesBy, AreChangesOf, AreNoGcSteps, ChangesTo, CoreRun, FileEvent, FileRun, FileStep, IsAt, IsGivenRight, IsNoGcStep, IsReadNext, IsSafeIn, ReadsAlone, changes_by, changes_of, events_of, opens, stored_after, stored_by, stored_with}
 pub use Rattle.store_core.specs.State.{CoreState, Event, IsRunning, IsUnderWayIn, IsUp, UnlessStopped}
 pub use Rattle.store_core.specs.declared.stop.Stop.{Stop}

@@ -3,8 +3,7 @@ use Rattle.store_core.proofs.Prelude.{◌≡◌, ◌⊎◌, inl, inr, ℕ, ◌<�
 use Rattle.std.proofs.Common.{append_assoc, get_or}
 use Rattle.std.specs.Prelude.{slice_get}
 use Rattle.gc_steps.specs.Filtering.{Records, recorded, recorded_by}
-use Rattle.gc_steps.proofs.SparingStages.{recorded_id_by, recorded_live_by}
-use Rattle.gc_steps.proofs.WholeCopies.{count_there}
+use Rattle.gc_steps.proofs.SparingStages.{count_there, recorded_id_by, recorded_live_by}
 use Rattle.gc_sweep.specs.declared.sweep.Next.{Next}
 use Rattle.gc_sweep.specs.declared.sweep.Next.TheVariants.{Copy}
 use Rattle.gc_sweep.proofs.InSlots.{old_id}

@@ -43,11 +43,6 @@ abbrev pub IsSafeFor : PlaceMap → Store → Stored → CoreState → Type 0
 IsSafeFor places store stored new = (image : List ℕ) → new.disk.content ≡ Some image → CoreInvariant places store stored.files new.parts image → IsStoreOf store stored.files image
     → IsSafeIn places store new.parts image new.collection
 
--- ---- from what is kept whatever the stage
-
-pub same_both : (index : PlaceMap) (store : Store) (parts : List Part) (image : List ℕ) (c : Collection) → KeepsBoth index index store store parts parts image image c c
-same_both index store parts image c = (λ marks. marks, λ safe. safe)
-
 pub both_on : (index mid later : PlaceMap) (s m t : Store) (before between after : List Part) (old then new : List ℕ) (c d e : Collection)
     → KeepsBoth index mid s m before between old then c d
     → KeepsBoth mid later m t between after then new d e → KeepsBoth index later s t before after old new c e

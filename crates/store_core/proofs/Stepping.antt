@@ -1,5 +1,5 @@
 -- What each step does, whichever it is.
-use Rattle.store_core.proofs.Prelude.{◌≡◌, ℕ, List, Option, Some, None, Result, Ok, Err, sym, ◌∙◌, Root, KindSegment, IsLater, Part, Answer, StepValue, apart, Refusal, Row, BeginRow, ClaimRow, SealRow, CommitRow, AbortRow, OpenRow, ReadRow, EndRow, StatRow, DeleteRow, ListRow, Effect, StepsOr, Stop, CoreState, Event, GcRow, StartRow}
+use Rattle.store_core.proofs.Prelude.{◌≡◌, ℕ, List, Option, Some, None, Result, Ok, Err, sym, ◌∙◌, Root, KindSegment, IsLater, Part, Answer, StepValue, apart, Refusal, Row, BeginRow, ClaimRow, SealRow, CommitRow, AbortRow, OpenRow, ReadRow, EndRow, StatRow, DeleteRow, ListRow, Effect, StepsOr, Stop, CoreState, Event, GcRow, StartRow, ◌≢◌, length, ap}
 use Rattle.container_meta.specs.Segments.{Contents}
 use Rattle.actor_parts.specs.declared.step.Answer.TheVariants as answers
 use Rattle.actor_parts.specs.Parts.{part_of, with_part}
@@ -13,6 +13,13 @@ use Rattle.read_steps.specs.Readers as readers
 pub record ChangesOne (actor : ℕ) (old new : List Part) : Type 0 where
   pub part : Part
   pub parts_are : new ≡ with_part old actor part
+
+-- another actor's step leaves its part
+pub other_part : (actor own : ℕ) (old new : List Part) → ChangesOne own old new → actor ≢ own → part_of new actor ≡ part_of old actor
+other_part actor own old new one differs = ap (λ (parts : List Part). part_of parts actor) one.parts_are ∙ apart.others old own actor one.part differs
+
+pub length_on : (own : ℕ) (old new : List Part) → ChangesOne own old new → length new ≡ length old
+length_on own old new one = ap length one.parts_are ∙ apart.as_many old own one.part
 
 same_one : (actor : ℕ) (old new : List Part) → new ≡ old → ChangesOne actor old new
 same_one actor old new same = record { part = part_of old actor; parts_are = same ∙ sym (apart.unchanged old actor) }

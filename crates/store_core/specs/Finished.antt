@@ -15,7 +15,6 @@ use Rattle.gc_select.specs.declared.liveness.ContainerLiveness.{ContainerLivenes
 use Rattle.gc_select.specs.Selecting.{IsSelectedId, ids_of, selected, sources_of}
 use Rattle.gc_steps.specs.declared.collection.Collection.{Collection}
 use Rattle.gc_steps.specs.declared.collection.Stage.TheVariants.{Filter, Sweep as SweepStage}
-use Rattle.gc_steps.specs.Roots.{IsActorKey}
 use Rattle.gc_steps.specs.UnderWay.{old_ids}
 use Rattle.gc_sweep.specs.declared.sweep.Next.TheVariants.{Copy as CopyNext, Flush as FlushNext}
 use Rattle.gc_sweep.specs.Holding.{IsCopied}
@@ -25,12 +24,11 @@ use Rattle.store_model.specs.Collisions.{HasNoCollisions, ByteSet, IsIn}
 use Rattle.store_model.specs.Files.{Stored}
 use Rattle.store_model.specs.Image.{Store}
 use Rattle.store_model.specs.Indexing.{entry_key}
-use Rattle.store_model.specs.Reserve.{HoldsJustNeeded}
 use Rattle.store_model.specs.Slots.{Copy, ids_of as ids_held, newest, place_of}
 use Rattle.store_model.specs.Steps.{StoreChange, SealContainer, FlushContainer}
 use Rattle.store_core.specs.Bounds.{NoneEnds, starts}
 use Rattle.store_core.specs.Core.{CoreStep}
-use Rattle.store_core.specs.Releases.{AreGcSteps, copied_in, ends_with, freed_in}
+use Rattle.store_core.specs.Releases.{copied_in, ends_with, freed_in}
 use Rattle.store_core.specs.Runs.{AreChangesOf, ChangesTo, FileEvent, FileRun, IsAt, events_of, stored_after}
 use Rattle.store_core.specs.State.{CoreState}
 
@@ -216,14 +214,3 @@ CollectsInAll C state = (among : ByteSet) (actor last_actor percent snapshot fre
     → (run : FileRun C state (IsIn among) steps begun new) → NoneEnds (events_of steps)
     → CoreStep (state new) (ends_with last_actor freed copied last_buf) (state last)
     → Collected C state (IsIn among) percent snapshot freed copied steps s stored begun new last run
-
--- Where one of the percentage 100 began while no actor held a key, and came to its end with no other steps between, the containers hold
--- just what the files need, each key once.
-abbrev pub LeavesJustNeeded : (C : Type 0) → (C → CoreState) → Type 0
-LeavesJustNeeded C state = (among : ByteSet) (actor last_actor snapshot freed copied : ℕ) (buf last_buf : List ℕ)
-    (steps : List FileEvent) (s t : Store) (stored : Stored) (old begun new last : C)
-    → HasNoCollisions (IsIn among) → IsAt (IsIn among) s stored (state old) → ((key : List ℕ) → ¬ (IsActorKey (state old).parts key))
-    → CoreStep (state old) (starts actor 100 snapshot buf) (state begun)
-    → FileRun C state (IsIn among) steps begun new → AreGcSteps steps
-    → CoreStep (state new) (ends_with last_actor freed copied last_buf) (state last)
-    → IsAt (IsIn among) t stored (state last) → HoldsJustNeeded stored.files t.held

@@ -1,5 +1,4 @@
 pub mod Bounds
-pub mod Chosen
 pub mod Collecting
 pub mod Core
 pub mod Finding

@@ -1,6 +1,5 @@
 -- Steps of a core one after the other, by any actors (docs/MODEL.md, 'The core').
-use Rattle.std.specs.Prelude.{Bool, true, false, ◌≡◌, ◌⊎◌, ◌-◌, ◌^◌, ◌<◌, ℕ, List, [], ◌∷◌, ◌++◌, ◌==◌, length, sum_by, take, Option, None, Some, Result, Ok, Err}
-use Rattle.std.specs.FinMap as finite
+use Rattle.std.specs.Prelude.{Bool, true, ◌≡◌, ◌⊎◌, ◌-◌, ◌^◌, ◌<◌, ℕ, List, [], ◌∷◌, ◌++◌, ◌==◌, length, sum_by, take, Option, None, Some, Result, Ok, Err}
 use Rattle.std.specs.List.{AllByRecursion}
 use Rattle.base_model.specs.Known.{Known}
 use Rattle.disk_format.specs.Cells.{Root}
@@ -19,7 +18,6 @@ use Rattle.actor_parts.specs.StepValue as asked
 use Rattle.actor_parts.specs.StepValue.{StepValue, IsStep}
 use Rattle.refusals.specs.declared.refusal.Refusal.{Refusal}
 use Rattle.refusals.specs.declared.refusal.Refusal.TheVariants as refusals
-use Rattle.segmenter.specs.Segments.{segments_of}
 use Rattle.store_model.specs.Collisions.{HasNoCollisions, ByteSet, IsIn, IsAmong, Stands, OpensAs}
 use Rattle.store_model.specs.Files.{Stored, with_stored, without_stored}
 use Rattle.store_model.specs.Image.{Store, IsValidFor}
@@ -222,19 +220,6 @@ KeepsAcknowledged C state = (among : ByteSet) (first rest : List FileEvent) (s :
     → (state mid).disk.clock < 2 ^ 64 - 1 → (image : List ℕ) → (state new).disk.images_since (state mid).disk.clock image
     → IsOnTheWay (IsIn among) rest (stored_after first stored) image
 
--- the files after steps, where a write that failed stands
-abbrev pub stored_tried_by : List FileEvent → Stored → Stored
-stored_tried_by [] stored = stored
-stored_tried_by (f ∷ fs) stored = stored_tried_by fs (stored_tried f.event.step f.event.answer f.bytes stored)
-
--- At the end each image can be opened as the files after all commands that were acknowledged, or after these and the one whose write
--- failed.
-abbrev pub EndsWithAll : (C : Type 0) → (C → CoreState) → Type 0
-EndsWithAll C state = (among : ByteSet) (steps : List FileEvent) (s : Store) (stored : Stored) (old new : C)
-    → HasNoCollisions (IsIn among) → IsAt (IsIn among) s stored (state old) → FileRun C state (IsIn among) steps old new
-    → (image : List ℕ) → (state new).disk.images image
-    → OpensAs (IsIn among) (stored_after steps stored) image ⊎ OpensAs (IsIn among) (stored_tried_by steps stored) image
-
 -- ---- readers
 
 -- the actor makes no other step than to read on
@@ -245,33 +230,8 @@ IsReadNext step = ⊥
 abbrev pub ReadsAlone : ℕ → List Event → Type 0
 ReadsAlone actor events = AllByRecursion (λ e. e.actor ≡ actor → IsReadNext e.step) events
 
--- what one read of the actor gives of these segments, and then the others
-abbrev pub GivesOne : Bool → Result Answer Refusal → List ℕ → List (List ℕ) → (List (List ℕ) → Type 0) → Type 0
-GivesOne true (Ok (answers.Bytes count)) buf segments next =
-    (rest : List (List ℕ)) × ((segments ≡ take count buf ∷ rest) × next rest)
-GivesOne true (Ok answers.End) buf segments next = (segments ≡ []) × next segments
-GivesOne true (Err refusals.DiskRead) buf segments next = next segments
-GivesOne true answer buf segments next = ⊥
-GivesOne false answer buf segments next = next segments
-
--- What the reads of an actor give of these segments: one after the other, and then the end. A read that failed gives nothing,
--- and the next one goes on where it was.
-abbrev pub GivesInOrder : ℕ → List Event → List (List ℕ) → Type 0
-GivesInOrder actor [] segments = Unit {0}
-GivesInOrder actor (e ∷ es) segments = GivesOne (e.actor == actor) e.answer e.buf segments (GivesInOrder actor es)
-
 abbrev pub opens : ℕ → List ℕ → ℕ → List ℕ → Event
 opens actor name count buf = record { actor = actor; step = asked.OpenRead name; answer = Ok (answers.Opened count); buf = buf }
-
--- A file that was opened is given as it was then, whatever steps others make: over a disk that tells its content, by a core
--- that isn't stopped. The opening answered its length.
-abbrev pub GivesTheFile : (C : Type 0) → (C → CoreState) → Type 0
-GivesTheFile C state = (among : ByteSet) (actor : ℕ) (name bytes : List ℕ) (count : ℕ) (buf : List ℕ) (steps : List FileEvent)
-    (s : Store) (stored : Stored) (old mid new : C)
-    → HasNoCollisions (IsIn among) → IsAt (IsIn among) s stored (state old) → finite.get stored.files name ≡ Some bytes
-    → actor < length (state old).parts → CoreStep (state old) (opens actor name count buf) (state mid)
-    → FileRun C state (IsIn among) steps mid new → ReadsAlone actor (events_of steps) → (state new).stop ≡ None
-    → (count ≡ length bytes) × GivesInOrder actor (events_of steps) (segments_of bytes)
 
 -- ---- on any disk
 

@@ -1,13 +1,11 @@
 //! Laws of steps of a core, one after the other (docs/MODEL.md, 'The core').
 ghost use Rattle.store_core.specs.Bounds.{BoundsSteps};
-ghost use Rattle.store_core.specs.Chosen.{CollectsByNeed};
 ghost use Rattle.store_core.specs.Finding.{FindsKeys, FindsKeysMeanwhile, OnlyReadsBeforeSweep};
-ghost use Rattle.store_core.specs.Finished.{CollectsInAll, LeavesJustNeeded};
+ghost use Rattle.store_core.specs.Finished.{CollectsInAll};
 ghost use Rattle.store_core.specs.Frame.{AddsAlone, ContainersStay, ReserveStays, WrittenStays};
 ghost use Rattle.store_core.specs.Keeping.{KeepsSegments, StaysHeld, StaysSettled};
 ghost use Rattle.store_core.specs.Opening.{IsNewAt};
-ghost use Rattle.store_core.specs.Releases.{CollectsAsAnswered, LeavesNoneSpare, ReleasesSpare};
-ghost use Rattle.store_core.specs.Runs.{RunsOn, KeepsFiles, GivesTheFile, ReadsAreChecked, EndsAreWhole, SurvivesCrashes, SurvivesSince, KeepsAcknowledged, EndsWithAll};
+ghost use Rattle.store_core.specs.Runs.{RunsOn, KeepsFiles, ReadsAreChecked, EndsAreWhole, SurvivesCrashes, SurvivesSince, KeepsAcknowledged};
 ghost use Rattle.store_core.specs.Sound.{NeverDamaged, FindsFiles};
 
 use crate::state::HasState;
@@ -42,26 +40,13 @@ pub fn a_core_finds_all_keys<C: HasState>()
     ensures reads { OnlyReadsBeforeSweep C C.state }
 {}
 
-/// Over data without collisions, of a core that began at a store: steps of a collection alone give back just containers that the files
-/// don't need, each that answers so one; and where one began while no actor held a key, and came to its end by such steps, none is left.
-/// At its end it answers how many it gave back, and how many segments it copied. The function does nothing.
-pub fn a_core_collects_the_rest<C: HasState>()
-    ensures spare { ReleasesSpare C C.state }
-    ensures none { LeavesNoneSpare C C.state }
-    ensures answered { CollectsAsAnswered C C.state }
-{}
-
 /// Over data without collisions, of a core that began at a store: a collection that ended has given back each container that it selected
 /// and no other, whatever steps were made between its own. What it recorded of each container was so as it recorded it. It has copied only
 /// live segments, as they were held, of keys that had their newest copies, as it began, in containers that it selected, each once: just
 /// those that its copying steps found live, with the index's copy in such a container; and each such key that is live at the end, but for
-/// those that others sealed meanwhile. Where one ran alone, while no actor held a key, it has given back just the containers of which
-/// less than the percentage was needed, or nothing, and has copied just the needed keys that had their newest copies in these; at the
-/// percentage 100 the containers hold just what the files need, each key once. The function does nothing.
+/// those that others sealed meanwhile. The function does nothing.
 pub fn a_core_collects_what_it_selected<C: HasState>()
-    ensures selected { CollectsInAll C C.state }
-    ensures needed { LeavesJustNeeded C C.state }
-    ensures by_need { CollectsByNeed C C.state }
+    ensures { CollectsInAll C C.state }
 {}
 
 /// Over data without collisions, a core that began at a store and isn't stopped has made exactly the commits, the deletes and
@@ -90,11 +75,6 @@ pub fn a_core_keeps_what_stands<C: HasState>()
     ensures { ContainersStay C C.state }
 {}
 
-/// A file that was opened is given as it was then, whatever steps others make. The function does nothing.
-pub fn a_reader_is_given_its_file<C: HasState>()
-    ensures { GivesTheFile C C.state }
-{}
-
 /// On any disk a reader is given what the tree of the opened root names, and the end only where that was as long as the file.
 /// The function does nothing.
 pub fn a_reader_checks_what_it_gives<C: HasState>()
@@ -109,7 +89,6 @@ pub fn a_core_survives_crashes<C: HasState>()
     ensures moments { SurvivesCrashes C C.state }
     ensures since { SurvivesSince C C.state }
     ensures acknowledged { KeepsAcknowledged C C.state }
-    ensures end { EndsWithAll C C.state }
 {}
 
 /// Whatever the disk of a core holds, a run without steps of a collection adds records and containers to it: no other byte before the end

@@ -1,4 +1,4 @@
-use Rattle.store_core.proofs.Crashes.{leaves_on_the_way, survives_crashes, keeps_acknowledged, ends_with_all}
+use Rattle.store_core.proofs.Crashes.{leaves_on_the_way, survives_crashes, keeps_acknowledged}
 use Rattle.store_core.proofs.laws.a_core_survives_crashes.Goals as goal
 
 pub returns-clause-moments : goal.returns-clause-moments
@@ -9,6 +9,3 @@ returns-clause-since g c = survives_crashes _ g.C.HasState.state
 
 pub returns-clause-acknowledged : goal.returns-clause-acknowledged
 returns-clause-acknowledged g c = keeps_acknowledged _ g.C.HasState.state
-
-pub returns-clause-end : goal.returns-clause-end
-returns-clause-end g c = ends_with_all _ g.C.HasState.state

@@ -199,10 +199,6 @@ weaker : (S : List ℕ → Type 0) (P Q : Stored → Type 0) (v : DiskView) → 
 weaker S P Q v goes ((image, told, (next, (has, of))), each) =
     ((image, told, (next, (goes next has, of))), λ d is. let one = each d is in (one.0, (goes one.0 one.1.0, one.1.1)))
 
-leads_on : (calls : List Call) (last : Call) (m mid next : Stored) → LeadsTo calls m mid → MayLead last.line last mid next → LeadsTo (calls ++ last ∷ []) m next
-leads_on [] last m mid next is leads = (next, (subst (λ (s : Stored). MayLead last.line last s next) is leads, refl))
-leads_on (c ∷ cs) last m mid next (one, (first, rest)) leads = (one, (first, leads_on cs last one mid next rest leads))
-
 given_before : (S : List ℕ → Type 0) (calls : List Call) (last : Call) → AllByRecursion (IsGivenAmong S) (calls ++ last ∷ []) → AllByRecursion (IsGivenAmong S) calls
 given_before S [] last given = tt
 given_before S (c ∷ cs) last given = (given.0, given_before S cs last given.1)

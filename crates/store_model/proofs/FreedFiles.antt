@@ -370,7 +370,3 @@ opens_of S stored image is = record {
   opens = free_reserve (IsReachable stored.files) is.store.held is.reserve;
   last_is = is.last_is;
 }
-
-same_stored : (m n : Stored) → m.files ≡ n.files → m.last ≡ n.last → m ≡ n
-same_stored m n files last = ap (λ (x : Files). (let one : Stored = record { files = x; last = m.last } in one)) files
-    ∙ ap (λ (x : ℕ). (let one : Stored = record { files = n.files; last = x } in one)) last

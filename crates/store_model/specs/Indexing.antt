@@ -18,12 +18,6 @@ abbrev pub with_entries : Kind → ℕ → List Entry → PlaceMap → PlaceMap
 with_entries kind slot [] places = places
 with_entries kind slot (e ∷ es) places = with_entries kind slot es (finite.insert places (entry_key kind e) (place_of slot e))
 
--- the keys of all entries
-abbrev pub keys_in : List (Option HeaderValue) → List (List ℕ)
-keys_in [] = []
-keys_in (None ∷ cs) = keys_in cs
-keys_in (Some h ∷ cs) = map (entry_key h.kind) h.entries ++ keys_in cs
-
 -- how many there are
 abbrev pub entries_in : List (Option HeaderValue) → ℕ
 entries_in [] = 0

@@ -12,6 +12,19 @@ live_more : (index : PlaceMap) (live live_now : LiveKeys) → ((key : List ℕ) 
     → IsLive index live_now key
 live_more index live live_now more key is = (is.0, (is.1.0, more key is.0 is.1.1))
 
+-- They write no container.
+pub stays_beside : (index : PlaceMap) (held : List (Option HeaderValue)) (image now : List ℕ) (live live_now : LiveKeys) (snapshot : ℕ)
+    → ((key : List ℕ) (place : Place) → IsLiveAt live key place → IsLiveAt live_now key place)
+    → ((key : List ℕ) (level : ℕ) (bytes : List ℕ) → HasKey index key → HasNewest held key level bytes image → HasNewest held key level bytes now)
+    → GoesOnBeside index index held held image now live live_now snapshot
+stays_beside index held image now live live_now snapshot more copies = record {
+  keys = live_more index live live_now more;
+  places = λ key place has. inl has;
+  copies = copies;
+  stand = λ slot h there. there;
+  stood = λ slot h there old. there;
+}
+
 -- ---- they seal one
 
 -- a container goes into the first slot that is closed
@@ -29,6 +42,22 @@ still_there h (None ∷ cs) (suc slot) g there = there
 still_there h (Some x ∷ cs) zero g there = there
 still_there h (Some x ∷ cs) (suc slot) g there = still_there h cs slot g there
 
+pub sealed_beside : (index : PlaceMap) (held : List (Option HeaderValue)) (image now : List ℕ) (live live_now : LiveKeys) (snapshot : ℕ) (h : HeaderValue) → IsHeader h
+    → snapshot ≤ h.id → 1 ≤ free_slots held
+    → ((key : List ℕ) (place : Place) → IsLiveAt live key place → IsLiveAt live_now key place)
+    → ((key : List ℕ) (level : ℕ) (bytes : List ℕ) → HasKey index key → HasNewest held key level bytes image → HasNewest (with_slot (first_free held) h held) key level bytes now)
+    → GoesOnBeside index (with_entries h.kind (first_free held) h.entries index) held (with_slot (first_free held) h held) image now live live_now snapshot
+sealed_beside index held image now live live_now snapshot h right new some more copies = record {
+  keys = λ key is.
+      live_on index later live_now key (λ place has. still_has h.kind (first_free held) h.entries index key (place, has)) (live_more index live live_now more key is);
+  places = places;
+  copies = copies;
+  stand = still_there h held;
+  stood = λ slot g there old. elim (with_before (first_free held) h held slot g there) [
+    | inl same ↦ absurd (omega (arith, ap (λ (x : HeaderValue). x.id) same, new, old))
+    | inr was ↦ was
+  ];
+}
   where
     later : PlaceMap
     later = with_entries h.kind (first_free held) h.entries index

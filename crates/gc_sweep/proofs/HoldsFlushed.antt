@@ -56,6 +56,10 @@ module _ (t : SlotTable) (index : PlaceMap) (held : List (Option HeaderValue)) (
   pub keys_flushed : (key : List ℕ) (at : Place) → finite.get index key ≡ Some at → (other : Place) × (finite.get later key ≡ Some other)
   keys_flushed key at has = still_has s.buffer.kind place (entries_from 0 s.buffer.segments) index key (at, has)
 
+  -- and each that is live is so still
+  pub live_flushed : (key : List ℕ) → IsLive index live key → IsLive later live key
+  live_flushed key is = live_on index later live key (keys_flushed key) is
+
   -- what it has elsewhere it had, and that was not filled
   had_elsewhere : (key : List ℕ) (at : Place) → finite.get later key ≡ Some at → at.slot ≢ place → (finite.get index key ≡ Some at) × (has_key s.buffer key ≡ true → ⊥)
   had_elsewhere key at has other = by_entry (entry_of s.buffer.kind (entries_from 0 s.buffer.segments) key) refl

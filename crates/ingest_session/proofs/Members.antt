@@ -125,6 +125,11 @@ nodes_append [] qs = refl
 nodes_append (Data bytes ∷ ps) qs = nodes_append ps qs
 nodes_append (Node n ∷ ps) qs = ap (λ (ns : List node.Contents). n ∷ ns) (nodes_append ps qs)
 
+pub parts_count : (ps : List Piece) → length ps ≡ length (data_in ps) + length (nodes_in ps)
+parts_count [] = refl
+parts_count (Data bytes ∷ ps) = let others = parts_count ps in omega (arith, others)
+parts_count (Node n ∷ ps) = let others = parts_count ps in omega (arith, others)
+
 data_at : (ps : List Piece) (index : ℕ) (bytes : List ℕ) → slice_get (data_in ps) index ≡ Some bytes → IsIn (Data bytes) ps
 data_at [] index bytes is = absurd (cc)
 data_at (Data x ∷ ps) zero bytes is = (0, ap (λ (b : List ℕ). Some (Data b)) (same_Some x bytes is))
@@ -171,3 +176,8 @@ pub turn_is : (n : Option node.Contents) (queue : List (List ℕ)) (p : Piece) �
 turn_is (Some n) queue p is = ap piece_segment (in_one (Node n) p is)
 turn_is None [] p is = absurd (in_none p is)
 turn_is None (x ∷ xs) p is = ap piece_segment (in_one (Data x) p is)
+
+pub turn_nodes : (n : Option node.Contents) (queue : List (List ℕ)) → nodes_in (turn_of n queue) ≡ option_to_list n
+turn_nodes (Some n) queue = refl
+turn_nodes None [] = refl
+turn_nodes None (x ∷ xs) = refl

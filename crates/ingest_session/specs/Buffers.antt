@@ -20,5 +20,7 @@ AreSpare spare = (length spare.items ≡ BUFFERS) × (BUFFERS ≤ vec_capacity s
 -- each buffer is spare or has a segment that waits, and there is room for all of them on both sides
 pub record IsQueue (waiting : List (Vec ℕ)) (capacity : ℕ) (spare : Vec (Vec ℕ)) : Type 0 where
   pub all : length waiting + length spare.items ≡ BUFFERS
+  pub room_waiting : BUFFERS ≤ capacity
+  pub room_spare : BUFFERS ≤ vec_capacity spare
   pub filled : AllByRecursion IsFilled waiting
   pub empty : AllByRecursion IsBuffer spare.items

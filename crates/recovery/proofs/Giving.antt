@@ -192,6 +192,12 @@ module _ (size : ℕ) (store : Store) (visited : List Top) (ids : List ℕ) (use
 
 module _ (size : ℕ) (store : Store) (visited : List Top) (ids : List ℕ) (used : List Bool) (free : ℕ) (old new : DiskView)
     (stands : Stands size store visited ids used free old new) where
+  pub given_enough : RESERVE ≤ free → GivesBack store visited old new
+  given_enough enough = record {
+    freed = stands.freed;
+    are_freed = stands.are_freed;
+    enough = enough_given size (with_all_freed stands.freed store) visited ids used free
+        stands.ready enough;
   }
 
   pub given_none : IsLeastOf ids used (length ids) None → GivesBack store visited old new

@@ -92,3 +92,14 @@ module _ (line : Damage → List ℕ) (slots : ℕ) (old mid new : DiskView) (si
     ending_is = is;
     stops = record { damages = stops.damages; shown = since old mid new before stops.shown; written = stops.written };
   })
+
+blames_so : (halt : Halt) → halts halt ≡ blamed (ended_by halt)
+blames_so halt_of.Memory = refl
+blames_so halt_of.DiskRead = refl
+blames_so halt_of.Untaken = refl
+
+pub reads_cut_short : (halt : Halt) (ending : Uninspected) (old mid new : DiskView) → ending ≡ ended_by halt → Reads Done old mid → Reads (ending_of (halts halt)) mid new →
+    Reads (ending_of (blamed ending)) old new
+reads_cut_short halt ending old mid new is first second =
+    reads_on (ending_of (blamed ending)) old mid new first
+    (subst (λ (u : Uninspected). Reads (ending_of (blamed u)) mid new) (sym is) (subst (λ b. Reads (ending_of b) mid new) (blames_so halt) second))

@@ -409,6 +409,11 @@ held_past counts held image nodes (u ∷ us) was ([], is) = absurd (let wrong : 
 held_past counts held image nodes (u ∷ us) was (t ∷ ts, is) =
     (ts, record { trees = record { tops = tail_is u (root_of of_segment t) us (map (root_of of_segment) ts) is.trees.tops; each = is.trees.each.1 }; each = is.each.1 })
 
+-- fewer steps are ahead then
+pub falls_past : (nodes : NodeSet) (ahead : List Top) → WasNoted nodes ahead → steps_ahead (drop 1 ahead) < steps_ahead ahead
+falls_past nodes [] was = absurd was
+falls_past nodes (u ∷ us) was = omega (arith, sum_by-cons (λ (t : Top). t.length * (t.level + 1) + 1) u us)
+
 -- ---- all trees
 
 roots_push : (index : PlaceMap) (old new : DiskView) (roots : List NamedRoot) (n : NamedRoot) (a b c : WalkState) → WalksRoots index old new roots a b →

@@ -72,15 +72,15 @@ module _ (slot id : ℕ) (kind : Kind) (segments : List Segment) (cell : List �
       let size : ℕ = header_size (header_of id kind segments) in
       let at : slot_at slot + 0 ≡ slot_at slot = omega arith in
       record {
-    header = (
-      is.header.0,
-      ap (λ (p : ℕ). range p size image) (sym at)
-          ∙ sym (range-range 0 size (slot_at slot) SLOT_BYTES image (omega (arith, header_fits (header_of id kind segments) is.header.0)))
-          ∙ ap (range 0 size) stands
-          ∙ is.header.1,
-    );
-    bytes = stand_at 0 (slot_at slot) (data_at slot) segments cell image stands (omega arith) (omega (arith, few)) is.stored;
-  }
+        header = (
+          is.header.0,
+          ap (λ (p : ℕ). range p size image) (sym at)
+              ∙ sym (range-range 0 size (slot_at slot) SLOT_BYTES image (omega (arith, header_fits (header_of id kind segments) is.header.0)))
+              ∙ ap (range 0 size) stands
+              ∙ is.header.1,
+        );
+        bytes = stand_at 0 (slot_at slot) (data_at slot) segments cell image stands (omega arith) (omega (arith, few)) is.stored;
+      }
 
   module _ (old new : List ℕ) (fits : slot_at slot + SLOT_BYTES ≤ length old) where
     some : 1 ≤ length cell

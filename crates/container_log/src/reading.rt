@@ -108,7 +108,11 @@ pub(crate) fn why_of(bytes: &[u8], fault: MetaFault) -> Option<Why>
 
 // The header in bytes that stand at a byte of the disk. Its entries go into a list that is given.
 #[tactic(auto, using(crate::proofs::Differ::fault_differs, crate::proofs::Differ::fault_is_named))]
-pub(crate) fn header_into(at: u64, bytes: &[u8], entries: &mut Vec<Entry>) -> Result<Header, LogFault>
+pub(crate) fn header_into(
+    at: u64,
+    bytes: &[u8],
+    entries: &mut Vec<Entry>,
+) -> Result<Header, LogFault>
     requires length { ReachEnd bytes.now }
     requires within { length bytes.now ≤ HEADER_BYTES }
     requires room { MOST_ENTRIES ≤ vec_capacity entries.old }
@@ -181,12 +185,20 @@ fn read_more<D: Disk>(disk: &mut D, slot: u32, raw: &mut [u8], end: usize) -> Re
     ensures reads { Reads (ending blames result) (D.view disk.old) (D.view disk.new) }
     ensures fault { IfErr result (λ fault. fault ≡ DiskRead) }
 {
-    read_part(disk, slot_at(slot) + FIRST_READ as u64, &mut raw[FIRST_READ..end])
+    read_part(
+        disk,
+        slot_at(slot) + FIRST_READ as u64,
+        &mut raw[FIRST_READ..end],
+    )
 }
 
 /// Reads the header in a slot into a buffer of `disk_format::HEADER_BYTES`: its first bytes, and the others only where it has more
 /// entries than these hold. It answers how many it read.
-pub(crate) fn read_header<D: Disk>(disk: &mut D, slot: u32, raw: &mut [u8]) -> Result<usize, LogFault>
+pub(crate) fn read_header<D: Disk>(
+    disk: &mut D,
+    slot: u32,
+    raw: &mut [u8],
+) -> Result<usize, LogFault>
     requires place { slot_at slot + SLOT_BYTES ≤ (D.view disk.old).size }
     requires length { length raw.old ≡ HEADER_BYTES }
     ensures length { length raw.new ≡ HEADER_BYTES }

@@ -38,7 +38,12 @@ pub(crate) fn read_gate<D: Disk>(disk: &mut D, slot: u32) -> Result<u8, LogFault
 /// It reads no more than 4,096 bytes, but of an open slot with more entries than end there, of which it reads the others. A header that
 /// breaks the format is `LogFault::Damaged`, by the first check that fails in the order of docs/FORMAT.md, 'Container slot'; the other
 /// error is `LogFault::DiskRead`. After an error `raw` and `entries` may hold anything.
-pub fn read_slot<D: Disk>(disk: &mut D, slot: u32, raw: &mut [u8], entries: &mut Vec<Entry>) -> Result<Option<Header>, LogFault>
+pub fn read_slot<D: Disk>(
+    disk: &mut D,
+    slot: u32,
+    raw: &mut [u8],
+    entries: &mut Vec<Entry>,
+) -> Result<Option<Header>, LogFault>
     requires place { slot_at slot + SLOT_BYTES ≤ (D.view disk.old).size }
     requires length { length raw.old ≡ HEADER_BYTES }
     requires room { MOST_ENTRIES ≤ vec_capacity entries.old }

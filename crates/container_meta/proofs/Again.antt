@@ -155,8 +155,8 @@ part_of_both at n a b within same =
 abbrev counted_by : ℕ → List ℕ → ℕ → Result ℕ MetaFault
 counted_by gate name count =
     checked (
-      record { holds = gate == CONTAINER_GATE; fault = Gate gate } ∷ record { holds = bytes_eq name magic; fault = Magic }
-      ∷ field 18 count (is_count count) ∷ []
+    record { holds = gate == CONTAINER_GATE; fault = Gate gate } ∷ record { holds = bytes_eq name magic; fault = Magic }
+    ∷ field 18 count (is_count count) ∷ []
     )
     count
 

@@ -1,13 +1,11 @@
 -- Ways, one after the other.
-use Rattle.std.proofs.Common.{◌≡◌, inl, inr, ℕ, List, Some, Result, Ok, Err, OnOk, IfErr, refl, sym, ◌∙◌, subst}
+use Rattle.std.proofs.Common.{◌≡◌, inl, inr, ℕ, List, Some, Result, Ok, Err, sym, ◌∙◌, subst}
 use Rattle.std.specs.Result.{IsErrAnd}
 use Rattle.dd_disk.specs.View.{DiskView, IsLater, OnlyReads, IsDurable, CrashLeaves, SteppedFrom}
 use Rattle.dd_disk.specs.Ending.{Ending, Blame, ending, ending_of, Done, Refused, Unread, Broken, NoCall, ReadCall, WriteCall}
 use Rattle.dd_disk.specs.Writes.{Writes, Written}
-use Rattle.dd_disk.specs.Gated.{TornFrom, CellTorn}
-use Rattle.dd_disk.specs.Moves.{StandsFor, Way, step, one_step, two_steps, Arrives, Moves, Ends, StaysDurable, Acts, Calls}
-use Rattle.dd_disk.proofs.Ended.{counts_on}
-use Rattle.dd_disk.proofs.Later.{later_here, later_on, leaves_on, leaves_weaker, reads_here, reads_leave, durable_reads}
+use Rattle.dd_disk.specs.Moves.{StandsFor, Way, step, Arrives, Moves, Ends, StaysDurable, Acts}
+use Rattle.dd_disk.proofs.Later.{leaves_weaker, reads_here, reads_leave, durable_reads}
 
 pub stands_weaker : (P Q : List ℕ → Type 0) (v : DiskView) → ((c : List ℕ) → P c → Q c) → StandsFor P v → StandsFor Q v
 stands_weaker P Q v each stands = record { known = stands.known; each = λ c image. each c (stands.each c image) }

@@ -1,11 +1,10 @@
 -- Writes, one after the other.
-use Rattle.std.proofs.Common.{◌≡◌, inl, inr, ℕ, List, Some, Result, Ok, Err, OnOk, refl, subst}
-use Rattle.base_model.specs.Known.{Known, KnownWith}
+use Rattle.std.proofs.Common.{◌≡◌, inl, inr, ℕ, List, Some, Result, Ok, Err, subst}
 use Rattle.dd_disk.specs.View.{DiskView, SteppedFrom}
-use Rattle.dd_disk.specs.Ending.{Ending, Blame, WriteCall, ending, ending_of, Done, Refused, Unread, Broken}
+use Rattle.dd_disk.specs.Ending.{Ending, WriteCall, ending, Done, Refused, Unread, Broken}
 use Rattle.dd_disk.proofs.Ended.{counts_on}
 use Rattle.dd_disk.specs.Writes.{Writes, Written}
-use Rattle.dd_disk.proofs.Later.{later_here, later_on, leaves_on, leaves_weaker, reads_here}
+use Rattle.dd_disk.proofs.Later.{later_on, leaves_on, leaves_weaker}
 
 -- the call was done, or broke
 abbrev pub IsUnrefused : Ending → Type 0

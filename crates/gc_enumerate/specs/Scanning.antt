@@ -138,6 +138,7 @@ pub record IsMisplaced (known : Option PlaceMap) (level : ℕ) (key : List ℕ) 
   pub place_is : IsPlaceOf known key place
   pub differs : place.level ≢ level
   pub at_is : at ≡ data_at place.slot + place.offset
+
 -- A child of a node has this key, and the index has all children before it at their level.
 pub record ComesTo (known : Option PlaceMap) (n : Contents) (key : List ℕ) : Type 0 where
   pub before : List KeyPlace

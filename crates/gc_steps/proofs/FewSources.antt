@@ -1,10 +1,9 @@
 -- No more sources are chosen than containers were there, and a seal brings no such container.
-use Rattle.gc_steps.proofs.Prelude.{◌≡◌, ◌⊎◌, inl, inr, ◌<◌, ◌≤◌, ◌+◌, ◌-◌, ℕ, suc, Bool, true, false, List, [], ◌∷◌, length, Option, Vec, Global, refl, sym, ◌∙◌, ap, subst, arith, if◌then◌else◌, filter, HeaderValue, with_slot, IsFirstFree, RepresentsSlots, SlotTable, Collection, Chooses, is_old, is_old_slot, old_from, IsRecordedTo, IsUnderWay, old_ids, PlaceMap, DiskView, Refusal, Memory, Tables, Stage, Mark, Filter, Select, IsToChoose, KeepsMarks, MarksOnly, Keeps, Moment, StepsTo, TablesAfter, moment, Next, Flush, Release, End, Some, None, zero, filter_at, mark_level, mark_at, mark_on, mark_from, first_slot, is_tree_slot}
+use Rattle.gc_steps.proofs.Prelude.{◌≡◌, ◌<◌, ◌≤◌, ◌+◌, ◌-◌, ℕ, suc, Bool, true, false, List, [], ◌∷◌, length, Option, Vec, Global, refl, sym, ◌∙◌, ap, subst, arith, if◌then◌else◌, filter, SlotTable, Collection, Chooses, is_old, is_old_slot, old_from, IsRecordedTo, IsUnderWay, old_ids, PlaceMap, DiskView, Tables, Stage, Mark, Filter, Select, IsToChoose, Moment, StepsTo, TablesAfter, moment, Next, Flush, Release, End, Some, None, zero, filter_at, mark_level, mark_at, mark_on, mark_from, first_slot, is_tree_slot}
 use Rattle.std.proofs.Common.{get_or}
 use Rattle.gc_steps.specs.StepsToCome.{count_from}
 use Rattle.gc_steps.specs.declared.collection.Stage.TheVariants.{Sweep}
 use Rattle.gc_steps.specs.FewSources.{HasFewSources}
-use Rattle.gc_steps.proofs.NoNearer.{old_many}
 use Rattle.gc_sweep.specs.declared.sweep.Next.TheVariants.{Copy}
 use Rattle.gc_steps.proofs.Chosen.{few_chosen}
 use Rattle.gc_steps.proofs.UnderWay.{at_stage}

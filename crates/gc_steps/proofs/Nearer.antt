@@ -1,9 +1,8 @@
 -- Each step of a collection leaves fewer to come.
-use Rattle.gc_steps.proofs.Prelude.{◌≡◌, ℕ, zero, suc, ◌+◌, ◌-◌, ◌*◌, ◌<◌, ◌≤◌, Bool, true, false, [], ◌∷◌, ◌++◌, length, Option, Some, None, refl, sym, ◌∙◌, ap, subst, arith, if◌then◌else◌, PlaceMap, DiskView, MOST_LEVEL, SlotTable, Collection, Stage, Mark, Filter, Select, Records, Chooses, recorded, Scans, first_slot, filter_at, filter_from, is_old_slot, is_tree_slot, mark_at, mark_from, mark_level, mark_on, old_from, steps_at, steps_to_come, steps_left, IsUnderWay}
+use Rattle.gc_steps.proofs.Prelude.{◌≡◌, ℕ, zero, suc, ◌+◌, ◌-◌, ◌*◌, ◌<◌, ◌≤◌, Bool, true, false, [], ◌∷◌, ◌++◌, length, Option, Some, None, refl, sym, ◌∙◌, ap, subst, arith, if◌then◌else◌, PlaceMap, DiskView, MOST_LEVEL, SlotTable, Collection, Stage, Mark, Filter, Records, recorded, Scans, first_slot, filter_at, filter_from, is_old_slot, is_tree_slot, mark_at, mark_from, mark_level, mark_on, old_from, steps_at, steps_to_come, steps_left, IsUnderWay}
 use Rattle.gc_steps.specs.declared.collection.Stage.TheVariants.{Sweep}
 use Rattle.gc_steps.specs.Stages.{first_from}
 use Rattle.gc_steps.specs.StepsToCome.{count_from, filter_steps, trees_from}
-use Rattle.gc_sweep.proofs.Nears.{begun_few}
 use Rattle.gc_steps.proofs.UnderWay.{at_stage}
 
 -- ---- counts

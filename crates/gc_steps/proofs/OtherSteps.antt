@@ -4,8 +4,7 @@ use Rattle.std.specs.FinMap as finite
 use Rattle.actor_parts.specs.Parts.{part_of, with_part}
 use Rattle.store_model.specs.Image.{last_sequence}
 use Rattle.store_model.specs.Journal.{Follow}
-use Rattle.store_model.specs.Steps.{with_cell, with_change}
-use Rattle.store_model.proofs.Cells.{names_with_cell}
+use Rattle.store_model.specs.Steps.{with_change}
 use Rattle.store_model.proofs.NameChanges.{names_after_change}
 use Rattle.gc_steps.proofs.Carried.{KeepsBoth}
 use Rattle.gc_steps.proofs.FewerRoots.{fewer_roots}

@@ -2,7 +2,7 @@
 use Rattle.merkle_file.proofs.Prelude.{◌≡◌, ℕ, zero, suc, ◌+◌, ◌-◌, ◌*◌, ◌<◌, ◌≤◌, List, [], ◌∷◌, ◌++◌, length, map, reverse, take, drop, get_or, refl, sym, ap, subst, ◌∙◌, append_assoc, arith, drop-drop, length-append, reverse-append, take-append-drop, drop_more, drop-length, Child, Top, MOST_CHILDREN, Contents, IsNode, child_in, IsAsked, IsWithin, HasRoom, below, opened}
 use Rattle.merkle_file.specs.declared.stack.TheConstants.{STACK}
 use Rattle.merkle_file.specs.Reading.{children_in}
-use Rattle.merkle_file.specs.Walk.{IsNamed, IsNodeNext, asked_for}
+use Rattle.merkle_file.specs.Walk.{IsNamed, asked_for}
 
 -- ---- the children that bytes spell, one by one
 

@@ -11,7 +11,6 @@ use Rattle.store_machine.specs.Asked as asked
 use Rattle.store_machine.specs.Done as done
 use Rattle.store_machine.specs.Ingests.{IsBroken}
 use Rattle.store_machine.proofs.Quiet.{F}
-use Rattle.store_machine.proofs.Stepwise.{Opened}
 
 -- a claim or a seal
 abbrev pub IsTurn : Asked (List ℕ) → Type 0

@@ -102,7 +102,12 @@ impl Containers {
     }
 
     // Takes the entries of the container that stands after the slots that were read.
-    fn add_entries(&mut self, slot: u32, header: &Header, entries: &[Entry]) -> Result<(), AllocError>
+    fn add_entries(
+        &mut self,
+        slot: u32,
+        header: &Header,
+        entries: &[Entry],
+    ) -> Result<(), AllocError>
         requires { IsHeader (with_entries header.now entries.now) }
         ensures { OnOk result ((held : List (Option HeaderValue)) → ArePart held slot header.now.id header.now.kind [] self.old
             → ArePart held slot header.now.id header.now.kind entries.now self.new) }
@@ -137,7 +142,12 @@ impl Containers {
     }
 
     /// Takes what the next slot holds, if it is open with these entries; `slot` is its number.
-    pub fn take(&mut self, slot: u32, held: &Option<Header>, entries: &[Entry]) -> Result<(), AllocError>
+    pub fn take(
+        &mut self,
+        slot: u32,
+        held: &Option<Header>,
+        entries: &[Entry],
+    ) -> Result<(), AllocError>
         requires right { IfSome held.now (λ h. IsHeader (with_entries h entries.now)) }
         requires digest { IfSome held.now (λ h. h.digest ≡ header_digest (with_entries h entries.now)) }
         ensures { OnOk result ((before : List (Option HeaderValue)) → slot ≡ length before → RepresentsContainers before self.old

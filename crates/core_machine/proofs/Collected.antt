@@ -1,5 +1,5 @@
 -- A step of a collection, made or refused, or its end, as the machine of roots has it.
-use Rattle.core_machine.proofs.Prelude.{◌≡◌, ◌++◌, ℕ, true, false, List, [], Some, None, option_map, Result, Ok, Err, refl, sym, ◌∙◌, ap, subst, Bool, Root, Answer, Next, CoreStage, Did, TablesAfter, answer_at, phase_at, IsUnderWay, Named, NameMap, Phase, Refusal, IsValidFor, StoreChange, SlotTable, GcEffect, GcRow, IsNotMade, at_moment, StopsAfter, counted, CoreState, IsUnderWayIn, phase_in, swept_by, Answers, IsAtRightPart, RunState, Running, of_roots, HasCopied, SameCollection, ForgetsBy, MovesAs, NamesGc, changes_of, Follows, FollowsPhase, HasIndex, IsMachine, SameStop, answered_by}
+use Rattle.core_machine.proofs.Prelude.{◌≡◌, ◌++◌, ℕ, true, false, List, [], Some, None, option_map, Result, Ok, Err, refl, sym, ◌∙◌, ap, subst, Bool, Root, Answer, Next, CoreStage, Did, TablesAfter, answer_at, phase_at, IsUnderWay, Named, NameMap, Phase, Refusal, IsValidFor, StoreChange, SlotTable, GcEffect, GcRow, at_moment, StopsAfter, counted, CoreState, IsUnderWayIn, phase_in, swept_by, Answers, IsAtRightPart, RunState, Running, of_roots, HasCopied, SameCollection, ForgetsBy, MovesAs, NamesGc, changes_of, Follows, FollowsPhase, HasIndex, IsMachine, SameStop, answered_by}
 use Rattle.std.specs.FinMap as finite
 use Rattle.actor_parts.specs.declared.step.Answer.TheVariants as answers
 use Rattle.actor_parts.specs.StepValue as steps

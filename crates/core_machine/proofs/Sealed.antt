@@ -1,5 +1,5 @@
 -- A seal of the core, as one of the machine of roots.
-use Rattle.core_machine.proofs.Prelude.{arith, ◌≡◌, Bool, true, ◌<◌, ◌≤◌, ℕ, suc, false, List, [], ◌∷◌, slice_set, Option, Some, None, Result, Ok, Err, refl, sym, ◌∙◌, ap, subst, nat_le, leb-true, Root, LAST_ID, Kind, PlaceMap, Segment, segment_key, Answer, PinMap, children_by, pin_by, Refusal, IsValidFor, header_of, IsIndexOf, first_free, first_closed, some_free, with_sealed, free_sealed, IsFirstFree, Represents, SealRow, SealsOne, StopsAfter, counted, Collects, IsKeptKey, CoreState, IsUnderWayIn, one_map, Asked, Answers, RunState, Running, Stopped, keeping, put_at, forgotten_beside, of_roots, SameCollection, HasIndex, IsMachine, SameStop, TellsForgotten, answered_by}
+use Rattle.core_machine.proofs.Prelude.{arith, ◌≡◌, Bool, true, ◌<◌, ◌≤◌, ℕ, suc, false, List, [], ◌∷◌, slice_set, Option, Some, None, Result, Ok, Err, refl, sym, ◌∙◌, ap, subst, nat_le, leb-true, Root, LAST_ID, Kind, PlaceMap, Segment, segment_key, Answer, PinMap, children_by, pin_by, Refusal, IsValidFor, header_of, IsIndexOf, first_free, first_closed, some_free, with_sealed, free_sealed, IsFirstFree, Represents, SealRow, SealsOne, StopsAfter, counted, Collects, IsKeptKey, CoreState, IsUnderWayIn, one_map, Answers, RunState, Running, Stopped, keeping, put_at, forgotten_beside, of_roots, SameCollection, HasIndex, IsMachine, SameStop, TellsForgotten, answered_by}
 use Rattle.std.proofs.Common.{◌&&◌}
 use Rattle.std.specs.FinMap as finite
 use Rattle.container_meta.specs.Segments.{Contents}

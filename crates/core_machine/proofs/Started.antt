@@ -1,5 +1,5 @@
 -- A collection that begins in a core, or does not, as the machine of roots has it.
-use Rattle.core_machine.proofs.Prelude.{◌≡◌, ℕ, suc, ◌<◌, List, [], ◌++◌, Some, None, Result, Ok, Err, refl, sym, ◌∙◌, subst, arith, Bool, Root, MOST_LEVEL, Answer, CoreCollection, mark_level, Refusal, last_id, StartRow, Rests, CoreState, IsUnderWayIn, Asked, marking, marks_of, sources_in, Answers, IsAtRightPart, Running, keys_kept, values_read, of_roots, SameCollection, SameRun, SameStage, IsMachine, answered_by}
+use Rattle.core_machine.proofs.Prelude.{◌≡◌, ℕ, suc, ◌<◌, List, [], ◌++◌, Some, None, Result, Ok, Err, refl, sym, ◌∙◌, subst, arith, Bool, Root, MOST_LEVEL, Answer, CoreCollection, mark_level, Refusal, last_id, StartRow, Rests, CoreState, IsUnderWayIn, marking, marks_of, sources_in, Answers, IsAtRightPart, Running, keys_kept, values_read, of_roots, SameCollection, SameRun, SameStage, IsMachine, answered_by}
 use Rattle.std.specs.FinMap as finite
 use Rattle.actor_parts.specs.declared.step.Answer.TheVariants as answers
 use Rattle.refusals.specs.declared.refusal.Refusal.TheVariants as refusals

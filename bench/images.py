@@ -1,4 +1,4 @@
-"""The program over an image, and what the image has: what bench/packing, bench/many-nights and bench/sized-store share."""
+"""The program over an image, and what the image has: what most programs of this folder share."""
 
 import os
 import re

@@ -1,22 +1,26 @@
--- A command that ran no line answers by the map; and so does any whose lines do.
-use Rattle.backup_engine.proofs.Prelude.{◌≡◌, ◌⊎◌, inl, inr, ℕ, IsTrue, List, [], Option, Some, None, refl, sym, ◌∙◌, ap, subst, arith, DiskView, SinkView, SourceView, Refusal, DiskWrite, Refused, ByteSet, HasNoCollisions, IsIn, OpensAs, Stored, Store, IsSegmentOf, fails, FileMachine, ListsThrough, Replied, Found, RunState, MayBeFound, of_files, FileDesk, IsOfFound, MayStand, stored_in, unopened, files_begin, AnswersByMap, IsLeftAs, WroteFile, CutsAmong, FailsAlone, RefusedByFiles, RunsByFiles, RunsEachByFiles, CommandLine, Format, Ingest, Restore, Collect, SpeaksAs, Speaks, DoesCommand, FreesTo, IsStore, KnownWith, Running, RunsWith, store_once}
+-- A command answers by the map where its lines say how it ended, and what was written.
+use Rattle.backup_engine.proofs.Prelude.{◌≡◌, ◌⊎◌, inl, inr, ℕ, IsTrue, List, [], ◌∷◌, Option, Some, Err, refl, sym, ◌∙◌, ap, subst, arith, DiskView, SinkView, SourceView, Refusal, Refused, IsIn, FileMachine, AllFollow, Lines, Replied, desk, of_files, MayStand, RunsByFiles, CommandLine, Keeps, DoesCommand, Speaks, SpeaksAs, said}
 use Rattle.std.proofs.lemmas.List.{append-nil}
-use Rattle.std.specs.FinMap as finite
+use Rattle.base_model.specs.Known.{Appended, KnownWith}
 use Rattle.reply_text.specs.declared.ending.Ending.{Ending}
-use Rattle.store_machine.specs.Commands.{List as ListNames}
-use Rattle.store_machine.specs.Needs.{NamesNeed}
-use Rattle.store_machine.specs.Opening.{GivesBackSome}
-use Rattle.core_machine.specs.Bytes.{LeavesUnopened}
-use Rattle.backup_engine.specs.AnswersByMap as answers
-use Rattle.backup_engine.specs.AnswersByMap.{AnswersEachMap, OpensStore, StaysUnopened}
-use Rattle.backup_engine.specs.Line.{Delete}
+use Rattle.script_lines.specs.Grammar as lines
+use Rattle.script_lines.specs.ReplyValue.{ReplyValue}
+use Rattle.script_lines.specs.ReplyValue as replies
+use Rattle.store_model.specs.Collisions.{ByteSet, HasNoCollisions}
+use Rattle.store_state.specs.Refused.{fails}
+use Rattle.store_machine.specs.ByMap.{Through}
+use Rattle.store_machine.specs.Commands.{AreLinesOf, EndsWith, given_by, printed}
+use Rattle.store_machine.specs.Machine.{Found, RunState, Running, Stepped}
+use Rattle.store_machine.specs.Opening.{GivesBackSome, MayBeFound, freeing}
+use Rattle.refusals.specs.declared.refusal.Refusal.TheVariants.{DiskWrite}
 use Rattle.backup_engine.specs.Line as table
-use Rattle.backup_engine.proofs.FailsAlone.{refusal_fails}
-use Rattle.backup_engine.proofs.NotDone.{not_sink}
+use Rattle.backup_engine.specs.Line.{Collect, Delete, Format, Ingest, Restore}
+use Rattle.script_runner.specs.LinesAreFileRuns.{FileDesk}
+use Rattle.core_machine.specs.FileOpenings.{Reopens, opening}
+use Rattle.backup_engine.specs.AnswersByMap.{AnswersByMap, AnswersEachCall, ComesTo, EndsAs, Gave, IsAfter, KeepsBytes, WritesRefused, WritesText, command_of}
+use Rattle.backup_engine.specs.ByFiles.{CutsAmong, RefusedByFiles, RunsEachByFiles}
+use Rattle.backup_engine.proofs.AtLines.{all_lines, all_steps, crash_by, last, ran}
 use Rattle.backup_engine.proofs.Ran.{Silent}
-use Rattle.backup_engine.proofs.Rested.{AtEnd, WasStore, crash_by, is_store, last, left_by, room_made, was_store}
-
--- ---- what was said
 
 -- what a call said, whatever room was made before
 pub told : (D : Type 0) (view : D → DiskView) (command : CommandLine) (given : List ℕ) (rs : List Replied) (ending : Option Ending) (disk disk_now : DiskView)
@@ -38,209 +42,178 @@ told D view command given rs ending disk disk_now source source_now sink sink_no
     spoke v (inl are) = inl are
     spoke v (inr none) = inr (record { none = none.none; refusal = none.refusal; ending_is = none.ending_is; wrote = none.wrote })
 
--- ---- nothing was written
+-- nothing was written
+pub none_appended : (before now : Option (List ℕ)) → now ≡ before → Appended before now []
+none_appended before now same = record { is = λ old known. same ∙ known ∙ ap (λ (b : List ℕ). Some b) (sym (append-nil old)) }
 
-pub nothing_of : (file : Option (List ℕ)) (e : Ending) (sink sink_now : SinkView) → sink_now.written ≡ sink.written → WroteFile file (Some e) sink sink_now
-nothing_of None e sink sink_now same = same
-nothing_of (Some bytes) e sink sink_now same = record {
-  count = 0;
-  fits = omega arith;
-  is = record { is = λ old known. same ∙ known ∙ ap (λ (b : List ℕ). Some b) (sym (append-nil old)) };
-}
+abbrev pub opened_line : ℕ → Replied
+opened_line files = said lines.Reopen (replies.Opened files)
 
-pub nothing_written : (command : CommandLine) (given : List ℕ) (m : Stored) (refusal : Refusal) (sink sink_now : SinkView) → sink_now.written ≡ sink.written
-    → answers.Wrote command given m (Some (Refused refusal)) sink sink_now
-nothing_written (Format slots) given m refusal sink sink_now same = same
-nothing_written (Ingest name) given m refusal sink sink_now same = same
-nothing_written (Restore name) given m refusal sink sink_now same = nothing_of (finite.get m.files name) (Refused refusal) sink sink_now same
-nothing_written (Delete name) given m refusal sink sink_now same = same
-nothing_written table.List given m refusal sink sink_now same = same
-nothing_written (Collect percent) given m refusal sink sink_now same = (0, 0, same)
+-- the map as it was is one that a command which was refused may leave
+pub stays_after : (command : CommandLine) (given : List ℕ) (refusal : Refusal) (now x : Found (List ℕ)) → x ≡ now → IsAfter command given (Some (Refused refusal)) now x
+stays_after command given DiskWrite now x same = inl same
+stays_after command given refusal now x same = same
 
--- a write failed, or not
-pub is_write : (refusal : Refusal) → (refusal ≡ DiskWrite) ⊎ ((refusal ≡ DiskWrite) → ⊥)
-is_write DiskWrite = inl refl
-is_write refusal = inr (λ is. cc)
+-- What a command says of lines that it ran: each follows the one before it, they gave what the source had, the ending is theirs, and so is what
+-- may be found then, and what was written.
+pub record Says (command : CommandLine) (given : List ℕ) (ending : Option Ending) (rs : List Replied) (sink sink_now : SinkView) : Type 0 where
+  pub follow : (files : ℕ) → AllFollow (command_of command) (opened_line files) rs
+  pub gave : (files : ℕ) → Gave command given (opened_line files ∷ rs)
+  pub ended : (files : ℕ) → EndsAs (command_of command) (opened_line files ∷ rs) ending
+  pub found : (files : ℕ) (m n : FileMachine) → ComesTo command (opened_line files ∷ rs) m n → (x : Found (List ℕ)) → MayBeFound of_files n.state n.now x
+      → IsAfter command given ending m.now x
+  pub wrote : (files : ℕ) (m n : FileMachine) → ComesTo command (opened_line files ∷ rs) m n
+      → WritesText (command_of command) ending (printed (command_of command) (given_by 0 [] (opened_line files ∷ rs)) (opened_line files ∷ rs)) sink sink_now
 
--- a map that stays is one that a command which was refused may leave
-pub refused_left : (S : List ℕ → Type 0) (command : CommandLine) (given : List ℕ) (m : Stored) (refusal : Refusal) (d : List ℕ) → OpensAs S m d
-    → IsLeftAs S command given m (Some (Refused refusal)) d
-refused_left S command given m DiskWrite d is = inl is
-refused_left S command given m refusal d is = is
+-- the machine's law of the command
+abbrev pub ComesByMap : CommandLine → Type 0
+ComesByMap command = (rs : List Replied) (ss : List (Stepped (List ℕ))) (m : FileMachine) (e : FileDesk) → m.state ≡ Running
+    → AreLinesOf (command_of command) rs → Lines of_files rs ss (desk m) e → ComesTo command rs m e.machine
 
 -- ---- no line was run
 
-module _ (S : List ℕ → Type 0) (command : CommandLine) (given : List ℕ) (m : Stored) (store : Store) (refusal : Refusal) (v w : DiskView) (sink sink_now : SinkView)
-    (same : sink_now.written ≡ sink.written) (was : WasStore m store v) where
-  as_first : (d : List ℕ) → IsOfFound S (unopened m store) d → OpensAs S m d
-  as_first d found = subst (λ (x : Found (List ℕ)). OpensAs S (stored_in x) d) found.1 found.2
+opening_gave : (command : CommandLine) (given : List ℕ) (reply : ReplyValue) → Gave command given (said lines.Reopen reply ∷ [])
+opening_gave (Format slots) given reply = tt
+opening_gave (Ingest name) given reply = ((given, refl), λ commits. absurd (by commits))
+  where
+    by : EndsWith (λ one. one.line ≡ lines.Commit 0 name) (said lines.Reopen reply ∷ []) → ⊥
+    by (last, is, commits) =
+        let same : said lines.Reopen reply ≡ last = (let both : Some (said lines.Reopen reply) ≡ Some last = is in cc) in
+        let no : lines.Reopen ≡ lines.Commit 0 name = ap (λ (x : Replied). x.line) same ∙ commits in cc
+opening_gave (Restore name) given reply = tt
+opening_gave (Delete name) given reply = tt
+opening_gave table.List given reply = tt
+opening_gave (Collect percent) given reply = tt
 
-  -- the store was not opened
-  module _ (rs : List Replied) (none : RefusedByFiles S (Some (Refused refusal)) rs (unopened m store) v w) where
-    still_found : (n : FileMachine) → (n ≡ unopened m store) ⊎ GivesBackSome of_files none.refusal (unopened m store) n → (x : Found (List ℕ))
-        → MayBeFound of_files n.state n.now x → x ≡ (unopened m store).now
-    still_found n (inl is) x may = subst (λ (k : FileMachine). MayBeFound of_files k.state k.now x) is may
-    still_found n (inr (stores, is, why, known)) x may = subst (λ (k : FileMachine). MayBeFound of_files k.state k.now x) is may
+-- the replies to an opening print nothing
+opening_printed : (command : CommandLine) (given : List ℕ) (sink sink_now : SinkView) → sink_now.written ≡ sink.written → (files : ℕ) (reason : Refusal)
+    → WritesRefused (command_of command) (printed (command_of command) given (opened_line files ∷ [])) sink sink_now
+    × WritesRefused (command_of command) (printed (command_of command) given (said lines.Reopen (replies.Refused reason) ∷ [])) sink sink_now
+opening_printed (Format slots) given sink sink_now same files reason = (same, same)
+opening_printed (Ingest name) given sink sink_now same files reason = (same, same)
+opening_printed (Restore name) given sink sink_now same files reason =
+    (none_appended sink.written sink_now.written same, none_appended sink.written sink_now.written same)
+opening_printed (Delete name) given sink sink_now same files reason = (same, same)
+opening_printed table.List given sink sink_now same files reason = (same, same)
+opening_printed (Collect percent) given sink sink_now same files reason = (same, same)
 
-    opens_still : (d : List ℕ) → MayStand S none.next d → OpensAs S m d
-    opens_still d may =
-        let found = still_found none.next none.opens.1 may.found may.may in
-        subst (λ (x : Found (List ℕ)). OpensAs S (stored_in x) d) found (record { store = may.store; stands = may.is; opens = may.opens; last_is = may.last_is })
+module _ (S : List ℕ → Type 0) (command : CommandLine) (given : List ℕ) (rs : List Replied) (m : FileMachine) (v w : DiskView) (sink sink_now : SinkView)
+    (running : m.state ≡ Running) (law : ComesByMap command) (through : Through (command_of command))
+    (keeps : (runs : RunsByFiles S rs m v w) → KeepsBytes command (all_lines S rs m v w runs) m (last S rs m v w runs) v w) where
+  -- lines were run
+  said_answers : (ending : Option Ending) → Says command given ending rs sink sink_now → RunsByFiles S rs m v w → AnswersByMap S command given rs ending m v w sink sink_now
+  said_answers ending says runs =
+      let are : AreLinesOf (command_of command) (all_lines S rs m v w runs) = (refl, says.follow runs.files) in
+      let comes = law (all_lines S rs m v w runs) (all_steps S rs m v w runs) m runs.next running are (ran S rs m v w runs) in
+      record {
+        first = replies.Opened runs.files;
+        begins = tt;
+        next = last S rs m v w runs;
+        comes = comes;
+        gave = says.gave runs.files;
+        ended = says.ended runs.files;
+        found = says.found runs.files m (last S rs m v w runs) comes;
+        wrote = says.wrote runs.files m (last S rs m v w runs) comes;
+        left = (runs.stands, crash_by S rs m v w runs running (command_of command) are through);
+        bytes = keeps runs;
+      }
 
-    fails_so : IsTrue (fails refusal)
-    fails_so =
-        let is : none.refusal ≡ refusal = (let both : Some (Refused none.refusal) ≡ Some (Refused refusal) = sym none.ending_is in cc) in
-        subst (λ (r : Refusal). IsTrue (fails r)) is (refusal_fails none.refusal none.opens.0)
-
-    -- nothing was written, or room was made
-    unopened_store : StaysUnopened (Some (Refused refusal)) m v.content w.content
-    unopened_store = ((refusal, (refl, fails_so)), by (none.bytes was.was.0 was.was.1))
-      where
-        same_refusal : none.refusal ≡ refusal
-        same_refusal = (let both : Some (Refused none.refusal) ≡ Some (Refused refusal) = sym none.ending_is in cc)
-
-        by : KnownWith w.content (LeavesUnopened none.refusal (unopened m store) none.next was.was.0)
-            → (◌≡◌ {A = Option Ending} (Some (Refused refusal)) (Some (Refused DiskWrite)))
-            ⊎ KnownWith v.content (λ old. (w.content ≡ Some old) ⊎ OpensStore m old (λ opened. IsStore opened w.content))
-        by (new, known, inl (stays, is)) = inr (was.was.0, was.was.1, inl (known ∙ ap (λ (bytes : List ℕ). Some bytes) is))
-        by (new, known, inr (found, (may, inl (after, (before, (encodes, (freed, (frees, gates, right)))))))) = inr (
-          was.was.0,
-          was.was.1,
-          inr (record {
-            store = store;
-            right = was.was.2;
-            opened = after;
-            room = (
-              freed,
-              subst (λ (x : Found (List ℕ)). FreesTo (NamesNeed of_files x) freed store after) may
-                  (subst (λ (s : Store). FreesTo (NamesNeed of_files found) freed s after) (store_once was.was.0 before store encodes was.was.2) frees),
-            );
-            has = (new, known, right);
-          }),
-        )
-        by (new, known, inr (found, (may, inr (write, began)))) = inl (ap (λ (r : Refusal). Some (Refused r)) (sym same_refusal ∙ write))
-
-    pub unopened_answers : AnswersByMap S command given (Some (Refused refusal)) m v w sink sink_now
-    unopened_answers = record {
-      by_map = inr (refusal, (refl, fails_so));
-      wrote = nothing_written command given m refusal sink sink_now same;
-      store = inr unopened_store;
-      left = record {
-        content = (
-          none.leaves.content.0,
-          none.leaves.content.1,
-          refused_left S command given m refusal none.leaves.content.0
-              (opens_still none.leaves.content.0 none.leaves.content.2),
-        );
-        images = λ d image. elim (none.leaves.images d image) [
-          | inl was ↦ inr ((Refused refusal, refl, not_sink refusal), was)
-          | inr may ↦ inl (refused_left S command given m refusal d (opens_still d may))
-        ];
-      };
-      crash = record {
-        now = λ d image. elim (none.crash.now d image) [ inl was ↦ inl was | inr found ↦ inr (inl (as_first d found)) ];
-        since = λ t d within below image. elim (none.crash.since t d within image) [
-          | inl was ↦ inl was
-          | inr (inl here) ↦ inl (v.counts_now t d within here)
-          | inr (inr found) ↦ inr (inl (as_first d found))
-        ];
-      };
-    }
-
-  -- it was, and nothing was asked of it
-  module _ (through : ListsThrough) (fails_so : IsTrue (fails refusal)) (runs : RunsByFiles S [] (unopened m store) v w) where
-    still : AtEnd S [] m store v w runs (λ x. x ≡ (unopened m store).now)
-    still x may =
-        let at : MayBeFound of_files runs.opened.state runs.opened.now x = subst (λ (e : FileDesk). MayBeFound of_files e.machine.state e.machine.now x) runs.lines_are.1 may in
+  -- none was
+  module _ (refusal : Refusal) (none : rs ≡ []) (same : sink_now.written ≡ sink.written) where
+    -- but the store was opened
+    opened_still : (runs : RunsByFiles S rs m v w) → (x : Found (List ℕ)) → MayBeFound of_files (last S rs m v w runs).state (last S rs m v w runs).now x → x ≡ m.now
+    opened_still runs x may =
+        let none_ran = subst (λ (l : List Replied). Lines of_files l runs.steps (desk runs.opened) runs.next) none runs.lines_are in
+        let at : MayBeFound of_files runs.opened.state runs.opened.now x = subst (λ (e : FileDesk). MayBeFound of_files e.machine.state e.machine.now x) none_ran.1 may in
         let is : x ≡ runs.opened.now =
         subst (λ (state : RunState (List ℕ)). MayBeFound of_files state runs.opened.now x) (ap (λ (n : FileMachine). n.state) runs.opens.others) at in
-        is ∙ ap (λ (n : FileMachine). n.now) runs.opens.others ∙ runs.opens.may tt
+        is ∙ ap (λ (n : FileMachine). n.now) runs.opens.others
+        ∙ subst (λ (state : RunState (List ℕ)). MayBeFound of_files state m.now runs.opens.found) running (runs.opens.may tt)
 
-    leaves : AtEnd S [] m store v w runs (λ x. (d : List ℕ) → OpensAs S (stored_in x) d → IsLeftAs S command given m (Some (Refused refusal)) d)
-    leaves x may d opens =
-        refused_left S command given m refusal d (subst (λ (y : Found (List ℕ)). OpensAs S (stored_in y) d) (still x may) opens)
+    no_line_answers : IsTrue (fails refusal) → RunsByFiles S rs m v w → AnswersByMap S command given rs (Some (Refused refusal)) m v w sink sink_now
+    no_line_answers fails_so runs =
+        let are : AreLinesOf (command_of command) (all_lines S rs m v w runs) =
+        (refl, subst (AllFollow (command_of command) (opened_line runs.files)) (sym none) tt) in
+        record {
+          first = replies.Opened runs.files;
+          begins = tt;
+          next = last S rs m v w runs;
+          comes = law (all_lines S rs m v w runs) (all_steps S rs m v w runs) m runs.next running are (ran S rs m v w runs);
+          gave = subst (λ (l : List Replied). Gave command given (opened_line runs.files ∷ l)) (sym none) (opening_gave command given (replies.Opened runs.files));
+          ended = inr fails_so;
+          found = λ x may. stays_after command given refusal m.now x (opened_still runs x may);
+          wrote = subst (λ (l : List Replied). WritesText (command_of command) (Some (Refused refusal))
+              (printed (command_of command) (given_by 0 [] (opened_line runs.files ∷ l)) (opened_line runs.files ∷ l)) sink sink_now) (sym none)
+              (opening_printed command [] sink sink_now same runs.files refusal).0;
+          left = (runs.stands, crash_by S rs m v w runs running (command_of command) are through);
+          bytes = keeps runs;
+        }
 
-    -- room was made in the store, and that is all
-    unasked_store : StaysUnopened (Some (Refused refusal)) m v.content w.content
-    unasked_store =
-        let running : runs.opened.state ≡ Running = ap (λ (n : FileMachine). n.state) runs.opens.others in
-        let at : RunsWith (last S [] m store v w runs) runs.opened.store =
-        subst (λ (e : FileDesk). RunsWith e.machine runs.opened.store) (sym runs.lines_are.1) (running, refl) in (
-          (refusal, (refl, fails_so)),
-          inr (
-            was.was.0,
-            was.was.1,
-            inr (record {
-              store = store;
-              right = was.was.2;
-              opened = runs.opened.store;
-              room = room_made S [] m store v w runs;
-              has = is_store S [] m store v w runs runs.opened.store at;
-            }),
-          ),
-        )
+    -- or it was not
+    unopened_still : (n : FileMachine) → (n ≡ m) ⊎ GivesBackSome of_files refusal m n → (x : Found (List ℕ)) → MayBeFound of_files n.state n.now x → x ≡ m.now
+    unopened_still n (inl is) x may =
+        let at : MayBeFound of_files m.state m.now x = subst (λ (k : FileMachine). MayBeFound of_files k.state k.now x) is may in
+        subst (λ (state : RunState (List ℕ)). MayBeFound of_files state m.now x) running at
+    unopened_still n (inr (stores, is, why, known)) x may =
+        let at : MayBeFound of_files (freeing of_files stores m.state) m.now x = subst (λ (k : FileMachine). MayBeFound of_files k.state k.now x) is may in
+        subst (λ (state : RunState (List ℕ)). MayBeFound of_files (freeing of_files stores state) m.now x) running at
 
-    pub unasked_answers : AnswersByMap S command given (Some (Refused refusal)) m v w sink sink_now
-    unasked_answers = record {
-      by_map = inr (refusal, (refl, fails_so));
-      wrote = nothing_written command given m refusal sink sink_now same;
-      store = inr unasked_store;
-      left = left_by S [] m store v w runs command given (Some (Refused refusal)) leaves;
-      crash = crash_by S [] m store v w runs command given (Some (Refused refusal)) leaves ListNames (refl, tt) through tt;
-    }
-
--- ---- of each map
-
--- what a command answers whose store was opened
-abbrev pub AnswersOpened : CommandLine → List ℕ → Option Ending → List Replied → DiskView → DiskView → SinkView → SinkView → Type 0
-AnswersOpened command given ending rs v w sink sink_now = (among : ByteSet) (m : Stored) (old : List ℕ) → HasNoCollisions (IsIn among)
-    → ((bytes : List ℕ) → IsSegmentOf given bytes → IsIn among bytes) → v.content ≡ Some old → (opens : OpensAs (IsIn among) m old)
-    → RunsByFiles (IsIn among) rs (unopened m opens.store) v w → AnswersByMap (IsIn among) command given ending m v w sink sink_now
-
-module _ (command : CommandLine) (given : List ℕ) (ending : Option Ending) (rs : List Replied) (v w : DiskView) (sink sink_now : SinkView) (through : ListsThrough)
-    (each : RunsEachByFiles ending rs v w) (alone : rs ≡ [] → FailsAlone ending rs v) (silent : rs ≡ [] → Silent ending rs sink sink_now)
-    (cuts : (among : ByteSet) → ((bytes : List ℕ) → IsSegmentOf given bytes → IsIn among bytes) → (m : FileMachine) → CutsAmong among rs m) where
-  -- where no line was run
-  none_ran : rs ≡ [] → AnswersEachMap command given ending v w sink sink_now
-  none_ran none old known among m distinct given_in opens =
-      by (silent none) (each among (unopened m opens.store) distinct (cuts among given_in (unopened m opens.store)) (old, known, files_begin among m old opens))
-    where
-      by : Silent ending rs sink sink_now
-          → RunsByFiles (IsIn among) rs (unopened m opens.store) v w ⊎ RefusedByFiles (IsIn among) ending rs (unopened m opens.store) v w
-          → AnswersByMap (IsIn among) command given ending m v w sink sink_now
-      by so (inl runs) =
-          let fails_so = alone none among (unopened m opens.store) distinct (cuts among given_in (unopened m opens.store)) (old, known, files_begin among m old opens) so.refusal
-          so.ending_is in
-          subst (λ (e : Option Ending). AnswersByMap (IsIn among) command given e m v w sink sink_now) (sym so.ending_is)
-          (unasked_answers (IsIn among) command given m opens.store so.refusal v w sink sink_now so.wrote (was_store (IsIn among) m v old known opens) through fails_so
-          (subst (λ (l : List Replied). RunsByFiles (IsIn among) l (unopened m opens.store) v w) none runs))
-      by so (inr refused) =
-          subst (λ (e : Option Ending). AnswersByMap (IsIn among) command given e m v w sink sink_now) (sym so.ending_is)
-          (unopened_answers (IsIn among) command given m opens.store so.refusal v w sink sink_now so.wrote (was_store (IsIn among) m v old known opens) rs
-          (subst (λ (e : Option Ending). RefusedByFiles (IsIn among) e rs (unopened m opens.store) v w) so.ending_is refused))
-
-  -- where lines were
-  answers_each : (rs ≡ []) ⊎ AnswersOpened command given ending rs v w sink sink_now → AnswersEachMap command given ending v w sink sink_now
-  answers_each (inl none) = none_ran none
-  answers_each (inr spoken) = λ old known among m distinct given_in opens.
-      elim (each among (unopened m opens.store) distinct (cuts among given_in (unopened m opens.store)) (old, known, files_begin among m old opens)) [
-        | inl runs ↦ spoken among m old distinct given_in known opens runs
-        | inr refused ↦ none_ran refused.none old known among m distinct given_in opens
-      ]
+    unopened_answers : RefusedByFiles S (Some (Refused refusal)) rs m v w → AnswersByMap S command given rs (Some (Refused refusal)) m v w sink sink_now
+    unopened_answers refused =
+        let reason : refused.refusal ≡ refusal = (let both : Some (Refused refused.refusal) ≡ Some (Refused refusal) = sym refused.ending_is in cc) in
+        let opens : Reopens 0 (Err refusal) m refused.next = subst (λ (r : Refusal). Reopens 0 (Err r) m refused.next) reason refused.opens in
+        subst (λ (l : List Replied). AnswersByMap S command given l (Some (Refused refusal)) m v w sink sink_now) (sym none) (record {
+          first = replies.Refused refusal;
+          begins = (refl, refl);
+          next = refused.next;
+          comes = law (said lines.Reopen (replies.Refused refusal) ∷ []) (opening 0 (Err refusal) ∷ []) m (desk refused.next) running (refl, tt) (
+            opening 0 (Err refusal) ∷ [],
+            [],
+            desk refused.next,
+            refl,
+            ((refused.next, (opens, refl)), ((0, (Err refusal, refl, refl)), refl)),
+            (refl, refl),
+          );
+          gave = opening_gave command given (replies.Refused refusal);
+          ended = inl (said lines.Reopen (replies.Refused refusal), refl, refl);
+          found = λ x may. stays_after command given refusal m.now x (unopened_still refused.next opens.1 x may);
+          wrote = (opening_printed command [] sink sink_now same 0 refusal).1;
+          left = (refused.leaves, refused.crash);
+          bytes = tt;
+        })
 
 -- ---- of each call
 
--- by what the command said: what is so where no line was run, what it cuts, and what it answers where lines were
-module _ (D : Type 0) (view : D → DiskView) (command : CommandLine) (given : List ℕ) (rs : List Replied) (ending : Option Ending) (old new : D) (source source_now : SourceView)
-    (sink sink_now : SinkView) (AreSo : List Replied → Type 0)
-    (says : (v : DiskView) → SpeaksAs command given ending rs v (view new) source source_now sink sink_now → Speaks AreSo ending rs v (view new) sink sink_now)
-    (through : ListsThrough) (silent : AreSo rs → rs ≡ [] → Silent ending rs sink sink_now)
-    (cuts : AreSo rs → (among : ByteSet) → ((bytes : List ℕ) → IsSegmentOf given bytes → IsIn among bytes) → (m : FileMachine) → CutsAmong among rs m)
-    (spoken : AreSo rs → (rs ≡ []) ⊎ AnswersOpened command given ending rs (view old) (view new) sink sink_now) where
-  pub answers_call : DoesCommand D view command given rs ending (view old) (view new) source source_now sink sink_now
-      → AnswersEachMap command given ending (view old) (view new) sink sink_now
-  answers_call does = elim (told D view command given rs ending (view old) (view new) source source_now sink sink_now AreSo says does) [
-    | inl are ↦ answers_each command given ending rs (view old) (view new) sink sink_now through does.by_files does.fails_alone (silent are) (cuts are) (spoken are)
-    | inr none ↦ answers_each command given ending rs (view old) (view new) sink sink_now through does.by_files does.fails_alone (λ _. none)
-        (λ among given_in m. subst (λ (l : List Replied). CutsAmong among l m) (sym none.none) (λ files opened bytes opens cut. absurd cut)) (inl none.none)
-  ]
+-- By what the command said: which lines it ran, or that it ran none.
+module _ (D : Type 0) (view : D → DiskView) (command : CommandLine) (law : ComesByMap command) (through : Through (command_of command)) (given : List ℕ) (rs : List Replied)
+    (ending : Option Ending) (old new : D) (source source_now : SourceView) (sink sink_now : SinkView)
+    (does : DoesCommand D view command given rs ending (view old) (view new) source source_now sink sink_now) (among : ByteSet) (m : FileMachine)
+    (distinct : HasNoCollisions (IsIn among)) (cuts : CutsAmong among rs m) (running : m.state ≡ Running) (known : KnownWith (view old).content (MayStand (IsIn among) m))
+    (keeps : (runs : RunsByFiles (IsIn among) rs m (view old) (view new)) → KeepsBytes command (all_lines (IsIn among) rs m (view old) (view new) runs) m
+    (last (IsIn among) rs m (view old) (view new) runs) (view old) (view new)) where
+  none_answers : Silent ending rs sink sink_now → AnswersByMap (IsIn among) command given rs ending m (view old) (view new) sink sink_now
+  none_answers silent =
+      subst (λ (e : Option Ending). AnswersByMap (IsIn among) command given rs e m (view old) (view new) sink sink_now) (sym silent.ending_is)
+      (elim (does.by_files among m distinct cuts known) [
+        | inl runs ↦ no_line_answers (IsIn among) command given rs m (view old) (view new) sink sink_now running law through keeps silent.refusal silent.none silent.wrote
+            (does.fails_alone silent.none among m distinct cuts known silent.refusal silent.ending_is) runs
+        | inr refused ↦ unopened_answers (IsIn among) command given rs m (view old) (view new) sink sink_now running law through keeps silent.refusal silent.none silent.wrote
+            (subst (λ (e : Option Ending). RefusedByFiles (IsIn among) e rs m (view old) (view new)) silent.ending_is refused)
+      ])
+
+  pub answers_call : (AreSo : List Replied → Type 0)
+      → ((v : DiskView) → SpeaksAs command given ending rs v (view new) source source_now sink sink_now → Speaks AreSo ending rs v (view new) sink sink_now)
+      → (AreSo rs → rs ≡ [] → Silent ending rs sink sink_now) → (AreSo rs → (rs ≡ []) ⊎ Says command given ending rs sink sink_now)
+      → AnswersByMap (IsIn among) command given rs ending m (view old) (view new) sink sink_now
+  answers_call AreSo speaks silent spoke =
+      elim (told D view command given rs ending (view old) (view new) source source_now sink sink_now AreSo speaks does) [
+        | inl are ↦ by are (spoke are)
+        | inr none ↦ none_answers none
+      ]
+    where
+      by : AreSo rs → (rs ≡ []) ⊎ Says command given ending rs sink sink_now → AnswersByMap (IsIn among) command given rs ending m (view old) (view new) sink sink_now
+      by are (inl none) = none_answers (silent are none)
+      by are (inr says) = elim (does.by_files among m distinct cuts known) [
+        | inl runs ↦ said_answers (IsIn among) command given rs m (view old) (view new) sink sink_now running law through keeps ending says runs
+        | inr refused ↦ none_answers (silent are refused.none)
+      ]

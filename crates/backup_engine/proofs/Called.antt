@@ -14,32 +14,9 @@ pub record Called (C : Type 0) (state : C → CoreState) (v w : DiskView) (old n
   pub last : Reads Done (state new).disk w
   pub clock : w.clock ≡ (state new).disk.clock
 
--- ---- what it starts at
-
--- the core is at this map, by a store that the content is, of which two slots are free
-pub record Starts (S : List ℕ → Type 0) (m : Stored) (image : List ℕ) (c : CoreState) : Type 0 where
-  pub store : Store
-  pub is_at : IsAt S store m c
-  pub reserve : RESERVE ≤ free_slots store.held
-  pub stands : Stands S store m.files image
-  pub told : c.disk.content ≡ Some image
-  pub whole : IndexesAll store c.known
+-- ---- what it leaves
 
 module _ (C : Type 0) (state : C → CoreState) (v w : DiskView) (old new : C) (was : Called C state v w old new) where
   -- of a disk that tells its content each image is it
   pub settled : (slots : ℕ) → IsSettled slots (state old).disk
   settled slots bytes is c image = subst (SameBefore (slot_at slots) bytes) (sym (was.durable bytes is c image)) (record { size = refl; before = λ p n within. refl })
-
-  -- Over a content that stands for a map the core is at that map.
-  pub starts : (S : List ℕ → Type 0) (m : Stored) (image : List ℕ) → v.content ≡ Some image → IsOf S m image → Starts S m image (state old)
-  starts S m image told is =
-      let begins = begins_at S m image v (state old) was.opened was.durable was.first told is in
-      let here : (state old).disk.content ≡ Some image = was.first.only.content_is ∙ told in
-      record {
-        store = begins.store;
-        is_at = begins.is_at;
-        reserve = begins.reserve;
-        stands = begins.is_at.stands.each image ((state old).disk.as_read image here);
-        told = here;
-        whole = begins.whole;
-      }

@@ -11,7 +11,6 @@ use Rattle.gc_sweep.specs.declared.sweep.Sweep.{Sweep}
 use Rattle.gc_sweep.specs.Beginning.{Begins}
 use Rattle.gc_sweep.specs.UnderWay.{IsSweeping, sources_before}
 use Rattle.gc_sweep.proofs.InSlots.{IsSourceIn, stands_in}
-use Rattle.script_runner.proofs.CollectCauses.{no_end}
 use Rattle.backup_engine.proofs.CollectCounts.{HasCounted, copies_by, counted_on, freed_by, snapshot_on}
 use Rattle.store_model.proofs.Free.{same_free}
 use Rattle.store_model.proofs.Freed.{valid_freed}
@@ -29,6 +28,16 @@ use Rattle.backup_engine.proofs.NewContainers.{new_few, new_in, new_with, new_wi
 use Rattle.backup_engine.proofs.Returned.{one_later}
 use Rattle.backup_engine.proofs.SweptBytes.{IsFramed, filled_with, freed_with, stage_so}
 use Rattle.backup_engine.proofs.SweptSlots.{SweptSlots, all-append, copied-append, freed-append, slots_filled, slots_freed, written-append}
+
+-- a step that did something was not at the end
+no_end : (stage : Stage) (next : Next) (freed copied : ℕ) (phase : Phase) → answer_at stage next freed copied ≡ Did phase → phase_at stage next ≡ phase_at Sweep End → ⊥
+no_end (Mark level slot) next freed copied phase is ends = cc
+no_end (Filter slot) next freed copied phase is ends = cc
+no_end Select next freed copied phase is ends = cc
+no_end Sweep (Copy source entry) freed copied phase is ends = cc
+no_end Sweep (Flush source entry) freed copied phase is ends = cc
+no_end Sweep (Release source entry) freed copied phase is ends = cc
+no_end Sweep End freed copied phase is ends = let wrong = is in cc
 
 -- ---- counts
 

@@ -9,12 +9,3 @@ frees_on last (SealContainer id kind segments ∷ rest) more s t chain first the
 frees_on last (ChangeName name change ∷ rest) more s t chain first then = frees_on last rest more (with_change name change s) t chain.1 first then
 frees_on last (FlushContainer id kind segments ∷ rest) more s t chain first then = frees_on last rest more (with_sealed id kind segments s) t chain.1 first then
 frees_on last (FreeContainer slot ∷ rest) more s t chain first then = (first.0, frees_on last rest more (with_freed slot s) t chain.1 first.1 then)
-
--- of a greater id they are so, too
-pub frees_later : (last greater : ℕ) (changes : List StoreChange) (s : Store) → last ≤ greater → FreesUpTo last changes s → FreesUpTo greater changes s
-frees_later last greater [] s more ups = tt
-frees_later last greater (SealContainer id kind segments ∷ rest) s more ups = frees_later last greater rest (with_sealed id kind segments s) more ups
-frees_later last greater (ChangeName name change ∷ rest) s more ups = frees_later last greater rest (with_change name change s) more ups
-frees_later last greater (FlushContainer id kind segments ∷ rest) s more ups = frees_later last greater rest (with_sealed id kind segments s) more ups
-frees_later last greater (FreeContainer slot ∷ rest) s more ups =
-    (λ h there. omega (arith, ups.0 h there, more), frees_later last greater rest (with_freed slot s) more ups.1)

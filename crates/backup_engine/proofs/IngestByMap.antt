@@ -1,57 +1,53 @@
 -- An `ingest` answers by the map, by the law of its lines.
-use Rattle.backup_engine.proofs.Prelude.{◌≡◌, ◌⊎◌, inl, inr, ℕ, List, [], ◌∷◌, ◌++◌, Option, Some, None, refl, sym, ◌∙◌, ap, subst, DiskView, SinkView, SourceView, Refusal, DiskWrite, Memory, Sink, Refused, stored_line, ReplyValue, ByteSet, IsIn, OpensAs, Stored, with_stored, Store, IsSegmentOf, root_of, FileMachine, ListsThrough, Replied, Found, RunState, MayBeFound, of_files, stored_in, unopened, AnswersByMap, AnswersEachCall, IsLeftAs, Wrote, CutsAmong, RunsByFiles, Ingest, CanBeDone, WroteReply, Digits, IsIngest, finish_lines, pushed, push_lines, refused, said, DoesCommand, Adds, HasNoCollisions}
+use Rattle.backup_engine.proofs.Prelude.{◌+◌, length, ◌≡◌, ◌⊎◌, inl, inr, ℕ, List, [], ◌∷◌, ◌++◌, Option, Some, None, refl, sym, ◌∙◌, ap, subst, Appended, DiskView, SinkView, SourceView, Refusal, Memory, Sink, Refused, stored_line, ReplyValue, FileMachine, Replied, DoesCommand, WroteReply, Digits, IsFirstOf, IsIngest, finish_lines, push_lines, pushed, refused, said}
 use Rattle.std.proofs.lemmas.List.{append-nil}
+use Rattle.dd_io.specs.Flow.{AppendedPart}
 use Rattle.reply_text.specs.declared.ending.Ending.{Ending}
 use Rattle.reply_text.specs.declared.ending.Ending.TheVariants.{Source}
 use Rattle.script_lines.specs.Grammar as lines
+use Rattle.script_lines.specs.Grammar.{LineValue}
 use Rattle.script_lines.specs.ReplyValue as replies
-use Rattle.store_machine.specs.Ingests.{Ingested, IngestsByMap, IngestsClash, IngestsThrough, IsPut}
+use Rattle.store_model.specs.Trees.{root_of}
+use Rattle.store_machine.specs.Ingests.{EndsCommitting, Ingested, IngestsByMap, IngestsThrough, IsPut}
 use Rattle.store_machine.specs.Commands as machine
-use Rattle.backup_engine.specs.AnswersByMap.{EndsBy}
+use Rattle.store_machine.specs.Commands.{Follows, desk, given_by, printed}
+use Rattle.backup_engine.specs.AnswersByMap.{AnswersEachCall, Gave, IsAfter}
+use Rattle.backup_engine.specs.ByFiles.{CutsAmong}
+use Rattle.script_runner.specs.LinesAreFileRuns.{IsCutBy}
+use Rattle.store_model.specs.Collisions.{ByteSet, IsIn}
+use Rattle.store_model.specs.Standing.{IsSegmentOf}
+use Rattle.store_machine.specs.Legal.{with_name}
+use Rattle.store_machine.specs.Machine.{Found, RunState}
+use Rattle.store_machine.specs.Opening.{MayBeFound}
+use Rattle.store_machine.specs.Values.{of_files}
+use Rattle.refusals.specs.declared.refusal.Refusal.TheVariants.{DiskWrite}
+use Rattle.script_lines.specs.Grammar.{pushed_bytes}
+use Rattle.std.proofs.Common.{append_assoc}
+use Rattle.backup_engine.specs.Line.{Ingest}
 use Rattle.backup_engine.specs.Singles.{begun}
-use Rattle.backup_engine.proofs.AnswersByMap.{AnswersOpened, answers_call, is_write}
+use Rattle.backup_engine.proofs.AnswersByMap.{Says, answers_call, opened_line, told}
+use Rattle.backup_engine.proofs.IngestCuts.{put_cut}
+use Rattle.backup_engine.proofs.NoneCut.{ArePlain, none_cuts}
 use Rattle.backup_engine.proofs.Ran.{Silent}
 use Rattle.backup_engine.proofs.SinglesRun.{ingest_memory}
-use Rattle.backup_engine.proofs.IngestCuts.{put_cut}
-use Rattle.backup_engine.proofs.IngestMade.{done_adds, ingested, opened, refused_adds, refused_by, room, source_adds}
-use Rattle.backup_engine.proofs.IngestTails.{ArePut, Commit, Finish, IsCommit, IsTail, Nothing, Push, Tail, commit_last, last_push, push_tail, put_follows, put_lines, pushes_give, pushes_last, tail_end}
-use Rattle.backup_engine.proofs.Rested.{CanBeIf, WasStore, all_lines, answers_by, as_found, last, rested, was_store}
+use Rattle.backup_engine.proofs.IngestTails.{ArePut, Commit, Finish, IsTail, Nothing, Push, Tail, commit_last, ends_with, last_push, push_tail, put_follows, put_lines, pushes_give, pushes_last, tail_end}
 
 module _ (given name : List ℕ) where
-  abbrev Now : Stored → Found (List ℕ)
-  Now m = record { names = m.files; last = m.last }
-
-  -- ---- what is found
-
-  module _ (S : List ℕ → Type 0) (m : Stored) where
-    put_after : (x : Found (List ℕ)) (d : List ℕ) → IsPut name given (Now m) x → OpensAs S (stored_in x) d → OpensAs S (with_stored m name given) d
-    put_after x d put opens = subst (λ (y : Found (List ℕ)). OpensAs S (stored_in y) d) put.0 opens
-
-    put_can : (x : Found (List ℕ)) → IsPut name given (Now m) x → CanBeDone (Ingest name) given m
-    put_can x (is, named, few, room, number) = (named, few)
-
-    -- only a write that failed leaves a doubt
-    refused_put : (refusal : Refusal) (x : Found (List ℕ)) (d : List ℕ) → (((refusal ≡ DiskWrite) → ⊥) → x ≡ Now m) → (x ≡ Now m) ⊎ IsPut name given (Now m) x
-        → OpensAs S (stored_in x) d → IsLeftAs S (Ingest name) given m (Some (Refused refusal)) d
-    refused_put DiskWrite x d sure (inl is) opens = inl (as_found S x (Now m) d is opens)
-    refused_put DiskWrite x d sure (inr put) opens = inr (put_can x put, put_after x d put opens)
-    refused_put refusal x d sure may opens = as_found S x (Now m) d (sure (λ is. cc)) opens
-
   -- ---- how it ended
 
   -- the lines come to this ending
-  abbrev EndsAs : Option Ending → Tail → Type 0
-  EndsAs None (Commit (replies.Committed a sequence)) = Unit {0}
-  EndsAs (Some Sink) (Commit (replies.Committed a sequence)) = Unit {0}
-  EndsAs (Some Source) Nothing = Unit {0}
-  EndsAs (Some (Refused refusal)) (Push digits reason) = refusal ≡ reason
-  EndsAs (Some (Refused refusal)) (Finish reason) = refusal ≡ reason
-  EndsAs (Some (Refused refusal)) (Commit (replies.Refused reason)) = refusal ≡ reason
-  EndsAs ending tail = ⊥
+  abbrev TailEnds : Option Ending → Tail → Type 0
+  TailEnds None (Commit (replies.Committed a sequence)) = Unit {0}
+  TailEnds (Some Sink) (Commit (replies.Committed a sequence)) = Unit {0}
+  TailEnds (Some Source) Nothing = Unit {0}
+  TailEnds (Some (Refused refusal)) (Push digits reason) = refusal ≡ reason
+  TailEnds (Some (Refused refusal)) (Finish reason) = refusal ≡ reason
+  TailEnds (Some (Refused refusal)) (Commit (replies.Refused reason)) = refusal ≡ reason
+  TailEnds ending tail = ⊥
 
   -- which lines they are, unless none was run
   abbrev IsSo : Option Ending → List Replied → Type 0
-  IsSo ending rs = (rs ≡ []) ⊎ ((tail : Tail) × (ArePut given name rs tail × EndsAs ending tail))
+  IsSo ending rs = (rs ≡ []) ⊎ ((tail : Tail) × (ArePut given name rs tail × TailEnds ending tail))
 
   stored_tail : (pushes : List Digits) (sequence : ℕ) (rs : List Replied) → pushed pushes ≡ given
       → rs ≡ begun ∷ finish_lines pushes ++ said (lines.Commit 0 name) (replies.Committed 0 sequence) ∷ [] → ArePut given name rs (Commit (replies.Committed 0 sequence))
@@ -78,114 +74,149 @@ module _ (given name : List ℕ) where
       )
   ingest_so (Some ending) source source_now rs is = absurd is
 
-  -- ---- what it answers
+  -- after pushes a line may come
+  goes_on : (prev : Replied) (count : ℕ) (pushes : List Digits) → (line : LineValue) × Follows (machine.Ingest name) prev.reply line
+      → (line : LineValue) × Follows (machine.Ingest name) (last_push given name prev count pushes).reply line
+  goes_on prev count [] may = may
+  goes_on prev count (d ∷ more) may =
+      goes_on (said (lines.Push 0 d.digits) (replies.Pushed 0 (count + length (pushed_bytes d.digits)))) (count + length (pushed_bytes d.digits)) more (lines.Finish 0, inr refl)
 
-  module _ (S : List ℕ → Type 0) (m : Stored) (store : Store) (v w : DiskView) (was : WasStore m store v) (ingests : IngestsByMap) (clashes : IngestsClash)
-      (through : IngestsThrough) (distinct : HasNoCollisions S) (given_in : (bytes : List ℕ) → IsSegmentOf given bytes → S bytes) where
-    module _ (pushes : List Digits) (tail : Tail) (is : IsTail given name pushes tail) (runs : RunsByFiles S (put_lines given name pushes tail) (unopened m store) v w) where
-      abbrev rs : List Replied
-      rs = put_lines given name pushes tail
+  module _ (pushes : List Digits) (tail : Tail) (is : IsTail given name pushes tail) where
+    abbrev all : ℕ → List Replied
+    all files = opened_line files ∷ put_lines given name pushes tail
 
-      abbrev all : List Replied
-      all = all_lines S rs m store v w runs
+    gives : (files : ℕ) → given_by 0 [] (all files) ≡ pushed pushes
+    gives files = pushes_give given name pushes tail 0 pushes []
 
-      abbrev end : FileMachine
-      end = last S rs m store v w runs
-
-      -- where its last line is not the name's the map stays
-      still : (IsCommit given name tail → ⊥) → (x : Found (List ℕ)) → MayBeFound of_files end.state end.now x → x ≡ Now m
-      still none x may = elim ((ingested given name S m store v w was ingests pushes tail is runs).found x may) [
-        | inl same ↦ same
-        | inr put ↦ absurd (pushes_last given name pushes tail begun 0 pushes (λ no. cc) none put.1)
-      ]
-
-      pub ingest_answers : (ending : Option Ending) (sink sink_now : SinkView) → CanBeIf (Ingest name) given m ending
-          → ((x : Found (List ℕ)) → MayBeFound of_files end.state end.now x → (d : List ℕ) → OpensAs S (stored_in x) d → IsLeftAs S (Ingest name) given m ending d)
-          → EndsBy (Ingest name) given m v.content w.content ending → Wrote (Ingest name) given m ending sink sink_now
-          → Adds name given ending (opened given name S m store v w was ingests pushes tail is runs) w.content → AnswersByMap S (Ingest name) given ending m v w sink sink_now
-      ingest_answers ending sink sink_now can leaves by_map wrote adds =
-          answers_by S rs m store v w runs (Ingest name) given ending leaves was (machine.Ingest name) (refl, put_follows given name pushes tail runs.files) (through name) sink
-          sink_now can (inl by_map) wrote
-          (opened given name S m store v w was ingests pushes tail is runs, (room given name S m store v w was ingests pushes tail is runs, adds))
-
-    -- the name was asked for
-    module _ (pushes : List Digits) (reply : ReplyValue) (is : pushed pushes ≡ given) (runs : RunsByFiles S (put_lines given name pushes (Commit reply)) (unopened m store) v w)
+    -- what was pushed comes first of the file
+    first : IsFirstOf (pushed pushes) given
+    first = by tail is
       where
-        abbrev put_all : List Replied
-        put_all = all_lines S (put_lines given name pushes (Commit reply)) m store v w runs
+        by : (t : Tail) → IsTail given name pushes t → IsFirstOf (pushed pushes) given
+        by Nothing is = is
+        by (Push digits refusal) (rest, is) = (pushed_bytes digits ++ rest, is ∙ append_assoc (pushed pushes) (pushed_bytes digits) rest)
+        by (Finish refusal) is = ([], sym is ∙ sym (append-nil (pushed pushes)))
+        by (Commit reply) is = ([], sym is ∙ sym (append-nil (pushed pushes)))
 
-        abbrev put_end : FileMachine
-        put_end = last S (put_lines given name pushes (Commit reply)) m store v w runs
+    commits : (files : ℕ) → EndsCommitting name (all files) → pushed pushes ≡ given
+    commits files end = by tail is end
+      where
+        by : (t : Tail) → IsTail given name pushes t → EndsCommitting name (opened_line files ∷ put_lines given name pushes t) → pushed pushes ≡ given
+        by (Commit reply) is end = is
+        by Nothing is end = absurd (pushes_last given name pushes Nothing begun 0 pushes (λ no. cc) (λ none. none) end)
+        by (Push digits refusal) is end = absurd (pushes_last given name pushes (Push digits refusal) begun 0 pushes (λ no. cc) (λ none. none) end)
+        by (Finish refusal) is end = absurd (pushes_last given name pushes (Finish refusal) begun 0 pushes (λ no. cc) (λ none. none) end)
 
-        abbrev commit : Replied
-        commit = said (lines.Commit 0 name) reply
+    put_gave : (files : ℕ) → Gave (Ingest name) given (all files)
+    put_gave files = (subst (λ (g : List ℕ). IsFirstOf g given) (sym (gives files)) first, λ end. gives files ∙ commits files end)
 
-        last_is : machine.last_of put_all ≡ Some commit
-        last_is = commit_last given name pushes reply begun 0 pushes
+    module _ (files : ℕ) (m n : FileMachine) (comes : Ingested name (given_by 0 [] (all files)) (all files) m n) (x : Found (List ℕ))
+        (may : MayBeFound of_files n.state n.now x) where
+      -- the name has the file
+      after : EndsCommitting name (all files) → IsPut name (given_by 0 [] (all files)) m.now x → x ≡ with_name of_files name given m.now
+      after end put = put.0 ∙ ap (λ (g : List ℕ). with_name of_files name g m.now) (gives files ∙ commits files end)
 
-        so : Ingested name given put_all (rested m store) put_end
-        so =
-            subst (λ (g : List ℕ). Ingested name g put_all (rested m store) put_end) (pushes_give given name pushes (Commit reply) 0 pushes [] ∙ is)
-            (ingested given name S m store v w was ingests pushes (Commit reply) is runs)
+      done_after : (one : Replied) → machine.last_of (all files) ≡ Some one → machine.IsDone (machine.Ingest name) one.reply → one.line ≡ lines.Commit 0 name
+          → x ≡ with_name of_files name given m.now
+      done_after one last done line =
+          let so = comes.done (one, last, done) in
+          let now : x ≡ n.now = subst (λ (state : RunState (List ℕ)). MayBeFound of_files state n.now x) so.1 may in
+          now ∙ so.0.0 ∙ ap (λ (g : List ℕ). with_name of_files name g m.now) (gives files ∙ commits files (one, last, line))
 
-        committed_left : machine.IsDone (machine.Ingest name) reply → (x : Found (List ℕ)) → MayBeFound of_files put_end.state put_end.now x → (d : List ℕ)
-            → OpensAs S (stored_in x) d → OpensAs S (with_stored m name given) d
-        committed_left done x may d opens =
-            let put = so.done (commit, last_is, done) in
-            let now : x ≡ put_end.now = subst (λ (state : RunState (List ℕ)). MayBeFound of_files state put_end.now x) put.1 may in
-            put_after S m put_end.now d put.0 (as_found S x put_end.now d now opens)
+      -- only a write that failed leaves a doubt
+      refused_after : (refusal : Refusal) → machine.EndsRefused refusal (all files) → IsAfter (Ingest name) given (Some (Refused refusal)) m.now x
+      refused_after refusal end = by refusal (comes.found x may) (λ other. (comes.refused refusal end).1 other x may) refl
+        where
+          by : (r : Refusal) → (x ≡ m.now) ⊎ (IsPut name (given_by 0 [] (all files)) m.now x × EndsCommitting name (all files)) → (((refusal ≡ DiskWrite) → ⊥) → x ≡ m.now)
+              → r ≡ refusal → IsAfter (Ingest name) given (Some (Refused r)) m.now x
+          by DiskWrite (inl same) sure is = inl same
+          by DiskWrite (inr (put, commits)) sure is = inr (after commits put)
+          by r maybe sure is = sure (λ write. let both : r ≡ DiskWrite = is ∙ write in cc)
 
-        committed_can : machine.IsDone (machine.Ingest name) reply → CanBeDone (Ingest name) given m
-        committed_can done = put_can S m put_end.now (so.done (commit, last_is, done)).0
+      none_after : ((EndsCommitting name (all files)) → ⊥) → x ≡ m.now
+      none_after none = elim (comes.found x may) [ inl same ↦ same | inr put ↦ absurd (none put.1) ]
 
-        uncommitted_left : (refusal : Refusal) → reply ≡ replies.Refused refusal → (x : Found (List ℕ)) → MayBeFound of_files put_end.state put_end.now x → (d : List ℕ)
-            → OpensAs S (stored_in x) d → IsLeftAs S (Ingest name) given m (Some (Refused refusal)) d
-        uncommitted_left refusal refuses x may d opens =
-            refused_put S m refusal x d (λ other. (so.refused refusal (commit, last_is, refuses)).1 other x may)
-            (elim (so.found x may) [ inl same ↦ inl same | inr put ↦ inr put.0 ])
-            opens
+  -- its last line was done, and its reply is what is printed
+  module _ (pushes : List Digits) (is : pushed pushes ≡ given) (a sequence : ℕ) where
+    abbrev done_tail : Tail
+    done_tail = Commit (replies.Committed a sequence)
 
-    same_left : (refusal : Refusal) (d : List ℕ) → OpensAs S m d → IsLeftAs S (Ingest name) given m (Some (Refused refusal)) d
-    same_left DiskWrite d is = inl is
-    same_left refusal d is = is
+    abbrev done_lines : List Replied
+    done_lines = put_lines given name pushes done_tail
 
-    -- why it was refused
-    module _ (pushes : List Digits) (tail : Tail) (is : IsTail given name pushes tail) (runs : RunsByFiles S (put_lines given name pushes tail) (unopened m store) v w)
-        (refusal : Refusal) (refuses : (tail_end given name tail (last_push given name begun 0 pushes)).reply ≡ replies.Refused refusal)
-        (sink sink_now : SinkView) (wrote : Wrote (Ingest name) given m (Some (Refused refusal)) sink sink_now) where
-      refused_answers : ((x : Found (List ℕ)) → MayBeFound of_files (end pushes tail is runs).state (end pushes tail is runs).now x → (d : List ℕ) → OpensAs S (stored_in x) d
-          → IsLeftAs S (Ingest name) given m (Some (Refused refusal)) d) → AnswersByMap S (Ingest name) given (Some (Refused refusal)) m v w sink sink_now
-      refused_answers leaves =
-          ingest_answers pushes tail is runs (Some (Refused refusal)) sink sink_now tt leaves
-          (refused_by given name S m store v w was ingests pushes tail is runs refusal refuses clashes distinct given_in) wrote
-          (refused_adds given name S m store v w was ingests pushes tail is runs refusal refuses (is_write refusal))
+    abbrev done_last : Replied
+    done_last = said (lines.Commit 0 name) (replies.Committed a sequence)
 
-    -- by the ending
-    put_answers : (ending : Option Ending) (tail : Tail) → EndsAs ending tail → (pushes : List Digits) → IsTail given name pushes tail
-        → RunsByFiles S (put_lines given name pushes tail) (unopened m store) v w → (sink sink_now : SinkView)
-        → Wrote (Ingest name) given m ending sink sink_now → AnswersByMap S (Ingest name) given ending m v w sink sink_now
-    put_answers None (Commit (replies.Committed a sequence)) ends pushes is runs sink sink_now wrote =
-        ingest_answers pushes (Commit (replies.Committed a sequence)) is runs None sink sink_now (committed_can pushes (replies.Committed a sequence) is runs tt)
-        (committed_left pushes (replies.Committed a sequence) is runs tt) (committed_can pushes (replies.Committed a sequence) is runs tt) wrote
-        (done_adds given name S m store v w was ingests pushes (Commit (replies.Committed a sequence)) is runs refl tt)
-    put_answers (Some Sink) (Commit (replies.Committed a sequence)) ends pushes is runs sink sink_now wrote =
-        ingest_answers pushes (Commit (replies.Committed a sequence)) is runs (Some Sink) sink sink_now (committed_can pushes (replies.Committed a sequence) is runs tt)
-        (committed_left pushes (replies.Committed a sequence) is runs tt) (committed_can pushes (replies.Committed a sequence) is runs tt) wrote
-        (done_adds given name S m store v w was ingests pushes (Commit (replies.Committed a sequence)) is runs refl tt)
-    put_answers (Some Source) Nothing ends pushes is runs sink sink_now wrote =
-        ingest_answers pushes Nothing is runs (Some Source) sink sink_now tt
-        (λ x may d opens. as_found S x (Now m) d (still pushes Nothing is runs (λ none. none) x may) opens) (name, refl) wrote
-        (source_adds given name S m store v w was ingests pushes Nothing is runs refl)
-    put_answers (Some (Refused refusal)) (Push digits reason) ends pushes is runs sink sink_now wrote =
-        refused_answers pushes (Push digits reason) is runs refusal (ap replies.Refused (sym ends)) sink sink_now wrote
-        (λ x may d opens. same_left refusal d (as_found S x (Now m) d (still pushes (Push digits reason) is runs (λ none. none) x may) opens))
-    put_answers (Some (Refused refusal)) (Finish reason) ends pushes is runs sink sink_now wrote =
-        refused_answers pushes (Finish reason) is runs refusal (ap replies.Refused (sym ends)) sink sink_now wrote
-        (λ x may d opens. same_left refusal d (as_found S x (Now m) d (still pushes (Finish reason) is runs (λ none. none) x may) opens))
-    put_answers (Some (Refused refusal)) (Commit (replies.Refused reason)) ends pushes is runs sink sink_now wrote =
-        refused_answers pushes (Commit (replies.Refused reason)) is runs refusal (ap replies.Refused (sym ends)) sink sink_now wrote
-        (uncommitted_left pushes (replies.Refused reason) is runs refusal (ap replies.Refused (sym ends)))
-    put_answers ending tail ends pushes is runs sink sink_now wrote = absurd ends
+    done_is_last : (files : ℕ) → machine.last_of (opened_line files ∷ done_lines) ≡ Some done_last
+    done_is_last files = commit_last given name pushes (replies.Committed a sequence) begun 0 pushes
+
+    done_printed : (files : ℕ) (m n : FileMachine) → Ingested name (given_by 0 [] (opened_line files ∷ done_lines)) (opened_line files ∷ done_lines) m n
+        → printed (machine.Ingest name) (given_by 0 [] (opened_line files ∷ done_lines)) (opened_line files ∷ done_lines) ≡ stored_line name (root_of given)
+    done_printed files m n comes =
+        (comes.done (done_last, done_is_last files, tt)).2 ∙ ap (λ (g : List ℕ). stored_line name (root_of g)) (gives pushes done_tail is files ∙ is)
+
+    done_says : (sink sink_now : SinkView) → WroteReply (stored_line name (root_of given)) None sink sink_now → Says (Ingest name) given None done_lines sink sink_now
+    done_says sink sink_now wrote = record {
+      follow = put_follows given name pushes done_tail;
+      gave = put_gave pushes done_tail is;
+      ended = λ files. (done_last, done_is_last files, tt);
+      found = λ files m n comes x may. done_after pushes done_tail is files m n comes x may done_last (done_is_last files) tt refl;
+      wrote = λ files m n comes. subst (Appended sink.written sink_now.written) (sym (done_printed files m n comes)) wrote;
+    }
+
+    unwritten_says : (sink sink_now : SinkView) → WroteReply (stored_line name (root_of given)) (Some Sink) sink sink_now
+        → Says (Ingest name) given (Some Sink) done_lines sink sink_now
+    unwritten_says sink sink_now wrote = record {
+      follow = put_follows given name pushes done_tail;
+      gave = put_gave pushes done_tail is;
+      ended = λ files. (done_last, done_is_last files, tt);
+      found = λ files m n comes x may. done_after pushes done_tail is files m n comes x may done_last (done_is_last files) tt refl;
+      wrote = λ files m n comes. subst (AppendedPart sink.written sink_now.written) (sym (done_printed files m n comes)) wrote;
+    }
+
+  -- it was refused
+  refused_says : (pushes : List Digits) (tail : Tail) → IsTail given name pushes tail → (refusal : Refusal)
+      → (tail_end given name tail (last_push given name begun 0 pushes)).reply ≡ replies.Refused refusal → (sink sink_now : SinkView)
+      → sink_now.written ≡ sink.written → Says (Ingest name) given (Some (Refused refusal)) (put_lines given name pushes tail) sink sink_now
+  refused_says pushes tail is refusal refuses sink sink_now same = record {
+    follow = put_follows given name pushes tail;
+    gave = put_gave pushes tail is;
+    ended = λ files. inl (tail_end given name tail (last_push given name begun 0 pushes), ends_with given name pushes tail begun 0 pushes, refuses);
+    found = λ files m n comes x may. refused_after pushes tail is files m n comes x may refusal
+        (tail_end given name tail (last_push given name begun 0 pushes), ends_with given name pushes tail begun 0 pushes, refuses);
+    wrote = λ files m n comes. same;
+  }
+
+  -- by the ending
+  put_says : (ending : Option Ending) (tail : Tail) → TailEnds ending tail → (pushes : List Digits) → IsTail given name pushes tail → (sink sink_now : SinkView)
+      → WroteReply (stored_line name (root_of given)) ending sink sink_now → Says (Ingest name) given ending (put_lines given name pushes tail) sink sink_now
+  put_says None (Commit (replies.Committed a sequence)) ends pushes is sink sink_now wrote = done_says pushes is a sequence sink sink_now wrote
+  put_says (Some Sink) (Commit (replies.Committed a sequence)) ends pushes is sink sink_now wrote = unwritten_says pushes is a sequence sink sink_now wrote
+  put_says (Some Source) Nothing ends pushes is sink sink_now wrote = record {
+    follow = put_follows given name pushes Nothing;
+    gave = put_gave pushes Nothing is;
+    ended = λ files. (last_push given name begun 0 pushes, ends_with given name pushes Nothing begun 0 pushes, goes_on begun 0 pushes (lines.Finish 0, inr refl));
+    found = λ files m n comes x may. none_after pushes Nothing is files m n comes x may (pushes_last given name pushes Nothing begun 0 pushes (λ no. cc) (λ none. none));
+    wrote = λ files m n comes. wrote;
+  }
+  put_says (Some (Refused refusal)) (Push digits reason) ends pushes is sink sink_now wrote =
+      refused_says pushes (Push digits reason) is refusal (ap replies.Refused (sym ends)) sink sink_now wrote
+  put_says (Some (Refused refusal)) (Finish reason) ends pushes is sink sink_now wrote =
+      refused_says pushes (Finish reason) is refusal (ap replies.Refused (sym ends)) sink sink_now wrote
+  put_says (Some (Refused refusal)) (Commit (replies.Refused reason)) ends pushes is sink sink_now wrote =
+      refused_says pushes (Commit (replies.Refused reason)) is refusal (ap replies.Refused (sym ends)) sink sink_now wrote
+  put_says ending tail ends pushes is sink sink_now wrote = absurd ends
+
+  -- what is cut is of the file
+  spoken_cuts : (ending : Option Ending) (source source_now : SourceView) (rs : List Replied) (sink sink_now : SinkView)
+      → IsIngest name given ending source source_now rs ⊎ Silent ending rs sink sink_now → (among : ByteSet)
+      → ((bytes : List ℕ) → IsSegmentOf given bytes → IsIn among bytes) → (m : FileMachine) → CutsAmong among rs m
+  spoken_cuts ending source source_now rs sink sink_now (inr none) among given_in m = none_cuts among rs (subst ArePlain (sym none.none) tt) m
+  spoken_cuts ending source source_now rs sink sink_now (inl are) among given_in m = elim (ingest_so ending source source_now rs are) [
+    | inl none ↦ none_cuts among rs (subst ArePlain (sym none) tt) m
+    | inr (tail, ((pushes, (is, lines_are)), ends)) ↦ λ files opened bytes opens cut.
+        given_in bytes (put_cut given name pushes tail is opened bytes (subst (λ (l : List Replied). IsCutBy l (desk opened) bytes) lines_are cut))
+  ]
 
   -- ---- of a call
 
@@ -199,35 +230,27 @@ module _ (given name : List ℕ) where
           (ap (λ (s : SinkView). s.written) none.sink_is)
     ]
 
-    same_written : (refusal : Refusal) → ending ≡ Some (Refused refusal) → sink_now.written ≡ sink.written
-    same_written refusal is = subst (λ (e : Option Ending). WroteReply (stored_line name (root_of given)) e sink sink_now) is ingest_wrote
-
     ingest_silent : IsIngest name given ending source source_now rs → rs ≡ [] → Silent ending rs sink sink_now
     ingest_silent are none =
         let memory = ingest_memory name given ending source source_now rs are none in
-        record { none = none; refusal = Memory; ending_is = memory; wrote = same_written Memory memory }
+        record {
+          none = none;
+          refusal = Memory;
+          ending_is = memory;
+          wrote = subst (λ (e : Option Ending). WroteReply (stored_line name (root_of given)) e sink sink_now) memory ingest_wrote;
+        }
 
-    ingest_spoken : IngestsByMap → IngestsClash → IngestsThrough → IsIngest name given ending source source_now rs
-        → (rs ≡ []) ⊎ AnswersOpened (Ingest name) given ending rs (view old) (view new) sink sink_now
-    ingest_spoken ingests clashes through are = elim (ingest_so ending source source_now rs are) [
+    ingest_says : IsIngest name given ending source source_now rs → (rs ≡ []) ⊎ Says (Ingest name) given ending rs sink sink_now
+    ingest_says are = elim (ingest_so ending source source_now rs are) [
       | inl none ↦ inl none
-      | inr (tail, ((pushes, (is, lines_are)), ends)) ↦ inr (λ among m first distinct given_in known opens runs.
-          put_answers (IsIn among) m opens.store (view old) (view new) (was_store (IsIn among) m (view old) first known opens) ingests clashes through distinct given_in
-          ending tail ends pushes is
-          (subst (λ (l : List Replied). RunsByFiles (IsIn among) l (unopened m opens.store) (view old) (view new)) lines_are runs) sink sink_now ingest_wrote)
+      | inr (tail, ((pushes, (is, lines_are)), ends)) ↦
+          inr (subst (λ (l : List Replied). Says (Ingest name) given ending l sink sink_now) (sym lines_are) (put_says ending tail ends pushes is sink sink_now ingest_wrote))
     ]
 
-    ingest_cuts : IsIngest name given ending source source_now rs → (among : ByteSet) → ((bytes : List ℕ) → IsSegmentOf given bytes → IsIn among bytes) → (m : FileMachine)
-        → CutsAmong among rs m
-    ingest_cuts are among given_in m = elim (ingest_so ending source source_now rs are) [
-      | inl none ↦ subst (λ (l : List Replied). CutsAmong among l m) (sym none) (λ files opened bytes opens cut. absurd cut)
-      | inr (tail, ((pushes, (is, lines_are)), ends)) ↦ subst (λ (l : List Replied). CutsAmong among l m) (sym lines_are)
-          (λ files opened bytes opens cut. given_in bytes (put_cut given name pushes tail is opened bytes cut))
-    ]
-
-pub ingest_by_map : (D : Type 0) (view : D → DiskView) → ListsThrough → IngestsByMap → IngestsClash → IngestsThrough → (name : List ℕ) → AnswersEachCall D view (Ingest name)
-ingest_by_map D view lists ingests clashes through name given rs ending old new source source_now sink sink_now does =
-    answers_call D view (Ingest name) given rs ending old new source source_now sink sink_now (IsIngest name given ending source source_now) (λ v speaks. speaks) lists
-    (ingest_silent given name D view rs ending old new source source_now sink sink_now does)
-    (ingest_cuts given name D view rs ending old new source source_now sink sink_now does)
-    (ingest_spoken given name D view rs ending old new source source_now sink sink_now does ingests clashes through) does
+pub ingest_by_map : (D : Type 0) (view : D → DiskView) → IngestsByMap → IngestsThrough → (name : List ℕ) → AnswersEachCall D view (Ingest name)
+ingest_by_map D view ingests through name given rs ending old new source source_now sink sink_now does among m distinct given_in running known =
+    answers_call D view (Ingest name) (ingests name) (through name) given rs ending old new source source_now sink sink_now does among m distinct
+    (spoken_cuts given name ending source source_now rs sink sink_now (told D view (Ingest name) given rs ending (view old) (view new) source source_now sink sink_now
+    (IsIngest name given ending source source_now) (λ v speaks. speaks) does) among given_in m) running known (λ runs. tt) (IsIngest name given ending source source_now)
+    (λ v speaks. speaks) (ingest_silent given name D view rs ending old new source source_now sink sink_now does)
+    (ingest_says given name D view rs ending old new source source_now sink sink_now does)

@@ -142,17 +142,3 @@ module _ (given name : List ℕ) where
   ends_with all tail prev count [] = tail_is_last all tail prev
   ends_with all tail prev count (d ∷ more) =
       ends_with all tail (said (lines.Push 0 d.digits) (replies.Pushed 0 (count + length (pushed_bytes d.digits)))) (count + length (pushed_bytes d.digits)) more
-
-  -- what may come of the file after a push
-  pub push_comes : (rest : List ℕ) (prev : Replied) (count : ℕ) (pushes : List Digits) → MayCome rest prev.line → MayCome rest (last_push prev count pushes).line
-  push_comes rest prev count [] may = may
-  push_comes rest prev count (d ∷ more) may =
-      push_comes rest (said (lines.Push 0 d.digits) (replies.Pushed 0 (count + length (pushed_bytes d.digits)))) (count + length (pushed_bytes d.digits)) more tt
-
-  -- what comes of it after the last line
-  pub tail_comes : (pushes : List Digits) (tail : Tail) → IsTail pushes tail → (prev : Replied) → ((rest : List ℕ) → MayCome rest prev.line)
-      → (rest : List ℕ) × ((given ≡ pushed pushes ++ rest) × MayCome rest (tail_end tail prev).line)
-  tail_comes pushes Nothing (rest, is) prev may = (rest, (is, may rest))
-  tail_comes pushes (Push digits refusal) (rest, is) prev may = (pushed_bytes digits ++ rest, (is ∙ append_assoc (pushed pushes) (pushed_bytes digits) rest, tt))
-  tail_comes pushes (Finish refusal) is prev may = ([], (sym is ∙ sym (append-nil (pushed pushes)), refl))
-  tail_comes pushes (Commit reply) is prev may = ([], (sym is ∙ sym (append-nil (pushed pushes)), refl))

@@ -16,7 +16,6 @@ pub mod Commanded
 pub mod Committed
 pub mod DeleteKept
 pub mod EarlierFrees
-pub mod EarlierIds
 pub mod FedOpens
 pub mod Feds
 pub mod Filling
@@ -86,15 +85,13 @@ pub mod WaySeals
 pub mod Ways
 pub mod WholeCall
 pub mod AnswersByMap
-mod CollectBytes
-mod CollectGiven
+pub mod CollectBytes
 pub mod CollectByMap
+pub mod IngestCuts
 pub mod NamesByMap
 pub mod NoneCut
-pub mod Rested
+pub mod AtLines
 pub mod RestoreByMap
-pub mod IngestMade
 pub mod IngestByMap
-pub mod IngestCuts
 pub mod IngestTails
 pub mod Ran

@@ -7,13 +7,14 @@ use Rattle.script_runner.proofs.DeskRuns.{passes_here}
 use Rattle.store_machine.specs.Done as done
 use Rattle.store_machine.specs.Runs.{Run}
 use Rattle.core_machine.specs.FileOpenings.{Reopens, opening}
+use Rattle.backup_engine.specs.AnswersByMap.{rested}
 use Rattle.backup_engine.specs.Lists.{IsScriptOf, ScriptLeads, ScriptPasses}
 
 -- the image can be opened as files that have P
 abbrev Leads : (List ℕ → Type 0) → (Stored → Type 0) → List ℕ → Type 0
 Leads S P image = (next : Stored) × (P next × OpensAs S next image)
 
-opens_found : (S : List ℕ → Type 0) (m : FileMachine) (d : List ℕ) (may : MayStand S m d) → OpensAs S (stored_in may.found) d
+pub opens_found : (S : List ℕ → Type 0) (m : FileMachine) (d : List ℕ) (may : MayStand S m d) → OpensAs S (stored_in may.found) d
 opens_found S m d may = record { store = may.store; stands = may.is; opens = may.opens; last_is = may.last_is }
 
 -- ---- machines that a run passes
@@ -27,7 +28,7 @@ passes_found S d (s ∷ ss) m n run (inr after) = let one = passes_found S d ss 
 
 -- ---- a script whose store was opened
 
-module _ (S : List ℕ → Type 0) (rs : List Replied) (m : Stored) (store : Store) (v w : DiskView) (runs : RunsByFiles S rs (unopened m store) v w) where
+module _ (S : List ℕ → Type 0) (rs : List Replied) (m : Stored) (store : Store) (v w : DiskView) (runs : RunsByFiles S rs (rested m store) v w) where
   abbrev script_of : IsScriptOf rs m
   script_of = record {
     store = store;
@@ -48,25 +49,25 @@ module _ (S : List ℕ → Type 0) (rs : List Replied) (m : Stored) (store : Sto
   rest = run_of of_files rs runs.steps (desk runs.opened) runs.next runs.lines_are
 
   abbrev Passed : (FileMachine → Type 0) → Type 0
-  Passed P = Passes of_files P script_of.steps (unopened m store) runs.next.machine
-      (run_of of_files (said lines.Reopen script_of.first ∷ rs) script_of.steps (desk (unopened m store)) runs.next script_of.lines_are)
+  Passed P = Passes of_files P script_of.steps (rested m store) runs.next.machine
+      (run_of of_files (said lines.Reopen script_of.first ∷ rs) script_of.steps (desk (rested m store)) runs.next script_of.lines_are)
 
   -- what is passed once it was opened is passed
   later : (P : FileMachine → Type 0) → Passes of_files P runs.steps runs.opened runs.next.machine rest → Passed P
   later P passed =
       let first : List (Stepped (List ℕ)) = opening 0 (Ok (done.Reopened runs.files)) ∷ [] in
-      let run : Run of_files first (unopened m store) runs.opened = (runs.opened, (runs.opens, refl)) in
+      let run : Run of_files first (rested m store) runs.opened = (runs.opened, (runs.opens, refl)) in
       let same : first ++ runs.steps ≡ first ++ runs.steps = refl in
-      (subst (λ (zs : List (Stepped (List ℕ))). (ran : Run of_files zs (unopened m store) runs.next.machine) × Passes of_files P zs (unopened m store) runs.next.machine ran)
+      (subst (λ (zs : List (Stepped (List ℕ))). (ran : Run of_files zs (rested m store) runs.next.machine) × Passes of_files P zs (rested m store) runs.next.machine ran)
       (sym same) (
-        run_on of_files first runs.steps (unopened m store) runs.opened runs.next.machine run rest,
-        passes_later of_files P first runs.steps (unopened m store) runs.opened runs.next.machine run rest passed,
+        run_on of_files first runs.steps (rested m store) runs.opened runs.next.machine run rest,
+        passes_later of_files P first runs.steps (rested m store) runs.opened runs.next.machine run rest passed,
       )).1
 
   pub script_leads : (d : List ℕ) → MayStand S runs.next.machine d → Leads S (ScriptLeads rs m) d
   script_leads d may = (stored_in may.found, (record { script = script_of; found = may.found; may = may.may; next_is = refl }, opens_found S runs.next.machine d may))
 
-  pub passes_of : (d : List ℕ) → IsOfFound S (unopened m store) d ⊎ Passes of_files (λ n. IsOfFound S n d) runs.steps runs.opened runs.next.machine
+  pub passes_of : (d : List ℕ) → IsOfFound S (rested m store) d ⊎ Passes of_files (λ n. IsOfFound S n d) runs.steps runs.opened runs.next.machine
       (run_of of_files rs runs.steps (desk runs.opened) runs.next runs.lines_are)
       → Leads S (ScriptPasses rs m) d
   passes_of d (inl before) = (
@@ -75,8 +76,8 @@ module _ (S : List ℕ → Type 0) (rs : List Replied) (m : Stored) (store : Sto
       record {
         script = script_of;
         found = before.0;
-        passed = passes_here of_files (λ n. MayBeFound of_files n.state n.now before.0) script_of.steps (unopened m store)
-            runs.next.machine (run_of of_files (said lines.Reopen script_of.first ∷ rs) script_of.steps (desk (unopened m store)) runs.next script_of.lines_are) before.1;
+        passed = passes_here of_files (λ n. MayBeFound of_files n.state n.now before.0) script_of.steps (rested m store)
+            runs.next.machine (run_of of_files (said lines.Reopen script_of.first ∷ rs) script_of.steps (desk (rested m store)) runs.next script_of.lines_are) before.1;
         next_is =
             refl;
       },
@@ -90,7 +91,7 @@ module _ (S : List ℕ → Type 0) (rs : List Replied) (m : Stored) (store : Sto
 -- ---- one that was not opened
 
 -- the script is its opening
-unopened_script : (rs : List Replied) (m : Stored) (store : Store) (refusal : Refusal) (next : FileMachine) → rs ≡ [] → Reopens 0 (Err refusal) (unopened m store) next
+unopened_script : (rs : List Replied) (m : Stored) (store : Store) (refusal : Refusal) (next : FileMachine) → rs ≡ [] → Reopens 0 (Err refusal) (rested m store) next
     → (script : IsScriptOf rs m) × (script.last.machine ≡ next)
 unopened_script rs m store refusal next none opens =
     subst (λ (l : List Replied). (script : IsScriptOf l m) × (script.last.machine ≡ next)) (sym none) (
@@ -114,7 +115,7 @@ unopened_script rs m store refusal next none opens =
 -- no lines lead to the map as it was
 pub no_lines : (S : List ℕ → Type 0) (rs : List Replied) (m : Stored) (d : List ℕ) → OpensAs S m d → rs ≡ [] → ScriptLeads rs m m
 no_lines S rs m d opens none =
-    let one = unopened_script rs m opens.store Memory (unopened m opens.store) none (tt, inl refl) in
+    let one = unopened_script rs m opens.store Memory (rested m opens.store) none (tt, inl refl) in
     record {
       script = one.0;
       found = record { names = m.files; last = m.last };
@@ -123,7 +124,7 @@ no_lines S rs m d opens none =
     }
 
 module _ (S : List ℕ → Type 0) (ending : Option Ending) (rs : List Replied) (m : Stored) (store : Store) (v w : DiskView)
-    (none : RefusedByFiles S ending rs (unopened m store) v w) where
+    (none : RefusedByFiles S ending rs (rested m store) v w) where
   pub refused_leads : (d : List ℕ) → MayStand S none.next d → Leads S (ScriptLeads rs m) d
   refused_leads d may =
       let one = unopened_script rs m store none.refusal none.next none.none none.opens in (

@@ -1,5 +1,5 @@
 -- What holds of calls one after the other, from what each keeps of the map that it finds.
-use Rattle.backup_engine.proofs.Prelude.{◌≡◌, ◌⊎◌, inl, inr, ℕ, zero, suc, ◌+◌, List, [], ◌∷◌, ◌++◌, Option, Some, None, refl, sym, ◌∙◌, subst, arith, AllByRecursion, KnownWith, DiskView, IsDurable, OnlyReads, Refusal, Memory, NoFile, BadName, TooLong, Full, Clash, WrongPart, DiskRead, DiskWrite, Corrupt, Missing, Numbers, NotAStore, Version, Damaged, AlreadyStore, WrongSize, Words, Sink, Script, Refused, HasNoCollisions, ByteSet, IsIn, IsOf, OpensAs, Stored, Store, Replied, Found, IsOfFound, MayStand, stored_in, unopened, files_begin, Formats, CommandLine, Format, Ingest, Restore, Collect, TableLine, Single, Check, RefusedByFiles, RunsByFiles, status_by, map_after, AnswersByMap, AnswersEachCall, IsLeftAs, LeavesAs, MayBeMeanwhile, WasNotDone, SinceStart, Does, Promise, Call}
+use Rattle.backup_engine.proofs.Prelude.{DoesCommand, ◌≡◌, ◌⊎◌, inl, inr, ℕ, zero, suc, ◌+◌, List, [], ◌∷◌, ◌++◌, Option, Some, None, refl, sym, ◌∙◌, subst, arith, AllByRecursion, KnownWith, DiskView, IsDurable, OnlyReads, Refusal, Memory, NoFile, BadName, TooLong, Full, Clash, WrongPart, DiskRead, DiskWrite, Corrupt, Missing, Numbers, NotAStore, Version, Damaged, AlreadyStore, WrongSize, Words, Sink, Script, Refused, HasNoCollisions, ByteSet, IsIn, IsOf, OpensAs, Stored, Store, Replied, Found, IsOfFound, MayStand, stored_in, Formats, CommandLine, Format, Ingest, Restore, Collect, TableLine, Single, Check, RefusedByFiles, RunsByFiles, status_by, SinceStart, Does, Promise, Call}
 use Rattle.std.proofs.Common.{replicate}
 use Rattle.refusals.specs.declared.refusal.Refusal.TheVariants.{TooMany, Collecting, NotCollecting, Stopped, Unpinned}
 use Rattle.reply_text.specs.declared.ending.Ending.{Ending}
@@ -12,11 +12,15 @@ use Rattle.store_model.specs.Standing.{IsFormatted}
 use Rattle.backup_engine.specs.Line.{Delete, Run}
 use Rattle.backup_engine.specs.Line as table
 use Rattle.backup_engine.specs.Promise.{Stands}
-use Rattle.backup_engine.specs.TopCall.{DoesNothing}
-use Rattle.backup_engine.specs.Lists.{AnswersBy, KeepsAs, KeepsCall, seen_by, NothingWritten, CallRun, IsGivenAmong, IsPromised, BeginsOfMap, LeadsBy, MayLead, MayPass, LeadsTo, Passed, Possible, RunsByTheMap, StandsEmpty, FormatBegins, LeavesPossible, AnswersByTheMap, SurvivesACrash}
-use Rattle.backup_engine.proofs.ListScripts.{no_lines, passes_of, refused_leads, script_leads}
+use Rattle.backup_engine.specs.Lists.{AnswersBy, KeepsAs, KeepsCall, seen_by, CallRun, IsGivenAmong, IsPromised, BeginsOfMap, MayLead, MayPass, LeadsTo, Passed, Possible, RunsByTheMap, RunsFromMap, StandsEmpty, FormatBegins, LeavesPossible, AnswersByTheMap, SurvivesACrash}
+use Rattle.backup_engine.specs.AnswersByMap.{AnswersByMap, AnswersEachCall, BeginsBy, IsAfter, LeavesBy, rest, rested}
+use Rattle.core_machine.specs.FileOpenings.{LeavesFound}
+use Rattle.script_lines.specs.ReplyValue.{ReplyValue}
+use Rattle.script_lines.specs.ReplyValue as replies
+use Rattle.backup_engine.proofs.AnswersByMap.{stays_after}
+use Rattle.backup_engine.proofs.ListScripts.{no_lines, opens_found, passes_of, refused_leads, script_leads}
 use Rattle.backup_engine.proofs.ListsFormat.{formats_nothing}
-use Rattle.backup_engine.proofs.Reading.{same_reads, since_began, since_start}
+use Rattle.backup_engine.proofs.Reading.{same_reads, since_start}
 
 -- ---- one call
 
@@ -35,177 +39,182 @@ promised D view c old new promise = go c.line promise
 abbrev pub OfSome : (List ℕ → Type 0) → (Stored → Type 0) → List ℕ → Type 0
 OfSome S P image = (next : Stored) × (P next × OpensAs S next image)
 
--- a line that wrote nothing may leave any map as it was
-leads_nowhere : (command : CommandLine) (given : List ℕ) (ending : Option Ending) (m : Stored) → WasNotDone ending →
-    LeadsBy command given ending m m
-leads_nowhere command given None m (e, is, other) = cc
-leads_nowhere command given (Some Sink) m (e, is, other) = absurd (other cc)
-leads_nowhere command given (Some (Refused DiskWrite)) m not_done = inl refl
-leads_nowhere command given (Some ending) m not_done = refl
+-- nothing was written, and images of before may last
+record Stays (v w : DiskView) : Type 0 where
+  content : w.content ≡ v.content
+  images : (image : List ℕ) → SinceStart v w image → v.images image
 
--- What the promise says of images is read here alone.
-module _ (S : List ℕ → Type 0) (command : CommandLine) (given : List ℕ) where
-  -- what is left of a map is one that the line may lead to
-  leads_left : (ending : Option Ending) (m : Stored) (image : List ℕ) → IsLeftAs S command given m ending image → OfSome S (LeadsBy command given ending m) image
-  leads_left None m image left = (map_after command given m, (refl, left))
-  leads_left (Some Sink) m image left = (map_after command given m, (refl, left))
-  leads_left (Some (Refused DiskWrite)) m image (inl left) = (m, (inl refl, left))
-  leads_left (Some (Refused DiskWrite)) m image (inr left) = (map_after command given m, (inr (left.0, refl), left.1))
-  leads_left (Some ending) m image left = (m, (refl, left))
+read_stays : (v w : DiskView) → OnlyReads v w → Stays v w
+read_stays v w reads = record { content = reads.content_is; images = λ image since. since_start v w reads image since }
 
-  -- and so is what a crash leaves meanwhile, but for the map as it was
-  leads_meanwhile : (ending : Option Ending) (m : Stored) (image : List ℕ) → MayBeMeanwhile S command given m ending image
-      → OpensAs S m image ⊎ OfSome S (LeadsBy command given ending m) image
-  leads_meanwhile ending m image (inl was) = inl was
-  leads_meanwhile None m image (inr done) = inr (map_after command given m, (refl, done.2))
-  leads_meanwhile (Some Sink) m image (inr done) = inr (map_after command given m, (refl, done.2))
-  leads_meanwhile (Some (Refused DiskWrite)) m image (inr done) = inr (map_after command given m, (inr (done.1, refl), done.2))
-  leads_meanwhile (Some ending) m image (inr done) = absurd done.0
-
--- what a call answers to a map that it finds: words that are no line do nothing, and a `check` reads alone
-abbrev pub Answers : (D : Type 0) → (D → DiskView) → Option TableLine → (List ℕ → Type 0) → Call → Stored → DiskView → DiskView → Type 0
-Answers D view None S c m v w = DoesNothing c.ending v w c.source c.source_now c.sink c.sink_now
-Answers D view (Some (Single command)) S c m v w = AnswersBy S command c m v w
-Answers D view (Some Run) S c m v w =
-    (store : Store) × (RunsByFiles S c.rs (unopened m store) v w ⊎ RefusedByFiles S c.ending c.rs (unopened m store) v w)
-Answers D view (Some Check) S c m v w = OnlyReads v w
-
--- what a command leaves of it, now and meanwhile
-record Leaves (S : List ℕ → Type 0) (command : CommandLine) (c : Call) (m : Stored) (v w : DiskView) : Type 0 where
-  left : LeavesAs (IsLeftAs S command c.given m c.ending) c.ending v w ⊎ NothingWritten c.ending v w
-  crash : (image : List ℕ) → SinceStart v w image → v.images image ⊎ MayBeMeanwhile S command c.given m c.ending image
-
-module _ (S : List ℕ → Type 0) (c : Call) (m : Stored) (v w : DiskView) where
-  whole_leaves : (command : CommandLine) → AnswersByMap S command c.given c.ending m v w c.sink c.sink_now → Leaves S command c m v w
-  whole_leaves command answers = record { left = inl answers.left; crash = since_began (MayBeMeanwhile S command c.given m c.ending) v w answers.crash }
-
-  command_leaves : (command : CommandLine) → AnswersBy S command c m v w → Leaves S command c m v w
-  command_leaves (Format slots) stays = record { left = inr stays.nothing; crash = λ image since. inl (stays.crash image since) }
-  command_leaves (Ingest name) keeps = whole_leaves (Ingest name) keeps
-  command_leaves (Restore name) keeps = whole_leaves (Restore name) keeps
-  command_leaves (Delete name) keeps = whole_leaves (Delete name) keeps
-  command_leaves table.List keeps = whole_leaves table.List keeps
-  command_leaves (Collect percent) keeps = whole_leaves (Collect percent) keeps
+-- what a call does to a map that it finds
+abbrev Answers : Option TableLine → (List ℕ → Type 0) → Call → Stored → DiskView → DiskView → Type 0
+Answers (Some (Single (Format slots))) S c m v w = Stays v w
+Answers (Some (Single command)) S c m v w = (store : Store) × AnswersByMap S command c.given c.rs c.ending (rested m store) v w c.sink c.sink_now
+Answers (Some Run) S c m v w = (store : Store) × (RunsByFiles S c.rs (rested m store) v w ⊎ RefusedByFiles S c.ending c.rs (rested m store) v w)
+Answers line S c m v w = Stays v w
 
 -- the maps after a call, from those that have P
-abbrev pub After : (Stored → Type 0) → Option TableLine → Call → Stored → Type 0
+abbrev After : (Stored → Type 0) → Option TableLine → Call → Stored → Type 0
 After P line c next = (m : Stored) × (P m × MayLead line c m next)
 
-module _ (S : List ℕ → Type 0) (P : Stored → Type 0) (c : Call) where
-  words_lead : (image : List ℕ) → OfSome S P image → OfSome S (After P None c) image
-  words_lead image (next, (has, of)) = (next, ((next, (has, refl)), of))
+-- those of a command
+abbrev AfterOne : (Stored → Type 0) → CommandLine → Call → Stored → Type 0
+AfterOne P command c next = (m : Stored) × (P m × IsAfter command c.given c.ending (rest m) (rest next))
 
-  same_leads : (command : CommandLine) (image : List ℕ) → WasNotDone c.ending → OfSome S P image →
-      OfSome S (After P (Some (Single command)) c) image
-  same_leads command image not_done (next, (has, of)) = (next, ((next, (has, leads_nowhere command c.given c.ending next not_done)), of))
+-- a command that was refused may leave each map as it was
+refused_stays : (command : CommandLine) (given : List ℕ) (ending : Option Ending) (refusal : Refusal) → ending ≡ Some (Refused refusal) → (m : Stored)
+    → IsAfter command given ending (rest m) (rest m)
+refused_stays command given ending refusal is m =
+    subst (λ (e : Option Ending). IsAfter command given e (rest m) (rest m)) (sym is) (stays_after command given refusal (rest m) (rest m) refl)
 
-  module _ (m : Stored) (v w : DiskView) (has : P m) (stands : Stands (OfSome S P) v) where
-    line_leads : (command : CommandLine) (image : List ℕ) → IsLeftAs S command c.given m c.ending image → OfSome S (After P (Some (Single command)) c) image
-    line_leads command image left = let one = leads_left S command c.given c.ending m image left in (one.0, ((m, (has, one.1.0)), one.1.1))
+module _ (S : List ℕ → Type 0) (P : Stored → Type 0) (c : Call) (m : Stored) (v w : DiskView) (has : P m) (stands : Stands (OfSome S P) v) where
+  -- lines of a machine that was opened
+  module _ (store : Store) (runs : RunsByFiles S c.rs (rested m store) v w) where
+    ran_leads : (d : List ℕ) → MayStand S runs.next.machine d → OfSome S (After P (Some Run) c) d
+    ran_leads d may = let led = script_leads S c.rs m store v w runs d may in (led.0, ((m, (has, led.1.0)), led.1.1))
 
-    line_leaves : (command : CommandLine) → LeavesAs (IsLeftAs S command c.given m c.ending) c.ending v w ⊎ NothingWritten c.ending v w →
-        Stands (OfSome S (After P (Some (Single command)) c)) w
-    line_leaves command (inl left) = (
-      (left.content.0, left.content.1, line_leads command left.content.0 left.content.2),
-      λ d is. elim (left.images d is) [ inl there ↦ line_leads command d there | inr (not_done, was) ↦ same_leads command d not_done (stands.1 d was) ],
+    ran_stands : Stands (OfSome S (After P (Some Run) c)) w
+    ran_stands = ((runs.stands.content.0, runs.stands.content.1, ran_leads runs.stands.content.0 runs.stands.content.2), λ d is. ran_leads d (runs.stands.images d is))
+
+    ran_crash : (d : List ℕ) → SinceStart v w d → OfSome S P d ⊎ OfSome S (MayPass (Some Run) c m) d
+    ran_crash d (inl is) = inr (passes_of S c.rs m store v w runs d (runs.crash.now d is))
+    ran_crash d (inr since) = elim (runs.crash.since v.clock d (omega arith) since.1) [
+      | inl was ↦ inl (stands.1 d (v.only_now d since.0 was))
+      | inr passed ↦ inr (passes_of S c.rs m store v w runs d passed)
+    ]
+
+  -- what might be found before is the map
+  found_before : (store : Store) (d : List ℕ) → v.images d ⊎ IsOfFound S (rested m store) d → OfSome S P d
+  found_before store d (inl was) = stands.1 d was
+  found_before store d (inr found) = (m, (has, subst (λ (x : Found (List ℕ)). OpensAs S (stored_in x) d) found.1 found.2))
+
+  unopened_crash : (store : Store) → LeavesFound S (rested m store) v w → (d : List ℕ) → SinceStart v w d → OfSome S P d
+  unopened_crash store crash d (inl is) = found_before store d (crash.now d is)
+  unopened_crash store crash d (inr since) = elim (crash.since v.clock d (omega arith) since.1) [
+    | inl was ↦ stands.1 d (v.only_now d since.0 was)
+    | inr same ↦ found_before store d same
+  ]
+
+  -- or of one that was not
+  module _ (store : Store) (none : RefusedByFiles S c.ending c.rs (rested m store) v w) where
+    none_leads : (d : List ℕ) → MayStand S none.next d → OfSome S (After P (Some Run) c) d
+    none_leads d may = let led = refused_leads S c.ending c.rs m store v w none d may in (led.0, ((m, (has, led.1.0)), led.1.1))
+
+    none_before : (d : List ℕ) → OfSome S P d → OfSome S (After P (Some Run) c) d
+    none_before d (next, (was, opens)) = (next, ((next, (was, no_lines S c.rs next d opens none.none)), opens))
+
+    none_stands : Stands (OfSome S (After P (Some Run) c)) w
+    none_stands = (
+      (none.leaves.content.0, none.leaves.content.1, none_leads none.leaves.content.0 none.leaves.content.2),
+      λ d is. elim (none.leaves.images d is) [ inl was ↦ none_before d (stands.1 d was) | inr may ↦ none_leads d may ],
     )
-    line_leaves command (inr none) = (
-      (stands.0.0, none.content ∙ stands.0.1, same_leads command stands.0.0 none.not_done stands.0.2),
-      λ d is. same_leads command d none.not_done
-          (stands.1 d (none.images d is)),
-    )
 
-    -- lines of a machine that was opened
-    module _ (store : Store) (runs : RunsByFiles S c.rs (unopened m store) v w) where
-      ran_leads : (d : List ℕ) → MayStand S runs.next.machine d → OfSome S (After P (Some Run) c) d
-      ran_leads d may = let led = script_leads S c.rs m store v w runs d may in (led.0, ((m, (has, led.1.0)), led.1.1))
+  script_leaves : Answers (Some Run) S c m v w → Stands (OfSome S (After P (Some Run) c)) w
+  script_leaves (store, inl runs) = ran_stands store runs
+  script_leaves (store, inr none) = none_stands store none
 
-      ran_stands : Stands (OfSome S (After P (Some Run) c)) w
-      ran_stands = ((runs.stands.content.0, runs.stands.content.1, ran_leads runs.stands.content.0 runs.stands.content.2), λ d is. ran_leads d (runs.stands.images d is))
+  script_crash : Answers (Some Run) S c m v w → (d : List ℕ) → SinceStart v w d → OfSome S P d ⊎ OfSome S (MayPass (Some Run) c m) d
+  script_crash (store, inl runs) d since = ran_crash store runs d since
+  script_crash (store, inr none) d since = inl (unopened_crash store none.crash d since)
 
-      ran_crash : (d : List ℕ) → SinceStart v w d → OfSome S P d ⊎ OfSome S (MayPass (Some Run) c m) d
-      ran_crash d (inl is) = inr (passes_of S c.rs m store v w runs d (runs.crash.now d is))
-      ran_crash d (inr since) = elim (runs.crash.since v.clock d (omega arith) since.1) [
-        | inl was ↦ inl (stands.1 d (v.only_now d since.0 was))
-        | inr passed ↦ inr (passes_of S c.rs m store v w runs d passed)
-      ]
+  -- a command
+  module _ (command : CommandLine) (store : Store) (is : AnswersByMap S command c.given c.rs c.ending (rested m store) v w c.sink c.sink_now) where
+    may_after : (d : List ℕ) → MayStand S is.next d → OfSome S (AfterOne P command c) d
+    may_after d may = (stored_in may.found, ((m, (has, is.found may.found may.may)), opens_found S is.next d may))
 
-    -- or of one that was not
-    module _ (store : Store) (none : RefusedByFiles S c.ending c.rs (unopened m store) v w) where
-      none_leads : (d : List ℕ) → MayStand S none.next d → OfSome S (After P (Some Run) c) d
-      none_leads d may = let led = refused_leads S c.ending c.rs m store v w none d may in (led.0, ((m, (has, led.1.0)), led.1.1))
+    of_after : (d : List ℕ) → IsOfFound S (rested m store) d ⊎ IsOfFound S is.next d
+        → OfSome S P d ⊎ OfSome S (λ x. IsAfter command c.given c.ending (rest m) (rest x)) d
+    of_after d (inl before) = inl (found_before store d (inr before))
+    of_after d (inr found) = inr (stored_in found.0, (is.found found.0 found.1, found.2))
 
-      none_before : (d : List ℕ) → OfSome S P d → OfSome S (After P (Some Run) c) d
-      none_before d (next, (was, opens)) = (next, ((next, (was, no_lines S c.rs next d opens none.none)), opens))
+    still : (refusal : Refusal) → c.ending ≡ Some (Refused refusal) → (d : List ℕ) → OfSome S P d → OfSome S (AfterOne P command c) d
+    still refusal ended d (next, (was, opens)) = (next, ((next, (was, refused_stays command c.given c.ending refusal ended next)), opens))
 
-      none_stands : Stands (OfSome S (After P (Some Run) c)) w
-      none_stands = (
-        (none.leaves.content.0, none.leaves.content.1, none_leads none.leaves.content.0 none.leaves.content.2),
-        λ d is. elim (none.leaves.images d is) [ inl was ↦ none_before d (stands.1 d was) | inr may ↦ none_leads d may ],
-      )
+    command_leaves : Stands (OfSome S (AfterOne P command c)) w
+    command_leaves = by is.first is.begins is.left
+      where
+        by : (first : ReplyValue) → BeginsBy first c.rs c.ending → LeavesBy first S (rested m store) is.next v w → Stands (OfSome S (AfterOne P command c)) w
+        by (replies.Opened files) begins (left, crash) =
+            ((left.content.0, left.content.1, may_after left.content.0 left.content.2), λ d image. may_after d (left.images d image))
+        by (replies.Refused refusal) begins (left, crash) = (
+          (left.content.0, left.content.1, may_after left.content.0 left.content.2),
+          λ d image. elim (left.images d image) [ inl was ↦ still refusal begins.1 d (stands.1 d was) | inr may ↦ may_after d may ],
+        )
+        by first begins left = absurd begins
 
-      -- what might be found before is the map
-      none_same : (d : List ℕ) → v.images d ⊎ IsOfFound S (unopened m store) d → OfSome S P d
-      none_same d (inl was) = stands.1 d was
-      none_same d (inr found) = (m, (has, subst (λ (x : Found (List ℕ)). OpensAs S (stored_in x) d) found.1 found.2))
+    command_crash : (d : List ℕ) → SinceStart v w d → OfSome S P d ⊎ OfSome S (λ x. IsAfter command c.given c.ending (rest m) (rest x)) d
+    command_crash d since = by is.first is.begins is.left since
+      where
+        by : (first : ReplyValue) → BeginsBy first c.rs c.ending → LeavesBy first S (rested m store) is.next v w → SinceStart v w d
+            → OfSome S P d ⊎ OfSome S (λ x. IsAfter command c.given c.ending (rest m) (rest x)) d
+        by (replies.Opened files) begins (left, crash) (inl now) = of_after d (crash.now d now)
+        by (replies.Opened files) begins (left, crash) (inr since) = elim (crash.since v.clock d (omega arith) since.1) [
+          | inl was ↦ inl (stands.1 d (v.only_now d since.0 was))
+          | inr found ↦ of_after d found
+        ]
+        by (replies.Refused refusal) begins (left, crash) since = inl (unopened_crash store crash d since)
+        by first begins left since = absurd begins
 
-      none_crash : (d : List ℕ) → SinceStart v w d → OfSome S P d
-      none_crash d (inl is) = none_same d (none.crash.now d is)
-      none_crash d (inr since) = elim (none.crash.since v.clock d (omega arith) since.1) [
-        | inl was ↦ stands.1 d (v.only_now d since.0 was)
-        | inr same ↦ none_same d same
-      ]
+  same_leads : (line : Option TableLine) → ((next : Stored) → MayLead line c next next) → Stays v w → Stands (OfSome S (After P line c)) w
+  same_leads line same stays = ((stands.0.0, stays.content ∙ stands.0.1, by stands.0.0 stands.0.2), λ d is. by d (stands.1 d (stays.images d (inl is))))
+    where
+      by : (image : List ℕ) → OfSome S P image → OfSome S (After P line c) image
+      by image (next, (was, of)) = (next, ((next, (was, same next)), of))
 
-    script_leaves : (store : Store) × (RunsByFiles S c.rs (unopened m store) v w ⊎ RefusedByFiles S c.ending c.rs (unopened m store) v w) →
-        Stands (OfSome S (After P (Some Run) c)) w
-    script_leaves (store, inl runs) = ran_stands store runs
-    script_leaves (store, inr none) = none_stands store none
+  -- what it leaves
+  leaves : (line : Option TableLine) → Answers line S c m v w → Stands (OfSome S (After P line c)) w
+  leaves None stays = same_leads None (λ next. refl) stays
+  leaves (Some Check) stays = same_leads (Some Check) (λ next. refl) stays
+  leaves (Some Run) runs = script_leaves runs
+  leaves (Some (Single (Format slots))) stays = same_leads (Some (Single (Format slots))) (λ next. refl) stays
+  leaves (Some (Single (Ingest name))) (store, is) = command_leaves (Ingest name) store is
+  leaves (Some (Single (Restore name))) (store, is) = command_leaves (Restore name) store is
+  leaves (Some (Single (Delete name))) (store, is) = command_leaves (Delete name) store is
+  leaves (Some (Single table.List)) (store, is) = command_leaves table.List store is
+  leaves (Some (Single (Collect percent))) (store, is) = command_leaves (Collect percent) store is
 
-    script_meanwhile : (store : Store) × (RunsByFiles S c.rs (unopened m store) v w ⊎ RefusedByFiles S c.ending c.rs (unopened m store) v w)
-        → (d : List ℕ) → SinceStart v w d → OfSome S P d ⊎ OfSome S (MayPass (Some Run) c m) d
-    script_meanwhile (store, inl runs) d since = ran_crash store runs d since
-    script_meanwhile (store, inr none) d since = inl (none_crash store none d since)
-
-    read_leaves : OnlyReads v w → Stands (OfSome S (After P None c)) w
-    read_leaves reads = ((stands.0.0, reads.content_is ∙ stands.0.1, words_lead stands.0.0 stands.0.2), λ d is. words_lead d (stands.1 d (reads.images_are d is)))
-
-    -- what it leaves
-    leaves : (D : Type 0) (view : D → DiskView) (line : Option TableLine) → Answers D view line S c m v w → Stands (OfSome S (After P line c)) w
-    leaves D view None nothing = read_leaves (same_reads v w nothing.disk_is)
-    leaves D view (Some (Single command)) answers = let left = command_leaves S c m v w command answers in line_leaves command left.left
-    leaves D view (Some Run) runs = script_leaves runs
-    leaves D view (Some Check) reads = read_leaves reads
-
-    line_crash : (command : CommandLine) (image : List ℕ) → v.images image ⊎ MayBeMeanwhile S command c.given m c.ending image
-        → OfSome S P image ⊎ OfSome S (MayPass (Some (Single command)) c m) image
-    line_crash command image (inl before) = inl (stands.1 image before)
-    line_crash command image (inr meanwhile) = elim (leads_meanwhile S command c.given c.ending m image meanwhile) [ inl was ↦ inl (m, (has, was)) | inr led ↦ inr led ]
-
-    -- and what a crash since it began leaves
-    crash_leaves : (D : Type 0) (view : D → DiskView) (line : Option TableLine) → Answers D view line S c m v w → (image : List ℕ) → SinceStart v w image →
-        OfSome S P image ⊎ OfSome S (MayPass line c m) image
-    crash_leaves D view None nothing image since = inl (stands.1 image (since_start v w (same_reads v w nothing.disk_is) image since))
-    crash_leaves D view (Some (Single command)) answers image since = let left = command_leaves S c m v w command answers in line_crash command image (left.crash image since)
-    crash_leaves D view (Some Run) runs image since = script_meanwhile runs image since
-    crash_leaves D view (Some Check) reads image since = inl (stands.1 image (since_start v w reads image since))
+  -- and what a crash since it began leaves
+  crash_leaves : (line : Option TableLine) → Answers line S c m v w → (image : List ℕ) → SinceStart v w image → OfSome S P image ⊎ OfSome S (MayPass line c m) image
+  crash_leaves None stays image since = inl (stands.1 image (stays.images image since))
+  crash_leaves (Some Check) stays image since = inl (stands.1 image (stays.images image since))
+  crash_leaves (Some Run) runs image since = script_crash runs image since
+  crash_leaves (Some (Single (Format slots))) stays image since = inl (stands.1 image (stays.images image since))
+  crash_leaves (Some (Single (Ingest name))) (store, is) image since = command_crash (Ingest name) store is image since
+  crash_leaves (Some (Single (Restore name))) (store, is) image since = command_crash (Restore name) store is image since
+  crash_leaves (Some (Single (Delete name))) (store, is) image since = command_crash (Delete name) store is image since
+  crash_leaves (Some (Single table.List)) (store, is) image since = command_crash table.List store is image since
+  crash_leaves (Some (Single (Collect percent))) (store, is) image since = command_crash (Collect percent) store is image since
 
 -- ---- calls, one after the other
 
 -- the maps after calls, from those that have P
-abbrev pub AfterAll : (Stored → Type 0) → List Call → Stored → Type 0
+abbrev AfterAll : (Stored → Type 0) → List Call → Stored → Type 0
 AfterAll P calls next = (m : Stored) × (P m × LeadsTo calls m next)
 
 weaker : (S : List ℕ → Type 0) (P Q : Stored → Type 0) (v : DiskView) → ((m : Stored) → P m → Q m) → Stands (OfSome S P) v → Stands (OfSome S Q) v
 weaker S P Q v goes ((image, told, (next, (has, of))), each) =
     ((image, told, (next, (goes next has, of))), λ d is. let one = each d is in (one.0, (goes one.0 one.1.0, one.1.1)))
 
-given_before : (S : List ℕ → Type 0) (calls : List Call) (last : Call) → AllByRecursion (IsGivenAmong S) (calls ++ last ∷ []) → AllByRecursion (IsGivenAmong S) calls
-given_before S [] last given = tt
-given_before S (c ∷ cs) last given = (given.0, given_before S cs last given.1)
+given_before : (among : ByteSet) (calls : List Call) (last : Call) → AllByRecursion (IsGivenAmong among) (calls ++ last ∷ []) → AllByRecursion (IsGivenAmong among) calls
+given_before among [] last given = tt
+given_before among (c ∷ cs) last given = (given.0, given_before among cs last given.1)
 
-given_last : (S : List ℕ → Type 0) (calls : List Call) (last : Call) → AllByRecursion (IsGivenAmong S) (calls ++ last ∷ []) → IsGivenAmong S last
-given_last S [] last given = given.0
-given_last S (c ∷ cs) last given = given_last S cs last given.1
+given_last : (among : ByteSet) (calls : List Call) (last : Call) → AllByRecursion (IsGivenAmong among) (calls ++ last ∷ []) → IsGivenAmong among last
+given_last among [] last given = given.0
+given_last among (c ∷ cs) last given = given_last among cs last given.1
+
+-- the content may be that of the machine at rest which has the map
+rested_stands : (S : List ℕ → Type 0) (m : Stored) (image : List ℕ) (opens : OpensAs S m image) → MayStand S (rested m opens.store) image
+rested_stands S m image opens = record {
+  found = record { names = m.files; last = m.last };
+  may = refl;
+  store = opens.store;
+  stands = refl;
+  is = opens.stands;
+  opens = opens.opens;
+  last_is = opens.last_is;
+}
 
 -- each command answers by the map
 pub record ByTheMap (D : Type 0) (view : D → DiskView) : Type 0 where
@@ -221,38 +230,54 @@ pub by_the_map : (D : Type 0) (view : D → DiskView) → AnswersEachCall D view
 by_the_map D view list restore delete ingest collect = record { list = list; restore = restore; delete = delete; ingest = ingest; collect = collect }
 
 module _ (D : Type 0) (view : D → DiskView) (laws : ByTheMap D view) (among : ByteSet) (apart : HasNoCollisions (IsIn among)) where
-  answers_line : (line : Option TableLine) (c : Call) (m : Stored) (v w : D) (image : List ℕ) → IsGivenAmong (IsIn among) c → (view v).content ≡ Some image →
-      OpensAs (IsIn among) m image
-      → KeepsAs D view line c (view v) (view w) → Answers D view line (IsIn among) c m (view v) (view w)
-  answers_line None c m v w image given told opens keeps = keeps.does
-  answers_line (Some (Single (Format slots))) c m v w image given told opens keeps =
-      formats_nothing among apart slots c m (view v) (view w) image given.given told opens keeps.does.0
-  answers_line (Some (Single (Ingest name))) c m v w image given told opens keeps =
-      laws.ingest name c.given c.rs c.ending v w c.source c.source_now c.sink c.sink_now keeps.does image told among m apart given.given opens
-  answers_line (Some (Single (Restore name))) c m v w image given told opens keeps =
-      laws.restore name c.given c.rs c.ending v w c.source c.source_now c.sink c.sink_now keeps.does image told among m apart given.given opens
-  answers_line (Some (Single (Delete name))) c m v w image given told opens keeps =
-      laws.delete name c.given c.rs c.ending v w c.source c.source_now c.sink c.sink_now keeps.does image told among m apart given.given opens
-  answers_line (Some (Single table.List)) c m v w image given told opens keeps =
-      laws.list c.given c.rs c.ending v w c.source c.source_now c.sink c.sink_now keeps.does image told among m apart given.given opens
-  answers_line (Some (Single (Collect percent))) c m v w image given told opens keeps =
-      laws.collect percent c.given c.rs c.ending v w c.source c.source_now c.sink c.sink_now keeps.does image told among m apart given.given opens
-  answers_line (Some Run) c m v w image given told opens keeps =
-      (opens.store, keeps.does.by_files among (unopened m opens.store) apart (given.cut m opens.store) (image, told, files_begin among m image opens))
-  answers_line (Some Check) c m v w image given told opens keeps = keeps.reads.only
+  -- from the machine at rest that the content stands for
+  module _ (c : Call) (m : Stored) (v w : D) (image : List ℕ) (given : IsGivenAmong among c) (told : (view v).content ≡ Some image) (opens : OpensAs (IsIn among) m image) where
+    abbrev At : KnownWith (view v).content (MayStand (IsIn among) (rested m opens.store))
+    At = (image, told, rested_stands (IsIn among) m image opens)
+
+    law_at : (command : CommandLine) → AnswersEachCall D view command
+        → DoesCommand D view command c.given c.rs c.ending (view v) (view w) c.source c.source_now c.sink c.sink_now
+        → AnswersByMap (IsIn among) command c.given c.rs c.ending (rested m opens.store) (view v) (view w) c.sink c.sink_now
+    law_at command law does =
+        law c.given c.rs c.ending v w c.source c.source_now c.sink c.sink_now does among (rested m opens.store) apart given.given refl At
+
+    answers_line : (line : Option TableLine) → KeepsAs D view line c (view v) (view w) → Answers line (IsIn among) c m (view v) (view w)
+    answers_line None keeps = read_stays (view v) (view w) (same_reads (view v) (view w) keeps.does.disk_is)
+    answers_line (Some Check) keeps = read_stays (view v) (view w) keeps.reads.only
+    answers_line (Some Run) keeps = (opens.store, keeps.does.by_files among (rested m opens.store) apart (given.cut (rested m opens.store)) At)
+    answers_line (Some (Single (Format slots))) keeps =
+        let none = formats_nothing (IsIn among) slots c m (view v) (view w) image told opens keeps.does.0 in
+        record { content = none.content; images = none.images }
+    answers_line (Some (Single (Ingest name))) keeps = (opens.store, law_at (Ingest name) (laws.ingest name) keeps.does)
+    answers_line (Some (Single (Restore name))) keeps = (opens.store, law_at (Restore name) (laws.restore name) keeps.does)
+    answers_line (Some (Single (Delete name))) keeps = (opens.store, law_at (Delete name) (laws.delete name) keeps.does)
+    answers_line (Some (Single table.List)) keeps = (opens.store, law_at table.List laws.list keeps.does)
+    answers_line (Some (Single (Collect percent))) keeps = (opens.store, law_at (Collect percent) (laws.collect percent) keeps.does)
+
+    -- the same, as the law of lists has it
+    command_answers : (command : CommandLine) → KeepsAs D view (Some (Single command)) c (view v) (view w) → AnswersBy (IsIn among) command c m (view v) (view w)
+    command_answers (Format slots) keeps = formats_nothing (IsIn among) slots c m (view v) (view w) image told opens keeps.does.0
+    command_answers (Ingest name) keeps = (opens.store, At, law_at (Ingest name) (laws.ingest name) keeps.does)
+    command_answers (Restore name) keeps = (opens.store, At, law_at (Restore name) (laws.restore name) keeps.does)
+    command_answers (Delete name) keeps = (opens.store, At, law_at (Delete name) (laws.delete name) keeps.does)
+    command_answers table.List keeps = (opens.store, At, law_at table.List laws.list keeps.does)
+    command_answers (Collect percent) keeps = (opens.store, At, law_at (Collect percent) (laws.collect percent) keeps.does)
+
+    run_answers : KeepsAs D view (Some Run) c (view v) (view w) → RunsFromMap (IsIn among) c m (view v) (view w)
+    run_answers keeps = (opens.store, At, keeps.does.by_files among (rested m opens.store) apart (given.cut (rested m opens.store)) At)
 
   -- the map that a call finds in the content
-  found : (P : Stored → Type 0) (c : Call) (v w : D) → IsGivenAmong (IsIn among) c → Stands (OfSome (IsIn among) P) (view v) → KeepsCall D view c (view v) (view w)
-      → (m : Stored) × (P m × KnownWith (view v).content (OpensAs (IsIn among) m) × Answers D view c.line (IsIn among) c m (view v) (view w))
-  found P c v w given ((image, told, (m, (has, opens))), each) keeps = (m, (has, (image, told, opens), answers_line c.line c m v w image given told opens keeps))
+  found : (P : Stored → Type 0) (c : Call) (v w : D) → IsGivenAmong among c → Stands (OfSome (IsIn among) P) (view v) → KeepsCall D view c (view v) (view w)
+      → (m : Stored) × (P m × KnownWith (view v).content (OpensAs (IsIn among) m) × Answers c.line (IsIn among) c m (view v) (view w))
+  found P c v w given ((image, told, (m, (has, opens))), each) keeps = (m, (has, (image, told, opens), answers_line c m v w image given told opens c.line keeps))
 
-  one_call : (P : Stored → Type 0) (c : Call) (v w : D) → IsGivenAmong (IsIn among) c → Stands (OfSome (IsIn among) P) (view v) → KeepsCall D view c (view v) (view w)
+  one_call : (P : Stored → Type 0) (c : Call) (v w : D) → IsGivenAmong among c → Stands (OfSome (IsIn among) P) (view v) → KeepsCall D view c (view v) (view w)
       → Stands (OfSome (IsIn among) (After P c.line c)) (view w)
   one_call P c v w given stands keeps =
       let one = found P c v w given stands keeps in
-      leaves (IsIn among) P c one.0 (view v) (view w) one.1.0 stands D view c.line one.1.2
+      leaves (IsIn among) P c one.0 (view v) (view w) one.1.0 stands c.line one.1.2
 
-  all_calls : (P : Stored → Type 0) (calls : List Call) (old new : D) → AllByRecursion (IsGivenAmong (IsIn among)) calls
+  all_calls : (P : Stored → Type 0) (calls : List Call) (old new : D) → AllByRecursion (IsGivenAmong among) calls
       → Stands (OfSome (IsIn among) P) (view old) → CallRun D view calls old new → Stands (OfSome (IsIn among) (AfterAll P calls)) (view new)
   all_calls P [] old new given stands run =
       subst (λ (d : D). Stands (OfSome (IsIn among) (AfterAll P [])) (view d)) (sym run) (weaker (IsIn among) P (AfterAll P []) (view old) (λ m has. (m, (has, refl))) stands)
@@ -271,15 +296,16 @@ leaves_possible D view laws among m calls old new begins run =
     (all_calls D view laws among begins.apart (λ s. s ≡ m) calls old new begins.given (only_one (IsIn among) m (view old) begins.stands) run)
 
 module _ (D : Type 0) (view : D → DiskView) (laws : ByTheMap D view) (among : ByteSet) (m : Stored) (calls : List Call) (last : Call) (old mid new : D)
-    (begins : BeginsOfMap (IsIn among) (calls ++ last ∷ []) m (view old))
+    (begins : BeginsOfMap among (calls ++ last ∷ []) m (view old))
     (run : CallRun D view calls old mid) (keeps : KeepsCall D view last (view mid) (view new)) where
   before : Stands (Possible (IsIn among) calls m) (view mid)
-  before = leaves_possible D view laws among m calls old mid (record { apart = begins.apart; given = given_before (IsIn among) calls last begins.given; stands = begins.stands })
-      run
+  before = leaves_possible D view laws among m calls old mid (record { apart = begins.apart; given = given_before among calls last begins.given; stands = begins.stands }) run
 
-  last_finds : (now : Stored) × (LeadsTo calls m now × KnownWith (view mid).content (OpensAs (IsIn among) now) × Answers D view last.line (IsIn among) last now (view mid)
-      (view new))
-  last_finds = found D view laws among begins.apart (LeadsTo calls m) last mid new (given_last (IsIn among) calls last begins.given) before keeps
+  given : IsGivenAmong among last
+  given = given_last among calls last begins.given
+
+  last_finds : (now : Stored) × (LeadsTo calls m now × KnownWith (view mid).content (OpensAs (IsIn among) now) × Answers last.line (IsIn among) last now (view mid) (view new))
+  last_finds = found D view laws among begins.apart (LeadsTo calls m) last mid new given before keeps
 
   by_led : (now : Stored) → LeadsTo calls m now → (c : List ℕ) → Possible (IsIn among) calls m c ⊎ OfSome (IsIn among) (MayPass last.line last now) c
       → Possible (IsIn among) calls m c ⊎ Passed (IsIn among) calls last m c
@@ -289,20 +315,21 @@ module _ (D : Type 0) (view : D → DiskView) (laws : ByTheMap D view) (among : 
 pub answers_by_the_map : (D : Type 0) (view : D → DiskView) → ByTheMap D view → AnswersByTheMap D view
 answers_by_the_map D view laws among m calls last command old mid new begins run keeps line_is =
     let one = last_finds D view laws among m calls last old mid new begins run keeps in
-    (one.0, (one.1.0, one.1.1, subst (λ (l : Option TableLine). Answers D view l (IsIn among) last one.0 (view mid) (view new)) line_is one.1.2))
+    (one.0, (one.1.0, one.1.1, command_answers D view laws among begins.apart last one.0 mid new one.1.1.0 (given_last among calls last begins.given) one.1.1.1 one.1.1.2 command
+    (subst (λ (l : Option TableLine). KeepsAs D view l last (view mid) (view new)) line_is keeps)))
 
 pub runs_by_the_map : (D : Type 0) (view : D → DiskView) → ByTheMap D view → RunsByTheMap D view
 runs_by_the_map D view laws among m calls last old mid new begins run keeps line_is =
     let one = last_finds D view laws among m calls last old mid new begins run keeps in
-    (one.0, (one.1.0, one.1.1, subst (λ (l : Option TableLine). Answers D view l (IsIn among) last one.0 (view mid) (view new)) line_is one.1.2))
+    (one.0, (one.1.0, one.1.1, run_answers D view laws among begins.apart last one.0 mid new one.1.1.0 (given_last among calls last begins.given) one.1.1.1 one.1.1.2
+    (subst (λ (l : Option TableLine). KeepsAs D view l last (view mid) (view new)) line_is keeps)))
 
 pub survives_a_crash : (D : Type 0) (view : D → DiskView) → ByTheMap D view → SurvivesACrash D view
 survives_a_crash D view laws among m calls last old mid new begins run keeps c since =
     let one = last_finds D view laws among m calls last old mid new begins run keeps in
     by_led D view laws among m calls last old mid new begins run keeps one.0 one.1.0 c
-    (crash_leaves (IsIn among) (LeadsTo calls m) last one.0 (view mid) (view new) one.1.0 (before D view laws among m calls last old mid new begins run keeps) D view last.line
-    one.1.2
-    c since)
+    (crash_leaves (IsIn among) (LeadsTo calls m) last one.0 (view mid) (view new) one.1.0 (before D view laws among m calls last old mid new begins run keeps) last.line one.1.2 c
+    since)
 
 -- ---- the empty map
 

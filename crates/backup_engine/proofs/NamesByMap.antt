@@ -1,284 +1,157 @@
 -- A `list` and a `delete` answer by the map, by the laws of their lines.
-use Rattle.backup_engine.proofs.Prelude.{◌≡◌, ◌⊎◌, ◌≤◌, ◌-◌, ◌^◌, inl, inr, ℕ, length, true, false, List, [], ◌∷◌, Option, Some, None, refl, sym, ◌∙◌, ap, subst, DiskView, SinkView, IsName, Gone, half_cells, NamedRoot, Refusal, Memory, NoFile, BadName, Numbers, DiskRead, DiskWrite, Sink, Refused, deleted_line, listing_text, LineValue, ReplyValue, IsIn, OpensAs, Stored, Store, with_change, FileMachine, ListsThrough, MakesRoom, RunsWith, EndsWith, Replied, Found, RunState, MayBeFound, of_files, stored_in, unopened, AnswersByMap, AnswersEachCall, ChangesStore, IsLeftAs, IsStore, Wrote, RunsByFiles, LacksNumbers, IsLeftWith, WroteReply, IsDelete, IsListing, said}
-use Rattle.std.proofs.Common.{is_some}
+use Rattle.backup_engine.proofs.Prelude.{◌≡◌, ◌⊎◌, inl, inr, ℕ, IsTrue, List, [], ◌∷◌, ◌++◌, Option, Some, None, refl, sym, ◌∙◌, subst, Appended, SinkView, Refusal, Memory, Sink, Refused, LineValue, ReplyValue, FileMachine, AllFollow, Replied, CommandLine, Collect, WroteReply, IsCollect, IsDelete, IsListing, collecting, said}
 use Rattle.std.proofs.lemmas.List.{append-nil}
-use Rattle.std.specs.FinMap as finite
+use Rattle.dd_io.specs.Flow.{AppendedPart}
 use Rattle.reply_text.specs.declared.ending.Ending.{Ending}
+use Rattle.reply_text.specs.Text.{deleted_line, listing_text}
 use Rattle.script_lines.specs.Grammar as lines
 use Rattle.script_lines.specs.ReplyValue as replies
-use Rattle.store_model.specs.Files.{without_stored}
-use Rattle.store_model.specs.Standing.{file_listing}
-use Rattle.store_machine.specs.ByMap.{DeletedName, DeleteRefusal, DeletesByMap, DeletesThrough, IsGone, ListedNames, ListRefusal, ListsByMap}
-use Rattle.store_machine.specs.Commands as machine
-use Rattle.store_machine.specs.Commands.{EndsRefused, IsDone}
-use Rattle.backup_engine.specs.AnswersByMap.{EndsBy}
+use Rattle.store_state.specs.Refused.{fails}
+use Rattle.store_machine.specs.ByMap.{DeletedName, DeletesByMap, DeletesThrough, IsGone, ListsByMap, ListsThrough}
+use Rattle.store_machine.specs.Legal.{without_name}
+use Rattle.store_machine.specs.Machine.{Found, RunState}
+use Rattle.store_machine.specs.Opening.{MayBeFound}
+use Rattle.store_machine.specs.Values.{of_files}
+use Rattle.store_model.specs.Collisions.{ByteSet}
+use Rattle.refusals.specs.declared.refusal.Refusal.TheVariants.{DiskWrite}
+use Rattle.dd_disk.specs.View.{DiskView}
+use Rattle.store_machine.specs.Commands.{EndsRefused}
+use Rattle.backup_engine.specs.AnswersByMap.{AnswersEachCall, IsAfter}
+use Rattle.backup_engine.specs.ByFiles.{CutsAmong}
 use Rattle.backup_engine.specs.Line.{Delete}
 use Rattle.backup_engine.specs.Line as table
-use Rattle.backup_engine.specs.PlainMap.{MayDelete, room_of}
-use Rattle.backup_engine.proofs.AnswersByMap.{AnswersOpened, answers_call, is_write}
-use Rattle.backup_engine.proofs.Ran.{delete_ran, list_ran, ran_cuts, ran_silent}
-use Rattle.backup_engine.proofs.Rested.{CanBeIf, all_lines, all_steps, answers_by, as_found, last, is_store, left_with, ran, rested, stays_left, was_store, WasStore}
+use Rattle.backup_engine.proofs.AnswersByMap.{Says, answers_call, opened_line, stays_after, told}
+use Rattle.backup_engine.proofs.NoneCut.{ArePlain, none_cuts}
+use Rattle.backup_engine.proofs.Ran.{Ran, Silent, delete_ran, list_ran, ran_cuts, ran_silent}
 
--- ---- the last line
+-- ---- what a few lines say
 
-refused_end : (rs : List Replied) (line : LineValue) (refusal : Refusal) → machine.last_of rs ≡ Some (said line (replies.Refused refusal)) → EndsRefused refusal rs
-refused_end rs line refusal is = (said line (replies.Refused refusal), is, refl)
+-- there was no memory
+pub fails_memory : (refusal : Refusal) → refusal ≡ Memory → IsTrue (fails refusal)
+fails_memory refusal memory = subst (λ (r : Refusal). IsTrue (fails r)) (sym memory) refl
 
-same_last : (rs : List Replied) (one other : Replied) → machine.last_of rs ≡ Some one → machine.last_of rs ≡ Some other → one ≡ other
-same_last rs one other is last = let both : Some one ≡ Some other = sym is ∙ last in cc
+-- a text that is all that was printed
+pub whole_text : (text : List ℕ) (sink sink_now : SinkView) → Appended sink.written sink_now.written text → Appended sink.written sink_now.written (text ++ [])
+whole_text text sink sink_now wrote = subst (Appended sink.written sink_now.written) (sym (append-nil text)) wrote
+
+pub first_text : (text : List ℕ) (sink sink_now : SinkView) → AppendedPart sink.written sink_now.written text → AppendedPart sink.written sink_now.written (text ++ [])
+first_text text sink sink_now wrote = subst (AppendedPart sink.written sink_now.written) (sym (append-nil text)) wrote
+
+-- what a command says of lines it says of a list that is these
+pub says_of : (command : CommandLine) (given : List ℕ) (sink sink_now : SinkView) (ending : Option Ending) (rs are : List Replied) → rs ≡ are
+    → Says command given ending are sink sink_now → Says command given ending rs sink sink_now
+says_of command given sink sink_now ending rs are is says = subst (λ (l : List Replied). Says command given ending l sink sink_now) (sym is) says
+
+-- where lines cut nothing, or none was run
+pub spoken_cuts : (ending : Option Ending) (rs : List Replied) (sink sink_now : SinkView) (AreSo : List Replied → Type 0) → (AreSo rs → Ran ending rs sink sink_now)
+    → AreSo rs ⊎ Silent ending rs sink sink_now → (among : ByteSet) (m : FileMachine) → CutsAmong among rs m
+spoken_cuts ending rs sink sink_now AreSo ran (inl are) among m = ran_cuts ending rs sink sink_now (ran are) among m
+spoken_cuts ending rs sink sink_now AreSo ran (inr none) among m = none_cuts among rs (subst ArePlain (sym none.none) tt) m
 
 -- ---- list
 
-module _ (given : List ℕ) where
-  list_ends : (m : Stored) (before content : Option (List ℕ)) (refusal : Refusal) → ListRefusal refusal → IsLeftWith m content (λ store. Unit {0})
-      → EndsBy table.List given m before content (Some (Refused refusal))
-  list_ends m before content Memory may is = is
-  list_ends m before content DiskRead may is = is
-  list_ends m before content DiskWrite may is = is
-  list_ends m before content refusal may is = absurd may
+module _ (given : List ℕ) (sink sink_now : SinkView) where
+  abbrev listed : ReplyValue → List Replied
+  listed reply = said lines.ListNames reply ∷ []
 
-  module _ (S : List ℕ → Type 0) (m : Stored) (store : Store) (v w : DiskView) (was : WasStore m store v) (sink sink_now : SinkView) (lists : ListsByMap)
-      (through : ListsThrough) (reply : ReplyValue) (runs : RunsByFiles S (said lines.ListNames reply ∷ []) (unopened m store) v w) where
-    abbrev rs : List Replied
-    rs = said lines.ListNames reply ∷ []
+  abbrev SaysList : Option Ending → List Replied → Type 0
+  SaysList ending rs = Says table.List given ending rs sink sink_now
 
-    abbrev end : FileMachine
-    end = last S rs m store v w runs
+  refused_list : (refusal : Refusal) (reply : ReplyValue) → EndsRefused refusal (opened_line 0 ∷ listed reply) ⊎ IsTrue (fails refusal) → sink_now.written ≡ sink.written
+      → SaysList (Some (Refused refusal)) (listed reply)
+  refused_list refusal reply ended same = record {
+    follow = λ n. (refl, refl, tt);
+    gave = λ n. tt;
+    ended = λ n. ended;
+    found = λ n m k comes x may. stays_after table.List given refusal m.now x (comes.found x may);
+    wrote = λ n m k comes. same;
+  }
 
-    abbrev listed : ListedNames (all_lines S rs m store v w runs) (rested m store) end
-    listed = lists (all_lines S rs m store v w runs) (all_steps S rs m store v w runs) (rested m store) runs.next refl (refl, (refl, refl, tt)) (ran S rs m store v w runs)
-
-    abbrev opened : Store
-    opened = listed.store.0
-
-    at : RunsWith end opened
-    at = listed.store.2
-
-    list_store : IsLeftWith m w.content (λ s. Unit {0})
-    list_store =
-        left_with S rs m store v w runs opened at (λ s. Unit {0}) was listed.store.1
-        (listed.found end.now (subst (λ (state : RunState (List ℕ)). MayBeFound of_files state end.now end.now) (sym at.0) refl)) tt
-
-    list_answers : (ending : Option Ending) → CanBeIf table.List given m ending → EndsBy table.List given m v.content w.content ending
-        → Wrote table.List given m ending sink sink_now → AnswersByMap S table.List given ending m v w sink sink_now
-    list_answers ending can by_map wrote =
-        answers_by S rs m store v w runs table.List given ending
-        (λ x may d opens. stays_left S table.List given m refl ending d (as_found S x (rested m store).now d (listed.found x may) opens)) was machine.List
-        (refl, (refl, refl, tt)) through sink sink_now can (inl by_map) wrote (opened, (listed.store.1, is_store S rs m store v w runs opened at))
-
-    -- it was refused, or there was no memory for its reply
-    list_refused : (refusal : Refusal) → ListRefusal refusal → sink_now.written ≡ sink.written → AnswersByMap S table.List given (Some (Refused refusal)) m v w sink sink_now
-    list_refused refusal may same = list_answers (Some (Refused refusal)) tt (list_ends m v.content w.content refusal may list_store) same
-
-  module _ (S : List ℕ → Type 0) (m : Stored) (store : Store) (v w : DiskView) (was : WasStore m store v) (sink sink_now : SinkView) (lists : ListsByMap)
-      (through : ListsThrough) (files : List NamedRoot) (runs : RunsByFiles S (said lines.ListNames (replies.Listed files) ∷ []) (unopened m store) v w) where
-    -- the names that it replied with are those of the map
-    list_text : listing_text files ≡ listing_text (file_listing m.files)
-    list_text =
-        sym (append-nil (listing_text files)) ∙ (listed S m store v w was sink sink_now lists through (replies.Listed files) runs).done
-        (said lines.ListNames (replies.Listed files), refl, tt)
-
-    list_done : WroteReply (listing_text files) None sink sink_now → AnswersByMap S table.List given None m v w sink sink_now
-    list_done wrote =
-        list_answers S m store v w was sink sink_now lists through (replies.Listed files) runs None tt tt
-        (subst (λ (text : List ℕ). WroteReply text None sink sink_now) list_text wrote)
-
-    list_unwritten : WroteReply (listing_text files) (Some Sink) sink sink_now → AnswersByMap S table.List given (Some Sink) m v w sink sink_now
-    list_unwritten wrote =
-        list_answers S m store v w was sink sink_now lists through (replies.Listed files) runs (Some Sink) tt tt
-        (subst (λ (text : List ℕ). WroteReply text (Some Sink) sink sink_now) list_text wrote)
-
-  module _ (rs : List Replied) (v w : DiskView) (sink sink_now : SinkView) (lists : ListsByMap) (through : ListsThrough) where
-    abbrev So : Option Ending → Type 0
-    So ending = (rs ≡ []) ⊎ AnswersOpened table.List given ending rs v w sink sink_now
-
-    list_spoken : (ending : Option Ending) → IsListing ending sink sink_now rs → So ending
-    list_spoken None (files, (is, wrote)) =
-        inr (λ among m old distinct given_in known opens runs. list_done (IsIn among) m opens.store v w (was_store (IsIn among) m v old known opens) sink sink_now lists through
-        files
-        (subst (λ (l : List Replied). RunsByFiles (IsIn among) l (unopened m opens.store) v w) is runs) wrote)
-    list_spoken (Some Sink) (files, (is, wrote)) =
-        inr (λ among m old distinct given_in known opens runs. list_unwritten (IsIn among) m opens.store v w (was_store (IsIn among) m v old known opens) sink sink_now lists
-        through files
-        (subst (λ (l : List Replied). RunsByFiles (IsIn among) l (unopened m opens.store) v w) is runs) wrote)
-    list_spoken (Some (Refused refusal)) (inl (memory, inl none), same) = inl none
-    list_spoken (Some (Refused refusal)) (inl (memory, inr (files, is)), same) = inr (λ among m old distinct given_in known opens runs.
-        list_refused (IsIn among) m opens.store v w (was_store (IsIn among) m v old known opens) sink sink_now lists through (replies.Listed files)
-        (subst (λ (l : List Replied). RunsByFiles (IsIn among) l (unopened m opens.store) v w) is runs) refusal (subst ListRefusal (sym memory) tt) same)
-    list_spoken (Some (Refused refusal)) (inr is, same) = inr (λ among m old distinct given_in known opens runs.
-        let made = subst (λ (l : List Replied). RunsByFiles (IsIn among) l (unopened m opens.store) v w) is runs in
-        let why = (listed (IsIn among) m opens.store v w (was_store (IsIn among) m v old known opens) sink sink_now lists through (replies.Refused refusal) made).refused refusal
-        (said lines.ListNames (replies.Refused refusal), refl, refl) in
-        list_refused (IsIn among) m opens.store v w (was_store (IsIn among) m v old known opens) sink sink_now lists through (replies.Refused refusal) made refusal why same)
-    list_spoken (Some ending) is = absurd is
+  list_says : (rs : List Replied) (ending : Option Ending) → IsListing ending sink sink_now rs → (rs ≡ []) ⊎ SaysList ending rs
+  list_says rs None (files, (is, wrote)) = inr (says_of table.List given sink sink_now None rs (listed (replies.Listed files)) is (record {
+    follow = λ n. (refl, refl, tt);
+    gave = λ n. tt;
+    ended = λ n. (said lines.ListNames (replies.Listed files), refl, tt);
+    found = λ n m k comes x may. comes.found x may;
+    wrote = λ n m k comes. whole_text (listing_text files) sink sink_now wrote;
+  }))
+  list_says rs (Some Sink) (files, (is, wrote)) = inr (says_of table.List given sink sink_now (Some Sink) rs (listed (replies.Listed files)) is (record {
+    follow = λ n. (refl, refl, tt);
+    gave = λ n. tt;
+    ended = λ n. (said lines.ListNames (replies.Listed files), refl, tt);
+    found = λ n m k comes x may. comes.found x may;
+    wrote = λ n m k comes. first_text (listing_text files) sink sink_now wrote;
+  }))
+  list_says rs (Some (Refused refusal)) (inl (memory, inl none), same) = inl none
+  list_says rs (Some (Refused refusal)) (inl (memory, inr (files, is)), same) =
+      inr (says_of table.List given sink sink_now (Some (Refused refusal)) rs (listed (replies.Listed files)) is
+      (refused_list refusal (replies.Listed files) (inr (fails_memory refusal memory)) same))
+  list_says rs (Some (Refused refusal)) (inr is, same) = inr (says_of table.List given sink sink_now (Some (Refused refusal)) rs (listed (replies.Refused refusal)) is
+      (refused_list refusal (replies.Refused refusal) (inl (said lines.ListNames (replies.Refused refusal), refl, refl)) same))
+  list_says rs (Some ending) is = absurd is
 
 pub list_by_map : (D : Type 0) (view : D → DiskView) → ListsByMap → ListsThrough → AnswersEachCall D view table.List
-list_by_map D view lists through given rs ending old new source source_now sink sink_now =
-    answers_call D view table.List given rs ending old new source source_now sink sink_now (IsListing ending sink sink_now) (λ v speaks. speaks) through
-    (λ are. ran_silent ending rs sink sink_now (list_ran rs sink sink_now ending are))
-    (λ are among given_in m. ran_cuts ending rs sink sink_now (list_ran rs sink sink_now ending are) among m)
-    (list_spoken given rs (view old) (view new) sink sink_now lists through ending)
+list_by_map D view lists through given rs ending old new source source_now sink sink_now does among m distinct given_in running known =
+    answers_call D view table.List lists through given rs ending old new source source_now sink sink_now does among m distinct
+    (spoken_cuts ending rs sink sink_now (IsListing ending sink sink_now) (list_ran rs sink sink_now ending)
+    (told D view table.List given rs ending (view old) (view new) source source_now sink sink_now (IsListing ending sink sink_now) (λ v speaks. speaks) does) among m) running known
+    (λ runs. tt) (IsListing ending sink sink_now) (λ v speaks. speaks) (λ are. ran_silent ending rs sink sink_now (list_ran rs sink sink_now ending are))
+    (list_says given sink sink_now rs ending)
 
 -- ---- delete
 
-module _ (given name : List ℕ) where
-  module _ (S : List ℕ → Type 0) (m : Stored) where
-    -- what was found without the name is the map after it
-    gone_after : (x : Found (List ℕ)) (d : List ℕ) → IsGone name (record { names = m.files; last = m.last }) x → OpensAs S (stored_in x) d → OpensAs S (without_stored m name) d
-    gone_after x d gone opens = subst (λ (y : Found (List ℕ)). OpensAs S (stored_in y) d) gone.0 opens
+module _ (given name : List ℕ) (sink sink_now : SinkView) where
+  abbrev deleting : ReplyValue → List Replied
+  deleting reply = said (lines.Delete name) reply ∷ []
 
-    gone_can : (x : Found (List ℕ)) → IsGone name (record { names = m.files; last = m.last }) x → is_some (finite.get m.files name) ≡ true
-    gone_can x (is, named, (file, has), number) = ap is_some has
+  abbrev SaysDelete : Option Ending → List Replied → Type 0
+  SaysDelete ending rs = Says (Delete name) given ending rs sink sink_now
 
-    -- it was refused: only a write that failed leaves a doubt
-    delete_left : (refusal : Refusal) (x : Found (List ℕ)) (d : List ℕ) → (((refusal ≡ DiskWrite) → ⊥) → x ≡ record { names = m.files; last = m.last })
-        → (x ≡ record { names = m.files; last = m.last }) ⊎ IsGone name (record { names = m.files; last = m.last }) x → OpensAs S (stored_in x) d
-        → IsLeftAs S (Delete name) given m (Some (Refused refusal)) d
-    delete_left DiskWrite x d sure (inl is) opens = inl (as_found S x (record { names = m.files; last = m.last }) d is opens)
-    delete_left DiskWrite x d sure (inr gone) opens = inr (gone_can x gone, gone_after x d gone opens)
-    delete_left refusal x d sure may opens = as_found S x (record { names = m.files; last = m.last }) d (sure (λ is. cc)) opens
+  -- it was done
+  gone : (sequence files : ℕ) (m n : FileMachine) → DeletedName name (opened_line files ∷ deleting (replies.Deleted sequence)) m n → (x : Found (List ℕ))
+      → MayBeFound of_files n.state n.now x → x ≡ without_name of_files name m.now
+  gone sequence files m n comes x may =
+      let is = comes.done (said (lines.Delete name) (replies.Deleted sequence), refl, tt) in
+      subst (λ (state : RunState (List ℕ)). MayBeFound of_files state n.now x) is.1 may ∙ is.0.0
 
-  module _ (S : List ℕ → Type 0) (m : Stored) (store : Store) (v w : DiskView) (was : WasStore m store v) (sink sink_now : SinkView) (deletes : DeletesByMap)
-      (through : DeletesThrough) (reply : ReplyValue) (runs : RunsByFiles S (said (lines.Delete name) reply ∷ []) (unopened m store) v w) where
-    abbrev ds : List Replied
-    ds = said (lines.Delete name) reply ∷ []
+  -- or refused: only a write that failed leaves a doubt
+  kept : (refusal : Refusal) (now x : Found (List ℕ)) → (((refusal ≡ DiskWrite) → ⊥) → x ≡ now) → (x ≡ now) ⊎ IsGone name now x
+      → IsAfter (Delete name) given (Some (Refused refusal)) now x
+  kept DiskWrite now x sure (inl same) = inl same
+  kept DiskWrite now x sure (inr gone) = inr gone.0
+  kept refusal now x sure may = sure (λ is. cc)
 
-    abbrev gone_end : FileMachine
-    gone_end = last S ds m store v w runs
+  delete_says : (rs : List Replied) (ending : Option Ending) → IsDelete name ending sink sink_now rs → (rs ≡ []) ⊎ SaysDelete ending rs
+  delete_says rs None ((sequence, is), wrote) = inr (says_of (Delete name) given sink sink_now None rs (deleting (replies.Deleted sequence)) is (record {
+    follow = λ n. (refl, refl, tt);
+    gave = λ n. tt;
+    ended = λ n. (said (lines.Delete name) (replies.Deleted sequence), refl, tt);
+    found = gone sequence;
+    wrote = λ n m k comes. whole_text (deleted_line name) sink sink_now wrote;
+  }))
+  delete_says rs (Some Sink) ((sequence, is), wrote) = inr (says_of (Delete name) given sink sink_now (Some Sink) rs (deleting (replies.Deleted sequence)) is (record {
+    follow = λ n. (refl, refl, tt);
+    gave = λ n. tt;
+    ended = λ n. (said (lines.Delete name) (replies.Deleted sequence), refl, tt);
+    found = gone sequence;
+    wrote = λ n m k comes. first_text (deleted_line name) sink sink_now wrote;
+  }))
+  delete_says rs (Some (Refused refusal)) (inl (memory, none), same) = inl none
+  delete_says rs (Some (Refused refusal)) (inr is, same) =
+      inr (says_of (Delete name) given sink sink_now (Some (Refused refusal)) rs (deleting (replies.Refused refusal)) is (record {
+        follow = λ n. (refl, refl, tt);
+        gave = λ n. tt;
+        ended = λ n. inl (said (lines.Delete name) (replies.Refused refusal), refl, refl);
+        found = λ n m k comes x may. kept refusal m.now x
+            (λ other. (comes.refused refusal (said (lines.Delete name) (replies.Refused refusal), refl, refl)).1 other x may) (comes.found x may);
+        wrote = λ n m k comes. same;
+      }))
+  delete_says rs (Some ending) is = absurd is
 
-    abbrev deleted : DeletedName name (all_lines S ds m store v w runs) (rested m store) gone_end
-    deleted = deletes name (all_lines S ds m store v w runs) (all_steps S ds m store v w runs) (rested m store) runs.next refl (refl, (refl, refl, tt)) (ran S ds m store v w runs)
-
-    -- ---- it was done
-
-    module _ (is_done : IsDone (machine.Delete name) reply) where
-      abbrev gone : IsGone name (rested m store).now gone_end.now
-      gone = (deleted.done (said (lines.Delete name) reply, refl, is_done)).0
-
-      done_found : (x : Found (List ℕ)) → MayBeFound of_files gone_end.state gone_end.now x → x ≡ gone_end.now
-      done_found x may =
-          subst (λ (state : RunState (List ℕ)). MayBeFound of_files state gone_end.now x) (deleted.done (said (lines.Delete name) reply, refl, is_done)).1 may
-
-      after : (x : Found (List ℕ)) → MayBeFound of_files gone_end.state gone_end.now x → (d : List ℕ) → OpensAs S (stored_in x) d → OpensAs S (without_stored m name) d
-      after x may d opens = gone_after S m gone_end.now d gone (as_found S x gone_end.now d (done_found x may) opens)
-
-      -- the store has its record
-      done_store : (opened : Store) × (MakesRoom (rested m store) opened × IsStore (with_change name Gone opened) w.content)
-      done_store =
-          let ins = deleted.store.2 in
-          let opened : Store = deleted.store.0 in
-          (opened, (deleted.store.1, is_store S ds m store v w runs (with_change name Gone opened) (ins.done (said (lines.Delete name) reply, refl, is_done)).0))
-
-      delete_done : WroteReply (deleted_line name) None sink sink_now → AnswersByMap S (Delete name) given None m v w sink sink_now
-      delete_done wrote =
-          answers_by S ds m store v w runs (Delete name) given None after was (machine.Delete name) (refl, (refl, refl, tt)) (through name) sink sink_now
-          (gone_can S m gone_end.now gone) (inl (gone_can S m gone_end.now gone)) wrote done_store
-
-      delete_unwritten : WroteReply (deleted_line name) (Some Sink) sink sink_now → AnswersByMap S (Delete name) given (Some Sink) m v w sink sink_now
-      delete_unwritten wrote =
-          answers_by S ds m store v w runs (Delete name) given (Some Sink) after was (machine.Delete name) (refl, (refl, refl, tt)) (through name) sink sink_now
-          (gone_can S m gone_end.now gone) (inl (gone_can S m gone_end.now gone)) wrote done_store
-
-    -- ---- it was refused
-
-    module _ (refusal : Refusal) (reply_is : reply ≡ replies.Refused refusal) where
-      last_is : machine.last_of (all_lines S ds m store v w runs) ≡ Some (said (lines.Delete name) (replies.Refused refusal))
-      last_is = ap (λ (r : ReplyValue). Some (said (lines.Delete name) r)) reply_is
-
-      abbrev why : DeleteRefusal name (rested m store).now gone_end refusal
-          × (((refusal ≡ DiskWrite) → ⊥) → (x : Found (List ℕ)) → MayBeFound of_files gone_end.state gone_end.now x
-          → x ≡ (rested m store).now)
-      why = deleted.refused refusal (refused_end (all_lines S ds m store v w runs) (lines.Delete name) refusal last_is)
-
-      not_done : EndsWith (λ one. IsDone (machine.Delete name) one.reply) (all_lines S ds m store v w runs) → ⊥
-      not_done (one, last, is) =
-          subst (λ (x : Replied). IsDone (machine.Delete name) x.reply)
-          (sym (same_last (all_lines S ds m store v w runs) (said (lines.Delete name) (replies.Refused refusal)) one last_is last)) is
-
-      -- another refusal
-      only_so : ((refusal ≡ DiskWrite) → ⊥) → EndsRefused DiskWrite (all_lines S ds m store v w runs) → ⊥
-      only_so other (one, last, is) =
-          let same = same_last (all_lines S ds m store v w runs) (said (lines.Delete name) (replies.Refused refusal)) one last_is last in
-          let both : replies.Refused refusal ≡ replies.Refused DiskWrite = ap (λ (x : Replied). x.reply) same ∙ is in
-          other (let equal : refusal ≡ DiskWrite = cc in equal)
-
-      delete_store : ((refusal ≡ DiskWrite) → ⊥) → (P : Store → Type 0) → P gone_end.store → IsLeftWith m w.content P
-      delete_store other P has =
-          let ins = deleted.store.2 in
-          left_with S ds m store v w runs deleted.store.0 (ins.runs (only_so other), ins.undone not_done) P was deleted.store.1 (deleted.undone not_done).0
-          (subst P (ins.undone not_done) has)
-
-      undone_store : (refusal ≡ DiskWrite) ⊎ ((refusal ≡ DiskWrite) → ⊥) → (opened : Store)
-          × (MakesRoom (rested m store) opened × ChangesStore (Delete name) given (Some (Refused refusal)) opened w.content)
-      undone_store (inl is) =
-          (deleted.store.0, (deleted.store.1, subst (λ (r : Refusal). ChangesStore (Delete name) given (Some (Refused r)) deleted.store.0 w.content) (sym is) tt))
-      undone_store (inr other) =
-          let ins = deleted.store.2 in
-          let opened : Store = deleted.store.0 in
-          (opened, (deleted.store.1, unchanged refusal other opened (is_store S ds m store v w runs opened (ins.runs (only_so other), ins.undone not_done))))
-        where
-          unchanged : (r : Refusal) → ((r ≡ DiskWrite) → ⊥) → (opened : Store) → IsStore opened w.content → ChangesStore (Delete name) given (Some (Refused r)) opened w.content
-          unchanged DiskWrite not opened is = tt
-          unchanged r not opened is = is
-
-  module _ (S : List ℕ → Type 0) (m : Stored) (store : Store) (v w : DiskView) (was : WasStore m store v) (sink sink_now : SinkView) (deletes : DeletesByMap)
-      (through : DeletesThrough) where
-    module _ (reason : Refusal) (runs : RunsByFiles S (said (lines.Delete name) (replies.Refused reason) ∷ []) (unopened m store) v w) where
-      abbrev end_now : FileMachine
-      end_now = last S (said (lines.Delete name) (replies.Refused reason) ∷ []) m store v w runs
-
-      -- why, by the store that it left
-      delete_ends : (refusal : Refusal) → reason ≡ refusal → DeleteRefusal name (rested m store).now end_now refusal
-          → (((refusal ≡ DiskWrite) → ⊥) → (P : Store → Type 0) → P end_now.store → IsLeftWith m w.content P) → (((refusal ≡ DiskWrite) → ⊥) → end_now.now ≡ (rested m store).now)
-          → EndsBy (Delete name) given m v.content w.content (Some (Refused refusal))
-      delete_ends Memory is may left still = left (λ no. cc) (λ s. Unit {0}) tt
-      delete_ends DiskRead is may left still = left (λ no. cc) (λ s. Unit {0}) tt
-      delete_ends DiskWrite is may left still = tt
-      delete_ends BadName is may left still = left (λ no. cc) (λ s. ¬ (IsName name)) may
-      delete_ends NoFile is (named, none) left still =
-          left (λ no. cc) (λ s. IsName name × (is_some (finite.get m.files name) ≡ false)) (named, ap is_some none)
-      delete_ends Numbers is (named, has, lacks) left still =
-          left (λ no. cc) (λ s. MayDelete name (room_of (Delete name) m s) × LacksNumbers (room_of (Delete name) m s))
-          (record { named = named; knows = ap (λ (x : Found (List ℕ)). is_some (finite.get x.names name)) (sym (still (λ no. cc))) ∙ has }, lacking lacks)
-        where
-          lacking : (end_now.now.last ≡ 2 ^ 64 - 1) ⊎ ((half_cells ≤ length end_now.store.records) × (end_now.store.selector.generation ≡ 2 ^ 64 - 1))
-              → LacksNumbers (room_of (Delete name) m end_now.store)
-          lacking (inl most) = inl (ap (λ (x : Found (List ℕ)). x.last) (sym (still (λ no. cc))) ∙ most)
-          lacking (inr full) = inr full
-      delete_ends refusal is may left still = absurd may
-
-      delete_refused : sink_now.written ≡ sink.written → AnswersByMap S (Delete name) given (Some (Refused reason)) m v w sink sink_now
-      delete_refused same =
-          let made = deleted S m store v w was sink sink_now deletes through (replies.Refused reason) runs in
-          let cause = why S m store v w was sink sink_now deletes through (replies.Refused reason) runs reason refl in
-          answers_by S (said (lines.Delete name) (replies.Refused reason) ∷ []) m store v w runs (Delete name) given (Some (Refused reason))
-          (λ x may d opens. delete_left S m reason x d (λ other. cause.1 other x may) (made.found x may) opens) was (machine.Delete name) (refl, (refl, refl, tt)) (through name)
-          sink
-          sink_now tt
-          (inl (delete_ends reason refl cause.0 (delete_store S m store v w was sink sink_now deletes through (replies.Refused reason) runs reason refl)
-          (λ other. (made.undone (not_done S m store v w was sink sink_now deletes through (replies.Refused reason) runs reason refl)).0))) same
-          (undone_store S m store v w was sink sink_now deletes through (replies.Refused reason) runs reason refl (is_write reason))
-
-  module _ (rs : List Replied) (v w : DiskView) (sink sink_now : SinkView) (deletes : DeletesByMap) (through : DeletesThrough) where
-    abbrev DeletesSo : Option Ending → Type 0
-    DeletesSo ending = (rs ≡ []) ⊎ AnswersOpened (Delete name) given ending rs v w sink sink_now
-
-    delete_spoken : (ending : Option Ending) → IsDelete name ending sink sink_now rs → DeletesSo ending
-    delete_spoken None ((sequence, is), wrote) = inr (λ among m old distinct given_in known opens runs.
-        delete_done (IsIn among) m opens.store v w (was_store (IsIn among) m v old known opens) sink sink_now deletes through (replies.Deleted sequence)
-        (subst (λ (l : List Replied). RunsByFiles (IsIn among) l (unopened m opens.store) v w) is runs) tt wrote)
-    delete_spoken (Some Sink) ((sequence, is), wrote) = inr (λ among m old distinct given_in known opens runs.
-        delete_unwritten (IsIn among) m opens.store v w (was_store (IsIn among) m v old known opens) sink sink_now deletes through (replies.Deleted sequence)
-        (subst (λ (l : List Replied). RunsByFiles (IsIn among) l (unopened m opens.store) v w) is runs) tt wrote)
-    delete_spoken (Some (Refused refusal)) (inl (memory, none), same) = inl none
-    delete_spoken (Some (Refused refusal)) (inr is, same) = inr (λ among m old distinct given_in known opens runs.
-        delete_refused (IsIn among) m opens.store v w (was_store (IsIn among) m v old known opens) sink sink_now deletes through refusal
-        (subst (λ (l : List Replied). RunsByFiles (IsIn among) l (unopened m opens.store) v w) is runs) same)
-    delete_spoken (Some ending) is = absurd is
-
-pub delete_by_map : (D : Type 0) (view : D → DiskView) → ListsThrough → DeletesByMap → DeletesThrough → (name : List ℕ) → AnswersEachCall D view (Delete name)
-delete_by_map D view lists deletes through name given rs ending old new source source_now sink sink_now =
-    answers_call D view (Delete name) given rs ending old new source source_now sink sink_now (IsDelete name ending sink sink_now) (λ v speaks. speaks) lists
-    (λ are. ran_silent ending rs sink sink_now (delete_ran rs sink sink_now name ending are))
-    (λ are among given_in m. ran_cuts ending rs sink sink_now (delete_ran rs sink sink_now name ending are) among m)
-    (delete_spoken given name rs (view old) (view new) sink sink_now deletes through ending)
+pub delete_by_map : (D : Type 0) (view : D → DiskView) → DeletesByMap → DeletesThrough → (name : List ℕ) → AnswersEachCall D view (Delete name)
+delete_by_map D view deletes through name given rs ending old new source source_now sink sink_now does among m distinct given_in running known =
+    answers_call D view (Delete name) (deletes name) (through name) given rs ending old new source source_now sink sink_now does among m distinct
+    (spoken_cuts ending rs sink sink_now (IsDelete name ending sink sink_now) (delete_ran rs sink sink_now name ending)
+    (told D view (Delete name) given rs ending (view old) (view new) source source_now sink sink_now (IsDelete name ending sink sink_now) (λ v speaks. speaks) does) among m)
+    running known (λ runs. tt) (IsDelete name ending sink sink_now) (λ v speaks. speaks)
+    (λ are. ran_silent ending rs sink sink_now (delete_ran rs sink sink_now name ending are)) (delete_says given name sink sink_now rs ending)

@@ -1,29 +1,16 @@
 -- Commands that end before anything is asked of a core.
-use Rattle.backup_engine.proofs.Prelude.{◌≡◌, inl, ◌≤◌, ℕ, List, [], IsTrue, false, true, Option, Some, Err, refl, ◌∙◌, arith, Known, DiskView, IsLater, OnlyReads, Reads, NoFault, Shows, reads_refused, until, shown_content, SourceView, SinkView, Refusal, Memory, Full, DiskRead, DiskWrite, Sink, Refused, Stored, Store, free_slots, IsIn, IsOf, fails, IsOpenRefusal, IsGivenUp, IsNotRead, CoreState, CommandLine, Format, Ingest, Restore, Collect, IsLeftWith, RefusedBy, FindsBeforeWriting, Holds, IsCaused, Took, WroteOnAny, EndsDurable, Keeps, IsLeftBlank, IsUntouched}
+use Rattle.backup_engine.proofs.Prelude.{◌≡◌, inl, ◌≤◌, ℕ, List, [], IsTrue, false, true, Option, Some, Err, refl, ◌∙◌, arith, Known, DiskView, IsLater, OnlyReads, Reads, NoFault, Shows, reads_refused, until, shown_content, SourceView, SinkView, Refusal, Memory, Full, DiskRead, DiskWrite, Sink, Refused, Stored, Store, free_slots, IsIn, IsOf, fails, IsOpenRefusal, IsGivenUp, IsNotRead, CoreState, CommandLine, Format, Ingest, Restore, Collect, FindsBeforeWriting, Holds, IsCaused, Took, WroteOnAny, EndsDurable, Keeps, IsLeftBlank, IsUntouched}
 use Rattle.recovery.specs.Opening.{Opens}
 use Rattle.backup_engine.specs.Line.{Delete}
 use Rattle.backup_engine.specs.Line as table
 use Rattle.backup_engine.proofs.Called.{Called}
 use Rattle.backup_engine.proofs.Reading.{since_start, reads_frame, unchanged}
 
-pub not_sink : (refusal : Refusal) → ¬ (Refused refusal ≡ Sink)
-not_sink refusal is = cc
-
 -- ---- a store that was not opened
-
--- a store that has two free slots is refused as memory or the disk failed, and for nothing else
-fails_alone : (store : Store) (refusal : Refusal) → 2 ≤ free_slots store.held → Opens store (Err refusal) → IsTrue (fails refusal)
-fails_alone store (Full free) reserve opens = absurd (omega (arith, reserve, opens.0, opens.1))
-fails_alone store refusal reserve opens = opens
 
 -- the opening of a disk was refused
 abbrev pub IsUnopened : DiskView → DiskView → Refusal → Type 0
 IsUnopened v w refusal = IsNotRead refusal v w
-
-module _ (v w : DiskView) (refusal : Refusal) (is : IsUnopened v w refusal) where
-  pub map_fails : (S : List ℕ → Type 0) (m : Stored) (old : List ℕ) → v.content ≡ Some old → IsOf S m old → IsTrue (fails refusal)
-  map_fails S m old known stands =
-      fails_alone stands.store refusal stands.reserve (shown_content v w (IsGivenUp refusal) old is.given_up known stands.store stands.stands.holds.right)
 
 ingest_caused : (v w : DiskView) (name given : List ℕ) (source : SourceView) (sink : SinkView) (refusal : Refusal) → IsOpenRefusal (Shows v w) v.size refusal
     → IsCaused (Ingest name) given v w source source sink sink (Some (Refused refusal))

@@ -18,13 +18,11 @@ pub use Rattle.actor_parts.specs.StepValue.{IsStep, StepValue}
 pub use Rattle.actor_parts.specs.declared.actor.TheConstants.{ACTORS}
 pub use Rattle.actor_parts.specs.declared.part.Part.TheVariants.{Idle, Writing}
 pub use Rattle.actor_parts.specs.declared.step.Answer.{Answer}
-pub use Rattle.backup_engine.specs.Adding.{Adds, AddsTo}
 pub use Rattle.store_machine.specs.Storing.{AddsOnce}
-pub use Rattle.backup_engine.specs.AnswersByMap.{AnswersByMap, AnswersEachCall, ChangesStore, IsLeftAs, IsStore, LeavesAs, MayBeMeanwhile, WasNotDone, Wrote, WroteFile}
 pub use Rattle.backup_engine.specs.AnyDisk.{EndsDurable, FindsBeforeWriting, FindsNames, Formats, GivesBack, HasAdded, HasSwept, Holds, IsCaused, IsDeleted, IsStored, IsUnlikeNode, IsUnmarked, IsUnwritten, OnAnyDisk, ReadsSince, ShownSince, ShownThere, Took, WroteOnAny, disk_ending, room_in}
 pub use Rattle.backup_engine.specs.ByFiles.{CutsAmong, FailsAlone, RefusedByFiles, RunsByFiles, RunsEachByFiles}
 pub use Rattle.backup_engine.specs.CallsByFiles.{CallsRunByFiles}
-pub use Rattle.backup_engine.specs.Collected.{HasNoIdLeft, collected_line}
+pub use Rattle.backup_engine.specs.Collected.{collected_line}
 pub use Rattle.store_machine.specs.CollectsByNeed.{FreesUpTo, written_in}
 pub use Rattle.backup_engine.specs.Collecting.{CollectRun, WritesCollected}
 pub use Rattle.backup_engine.specs.Feeding.{Fills, IsFed, MayBe, SessionLaws, Stops, opens_of}
@@ -36,8 +34,8 @@ pub use Rattle.backup_engine.specs.Lines.{lines_of, printed}
 pub use Rattle.backup_engine.specs.Lists.{Call}
 pub use Rattle.backup_engine.specs.Naming.{DeleteRun, ListRun, WritesNames}
 pub use Rattle.backup_engine.specs.Noted.{status_by}
-pub use Rattle.backup_engine.specs.PlainMap.{CanBeDone, HasNoRoomForName, HasTwins, IsPiece, LacksNumbers, Refuses, RefusesIngest, Room, map_after}
-pub use Rattle.backup_engine.specs.Promise.{EndsFailing, GivesSlotsBack, IsLeftWith, LeavesMeanwhile, MayChange, RefusedBy, SinceStart, WhyRefused, WroteReply}
+pub use Rattle.backup_engine.specs.Causes.{HasNoRoomForName, HasTwins, IsPiece, LacksNumbers, RefusesIngest, Room}
+pub use Rattle.backup_engine.specs.Promise.{LeavesMeanwhile, MayChange, SinceStart, WroteReply}
 pub use Rattle.backup_engine.specs.Putting.{AreKept, AreNew, Way, length_in}
 pub use Rattle.backup_engine.specs.Reopening.{HasNoRoom}
 pub use Rattle.backup_engine.specs.Running.{AreWhole, EndsGiving, EndsPut, GiveRun, HoldsPieces, IsAskedFor, IsDoneBefore, IsFresh, IsGiven, IsGivenOut, IsLastPut, IsNoCommit, IsNotOpened, IsOk, IsOneOf, IsPutRefusal, IsPutStep, IsRead, IsWholeAt, PutRun, WroteGiven, WroteLast, seal_by, seals_of}

@@ -8,17 +8,6 @@ IsReplied None sink sink_now = sink_now.faults ≡ sink.faults
 IsReplied (Some Sink) sink sink_now = Rose sink.faults sink_now.faults
 IsReplied (Some ending) sink sink_now = ⊥
 
--- it was done, but perhaps for its reply
-abbrev pub IsDone : Option Ending → Type 0
-IsDone None = Unit {0}
-IsDone (Some Sink) = Unit {0}
-IsDone (Some ending) = ⊥
-
-pub is_done : (ending : Option Ending) (sink sink_now : SinkView) → IsReplied ending sink sink_now → IsDone ending
-is_done None sink sink_now replied = tt
-is_done (Some Sink) sink sink_now replied = tt
-is_done (Some ending) sink sink_now replied = absurd replied
-
 pub replied_faults : (ending : Option Ending) (sink sink_now : SinkView) → IsReplied ending sink sink_now → ¬ (ending ≡ Some Sink) → sink_now.faults ≡ sink.faults
 replied_faults None sink sink_now replied other = replied
 replied_faults (Some Sink) sink sink_now replied other = absurd (other refl)

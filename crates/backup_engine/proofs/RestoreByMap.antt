@@ -1,25 +1,20 @@
 -- A `restore` answers by the map, by the law of its lines.
-use Rattle.backup_engine.proofs.Prelude.{◌≡◌, ◌⊎◌, inl, inr, ℕ, false, List, [], ◌∷◌, ◌++◌, length, take, Option, Some, None, Result, Ok, Err, refl, sym, ◌∙◌, ap, subst, arith, concat, Appended, DiskView, AppendedPart, SinkView, IsName, Refusal, Memory, NoFile, BadName, DiskRead, DiskWrite, Sink, Refused, LineValue, ReplyValue, IsIn, Stored, Store, FileMachine, ListsThrough, RunsWith, AllFollow, EndsWith, Follows, Replied, desk, reply_of, Found, RunState, Running, Stepped, MayBeFound, of_files, FileDesk, unopened, AnswersByMap, AnswersEachCall, Wrote, WroteFile, RunsByFiles, Restore, IsLeftWith, IsFirstOf, IsRestore, next_lines, refused, said}
-use Rattle.std.proofs.Common.{is_some, append_assoc}
+use Rattle.backup_engine.proofs.Prelude.{◌≡◌, ◌⊎◌, inl, inr, ℕ, false, List, [], ◌∷◌, ◌++◌, length, take, Option, Some, None, refl, sym, ◌∙◌, ap, subst, arith, concat, Appended, DiskView, SinkView, Refusal, Sink, Refused, LineValue, AllFollow, Replied, IsFirstOf, IsRestore, next_lines, refused, said}
+use Rattle.std.proofs.Common.{append_assoc}
 use Rattle.std.proofs.lemmas.List.{append-nil, length-append}
-use Rattle.std.specs.FinMap as finite
+use Rattle.dd_io.specs.Flow.{AppendedPart}
 use Rattle.reply_text.specs.declared.ending.Ending.{Ending}
 use Rattle.script_lines.specs.Grammar as lines
 use Rattle.script_lines.specs.ReplyValue as replies
-use Rattle.store_machine.specs.Asked.{Asked}
-use Rattle.store_machine.specs.Asked as asked
-use Rattle.store_machine.specs.ByMap.{IsPartOfFile, RestoredFile, RestoreRefusal, RestoresByMap, RestoresThrough}
+use Rattle.store_machine.specs.ByMap.{RestoresByMap, RestoresThrough}
 use Rattle.store_machine.specs.Commands as machine
-use Rattle.store_machine.specs.Commands.{ends}
-use Rattle.store_machine.specs.Done.{Done}
-use Rattle.store_machine.specs.Done as done
-use Rattle.store_machine.specs.Legal.{Answers, ByState, Legal}
-use Rattle.store_machine.specs.Lines.{Line, step_of}
-use Rattle.store_machine.specs.Runs.{Run}
-use Rattle.backup_engine.specs.AnswersByMap.{EndsBy}
-use Rattle.backup_engine.proofs.AnswersByMap.{AnswersOpened, answers_call, nothing_of}
-use Rattle.backup_engine.proofs.Ran.{ran_cuts, ran_silent, restore_ran}
-use Rattle.backup_engine.proofs.Rested.{CanBeIf, all_lines, all_steps, answers_by, as_found, last, left_with, ran, rested, stays_left, was_store, WasStore}
+use Rattle.store_machine.specs.Commands.{Follows, ends, given_by}
+use Rattle.backup_engine.specs.AnswersByMap.{AnswersEachCall}
+use Rattle.backup_engine.specs.Line.{Restore}
+use Rattle.backup_engine.specs.Singles.{ReadsFile}
+use Rattle.backup_engine.proofs.AnswersByMap.{Says, answers_call, none_appended, opened_line, stays_after, told}
+use Rattle.backup_engine.proofs.NamesByMap.{spoken_cuts}
+use Rattle.backup_engine.proofs.Ran.{ran_silent, restore_ran}
 
 -- ---- the lines
 
@@ -31,33 +26,16 @@ module _ (name : List ℕ) (final : Replied) where
   reads_follow prev (bytes ∷ more) goes follows is =
       (goes, follows (lines.Next 0) refl, reads_follow (said (lines.Next 0) (replies.Bytes 0 bytes)) more refl (λ line same. same) is)
 
-  reads_printed : (segments : List (List ℕ)) → machine.printed (machine.Restore name) [] (next_lines segments ++ final ∷ [])
-      ≡ concat segments ++ machine.text_of (machine.Restore name) [] final.line final.reply
-  reads_printed [] = append-nil (machine.text_of (machine.Restore name) [] final.line final.reply)
-  reads_printed (bytes ∷ more) =
-      ap (λ (text : List ℕ). bytes ++ text) (reads_printed more) ∙ sym (append_assoc bytes (concat more) (machine.text_of (machine.Restore name) [] final.line final.reply))
+  reads_printed : (given : List ℕ) (segments : List (List ℕ)) → machine.printed (machine.Restore name) given (next_lines segments ++ final ∷ [])
+      ≡ concat segments ++ machine.text_of (machine.Restore name) given final.line final.reply
+  reads_printed given [] = append-nil (machine.text_of (machine.Restore name) given final.line final.reply)
+  reads_printed given (bytes ∷ more) =
+      ap (λ (text : List ℕ). bytes ++ text) (reads_printed given more)
+      ∙ sym (append_assoc bytes (concat more) (machine.text_of (machine.Restore name) given final.line final.reply))
 
   reads_last : (one : Replied) (segments : List (List ℕ)) → machine.last_of (one ∷ next_lines segments ++ final ∷ []) ≡ Some final
   reads_last one [] = refl
   reads_last one (bytes ∷ more) = reads_last (said (lines.Next 0) (replies.Bytes 0 bytes)) more
-
--- a name that was read has a file
-module _ (name : List ℕ) (count : ℕ) where
-  opened_file : (actor : ℕ) (told : Result Done Refusal) (m k : FileMachine) → replies.Reading 0 count ≡ reply_of actor told
-      → Answers of_files actor (asked.OpenRead name) told m k → (file : List ℕ) × (finite.get m.now.names name ≡ Some file)
-  opened_file actor (Ok (done.Opened number)) m k is (named, idle, (file, rest, has, starts, count_is, others)) = (file, has)
-  opened_file actor (Ok answer) m k is does = absurd does
-  opened_file actor (Err refusal) m k is refuses = absurd (let no : replies.Reading 0 count ≡ replies.Refused refusal = is in cc)
-
-  read_file : (ss : List (Stepped (List ℕ))) (d e : FileDesk) → d.machine.state ≡ Running → Line of_files (lines.Read 0 name) (replies.Reading 0 count) ss d e
-      → (file : List ℕ) × (finite.get d.machine.now.names name ≡ Some file)
-  read_file ss d e runs (run, inl (admits, (actor, step, (actor_is, step_is), (told, steps_are, reply_is), sessions))) =
-      let made : Run of_files (step_of of_files actor step told ∷ []) d.machine e.machine = subst (λ (xs : List (Stepped (List ℕ))). Run of_files xs d.machine e.machine) steps_are
-      run in
-      let legal : ByState of_files d.machine.state actor (asked.OpenRead name) told d.machine made.0 =
-      subst (λ (x : Asked (List ℕ)). Legal of_files (step_of of_files actor x told) d.machine made.0) step_is made.1.0 in
-      opened_file actor told d.machine made.0 reply_is (subst (λ (state : RunState (List ℕ)). ByState of_files state actor (asked.OpenRead name) told d.machine made.0) runs legal)
-  read_file ss d e runs (run, inr (refusal, bars, is, none, sessions)) = absurd (let no : replies.Reading 0 count ≡ replies.Refused refusal = is in cc)
 
 -- ---- a first part
 
@@ -72,151 +50,70 @@ wrote_first before now bytes first rest is wrote = record {
   is = subst (Appended before now) (sym (ap (take (length first)) is ∙ take_first first rest)) wrote;
 }
 
--- ---- what it answers
+-- ---- what it says
 
-module _ (given name : List ℕ) where
-  restore_ends : (m : Stored) (before content : Option (List ℕ)) (refusal : Refusal) → RestoreRefusal name (record { names = m.files; last = m.last }) refusal
-      → ((P : Store → Type 0) → ((s : Store) → P s) → IsLeftWith m content P) → EndsBy (Restore name) given m before content (Some (Refused refusal))
-  restore_ends m before content Memory may left = left (λ s. Unit {0}) (λ s. tt)
-  restore_ends m before content DiskRead may left = left (λ s. Unit {0}) (λ s. tt)
-  restore_ends m before content DiskWrite may left = left (λ s. Unit {0}) (λ s. tt)
-  restore_ends m before content BadName may left = left (λ s. ¬ (IsName name)) (λ s. may)
-  restore_ends m before content NoFile (named, none) left =
-      left (λ s. IsName name × (is_some (finite.get m.files name) ≡ false)) (λ s. (named, ap is_some none))
-  restore_ends m before content refusal may left = absurd may
+module _ (given name : List ℕ) (sink sink_now : SinkView) where
+  module _ (segments : List (List ℕ)) (final : Replied) (count : ℕ) where
+    abbrev read_lines : List Replied
+    read_lines = said (lines.Read 0 name) (replies.Reading 0 count) ∷ next_lines segments ++ final ∷ []
 
-  module _ (S : List ℕ → Type 0) (m : Stored) (store : Store) (v w : DiskView) (was : WasStore m store v) (sink sink_now : SinkView) (restores : RestoresByMap)
-      (through : RestoresThrough) (rs : List Replied) (runs : RunsByFiles S rs (unopened m store) v w)
-      (follow : (files : ℕ) → AllFollow (machine.Restore name) (said lines.Reopen (replies.Opened files)) rs) where
-    abbrev end : FileMachine
-    end = last S rs m store v w runs
+    read_follow : final.line ≡ lines.Next 0 → (files : ℕ) → AllFollow (machine.Restore name) (opened_line files) read_lines
+    read_follow is files = (refl, refl, reads_follow name final (said (lines.Read 0 name) (replies.Reading 0 count)) segments refl (λ line same. same) is)
 
-    abbrev restored : RestoredFile name (all_lines S rs m store v w runs) (rested m store) end
-    restored =
-        restores name (all_lines S rs m store v w runs) (all_steps S rs m store v w runs) (rested m store) runs.next refl (refl, follow runs.files) (ran S rs m store v w runs)
+    read_last : (files : ℕ) → machine.last_of (opened_line files ∷ read_lines) ≡ Some final
+    read_last files = reads_last name final (said (lines.Read 0 name) (replies.Reading 0 count)) segments
 
-    restore_left : (P : Store → Type 0) → ((s : Store) → P s) → IsLeftWith m w.content P
-    restore_left P each =
-        let opened : Store = restored.store.0 in
-        let at : RunsWith end opened = restored.store.2 in
-        left_with S rs m store v w runs opened at P was restored.store.1
-        (restored.found end.now (subst (λ (state : RunState (List ℕ)). MayBeFound of_files state end.now end.now) (sym at.0) refl)) (each opened)
+  read_so : (ending : Option Ending) (rs : List Replied) (segments : List (List ℕ)) (final : Replied) (reads : ReadsFile name segments final rs)
+      → Says (Restore name) given ending (read_lines segments final reads.0) sink sink_now → Says (Restore name) given ending rs sink sink_now
+  read_so ending rs segments final (count, is) says = subst (λ (l : List Replied). Says (Restore name) given ending l sink sink_now) (sym is) says
 
-    restore_answers : (ending : Option Ending) → CanBeIf (Restore name) given m ending → EndsBy (Restore name) given m v.content w.content ending
-        → Wrote (Restore name) given m ending sink sink_now → AnswersByMap S (Restore name) given ending m v w sink sink_now
-    restore_answers ending can by_map wrote =
-        answers_by S rs m store v w runs (Restore name) given ending
-        (λ x may d opens. stays_left S (Restore name) given m refl ending d (as_found S x (rested m store).now d (restored.found x may) opens)) was (machine.Restore name)
-        (refl, follow runs.files) (through name) sink sink_now can (inl by_map) wrote (restored.store.0, (restored.store.1, tt))
+  restore_says : (rs : List Replied) (ending : Option Ending) → IsRestore name ending sink sink_now rs → (rs ≡ []) ⊎ Says (Restore name) given ending rs sink sink_now
+  restore_says rs None (segments, (reads, wrote)) = inr (read_so None rs segments (said (lines.Next 0) (replies.End 0)) reads (record {
+    gave = λ files. tt;
+    follow = read_follow segments (said (lines.Next 0) (replies.End 0)) reads.0 refl;
+    found = λ files m n comes x may. comes.found x may;
+    ended = λ files. (said (lines.Next 0) (replies.End 0), read_last segments (said (lines.Next 0) (replies.End 0)) reads.0 files, tt);
+    wrote = λ files m n comes. subst (Appended sink.written sink_now.written)
+        (sym (reads_printed name (said (lines.Next 0) (replies.End 0)) (given_by 0 [] (opened_line files ∷ read_lines segments (said (lines.Next 0) (replies.End 0)) reads.0)) segments ∙ append-nil (concat segments))) wrote;
+  }))
+  restore_says rs (Some Sink) (segments, (bytes, (reads, (part, ((rest, first), wrote))))) =
+      inr (read_so (Some Sink) rs segments (said (lines.Next 0) (replies.Bytes 0 bytes)) reads (record {
+        gave = λ files. tt;
+    follow = read_follow segments (said (lines.Next 0) (replies.Bytes 0 bytes)) reads.0 refl;
+        found = λ files m n comes x may. comes.found x may;
+        ended = λ files. (said (lines.Next 0) (replies.Bytes 0 bytes), read_last segments (said (lines.Next 0) (replies.Bytes 0 bytes)) reads.0 files, (bytes, refl));
+        wrote = λ files m n comes. wrote_first sink.written sink_now.written
+            (machine.printed (machine.Restore name) (given_by 0 [] (opened_line files ∷ read_lines segments (said (lines.Next 0) (replies.Bytes 0 bytes)) reads.0))
+            (opened_line files ∷ read_lines segments (said (lines.Next 0) (replies.Bytes 0 bytes)) reads.0)) (concat segments ++ part) rest
+            (reads_printed name (said (lines.Next 0) (replies.Bytes 0 bytes))
+            (given_by 0 [] (opened_line files ∷ read_lines segments (said (lines.Next 0) (replies.Bytes 0 bytes)) reads.0)) segments ∙ ap (λ (l : List ℕ). concat segments ++ l) first
+            ∙ sym (append_assoc (concat segments) part rest)) wrote;
+      }))
+  restore_says rs (Some (Refused refusal)) (inl (memory, none, same)) = inl none
+  restore_says rs (Some (Refused refusal)) (inr (inl (is, same))) =
+      inr (subst (λ (l : List Replied). Says (Restore name) given (Some (Refused refusal)) l sink sink_now) (sym is) (record {
+        gave = λ files. tt;
+        follow = λ files. (refl, refl, tt);
+        found = λ files m n comes x may. stays_after (Restore name) given refusal m.now x (comes.found x may);
+        ended = λ files. inl (refused (lines.Read 0 name) refusal, refl, refl);
+        wrote = λ files m n comes. none_appended sink.written sink_now.written same;
+      }))
+  restore_says rs (Some (Refused refusal)) (inr (inr (segments, (reads, wrote)))) =
+      inr (read_so (Some (Refused refusal)) rs segments (refused (lines.Next 0) refusal) reads (record {
+        gave = λ files. tt;
+    follow = read_follow segments (refused (lines.Next 0) refusal) reads.0 refl;
+        found = λ files m n comes x may. stays_after (Restore name) given refusal m.now x (comes.found x may);
+        ended = λ files. inl (refused (lines.Next 0) refusal, read_last segments (refused (lines.Next 0) refusal) reads.0 files, refl);
+        wrote = λ files m n comes. subst (Appended sink.written sink_now.written)
+            (sym (reads_printed name (refused (lines.Next 0) refusal)
+            (given_by 0 [] (opened_line files ∷ read_lines segments (refused (lines.Next 0) refusal) reads.0)) segments ∙ append-nil (concat segments))) wrote;
+      }))
+  restore_says rs (Some ending) is = absurd is
 
-    restore_refused : (refusal : Refusal) → RestoreRefusal name (rested m store).now refusal → WroteFile (finite.get m.files name) (Some (Refused refusal)) sink sink_now
-        → AnswersByMap S (Restore name) given (Some (Refused refusal)) m v w sink sink_now
-    restore_refused refusal may wrote = restore_answers (Some (Refused refusal)) tt (restore_ends m v.content w.content refusal may restore_left) wrote
-
-  -- the name was read
-  module _ (S : List ℕ → Type 0) (m : Stored) (store : Store) (v w : DiskView) (was : WasStore m store v) (sink sink_now : SinkView) (restores : RestoresByMap)
-      (through : RestoresThrough) (segments : List (List ℕ)) (final : Replied) (is_next : final.line ≡ lines.Next 0) (count : ℕ)
-      (runs : RunsByFiles S (said (lines.Read 0 name) (replies.Reading 0 count) ∷ next_lines segments ++ final ∷ []) (unopened m store) v w) where
-    abbrev rs : List Replied
-    rs = said (lines.Read 0 name) (replies.Reading 0 count) ∷ next_lines segments ++ final ∷ []
-
-    follow : (files : ℕ) → AllFollow (machine.Restore name) (said lines.Reopen (replies.Opened files)) rs
-    follow files = (refl, refl, reads_follow name final (said (lines.Read 0 name) (replies.Reading 0 count)) segments refl (λ line is. is) is_next)
-
-    abbrev so : RestoredFile name (all_lines S rs m store v w runs) (rested m store) (last S rs m store v w runs)
-    so = restored S m store v w was sink sink_now restores through rs runs follow
-
-    abbrev text : List ℕ
-    text = concat segments ++ machine.text_of (machine.Restore name) [] final.line final.reply
-
-    printed_is : machine.printed (machine.Restore name) [] (all_lines S rs m store v w runs) ≡ text
-    printed_is = reads_printed name final segments
-
-    last_is : machine.last_of (all_lines S rs m store v w runs) ≡ Some final
-    last_is = reads_last name final (said (lines.Read 0 name) (replies.Reading 0 count)) segments
-
-    -- it has a file, of which this is a first part
-    had : (file : List ℕ) × (finite.get m.files name ≡ Some file)
-    had =
-        let now_is : runs.opened.now ≡ (rested m store).now = ap (λ (n : FileMachine). n.now) runs.opens.others ∙ runs.opens.may tt in
-        subst (λ (x : Found (List ℕ)). (file : List ℕ) × (finite.get x.names name ≡ Some file)) now_is
-        (read_file name count runs.lines_are.0 (desk runs.opened) runs.lines_are.2 (ap (λ (n : FileMachine). n.state) runs.opens.others) runs.lines_are.4)
-
-    file_first : (rest : List ℕ) × (had.0 ≡ text ++ rest)
-    file_first = by (subst (IsPartOfFile name (rested m store).now) printed_is so.part)
-      where
-        by : IsPartOfFile name (rested m store).now text → (rest : List ℕ) × (had.0 ≡ text ++ rest)
-        by (inl none) = (had.0, ap (λ (l : List ℕ). l ++ had.0) (sym none))
-        by (inr (file, has, (rest, is))) = let same : had.0 ≡ file = (let both : Some had.0 ≡ Some file = sym had.1 ∙ has in cc) in (rest, same ∙ is)
-
-    -- what was written of it
-    wrote_of : (e : Ending) (first more : List ℕ) → text ≡ first ++ more → Appended sink.written sink_now.written first
-        → WroteFile (finite.get m.files name) (Some e) sink sink_now
-    wrote_of e first more is wrote =
-        subst (λ (file : Option (List ℕ)). WroteFile file (Some e) sink sink_now) (sym had.1)
-        (wrote_first sink.written sink_now.written had.0 first (more ++ file_first.0)
-        (file_first.1 ∙ ap (λ (l : List ℕ). l ++ file_first.0) is ∙ append_assoc first more file_first.0) wrote)
-
-    abbrev answers : (ending : Option Ending) → CanBeIf (Restore name) given m ending → EndsBy (Restore name) given m v.content w.content ending
-        → Wrote (Restore name) given m ending sink sink_now → AnswersByMap S (Restore name) given ending m v w sink sink_now
-    answers = restore_answers S m store v w was sink sink_now restores through rs runs follow
-
-    restore_done : final ≡ said (lines.Next 0) (replies.End 0) → Appended sink.written sink_now.written (concat segments)
-        → AnswersByMap S (Restore name) given None m v w sink sink_now
-    restore_done is wrote =
-        let whole = so.done (final, last_is, subst (λ (one : Replied). machine.IsDone (machine.Restore name) one.reply) (sym is) tt) in
-        let text_is : text ≡ concat segments =
-        ap (λ (one : Replied). concat segments ++ machine.text_of (machine.Restore name) [] one.line one.reply) is ∙ append-nil (concat segments) in
-        answers None (ap is_some had.1) (ap is_some had.1)
-        (subst (λ (file : Option (List ℕ)). WroteFile file None sink sink_now) (sym whole)
-        (subst (Appended sink.written sink_now.written) (sym (printed_is ∙ text_is)) wrote))
-
-    restore_unwritten : (bytes part : List ℕ) → final ≡ said (lines.Next 0) (replies.Bytes 0 bytes) → IsFirstOf part bytes
-        → Appended sink.written sink_now.written (concat segments ++ part) → AnswersByMap S (Restore name) given (Some Sink) m v w sink sink_now
-    restore_unwritten bytes part is (more, bytes_is) wrote =
-        let text_is : text ≡ (concat segments ++ part) ++ more =
-        ap (λ (one : Replied). concat segments ++ machine.text_of (machine.Restore name) [] one.line one.reply) is ∙ ap (λ (l : List ℕ). concat segments ++ l) bytes_is
-        ∙ sym (append_assoc (concat segments) part more) in
-        answers (Some Sink) (ap is_some had.1) (ap is_some had.1) (wrote_of Sink (concat segments ++ part) more text_is wrote)
-
-    restore_stopped : (refusal : Refusal) → final ≡ refused (lines.Next 0) refusal → Appended sink.written sink_now.written (concat segments)
-        → AnswersByMap S (Restore name) given (Some (Refused refusal)) m v w sink sink_now
-    restore_stopped refusal is wrote =
-        let why = so.refused refusal (final, last_is, ap (λ (one : Replied). one.reply) is) in
-        restore_refused S m store v w was sink sink_now restores through rs runs follow refusal why
-        (wrote_of (Refused refusal) (concat segments) (machine.text_of (machine.Restore name) [] final.line final.reply) refl wrote)
-
-  module _ (rs : List Replied) (v w : DiskView) (sink sink_now : SinkView) (restores : RestoresByMap) (through : RestoresThrough) where
-    abbrev RestoresSo : Option Ending → Type 0
-    RestoresSo ending = (rs ≡ []) ⊎ AnswersOpened (Restore name) given ending rs v w sink sink_now
-
-    restore_spoken : (ending : Option Ending) → IsRestore name ending sink sink_now rs → RestoresSo ending
-    restore_spoken None (segments, ((count, is), wrote)) = inr (λ among m old distinct given_in known opens runs.
-        restore_done (IsIn among) m opens.store v w (was_store (IsIn among) m v old known opens) sink sink_now restores through segments (said (lines.Next 0) (replies.End 0)) refl
-        count
-        (subst (λ (l : List Replied). RunsByFiles (IsIn among) l (unopened m opens.store) v w) is runs) refl wrote)
-    restore_spoken (Some Sink) (segments, (bytes, ((count, is), (part, (first, wrote))))) = inr (λ among m old distinct given_in known opens runs.
-        restore_unwritten (IsIn among) m opens.store v w (was_store (IsIn among) m v old known opens) sink sink_now restores through segments
-        (said (lines.Next 0) (replies.Bytes 0 bytes)) refl count
-        (subst (λ (l : List Replied). RunsByFiles (IsIn among) l (unopened m opens.store) v w) is runs) bytes part refl first wrote)
-    restore_spoken (Some (Refused refusal)) (inl (memory, none, same)) = inl none
-    restore_spoken (Some (Refused refusal)) (inr (inl (is, same))) = inr (λ among m old distinct given_in known opens runs.
-        let made = subst (λ (l : List Replied). RunsByFiles (IsIn among) l (unopened m opens.store) v w) is runs in
-        let read : List Replied = refused (lines.Read 0 name) refusal ∷ [] in
-        let why = (restored (IsIn among) m opens.store v w (was_store (IsIn among) m v old known opens) sink sink_now restores through read made
-        (λ files. (refl, refl, tt))).refused refusal
-        (refused (lines.Read 0 name) refusal, refl, refl) in
-        restore_refused (IsIn among) m opens.store v w (was_store (IsIn among) m v old known opens) sink sink_now restores through read made (λ files. (refl, refl, tt)) refusal why
-        (nothing_of (finite.get m.files name) (Refused refusal) sink sink_now same))
-    restore_spoken (Some (Refused refusal)) (inr (inr (segments, ((count, is), wrote)))) = inr (λ among m old distinct given_in known opens runs.
-        restore_stopped (IsIn among) m opens.store v w (was_store (IsIn among) m v old known opens) sink sink_now restores through segments (refused (lines.Next 0) refusal) refl
-        count
-        (subst (λ (l : List Replied). RunsByFiles (IsIn among) l (unopened m opens.store) v w) is runs) refusal refl wrote)
-    restore_spoken (Some ending) is = absurd is
-
-pub restore_by_map : (D : Type 0) (view : D → DiskView) → ListsThrough → RestoresByMap → RestoresThrough → (name : List ℕ) → AnswersEachCall D view (Restore name)
-restore_by_map D view lists restores through name given rs ending old new source source_now sink sink_now =
-    answers_call D view (Restore name) given rs ending old new source source_now sink sink_now (IsRestore name ending sink sink_now) (λ v speaks. speaks) lists
-    (λ are. ran_silent ending rs sink sink_now (restore_ran rs sink sink_now name ending are))
-    (λ are among given_in m. ran_cuts ending rs sink sink_now (restore_ran rs sink sink_now name ending are) among m)
-    (restore_spoken given name rs (view old) (view new) sink sink_now restores through ending)
+pub restore_by_map : (D : Type 0) (view : D → DiskView) → RestoresByMap → RestoresThrough → (name : List ℕ) → AnswersEachCall D view (Restore name)
+restore_by_map D view restores through name given rs ending old new source source_now sink sink_now does among m distinct given_in running known =
+    answers_call D view (Restore name) (restores name) (through name) given rs ending old new source source_now sink sink_now does among m distinct
+    (spoken_cuts ending rs sink sink_now (IsRestore name ending sink sink_now) (restore_ran rs sink sink_now name ending)
+    (told D view (Restore name) given rs ending (view old) (view new) source source_now sink sink_now (IsRestore name ending sink sink_now) (λ v speaks. speaks) does) among m)
+    running known (λ runs. tt) (IsRestore name ending sink sink_now) (λ v speaks. speaks)
+    (λ are. ran_silent ending rs sink sink_now (restore_ran rs sink sink_now name ending are)) (restore_says given name sink sink_now rs ending)

@@ -5,9 +5,13 @@ use Rattle.reply_text.specs.declared.ending.Ending.{Ending}
 use Rattle.script_lines.specs.Grammar as lines
 use Rattle.script_lines.specs.ReplyValue as replies
 use Rattle.script_runner.specs.Acts.{RefusesReopen}
-use Rattle.script_runner.specs.AnyDisk.{LinesGiveWhatIsNamed, LinesGoOn}
+use Rattle.script_runner.specs.AnyDisk.{CountFaults, LinesGoOn}
+use Rattle.script_runner.specs.LinesAreRuns.{OpenedRunsByRoots, RunsByRoots, beside_roots}
+use Rattle.script_runner.specs.Shown.{WasOpened, WasShown}
+use Rattle.script_runner.proofs.DeskLines.{opened_so}
+use Rattle.store_machine.specs.Commands.{desk}
+use Rattle.store_machine.specs.Values.{of_roots}
 use Rattle.script_runner.specs.Frame.{IsOnContent, LinesKeepWritten, NeverSweeps, OpenedIsOn}
-use Rattle.script_runner.specs.Named.{Account, AllTell, CountFaults, GiveWhatIsNamed, Tells, WasOpened, WasShown, opened}
 use Rattle.script_runner.specs.Frame.{KeepsOver}
 use Rattle.backup_engine.specs.Frame.{KeepsAll, LinesKeepOthers}
 use Rattle.backup_engine.specs.Script as script
@@ -24,23 +28,25 @@ use Rattle.backup_engine.proofs.Unlent.{open_refusal, reads, shows}
 
 -- ---- what was shown
 
-module _ (Shown More : Store → Type 0) (each : (store : Store) → Shown store → More store) where
-  tells_so : (line : LineValue) (reply : ReplyValue) (t u : Account) → Tells Shown line reply t u → Tells More line reply t u
-  tells_so lines.Reopen (replies.Opened files) t u is = (is.0, (each is.0 is.1.0, is.1.1, is.1.2))
-  tells_so line reply t u is = is
+-- what was shown of the one disk was shown of the other
+module _ (old now other other_now : DiskView) (first : (store : Store) → WasOpened old now store → WasOpened other other_now store)
+    (each : (store : Store) → WasShown old now store → WasShown other other_now store) where
+  pub roots_so : (rs : List Replied) → RunsByRoots rs old now → RunsByRoots rs other other_now
+  roots_so rs is = record {
+    opened = is.opened;
+    opens = is.opens;
+    named = is.named;
+    shown = first is.opened.store is.shown;
+    steps = is.steps;
+    next = is.next;
+    lines_are = is.lines_are;
+    found = opened_so of_roots (λ m. beside_roots.Finds m old now) (λ m. beside_roots.Finds m other other_now) (λ m found. (found.0, each m.store found.1)) rs is.steps
+        (desk is.opened) is.next is.lines_are is.found;
+  }
 
-  all_tell : (rs : List Replied) (t : Account) → AllTell Shown rs t → AllTell More rs t
-  all_tell [] t all = tt
-  all_tell (one ∷ more) t all = (all.0, (tells_so one.line one.reply t all.0 all.1.0, all_tell more all.0 all.1.1))
-
-  module _ (First Wider : Store → Type 0) (first : (store : Store) → First store → Wider store) where
-    pub named_so : (rs : List Replied) → GiveWhatIsNamed First Shown rs → GiveWhatIsNamed Wider More rs
-    named_so rs named = record { store = named.store; shown = first named.store named.shown; tell = all_tell rs (opened named.store) named.tell }
-
-    pub named_or : (ending : Option Ending) (rs : List Replied) → script.IsUnopened ending rs ⊎ GiveWhatIsNamed First Shown rs →
-        script.IsUnopened ending rs ⊎ GiveWhatIsNamed Wider More rs
-    named_or ending rs (inl none) = inl none
-    named_or ending rs (inr named) = inr (named_so rs named)
+  pub roots_or : (ending : Option Ending) (rs : List Replied) → script.IsUnopened ending rs ⊎ RunsByRoots rs old now → script.IsUnopened ending rs ⊎ RunsByRoots rs other other_now
+  roots_or ending rs (inl none) = inl none
+  roots_or ending rs (inr is) = inr (roots_so rs is)
 
 -- ---- no line was run
 
@@ -65,7 +71,7 @@ module _ (v w : DiskView) (refusal : Refusal) (only : OnlyReads v w) (counted : 
         content = λ unswept old told. (old, only.content_is ∙ told, inl refl);
         crash = λ unswept old told. reads_leave v w only _;
       };
-      named = inl ((refusal, refl), refl);
+      by_roots = inl ((refusal, refl), refl);
       disk_faults = counted;
       source_faults = λ other. refl;
       sink_faults = λ other. refl;
@@ -136,7 +142,7 @@ runs_split C state (one ∷ before) last r s runs =
 
 module _ (D : Type 0) (view : D → DiskView) (C : Type 0) (state : C → CoreState) (before : D) (w : DiskView) (r s : RunnerState C)
     (called : Called C state (view before) w r.core s.core)
-    (go_on : LinesGoOn C state) (give : LinesGiveWhatIsNamed D view C state) (is_on : OpenedIsOn D view C state) (keep : LinesKeepWritten C state)
+    (go_on : LinesGoOn C state) (by_roots : OpenedRunsByRoots D view C state) (is_on : OpenedIsOn D view C state) (keep : LinesKeepWritten C state)
     (fresh : r.sessions ≡ replicate ACTORS None)
     (result : Result Unit Ending) (source source_now : SourceView) (sink sink_now : SinkView) (run : ScriptRun C state result r s source source_now sink sink_now) where
   abbrev v : DiskView
@@ -260,8 +266,8 @@ module _ (D : Type 0) (view : D → DiskView) (C : Type 0) (state : C → CoreSt
       caused = ends_so (EndsReopening run.rs) (IsRunRefusal run.rs v w source source_now) reopening (ending_in result) run.rs source source_now sink sink_now run.caused;
       wrote = run.wrote;
       frame = others;
-      named = inr (named_so (WasShown v last) (WasShown v w) wider (WasOpened v last) (WasOpened v w) wider_first run.rs
-          (give run.rs before r s called.opened called.first fresh run.actors run.runs));
+      by_roots = inr (roots_so v last v w wider_first wider run.rs
+          (by_roots run.rs before r s (record { opened = called.opened; durable = called.durable; reads = called.first }) fresh run.actors run.runs));
       disk_faults = counts_lines (ending_in result) run.rs source source_now sink sink_now v.faults w.faults run.caused counted;
       source_faults = run.source_faults;
       sink_faults = run.sink_faults;
@@ -302,8 +308,7 @@ module _ (loans loans_now : List ℕ) (v w : DiskView) where
         source source_now sink sink_now is.caused;
     wrote = is.wrote;
     frame = record { content = is.frame.content; crash = λ unswept old told. let leaves = is.frame.crash unswept old told in record { now = leaves.now; since = leaves.since } };
-    named = named_or (WasShown lent lent_now) (WasShown v w) shown_unlent (WasOpened lent lent_now) (WasOpened v w)
-        (λ store. shows loans loans_now v w (λ image. Encodes image store)) ending rs is.named;
+    by_roots = roots_or lent lent_now v w (λ store. shows loans loans_now v w (λ image. Encodes image store)) shown_unlent ending rs is.by_roots;
     disk_faults = is.disk_faults;
     source_faults = is.source_faults;
     sink_faults = is.sink_faults;

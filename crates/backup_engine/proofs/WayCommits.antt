@@ -15,7 +15,7 @@ use Rattle.store_model.specs.Refusals.{root_key}
 use Rattle.store_model.specs.Slots.{Copy}
 use Rattle.ingest_steps.specs.Writers.{IsCommitRefusal, IsNotStored, empty_root}
 use Rattle.ingest_steps.specs.Naming as naming
-use Rattle.backup_engine.specs.PlainMap.{HasPieces}
+use Rattle.backup_engine.specs.Causes.{HasPieces}
 use Rattle.backup_engine.proofs.FirstActor.{by_first, kept_represents, no_other, steps_of}
 use Rattle.store_machine.proofs.RootPieces.{HasRootPiece, root_piece}
 use Rattle.backup_engine.proofs.KeptPieces.{key_of_piece, kept_pieces, long_as_piece, twins}

@@ -16,7 +16,7 @@ use Rattle.ingest_steps.specs.Sealing.{IsCompared}
 use Rattle.ingest_steps.specs.SealStep.{IsStepRefusal}
 use Rattle.ingest_steps.proofs.PinList.{all_at}
 use Rattle.store_core.specs.Core.{IsDamage, KeepsUnlessBroken}
-use Rattle.backup_engine.specs.PlainMap.{LacksPiece}
+use Rattle.backup_engine.specs.Causes.{LacksPiece}
 use Rattle.backup_engine.proofs.FirstActor.{by_first, kept_represents, no_other}
 use Rattle.backup_engine.proofs.KeptPieces.{IsKeptChild, all_unpinned_twins, is_piece, kept_pieces, of_kind, unpinned_twins}
 use Rattle.backup_engine.proofs.UnlikeCopies.{unlike_refused}

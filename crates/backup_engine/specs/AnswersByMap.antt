@@ -1,139 +1,186 @@
--- A single command answers by the map: what follows of each call from its lines of the machine of files (docs/MODEL.md, 'The promise').
-use Rattle.std.specs.Prelude.{◌≡◌, ◌⊎◌, ℕ, List, Option, None, Some}
-use Rattle.std.specs.FinMap as finite
+-- A single command answers by the map: what its lines of the machine of files come to is what the plain map makes of it (docs/MODEL.md,
+-- 'The promise'). A machine at rest has the map: its names with their files, and the last sequence number.
+use Rattle.std.specs.Prelude.{◌≡◌, ◌⊎◌, ◌<◌, ℕ, IsTrue, List, [], ◌∷◌, Option, None, Some}
+use Rattle.base_model.specs.Bytes.{range}
 use Rattle.base_model.specs.Known.{Appended, Known, KnownWith}
-use Rattle.dd_disk.specs.View.{DiskView}
+use Rattle.container_meta.specs.Spelling.{HeaderValue}
+use Rattle.dd_disk.specs.View.{CrashLeaves, DiskView}
 use Rattle.dd_io.specs.Flow.{AppendedPart, SinkView, SourceView}
+use Rattle.disk_format.specs.declared.numbers.TheConstants.{SLOT_BYTES}
+use Rattle.disk_format.specs.Layout.{slot_at}
 use Rattle.refusals.specs.declared.refusal.Refusal.TheVariants.{DiskWrite}
 use Rattle.reply_text.specs.declared.ending.Ending.{Ending}
-use Rattle.reply_text.specs.declared.ending.Ending.TheVariants.{Words, Source, Sink, Line, Script, Refused}
-use Rattle.reply_text.specs.Text.{stored_line, deleted_line, listing_text}
-use Rattle.disk_format.specs.Cells.Change.{Delete as Gone}
-use Rattle.store_machine.specs.ByMap.{MakesRoom}
-use Rattle.store_machine.specs.Commands.{Replied}
-use Rattle.core_machine.specs.Unopened.{unopened}
-use Rattle.store_model.specs.Collisions.{HasNoCollisions, ByteSet, IsIn, OpensAs}
+use Rattle.reply_text.specs.declared.ending.Ending.TheVariants.{Source, Sink, Refused}
+use Rattle.script_lines.specs.Grammar as lines
+use Rattle.script_lines.specs.ReplyValue.{ReplyValue}
+use Rattle.script_lines.specs.ReplyValue as replies
+use Rattle.store_model.specs.Collisions.{ByteSet, HasNoCollisions, IsIn}
 use Rattle.store_model.specs.Files.{Stored}
-use Rattle.store_model.specs.Image.{Store, Encodes}
-use Rattle.store_model.specs.Standing.{IsSegmentOf, file_listing}
-use Rattle.store_model.specs.Steps.{with_change}
-use Rattle.store_model.specs.Trees.{root_of}
-use Rattle.backup_engine.specs.Adding.{Adds}
-use Rattle.backup_engine.specs.Collected.{collected_line}
+use Rattle.store_model.specs.Image.{Store}
+use Rattle.store_model.specs.Slots.{last_id}
+use Rattle.store_model.specs.Standing.{IsSegmentOf}
+use Rattle.store_state.specs.Refused.{fails}
+use Rattle.store_machine.specs.ByMap.{DeletedName, FileMachine, ListedNames, MakesRoom, RestoredFile}
+use Rattle.store_machine.specs.Collected.{HasContainer}
+use Rattle.store_machine.specs.CollectsAlone.{CollectedAlone}
+use Rattle.store_machine.specs.Commands as machine
+use Rattle.store_machine.specs.Commands.{Command, EndsRefused, EndsWith, IsDone, MayGoOn, Replied, given_by, printed}
+use Rattle.store_machine.specs.Ingests.{Ingested}
+use Rattle.store_machine.specs.Legal.{with_name, without_name}
+use Rattle.store_machine.specs.Machine.{Found, Running}
+use Rattle.store_machine.specs.Opening.{MayBeFound}
+use Rattle.store_machine.specs.Values.{of_files}
+use Rattle.core_machine.specs.FileOpenings.{LeavesFor, LeavesFound}
+use Rattle.core_machine.specs.Files.{IsOfFound, MayStand, StandsFor}
+use Rattle.core_machine.specs.Unopened.{unopened}
 use Rattle.backup_engine.specs.Line.{CommandLine, Format, Ingest, Restore, Delete, Collect}
 use Rattle.backup_engine.specs.Line as table
-use Rattle.backup_engine.specs.PlainMap.{map_after, CanBeDone}
-use Rattle.backup_engine.specs.Promise.{EndsFailing, LeavesMeanwhile, MayChange, RefusedBy, WroteReply}
+use Rattle.backup_engine.specs.Singles.{IsFirstOf, said}
 use Rattle.backup_engine.specs.TopCall.{DoesCommand}
+
+-- a map, as what may be found of a machine
+abbrev pub rest : Stored → Found (List ℕ)
+rest m = record { names = m.files; last = m.last }
+
+-- the machine at rest that has these files, in this store
+abbrev pub rested : Stored → Store → FileMachine
+rested m store = record (unopened m store) { state = Running }
+
+-- whose lines a command runs; a `format` runs none
+abbrev pub command_of : CommandLine → Command
+command_of (Format slots) = machine.Run
+command_of (Ingest name) = machine.Ingest name
+command_of (Restore name) = machine.Restore name
+command_of (Delete name) = machine.Delete name
+command_of table.List = machine.List
+command_of (Collect percent) = machine.Collect percent
+
+-- What they come to, from one machine to another: what is found then, what became of the store, what is printed, and why the last one was
+-- refused.
+abbrev pub ComesTo : CommandLine → List Replied → FileMachine → FileMachine → Type 0
+ComesTo (Format slots) rs m n = ⊥
+ComesTo (Ingest name) rs m n = Ingested name (given_by 0 [] rs) rs m n
+ComesTo (Restore name) rs m n = RestoredFile name rs m n
+ComesTo (Delete name) rs m n = DeletedName name rs m n
+ComesTo table.List rs m n = ListedNames rs m n
+ComesTo (Collect percent) rs m n = CollectedAlone percent rs m n
 
 -- ---- how it ended
 
--- It was done, but perhaps for its reply, and could be; or it was refused for its cause; or its source failed.
-abbrev pub EndsBy : CommandLine → List ℕ → Stored → Option (List ℕ) → Option (List ℕ) → Option Ending → Type 0
-EndsBy command given m before content None = CanBeDone command given m
-EndsBy command given m before content (Some Words) = ⊥
-EndsBy command given m before content (Some (Line number)) = ⊥
-EndsBy command given m before content (Some Script) = ⊥
-EndsBy command given m before content (Some Source) = (name : List ℕ) × (command ≡ Ingest name)
-EndsBy command given m before content (Some Sink) = CanBeDone command given m
-EndsBy command given m before content (Some (Refused refusal)) = RefusedBy command given m before content refusal
+abbrev pub WasDone : Command → List Replied → Type 0
+WasDone command rs = EndsWith (λ one. IsDone command one.reply) rs
 
--- ---- what was written
+-- a segment of the file was given last
+abbrev pub GaveBytes : List Replied → Type 0
+GaveBytes rs = EndsWith (λ one. (bytes : List ℕ) × (one.reply ≡ replies.Bytes 0 bytes)) rs
 
--- of a file that is given back: all of it, or, where the command was not done, a first part
-abbrev pub WroteFile : Option (List ℕ) → Option Ending → SinkView → SinkView → Type 0
-WroteFile None ending sink sink_now = sink_now.written ≡ sink.written
-WroteFile (Some bytes) None sink sink_now = Appended sink.written sink_now.written bytes
-WroteFile (Some bytes) (Some ending) sink sink_now = AppendedPart sink.written sink_now.written bytes
+abbrev pub EndsAtSink : Command → List Replied → Type 0
+EndsAtSink (machine.Restore name) rs = GaveBytes rs
+EndsAtSink command rs = WasDone command rs
 
-abbrev pub Wrote : CommandLine → List ℕ → Stored → Option Ending → SinkView → SinkView → Type 0
-Wrote (Format slots) given m ending sink sink_now = sink_now.written ≡ sink.written
-Wrote (Ingest name) given m ending sink sink_now = WroteReply (stored_line name (root_of given)) ending sink sink_now
-Wrote (Restore name) given m ending sink sink_now = WroteFile (finite.get m.files name) ending sink sink_now
-Wrote (Delete name) given m ending sink sink_now = WroteReply (deleted_line name) ending sink sink_now
-Wrote table.List given m ending sink sink_now = WroteReply (listing_text (file_listing m.files)) ending sink sink_now
-Wrote (Collect percent) given m ending sink sink_now = (freed copied : ℕ) × WroteReply (collected_line freed copied) ending sink sink_now
+abbrev pub EndsAtSource : Command → List Replied → Type 0
+EndsAtSource (machine.Ingest name) rs = MayGoOn (machine.Ingest name) rs
+EndsAtSource command rs = ⊥
+
+-- As its lines did: it was done, but perhaps for its reply, or of a `restore` for the bytes that were given last; the source of an `ingest`
+-- failed where a line was to come; or it was refused as the last line was, or there was no memory for more, or a call of the disk failed.
+abbrev pub EndsAs : Command → List Replied → Option Ending → Type 0
+EndsAs command rs None = WasDone command rs
+EndsAs command rs (Some Sink) = EndsAtSink command rs
+EndsAs command rs (Some Source) = EndsAtSource command rs
+EndsAs command rs (Some (Refused refusal)) = EndsRefused refusal rs ⊎ IsTrue (fails refusal)
+EndsAs command rs (Some ending) = ⊥
+
+-- What they print was written, or a first part of it where the sink failed. Of a command that ended otherwise nothing was, but of a
+-- `restore` all that was given.
+abbrev pub WritesRefused : Command → List ℕ → SinkView → SinkView → Type 0
+WritesRefused (machine.Restore name) text sink sink_now = Appended sink.written sink_now.written text
+WritesRefused command text sink sink_now = sink_now.written ≡ sink.written
+
+abbrev pub WritesText : Command → Option Ending → List ℕ → SinkView → SinkView → Type 0
+WritesText command None text sink sink_now = Appended sink.written sink_now.written text
+WritesText command (Some Sink) text sink sink_now = AppendedPart sink.written sink_now.written text
+WritesText command (Some ending) text sink sink_now = WritesRefused command text sink sink_now
+
+-- ---- the map
+
+-- the map after a command that is done
+abbrev pub map_after : CommandLine → List ℕ → Found (List ℕ) → Found (List ℕ)
+map_after (Ingest name) given now = with_name of_files name given now
+map_after (Delete name) given now = without_name of_files name now
+map_after command given now = now
+
+-- It is that where the command was done, but perhaps for its reply; the map as it was where it ended otherwise; and one of both where a
+-- write or a sync failed.
+abbrev pub IsAfter : CommandLine → List ℕ → Option Ending → Found (List ℕ) → Found (List ℕ) → Type 0
+IsAfter command given None now x = x ≡ map_after command given now
+IsAfter command given (Some Sink) now x = x ≡ map_after command given now
+IsAfter command given (Some (Refused DiskWrite)) now x = (x ≡ now) ⊎ (x ≡ map_after command given now)
+IsAfter command given (Some ending) now x = x ≡ now
+
+-- what the lines of an `ingest` gave comes first of what the source did, and is all of it where the name was to have it
+abbrev pub Gave : CommandLine → List ℕ → List Replied → Type 0
+Gave (Ingest name) given rs =
+    IsFirstOf (given_by 0 [] rs) given × (EndsWith (λ one. one.line ≡ lines.Commit 0 name) rs → given_by 0 [] rs ≡ given)
+Gave command given rs = Unit {0}
 
 -- ---- what is left
 
--- As what the content, and each image that a crash leaves, can be opened at the end: the map as it was, or as it is after the command,
--- where that could be done.
-abbrev pub IsLeftAs : (List ℕ → Type 0) → CommandLine → List ℕ → Stored → Option Ending → List ℕ → Type 0
-IsLeftAs S command given m None image = OpensAs S (map_after command given m) image
-IsLeftAs S command given m (Some Sink) image = OpensAs S (map_after command given m) image
-IsLeftAs S command given m (Some (Refused DiskWrite)) image =
-    OpensAs S m image ⊎ (CanBeDone command given m × OpensAs S (map_after command given m) image)
-IsLeftAs S command given m (Some ending) image = OpensAs S m image
+-- What reads give at the end, and each image that a crash leaves then, is a store of what may be found at the last machine; and at any
+-- moment of the call a crash leaves an image of the map as it was, or of what may be found at the last machine, or one that it might have
+-- left before. Where the opening was refused, the map stays, and images of before may last.
+abbrev pub LeavesBy : ReplyValue → (List ℕ → Type 0) → FileMachine → FileMachine → DiskView → DiskView → Type 0
+LeavesBy (replies.Opened files) S m n disk disk_now =
+    StandsFor S n disk_now × CrashLeaves (λ image. IsOfFound S m image ⊎ IsOfFound S n image) disk disk_now
+LeavesBy reply S m n disk disk_now = LeavesFor S n disk disk_now × LeavesFound S m disk disk_now
 
--- what a crash may leave at any moment of the command
-abbrev pub MayBeMeanwhile : (List ℕ → Type 0) → CommandLine → List ℕ → Stored → Option Ending → List ℕ → Type 0
-MayBeMeanwhile S command given m ending image =
-    OpensAs S m image ⊎ (MayChange ending × CanBeDone command given m × OpensAs S (map_after command given m) image)
+-- which containers stand where they stood, byte for byte; each other one came since, under an id above all of before
+abbrev pub KeepsSlots : Store → Store → List ℕ → List ℕ → Type 0
+KeepsSlots opened store old new = (slot : ℕ) (h : HeaderValue) → HasContainer store slot h
+    → (HasContainer opened slot h × (range (slot_at slot) SLOT_BYTES new ≡ range (slot_at slot) SLOT_BYTES old))
+    ⊎ (last_id opened.held < h.id)
 
--- it was not done
-abbrev pub WasNotDone : Option Ending → Type 0
-WasNotDone ending = (e : Ending) × (ending ≡ Some e) × ¬ (e ≡ Sink)
-
--- P holds of what reads give, and of each image that a crash leaves now; where the command was not done one may be left from before it.
-pub record LeavesAs (P : List ℕ → Type 0) (ending : Option Ending) (disk disk_now : DiskView) : Type 0 where
-  pub content : KnownWith disk_now.content P
-  pub images : (c : List ℕ) → disk_now.images c → P c ⊎ (WasNotDone ending × disk.images c)
-
--- the content is this store
-abbrev pub IsStore : Store → Option (List ℕ) → Type 0
-IsStore store content = KnownWith content (λ image. Encodes image store)
-
--- The content was a store, which was opened: containers that no file needs were given back, until two slots were closed. P holds of that.
-pub record OpensStore (m : Stored) (old : List ℕ) (P : Store → Type 0) : Type 0 where
-  pub store : Store
-  pub right : Encodes old store
-  pub opened : Store
-  pub room : MakesRoom (unopened m store) opened
-  pub has : P opened
-
--- An `ingest` adds pieces of its file to it, each of them once, and its name. A `delete` puts a record into it that the name is gone, and
--- nothing else; of a write or a sync of that that failed nothing is said. A `list` leaves it. (What a `collect` gives back:
--- CollectsByMap.antt.)
-abbrev pub ChangesStore : CommandLine → List ℕ → Option Ending → Store → Option (List ℕ) → Type 0
-ChangesStore (Ingest name) given ending opened content = Adds name given ending opened content
-ChangesStore (Delete name) given None opened content = IsStore (with_change name Gone opened) content
-ChangesStore (Delete name) given (Some Sink) opened content = IsStore (with_change name Gone opened) content
-ChangesStore (Delete name) given (Some (Refused DiskWrite)) opened content = Unit {0}
-ChangesStore (Delete name) given (Some ending) opened content = IsStore opened content
-ChangesStore table.List given ending opened content = IsStore opened content
-ChangesStore command given ending opened content = Unit {0}
-
--- The store was not opened, or no line was run, and it failed: the content is as it was, or room was made in it and nothing else; or a
--- write or a sync failed.
-abbrev pub StaysUnopened : Option Ending → Stored → Option (List ℕ) → Option (List ℕ) → Type 0
-StaysUnopened ending m before content = EndsFailing ending
-    × ((ending ≡ Some (Refused DiskWrite))
-    ⊎ KnownWith before (λ old. (content ≡ Some old) ⊎ OpensStore m old (λ opened. IsStore opened content)))
+-- So a `collect` leaves the containers of the store that was opened, unless a write failed.
+abbrev pub KeepsBytes : CommandLine → List Replied → FileMachine → FileMachine → DiskView → DiskView → Type 0
+KeepsBytes (Collect percent) rs m n disk disk_now = (EndsRefused DiskWrite rs → ⊥) → Known disk.content (λ old. KnownWith disk_now.content
+    (λ new. (opened : Store) × MakesRoom m opened × KeepsSlots opened n.store old new))
+KeepsBytes command rs m n disk disk_now = Unit {0}
 
 -- ---- all of it
 
--- Over a content that can be opened as the map m the command answers by the map, or fails for want of memory or as a call of the disk
--- failed; and it leaves the map as it was or as it is after the command, at the end and at every moment before, but for what a crash might
--- have left before it.
-pub record AnswersByMap (S : List ℕ → Type 0) (command : CommandLine) (given : List ℕ) (ending : Option Ending) (m : Stored)
-    (disk disk_now : DiskView) (sink sink_now : SinkView) : Type 0 where
-  pub by_map : EndsBy command given m disk.content disk_now.content ending ⊎ EndsFailing ending
-  pub wrote : Wrote command given m ending sink sink_now
-  pub store : KnownWith disk.content (λ old. OpensStore m old (λ opened. ChangesStore command given ending opened disk_now.content))
-      ⊎ StaysUnopened ending m disk.content disk_now.content
-  pub left : LeavesAs (IsLeftAs S command given m ending) ending disk disk_now
-  pub crash : LeavesMeanwhile (MayBeMeanwhile S command given m ending) disk disk_now
+-- where the store was opened
+abbrev pub IfOpened : ReplyValue → Type 0 → Type 0
+IfOpened (replies.Opened files) P = P
+IfOpened reply P = Unit {0}
 
--- It holds where no two different data segments have one digest: of a set of those that the disk holds and is given.
-abbrev pub AnswersEachMap : CommandLine → List ℕ → Option Ending → DiskView → DiskView → SinkView → SinkView → Type 0
-AnswersEachMap command given ending disk disk_now sink sink_now =
-    Known disk.content (λ old. (among : ByteSet) (m : Stored) → HasNoCollisions (IsIn among)
-    → ((bytes : List ℕ) → IsSegmentOf given bytes → IsIn among bytes) → OpensAs (IsIn among) m old
-    → AnswersByMap (IsIn among) command given ending m disk disk_now sink sink_now)
+-- the opening was done; or it was refused, and so was the call, which ran no line
+abbrev pub BeginsBy : ReplyValue → List Replied → Option Ending → Type 0
+BeginsBy (replies.Opened files) rs ending = Unit {0}
+BeginsBy (replies.Refused refusal) rs ending = (rs ≡ []) × (ending ≡ Some (Refused refusal))
+BeginsBy reply rs ending = ⊥
 
--- So it is of each call of the command, by what the top call says of it.
+-- The lines that the command ran, its opening first, come to what the plain map makes of it, from the machine m on: so what may be found at
+-- its end is the map after the command, or the map as it was. What they print was written.
+pub record AnswersByMap (S : List ℕ → Type 0) (command : CommandLine) (given : List ℕ) (rs : List Replied) (ending : Option Ending)
+    (m : FileMachine) (disk disk_now : DiskView) (sink sink_now : SinkView) : Type 0 where
+  pub first : ReplyValue
+  pub begins : BeginsBy first rs ending
+  pub next : FileMachine
+  pub comes : ComesTo command (said lines.Reopen first ∷ rs) m next
+  pub gave : Gave command given (said lines.Reopen first ∷ rs)
+  pub ended : EndsAs (command_of command) (said lines.Reopen first ∷ rs) ending
+  pub found : (x : Found (List ℕ)) → MayBeFound of_files next.state next.now x → IsAfter command given ending m.now x
+  pub wrote : WritesText (command_of command) ending
+      (printed (command_of command) (given_by 0 [] (said lines.Reopen first ∷ rs)) (said lines.Reopen first ∷ rs)) sink sink_now
+  pub left : LeavesBy first S m next disk disk_now
+  pub bytes : IfOpened first (KeepsBytes command (said lines.Reopen first ∷ rs) m next disk disk_now)
+
+-- So it is of each call of the command, by what the top call says of it: from each machine at rest for which the content may stand, where no
+-- two different data segments have one digest, of a set of those that the disk holds and that are given.
 abbrev pub AnswersEachCall : (D : Type 0) → (D → DiskView) → CommandLine → Type 0
 AnswersEachCall D view command = (given : List ℕ) (rs : List Replied) (ending : Option Ending) (old new : D)
     (source source_now : SourceView) (sink sink_now : SinkView)
     → DoesCommand D view command given rs ending (view old) (view new) source source_now sink sink_now
-    → AnswersEachMap command given ending (view old) (view new) sink sink_now
+    → (among : ByteSet) (m : FileMachine) → HasNoCollisions (IsIn among) → ((bytes : List ℕ) → IsSegmentOf given bytes → IsIn among bytes)
+    → m.state ≡ Running → KnownWith (view old).content (MayStand (IsIn among) m)
+    → AnswersByMap (IsIn among) command given rs ending m (view old) (view new) sink sink_now

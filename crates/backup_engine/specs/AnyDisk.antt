@@ -62,7 +62,7 @@ use Rattle.store_machine.specs.Storing.{AddsOnce}
 use Rattle.backup_engine.specs.Collected.{IsOfCollection, collected_line}
 use Rattle.backup_engine.specs.Line.{CommandLine, Format, Ingest, Restore, Delete, Collect, name_of}
 use Rattle.backup_engine.specs.Line as table
-use Rattle.backup_engine.specs.PlainMap.{HasNumbers, Room, room, RefusesIngest, RefusesRestore, RefusesDelete, MayDelete, HasAll}
+use Rattle.backup_engine.specs.Causes.{HasNumbers, Room, room, RefusesIngest, RefusesRestore, RefusesDelete, MayDelete, HasAll}
 use Rattle.backup_engine.specs.Promise.{WroteReply}
 
 -- ---- what reads showed

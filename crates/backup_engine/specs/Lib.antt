@@ -1,11 +1,9 @@
-pub mod Adding
 pub mod AnyDisk
 pub mod ByFiles
 pub mod CallsByFiles
 pub mod Checking
 pub mod Collected
 pub mod Collecting
-pub mod CollectsByMap
 pub mod Frame
 pub mod Giving
 pub mod Line
@@ -14,7 +12,7 @@ pub mod Lines
 pub mod Lists
 pub mod Naming
 pub mod Noted
-pub mod PlainMap
+pub mod Causes
 pub mod Promise
 pub mod Putting
 pub mod Reopening

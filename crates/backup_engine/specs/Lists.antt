@@ -1,39 +1,34 @@
 -- What holds of calls of `backup`, one after the other over one disk (docs/MODEL.md, 'Lists of commands').
-use Rattle.std.specs.Prelude.{◌≡◌, ◌⊎◌, ℕ, List, [], ◌∷◌, ◌++◌, Option, None, Some, Ok}
+use Rattle.std.specs.Prelude.{◌≡◌, ◌⊎◌, ℕ, List, [], ◌∷◌, ◌++◌, Option, None, Some}
 use Rattle.std.specs.List.{AllByRecursion}
-use Rattle.base_model.specs.Known.{Known, KnownWith}
+use Rattle.base_model.specs.Known.{KnownWith}
 use Rattle.dd_disk.specs.View.{DiskView, IsDurable}
 use Rattle.dd_io.specs.Flow.{SourceView, SinkView}
-use Rattle.refusals.specs.declared.refusal.Refusal.TheVariants.{DiskWrite}
 use Rattle.reply_text.specs.declared.ending.Ending.{Ending}
-use Rattle.reply_text.specs.declared.ending.Ending.TheVariants.{Sink, Refused}
+use Rattle.reply_text.specs.declared.ending.Ending.TheVariants.{Sink}
 use Rattle.script_lines.specs.Grammar as lines
 use Rattle.script_lines.specs.ReplyValue.{ReplyValue}
-use Rattle.script_runner.specs.LinesAreFileRuns.{FileDesk, IsCutBy}
+use Rattle.script_runner.specs.LinesAreFileRuns.{FileDesk}
 use Rattle.script_runner.specs.LinesAreRuns.{Passes}
 use Rattle.store_model.specs.Collisions.{HasNoCollisions, ByteSet, IsIn, IsOf, OpensAs}
 use Rattle.store_model.specs.Files.{Stored, no_files}
 use Rattle.store_model.specs.Image.{Store}
 use Rattle.store_machine.specs.ByMap.{FileMachine}
 use Rattle.store_machine.specs.Commands.{Lines, Replied, desk, run_of}
-use Rattle.store_machine.specs.Done as done
 use Rattle.store_machine.specs.Machine.{Found, Stepped}
 use Rattle.store_machine.specs.Opening.{MayBeFound}
 use Rattle.store_machine.specs.Values.{of_files}
-use Rattle.core_machine.specs.FileOpenings.{Reopens}
-use Rattle.core_machine.specs.Files.{stored_in}
-use Rattle.core_machine.specs.Unopened.{unopened}
+use Rattle.core_machine.specs.Files.{MayStand, stored_in}
 use Rattle.store_model.specs.Standing.{IsSegmentOf}
 use Rattle.backup_engine.specs.AnyDisk.{Formats}
 use Rattle.backup_engine.specs.Checking.{ChecksDisk}
 use Rattle.backup_engine.specs.Line.{CommandLine, Format, TableLine, Single, Run, Check}
-use Rattle.backup_engine.specs.PlainMap.{map_after, CanBeDone}
 use Rattle.backup_engine.specs.Promise.{SinceStart, Stands}
 use Rattle.backup_engine.specs.Seen.{Seen}
 use Rattle.backup_engine.specs.TopCall.{Promise, KeepsLine}
-use Rattle.backup_engine.specs.ByFiles.{RefusedByFiles, RunsByFiles}
+use Rattle.backup_engine.specs.ByFiles.{CutsAmong, RefusedByFiles, RunsByFiles}
 use Rattle.backup_engine.specs.Singles.{said}
-use Rattle.backup_engine.specs.AnswersByMap.{AnswersByMap, EndsBy, WasNotDone}
+use Rattle.backup_engine.specs.AnswersByMap.{AnswersByMap, IsAfter, rest, rested}
 
 -- One call: the line that its words are, if they are one; its status; source, sink and notes before and after. And, as the
 -- promise has it, how it ended, what its source gave, and which lines of a script were run.
@@ -83,22 +78,14 @@ IsPromised D view = (c : Call) (old new : D)
     → (ending : Option Ending) × ((given : List ℕ) × ((rs : List Replied)
     × KeepsCall D view (record c { ending = ending; given = given; rs = rs }) (view old) (view new)))
 
--- A line that was done, but perhaps for its reply, leads to the map after it; where a write or a sync failed, to that, if it
--- could be done, or to the map as it was; and at any other ending to the map as it was.
-abbrev pub LeadsBy : CommandLine → List ℕ → Option Ending → Stored → Stored → Type 0
-LeadsBy command given None m next = next ≡ map_after command given m
-LeadsBy command given (Some Sink) m next = next ≡ map_after command given m
-LeadsBy command given (Some (Refused DiskWrite)) m next = (next ≡ m) ⊎ (CanBeDone command given m × (next ≡ map_after command given m))
-LeadsBy command given (Some ending) m next = next ≡ m
-
--- The lines of a script, its opening first, as lines of the machine that has these files and is not open yet.
+-- The lines of a script, its opening first, as lines of the machine at rest that has these files.
 pub record IsScriptOf (rs : List Replied) (m : Stored) : Type 0 where
   pub store : Store
   -- what the opening replied
   pub first : ReplyValue
   pub steps : List (Stepped (List ℕ))
   pub last : FileDesk
-  pub lines_are : Lines of_files (said lines.Reopen first ∷ rs) steps (desk (unopened m store)) last
+  pub lines_are : Lines of_files (said lines.Reopen first ∷ rs) steps (desk (rested m store)) last
 
 -- They lead to the files that may be found at the last machine of their run.
 pub record ScriptLeads (rs : List Replied) (m next : Stored) : Type 0 where
@@ -111,16 +98,17 @@ pub record ScriptLeads (rs : List Replied) (m next : Stored) : Type 0 where
 pub record ScriptPasses (rs : List Replied) (m next : Stored) : Type 0 where
   pub script : IsScriptOf rs m
   pub found : Found (List ℕ)
-  pub passed : Passes of_files (λ n. MayBeFound of_files n.state n.now found) script.steps (unopened m script.store) script.last.machine
-      (run_of of_files (said lines.Reopen script.first ∷ rs) script.steps (desk (unopened m script.store)) script.last script.lines_are)
+  pub passed : Passes of_files (λ n. MayBeFound of_files n.state n.now found) script.steps (rested m script.store) script.last.machine
+      (run_of of_files (said lines.Reopen script.first ∷ rs) script.steps (desk (rested m script.store)) script.last script.lines_are)
   pub next_is : next ≡ stored_in found
 
--- words that are no line, and a `check`, lead to the map as it was
+-- A command leads to the map after it, or to the map as it was, as `IsAfter` has it; a `format` of a disk that has a store, words that are no
+-- line, and a `check` lead to the map as it was.
 abbrev pub MayLead : Option TableLine → Call → Stored → Stored → Type 0
-MayLead None c m next = next ≡ m
-MayLead (Some (Single command)) c m next = LeadsBy command c.given c.ending m next
+MayLead (Some (Single (Format slots))) c m next = next ≡ m
+MayLead (Some (Single command)) c m next = IsAfter command c.given c.ending (rest m) (rest next)
 MayLead (Some Run) c m next = ScriptLeads c.rs m next
-MayLead (Some Check) c m next = next ≡ m
+MayLead line c m next = next ≡ m
 
 -- to which maps a call may have come when a crash stops it; it may also have done nothing yet
 abbrev pub MayPass : Option TableLine → Call → Stored → Stored → Type 0
@@ -152,64 +140,60 @@ FormatBegins D view = (among : ByteSet) (slots : ℕ) (c : Call) (old new : D) �
     → KeepsCall D view c (view old) (view new) → c.line ≡ Some (Single (Format slots)) → c.status ≡ 0
     → Stands (IsOf (IsIn among) (record { files = no_files; last = 0 })) (view new)
 
--- What a call is given, and what is cut of it on the way, is among S.
-pub record IsGivenAmong (S : List ℕ → Type 0) (c : Call) : Type 0 where
-  pub given : (bytes : List ℕ) → IsSegmentOf c.given bytes → S bytes
-  pub cut : (m : Stored) (store : Store) (files : ℕ) (opened : FileMachine) (bytes : List ℕ)
-      → Reopens 0 (Ok (done.Reopened files)) (unopened m store) opened → IsCutBy c.rs (desk opened) bytes → S bytes
+-- What a call is given, and what is cut of it on the way, is among these.
+pub record IsGivenAmong (among : ByteSet) (c : Call) : Type 0 where
+  pub given : (bytes : List ℕ) → IsSegmentOf c.given bytes → IsIn among bytes
+  pub cut : (m : FileMachine) → CutsAmong among c.rs m
 
--- No two different data segments of S have one digest, and those that the calls are given are among S. The disk tells its
--- content, and that and each image are of the map m.
-pub record BeginsOfMap (S : List ℕ → Type 0) (calls : List Call) (m : Stored) (disk : DiskView) : Type 0 where
-  pub apart : HasNoCollisions S
-  pub given : AllByRecursion (IsGivenAmong S) calls
-  pub stands : Stands (OpensAs S m) disk
+-- No two different data segments of these have one digest, and those that the calls are given are among them. The disk tells its content,
+-- and that and each image are of the map m.
+pub record BeginsOfMap (among : ByteSet) (calls : List Call) (m : Stored) (disk : DiskView) : Type 0 where
+  pub apart : HasNoCollisions (IsIn among)
+  pub given : AllByRecursion (IsGivenAmong among) calls
+  pub stands : Stands (OpensAs (IsIn among) m) disk
 
 -- After the calls the disk tells its content, and that and each image are of maps that the calls may lead to.
 abbrev pub LeavesPossible : (D : Type 0) → (D → DiskView) → Type 0
-LeavesPossible D view = (among : ByteSet) (m : Stored) (calls : List Call) (old new : D) → BeginsOfMap (IsIn among) calls m (view old)
+LeavesPossible D view = (among : ByteSet) (m : Stored) (calls : List Call) (old new : D) → BeginsOfMap among calls m (view old)
     → CallRun D view calls old new → Stands (Possible (IsIn among) calls m) (view new)
 
--- nothing was written: so images from before may last
-pub record NothingWritten (ending : Option Ending) (disk disk_now : DiskView) : Type 0 where
-  pub not_done : WasNotDone ending
+-- A `format` of a disk that has a store is not done, and changes nothing, so that images from before may last; it replies nothing.
+pub record FormatsNothing (c : Call) (disk disk_now : DiskView) : Type 0 where
+  pub not_done : (e : Ending) × (c.ending ≡ Some e) × ¬ (e ≡ Sink)
   pub content : disk_now.content ≡ disk.content
-  pub images : (c : List ℕ) → disk_now.images c → disk.images c
-
--- A `format` opens no store, and so makes no room. Over one it is not done, and changes nothing; and where two slots or more are closed,
--- it is refused as the map has it.
-pub record FormatsNothing (S : List ℕ → Type 0) (slots : ℕ) (c : Call) (m : Stored) (disk disk_now : DiskView) : Type 0 where
-  pub nothing : NothingWritten c.ending disk disk_now
-  pub crash : (image : List ℕ) → SinceStart disk disk_now image → disk.images image
+  pub images : (image : List ℕ) → SinceStart disk disk_now image → disk.images image
   pub wrote : c.sink_now.written ≡ c.sink.written
-  pub by_map : Known disk.content (λ old. IsOf S m old → EndsBy (Format slots) c.given m disk.content disk_now.content c.ending)
 
--- what a command answers to a map that it finds
+-- what a command answers to a map that it finds, of the store that the content is
 abbrev pub AnswersBy : (List ℕ → Type 0) → CommandLine → Call → Stored → DiskView → DiskView → Type 0
-AnswersBy S (Format slots) c m disk disk_now = FormatsNothing S slots c m disk disk_now
-AnswersBy S command c m disk disk_now = AnswersByMap S command c.given c.ending m disk disk_now c.sink c.sink_now
+AnswersBy S (Format slots) c m disk disk_now = FormatsNothing c disk disk_now
+AnswersBy S command c m disk disk_now = (store : Store) × KnownWith disk.content (MayStand S (rested m store))
+    × AnswersByMap S command c.given c.rs c.ending (rested m store) disk disk_now c.sink c.sink_now
 
 -- A command that is called after them answers by one of these maps: that of the content which it finds.
 abbrev pub AnswersByTheMap : (D : Type 0) → (D → DiskView) → Type 0
 AnswersByTheMap D view = (among : ByteSet) (m : Stored) (calls : List Call) (last : Call) (command : CommandLine) (old mid new : D)
-    → BeginsOfMap (IsIn among) (calls ++ last ∷ []) m (view old) → CallRun D view calls old mid
+    → BeginsOfMap among (calls ++ last ∷ []) m (view old) → CallRun D view calls old mid
     → KeepsCall D view last (view mid) (view new) → last.line ≡ Some (Single command)
     → (found : Stored) × (LeadsTo calls m found × KnownWith (view mid).content (OpensAs (IsIn among) found)
     × AnswersBy (IsIn among) command last found (view mid) (view new))
 
 -- And a script that is run after them is a run of the machine from one of these maps.
+abbrev pub RunsFromMap : (List ℕ → Type 0) → Call → Stored → DiskView → DiskView → Type 0
+RunsFromMap S c m disk disk_now = (store : Store) × KnownWith disk.content (MayStand S (rested m store))
+    × (RunsByFiles S c.rs (rested m store) disk disk_now ⊎ RefusedByFiles S c.ending c.rs (rested m store) disk disk_now)
+
 abbrev pub RunsByTheMap : (D : Type 0) → (D → DiskView) → Type 0
 RunsByTheMap D view = (among : ByteSet) (m : Stored) (calls : List Call) (last : Call) (old mid new : D)
-    → BeginsOfMap (IsIn among) (calls ++ last ∷ []) m (view old) → CallRun D view calls old mid
+    → BeginsOfMap among (calls ++ last ∷ []) m (view old) → CallRun D view calls old mid
     → KeepsCall D view last (view mid) (view new) → last.line ≡ Some Run
     → (found : Stored) × (LeadsTo calls m found × KnownWith (view mid).content (OpensAs (IsIn among) found)
-    × ((store : Store) × (RunsByFiles (IsIn among) last.rs (unopened found store) (view mid) (view new)
-    ⊎ RefusedByFiles (IsIn among) last.ending last.rs (unopened found store) (view mid) (view new))))
+    × RunsFromMap (IsIn among) last found (view mid) (view new))
 
 -- A crash since the last began leaves what those before it may lead to, or what the last may have come to: so each that was done before
 -- is there.
 abbrev pub SurvivesACrash : (D : Type 0) → (D → DiskView) → Type 0
 SurvivesACrash D view = (among : ByteSet) (m : Stored) (calls : List Call) (last : Call) (old mid new : D)
-    → BeginsOfMap (IsIn among) (calls ++ last ∷ []) m (view old) → CallRun D view calls old mid
+    → BeginsOfMap among (calls ++ last ∷ []) m (view old) → CallRun D view calls old mid
     → KeepsCall D view last (view mid) (view new) → (c : List ℕ) → SinceStart (view mid) (view new) c
     → Possible (IsIn among) calls m c ⊎ Passed (IsIn among) calls last m c

@@ -31,7 +31,7 @@ use Rattle.store_machine.specs.Storing.{AddsOnce}
 use Rattle.backup_engine.specs.AnyDisk.{IsUnlikeNode, ReadsSince, room_in}
 use Rattle.backup_engine.specs.Line.{Ingest}
 use Rattle.backup_engine.specs.Singles.{IsFirstOf}
-use Rattle.backup_engine.specs.PlainMap.{HasPieces, RefusesIngest}
+use Rattle.backup_engine.specs.Causes.{HasPieces, RefusesIngest}
 
 -- A core that was opened just now: it runs, each actor is idle, the map of its index is known, and its last container id is the
 -- greatest of its store.

@@ -18,7 +18,8 @@ use Rattle.script_lines.specs.ReplyText.{reply_line}
 use Rattle.script_lines.specs.ReplyValue as replies
 use Rattle.script_lines.specs.Script.{Begins, Breaks, HasNoLineEnd, IsScript, Overruns, number_after}
 use Rattle.script_lines.specs.declared.script.TheConstants.{MOST_LINE}
-use Rattle.script_runner.specs.Named.{CountFaults, GiveWhatIsNamed, WasOpened, WasShown}
+use Rattle.script_runner.specs.AnyDisk.{CountFaults}
+use Rattle.script_runner.specs.LinesAreRuns.{RunsByRoots}
 use Rattle.script_runner.specs.Runner.{IsAcknowledged}
 use Rattle.store_state.specs.Refused.{blames}
 use Rattle.backup_engine.specs.AnyDisk.{ReadsSince}
@@ -110,7 +111,7 @@ StopsAtReopen ending (one ∷ more) =
     ((refusal : Refusal) → ◌≡◌ {A = Replied} one (record { line = lines.Reopen; reply = replies.Refused refusal })
     → (more ≡ []) × EndsRefused ending refusal) × StopsAtReopen ending more
 
--- ---- what lines give by name
+-- ---- what lines give on any disk
 
 -- the store was not opened
 abbrev pub IsUnopened : Option Ending → List Replied → Type 0
@@ -135,8 +136,8 @@ pub record KeepsScript (rs : List Replied) (ending : Option Ending) (disk disk_n
   pub wrote : WroteReplies ending rs sink sink_now
   -- And whatever the disk holds, what was written stays.
   pub frame : LinesKeepOthers rs disk disk_now
-  -- what was given, and opened, is what the store names
-  pub named : IsUnopened ending rs ⊎ GiveWhatIsNamed (WasOpened disk disk_now) (WasShown disk disk_now) rs
+  -- On any disk they are lines of the machine of roots, from a store that reads showed: what was given is what its names name.
+  pub by_roots : IsUnopened ending rs ⊎ RunsByRoots rs disk disk_now
   -- no fault is passed over
   pub disk_faults : CountsLines ending rs disk.faults disk_now.faults
   pub source_faults : ¬ (ending ≡ Some Source) → source_now.faults ≡ source.faults

@@ -15,7 +15,7 @@ use dd_io::{Sink, Source};
 use reply_text::Ending;
 use script_lines::{NextLine, ScriptReader, reads_tell_scripts};
 use script_runner::{
-    Halt, Runner, Sessions, lines_give_what_is_named, lines_go_on, lines_keep_what_is_written,
+    Halt, Runner, Sessions, lines_are_runs, lines_go_on, lines_keep_what_is_written,
 };
 use std::alloc::Global;
 use store_core::{Core, HasState};
@@ -78,7 +78,7 @@ pub(crate) fn run<D: Disk, S: Source, K: Sink>(
     calls_run_by_files::<&mut D, Core<&mut D, NoSummary>>();
     an_opening_finds_its_files::<D, Core<&mut D, NoSummary>>();
     lines_go_on::<Core<&mut D, NoSummary>>();
-    lines_give_what_is_named::<&mut D, Core<&mut D, NoSummary>>();
+    lines_are_runs::<&mut D, Core<&mut D, NoSummary>>();
     lines_keep_what_is_written::<&mut D, Core<&mut D, NoSummary>>();
     let sessions = Sessions::new(alloc)?;
     let buf = SegBuf::new(alloc)?;

@@ -1,5 +1,5 @@
 -- Why a line is refused, where no call of the disk fails and nothing has twins or clashes; and that the machine runs on.
-use Rattle.script_runner.proofs.Prelude.{◌≡◌, ◌⊎◌, inl, inr, ◌∙◌, ℕ, List, [], ◌∷◌, ◌++◌, Some, None, Result, Ok, Err, refl, sym, ap, subst, Tree, KindSegment, Refusal, LineValue, pushed_bytes, ReplyValue, HasNoCollisions, Piece, Node, IsPieceOf, Asked, FileMachine, HasSegment, Legal, AreDid, AreTurns, Ends, IsDueStep, Says, Session, reply_of, step_of, Running, Stopped, Run, of_files, IsNoOpening, IsLeft, IsUnblamed, MayReply, FileDesk, Traced}
+use Rattle.script_runner.proofs.Prelude.{◌≡◌, ◌⊎◌, inl, inr, ◌∙◌, ℕ, List, [], ◌∷◌, ◌++◌, Some, None, Result, Ok, Err, refl, sym, ap, subst, Tree, KindSegment, Refusal, LineValue, ReplyValue, HasNoCollisions, Piece, Node, IsPieceOf, Asked, FileMachine, HasSegment, Legal, AreDid, AreTurns, Ends, IsDueStep, Says, Session, reply_of, step_of, Running, Stopped, Run, of_files, IsNoOpening, IsLeft, IsUnblamed, MayReply, FileDesk, Traced}
 use Rattle.refusals.specs.declared.refusal.Refusal.TheVariants as refusals
 use Rattle.script_lines.specs.declared.reply.Turned.TheVariants as turned
 use Rattle.script_lines.specs.Grammar as lines

@@ -13,9 +13,6 @@ use Rattle.core_machine.specs.Bytes.{BytesOf}
 
 -- ---- a step that is done
 
-runs_on : (m n : FileMachine) → n.state ≡ m.state → m.state ≡ Running → n.state ≡ Running
-runs_on m n is runs = is ∙ runs
-
 pub does_run : (a : ℕ) (step : Asked (List ℕ)) (answer : Done) (m n : FileMachine) → IsNoOpening of_files step → m.state ≡ Running
     → Does of_files a step answer m n → n.state ≡ Running
 does_run a asked.Begin done.Begun m n none runs (was, others) = ap (λ (x : FileMachine). x.state) others ∙ runs

@@ -1,5 +1,5 @@
 -- Each line that is run is one of a machine that fits the core; and so of the machine of roots, on any disk.
-use Rattle.script_runner.proofs.Prelude.{◌≡◌, inl, inr, ◌∙◌, ℕ, Bool, zero, suc, false, List, [], ◌∷◌, ◌++◌, length, replicate, Option, Some, None, refl, sym, ap, subst, length-replicate, Root, DiskView, Top, ACTORS, StepValue, SessionState, LineValue, ReplyValue, Stop, CoreState, Event, Replied, Asked, Legal, Desk, Session, step_of, Machine, RunState, Running, Stepped, Stopped, answered_by, asked_as, IsOfActor, RunnerState, RunsLine, Kept, SameSessions, AreOfActors, RunsLines}
+use Rattle.script_runner.proofs.Prelude.{Lines, Shows, Store, ◌≡◌, inl, inr, ◌∙◌, ℕ, Bool, zero, suc, false, List, [], ◌∷◌, ◌++◌, length, replicate, Option, Some, None, refl, sym, ap, subst, length-replicate, Root, DiskView, Top, ACTORS, StepValue, SessionState, LineValue, ReplyValue, Stop, CoreState, Event, Replied, Asked, Legal, Desk, Session, step_of, Machine, RunState, Running, Stepped, Stopped, answered_by, asked_as, IsOfActor, RunnerState, RunsLine, Kept, SameSessions, AreOfActors, RunsLines, Values, later_here, OpensCore}
 use Rattle.std.proofs.Common.{slice_index_or}
 use Rattle.actor_parts.specs.declared.part.Part as core_part
 use Rattle.actor_parts.specs.declared.part.Part.TheVariants as core_parts
@@ -11,19 +11,27 @@ use Rattle.store_machine.specs.Asked as asked
 use Rattle.store_machine.specs.Lines as machine
 use Rattle.store_machine.specs.Machine.{Idle, Part, Reading, Writing, kind_of}
 use Rattle.store_machine.specs.Values.{of_roots}
-use Rattle.core_machine.specs.Refines.{SamePart, SameParts, SameStop, asked_by}
+use Rattle.core_machine.specs.Openings.{store_read}
+use Rattle.std.specs.FinMap as finite
+use Rattle.store_machine.specs.Commands.{desk}
+use Rattle.store_machine.specs.Opening.{Opens}
+use Rattle.store_model.specs.Image.{Encodes}
+use Rattle.dd_disk.proofs.Shows.{until}
+use Rattle.core_machine.specs.Refines.{SamePart, SameParts, SameStop, asked_by, IsMachine}
 use Rattle.core_machine.proofs.Opened.{opened_refines, unopened_refines}
 use Rattle.core_machine.proofs.Refined.{core_refines}
-use Rattle.script_runner.specs.LinesAreRuns.{AllLeadTo, BeginsAtDesk, LinesAreRuns, RootDesk, ScriptsAreRuns, beside_roots}
+use Rattle.script_runner.specs.LinesAreRuns.{AllLeadTo, AllOpened, BeginsAtDesk, LinesAreRuns, OpenedRunsByRoots, RootDesk, ScriptsAreRuns, beside_roots}
+use Rattle.script_runner.specs.Shown.{WasShown}
 use Rattle.script_runner.proofs.DeskGiving.{abort_acts, begin_acts, finish_acts}
-use Rattle.script_runner.proofs.DeskReopens.{idle_give, reopen_line}
+use Rattle.script_runner.proofs.DeskReopens.{idle_give, read_runs, reopen_line}
 use Rattle.script_runner.proofs.DeskRuns.{lines_done, ran_none}
 use Rattle.script_runner.proofs.DeskSessions.{none_same}
 use Rattle.script_runner.proofs.DeskSteps.{taken_or_not}
 use Rattle.script_runner.proofs.DeskTaking.{delete_acts, drop_acts, gc_acts, gc_step_acts, list_acts, next_acts, read_acts, stat_acts, sweep_acts}
 use Rattle.script_runner.proofs.DeskTurnLines.{commit_acts, push_acts, turn_acts}
-use Rattle.script_runner.proofs.FaultsCounted.{line_went}
+use Rattle.script_runner.proofs.FaultsCounted.{line_went, lines_go_on}
 use Rattle.script_runner.proofs.Fitting.{AtDesk, Fitted, Fitting, IsOfGiven, Keeps, Leads, LeavesEither}
+use Rattle.script_runner.proofs.RootsFound.{roots_named, shown_longer, shown_read}
 
 -- ---- a machine that fits
 
@@ -76,6 +84,13 @@ AllowedBy F [] d = Unit {0}
 AllowedBy F (one ∷ more) d =
     AllowedAt F d × ((steps : List (Stepped F.V)) (mid : Desk F.V F.R) → machine.Line F.v one.line one.reply steps d mid → AllowedBy F more mid)
 
+-- what holds of each machine that lines opened
+pub opened_so : {V R : Type 0} (v : Values V R) (P Q : Machine V R → Type 0) → ((m : Machine V R) → P m → Q m) → (rs : List Replied) (ss : List (Stepped V))
+    (d e : Desk V R) (ran : Lines v rs ss d e) → AllOpened v P rs ss d e ran → AllOpened v Q rs ss d e ran
+opened_so v P Q each [] ss d e ran all = tt
+opened_so v P Q each (one ∷ more) ss d e ran all =
+    (λ files is told. each ran.2.machine (all.0 files is told), opened_so v P Q each more ran.1 ran.2 e ran.5 all.1)
+
 module _ (F : Fitted) where
   open F use {V, R, v, C, state, beside, fitting}
   open F.beside use {Fits}
@@ -90,9 +105,12 @@ module _ (F : Fitted) where
         lines_are = (refl, refl);
         at = subst (λ (t : RunnerState C). AtDesk F d t) (sym run) at;
         did = record { leaves = none.did.leaves; changes = none.did.changes };
+        found = tt;
       }
   script_runs (one ∷ more) r s d actors allowed at run =
       let mid = run.1.0 in
+      let went = (line_went C state one.line one.reply r mid run.1.1.0).later in
+      let goes_on = (lines_go_on C state more mid s run.1.1.1).later in
       let first = line_runs F r mid d at allowed.0 one.line one.reply actors.0 run.1.1.0 in
       let rest = script_runs more mid s first.next actors.1 (allowed.1 first.steps first.next first.line_is) first.at run.1.1.1 in
       record {
@@ -101,7 +119,15 @@ module _ (F : Fitted) where
         lines_are = (first.steps, rest.steps, first.next, refl, first.line_is, rest.lines_are);
         at = rest.at;
         did = lines_done v beside one more first.steps rest.steps d first.next rest.next first.line_is rest.lines_are
-            (state r.core).disk (state mid.core).disk (state s.core).disk (line_went C state one.line one.reply r mid run.1.1.0).later.clock_is first.did rest.did;
+            (state r.core).disk (state mid.core).disk (state s.core).disk went.clock_is first.did rest.did;
+        found = (
+          λ files is told.
+              fitting.longer first.next.machine (state r.core).disk (state r.core).disk (state mid.core).disk (state s.core).disk (later_here (state r.core).disk) went.clock_is goes_on
+              (first.found files is told),
+          opened_so v (λ m. F.beside.Finds m (state mid.core).disk (state s.core).disk) (λ m. F.beside.Finds m (state r.core).disk (state s.core).disk)
+              (λ m. fitting.longer m (state r.core).disk (state mid.core).disk (state s.core).disk (state s.core).disk went goes_on.clock_is (later_here (state s.core).disk))
+              more rest.steps first.next rest.next rest.lines_are rest.found,
+        );
       }
 
 -- ---- the machine of roots
@@ -168,6 +194,11 @@ module _ (C : Type 0) (state : C → CoreState) where
   abbrev view : C → DiskView
   view c = (state c).disk
 
+  -- what was opened is a store that reads showed
+  found_read : (D : Type 0) (view : D → DiskView) (old : DiskView) (c : CoreState) (n : Machine Root (List Top)) → IsMachine false n c → (opens : OpensCore D view old c)
+      → n.store ≡ store_read D view old c opens → beside_roots.Finds n old c.disk
+  found_read D view old c n is opens same = (roots_named n c is, subst (WasShown old c.disk) (sym same) (shown_read D view old c opens))
+
   roots_fit : Fitting of_roots C state beside_roots Any
   roots_fit = record {
     step = λ e given old new m runs fits right step.
@@ -187,7 +218,8 @@ module _ (C : Type 0) (state : C → CoreState) where
     stops = λ m c stop fits is. stops_by m.acknowledged m.state c.stop stop fits.state is;
     kinds = λ m c fits a. part_kinds m.parts c.parts fits.parts a;
     opened = λ a old new m fits opens runs. let one = opened_refines C view C state a old new opens runs in
-        (one.0, (one.1.2 m, one.1.0 false, any_left m one.0 (state old).disk (state new).disk, tt));
+        (one.0, (one.1.2 m, one.1.0 false, any_left m one.0 (state old).disk (state new).disk, tt, found_read C view (state old).disk (state new) one.0 (one.1.0 false) opens one.1.1));
+    longer = λ m first old new last before between after is. (is.0, shown_longer first old new last m.store before between after is.1);
     unopened = λ a refusal old new m fits none leaves. let one = unopened_refines C view C state false a refusal old new m fits none leaves in
         (one.0, (one.1.0, one.1.1, λ b k owns. tt, any_left m one.0 (state old).disk (state new).disk, tt));
     unmade = λ a step m c fits is. tt;
@@ -223,3 +255,35 @@ module _ (C : Type 0) (state : C → CoreState) where
 
   pub scripts_are_runs : ScriptsAreRuns C state
   scripts_are_runs rs r s d actors at run = script_runs roots_fitted rs r s d actors (any_allowed rs d) at run
+
+  -- ---- from an opening on
+
+  pub opened_runs_by_roots : (D : Type 0) (disk_of : D → DiskView) → OpenedRunsByRoots D disk_of C state
+  opened_runs_by_roots D disk_of rs before r s read none actors runs =
+      let old = disk_of before in
+      let c = state r.core in
+      let running = read_runs old c read in
+      let opens : OpensCore D disk_of old c = inl read in
+      let one = opened_refines D disk_of C state 0 before r.core opens running in
+      let n = one.0 in
+      let is = one.1.0 false in
+      let goes_on = (lines_go_on C state rs r s runs).later in
+      let all = scripts_are_runs rs r s (desk n) actors (begins_at_desk n r running is read.opened.parts_are none) runs in
+      record {
+        opened = n;
+        opens = λ m.
+            let first : Opens of_roots (finite.len c.tables.names) m n = one.1.2 m in
+            subst (λ (files : ℕ). Opens of_roots files m n) (first.files_are ∙ ap (λ (k : Machine Root (List Top)). finite.len k.now.names) (sym first.others)) first;
+        named = roots_named n c is;
+        shown = until old c.disk (state s.core).disk (subst (λ (store : Store). Shows old c.disk (λ image. Encodes image store)) (sym one.1.1) read.opened.right)
+            read.reads.only.later.clock_is goes_on;
+        steps = all.steps;
+        next = all.next;
+        lines_are = all.lines_are;
+        found = opened_so of_roots (λ m. beside_roots.Finds m c.disk (state s.core).disk) (λ m. beside_roots.Finds m old (state s.core).disk)
+            (λ m found. (
+              found.0,
+              shown_longer old c.disk (state s.core).disk (state s.core).disk m.store read.reads.only.later goes_on.clock_is
+                  (later_here (state s.core).disk) found.1,
+            )) rs all.steps (desk n) all.next all.lines_are all.found;
+      }

@@ -1,5 +1,5 @@
 -- `reopen` as a line of a machine that fits the core.
-use Rattle.script_runner.proofs.Prelude.{◌≡◌, ◌⊎◌, ◌≤◌, inl, inr, ◌∙◌, ℕ, zero, suc, List, [], ◌∷◌, length, replicate, Option, None, Result, Ok, Err, refl, sym, ap, subst, arith, length-replicate, ACTORS, DiskView, leaves_on, Refusal, SessionState, ReplyValue, IsReadFrom, OpensCore, StaysOrStops, CoreState, Event, IsRunning, new_runs, Answers, Legal, Desk, all_none, step_of, Machine, answered_by, ActsReopen, RefusesReopen, RunnerState, Kept, SameSessions, WritersGive, Sessions, running_step}
+use Rattle.script_runner.proofs.Prelude.{◌≡◌, ◌⊎◌, ◌≤◌, inl, inr, ◌∙◌, ℕ, zero, suc, List, [], ◌∷◌, length, replicate, Option, None, Result, Ok, Err, refl, sym, ap, subst, arith, length-replicate, ACTORS, DiskView, leaves_on, Refusal, SessionState, ReplyValue, IsReadFrom, OpensCore, StaysOrStops, CoreState, Event, IsRunning, new_runs, Answers, Legal, Desk, all_none, step_of, Machine, answered_by, ActsReopen, RefusesReopen, RunnerState, Kept, SameSessions, WritersGive, Sessions, running_step, OnlyReads, later_here}
 use Rattle.std.proofs.Common.{slice_index_or}
 use Rattle.std.specs.FinMap as finite
 use Rattle.actor_parts.specs.declared.part.Part as core_part
@@ -23,7 +23,7 @@ use Rattle.script_runner.proofs.FaultsCounted.{opened_went, unopened_went}
 use Rattle.script_runner.proofs.Fitting.{AtDesk, Fitted, Leads, LeavesEither}
 
 -- a core that was opened runs
-read_runs : (before : DiskView) (c : CoreState) → IsReadFrom before c → IsRunning c
+pub read_runs : (before : DiskView) (c : CoreState) → IsReadFrom before c → IsRunning c
 read_runs before c read = new_runs _ before.size c read.reads.only.later.size_is read.opened
 
 pub opened_runs : (D : Type 0) (view : D → DiskView) (old : DiskView) (c : CoreState) → OpensCore D view old c → IsRunning c
@@ -57,7 +57,7 @@ kept_parts C view refusal old new (inr stops) = stops.parts_are
 
 module _ (F : Fitted) (r : RunnerState F.C) (d : Desk F.V F.R) (at : AtDesk F d r) (s : RunnerState F.C) where
   open F use {V, R, v, C, state, Allowed, beside, fitting}
-  open F.beside use {Fits, Owns, Left, Changes}
+  open F.beside use {Fits, Owns, Left, Changes, Finds}
 
   abbrev view : C → DiskView
   view c = (state c).disk
@@ -76,7 +76,8 @@ module _ (F : Fitted) (r : RunnerState F.C) (d : Desk F.V F.R) (at : AtDesk F d 
 
     opens : (n : Machine V R) × (Legal v (step_of v 0 asked.Reopen (Ok (done.Reopened (finite.len (state acts.mid).tables.names)))) d.machine n × Fits n (state acts.mid)
         × LeavesEither Left d.machine n (state r.core).disk (state acts.mid).disk
-        × Changes (step_of v 0 asked.Reopen (Ok (done.Reopened (finite.len (state acts.mid).tables.names)))) d.machine n (state r.core).disk.content (state acts.mid).disk.content)
+        × Changes (step_of v 0 asked.Reopen (Ok (done.Reopened (finite.len (state acts.mid).tables.names)))) d.machine n (state r.core).disk.content (state acts.mid).disk.content
+        × Finds n (state r.core).disk (state acts.mid).disk)
     opens = fitting.opened 0 r.core acts.mid d.machine at.fits acts.opened mid_runs
 
     abbrev n : Machine V R
@@ -89,9 +90,9 @@ module _ (F : Fitted) (r : RunnerState F.C) (d : Desk F.V F.R) (at : AtDesk F d 
     abbrev told_opened : Result Done Refusal
     told_opened = Ok (done.Reopened (finite.len (state acts.mid).tables.names))
 
-    counting_reads : (state s.core).disk.content ≡ (state acts.mid).disk.content
+    counting_reads : OnlyReads (state acts.mid).disk (state s.core).disk
     counting_reads = (running_step (state acts.mid) (state s.core) counting (opened_stop C view (state r.core).disk (state acts.mid) acts.opened)
-        acts.counts.1).made.effect.disk.only.content_is
+        acts.counts.1).made.effect.disk.only
 
     -- the number that is told is that of the names
     module _ (next : Machine V R)
@@ -118,7 +119,7 @@ module _ (F : Fitted) (r : RunnerState F.C) (d : Desk F.V F.R) (at : AtDesk F d 
         (leaves_on (λ image. Left d.machine image ⊎ Left n image) (λ image. Left n image ⊎ Left one.ran.run.0 image) (λ image. Left d.machine image ⊎ Left n image)
         (state r.core).disk (state acts.mid).disk (state s.core).disk clock opens.1.2 one.ran.did.leaves (λ image left. left)
         (λ image left. elim left [ inl before ↦ inr before | inr after ↦ inr (subst (λ (m : Machine V R). Left m image) (sym one.ran.run.1.1 ∙ legal.1) after) ]))
-        (subst (λ (told : Option (List ℕ)). Changes (step_of v 0 asked.Reopen told_opened) d.machine n (state r.core).disk.content told) (sym counting_reads) opens.1.3)
+        (subst (λ (told : Option (List ℕ)). Changes (step_of v 0 asked.Reopen told_opened) d.machine n (state r.core).disk.content told) (sym counting_reads.content_is) opens.1.3)
         (omega (arith, clock, one.ran.later)) in
         record {
           steps = step_of v 0 asked.Reopen told ∷ [];
@@ -134,6 +135,8 @@ module _ (F : Fitted) (r : RunnerState F.C) (d : Desk F.V F.R) (at : AtDesk F d 
                 (idle_give s.sessions (state acts.mid).parts (opened_parts C view (state r.core).disk (state acts.mid) acts.opened));
           };
           did = ran.did;
+          found = λ files is told. fitting.longer n (state r.core).disk (state r.core).disk (state acts.mid).disk (state s.core).disk (later_here (state r.core).disk)
+              clock counting_reads.later opens.1.4;
         }
 
   -- ---- it isn't
@@ -158,6 +161,7 @@ module _ (F : Fitted) (r : RunnerState F.C) (d : Desk F.V F.R) (at : AtDesk F d 
         give = subst (λ (xs : Sessions). WritersGive xs (state s.core).parts) (sym sessions) (subst (WritersGive r.sessions) (sym parts) at.give);
       };
       did = ran.did;
+      found = λ files is told. absurd cc;
     }
 
     unopened_line : RefusesReopen C state refusal r.core s.core → Reopened (replies.Refused refusal)

@@ -123,6 +123,7 @@ module _ (F : Fitted) where
           line_is = (acted.ran.run, says_so v line reply acted.ss d acted.next other (inl (admits_so line admitted.0, acted.acts)));
           at = acted.stays;
           did = acted.ran.did;
+          found = λ files is told. absurd (other is);
         }
     taken_or_not line reply s other taken (inr barred) =
         let none = ran_none F d.machine r.core s.core at.fits (ap (λ (t : RunnerState C). t.core) barred.3) in record {
@@ -131,6 +132,7 @@ module _ (F : Fitted) where
           line_is = (refl, says_so v line reply [] d d other (inr (barred.0, bars_by line barred.0 (state r.core).stop refl barred.2, barred.1, refl, refl)));
           at = subst (λ (t : RunnerState C). AtDesk F d t) (sym barred.3) at;
           did = record { leaves = none.did.leaves; changes = none.did.changes };
+          found = λ files is told. absurd (other is);
         }
 
     -- ---- a line that is one step, whatever was given

@@ -1,5 +1,5 @@
 -- A turn, a push and a commit as lines of a machine that fits the core.
-use Rattle.script_runner.proofs.Prelude.{◌≡◌, ◌≢◌, inl, inr, ◌∙◌, ◌+◌, ◌-◌, ◌^◌, ◌<◌, ◌≤◌, min, ℕ, Bool, true, false, List, [], ◌∷◌, ◌++◌, length, Option, Some, None, Result, Ok, Err, refl, sym, ap, subst, arith, length-append, Root, MOST_FILE, ACTORS, Answer, Refusal, due_in, IsDueFor, History, HasHistory, SessionState, all_is_kept, bytes_are_counted, pushed_bytes, ReplyValue, root_of, Stop, CommitRow, StepsOr, CoreState, Event, IsRunning, running_step, takes, Asked, Answers, AreTurns, Desk, Session, reply_of, step_of, Machine, Values, answered_by, asked_as, Feeds, TakesTurn, TurnRun, turns_stay, DoesStep, IsReady, RefusesPut, RefusesStep, RunnerState, StepOf, IsSessionOf, Kept, has_ended, kind_by, with_session}
+use Rattle.script_runner.proofs.Prelude.{◌≡◌, ◌≢◌, inl, inr, ◌∙◌, ◌+◌, ◌-◌, ◌^◌, ◌<◌, ◌≤◌, min, ℕ, Bool, true, false, List, [], ◌∷◌, ◌++◌, length, Option, Some, None, Result, Ok, Err, refl, sym, ap, subst, arith, length-append, Root, MOST_FILE, ACTORS, Answer, Refusal, due_in, IsDueFor, History, HasHistory, SessionState, all_is_kept, bytes_are_counted, pushed_bytes, ReplyValue, root_of, Stop, CommitRow, StepsOr, CoreState, Event, IsRunning, running_step, takes, Asked, Answers, Desk, Session, reply_of, step_of, Machine, Values, answered_by, asked_as, Feeds, TakesTurn, TurnRun, turns_stay, DoesStep, IsReady, RefusesPut, RefusesStep, RunnerState, StepOf, IsSessionOf, Kept, has_ended, kind_by, with_session}
 use Rattle.actor_parts.specs.declared.part.Part as core_part
 use Rattle.actor_parts.specs.declared.part.Part.TheVariants as core_parts
 use Rattle.actor_parts.specs.declared.step.Answer.TheVariants as answers

@@ -1,5 +1,5 @@
 -- Turns of a session as steps of a machine that fits the core, each as it was due.
-use Rattle.script_runner.proofs.Prelude.{◌≡◌, ◌≢◌, ◌⊎◌, inl, inr, ◌∙◌, ℕ, Bool, List, [], ◌∷◌, ◌++◌, Some, None, Result, Ok, Err, refl, sym, ap, subst, Answer, StepValue, Refusal, Due, due_in, open_of, IsDueFor, HasHistory, answered, SessionState, ReplyValue, Event, IsRunning, Asked, AreTurns, IsDueStep, Session, reply_of, step_of, Machine, Stepped, Values, answered_by, asked_as, Asks, IsPaused, IsRefusedTurn, TurnRun, TurnsStopped, IsSessionOf, Kept}
+use Rattle.script_runner.proofs.Prelude.{◌≡◌, ◌≢◌, ◌⊎◌, inl, inr, ◌∙◌, ℕ, Bool, List, [], ◌∷◌, ◌++◌, Some, None, Result, Ok, Err, refl, sym, ap, subst, Answer, StepValue, Refusal, Due, due_in, open_of, IsDueFor, HasHistory, answered, SessionState, Event, IsRunning, Asked, AreTurns, IsDueStep, Session, step_of, Machine, Stepped, Values, answered_by, asked_as, Asks, IsPaused, IsRefusedTurn, TurnRun, TurnsStopped, IsSessionOf, Kept}
 use Rattle.actor_parts.specs.declared.step.Answer.TheVariants as answers
 use Rattle.actor_parts.specs.Parts.{part_of}
 use Rattle.actor_parts.specs.StepValue as steps

@@ -12,8 +12,7 @@ use Rattle.script_lines.specs.ReplyValue as replies
 use Rattle.store_state.specs.Refused.{blames}
 use Rattle.recovery.specs.Room.{RoomMade}
 use Rattle.script_runner.specs.Acts.{Acts}
-use Rattle.script_runner.specs.AnyDisk.{LinesGoOn}
-use Rattle.script_runner.specs.Named.{tells_fault}
+use Rattle.script_runner.specs.AnyDisk.{LinesGoOn, tells_fault}
 
 -- The same disk, later, whose count of faults tells how calls ended.
 pub record Went (by : Ending) (old new : DiskView) : Type 0 where

@@ -302,8 +302,10 @@ module _ (C : Type 0) (state : C → CoreState) (among : ByteSet) (distinct : Ha
             leaves_weaker (λ image. (state old).disk.images image ⊎ IsOfFound S m image) (λ image. IsOfFound S m image ⊎ IsOfFound S one.0 image)
                 (state old).disk (state new).disk (λ image left. elim left [ inl there ↦ inl (here_found m (state old) fits image there) | inr found ↦ inl found ]) one.1.2,
             (one.1.3, content_stands one.0 (state new) one.1.1),
+            tt,
           ),
         );
+    longer = λ m first old new last before between after is. tt;
     unopened = λ a refusal old new m fits none leaves.
         let one = files_reopened_not C state among a refusal old new m distinct fits none leaves in (
           one.0,

@@ -1,5 +1,5 @@
 -- What a relation of machines and cores is to give for lines over a core to be lines of the machine.
-use Rattle.script_runner.proofs.Prelude.{◌≡◌, ◌≢◌, ◌⊎◌, ◌<◌, ℕ, Bool, List, Some, None, Ok, Err, CrashLeaves, DiskView, ACTORS, Answer, StepValue, Kind, Refusal, Memory, Due, due_in, open_of, kept, History, HasHistory, answered, no_history, IsOffered, SessionState, root_of, Stop, CoreStep, OpensCore, OpensNone, StaysOrStops, CoreState, Event, IsRunning, Asked, Legal, LineValue, ReplyValue, Desk, step_of, Machine, Running, Stopped, part_in, Values, answered_by, asked_as, IsReady, RunnerState, Beside, Kept}
+use Rattle.script_runner.proofs.Prelude.{◌≡◌, ◌≢◌, ◌⊎◌, ◌<◌, ◌≤◌, ℕ, Bool, List, Some, None, Ok, Err, CrashLeaves, DiskView, IsLater, ACTORS, Answer, StepValue, Kind, Refusal, Memory, Due, due_in, open_of, kept, History, HasHistory, answered, no_history, IsOffered, SessionState, root_of, Stop, CoreStep, OpensCore, OpensNone, StaysOrStops, CoreState, Event, IsRunning, Asked, Legal, LineValue, ReplyValue, Desk, step_of, Machine, Running, Stopped, part_in, Values, answered_by, asked_as, IsReady, RunnerState, Beside, Kept}
 use Rattle.std.specs.FinMap as finite
 use Rattle.actor_parts.specs.Kinds as core_kinds
 use Rattle.actor_parts.specs.Parts.{part_of}
@@ -76,7 +76,10 @@ pub record Fitting {V R : Type 0} (v : Values V R) (C : Type 0) (state : C → C
   pub opened : (a : ℕ) (old new : C) (m : Machine V R) → b.Fits m (state old) → OpensCore C (λ c. (state c).disk) (state old).disk (state new) → IsRunning (state new)
       → (n : Machine V R) × (Legal v (step_of v a asked.Reopen (Ok (done.Reopened (finite.len (state new).tables.names)))) m n × b.Fits n (state new)
       × LeavesEither b.Left m n (state old).disk (state new).disk
-      × b.Changes (step_of v a asked.Reopen (Ok (done.Reopened (finite.len (state new).tables.names)))) m n (state old).disk.content (state new).disk.content)
+      × b.Changes (step_of v a asked.Reopen (Ok (done.Reopened (finite.len (state new).tables.names)))) m n (state old).disk.content (state new).disk.content
+      × b.Finds n (state old).disk (state new).disk)
+  -- what it found it found in any longer time
+  pub longer : (m : Machine V R) (first old new last : DiskView) → IsLater first old → old.clock ≤ new.clock → IsLater new last → b.Finds m old new → b.Finds m first last
   pub unopened : (a : ℕ) (refusal : Refusal) (old new : C) (m : Machine V R) → b.Fits m (state old) → OpensNone C (λ c. (state c).disk) refusal (state old).disk (state new).disk
       → StaysOrStops C (λ c. (state c).disk) refusal (state old) (state new)
       → (n : Machine V R) × (Legal v (step_of v a asked.Reopen (Err refusal)) m n × b.Fits n (state new)

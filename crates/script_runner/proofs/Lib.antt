@@ -1,7 +1,4 @@
-pub mod CollectCauses
 pub mod CollectHolds
-pub mod CollectIndex
-pub mod CopyRefused
 pub mod DeskGiving
 pub mod DeskLines
 pub mod DeskParts
@@ -22,26 +19,17 @@ pub mod LaterStores
 pub mod LineSteps
 pub mod LinesFrame
 pub mod Lists
-pub mod NamedAt
-pub mod NamedChange
-pub mod NamedCollect
-pub mod NamedGiving
-pub mod NamedLines
-pub mod NamedNames
-pub mod NamedSteps
-pub mod NamedTaking
 pub mod NeedsLive
 mod Prelude
 pub mod PushRefused
 pub mod Replied
 pub mod RightRoot
-pub mod SameNames
+pub mod RootsFound
 pub mod Sends
 pub mod SessionLists
 pub mod StillHeld
 pub mod Sweeping
 pub mod TurnIdle
-pub mod TurnLeaves
 mod CompleteTrace
 mod CompleteNodes
 mod CompleteSteps

@@ -73,7 +73,6 @@ pub use Rattle.script_runner.specs.Complete.{IsHeldNode, IsLeft, IsUnblamed, May
 pub use Rattle.script_runner.specs.Frame.{IsNoSweep, commands_of_line}
 pub use Rattle.script_runner.specs.LinesAreFileRuns.{FileDesk, HoldsKept}
 pub use Rattle.script_runner.specs.LinesAreRuns.{Beside, IsSessionOf, Kept, SameSession, SameSessions, Traced, WritersGive}
-pub use Rattle.script_runner.specs.Named.{Account, AreNamed, Doing, IsGiving, IsNumber, IsOfTurn, doing_of, opened, stops, with_doing}
 pub use Rattle.script_runner.specs.Runner.{ActsWith, IsAcknowledged, Prints, Replies, runner_of}
 pub use Rattle.script_runner.specs.Scripts.{AreOfActors, RunsLines}
 pub use Rattle.script_runner.specs.Sessions.{Sessions, has_ended, kind_by, kind_in, with_session}

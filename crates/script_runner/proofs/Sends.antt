@@ -1,9 +1,9 @@
 -- What is sent of a reply.
-use Rattle.script_runner.proofs.Prelude.{◌≡◌, inl, ℕ, false, List, Result, Ok, Err, refl, subst, Memory, LineValue, reply_line, ReplyValue, ends, IsAcknowledged}
+use Rattle.script_runner.proofs.Prelude.{◌≡◌, inl, false, Result, Ok, Err, refl, Memory, LineValue, ReplyValue, ends, IsAcknowledged}
 use Rattle.dd_io.specs.Flow.{SinkView}
 use Rattle.reply_text.specs.declared.ending.Ending.{Ending}
 use Rattle.reply_text.specs.declared.ending.Ending.TheVariants as endings
-use Rattle.script_runner.specs.Runner.{SendsReply, Sent, Tells}
+use Rattle.script_runner.specs.Runner.{SendsReply, Tells}
 
 pub told_so : (line : LineValue) (reply : ReplyValue) (result : Result (Unit {0}) Ending) (sink sink_now : SinkView) → ends line reply ≡ false → ¬ (IsAcknowledged reply) →
     Tells reply result sink sink_now → SendsReply line reply result sink sink_now

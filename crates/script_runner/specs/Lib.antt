@@ -4,7 +4,7 @@ pub mod Complete
 pub mod Frame
 pub mod LinesAreFileRuns
 pub mod LinesAreRuns
-pub mod Named
 pub mod Runner
 pub mod Scripts
 pub mod Sessions
+pub mod Shown

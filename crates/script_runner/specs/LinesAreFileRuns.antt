@@ -70,9 +70,15 @@ IsCutBy (one ∷ more) d bytes = IsCutAt d bytes
 abbrev pub ChangesContent : (List ℕ → Type 0) → Stepped (List ℕ) → FileMachine → FileMachine → Option (List ℕ) → Option (List ℕ) → Type 0
 ChangesContent S s m n was now = ChangesBytes s m n was now × KnownWith now (MayStand S n)
 
--- what is said of a core beside the machine of files
+-- What is said of a core beside the machine of files. What an opening found is told by the content.
 abbrev pub beside_files : (List ℕ → Type 0) → Beside (List ℕ) (List (List ℕ))
-beside_files S = record { Fits = IsFileMachine S; Owns = OwnsKept; Left = IsOfFound S; Changes = ChangesContent S }
+beside_files S = record {
+  Fits = IsFileMachine S;
+  Owns = OwnsKept;
+  Left = IsOfFound S;
+  Changes = ChangesContent S;
+  Finds = λ m disk disk_now. Unit {0};
+}
 
 abbrev pub IsAtFileDesk : {C : Type 0} → (List ℕ → Type 0) → (C → CoreState) → FileDesk → RunnerState C → Type 0
 IsAtFileDesk S state d r = IsAtDesk state (beside_files S) d r

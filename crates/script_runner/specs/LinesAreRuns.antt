@@ -1,5 +1,6 @@
 -- Lines that are run over a core, on any disk, as lines of the machine of roots (docs/MODEL.md, 'Scripts').
 use Rattle.std.specs.Prelude.{◌≡◌, ◌≢◌, ◌⊎◌, ℕ, suc, false, List, [], ◌∷◌, length, replicate, Option, Some, None}
+use Rattle.std.specs.FinMap as finite
 use Rattle.dd_disk.specs.View.{CrashLeaves, DiskView}
 use Rattle.disk_format.specs.Cells.{Root}
 use Rattle.actor_parts.specs.declared.actor.TheConstants.{ACTORS}
@@ -14,16 +15,21 @@ use Rattle.refusals.specs.declared.refusal.PartKind.TheVariants.{Writing}
 use Rattle.ingest_session.specs.Facts.{kept}
 use Rattle.ingest_session.specs.History.{History, HasHistory}
 use Rattle.ingest_session.specs.State.{SessionState}
+use Rattle.script_lines.specs.Grammar as lines
+use Rattle.script_lines.specs.ReplyValue as replies
+use Rattle.store_core.specs.Opening.{IsReadFrom}
 use Rattle.store_core.specs.State.{CoreState, IsRunning}
 use Rattle.store_machine.specs.Commands.{Lines, Replied, desk, run_of}
 use Rattle.store_machine.specs.Lines.{Desk, Line, Session}
 use Rattle.store_machine.specs.Machine.{Machine, Stepped}
+use Rattle.store_machine.specs.Opening.{IsNamedBy, Opens}
 use Rattle.store_machine.specs.Runs.{Run}
 use Rattle.store_machine.specs.Values.{Values, of_roots}
 use Rattle.core_machine.specs.Refines.{IsMachine}
 use Rattle.script_runner.specs.Acts.{IsOfActor, RunnerState, RunsLine}
 use Rattle.script_runner.specs.Scripts.{AreOfActors, RunsLines}
 use Rattle.script_runner.specs.Sessions.{Sessions, session_of}
+use Rattle.script_runner.specs.Shown.{WasOpened, WasShown}
 
 -- ---- sessions
 
@@ -58,12 +64,14 @@ WritersGive sessions parts = (actor : ℕ) → session_of sessions actor ≡ Non
 -- ---- desks
 
 -- What is said of a core beside a machine: that it fits it; what an actor owns, by what answers say to be kept; which images a crash may
--- leave of the machine; and what a step, from one machine to another, does to the content that a disk tells.
+-- leave of the machine; what a step, from one machine to another, does to the content that a disk tells; and what it is that an opening
+-- found, by what reads of the disk returned from the one moment to the other.
 pub record Beside (V R : Type 0) : Type 1 where
   pub Fits : Machine V R → CoreState → Type 0
   pub Owns : ℕ → Kept → Machine V R → CoreState → Type 0
   pub Left : Machine V R → List ℕ → Type 0
   pub Changes : Stepped V → Machine V R → Machine V R → Option (List ℕ) → Option (List ℕ) → Type 0
+  pub Finds : Machine V R → DiskView → DiskView → Type 0
 
 -- A runner is at a desk: its core fits the machine, its sessions are those of the desk, one for each actor, and who stores a file gives it.
 -- What the answers of an actor say to be kept, it owns.
@@ -93,6 +101,10 @@ pub record IsDone {V R : Type 0} (v : Values V R) (b : Beside V R) (ss : List (S
   pub leaves : CrashLeaves (λ image. Passes v (λ k. b.Left k image) ss m n run) old new
   pub changes : Traced v b.Changes ss m n run old.content new.content
 
+-- where a line opened the store, P holds
+abbrev pub IfOpened : Replied → Type 0 → Type 0
+IfOpened one P = (files : ℕ) → one.line ≡ lines.Reopen → one.reply ≡ replies.Opened files → P
+
 -- A line of the machine led to a desk, and the runner is at it.
 pub record LeadsTo {V R C : Type 0} (v : Values V R) (state : C → CoreState) (b : Beside V R) (one : Replied) (d : Desk V R)
     (r s : RunnerState C) : Type 0 where
@@ -101,17 +113,22 @@ pub record LeadsTo {V R C : Type 0} (v : Values V R) (state : C → CoreState) (
   pub line_is : Line v one.line one.reply steps d next
   pub at : IsAtDesk state b next s
   pub did : IsDone v b steps d.machine next.machine line_is.0 (state r.core).disk (state s.core).disk
+  pub found : IfOpened one (b.Finds next.machine (state r.core).disk (state s.core).disk)
 
--- over roots nothing is said of what is kept, of what a crash leaves, nor of the content
+-- ---- roots
+
 abbrev pub RootDesk : Type 0
 RootDesk = Desk Root (List Top)
 
+-- What was opened is a store that reads showed, whose records name the roots of its names. Nothing is said of what is kept, of what a
+-- crash leaves, nor of the content.
 abbrev pub beside_roots : Beside Root (List Top)
 beside_roots = record {
   Fits = IsMachine false;
   Owns = λ actor kept m c. Unit {0};
   Left = λ m image. Unit {0};
   Changes = λ step m n was now. Unit {0};
+  Finds = λ m disk disk_now. IsNamedBy of_roots m.now m.store × WasShown disk disk_now m.store;
 }
 
 abbrev pub IsAtRoots : {C : Type 0} → (C → CoreState) → RootDesk → RunnerState C → Type 0
@@ -131,6 +148,12 @@ BeginsAtDesk C state = (m : Machine Root (List Top)) (r : RunnerState C) → IsR
 
 -- ---- lines, one after the other
 
+-- P holds of each machine that these lines opened
+abbrev pub AllOpened : {V R : Type 0} (v : Values V R) (P : Machine V R → Type 0) (rs : List Replied) (steps : List (Stepped V))
+    (d e : Desk V R) → Lines v rs steps d e → Type 0
+AllOpened v P [] steps d e ran = Unit {0}
+AllOpened v P (one ∷ more) steps d e ran = IfOpened one (P ran.2.machine) × AllOpened v P more ran.1 ran.2 e ran.5
+
 -- Lines of the machine led to a desk, and the runner is at it. Of a crash it is said of all of them together: which of them were
 -- acknowledged by that moment the law of one line says, line by line.
 pub record AllLeadTo {V R C : Type 0} (v : Values V R) (state : C → CoreState) (b : Beside V R) (rs : List Replied) (d : Desk V R)
@@ -140,8 +163,29 @@ pub record AllLeadTo {V R C : Type 0} (v : Values V R) (state : C → CoreState)
   pub lines_are : Lines v rs steps d next
   pub at : IsAtDesk state b next s
   pub did : IsDone v b steps d.machine next.machine (run_of v rs steps d next lines_are) (state r.core).disk (state s.core).disk
+  pub found : AllOpened v (λ m. b.Finds m (state r.core).disk (state s.core).disk) rs steps d next lines_are
 
 -- So it is of lines that are run one after the other.
 abbrev pub ScriptsAreRuns : (C : Type 0) → (C → CoreState) → Type 0
 ScriptsAreRuns C state = (rs : List Replied) (r s : RunnerState C) (d : RootDesk) → AreOfActors rs → IsAtRoots state d r
     → RunsLines C state rs r s → AllLeadTo of_roots state beside_roots rs d r s
+
+-- ---- from an opening on
+
+-- Lines of the machine of roots, from one on to which each may come by an opening, of a store that reads showed; and so is what each
+-- `reopen` of them found.
+pub record RunsByRoots (rs : List Replied) (disk disk_now : DiskView) : Type 0 where
+  pub opened : Machine Root (List Top)
+  pub opens : (m : Machine Root (List Top)) → Opens of_roots (finite.len opened.now.names) m opened
+  pub named : IsNamedBy of_roots opened.now opened.store
+  pub shown : WasOpened disk disk_now opened.store
+  pub steps : List (Stepped Root)
+  pub next : RootDesk
+  pub lines_are : Lines of_roots rs steps (desk opened) next
+  pub found : AllOpened of_roots (λ m. beside_roots.Finds m disk disk_now) rs steps (desk opened) next lines_are
+
+-- So are lines that are run over a core that was opened just now, where no actor gives a file yet.
+abbrev pub OpenedRunsByRoots : (D : Type 0) → (D → DiskView) → (C : Type 0) → (C → CoreState) → Type 0
+OpenedRunsByRoots D view C state = (rs : List Replied) (before : D) (r s : RunnerState C) → IsReadFrom (view before) (state r.core)
+    → r.sessions ≡ replicate ACTORS None → AreOfActors rs → RunsLines C state rs r s
+    → RunsByRoots rs (view before) (state s.core).disk

@@ -1,20 +1,12 @@
 //! Laws of lines that are run (docs/MODEL.md, 'Scripts').
-ghost use Rattle.script_runner.specs.AnyDisk.{LinesGiveWhatIsNamed, LinesGoOn};
+ghost use Rattle.script_runner.specs.AnyDisk.{LinesGoOn};
 ghost use Rattle.script_runner.specs.Complete.{WhatCanBeDoneIsDone};
 ghost use Rattle.script_runner.specs.Frame.{LinesKeepWritten, OpenedIsOn};
 ghost use Rattle.script_runner.specs.LinesAreFileRuns.{BeginsAtFileDesk, LinesAreFileRuns, OpenedIsAtDesk, ScriptsAreFileRuns};
-ghost use Rattle.script_runner.specs.LinesAreRuns.{BeginsAtDesk, LinesAreRuns, ScriptsAreRuns};
+ghost use Rattle.script_runner.specs.LinesAreRuns.{BeginsAtDesk, LinesAreRuns, OpenedRunsByRoots, ScriptsAreRuns};
 
 use dd_disk::Disk;
 use store_core::HasState;
-
-/// Over a core that was opened just now, on any disk, also one that tells nothing, or lies, lines give what is named: `read` opens the root
-/// that its name has then, `next` gives the segments that the tree of that root names, one after the other, and ends where they are as long
-/// as that root says. A name has the root of what was committed under it last, or that of the store which the last opening read, unless
-/// it was deleted since; and `list` gives these roots. The function does nothing.
-pub fn lines_give_what_is_named<D: Disk, C: HasState>()
-    ensures { LinesGiveWhatIsNamed D D.view C C.state }
-{}
 
 /// Lines over any core leave the same disk, later. Its count of faults rises where a line is refused by a failed call of the disk, and
 /// stays as it was where none is. The function does nothing.
@@ -34,11 +26,14 @@ pub fn lines_keep_what_is_written<D: Disk, C: HasState>()
 
 /// On any disk, also one that tells nothing, or lies: a line that is run over a core is a line of the machine of roots, which makes
 /// its steps and gives its reply, where the core is that machine and the sessions took and were told what the machine's have. After it
-/// that is so again; so are lines that are run one after the other, from a runner that begins. The function does nothing.
-pub fn lines_are_runs<C: HasState>()
+/// that is so again; so are lines that are run one after the other, from a runner that begins. What was opened, at first or by a `reopen`,
+/// is a store that reads showed, whose records name the roots of its names: so over a core that was opened just now `read` opens the root
+/// that its name has then, and `next` gives what the tree of that root names. The function does nothing.
+pub fn lines_are_runs<D: Disk, C: HasState>()
     ensures lines { LinesAreRuns C C.state }
     ensures scripts { ScriptsAreRuns C C.state }
     ensures begins { BeginsAtDesk C C.state }
+    ensures opened { OpenedRunsByRoots D D.view C C.state }
 {}
 
 /// Where no two different data segments that are stored, or are cut by now from what actors give, have one digest: a line that is run over

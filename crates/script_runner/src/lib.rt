@@ -14,8 +14,8 @@ mod taking;
 
 pub use collecting::{begin_collection, sweep};
 pub use laws::{
-    an_opened_core_is_at_a_desk, lines_are_file_runs, lines_are_runs, lines_give_what_is_named,
-    lines_go_on, lines_keep_what_is_written,
+    an_opened_core_is_at_a_desk, lines_are_file_runs, lines_are_runs, lines_go_on,
+    lines_keep_what_is_written,
 };
 pub use runner::{Halt, Runner};
 pub use sessions::Sessions;

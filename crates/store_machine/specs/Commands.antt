@@ -117,10 +117,6 @@ abbrev pub given_by : ℕ → ListOf ℕ → ListOf Replied → ListOf ℕ
 given_by actor given [] = given
 given_by actor given (one ∷ more) = given_by actor (given_after actor one.line one.reply given) more
 
--- the bytes are a segment of what some actor had given after some of the lines
-abbrev pub IsCutBy : ListOf Replied → ListOf ℕ → Type 0
-IsCutBy rs bytes = (actor count : ℕ) × IsSegmentOf (given_by actor [] (take count rs)) bytes
-
 -- ---- what is printed
 
 -- of a line: of `ingest` the file's root, of `restore` its bytes; of the opening nothing

@@ -90,7 +90,7 @@ returns g c =
                 (λ before whole.
                 let called = called_by _ _ _ _ core core_now r.core s.core whole c.new-runner.ensures.core c.into_core.ensures.core in
                 let kept =
-                run_kept _ _ _ _ before _ r s called c.lines_go_on.ensures c.lines_give_what_is_named.ensures c.lines_keep_what_is_written.ensures.opened
+                run_kept _ _ _ _ before _ r s called c.lines_go_on.ensures c.lines_are_runs.ensures.opened c.lines_keep_what_is_written.ensures.opened
                 c.lines_keep_what_is_written.ensures.lines (c.new-runner.ensures.sessions ∙ c.in_ok-sessions.ensures) result source source_now sink sink_now run in
                 script_back _ _ (view before.now) w run.rs (ending_in result) source source_now sink sink_now kept.1),
           );

@@ -9,3 +9,6 @@ returns-clause-scripts g c = desks.scripts_are_runs _ g.C.HasState.state
 
 pub returns-clause-begins : goal.returns-clause-begins
 returns-clause-begins g c = desks.begins_at_desk _ g.C.HasState.state
+
+pub returns-clause-opened : goal.returns-clause-opened
+returns-clause-opened g c = desks.opened_runs_by_roots _ g.C.HasState.state _ g.D.Disk.view

@@ -1,5 +1,5 @@
--- The plain map that the program is measured by: what each command makes of it, and when it is refused
--- (docs/MODEL.md, 'The plain map').
+-- Why a command is refused on any disk, by what the store is that reads showed, as the command leaves it: so an `ingest` may have stored
+-- pieces before (docs/MODEL.md, 'The promise').
 use Rattle.std.specs.Prelude.{◌≡◌, ◌≢◌, ◌⊎◌, ℕ, ◌-◌, ◌^◌, ◌<◌, ◌≤◌, List, length, Bool, true, false, is_some, option_map, Option, None, Some}
 use Rattle.std.specs.FinMap as finite
 use Rattle.disk_format.specs.declared.numbers.TheConstants.{MOST_FILE, MOST_NAMES, RESERVE, LAST_ID}
@@ -16,24 +16,6 @@ use Rattle.store_model.specs.Pieces.{Piece, Node, IsPieceOf, piece_key, piece_by
 use Rattle.store_model.specs.Trees.{node_key}
 use Rattle.backup_engine.specs.Line.{CommandLine, Format, Ingest, Restore, Delete, Collect, name_of}
 use Rattle.backup_engine.specs.Line as table
-
--- The map after a command that is done: names to byte lists, and the last sequence number. `given` is what the source gave.
-abbrev pub map_after : CommandLine → List ℕ → Stored → Stored
-map_after (Format slots) given m = m
-map_after (Ingest name) given m = with_stored m name given
-map_after (Restore name) given m = m
-map_after (Delete name) given m = without_stored m name
-map_after table.List given m = m
-map_after (Collect percent) given m = m
-
--- What is so of a command that is done. A disk that stands for a map has a store, so `format` is never done there.
-abbrev pub CanBeDone : CommandLine → List ℕ → Stored → Type 0
-CanBeDone (Format slots) given m = ⊥
-CanBeDone (Ingest name) given m = IsName name × (length given ≤ MOST_FILE)
-CanBeDone (Restore name) given m = is_some (finite.get m.files name) ≡ true
-CanBeDone (Delete name) given m = is_some (finite.get m.files name) ≡ true
-CanBeDone table.List given m = Unit {0}
-CanBeDone (Collect percent) given m = Unit {0}
 
 -- What refusals go by: whether the name has a file, how many names have one, the last sequence number; and of the disk its
 -- size, how many slots are free, the last container id, how many records the half of the journal has that counts, its generation, and
@@ -62,10 +44,6 @@ room knows names last store = record {
   generation = store.selector.generation;
   held = λ key. option_map (λ c. c.place.length) (newest 0 store.held key);
 }
-
--- of a map, and a store of its files
-abbrev pub room_of : CommandLine → Stored → Store → Room
-room_of command m store = room (is_some (finite.get m.files (name_of command))) (finite.len m.files) m.last store
 
 -- a piece of a file, a segment or a node of its tree, by its key and its length
 abbrev pub IsPiece : List ℕ → List ℕ → ℕ → Type 0
@@ -135,27 +113,3 @@ RefusesDelete name room BadName = ¬ (IsName name)
 RefusesDelete name room NoFile = IsName name × (room.knows ≡ false)
 RefusesDelete name room Numbers = MayDelete name room × LacksNumbers room
 RefusesDelete name room refusal = ⊥
-
-abbrev pub RefusesFormat : ℕ → Room → Refusal → Type 0
-RefusesFormat slots room AlreadyStore = room.size ≡ size_of slots
-RefusesFormat slots room (WrongSize want got) = (want ≡ size_of slots) × (got ≡ room.size) × (want ≢ got)
-RefusesFormat slots room refusal = ⊥
-
--- Why a command is refused, by what the store is as it leaves it: so `ingest` may have stored pieces before. Want of
--- memory is free, and a call of the disk that failed is told by its count of faults; a `format` of a disk that has a store
--- writes nothing, and syncs nothing. That no id is left for copies of a `collect` goes by the store of before as well: `RefusedBy` of
--- Promise.antt has it.
-abbrev pub Refuses : CommandLine → List ℕ → Room → Refusal → Type 0
-Refuses command given room Memory = Unit {0}
-Refuses command given room DiskRead = Unit {0}
-Refuses (Format slots) given room refusal = RefusesFormat slots room refusal
-Refuses (Ingest name) given room DiskWrite = Unit {0}
-Refuses (Ingest name) given room refusal = RefusesIngest name given room refusal
-Refuses (Restore name) given room DiskWrite = Unit {0}
-Refuses (Restore name) given room refusal = RefusesRestore name room refusal
-Refuses (Delete name) given room DiskWrite = Unit {0}
-Refuses (Delete name) given room refusal = RefusesDelete name room refusal
-Refuses table.List given room DiskWrite = Unit {0}
-Refuses table.List given room refusal = ⊥
-Refuses (Collect percent) given room DiskWrite = Unit {0}
-Refuses (Collect percent) given room refusal = ⊥

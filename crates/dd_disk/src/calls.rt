@@ -54,7 +54,7 @@ pub fn write_synced<D: Disk>(disk: &mut D, at: u64, from: &[u8]) -> Result<(), D
     sync_all(disk)
 }
 
-/// Writes a cell or a container whose first byte is its gate: the bytes after the gate, and the gate once they stand
+/// Writes a cell whose first byte is its gate: the bytes after the gate, and the gate once they stand
 /// after a crash. On `Ok` the gate does too. `at` is the gate's byte on the disk; the cell has a byte and lies in the disk.
 ///
 /// Where a write or a sync fails the answer is `DiskFault`, and some bytes of the cell may have been written

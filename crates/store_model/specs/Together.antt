@@ -1,4 +1,4 @@
--- Several containers that are sealed together, and what a crash leaves of them (docs/MODEL.md, 'Steps').
+-- Several containers that are sealed together, and what a crash leaves of them (docs/MODEL.md, 'Containers').
 use Rattle.std.specs.Prelude.{◌≡◌, ◌≢◌, ◌⊎◌, ◌<◌, ℕ, Bool, true, false, List, [], ◌∷◌, Some, None, slice_get}
 use Rattle.std.specs.List.{AllByRecursion}
 use Rattle.base_model.specs.Frames.{SameOutside}

@@ -1,7 +1,12 @@
+mod Bodies
 mod Differ
 mod FirstBytes
-pub mod Freeing
+mod Freeing
+mod Gates
 pub mod Headers
 pub mod Inspected
-pub mod Sealing
+mod Left
+mod One
+mod Sealing
 pub mod Slots
+mod Stores

@@ -13,4 +13,4 @@ pub use fault::LogFault;
 pub use inspecting::inspect_slots;
 pub use reading::{Spot, read_meta, read_segment};
 pub use slot::read_slot;
-pub use writing::{free, seal};
+pub use writing::{free, free_all, seal, seal_all, sealed_one_by_one};

@@ -1,31 +1,170 @@
-//! Containers written to their slots, and slots made free.
-ghost use Rattle.std.specs.Prelude.{◌≡◌, ◌∷◌, ◌+◌, ◌≤◌, [], true, length, OnOk, IfOk, IfErr};
+//! Containers written to their slots, and slots made free: several with two syncs, or with one.
+ghost use Rattle.std.specs.Prelude.{◌≡◌, ◌⊎◌, ◌∷◌, ◌+◌, ◌<◌, ◌≤◌, ℕ, List, [], true, length, slice_get, Some, None, OnOk, IfOk, IfErr};
 ghost use Rattle.base_model.specs.Known.{Known, KnownWith};
 ghost use Rattle.disk_format.specs.declared.numbers.TheConstants.{SLOT_BYTES};
 ghost use Rattle.disk_format.specs.Layout.{slot_at};
-ghost use Rattle.dd_disk.specs.Ending.{ending};
-ghost use Rattle.dd_disk.specs.Gated.{TornFrom};
+ghost use Rattle.dd_disk.specs.Ending.{WriteCall, ending};
+ghost use Rattle.dd_disk.specs.Moves.{step, Moves};
 ghost use Rattle.dd_disk.specs.Writes.{Puts, Writes};
+ghost use Rattle.dd_disk.specs.Wrote.{SameIn, Wrote};
 ghost use Rattle.container_meta.specs.Format.{is_id};
+ghost use Rattle.container_meta.specs.Segments.{Contents};
 ghost use Rattle.container_meta.specs.Spelling.{container_spelling, header_digest, header_of};
 ghost use Rattle.container_log.specs.declared.fault.LogFault.TheVariants.{DiskWrite};
 ghost use Rattle.container_log.specs.Faults.{blames};
+ghost use Rattle.container_log.specs.Many.{
+  AreSlots,
+  HaveSegments,
+  NoBody,
+  NoGate,
+  HaveBodies,
+  HaveGates,
+  SpellsOne,
+  AreDigests,
+  SealsAll,
+  AreSealed,
+  FreesAll,
+  AreFreed,
+  placed,
+};
 ghost use Rattle.container_log.specs.Writing.{Seals, IsSealed, Frees, IsFreed};
+ghost use Rattle.store_model.specs.Collisions.{ByteSet, IsIn, HasNoCollisions, Stands};
+ghost use Rattle.store_model.specs.Files.{Files};
+ghost use Rattle.store_model.specs.Image.{Store};
+ghost use Rattle.store_model.specs.Slots.{HoldsSlot, last_id};
+ghost use Rattle.store_model.specs.Together.{AreLeftSo, IsLeft, IsThere, CanPlace, MayPlace, StandsSome, with_all};
 
 use crate::fault::LogFault;
 use container_meta::OpenContainer;
-use dd_disk::{Disk, DiskFault, write_gated, write_synced};
-use disk_format::slot_at;
+use dd_disk::{Disk, DiskFault, sync_all, write_unsynced};
+use disk_format::{CONTAINER_GATE, slot_at};
+use std::slice;
 
-// Writes the bytes of a container to its slot, the gate once the bytes after it are on the disk.
-fn write_container<D: Disk>(disk: &mut D, slot: u32, bytes: &[u8]) -> Result<(), LogFault>
-    requires place { slot_at slot + SLOT_BYTES ≤ (D.view disk.old).size }
-    requires length { length bytes.now ≡ SLOT_BYTES }
-    ensures writes { Writes (TornFrom (slot_at slot) bytes.now) (Puts (slot_at slot) bytes.now)
+// Writes what comes after the gate of each container to its slot.
+fn write_bodies<D: Disk>(
+    disk: &mut D,
+    slots: &[u32],
+    id: u64,
+    filled: &[OpenContainer],
+    image: &mut [u8],
+    digests: &mut [[u8; 32]],
+) -> Result<(), DiskFault>
+    requires slots { AreSlots (D.view disk.old).size slots.now }
+    requires many { (length filled.now ≡ length slots.now) × (length digests.old ≡ length slots.now) }
+    requires there { HaveSegments filled.now }
+    requires ids { (i : ℕ) → i < length slots.now → is_id (id + i) ≡ true }
+    requires image { length image.old ≡ SLOT_BYTES }
+    ensures image { (length image.new ≡ SLOT_BYTES) × SpellsOne id filled.now image.new }
+    ensures digests { IfOk result (λ _. AreDigests (length slots.now) id filled.now digests.new) }
+    ensures wrote { Wrote (SameIn (NoBody slots.now)) (HaveBodies (length slots.now) slots.now id filled.now)
+        (ending (λ _. WriteCall) result) (D.view disk.old) (D.view disk.new) }
+{
+    for index in 0..slots.len() {
+        digests[index] = filled[index].encode(id + index as u64, image);
+        write_unsynced(disk, slot_at(slots[index]) + 1, &image[1..])?;
+    }
+    Ok(())
+}
+
+// The same, and a sync.
+fn sync_bodies<D: Disk>(
+    disk: &mut D,
+    slots: &[u32],
+    id: u64,
+    filled: &[OpenContainer],
+    image: &mut [u8],
+    digests: &mut [[u8; 32]],
+) -> Result<(), DiskFault>
+    requires slots { AreSlots (D.view disk.old).size slots.now }
+    requires many { (length filled.now ≡ length slots.now) × (length digests.old ≡ length slots.now) }
+    requires there { HaveSegments filled.now }
+    requires ids { (i : ℕ) → i < length slots.now → is_id (id + i) ≡ true }
+    requires image { length image.old ≡ SLOT_BYTES }
+    ensures image { (length image.new ≡ SLOT_BYTES) × SpellsOne id filled.now image.new }
+    ensures digests { IfOk result (λ _. AreDigests (length slots.now) id filled.now digests.new) }
+    ensures writes { Writes (λ _. SameIn (NoBody slots.now)) (HaveBodies (length slots.now) slots.now id filled.now)
+        (ending (λ _. WriteCall) result) (D.view disk.old) (D.view disk.new) }
+{
+    write_bodies(disk, slots, id, filled, image, digests)?;
+    sync_all(disk)
+}
+
+// Writes a byte over the gate of each of these slots.
+fn write_gates<D: Disk>(disk: &mut D, slots: &[u32], gate: u8) -> Result<(), DiskFault>
+    requires { AreSlots (D.view disk.old).size slots.now }
+    ensures { Wrote (SameIn (NoGate slots.now)) (HaveGates gate (length slots.now) slots.now)
+        (ending (λ _. WriteCall) result) (D.view disk.old) (D.view disk.new) }
+{
+    for index in 0..slots.len() {
+        write_unsynced(disk, slot_at(slots[index]), &[gate])?;
+    }
+    Ok(())
+}
+
+// The same, and a sync.
+fn sync_gates<D: Disk>(disk: &mut D, slots: &[u32], gate: u8) -> Result<(), DiskFault>
+    requires { AreSlots (D.view disk.old).size slots.now }
+    ensures { Writes (λ _. SameIn (NoGate slots.now)) (HaveGates gate (length slots.now) slots.now)
+        (ending (λ _. WriteCall) result) (D.view disk.old) (D.view disk.new) }
+{
+    write_gates(disk, slots, gate)?;
+    sync_all(disk)
+}
+
+// All bodies, and once these stand after a crash all gates.
+fn write_containers<D: Disk>(
+    disk: &mut D,
+    slots: &[u32],
+    id: u64,
+    filled: &[OpenContainer],
+    image: &mut [u8],
+    digests: &mut [[u8; 32]],
+) -> Result<(), DiskFault>
+    requires slots { AreSlots (D.view disk.old).size slots.now }
+    requires many { (length filled.now ≡ length slots.now) × (length digests.old ≡ length slots.now) }
+    requires there { HaveSegments filled.now }
+    requires ids { (i : ℕ) → i < length slots.now → is_id (id + i) ≡ true }
+    requires image { length image.old ≡ SLOT_BYTES }
+    ensures image { (length image.new ≡ SLOT_BYTES) × SpellsOne id filled.now image.new }
+    ensures digests { IfOk result (λ _. AreDigests (length slots.now) id filled.now digests.new) }
+    ensures writes { Writes (SealsAll slots.now id filled.now) (AreSealed slots.now id filled.now)
+        (ending (λ _. WriteCall) result) (D.view disk.old) (D.view disk.new) }
+{
+    sync_bodies(disk, slots, id, filled, image, digests)?;
+    sync_gates(disk, slots, CONTAINER_GATE)
+}
+
+/// Writes containers to as many slots of the disk, each past the one before it, under ids from one on, and gives the digest of
+/// each header. It makes two syncs: each container but its gate, a sync, the gates, a sync. `image` is a buffer of
+/// `disk_format::SLOT_BYTES` bytes for their spellings; it holds one of them then.
+///
+/// Where it fails some of the containers may stand, whichever, each of them whole. The one error is `LogFault::DiskWrite`.
+pub fn seal_all<D: Disk>(
+    disk: &mut D,
+    slots: &[u32],
+    id: u64,
+    filled: &[OpenContainer],
+    image: &mut [u8],
+    digests: &mut [[u8; 32]],
+) -> Result<(), LogFault>
+    requires slots { AreSlots (D.view disk.old).size slots.now }
+    requires many { (length filled.now ≡ length slots.now) × (length digests.old ≡ length slots.now) }
+    requires there { HaveSegments filled.now }
+    requires ids { (i : ℕ) → i < length slots.now → is_id (id + i) ≡ true }
+    requires image { length image.old ≡ SLOT_BYTES }
+    ensures image { (length image.new ≡ SLOT_BYTES) × SpellsOne id filled.now image.new }
+    ensures digests { IfOk result (λ _. AreDigests (length slots.now) id filled.now digests.new) }
+    ensures writes { Writes (SealsAll slots.now id filled.now) (AreSealed slots.now id filled.now)
         (ending blames result) (D.view disk.old) (D.view disk.new) }
     ensures fault { IfErr result (λ fault. fault ≡ DiskWrite) }
+    ensures moves { (among : ByteSet) (store : Store) (files : Files) → HasNoCollisions (IsIn among)
+        → MayPlace (IsIn among) (placed slots.now id filled.now)
+        → CanPlace (last_id store.held) (placed slots.now id filled.now) store
+        → Moves (step (Stands (IsIn among) store files) (StandsSome (IsIn among) (placed slots.now id filled.now) store files)
+        (Stands (IsIn among) (with_all (placed slots.now id filled.now) store) files))
+        (ending blames result) (D.view disk.old) (D.view disk.new) }
 {
-    match write_gated(disk, slot_at(slot), bytes) {
+    match write_containers(disk, slots, id, filled, image, digests) {
         Ok(()) => Ok(()),
         Err(DiskFault) => Err(LogFault::DiskWrite),
     }
@@ -54,9 +193,29 @@ pub fn seal<D: Disk>(
         (ending blames result) (D.view disk.old) (D.view disk.new) }
     ensures fault { IfErr result (λ fault. fault ≡ DiskWrite) }
 {
-    let digest = filled.encode(id, image);
-    write_container(disk, slot, image)?;
+    let mut digest = [0u8; 32];
+    seal_all(
+        disk,
+        &[slot],
+        id,
+        slice::from_ref(filled),
+        image,
+        slice::from_mut(&mut digest),
+    )?;
     Ok(digest)
+}
+
+/// Closes slots of the disk with one sync: writes 0 over their gates. Each lies past the one before it. Where it fails some of
+/// them may be closed, whichever. The one error is `LogFault::DiskWrite`.
+pub fn free_all<D: Disk>(disk: &mut D, slots: &[u32]) -> Result<(), LogFault>
+    requires { AreSlots (D.view disk.old).size slots.now }
+    ensures writes { Writes (λ _. FreesAll slots.now) (AreFreed slots.now) (ending blames result) (D.view disk.old) (D.view disk.new) }
+    ensures fault { IfErr result (λ fault. fault ≡ DiskWrite) }
+{
+    match sync_gates(disk, slots, 0) {
+        Ok(()) => Ok(()),
+        Err(DiskFault) => Err(LogFault::DiskWrite),
+    }
 }
 
 /// Closes a slot of the disk: writes 0 over its gate. The one error is `LogFault::DiskWrite`.
@@ -67,8 +226,17 @@ pub fn free<D: Disk>(disk: &mut D, slot: u32) -> Result<(), LogFault>
     ensures writes { Writes (λ _. Frees slot) (IsFreed slot) (ending blames result) (D.view disk.old) (D.view disk.new) }
     ensures fault { IfErr result (λ fault. fault ≡ DiskWrite) }
 {
-    match write_synced(disk, slot_at(slot), &[0]) {
-        Ok(()) => Ok(()),
-        Err(DiskFault) => Err(LogFault::DiskWrite),
-    }
+    free_all(disk, &[slot])
 }
+
+/// That what a crash leaves of containers that are sealed together is left of an image from before, or of what the disk gave, one
+/// slot after the other, each closed or with its container; and that in the end each has it.
+pub fn sealed_one_by_one()
+    ensures some { (size id : ℕ) (slots : List ℕ) (filled : List Contents) (given image new : List ℕ) → AreSlots size slots
+        → length filled ≡ length slots → length given ≡ size → length image ≡ size
+        → ((i slot : ℕ) → slice_get slots i ≡ Some slot → HoldsSlot image slot None) → SealsAll slots id filled given image new
+        → AreLeftSo IsLeft (placed slots id filled) image new ⊎ AreLeftSo IsLeft (placed slots id filled) given new }
+    ensures all { (size id : ℕ) (slots : List ℕ) (filled : List Contents) (given new : List ℕ) → AreSlots size slots
+        → length filled ≡ length slots → length given ≡ size → AreSealed slots id filled given new
+        → AreLeftSo IsThere (placed slots id filled) given new }
+{}

@@ -10,3 +10,4 @@ mod Noting
 pub mod Shows
 mod Stops
 pub mod Writes
+pub mod Wrote

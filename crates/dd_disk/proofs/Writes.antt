@@ -77,3 +77,13 @@ module _ (step wider : List ℕ → List ℕ → List ℕ → Type 0) (whole mor
     written = written_weaker e writes.written;
     faults_are = writes.faults_are;
   }
+
+-- of writes that broke it is said what a crash leaves of them, and no more
+pub writes_stopped : (step wider : List ℕ → List ℕ → List ℕ → Type 0) (whole more : List ℕ → List ℕ → Type 0) (old new : DiskView)
+    → ((given d c : List ℕ) → old.content ≡ Some given → old.images d → step given d c → wider given d c) → Writes step whole Broken old new → Writes wider more Broken old new
+writes_stopped step wider whole more old new each writes = record {
+  later = writes.later;
+  steps = (writes_weaker step wider whole whole old new (λ given c known part. part) Broken each writes).steps;
+  written = tt;
+  faults_are = writes.faults_are;
+}

@@ -10,3 +10,4 @@ pub mod Stops
 pub mod Untold
 pub mod View
 pub mod Writes
+pub mod Wrote

@@ -6,6 +6,7 @@ ghost use Rattle.dd_disk.specs.Ending.{ReadCall, WriteCall, ending, Reads};
 ghost use Rattle.dd_disk.specs.Shows.{Shows};
 ghost use Rattle.dd_disk.specs.Writes.{Puts, Torn, Writes};
 ghost use Rattle.dd_disk.specs.Gated.{TornFrom};
+ghost use Rattle.dd_disk.specs.Wrote.{Wrote};
 
 use crate::disk::{Disk, DiskFault};
 
@@ -29,6 +30,18 @@ pub fn sync_all<D: Disk>(disk: &mut D) -> Result<(), DiskFault>
     disk.sync()
 }
 
+/// Writes the bytes of `from`, from byte `at` of the disk on, with no sync: until one is done a crash leaves any bytes in
+/// the range. The range lies in the disk.
+///
+/// Where the write fails the answer is `DiskFault`, and reads give any bytes in the range.
+pub fn write_unsynced<D: Disk>(disk: &mut D, at: u64, from: &[u8]) -> Result<(), DiskFault>
+    requires { at + length from.now ≤ (D.view disk.old).size }
+    ensures { Wrote (Torn at (length from.now)) (Puts at from.now) (ending (λ _. WriteCall) result)
+        (D.view disk.old) (D.view disk.new) }
+{
+    disk.write(at, from)
+}
+
 /// Writes the bytes of `from`, from byte `at` of the disk on, and has them stand after a crash. The range lies in the disk.
 ///
 /// Where the write or the sync fails the answer is `DiskFault`, and reads give any bytes in the range.
@@ -41,7 +54,7 @@ pub fn write_synced<D: Disk>(disk: &mut D, at: u64, from: &[u8]) -> Result<(), D
     sync_all(disk)
 }
 
-/// Writes a cell or a container whose first byte is its gate: the bytes after the gate, and the gate once they stand
+/// Writes a cell whose first byte is its gate: the bytes after the gate, and the gate once they stand
 /// after a crash. On `Ok` the gate does too. `at` is the gate's byte on the disk; the cell has a byte and lies in the disk.
 ///
 /// Where a write or a sync fails the answer is `DiskFault`, and some bytes of the cell may have been written

@@ -13,7 +13,7 @@ mod mem;
 
 pub use blind::BlindDisk;
 pub use call::{Asked, Call, Fill};
-pub use calls::{read_at, sync_all, write_gated, write_synced};
+pub use calls::{read_at, sync_all, write_gated, write_synced, write_unsynced};
 pub use disk::{Disk, DiskFault};
 pub use file::FileDisk;
 pub use mem::MemDisk;

@@ -1,5 +1,17 @@
--- Slots, once a container is in the first that is closed.
-use Rattle.store_model.proofs.Prelude.{◌≡◌, ◌≢◌, ℕ, zero, suc, ◌<◌, ◌≤◌, List, [], ◌∷◌, length, max, Option, Some, None, refl, ◌∙◌, ap, arith, HeaderValue, IsHeader, AreHeaders, IsUnusedId, DifferentIds, last_id, free_slots, first_free, with_slot}
+-- Slots, once a container is in one that was closed.
+use Rattle.store_model.proofs.Prelude.{◌≡◌, ◌≢◌, ℕ, zero, suc, ◌<◌, ◌≤◌, List, [], ◌∷◌, length, get_or, max, Option, Some, None, refl, ◌∙◌, ap, arith, slice_get, HeaderValue, IsHeader, AreHeaders, IsUnusedId, DifferentIds, last_id, free_slots, first_free, with_slot}
+
+-- no container is in the closed slot of least number, also where there is none and that number is past all
+pub first_empty : (held : List (Option HeaderValue)) → get_or held (first_free held) None ≡ None
+first_empty [] = refl
+first_empty (None ∷ cs) = refl
+first_empty (Some h ∷ cs) = first_empty cs
+
+pub closed_empty : (index : ℕ) (held : List (Option HeaderValue)) → slice_get held index ≡ Some None → get_or held index None ≡ None
+closed_empty index [] closed = absurd cc
+closed_empty zero (None ∷ cs) closed = refl
+closed_empty zero (Some h ∷ cs) closed = absurd cc
+closed_empty (suc index) (c ∷ cs) closed = closed_empty index cs closed
 
 -- there are as many slots as before
 pub length-with_slot : (slot : ℕ) (h : HeaderValue) (held : List (Option HeaderValue)) → length (with_slot slot h held) ≡ length held

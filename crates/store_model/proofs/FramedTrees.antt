@@ -1,10 +1,11 @@
 -- What a store of files by their trees keeps where an image changes outside of its containers.
-use Rattle.store_model.proofs.Prelude.{◌≡◌, ℕ, ◌+◌, List, length, Option, Some, None, refl, ◌∙◌, arith, SameOutside, FIRST_SLOT, SLOT_BYTES, slot_at, HeaderValue, spelling, Trees, contents_of, Named, Files, HoldsSlot, HoldSlots, AreHeaders, DifferentIds, first_free, Store, Encodes, AreCopies, names_of, AreNodes, IsFileOf, AreFilesOf, AreAmong, Stands, leaf_key, node_key, HasNewest, HoldsTree, HoldsTrees}
+use Rattle.store_model.proofs.Prelude.{◌≡◌, ℕ, ◌+◌, List, length, get_or, Option, Some, None, refl, ◌∙◌, arith, SameOutside, FIRST_SLOT, SLOT_BYTES, slot_at, HeaderValue, spelling, Trees, contents_of, Named, Files, HoldsSlot, HoldSlots, AreHeaders, DifferentIds, first_free, Store, Encodes, AreCopies, names_of, AreNodes, IsFileOf, AreFilesOf, AreAmong, Stands, leaf_key, node_key, HasNewest, HoldsTree, HoldsTrees}
 use Rattle.std.specs.FinMap as finite
 use Rattle.merkle_file.specs.Tree as tree
 use Rattle.merkle_file.specs.Tree.{Tree}
 use Rattle.store_model.specs.Trees.{file_tree}
 use Rattle.store_model.proofs.Copies.{headers_of_right}
+use Rattle.store_model.proofs.Filled.{first_empty}
 use Rattle.store_model.proofs.Frames.{SameTo, SameSlots, format_kept, journal_kept, other_kept, slots_kept, copies_kept}
 use Rattle.store_model.proofs.HeldSlots.{SameHeld, all_held, others_held, newest_still, IsNodeEntry, IsAmongThese, so_still, nodes_so, so_nodes, among_so, so_among}
 use Rattle.store_model.proofs.Kept.{holds_still, copies_still}
@@ -75,28 +76,33 @@ module _ (S : List ℕ → Type 0) (store : Store) (files : Files) (image new : 
       (λ name. file_on store.held store.held image new (λ key level bytes. newest_still image new store.held key level bytes (headers right) same)
       (finite.get (names_of store) name) (finite.get files name) (stands.holds.files_are name))
 
--- ---- the first closed slot alone was written to, and is closed
+-- ---- a slot that has no container was written to, and nothing else
 
 pub before_slots : (slot : ℕ) (image new : List ℕ) → SameOutside (slot_at slot) SLOT_BYTES image new → SameTo FIRST_SLOT image new
 before_slots slot image new same p n within = same.before p n (omega (arith, within))
 
--- the same store, of the same files
+module _ (slot : ℕ) (store : Store) (image new : List ℕ) (same : SameOutside (slot_at slot) SLOT_BYTES image new) (empty : get_or store.held slot None ≡ None) where
+  place : slot ≡ 0 + slot
+  place = omega arith
+
+  -- whatever it holds now, the newest copy of each key is what it was
+  pub newest_unsealed : Encodes image store → (key : List ℕ) (level : ℕ) (bytes : List ℕ) → HasNewest store.held key level bytes image → HasNewest store.held key level bytes new
+  newest_unsealed right key level bytes =
+      newest_still image new store.held key level bytes (headers_of_right image store right) (others_held image new slot 0 slot store.held same place empty)
+
+  -- where it is closed still, it is the same store, of the same files
+  pub unsealed_at : (S : List ℕ → Type 0) (files : Files) → Stands S store files image → HoldsSlot new slot None → Stands S store files new
+  unsealed_at S files stands closed =
+      let right = stands.holds.right in
+      stands_still S store files image new (before_slots slot image new same) same.size (others_held image new slot 0 slot store.held same place empty) stands
+      (holds_still slot image new same 0 slot store.held place empty closed right.slots_are)
+      (copies_still slot image new same 0 slot store.held place empty (headers_of_right image store right) stands.holds.copies)
+
+-- of the first closed slot
 pub unsealed : (S : List ℕ → Type 0) (store : Store) (files : Files) (image new : List ℕ) → Stands S store files image →
     SameOutside (slot_at (first_free store.held)) SLOT_BYTES image new
     → HoldsSlot new (first_free store.held) None → Stands S store files new
-unsealed S store files image new stands same closed =
-    let slot : ℕ = first_free store.held in
-    let place : slot ≡ 0 + first_free store.held = omega arith in
-    let right = stands.holds.right in
-    stands_still S store files image new (before_slots slot image new same) same.size (others_held image new slot 0 store.held same place) stands
-    (holds_still slot image new same 0 store.held place closed right.slots_are)
-    (copies_still slot image new same 0 store.held place (headers_of_right image store right) stands.holds.copies)
-
-module _ (store : Store) (image new : List ℕ) (right : Encodes image store) (same : SameOutside (slot_at (first_free store.held)) SLOT_BYTES image new) where
-  -- whatever the slot holds now, what the store held is as it was: the newest copy of a key
-  pub newest_unsealed : (key : List ℕ) (level : ℕ) (bytes : List ℕ) → HasNewest store.held key level bytes image → HasNewest store.held key level bytes new
-  newest_unsealed key level bytes =
-      newest_still image new store.held key level bytes (headers_of_right image store right) (others_held image new (first_free store.held) 0 store.held same (omega arith))
+unsealed S store files image new stands same closed = unsealed_at (first_free store.held) store image new same (first_empty store.held) S files stands closed
 
 -- ---- all before the end of the slots is as it was
 

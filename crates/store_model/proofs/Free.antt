@@ -1,5 +1,5 @@
--- Closed slots, by the id in each slot: 0 where it is closed; and the first of them on the disk.
-use Rattle.store_model.proofs.Prelude.{◌≡◌, ◌≢◌, ℕ, ◌+◌, ◌-◌, ◌^◌, ◌<◌, ◌≤◌, Bool, true, false, cond, List, [], ◌∷◌, length, Option, Some, None, refl, sym, ap, subst, ◌∙◌, arith, ◌==◌, nat_le, nat_lt, slice_get, leb-true, ltb-false, eqb-true, byte_at, CONTAINER_GATE, slot_at, HeaderValue, IsHeader, HoldsSlot, HoldSlots, AreHeaders, ids_of, free_slots, first_free, Store, Encodes}
+-- Closed slots, by the id in each slot: 0 where it is closed; and on the disk.
+use Rattle.store_model.proofs.Prelude.{◌≡◌, ◌≢◌, ℕ, zero, suc, ◌+◌, ◌-◌, ◌^◌, ◌<◌, ◌≤◌, Bool, true, false, cond, List, [], ◌∷◌, length, Option, Some, None, refl, sym, ap, subst, ◌∙◌, arith, ◌==◌, nat_le, nat_lt, slice_get, leb-true, ltb-false, eqb-true, byte_at, CONTAINER_GATE, slot_at, HeaderValue, IsHeader, HoldsSlot, HoldSlots, AreHeaders, ids_of, free_slots, first_free, Store, Encodes}
 use Rattle.std.specs.Prelude.{◌&&◌}
 use Rattle.std.specs.List.{count_by, position, position_or_len}
 use Rattle.std.proofs.lemmas.List.Quantifiers.{position-Some}
@@ -103,14 +103,16 @@ no_place_free held right is = none_free held (omega (arith, first_zero held righ
     past : length (ids_of held) ≤ position_or_len is_zero (ids_of held)
     past = ltb-false (position_or_len is_zero (ids_of held)) (length (ids_of held)) (by_test _ (position_or_len is_zero (ids_of held)) refl is)
 
--- ---- the free slot of least number is closed
+-- ---- slots that the store has closed are closed
 
-closed_from : (from slot : ℕ) (held : List (Option HeaderValue)) (image : List ℕ) → slot ≡ from + first_free held → 1 ≤ free_slots held → HoldSlots from held image
+pub closed_in : (from slot index : ℕ) (held : List (Option HeaderValue)) (image : List ℕ) → slot ≡ from + index → slice_get held index ≡ Some None → HoldSlots from held image
     → HoldsSlot image slot None
-closed_from from slot [] image place some holds = absurd (omega (arith, some))
-closed_from from slot (None ∷ cs) image place some holds = subst (λ (s : ℕ). byte_at (slot_at s) image ≢ CONTAINER_GATE) (omega (arith, place)) holds.0
-closed_from from slot (Some h ∷ cs) image place some holds = closed_from (from + 1) slot cs image (omega (arith, place)) some holds.1
+closed_in from slot index [] image place closed holds = absurd cc
+closed_in from slot zero (Some h ∷ cs) image place closed holds = absurd cc
+closed_in from slot zero (None ∷ cs) image place closed holds = subst (λ (s : ℕ). byte_at (slot_at s) image ≢ CONTAINER_GATE) (omega (arith, place)) holds.0
+closed_in from slot (suc index) (c ∷ cs) image place closed holds = closed_in (from + 1) slot index cs image (omega (arith, place)) closed holds.1
 
 -- where a slot is free, the first free slot is closed
 pub first_free_closed : (image : List ℕ) (store : Store) → Encodes image store → 1 ≤ free_slots store.held → HoldsSlot image (first_free store.held) None
-first_free_closed image store right some = closed_from 0 (first_free store.held) store.held image (omega arith) some right.slots_are
+first_free_closed image store right some =
+    closed_in 0 (first_free store.held) (first_free store.held) store.held image (omega arith) (first_closed store.held (some_free store.held some)) right.slots_are

@@ -1,5 +1,5 @@
 -- What is so of each entry of the containers of a store, and stays so where the slots that have one are as they were.
-use Rattle.store_model.proofs.Prelude.{◌≡◌, ℕ, zero, suc, ◌+◌, ◌≤◌, Bool, true, false, cond, List, [], ◌∷◌, ◌++◌, length, get_or, Option, Some, None, find, refl, sym, ◌∙◌, ap, subst, arith, AllByRecursion, bytes_eq-Decides, sum_by-append, sum_by-cons, key_of, SameOutside, SLOT_BYTES, slot_at, Entry, Kind, kind_byte, is_level, HeaderValue, IsHeader, bytes_of, AreHeaders, Copy, newest, first_free, with_slot, entry_bytes, IsOfKind, AreNodes, IsAmong, AreAmong, bytes_at, HasNewest}
+use Rattle.store_model.proofs.Prelude.{◌≡◌, ℕ, zero, suc, ◌+◌, ◌≤◌, Bool, true, false, cond, List, [], ◌∷◌, ◌++◌, length, get_or, Option, Some, None, find, refl, sym, ◌∙◌, ap, subst, arith, AllByRecursion, bytes_eq-Decides, sum_by-append, sum_by-cons, key_of, SameOutside, SLOT_BYTES, slot_at, Entry, Kind, kind_byte, is_level, HeaderValue, IsHeader, bytes_of, AreHeaders, Copy, newest, with_slot, entry_bytes, IsOfKind, AreNodes, IsAmong, AreAmong, bytes_at, HasNewest}
 use Rattle.container_meta.specs.declared.kind.Kind.TheVariants.{Leaf, Tree}
 use Rattle.container_meta.specs.Spelling.{Follow}
 use Rattle.store_model.proofs.Copies.{some_same, lies, data_within}
@@ -20,12 +20,15 @@ module _ (old new : List ℕ) where
   all_held from (Some h ∷ cs) same =
       (same from (omega arith) (omega arith), all_held (from + 1) cs (λ slot above below. same slot (omega (arith, above)) (omega (arith, below))))
 
-  -- where all but the first closed one are
-  pub others_held : (slot from : ℕ) (held : List (Option HeaderValue)) → SameOutside (slot_at slot) SLOT_BYTES old new → slot ≡ from + first_free held → SameHeld from held old new
-  others_held slot from [] same place = tt
-  others_held slot from (None ∷ cs) same place = all_held (from + 1) cs (λ other above below. other_same slot other old new same (omega (arith, place, above)))
-  others_held slot from (Some h ∷ cs) same place =
-      (other_same slot from old new same (omega (arith, place)), others_held slot (from + 1) cs same (omega (arith, place)))
+  -- where all but one that has none are
+  pub others_held : (slot from index : ℕ) (held : List (Option HeaderValue)) → SameOutside (slot_at slot) SLOT_BYTES old new → slot ≡ from + index → get_or held index None ≡ None →
+      SameHeld from held old new
+  others_held slot from index [] same place empty = tt
+  others_held slot from zero (Some h ∷ cs) same place empty = absurd cc
+  others_held slot from zero (None ∷ cs) same place empty = all_held (from + 1) cs (λ other above below. other_same slot other old new same (omega (arith, place, above)))
+  others_held slot from (suc index) (None ∷ cs) same place empty = others_held slot (from + 1) index cs same (omega (arith, place)) empty
+  others_held slot from (suc index) (Some h ∷ cs) same place empty =
+      (other_same slot from old new same (omega (arith, place)), others_held slot (from + 1) index cs same (omega (arith, place)) empty)
 
   same_there : (from : ℕ) (held : List (Option HeaderValue)) (index : ℕ) (h : HeaderValue) → get_or held index None ≡ Some h → SameHeld from held old new →
       SameSlot (from + index) old new
@@ -82,14 +85,16 @@ module _ (P : Kind → Entry → List ℕ → Type 0) (old new : List ℕ) where
   so_still from (Some h ∷ cs) headers same so = (slot_still from h same.0 headers.0 so.0, so_still (from + 1) cs headers.1 same.1 so.1)
 
   -- and with a container more, whose entries keep it
-  pub so_with : (slot from : ℕ) (h : HeaderValue) (held : List (Option HeaderValue)) → slot ≡ from + first_free held →
+  pub so_with : (slot from index : ℕ) (h : HeaderValue) (held : List (Option HeaderValue)) → slot ≡ from + index → get_or held index None ≡ None →
       AllByRecursion (λ e. P h.kind e (entry_bytes slot e new)) h.entries
-      → AreHeaders held → SameHeld from held old new → AreSo P from held old → AreSo P from (with_slot (first_free held) h held) new
-  so_with slot from h [] place here headers same so = tt
-  so_with slot from h (None ∷ cs) place here headers same so =
+      → AreHeaders held → SameHeld from held old new → AreSo P from held old → AreSo P from (with_slot index h held) new
+  so_with slot from index h [] place empty here headers same so = tt
+  so_with slot from zero h (Some g ∷ cs) place empty here headers same so = absurd cc
+  so_with slot from zero h (None ∷ cs) place empty here headers same so =
       (subst (λ (s : ℕ). AllByRecursion (λ e. P h.kind e (entry_bytes s e new)) h.entries) (place ∙ omega arith) here, so_still (from + 1) cs headers same so)
-  so_with slot from h (Some g ∷ cs) place here headers same so =
-      (slot_still from g same.0 headers.0 so.0, so_with slot (from + 1) h cs (omega (arith, place)) here headers.1 same.1 so.1)
+  so_with slot from (suc index) h (None ∷ cs) place empty here headers same so = so_with slot (from + 1) index h cs (omega (arith, place)) empty here headers same so
+  so_with slot from (suc index) h (Some g ∷ cs) place empty here headers same so =
+      (slot_still from g same.0 headers.0 so.0, so_with slot (from + 1) index h cs (omega (arith, place)) empty here headers.1 same.1 so.1)
 
 -- ---- an entry that is found
 

@@ -33,6 +33,7 @@ pub mod SameIndex
 pub mod SealedTrees
 pub mod Sound
 pub mod Spellings
+pub mod Together
 pub mod TreeKeys
 pub mod Unfolding
 pub mod Valid

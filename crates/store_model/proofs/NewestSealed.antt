@@ -1,10 +1,12 @@
--- The newest copy of each key, once a container is in the first slot that is closed.
-use Rattle.store_model.proofs.Prelude.{◌≡◌, ◌≢◌, ℕ, ◌+◌, ◌<◌, ◌≤◌, Bool, true, false, cond, List, [], ◌∷◌, ◌++◌, Option, Some, None, find, option_map, refl, sym, ◌∙◌, ap, subst, append_assoc, arith, nat_lt, AllByRecursion, bytes_eq, ltb-true, ltb-false, bytes_eq-Decides, key_of, Entry, Kind, kind_byte, HeaderValue, IsHeader, has_digest, Copy, place_of, copy_in, newer, newest, last_id, free_slots, first_free, with_slot}
+-- The newest copy of each key, once a container is in a slot that was closed.
+use Rattle.store_model.proofs.Prelude.{◌≡◌, ◌≢◌, ℕ, zero, suc, ◌+◌, ◌<◌, ◌≤◌, Bool, true, false, cond, List, [], ◌∷◌, ◌++◌, Option, Some, None, find, option_map, refl, sym, ◌∙◌, ap, subst, append_assoc, arith, nat_lt, AllByRecursion, bytes_eq, ltb-true, ltb-false, bytes_eq-Decides, key_of, Entry, Kind, kind_byte, HeaderValue, IsHeader, has_digest, get_or, slice_get, Copy, place_of, copy_in, newer, newest, last_id, free_slots, first_free, with_slot}
 use Rattle.std.specs.Prelude.{if◌then◌else◌}
 use Rattle.std.proofs.lemmas.Bool.{or_parts}
 use Rattle.container_meta.specs.Spelling.{Follow}
 use Rattle.store_model.proofs.Copies.{some_same}
 use Rattle.store_model.proofs.CopyIds.{newest_id}
+use Rattle.store_model.proofs.Filled.{first_empty}
+use Rattle.store_model.proofs.Free.{first_closed, some_free}
 
 -- the copy that an entry of a container is
 abbrev pub entry_copy : ℕ → ℕ → Entry → Copy
@@ -43,24 +45,39 @@ newer_first b (Some c) below = by_test (nat_lt b.id c.id) refl
 -- ---- one container more
 
 -- under an id above all, the newest copy of a key that an entry of it has is that entry
-pub newest_with : (from slot : ℕ) (h : HeaderValue) (held : List (Option HeaderValue)) (key : List ℕ) (e : Entry) → slot ≡ from + first_free held → 1 ≤ free_slots held →
+pub newest_at : (from slot index : ℕ) (h : HeaderValue) (held : List (Option HeaderValue)) (key : List ℕ) (e : Entry) → slot ≡ from + index → slice_get held index ≡ Some None →
     last_id held < h.id
-    → find (entry_has h.kind key) h.entries ≡ Some e → newest from (with_slot (first_free held) h held) key ≡ Some (entry_copy slot h.id e)
-newest_with from slot h [] key e place some above found = absurd (omega (arith, some))
-newest_with from slot h (None ∷ cs) key e place some above found =
+    → find (entry_has h.kind key) h.entries ≡ Some e → newest from (with_slot index h held) key ≡ Some (entry_copy slot h.id e)
+newest_at from slot index h [] key e place closed above found = absurd cc
+newest_at from slot zero h (Some g ∷ cs) key e place closed above found = absurd cc
+newest_at from slot zero h (None ∷ cs) key e place closed above found =
     ap (λ (o : Option Entry). newer (option_map (entry_copy from h.id) o) (newest (from + 1) cs key)) found
     ∙ newer_first (entry_copy from h.id e) (newest (from + 1) cs key) (λ c is. omega (arith, newest_id (from + 1) cs key c is, above))
     ∙ ap (λ (s : ℕ). Some (entry_copy s h.id e)) (omega (arith, place))
-newest_with from slot h (Some g ∷ cs) key e place some above found =
-    ap (newer (copy_in from (Some g) key)) (newest_with (from + 1) slot h cs key e (omega (arith, place)) some (omega (arith, above)) found)
+newest_at from slot (suc index) h (None ∷ cs) key e place closed above found =
+    newest_at (from + 1) slot index h cs key e (omega (arith, place)) closed above found
+newest_at from slot (suc index) h (Some g ∷ cs) key e place closed above found =
+    ap (newer (copy_in from (Some g) key)) (newest_at (from + 1) slot index h cs key e (omega (arith, place)) closed (omega (arith, above)) found)
     ∙ newer_last (copy_in from (Some g) key) (entry_copy slot h.id e) (λ c is. omega (arith, copy_id from g key c is, above))
 
 -- that of another key is the one from before
+pub newest_past : (from index : ℕ) (h : HeaderValue) (held : List (Option HeaderValue)) (key : List ℕ) → get_or held index None ≡ None →
+    find (entry_has h.kind key) h.entries ≡ None
+    → newest from (with_slot index h held) key ≡ newest from held key
+newest_past from index h [] key empty none = refl
+newest_past from zero h (Some g ∷ cs) key empty none = absurd cc
+newest_past from zero h (None ∷ cs) key empty none = ap (λ (o : Option Entry). newer (option_map (entry_copy from h.id) o) (newest (from + 1) cs key)) none
+newest_past from (suc index) h (c ∷ cs) key empty none = ap (newer (copy_in from c key)) (newest_past (from + 1) index h cs key empty none)
+
+-- in the first closed slot
+pub newest_with : (from slot : ℕ) (h : HeaderValue) (held : List (Option HeaderValue)) (key : List ℕ) (e : Entry) → slot ≡ from + first_free held → 1 ≤ free_slots held →
+    last_id held < h.id
+    → find (entry_has h.kind key) h.entries ≡ Some e → newest from (with_slot (first_free held) h held) key ≡ Some (entry_copy slot h.id e)
+newest_with from slot h held key e place some above found = newest_at from slot (first_free held) h held key e place (first_closed held (some_free held some)) above found
+
 pub newest_without : (from : ℕ) (h : HeaderValue) (held : List (Option HeaderValue)) (key : List ℕ) → 1 ≤ free_slots held → find (entry_has h.kind key) h.entries ≡ None
     → newest from (with_slot (first_free held) h held) key ≡ newest from held key
-newest_without from h [] key some none = absurd (omega (arith, some))
-newest_without from h (None ∷ cs) key some none = ap (λ (o : Option Entry). newer (option_map (entry_copy from h.id) o) (newest (from + 1) cs key)) none
-newest_without from h (Some g ∷ cs) key some none = ap (newer (copy_in from (Some g) key)) (newest_without (from + 1) h cs key some none)
+newest_without from h held key some none = newest_past from (first_free held) h held key (first_empty held) none
 
 -- ---- the entry of a key
 

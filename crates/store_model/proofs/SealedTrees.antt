@@ -1,6 +1,6 @@
--- What an image stands for once a container was sealed in its first closed slot. A segment of it whose key was held
+-- What an image stands for once a container was sealed in a closed slot. A segment of it whose key was held
 -- already becomes the newest copy of that key: it is the same segment.
-use Rattle.store_model.proofs.Prelude.{◌<◌, ◌≡◌, ◌≢◌, ℕ, ◌+◌, ◌≤◌, true, List, [], ◌∷◌, length, Option, Some, None, find, refl, sym, ◌∙◌, ap, subst, arith, AllByRecursion, Contains, eqb-true, Contains-append_left, Contains-append_right, bytes_eq-Decides, sha256, key_of, SameOutside, SLOT_BYTES, slot_at, data_at, Entry, Kind, kind_byte, is_level, Segment, segment_key, entries_from, HeaderValue, header_of, spelling, Trees, contents_of, Named, IsAmong, AreAmong, Stands, Files, AreHeaders, Copy, newest, last_id, free_slots, first_free, Store, Encodes, AreCopies, names_of, entry_bytes, IsOfKind, AreNodes, IsFileOf, with_sealed, CanHold, IsReachable, tree_keys, keys_below, bytes_at, leaf_key, node_key, HasNewest, HoldsTree, HoldsTrees}
+use Rattle.store_model.proofs.Prelude.{◌<◌, ◌≡◌, ◌≢◌, ℕ, ◌+◌, ◌≤◌, true, List, [], ◌∷◌, length, get_or, Option, Some, None, find, refl, sym, ◌∙◌, ap, subst, arith, AllByRecursion, Contains, eqb-true, Contains-append_left, Contains-append_right, bytes_eq-Decides, sha256, key_of, SameOutside, SLOT_BYTES, slot_at, data_at, Entry, Kind, kind_byte, is_level, Segment, segment_key, entries_from, HeaderValue, header_of, spelling, Trees, contents_of, Named, IsAmong, AreAmong, Stands, Files, AreHeaders, Copy, newest, last_id, free_slots, first_free, Store, Encodes, AreCopies, names_of, entry_bytes, IsOfKind, AreNodes, IsFileOf, with_sealed, CanHold, IsReachable, tree_keys, keys_below, bytes_at, leaf_key, node_key, HasNewest, HoldsTree, HoldsTrees}
 use Rattle.std.specs.FinMap as finite
 use Rattle.container_meta.specs.declared.kind.Kind.TheVariants.{Leaf, Tree}
 use Rattle.merkle_file.specs.Tree as tree
@@ -10,12 +10,14 @@ use Rattle.store_model.specs.Slots.{HoldsContainer, StandAt}
 use Rattle.store_model.specs.Steps.{MaySeal, FitsHeld}
 use Rattle.store_model.specs.Trees.{file_tree}
 use Rattle.store_model.proofs.Copies.{some_same, headers_of_right, copy_digest}
-use Rattle.store_model.proofs.Filled.{length-with_slot, different_with}
+use Rattle.store_model.specs.Together.{Placed, IsClosed, IsThere, with_placed}
+use Rattle.store_model.proofs.Filled.{length-with_slot, different_with, closed_empty}
+use Rattle.store_model.proofs.Free.{first_closed, some_free}
 use Rattle.store_model.proofs.FramedTrees.{before_slots, encodes_on, stands_on}
 use Rattle.store_model.proofs.FreedTrees.{in_head, in_tail}
 use Rattle.store_model.proofs.HeldSlots.{SameHeld, others_held, copy_still, found_so, have_levels, HasLevel, levels_so, newest_so, IsNodeEntry, nodes_so, so_nodes, IsAmongThese, among_so, so_among, so_with}
 use Rattle.store_model.proofs.Kept.{holds_with, copies_with}
-use Rattle.store_model.proofs.NewestSealed.{entry_has, entry_copy, newest_with, newest_without, newest_of_entries, newest_of_others}
+use Rattle.store_model.proofs.NewestSealed.{entry_has, entry_copy, newest_at, newest_past, newest_of_entries, newest_of_others}
 use Rattle.store_model.proofs.OneNode.{one_level}
 
 -- ---- the entries of segments
@@ -67,16 +69,21 @@ same_bytes : (P : List ℕ → Type 0) (kind : Kind) (store : Store) (given imag
 same_bytes P Leaf store given image s copy is counts e alike = sym (is copy counts e)
 same_bytes P Tree store given image s copy is counts e alike = sym (is copy counts e) ∙ alike
 
+-- where there are no collisions, data of a key that is held is the newest copy
+pub newest_data : (S P : List ℕ → Type 0) (store : Store) (files : Files) (given image : List ℕ) → HasNoCollisions S → Stands S store files image → (s : Segment) →
+    MaySeal S Leaf s → IsNewestOf P Leaf store given image s
+newest_data S P store files given image distinct stands s may = λ copy counts e.
+    sym (distinct s.bytes (bytes_at copy.place image) may.among
+    (newest_so (IsAmongThese S) store.held Leaf (sha256 s.bytes) image copy (among_so S 0 store.held image stands.among) e).so
+    (sym (copy_digest store.held 0 (sha256 s.bytes) image copy stands.holds.copies e)))
+
 module _ (S P : List ℕ → Type 0) (kind : Kind) (store : Store) (files : Files) (given image : List ℕ) where
-  -- where there are no collisions, data of a key that is held is the newest copy
+  -- and so is a node that fits it
   pub newest_by_fit : HasNoCollisions S → Stands S store files image → (s : Segment) → MaySeal S kind s → FitsHeld P kind store given s → IsNewestOf P kind store given image s
   newest_by_fit distinct stands s may fits = by_kind kind may fits
     where
       by_kind : (k : Kind) → MaySeal S k s → FitsHeld P k store given s → IsNewestOf P k store given image s
-      by_kind Leaf may fits = λ copy counts e.
-          sym (distinct s.bytes (bytes_at copy.place image) may.among
-          (newest_so (IsAmongThese S) store.held Leaf (sha256 s.bytes) image copy (among_so S 0 store.held image stands.among) e).so
-          (sym (copy_digest store.held 0 (sha256 s.bytes) image copy stands.holds.copies e)))
+      by_kind Leaf may fits = newest_data S P store files given image distinct stands s may
       by_kind Tree may fits = λ copy counts e. fits copy counts e
 
   pub all_by_fit : HasNoCollisions S → Stands S store files image → (segments : List Segment) → AllByRecursion (MaySeal S kind) segments →
@@ -142,79 +149,80 @@ newest_beside id kind segments store key some others =
     other_entries offset [] others = tt
     other_entries offset (s ∷ ss) others = (others.0, other_entries (offset + length s.bytes) ss others.1)
 
-module _ {spare : ℕ} (S P : List ℕ → Type 0) (id : ℕ) (kind : Kind) (segments : List Segment) (store : Store) (files : Files) (given image new : List ℕ)
+module _ (S P : List ℕ → Type 0) (p : Placed) (store : Store) (files : Files) (given image new : List ℕ)
     (before : Stands S store files given) (stands : Stands S store files image)
-    (same : SameOutside (slot_at (first_free store.held)) SLOT_BYTES image new)
-    (container : HoldsContainer new (first_free store.held) id kind segments) (can : CanHold spare id kind segments store)
-    (may : AllByRecursion (MaySeal S kind) segments) (newests : AllByRecursion (IsNewestOf P kind store given image) segments) where
+    (same : SameOutside (slot_at p.slot) SLOT_BYTES image new)
+    (container : IsThere p new) (closed : IsClosed store p.slot) (above : last_id store.held < p.id)
+    (may : AllByRecursion (MaySeal S p.kind) p.segments) (newests : AllByRecursion (IsNewestOf P p.kind store given image) p.segments) where
   abbrev header : HeaderValue
-  header = header_of id kind segments
+  header = header_of p.id p.kind p.segments
 
-  some : 1 ≤ free_slots store.held
-  some = omega (arith, can.slot)
+  empty : get_or store.held p.slot None ≡ None
+  empty = closed_empty p.slot store.held closed
 
-  place : first_free store.held ≡ 0 + first_free store.held
+  place : p.slot ≡ 0 + p.slot
   place = omega arith
 
   headers : AreHeaders store.held
   headers = headers_of_right image store stands.holds.right
 
   still : SameHeld 0 store.held image new
-  still = others_held image new (first_free store.held) 0 store.held same place
+  still = others_held image new p.slot 0 p.slot store.held same place empty
 
-  stand : StandAt (data_at (first_free store.held) + 0) segments new
-  stand = subst (λ (at : ℕ). StandAt at segments new) (omega arith) container.bytes
+  stand : StandAt (data_at p.slot + 0) p.segments new
+  stand = subst (λ (at : ℕ). StandAt at p.segments new) (omega arith) container.bytes
 
   -- an entry of the container, and its segment
   record IsSealed (e : Entry) : Type 0 where
     segment : Segment
-    is : IsEntryOf (first_free store.held) new segment e
-    sealable : MaySeal S kind segment
-    newest_is : IsNewestOf P kind store given image segment
+    is : IsEntryOf p.slot new segment e
+    sealable : MaySeal S p.kind segment
+    newest_is : IsNewestOf P p.kind store given image segment
 
   all_sealed : AllByRecursion IsSealed header.entries
   all_sealed =
-      entries_of (first_free store.held) new (λ s. MaySeal S kind s × IsNewestOf P kind store given image s) IsSealed 0 segments
-      (λ s e is so. record { segment = s; is = is; sealable = so.0; newest_is = so.1 }) stand (both_so (MaySeal S kind) (IsNewestOf P kind store given image) segments may newests)
+      entries_of p.slot new (λ s. MaySeal S p.kind s × IsNewestOf P p.kind store given image s) IsSealed 0 p.segments
+      (λ s e is so. record { segment = s; is = is; sealable = so.0; newest_is = so.1 }) stand
+      (both_so (MaySeal S p.kind) (IsNewestOf P p.kind store given image) p.segments may newests)
 
-  all_levels : AllByRecursion (λ e. is_level kind e.level ≡ true) header.entries
-  all_levels = have_levels kind kind [] header.entries refl container.header.0.entries
+  all_levels : AllByRecursion (λ e. is_level p.kind e.level ≡ true) header.entries
+  all_levels = have_levels p.kind p.kind [] header.entries refl container.header.0.entries
 
   -- A key that counts and is held in both images has the newest copy that it had.
   pub newest_alike : (key : List ℕ) (level : ℕ) (bytes : List ℕ) → P key → HasNewest store.held key level bytes given → HasNewest store.held key level bytes image
-      → HasNewest (with_sealed id kind segments store).held key level bytes new
-  newest_alike key level bytes counts old has = by_entry (find (entry_has kind key) header.entries) refl
+      → HasNewest (with_placed p store).held key level bytes new
+  newest_alike key level bytes counts old has = by_entry (find (entry_has p.kind key) header.entries) refl
     where
-      by_entry : (found : Option Entry) → find (entry_has kind key) header.entries ≡ found → HasNewest (with_sealed id kind segments store).held key level bytes new
+      by_entry : (found : Option Entry) → find (entry_has p.kind key) header.entries ≡ found → HasNewest (with_placed p store).held key level bytes new
       by_entry None none = record {
         copy = has.copy;
-        copy_is = newest_without 0 header store.held key some none ∙ has.copy_is;
+        copy_is = newest_past 0 p.slot header store.held key empty none ∙ has.copy_is;
         level_is = has.level_is;
         bytes_are = copy_still image new store.held key has.copy headers still has.copy_is ∙ has.bytes_are;
       }
       by_entry (Some e) found =
-          let there = found_so IsSealed (entry_has kind key) header.entries e all_sealed found in
+          let there = found_so IsSealed (entry_has p.kind key) header.entries e all_sealed found in
           let segment : Segment = there.0.segment in
-          let key_is : key_of (kind_byte kind) e.digest ≡ key = (bytes_eq-Decides _ _).0 there.1 in
-          let same_key : segment_key kind segment ≡ key = ap (key_of (kind_byte kind)) (sym there.0.is.digest) ∙ key_is in
-          let copy_is : newest 0 store.held (segment_key kind segment) ≡ Some has.copy = ap (newest 0 store.held) same_key ∙ has.copy_is in
+          let key_is : key_of (kind_byte p.kind) e.digest ≡ key = (bytes_eq-Decides _ _).0 there.1 in
+          let same_key : segment_key p.kind segment ≡ key = ap (key_of (kind_byte p.kind)) (sym there.0.is.digest) ∙ key_is in
+          let copy_is : newest 0 store.held (segment_key p.kind segment) ≡ Some has.copy = ap (newest 0 store.held) same_key ∙ has.copy_is in
           let one_copy : old.copy ≡ has.copy = some_same old.copy has.copy (sym old.copy_is ∙ has.copy_is) in
           let alike : bytes_at has.copy.place given ≡ bytes_at has.copy.place image =
           ap (λ (c : Copy). bytes_at c.place given) (sym one_copy) ∙ old.bytes_are ∙ sym has.bytes_are in
-          let bytes_same = same_bytes P kind store given image segment has.copy there.0.newest_is (subst P (sym same_key) counts) copy_is alike in
-          let right = subst (λ (l : ℕ). is_level kind l ≡ true) there.0.is.level
-          (found_so (λ x. is_level kind x.level ≡ true) (entry_has kind key) header.entries e all_levels found).0 in
+          let bytes_same = same_bytes P p.kind store given image segment has.copy there.0.newest_is (subst P (sym same_key) counts) copy_is alike in
+          let right = subst (λ (l : ℕ). is_level p.kind l ≡ true) there.0.is.level
+          (found_so (λ x. is_level p.kind x.level ≡ true) (entry_has p.kind key) header.entries e all_levels found).0 in
           record {
-            copy = entry_copy (first_free store.held) header.id e;
-            copy_is = newest_with 0 (first_free store.held) header store.held key e place some can.new_id found;
-            level_is = there.0.is.level ∙ same_level S kind store.held image segment has.copy headers stands.holds.nodes there.0.sealable right copy_is bytes_same ∙ has.level_is;
+            copy = entry_copy p.slot header.id e;
+            copy_is = newest_at 0 p.slot p.slot header store.held key e place closed above found;
+            level_is = there.0.is.level ∙ same_level S p.kind store.held image segment has.copy headers stands.holds.nodes there.0.sealable right copy_is bytes_same ∙ has.level_is;
             bytes_are = there.0.is.bytes ∙ bytes_same ∙ has.bytes_are;
           }
 
   -- and so has each key of a tree that both hold
   mutual
     pub tree_alike : (t : TreeOf (List ℕ)) → ((key : List ℕ) → Contains (tree_keys t) key → P key) → HoldsTree store.held given t → HoldsTree store.held image t
-        → HoldsTree (with_sealed id kind segments store).held new t
+        → HoldsTree (with_placed p store).held new t
     tree_alike tree.Empty count old has = tt
     tree_alike (tree.Leaf segment) count old has = newest_alike (leaf_key segment) 0 segment (count (leaf_key segment) (in_head (leaf_key segment) [])) old has
     tree_alike (tree.Node level ts) count old has =
@@ -224,7 +232,7 @@ module _ {spare : ℕ} (S P : List ℕ → Type 0) (id : ℕ) (kind : Kind) (seg
         )
 
     pub trees_alike : (ts : Trees (List ℕ)) → ((key : List ℕ) → Contains (keys_below ts) key → P key) → HoldsTrees store.held given ts → HoldsTrees store.held image ts
-        → HoldsTrees (with_sealed id kind segments store).held new ts
+        → HoldsTrees (with_placed p store).held new ts
     trees_alike tree.NoTree count old has = tt
     trees_alike (tree.Then t ts) count old has = (
       tree_alike t (λ key there. count key (Contains-append_left (tree_keys t) (keys_below ts) key there)) old.0 has.0,
@@ -232,47 +240,63 @@ module _ {spare : ℕ} (S P : List ℕ → Type 0) (id : ℕ) (kind : Kind) (seg
     )
 
   file_alike : (name : List ℕ) (named : Option Named) (file : Option (List ℕ)) → ((key : List ℕ) → IsReachable files key → P key) → finite.get files name ≡ file
-      → IsFileOf store.held given named file → IsFileOf store.held image named file → IsFileOf (with_sealed id kind segments store).held new named file
+      → IsFileOf store.held given named file → IsFileOf store.held image named file → IsFileOf (with_placed p store).held new named file
   file_alike name None None count is_file old is = tt
   file_alike name None (Some bytes) count is_file old is = is
   file_alike name (Some named) None count is_file old is = is
   file_alike name (Some named) (Some bytes) count is_file old is =
       (is.0, tree_alike (file_tree bytes) (λ key there. count key (name, (bytes, (is_file, there)))) old.1 is.1)
 
-  encodes : Encodes new (with_sealed id kind segments store)
+  encodes : Encodes new (with_placed p store)
   encodes =
       let right = stands.holds.right in
-      encodes_on store image new (before_slots (first_free store.held) image new same) same.size (with_sealed id kind segments store).held right
-      (length-with_slot (first_free store.held) header store.held)
-      (holds_with (first_free store.held) image new same 0 header store.held place container.header right.slots_are)
-      (different_with (first_free store.held) header store.held right.different can.new_id)
+      encodes_on store image new (before_slots p.slot image new same) same.size (with_placed p store).held right
+      (length-with_slot p.slot header store.held)
+      (holds_with p.slot image new same 0 p.slot header store.held place container.header right.slots_are)
+      (different_with p.slot header store.held right.different above)
 
-  copies : AreCopies 0 (with_sealed id kind segments store).held new
+  copies : AreCopies 0 (with_placed p store).held new
   copies =
-      copies_with (first_free store.held) image new same 0 header store.held place
-      (entries_of (first_free store.held) new (MaySeal S kind) _ 0 segments (λ s e is so. ap sha256 is.bytes ∙ sym is.digest) stand may) headers stands.holds.copies
+      copies_with p.slot image new same 0 p.slot header store.held place empty
+      (entries_of p.slot new (MaySeal S p.kind) _ 0 p.segments (λ s e is so. ap sha256 is.bytes ∙ sym is.digest) stand may) headers stands.holds.copies
 
-  are_nodes : AreNodes 0 (with_sealed id kind segments store).held new
+  are_nodes : AreNodes 0 (with_placed p store).held new
   are_nodes =
-      so_nodes 0 (with_sealed id kind segments store).held new
-      (so_with IsNodeEntry image new (first_free store.held) 0 header store.held place
-      (entries_of (first_free store.held) new (MaySeal S kind) _ 0 segments
-      (λ s e is so. subst (λ (l : ℕ). IsOfKind kind l (entry_bytes (first_free store.held) e new)) (sym is.level) (subst (IsOfKind kind s.level) (sym is.bytes) so.of_kind)) stand
+      so_nodes 0 (with_placed p store).held new
+      (so_with IsNodeEntry image new p.slot 0 p.slot header store.held place empty
+      (entries_of p.slot new (MaySeal S p.kind) _ 0 p.segments
+      (λ s e is so. subst (λ (l : ℕ). IsOfKind p.kind l (entry_bytes p.slot e new)) (sym is.level) (subst (IsOfKind p.kind s.level) (sym is.bytes) so.of_kind)) stand
       may)
       headers still (nodes_so 0 store.held image stands.holds.nodes))
 
-  are_among : AreAmong S 0 (with_sealed id kind segments store).held new
+  are_among : AreAmong S 0 (with_placed p store).held new
   are_among =
-      so_among S 0 (with_sealed id kind segments store).held new
-      (so_with (IsAmongThese S) image new (first_free store.held) 0 header store.held place
-      (entries_of (first_free store.held) new (MaySeal S kind) _ 0 segments (λ s e is so. subst (IsAmong S kind) (sym is.bytes) so.among) stand may)
+      so_among S 0 (with_placed p store).held new
+      (so_with (IsAmongThese S) image new p.slot 0 p.slot header store.held place empty
+      (entries_of p.slot new (MaySeal S p.kind) _ 0 p.segments (λ s e is so. subst (IsAmong S p.kind) (sym is.bytes) so.among) stand may)
       headers still (among_so S 0 store.held image stands.among))
 
   -- The store with the container, of the same files: each key that they need counts.
-  pub sealed : ((key : List ℕ) → IsReachable files key → P key) → Stands S (with_sealed id kind segments store) files new
-  sealed count =
-      stands_on S store files image new (before_slots (first_free store.held) image new same) (with_sealed id kind segments store).held stands encodes copies are_nodes are_among
+  pub sealed_at : ((key : List ℕ) → IsReachable files key → P key) → Stands S (with_placed p store) files new
+  sealed_at count =
+      stands_on S store files image new (before_slots p.slot image new same) (with_placed p store).held stands encodes copies are_nodes are_among
       (λ name. file_alike name (finite.get (names_of store) name) (finite.get files name) count refl (before.holds.files_are name) (stands.holds.files_are name))
+
+-- ---- in the first closed slot
+
+abbrev first_placed : ℕ → Kind → List Segment → Store → Placed
+first_placed id kind segments store = record { slot = first_free store.held; id = id; kind = kind; segments = segments }
+
+module _ {spare : ℕ} (S P : List ℕ → Type 0) (id : ℕ) (kind : Kind) (segments : List Segment) (store : Store) (files : Files) (given image new : List ℕ)
+    (before : Stands S store files given) (stands : Stands S store files image)
+    (same : SameOutside (slot_at (first_free store.held)) SLOT_BYTES image new)
+    (container : HoldsContainer new (first_free store.held) id kind segments) (can : CanHold spare id kind segments store)
+    (may : AllByRecursion (MaySeal S kind) segments) (newests : AllByRecursion (IsNewestOf P kind store given image) segments) where
+  closed : IsClosed store (first_free store.held)
+  closed = first_closed store.held (some_free store.held (omega (arith, can.slot)))
+
+  pub sealed : ((key : List ℕ) → IsReachable files key → P key) → Stands S (with_sealed id kind segments store) files new
+  sealed count = sealed_at S P (first_placed id kind segments store) store files given image new before stands same container closed can.new_id may newests count
 
 -- What one image holds goes on when a container is sealed in it.
 module _ {spare : ℕ} (S P : List ℕ → Type 0) (id : ℕ) (kind : Kind) (segments : List Segment) (store : Store) (files : Files) (image new : List ℕ)
@@ -282,4 +306,6 @@ module _ {spare : ℕ} (S P : List ℕ → Type 0) (id : ℕ) (kind : Kind) (seg
   -- the newest copy of a key that counts
   pub newest_kept : (key : List ℕ) (level : ℕ) (bytes : List ℕ) → P key → HasNewest store.held key level bytes image →
       HasNewest (with_sealed id kind segments store).held key level bytes new
-  newest_kept key level bytes counts has = newest_alike S P id kind segments store files image image new stands stands same container can may newests key level bytes counts has has
+  newest_kept key level bytes counts has =
+      newest_alike S P (first_placed id kind segments store) store files image image new stands stands same container
+      (first_closed store.held (some_free store.held (omega (arith, can.slot)))) can.new_id may newests key level bytes counts has has

@@ -1,5 +1,5 @@
 -- An index over a container more, and how much a store holds (docs/MODEL.md, 'Containers').
-use Rattle.std.specs.Prelude.{ℕ, ◌+◌, List, [], ◌∷◌, ◌++◌, length, map, Option, Some, None}
+use Rattle.std.specs.Prelude.{ℕ, ◌+◌, List, [], ◌∷◌, length, Option, Some, None}
 use Rattle.std.specs.FinMap as finite
 use Rattle.base_model.specs.Bytes.{key_of}
 use Rattle.container_meta.specs.declared.entry.Entry.{Entry}

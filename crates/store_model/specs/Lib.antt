@@ -11,4 +11,5 @@ pub mod Slots
 pub mod Standing
 pub mod Pieces
 pub mod Steps
+pub mod Together
 pub mod Trees

@@ -4,4 +4,4 @@
 
 mod laws;
 
-pub use laws::an_image_holds_one_store;
+pub use laws::{an_image_holds_one_store, sealed_together_keeps_files};

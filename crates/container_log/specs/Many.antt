@@ -23,13 +23,11 @@ HaveSegments filled = (i : ℕ) (contents : Contents) → slice_get filled i ≡
 
 -- so many bytes from a place on have none of any slot
 abbrev pub NoSlot : List ℕ → ℕ → ℕ → Type 0
-NoSlot slots at count =
-    (i slot : ℕ) → slice_get slots i ≡ Some slot → (at + count ≤ slot_at slot) ⊎ (slot_at slot + SLOT_BYTES ≤ at)
+NoSlot slots at count = (i slot : ℕ) → slice_get slots i ≡ Some slot → (at + count ≤ slot_at slot) ⊎ (slot_at slot + SLOT_BYTES ≤ at)
 
 -- none but gates
 abbrev pub NoBody : List ℕ → ℕ → ℕ → Type 0
-NoBody slots at count =
-    (i slot : ℕ) → slice_get slots i ≡ Some slot → (at + count ≤ slot_at slot + 1) ⊎ (slot_at slot + SLOT_BYTES ≤ at)
+NoBody slots at count = (i slot : ℕ) → slice_get slots i ≡ Some slot → (at + count ≤ slot_at slot + 1) ⊎ (slot_at slot + SLOT_BYTES ≤ at)
 
 -- no gate
 abbrev pub NoGate : List ℕ → ℕ → ℕ → Type 0
@@ -67,8 +65,7 @@ pub record HaveGates (gate count : ℕ) (slots : List ℕ) (given now : List ℕ
 -- a buffer holds the bytes of one of the containers, if there is one
 abbrev pub SpellsOne : ℕ → List Contents → List ℕ → Type 0
 SpellsOne id filled image =
-    1 ≤ length filled
-    → (i : ℕ) × (contents : Contents) × (slice_get filled i ≡ Some contents) × (image ≡ spelling_of (id + i) contents)
+    1 ≤ length filled → (i : ℕ) × (contents : Contents) × (slice_get filled i ≡ Some contents) × (image ≡ spelling_of (id + i) contents)
 
 -- the digests of the headers of the first so many
 abbrev pub AreDigests : ℕ → ℕ → List Contents → List (List ℕ) → Type 0
@@ -80,8 +77,7 @@ AreDigests count id filled digests =
 -- gave at the start, each of the slots is closed or has its container, whichever of them. All else is as it was there.
 abbrev pub SealsAll : List ℕ → ℕ → List Contents → List ℕ → List ℕ → List ℕ → Type 0
 SealsAll slots id filled given old new =
-    (SameIn (NoSlot slots) old new
-    × ((i slot : ℕ) → slice_get slots i ≡ Some slot → HoldsSlot old slot None → HoldsSlot new slot None))
+    (SameIn (NoSlot slots) old new × ((i slot : ℕ) → slice_get slots i ≡ Some slot → HoldsSlot old slot None → HoldsSlot new slot None))
     ⊎ (SameIn (NoSlot slots) given new
     × ((i slot : ℕ) (contents : Contents) → slice_get slots i ≡ Some slot → slice_get filled i ≡ Some contents
     → HoldsSlot new slot None ⊎ HoldsContainer new slot (id + i) contents.kind contents.segments))

@@ -117,7 +117,7 @@ GivesHeld answer buf actor old new =
     (root : Root) (ahead : List Top) (counts : ByteSet) (held : List (Option HeaderValue)) (image : List ℕ) (segments : List (List ℕ))
     → part_of old.parts actor ≡ readers.reading root ahead → IsIndexed counts held old.known old.disk.content image
     → SegmentsAhead counts held image ahead segments
-    → readers.GivesHeld counts held image actor old.parts new.parts ahead segments buf answer
+    → readers.GivesHeld counts held image (readers.GoesOn actor old.parts new.parts ahead) segments buf answer
 
 -- The next segment of the file, or its end: on any disk as reads showed, and of a tree that is held.
 pub record IsGiven (answer : Option ℕ) (buf : List ℕ) (actor : ℕ) (old new : CoreState) : Type 0 where

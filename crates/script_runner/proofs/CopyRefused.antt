@@ -1,11 +1,11 @@
 -- What a source is not copied for, and copies are not written for, on any disk.
 use Rattle.script_runner.proofs.Prelude.{inl, inr, ℕ, List, [], ◌∷◌, Option, Entry, PlaceMap, Contents, IsHeaderRefusal, Shows, DiskView, LiveKeys, Refusal, Memory, SlotTable}
 use Rattle.std.proofs.Common.{drop}
-use Rattle.copy_forward.specs.Copying.{IsCopyRefusal, IsSourceRefusal}
+use Rattle.copy_forward.specs.Copying.{IsCopyRefusal, IsSourceRefusal, copy_task}
 use Rattle.copy_forward.specs.Entries.{IsRemoveRefusal}
 use Rattle.copy_forward.specs.Planning.{IsOneRefusal, IsPlanRefusal, IsStuck, Planned, Source, planned, source_of}
 use Rattle.gc_sweep.specs.declared.sweep.Sweep.{Sweep}
-use Rattle.gc_sweep.specs.Copying.{CopiesNothing, IsCopyStepRefusal}
+use Rattle.gc_sweep.specs.Copying.{CopiesNothing, IsCopyStepRefusal, copy_step}
 use Rattle.refusals.specs.declared.refusal.Refusal.TheVariants.{Corrupt, Damaged, DiskRead, DiskWrite}
 
 -- no memory, a call of the disk that failed, or damage: of a header, of a copy, or of the index
@@ -46,20 +46,22 @@ module _ (t : SlotTable) (known : Option PlaceMap) (old new : DiskView) where
   remove_cause (Damaged at why) cause = tt
   remove_cause refusal cause = absurd cause
 
-  source_cause : (live : LiveKeys) (slot from : ℕ) (buffer : Contents) (refusal : Refusal) → IsSourceRefusal t known live slot from buffer old new refusal → IsCopyCause refusal
+  source_cause : (live : LiveKeys) (slot from : ℕ) (buffer : Contents) (refusal : Refusal) → IsSourceRefusal (copy_task t known live slot from buffer) old new refusal
+      → IsCopyCause refusal
   source_cause live slot from buffer refusal (inl header) = header_cause slot refusal header
   source_cause live slot from buffer refusal (inr (h, tabled, shown, kind, few, plan)) = plan_cause (source_of known live slot h.kind) (drop from h.entries) (planned buffer [])
       refusal plan
 
-  any_cause : (live : LiveKeys) (slot from : ℕ) (buffer : Contents) (refusal : Refusal) → IsCopyRefusal t known live slot from buffer old new refusal → IsCopyCause refusal
+  any_cause : (live : LiveKeys) (slot from : ℕ) (buffer : Contents) (refusal : Refusal) → IsCopyRefusal (copy_task t known live slot from buffer) old new refusal
+      → IsCopyCause refusal
   any_cause live slot from buffer refusal (inl cause) = source_cause live slot from buffer refusal cause
   any_cause live slot from buffer refusal (inr cause) = remove_cause refusal cause
 
   module _ (live : LiveKeys) (source entry : ℕ) (s : Sweep) where
-    nothing_cause : (refusal : Refusal) → CopiesNothing t live known old new source entry s refusal → IsCopyCause refusal
+    nothing_cause : (refusal : Refusal) → CopiesNothing (copy_step t live known source entry s) old new refusal → IsCopyCause refusal
     nothing_cause refusal none = any_cause live none.slot entry none.filling refusal none.cause
 
     -- a step that copies
-    pub copying_cause : (refusal : Refusal) → IsCopyStepRefusal t live known old new source entry s refusal → IsCopyCause refusal
+    pub copying_cause : (refusal : Refusal) → IsCopyStepRefusal (copy_step t live known source entry s) old new refusal → IsCopyCause refusal
     copying_cause Memory cause = tt
     copying_cause refusal cause = nothing_cause refusal cause

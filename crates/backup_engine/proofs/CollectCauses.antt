@@ -5,7 +5,7 @@ use Rattle.container_meta.specs.Spelling.{header_size}
 use Rattle.container_meta.proofs.Again.{header_fits}
 use Rattle.container_meta.specs.Segments.{Contents}
 use Rattle.container_meta.specs.Spelling.{Follow, IsHeader, bytes_of}
-use Rattle.copy_forward.specs.Copying.{IsCopyRefusal}
+use Rattle.copy_forward.specs.Copying.{IsCopyRefusal, copy_task}
 use Rattle.copy_forward.specs.Headers.{IsHeaderRefusal}
 use Rattle.copy_forward.specs.Planning.{IsOneRefusal, IsPlanRefusal, IsStuck, Planned, Source, planned, source_of}
 use Rattle.dd_disk.specs.Ending.{Done, Ending}
@@ -18,7 +18,7 @@ use Rattle.gc_steps.specs.Scanning.{ShowsAt}
 use Rattle.gc_steps.specs.Stepping.{IsStepRefusal}
 use Rattle.gc_sweep.specs.declared.sweep.Next.{Next}
 use Rattle.gc_sweep.specs.declared.sweep.Next.TheVariants.{Copy}
-use Rattle.gc_sweep.specs.Copying.{IsCopyStepRefusal}
+use Rattle.gc_sweep.specs.Copying.{IsCopyStepRefusal, copy_step}
 use Rattle.gc_sweep.specs.Flushing.{IsFlushStepRefusal}
 use Rattle.store_model.proofs.Copies.{data_within}
 use Rattle.backup_engine.proofs.CollectFaults.{fault_wider}
@@ -238,7 +238,7 @@ module _ (percent : ℕ) (v w : DiskView) (source : SourceView) (sink : SinkView
       one_cause s buffer refusal known same cause = absurd cause.1.1
 
     source_cause : Came → HasSome slot → (live : LiveKeys) (from : ℕ) (buffer : Contents) (refusal : Refusal) →
-        IsCopyRefusal old.tables.held old.known live slot from buffer old.disk new refusal → IsCausedBy refusal
+        IsCopyRefusal (copy_task old.tables.held old.known live slot from buffer) old.disk new refusal → IsCausedBy refusal
     source_cause came some live from buffer refusal (inl (inl header)) = source_header came some refusal header
     source_cause came some live from buffer refusal (inl (inr (h, tabled, shown, kind, few, plan))) = by_plan refusal plan
       where
@@ -260,7 +260,7 @@ module _ (percent : ℕ) (v w : DiskView) (source : SourceView) (sink : SinkView
   copy_cause : Came → HasStage old.tables.held old.collection SweepStage → (tells : (places : PlaceMap) × (old.known ≡ Some places)) → FindsNames holds.store v w → (slots : ℕ) →
       length old.tables.held.ids.items ≡ slots → Both (SameBefore (slot_at slots)) old.disk.content new.content → (source entry : ℕ) →
       old.collection.sweep.next ≡ Copy source entry → (refusal : Refusal)
-      → IsCopyStepRefusal old.tables.held old.collection.live old.known old.disk new source entry old.collection.sweep refusal → IsCausedBy refusal
+      → IsCopyStepRefusal (copy_step old.tables.held old.collection.live old.known source entry old.collection.sweep) old.disk new refusal → IsCausedBy refusal
   copy_cause came has tells names slots many moved source entry next_is Memory cause = tt
   copy_cause came has tells names slots many moved source entry next_is refusal none =
       source_cause tells names slots none.slot (omega (arith, none.is_source.within, many)) moved came

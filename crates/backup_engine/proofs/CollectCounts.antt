@@ -2,7 +2,7 @@
 use Rattle.backup_engine.proofs.Prelude.{◌≡◌, inl, inr, ◌+◌, ℕ, List, length, Option, Some, None, refl, sym, ◌∙◌, ap, subst, arith, Kind, Segment, Collection, Stage, Mark, Filter, Select, filter_at, is_old_slot, Moment, StepsTo, phase_at, Flush, Release, End, Phase, SlotTable}
 use Rattle.container_meta.specs.Segments.{Contents}
 use Rattle.copy_forward.specs.declared.plan.Plan.{Plan}
-use Rattle.copy_forward.specs.Copying.{PlansSource}
+use Rattle.copy_forward.specs.Copying.{PlansSource, copy_task}
 use Rattle.gc_steps.specs.declared.collection.Stage.TheVariants.{Sweep}
 use Rattle.gc_steps.specs.FewSources.{IsToChoose}
 use Rattle.gc_steps.specs.Stages.{first_slot, mark_from}
@@ -10,7 +10,7 @@ use Rattle.gc_steps.proofs.Safe.{early_from}
 use Rattle.gc_sweep.specs.declared.sweep.Next.{Next}
 use Rattle.gc_sweep.specs.declared.sweep.Next.TheVariants.{Copy}
 use Rattle.gc_sweep.specs.declared.sweep.Sweep.{Sweep as SweepValue}
-use Rattle.gc_sweep.specs.Copying.{CopiesSource, IsFilling, TakesBy}
+use Rattle.gc_sweep.specs.Copying.{CopiesSource, IsFilling, TakesBy, copy_step}
 use Rattle.refusals.specs.declared.refusal.Phase.TheVariants as phases
 
 -- So many sources were given back, and so many segments copied and written: of those that were copied the others are to be written. None of
@@ -101,15 +101,15 @@ module _ (old new : Moment) (freed copied : ℕ) where
       let many = taken_many old.tables.held copies.slot source copies.found copies.filling copies.kind copies.is_source.filling_is (planned_many copies) copies.takes in
       sweeping 0 0 (ap (λ (c : Collection). c.stage) steps.1 ∙ is) (omega (arith, copies.others.freed_is, counted.0)) (omega (arith, many, counted.1))
     where
-      planned_by : (found : Option Plan) (copies : CopiesSource old.tables.held before.live old.known new.known old.disk new.disk source entry before.sweep after.sweep)
-          → PlansSource old.tables.held old.known before.live copies.slot entry copies.filling old.disk new.disk found → (plan : Plan) → found ≡ Some plan →
+      planned_by : (found : Option Plan) (copies : CopiesSource (copy_step old.tables.held before.live old.known source entry before.sweep) new.known old.disk new.disk after.sweep)
+          → PlansSource (copy_task old.tables.held old.known before.live copies.slot entry copies.filling) old.disk new.disk found → (plan : Plan) → found ≡ Some plan →
           length plan.buffer.segments ≡ length copies.filling.segments + plan.copied
       planned_by None copies plans plan is = absurd (let wrong : None ≡ Some plan = is in cc)
       planned_by (Some found) copies plans plan is =
           let same : found ≡ plan = (let both : Some found ≡ Some plan = is in cc) in
           subst (λ (p : Plan). length p.buffer.segments ≡ length copies.filling.segments + p.copied) same plans.plans.1.copied_is
 
-      planned_many : (copies : CopiesSource old.tables.held before.live old.known new.known old.disk new.disk source entry before.sweep after.sweep)
+      planned_many : (copies : CopiesSource (copy_step old.tables.held before.live old.known source entry before.sweep) new.known old.disk new.disk after.sweep)
           → (plan : Plan) → copies.found ≡ Some plan → length plan.buffer.segments ≡ length copies.filling.segments + plan.copied
       planned_many copies = planned_by copies.found copies copies.plans
   counted_on Sweep (Flush source entry) is next_is counted steps other =

@@ -17,7 +17,7 @@ use Rattle.store_model.specs.Slots.{HoldsSlot}
 use Rattle.store_state.proofs.Changed.{changes_on, size_on}
 use Rattle.store_state.specs.declared.slot_table.SlotTable.{SlotTable}
 use Rattle.copy_forward.specs.declared.plan.Plan.{Plan}
-use Rattle.copy_forward.specs.Copying.{IsSourceRefusal, PlansBy, PlansSource}
+use Rattle.copy_forward.specs.Copying.{IsSourceRefusal, PlansBy, PlansSource, copy_task}
 use Rattle.copy_forward.specs.Headers.{IsTabled}
 use Rattle.copy_forward.specs.Planning.{IsPlan, IsPlanRefusal, Source, planned, source_of}
 use Rattle.copy_forward.proofs.Planned.{plan_refused_wider, plan_wider}
@@ -31,7 +31,7 @@ module _ (t : SlotTable) (known mid_known : Option PlaceMap) (live : LiveKeys) (
   header_shown = until old mid new shown reads.later.clock_is later
 
   pub plans_after : (plan : Plan) → IsHeader h → IsTabled t slot h → h.kind ≡ buffer.kind → IsPlan (source_of mid_known live slot h.kind) (Shows mid new) h.entries from buffer plan
-      → PlansSource t known live slot from buffer old new (Some plan)
+      → PlansSource (copy_task t known live slot from buffer) old new (Some plan)
   plans_after plan right tabled kind is = record {
     header = h;
     right = right;
@@ -46,7 +46,7 @@ module _ (t : SlotTable) (known mid_known : Option PlaceMap) (live : LiveKeys) (
 
   pub unplanned_after : (refusal : Refusal) → IsTabled t slot h → h.kind ≡ buffer.kind → from ≤ length h.entries
       → IsPlanRefusal (source_of mid_known live slot h.kind) (Shows mid new) (drop from h.entries) (planned buffer []) refusal
-      → IsSourceRefusal t known live slot from buffer old new refusal
+      → IsSourceRefusal (copy_task t known live slot from buffer) old new refusal
   unplanned_after refusal tabled kind few is = inr (
     h,
     tabled,
@@ -60,7 +60,7 @@ module _ (t : SlotTable) (known mid_known : Option PlaceMap) (live : LiveKeys) (
 -- what was planned is so by what more reads show
 pub plans_until : (t : SlotTable) (known : Option PlaceMap) (live : LiveKeys) (slot from : ℕ) (buffer : Contents) (old mid new : DiskView) (found : Option Plan)
     → OnlyReads old mid → IsLater mid new
-    → PlansSource t known live slot from buffer old mid found → PlansSource t known live slot from buffer old new found
+    → PlansSource (copy_task t known live slot from buffer) old mid found → PlansSource (copy_task t known live slot from buffer) old new found
 plans_until t known live slot from buffer old mid new found reads later is = record {
   header = is.header;
   right = is.right;

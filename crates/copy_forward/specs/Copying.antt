@@ -25,15 +25,27 @@ abbrev pub PlansBy : Source → ((List ℕ → Type 0) → Type 0) → HeaderVal
 PlansBy s shown h from buffer None = IsOther h from buffer
 PlansBy s shown h from buffer (Some plan) = (h.kind ≡ buffer.kind) × IsPlan s shown h.entries from buffer plan
 
--- The container of a slot was looked at, from the entry of a number on, by its header as reads showed it, which is that of the table, and
--- this was planned.
-pub record PlansSource (t : SlotTable) (known : Option PlaceMap) (live : LiveKeys) (slot from : ℕ) (buffer : Contents) (old new : DiskView)
-    (found : Option Plan) : Type 0 where
+-- What is to be copied, and by what: the container of a slot, from the entry of a number on, is put into one that is filled, by the table
+-- of slots, the map of the index, where it is known, and the live keys.
+pub record CopyTask : Type 0 where
+  pub held : SlotTable
+  pub known : Option PlaceMap
+  pub live : LiveKeys
+  pub slot : ℕ
+  pub from : ℕ
+  pub buffer : Contents
+
+abbrev pub copy_task : SlotTable → Option PlaceMap → LiveKeys → ℕ → ℕ → Contents → CopyTask
+copy_task held known live slot from buffer =
+    record { held = held; known = known; live = live; slot = slot; from = from; buffer = buffer }
+
+-- The container was looked at by its header as reads showed it, which is that of the table, and this was planned.
+pub record PlansSource (task : CopyTask) (old new : DiskView) (found : Option Plan) : Type 0 where
   pub header : HeaderValue
   pub right : IsHeader header
-  pub tabled : IsTabled t slot header
-  pub shown : Shows old new (λ image. HoldsSlot image slot (Some header))
-  pub plans : PlansBy (source_of known live slot header.kind) (Shows old new) header from buffer found
+  pub tabled : IsTabled task.held task.slot header
+  pub shown : Shows old new (λ image. HoldsSlot image task.slot (Some header))
+  pub plans : PlansBy (source_of task.known task.live task.slot header.kind) (Shows old new) header task.from task.buffer found
 
 -- the keys of the dead copies left the index
 abbrev pub Forgets : Option PlaceMap → Option PlaceMap → Option Plan → Type 0
@@ -41,14 +53,15 @@ Forgets known after None = after ≡ known
 Forgets known after (Some plan) = KnownMap known (λ m. after ≡ Some (without_keys plan.dead.items m)) × Stays known after
 
 -- why nothing is planned: of its header, or, by that, which is the one of the table, of its entries
-abbrev pub IsSourceRefusal : SlotTable → Option PlaceMap → LiveKeys → ℕ → ℕ → Contents → DiskView → DiskView → Refusal → Type 0
-IsSourceRefusal t known live slot from buffer old new refusal =
-    IsHeaderRefusal t old new slot refusal
-    ⊎ ((h : HeaderValue) × IsTabled t slot h × Shows old new (λ image. HoldsSlot image slot (Some h)) × (h.kind ≡ buffer.kind)
-    × (from ≤ length h.entries)
-    × IsPlanRefusal (source_of known live slot h.kind) (Shows old new) (drop from h.entries) (planned buffer []) refusal)
+abbrev pub IsSourceRefusal : CopyTask → DiskView → DiskView → Refusal → Type 0
+IsSourceRefusal task old new refusal =
+    IsHeaderRefusal task.held old new task.slot refusal
+    ⊎ ((h : HeaderValue) × IsTabled task.held task.slot h × Shows old new (λ image. HoldsSlot image task.slot (Some h))
+    × (h.kind ≡ task.buffer.kind)
+    × (task.from ≤ length h.entries)
+    × IsPlanRefusal (source_of task.known task.live task.slot h.kind) (Shows old new) (drop task.from h.entries)
+    (planned task.buffer []) refusal)
 
 -- or why it is not done
-abbrev pub IsCopyRefusal : SlotTable → Option PlaceMap → LiveKeys → ℕ → ℕ → Contents → DiskView → DiskView → Refusal → Type 0
-IsCopyRefusal t known live slot from buffer old new refusal =
-    IsSourceRefusal t known live slot from buffer old new refusal ⊎ IsRemoveRefusal known refusal
+abbrev pub IsCopyRefusal : CopyTask → DiskView → DiskView → Refusal → Type 0
+IsCopyRefusal task old new refusal = IsSourceRefusal task old new refusal ⊎ IsRemoveRefusal task.known refusal

@@ -6,7 +6,7 @@ ghost use Rattle.disk_format.specs.declared.numbers.TheConstants.{MOST_SEGMENT, 
 ghost use Rattle.segment_index.specs.Changes.{Changes};
 ghost use Rattle.store_state.specs.Indexing.{IsOfSlots};
 ghost use Rattle.store_state.specs.Refused.{blames};
-ghost use Rattle.copy_forward.specs.Copying.{PlansSource, Forgets, IsSourceRefusal, IsCopyRefusal};
+ghost use Rattle.copy_forward.specs.Copying.{PlansSource, Forgets, IsSourceRefusal, IsCopyRefusal, copy_task};
 ghost use Rattle.copy_forward.specs.Entries.{MapStays};
 
 use crate::entries::remove_keys;
@@ -46,9 +46,10 @@ fn plan_source<D: Disk, X: Index>(
     requires ids { slot < length held.now.ids.items }
     requires counts { slot < length held.now.counts.items }
     requires buf { MOST_SEGMENT ≤ length buf.old }
-    ensures ok { IfOk result (PlansSource held.now (X.places index.old (D.view disk.old).content) live.now slot from buffer.now
+    ensures ok { IfOk result (PlansSource (copy_task held.now (X.places index.old (D.view disk.old).content) live.now slot from buffer.now)
         (D.view disk.old) (D.view disk.new)) }
-    ensures refused { IfErr result (IsSourceRefusal held.now (X.places index.old (D.view disk.old).content) live.now slot from buffer.now
+    ensures refused { IfErr result (IsSourceRefusal
+        (copy_task held.now (X.places index.old (D.view disk.old).content) live.now slot from buffer.now)
         (D.view disk.old) (D.view disk.new)) }
     ensures map { X.places index.new (D.view disk.new).content ≡ X.places index.old (D.view disk.old).content }
     ensures size { length buf.new ≡ length buf.old }
@@ -87,10 +88,11 @@ pub fn copy_entries<D: Disk, X: Index>(
     requires counts { slot < length held.now.counts.items }
     requires slots { IsOfSlots (D.view disk.old).size }
     requires buf { MOST_SEGMENT ≤ length buf.old }
-    ensures ok { IfOk result (PlansSource held.now (X.places index.old (D.view disk.old).content) live.now slot from buffer.now
+    ensures ok { IfOk result (PlansSource (copy_task held.now (X.places index.old (D.view disk.old).content) live.now slot from buffer.now)
         (D.view disk.old) (D.view disk.new)) }
     ensures map { IfOk result (Forgets (X.places index.old (D.view disk.old).content) (X.places index.new (D.view disk.new).content)) }
-    ensures refused { IfErr result (IsCopyRefusal held.now (X.places index.old (D.view disk.old).content) live.now slot from buffer.now
+    ensures refused { IfErr result (IsCopyRefusal
+        (copy_task held.now (X.places index.old (D.view disk.old).content) live.now slot from buffer.now)
         (D.view disk.old) (D.view disk.new)) }
     ensures kept { IfErr result (MapStays (X.places index.old (D.view disk.old).content) (X.places index.new (D.view disk.new).content)) }
     ensures size { length buf.new ≡ length buf.old }

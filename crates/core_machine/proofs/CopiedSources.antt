@@ -3,7 +3,7 @@ use Rattle.core_machine.proofs.Prelude.{◌≡◌, ◌≢◌, inl, inr, ℕ, suc
 use Rattle.std.proofs.Common.{append-nil, get_or, map, length-append}
 use Rattle.std.proofs.lemmas.List.{map-append}
 use Rattle.container_meta.specs.Segments.{Contents, keys_of}
-use Rattle.copy_forward.specs.Copying.{Forgets, PlansSource}
+use Rattle.copy_forward.specs.Copying.{Forgets, PlansSource, copy_task}
 use Rattle.copy_forward.specs.Planning.{Takes}
 use Rattle.refusals.specs.declared.refusal.Phase.TheVariants as phases
 use Rattle.gc_sweep.specs.declared.sweep.Next.TheVariants as nexts
@@ -16,6 +16,7 @@ use Rattle.core_machine.proofs.KeysForgotten.{copied_told}
 use Rattle.core_machine.proofs.NextSteps.{has_each, next_so}
 use Rattle.core_machine.proofs.SweptOn.{AtSweep, MapMoves, Swept, at_sweep, copied_so, entry_next, is_sweeping, no_keys, run_on, source_next}
 use Rattle.core_machine.proofs.Rows.{M}
+use Rattle.gc_sweep.specs.Copying.{copy_step}
 
 -- ---- what is filled
 
@@ -62,7 +63,7 @@ keys_more buffer filling after kind more fills is =
 module _ (m : M) (c : Collection Root) (source entry : ℕ) (old new : Moment) (represents : Represents m.store None old.tables) (valid : IsValidFor old.disk.size m.store)
     (free : HasFree m.store.held) (last : m.last_id ≡ old.tables.held.last_id) (under : IsUnderWay old.tables.held old.collection)
     (run : SameRun old.tables.held m.swept c old.collection) (stage : old.collection.stage ≡ stages.Sweep) (next_was : old.collection.sweep.next ≡ nexts.Copy source entry)
-    (copies : CopiesSource old.tables.held old.collection.live old.known new.known old.disk new.disk source entry old.collection.sweep new.collection.sweep)
+    (copies : CopiesSource (copy_step old.tables.held old.collection.live old.known source entry old.collection.sweep) new.known old.disk new.disk new.collection.sweep)
     (sweeps : SweepsOn old new) (tables : new.tables ≡ old.tables) {followed : Bool} (moves : MapMoves followed m.forgotten m.store.held old.known new.known) where
   abbrev t : SlotTable
   t = old.tables.held
@@ -359,7 +360,7 @@ module _ (m : M) (c : Collection Root) (source entry : ℕ) (old new : Moment) (
     by_end true is_so (inr (none, waiting_is, ready_is, next)) = is_ready none waiting_is ready_is next
     by_end false is_so (waiting_is, ready_is, next) = stops is_so waiting_is ready_is next
 
-  by_found : (found : Option Plan) → copies.found ≡ found → PlansSource t old.known old.collection.live slot entry copies.filling old.disk new.disk found
+  by_found : (found : Option Plan) → copies.found ≡ found → PlansSource (copy_task t old.known old.collection.live slot entry copies.filling) old.disk new.disk found
       → Forgets old.known new.known found → TakesBy t slot source found k k' → Swept followed moves.after old new phases.Copy m c new.tables new.collection
   by_found None is plans forgets takes = left_alone is forgets takes
   by_found (Some plan) is plans forgets (buffer_is, copied_is, ends) =

@@ -16,6 +16,7 @@ use Rattle.store_machine.specs.Machine.{Collection, Sweep}
 use Rattle.core_machine.proofs.CopiedSources.{filling_keys}
 use Rattle.core_machine.proofs.FileCollecting.{RunsIn, content_in, copy_in, holds_in, image_in, index_in, lives_in, live_in, stands_in, sweeping_in}
 use Rattle.core_machine.proofs.FileCopying.{IsPlanned, TakesSo, counted_filling, first_of_rest, follow_from, takes_so}
+use Rattle.gc_sweep.specs.Copying.{copy_step}
 
 at_drop : (n : ℕ) (es : List Entry) (i : ℕ) → slice_get (drop n es) i ≡ slice_get es (n + i)
 at_drop zero es i = ap (slice_get es) (let is : i ≡ zero + i = omega arith in is)
@@ -25,7 +26,7 @@ at_drop (suc n) (e ∷ es) i = at_drop n es i ∙ ap (slice_get (e ∷ es)) (let
 module _ (S : List ℕ → Type 0) (m : FileMachine) (c : CoreState) (x : Collection (List ℕ)) (k : CoreCollection) (r : RunsIn S m c x k) (stage : k.stage ≡ core.Sweep)
     (source entry : ℕ)
     (next_was : k.sweep.next ≡ nexts.Copy source entry) (k' : CoreSweep) (after_known : Option PlaceMap) (new : DiskView)
-    (copies : CopiesSource c.tables.held k.live c.known after_known c.disk new source entry k.sweep k') where
+    (copies : CopiesSource (copy_step c.tables.held k.live c.known source entry k.sweep) after_known c.disk new k') where
   abbrev index : PlaceMap
   index = index_in S m c x k r
 

@@ -27,6 +27,7 @@ use Rattle.core_machine.proofs.FileSteps.{StepsAt}
 use Rattle.core_machine.proofs.FreedSources.{in_turn}
 use Rattle.core_machine.proofs.Phases.{Runs, one_runs, phase_so}
 use Rattle.core_machine.proofs.SweptOn.{AtSweep, at_sweep}
+use Rattle.gc_sweep.specs.Copying.{copy_step}
 
 -- ---- lists
 
@@ -194,7 +195,7 @@ module _ (C : Type 0) (state : C → CoreState) (among : ByteSet) (f : FileEvent
       abbrev next_was : b.sweep.next ≡ nexts.Copy source entry
       next_was = forgot.2
 
-      abbrev copies : CopiesSource c.tables.held b.live c.known d.known c.disk d.disk source entry b.sweep b'.sweep
+      abbrev copies : CopiesSource (copy_step c.tables.held b.live c.known source entry b.sweep) d.known c.disk d.disk b'.sweep
       copies = forgot.3
 
       now_is : t.forgotten ≡ m.forgotten ++ dead_in copies.found

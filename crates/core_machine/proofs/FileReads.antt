@@ -95,7 +95,7 @@ module _ (S : List ℕ → Type 0) (m : FileMachine) (old new : CoreState) (at :
     pub cursor : List Top
     pub was : part_of old.parts actor ≡ readers.reading root cursor
     pub own : ReadsAt m old actor root cursor
-    pub held : readers.GivesHeld own.takes.counts m.store.held image actor old.parts new.parts cursor own.rest buf answer
+    pub held : readers.GivesHeld own.takes.counts m.store.held image (readers.GoesOn actor old.parts new.parts cursor) own.rest buf answer
 
   pub answered : (answer : Result (Option ℕ) Refusal) (buf : List ℕ) (actor : ℕ) (root : Root) (cursor : List Top) → part_of old.parts actor ≡ readers.reading root cursor
       → GivesHeld answer buf actor old new

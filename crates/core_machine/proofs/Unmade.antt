@@ -2,14 +2,14 @@
 use Rattle.core_machine.proofs.Prelude.{◌≡◌, ◌≢◌, ◌⊎◌, inl, inr, ℕ, suc, ◌<◌, List, [], ◌∷◌, drop, Option, Some, None, Err, refl, sym, ◌∙◌, ap, subst, arith, Bool, Entry, PlaceMap, Planned, Source, DiskView, LAST_ID, LiveKeys, Next, CoreSweep, slot_in_turn, CoreCollection, CoreStage, KeepsMarks, IsStepRefusal, phase_at, IsUnderWay, Phase, Refusal, with_freed, Store, with_sealed, SlotTable, at_moment, StopsAfter, CoreState, IsCollecting, MayBreak, IsAtRightPart, Refuses, Running, Stopped, Sweeping, of_roots, SameCollection, SameRun, ids_at, NamesGc, changes_of, HasIndex, IsMachine}
 use Rattle.std.proofs.Common.{map}
 use Rattle.container_meta.specs.Segments.{Contents}
-use Rattle.copy_forward.specs.Copying.{IsCopyRefusal}
+use Rattle.copy_forward.specs.Copying.{IsCopyRefusal, copy_task}
 use Rattle.copy_forward.specs.Entries.{IsRemoveRefusal, MapStays}
 use Rattle.copy_forward.specs.Headers.{IsHeaderRefusal}
 use Rattle.copy_forward.specs.Planning.{IsPlanRefusal, IsStuck}
 use Rattle.gc_enumerate.specs.declared.fault.ScanFault.{ScanFault}
 use Rattle.gc_enumerate.specs.declared.fault.ScanFault.TheVariants as faults
 use Rattle.gc_sweep.specs.declared.sweep.Next.TheVariants as nexts
-use Rattle.gc_sweep.specs.Copying.{IsCopyStepRefusal}
+use Rattle.gc_sweep.specs.Copying.{IsCopyStepRefusal, copy_step}
 use Rattle.gc_sweep.specs.Flushing.{IsFlushStepRefusal}
 use Rattle.ingest_steps.specs.Sealing.{KeepsMap}
 use Rattle.gc_steps.specs.declared.collection.Stage.TheVariants as core
@@ -127,13 +127,13 @@ removed_unmade known (refusals.Damaged at why) is = inl tt
 removed_unmade known refusal is = absurd is
 
 copy_by : (t : SlotTable) (known : Option PlaceMap) (live : LiveKeys) (slot from : ℕ) (filling : Contents) (old new : DiskView) (refusal : Refusal)
-    → IsCopyRefusal t known live slot from filling old new refusal → Unmade phases.Copy refusal ⊎ Broken refusal
+    → IsCopyRefusal (copy_task t known live slot from filling) old new refusal → Unmade phases.Copy refusal ⊎ Broken refusal
 copy_by t known live slot from filling old new refusal (inl (inl header)) = inl (header_unmade phases.Copy tt t old new slot refusal header)
 copy_by t known live slot from filling old new refusal (inl (inr (h, tabled, shown, kind, within, plan))) = inl (plan_unmade _ _ _ _ refusal plan)
 copy_by t known live slot from filling old new refusal (inr removed) = removed_unmade known refusal removed
 
 copy_unmade : (t : SlotTable) (live : LiveKeys) (known : Option PlaceMap) (old new : DiskView) (source entry : ℕ) (s : CoreSweep) (refusal : Refusal)
-    → IsCopyStepRefusal t live known old new source entry s refusal → Unmade phases.Copy refusal ⊎ Broken refusal
+    → IsCopyStepRefusal (copy_step t live known source entry s) old new refusal → Unmade phases.Copy refusal ⊎ Broken refusal
 copy_unmade t live known old new source entry s refusals.Memory is = inl tt
 copy_unmade t live known old new source entry s refusal is = copy_by t known live is.slot entry is.filling old new refusal is.cause
 

@@ -5,7 +5,7 @@ use Rattle.disk_format.specs.Cells.{Root}
 use Rattle.merkle_file.specs.declared.top.Top.{Top}
 use Rattle.gc_sweep.specs.declared.sweep.Next.TheVariants as nexts
 use Rattle.gc_sweep.specs.declared.sweep.Sweep.{Sweep as CoreSweep}
-use Rattle.gc_sweep.specs.Copying.{CopiesSource}
+use Rattle.gc_sweep.specs.Copying.{CopiesSource, copy_step}
 use Rattle.gc_sweep.specs.InTurn.{slot_in_turn}
 use Rattle.gc_steps.specs.declared.collection.Collection.{Collection as CoreCollection}
 use Rattle.gc_steps.specs.Stepping.{Moment, phase_at}
@@ -36,7 +36,8 @@ dead_in (Some plan) = plan.dead.items
 -- a copying step forgets these, of the source that came next
 abbrev pub ForgetsBy : Phase → Moment → Moment → (before now : List (List ℕ)) → Type 0
 ForgetsBy phases.Copy old new before now = (source entry : ℕ) × (old.collection.sweep.next ≡ nexts.Copy source entry)
-    × (copies : CopiesSource old.tables.held old.collection.live old.known new.known old.disk new.disk source entry old.collection.sweep
+    × (copies : CopiesSource
+    (copy_step old.tables.held old.collection.live old.known source entry old.collection.sweep) new.known old.disk new.disk
     new.collection.sweep) × (now ≡ before ++ dead_in copies.found)
 ForgetsBy phase old new before now = Unit {0}
 

@@ -24,3 +24,8 @@ pub record FollowsScript {T E : Type 0} (old new : Script) (result : Result T E)
   pub same : new.fails ≡ old.fails
   pub done : OnOk result ((is_to_fail old.fails.items new.calls ≡ false) × (new.missed ≡ old.missed))
   pub failed : OnErr result (((is_to_fail old.fails.items new.calls ≡ true) × (new.missed ≡ old.missed)) ⊎ Rose old.missed new.missed)
+
+-- So it did, and took no memory.
+pub record FollowsWithoutMemory {T E : Type 0} (old new : Script) (result : Result T E) : Type 0 where
+  pub follows : FollowsScript old new result
+  pub none_missed : missed_count new ≡ missed_count old

@@ -3,7 +3,7 @@ ghost use Rattle.std.specs.Prelude.{◌≡◌, ◌<◌, ◌≤◌, [], Some, len
 ghost use Rattle.base_model.specs.Fault.{HasCause};
 ghost use Rattle.base_model.specs.Known.{Known};
 ghost use Rattle.dd_io.specs.Flow.{Takes, Sends};
-ghost use Rattle.dd_io.specs.Script.{missed_count, IsFresh, FollowsScript};
+ghost use Rattle.dd_io.specs.Script.{missed_count, IsFresh, FollowsScript, FollowsWithoutMemory};
 
 use crate::script::Script;
 use crate::{Sink, SinkFault, Source, SourceFault};
@@ -71,8 +71,7 @@ impl Source for MemSource {
             (λ bytes. (⟦<MemSource as Source>⟧.view self.new).left ≡ Some bytes)) }
         ensures cause { HasCause (⟦<MemSource as Source>⟧.view self.old).faults
             (⟦<MemSource as Source>⟧.view self.new).faults result }
-        ensures script { FollowsScript (source_script self.old) (source_script self.new) result }
-        ensures no_memory { missed_count (source_script self.new) ≡ missed_count (source_script self.old) }
+        ensures script { FollowsWithoutMemory (source_script self.old) (source_script self.new) result }
     {
         if self.script.next_fails() {
             self.faults = self.faults.saturating_add(1);

@@ -1,6 +1,7 @@
 -- What is live once the children of a container's nodes are marked.
 use Rattle.std.proofs.Common.{◌≡◌, inl, inr, ℕ, ◌-◌, List, [], ◌∷◌, ◌++◌, length, refl, sym, subst, arith}
-use Rattle.std.specs.Prelude.{Option, Some}
+use Rattle.std.specs.Prelude.{Option, Some, Result, Ok, Err, IfErr, IsErrAnd}
+use Rattle.std.proofs.lemmas.Result.{err_from_is_err_and}
 use Rattle.std.specs.List.{All, AllByRecursion, Contains, flat_map}
 use Rattle.std.proofs.lemmas.List.{take_all}
 use Rattle.std.proofs.lemmas.List.Elements.{All-from_recursion, recursion_from_All, All-nil, All-cons, All-contains, Contains-append_cases, Contains-append_right}
@@ -8,9 +9,11 @@ use Rattle.container_meta.specs.declared.entry.Entry.{Entry}
 use Rattle.container_meta.specs.declared.place.Place.{Place}
 use Rattle.container_meta.specs.Places.{PlaceMap}
 use Rattle.merkle_file.specs.Node.{Contents}
+use Rattle.gc_enumerate.specs.declared.fault.ScanFault.{ScanFault}
+use Rattle.gc_enumerate.specs.declared.fault.ScanFault.TheVariants.{Memory, DiskRead, Corrupt, Missing, Damaged}
 use Rattle.gc_enumerate.specs.declared.layer.KeyPlace.{KeyPlace}
 use Rattle.gc_enumerate.specs.Live.{IsLiveAt, LiveKeys, SharesMark}
-use Rattle.gc_enumerate.specs.Marking.{AddsMarks, AddsSome, ChildrenAreLive, HasLiveChildren, IsAmong, IsLiveOf, MarksChildren, MarksSome}
+use Rattle.gc_enumerate.specs.Marking.{AddsMarks, AddsSome, ChildrenAreLive, HasLiveChildren, IsAmong, IsLiveOf, LeavesMarks, MarksChildren}
 use Rattle.gc_enumerate.specs.Scanning.{FindsChildren, HaveNodes, IsPlacedAt, Scan, child_keys, keys_of}
 use Rattle.gc_enumerate.proofs.MarkLaws.{own_mark}
 use Rattle.gc_enumerate.proofs.Marks.{marks_none}
@@ -58,19 +61,27 @@ children_live s showed entries found new finds marks m is_known =
     (all_live s.known s.live new (s.layer.level - 1) found (recursion_from_All (IsPlacedAt s.known (s.layer.level - 1)) found finds.placed)
     (λ f among. (marks f.key f.place).1 (inr among))))
 
--- nothing was marked, or some of what was found
-pub some_none : (s : Scan) (showed : Place → List ℕ → Type 0) (entries : List Entry) → MarksSome s showed entries s.live
-some_none s showed entries = record { count = 0; found = []; finds = finds_none s showed; marks = ([], ([], (refl, marks_none s.live))) }
+-- a refusal that comes before any is marked, and one for want of memory once all were found
+pub leaves_none : {T : Type 0} (s : Scan) (showed : Place → List ℕ → Type 0) (entries : List Entry) (result : Result T ScanFault)
+    → IfErr result (LeavesMarks s showed entries s.live)
+leaves_none s showed entries (Ok x) = tt
+leaves_none s showed entries (Err Memory) = record { count = 0; found = []; finds = finds_none s showed; marks = ([], ([], (refl, marks_none s.live))) }
+leaves_none s showed entries (Err DiskRead) = refl
+leaves_none s showed entries (Err (Corrupt slot offset count want got)) = refl
+leaves_none s showed entries (Err (Missing key)) = refl
+leaves_none s showed entries (Err (Damaged at why)) = refl
 
-pub some_found : (s : Scan) (showed : Place → List ℕ → Type 0) (entries : List Entry) (found : List KeyPlace) (new : LiveKeys) → FindsChildren s showed entries found →
-    AddsSome found s.live new
-    → MarksSome s showed entries new
-some_found s showed entries found new finds marks = record {
-  count = length entries;
-  found = found;
-  finds = subst (λ (es : List Entry). FindsChildren s showed es found) (sym (take_all (length entries) entries (omega arith))) finds;
-  marks = marks;
-}
+pub leaves_some : {T : Type 0} (s : Scan) (showed : Place → List ℕ → Type 0) (entries : List Entry) (found : List KeyPlace) (new : LiveKeys)
+    → FindsChildren s showed entries found → AddsSome found s.live new → (result : Result T ScanFault) → IsErrAnd result (λ e. e ≡ Memory)
+    → IfErr result (LeavesMarks s showed entries new)
+leaves_some s showed entries found new finds marks result memory =
+    let p = err_from_is_err_and result memory in
+    rw (p.1, p.2) (record {
+      count = length entries;
+      found = found;
+      finds = subst (λ (es : List Entry). FindsChildren s showed es found) (sym (take_all (length entries) entries (omega arith))) finds;
+      marks = marks;
+    })
 
 -- ---- just the children
 

@@ -64,7 +64,7 @@ HasLiveChildren s showed new e =
 abbrev pub ChildrenAreLive : Scan → (Place → List ℕ → Type 0) → List Entry → LiveKeys → Type 0
 ChildrenAreLive s showed entries new = KnownMap s.known (λ m. All (HasLiveChildren s showed new) entries)
 
--- P holds unless memory ran out
-abbrev pub UnlessMemory : ScanFault → Type 0 → Type 0
-UnlessMemory Memory P = Unit {0}
-UnlessMemory fault P = P
+-- What is live once a scan is refused: what was; but some of the children too, where memory ran out.
+abbrev pub LeavesMarks : Scan → (Place → List ℕ → Type 0) → List Entry → LiveKeys → ScanFault → Type 0
+LeavesMarks s showed entries new Memory = MarksSome s showed entries new
+LeavesMarks s showed entries new fault = new ≡ s.live

@@ -1,10 +1,9 @@
 //! A container scanned: its live nodes of a level are read, and their children are marked.
-ghost use Rattle.std.specs.Prelude.{◌≡◌, ◌∷◌, [], ◌≤◌, length, Err, IsTrue, IfOk, IfErr, OnOk};
+ghost use Rattle.std.specs.Prelude.{◌≡◌, ◌∷◌, [], ◌≤◌, length, IsTrue, IfOk, IfErr, OnOk};
 ghost use Rattle.disk_format.specs.declared.numbers.TheConstants.{MOST_SEGMENT};
-ghost use Rattle.gc_enumerate.specs.declared.fault.ScanFault.TheVariants.{Memory};
 ghost use Rattle.gc_enumerate.specs.Copies.{CountsReads};
 ghost use Rattle.gc_enumerate.specs.Faults.{IsLookupFault};
-ghost use Rattle.gc_enumerate.specs.Marking.{ChildrenAreLive, MarksChildren, MarksSome, UnlessMemory};
+ghost use Rattle.gc_enumerate.specs.Marking.{ChildrenAreLive, LeavesMarks, MarksChildren};
 ghost use Rattle.gc_enumerate.specs.Scanning.{FindsChildren, IsAsked, IsDecided, IsEntryFault, IsScanFault};
 ghost use Rattle.gc_enumerate.specs.Scanning.{place_in as place_of_entry, scan_in, scan_of};
 
@@ -127,9 +126,8 @@ pub fn scan_container<C: Copies>(
         (C.shows copies.old copies.new) meta.now.entries.items live.new) }
     ensures children { OnOk result (ChildrenAreLive (scan_in (C.places copies.old) live.old slot meta.now level)
         (C.shows copies.old copies.new) meta.now.entries.items live.new) }
-    ensures kept { IfErr result (λ fault. UnlessMemory fault (live.new ≡ live.old)) }
-    ensures some { result ≡ Err Memory → MarksSome (scan_in (C.places copies.old) live.old slot meta.now level)
-        (C.shows copies.old copies.new) meta.now.entries.items live.new }
+    ensures kept { IfErr result (LeavesMarks (scan_in (C.places copies.old) live.old slot meta.now level)
+        (C.shows copies.old copies.new) meta.now.entries.items live.new) }
     ensures refused { IfErr result (IsScanFault (scan_in (C.places copies.old) live.old slot meta.now level)
         (C.shows copies.old copies.new) (C.damaged copies.old copies.new) meta.now.entries.items) }
     ensures later { C.later copies.old copies.new }

@@ -5,7 +5,7 @@ use Rattle.std.specs.FinMap as finite
 use Rattle.merkle_file.specs.Node.{Contents}
 use Rattle.store_model.specs.Slots.{Copy}
 use Rattle.store_model.proofs.Counted.{tree_on}
-use Rattle.gc_sweep.specs.Holding.{GoesOnBeside}
+use Rattle.gc_sweep.specs.Holding.{GoesOnBeside, store_beside}
 use Rattle.gc_steps.specs.declared.collection.Stage.TheVariants.{Sweep}
 use Rattle.gc_sweep.proofs.HoldsBeside.{holds_beside, stand_beside}
 
@@ -99,7 +99,7 @@ module _ (index later : PlaceMap) (c : Collection) (marked : LiveKeys) (s t : St
       by_node n copy holds passed (inl is) = all_on (child_keys n) (marks.passed_is_closed n copy (node_before n copy holds is.0 is.1) is.0 passed)
       by_node n copy holds passed (inr grown) = grown.children n copy holds refl
 
-  beside : MovesBeside index later s t c.snapshot → GoesOnBeside index later s.held t.held old new c.live marked c.snapshot
+  beside : MovesBeside index later s t c.snapshot → GoesOnBeside (store_beside index s.held old c.live) (store_beside later t.held new marked) c.snapshot
   beside moves = record { keys = carries.live_still; places = moves.places; copies = carries.keeps; stand = moves.stand; stood = moves.stood }
 
   holds_on : MovesBeside index later s t c.snapshot → (stage : Stage) → HoldsAt stage index s.held old c → HoldsAt stage later t.held new (record c { live = marked })

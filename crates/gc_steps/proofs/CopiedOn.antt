@@ -3,7 +3,7 @@ use Rattle.gc_steps.proofs.Prelude.{◌≡◌, ◌⊎◌, inl, inr, ℕ, ◌+◌
 use Rattle.std.proofs.Common.{length-append}
 use Rattle.std.specs.FinMap as finite
 use Rattle.container_meta.specs.Segments.{Contents, keys_of}
-use Rattle.gc_sweep.specs.Copying.{EndsBy}
+use Rattle.gc_sweep.specs.Copying.{EndsBy, copy_step}
 use Rattle.gc_steps.specs.declared.collection.Stage.TheVariants.{Sweep}
 use Rattle.gc_steps.proofs.UnderWay.{at_stage}
 
@@ -53,7 +53,7 @@ module _ (t : SlotTable) (index : PlaceMap) (held : List (Option HeaderValue)) (
     (slots : RepresentsSlots held t) (differ : DifferentIds held) (stand : HoldSlots 0 held image) (partial : IsPartialIndexOf held index) (content : old.content ≡ Some image)
     (under : IsSweeping t snapshot s)
     (stage : s.next ≡ CopyNext source entry) (holds : HoldsSweep index held image live snapshot s)
-    (copies : CopiesSource t live (Some index) known_now old new source entry s s') where
+    (copies : CopiesSource (copy_step t live (Some index) source entry s) known_now old new s') where
   abbrev h : HeaderValue
   h = copies.plans.header
 

@@ -1,8 +1,9 @@
 -- What a scan makes of the live keys, at a moment that is named otherwise, and after calls that only read.
 use Rattle.gc_steps.proofs.Prelude.{◌≡◌, inl, inr, ℕ, List, [], ◌∷◌, take, Option, Some, None, Result, Ok, Err, OnOk, refl, sym, ap, subst, Entry, Place, PlaceMap, HeaderValue, IsHeader, Shows, DiskView, OnlyReads, Why, LiveKeys, Scan, HaveNodes, ScanFault, Refusal, HoldsSlot, Collection, ScansEntries, ScansSome, IsEntriesFault, KeepsMarks, scan_for, ShowsAt, step_refusal}
 use Rattle.std.proofs.Common.{get_or}
+use Rattle.std.specs.Prelude.{IfErr}
 use Rattle.dd_disk.proofs.Shows.{since}
-use Rattle.gc_enumerate.specs.Marking.{MarksChildren, MarksSome, ChildrenAreLive, UnlessMemory}
+use Rattle.gc_enumerate.specs.Marking.{LeavesMarks, MarksChildren, MarksSome, ChildrenAreLive}
 use Rattle.gc_enumerate.specs.Scanning.{IsScanFault, IsStuck}
 use Rattle.gc_enumerate.specs.declared.fault.ScanFault.TheVariants as faults
 use Rattle.gc_enumerate.proofs.Scans.{node_wider, finds_wider, entry_fault_wider}
@@ -10,8 +11,9 @@ use Rattle.merkle_file.specs.Node.{Contents}
 
 module _ (D : Type 0) (view : D → DiskView) (known : Option PlaceMap) (old : DiskView) (slot level : ℕ) (h : HeaderValue) (before after : LiveKeys) (mid new : D)
     (same : mid ≡ new) where
-  pub some_at : ScansSome known old (view mid) slot level h before after → ScansSome known old (view new) slot level h before after
-  some_at some = subst (λ (d : D). ScansSome known old (view d) slot level h before after) same some
+  pub kept_at : {T : Type 0} (result : Result T ScanFault) → IfErr result (LeavesMarks (scan_for known before slot level h) (ShowsAt old (view mid)) h.entries after)
+      → IfErr result (LeavesMarks (scan_for known before slot level h) (ShowsAt old (view new)) h.entries after)
+  kept_at result kept = subst (λ (d : D). IfErr result (LeavesMarks (scan_for known before slot level h) (ShowsAt old (view d)) h.entries after)) same kept
 
   pub marks_at : {T E : Type 0} (result : Result T E) → OnOk result (MarksChildren (scan_for known before slot level h) (ShowsAt old (view mid)) h.entries after)
       → OnOk result (ChildrenAreLive (scan_for known before slot level h) (ShowsAt old (view mid)) h.entries after)
@@ -85,10 +87,18 @@ module _ (known mid_known : Option PlaceMap) (old mid new : DiskView) (reads : O
         children = children_on (scan_for known before slot level h) (ShowsAt mid new) (ShowsAt old new) wider h.entries after is.children;
       }
 
-  pub some_since : (after : LiveKeys) → ScansSome mid_known mid new slot level h before after → ScansSome known old new slot level h before after
+  some_since : (after : LiveKeys) → ScansSome mid_known mid new slot level h before after → ScansSome known old new slot level h before after
   some_since after scanned =
       some_on (scan_for known before slot level h) (ShowsAt mid new) (ShowsAt old new) wider h.entries after
       (subst (λ (k : Option PlaceMap). ScansSome k mid new slot level h before after) same scanned)
+
+  pub kept_since : (after : LiveKeys) (fault : ScanFault) → LeavesMarks (scan_for mid_known before slot level h) (ShowsAt mid new) h.entries after fault
+      → LeavesMarks (scan_for known before slot level h) (ShowsAt old new) h.entries after fault
+  kept_since after faults.Memory kept = some_since after kept
+  kept_since after faults.DiskRead kept = kept
+  kept_since after (faults.Damaged at why) kept = kept
+  kept_since after (faults.Corrupt at offset count want got) kept = kept
+  kept_since after (faults.Missing key) kept = kept
 
   pub fault_since : (fault : ScanFault) → IsEntriesFault mid_known mid new slot level h before fault → IsEntriesFault known old new slot level h before fault
   fault_since fault cause =
@@ -98,18 +108,18 @@ module _ (known mid_known : Option PlaceMap) (old mid new : DiskView) (reads : O
 -- a refusal by a scan keeps all but some marks
 pub keeps_marks : (known : Option PlaceMap) (old new : DiskView) (level slot : ℕ) (c : Collection) (live : LiveKeys) (fault : ScanFault) (refusal : Refusal) (h : HeaderValue)
     → IsHeader h
-    → Shows old new (λ image. HoldsSlot image slot (Some h)) → refusal ≡ step_refusal fault → UnlessMemory fault (live ≡ c.live)
-    → (fault ≡ faults.Memory → ScansSome known old new slot level h c.live live) → KeepsMarks known old new level slot c (record c { live = live }) refusal
-keeps_marks known old new level slot c live fault refusal h right shown is kept some =
-    subst (KeepsMarks known old new level slot c (record c { live = live })) (sym is) (by_fault fault kept some)
+    → Shows old new (λ image. HoldsSlot image slot (Some h)) → refusal ≡ step_refusal fault
+    → LeavesMarks (scan_for known c.live slot level h) (ShowsAt old new) h.entries live fault → KeepsMarks known old new level slot c (record c { live = live }) refusal
+keeps_marks known old new level slot c live fault refusal h right shown is kept =
+    subst (KeepsMarks known old new level slot c (record c { live = live })) (sym is) (by_fault fault kept)
   where
     stays : live ≡ c.live → (let now : Collection = record c { live = live } in now) ≡ c
     stays e = ap (λ (l : LiveKeys). (let now : Collection = record c { live = l } in now)) e
 
-    by_fault : (f : ScanFault) → UnlessMemory f (live ≡ c.live) → (f ≡ faults.Memory → ScansSome known old new slot level h c.live live)
+    by_fault : (f : ScanFault) → LeavesMarks (scan_for known c.live slot level h) (ShowsAt old new) h.entries live f
         → KeepsMarks known old new level slot c (record c { live = live }) (step_refusal f)
-    by_fault faults.Memory kept some = inr (record { header = h; right = right; shown = shown; scanned = some refl; collection_is = refl })
-    by_fault faults.DiskRead kept some = stays kept
-    by_fault (faults.Damaged at why) kept some = stays kept
-    by_fault (faults.Corrupt at offset count want got) kept some = stays kept
-    by_fault (faults.Missing key) kept some = stays kept
+    by_fault faults.Memory kept = inr (record { header = h; right = right; shown = shown; scanned = kept; collection_is = refl })
+    by_fault faults.DiskRead kept = stays kept
+    by_fault (faults.Damaged at why) kept = stays kept
+    by_fault (faults.Corrupt at offset count want got) kept = stays kept
+    by_fault (faults.Missing key) kept = stays kept

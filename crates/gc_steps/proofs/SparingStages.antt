@@ -3,6 +3,7 @@ use Rattle.gc_steps.proofs.Prelude.{◌≡◌, ◌⊎◌, inl, inr, ℕ, zero, s
 use Rattle.std.specs.FinMap as finite
 use Rattle.container_meta.specs.Segments.{Contents}
 use Rattle.gc_sweep.specs.declared.sweep.Sweep.{Sweep}
+use Rattle.gc_sweep.specs.Copying.{copy_step}
 
 -- ---- a container that is recorded
 
@@ -27,7 +28,7 @@ module _ (t : SlotTable) (index : PlaceMap) (held : List (Option HeaderValue)) (
     (slots : RepresentsSlots held t) (differ : DifferentIds held) (stand : HoldSlots 0 held image) (partial : IsPartialIndexOf held index) (content : old.content ≡ Some image)
     (under : IsSweeping t snapshot s)
     (stage : s.next ≡ CopyNext source entry) (holds : HoldsSweep index held image live snapshot s)
-    (copies : CopiesSource t live (Some index) known_now old new source entry s s') where
+    (copies : CopiesSource (copy_step t live (Some index) source entry s) known_now old new s') where
   pub copied_leaves : LeavesHeld index held image live snapshot known_now s'
   copied_leaves = holds_copied t index held image live snapshot source entry s s' known_now old new slots differ stand partial content under stage holds copies
 

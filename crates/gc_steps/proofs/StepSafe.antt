@@ -30,6 +30,7 @@ use Rattle.gc_steps.proofs.ScanKeeps.{scan_keeps}
 use Rattle.gc_steps.proofs.SealedPins.{entries_sealed, key_found, with_there}
 use Rattle.gc_steps.proofs.Started.{root_whole}
 use Rattle.gc_steps.proofs.UnderWay.{at_stage}
+use Rattle.gc_sweep.specs.Copying.{copy_step}
 
 -- A container of a store is given back: one of the sources, in whose slot the index has no entry.
 pub record IsFreeing (index : PlaceMap) (s : SweepValue) (slot : ℕ) (store store_now : Store) : Type 0 where
@@ -335,7 +336,7 @@ module _ (index : PlaceMap) (store : Store) (files : Files) (parts : List Part) 
     new_still later stays slot h there above k other within = stays (entry_key h.kind (get_or h.entries k other)) (safe.new_are_live slot h there above k other within)
 
     -- A source is copied.
-    copy_leaves_safe : (source entry : ℕ) → c.sweep.next ≡ CopyNext source entry → CopiesSource t.held c.live (Some index) known old new source entry c.sweep d.sweep
+    copy_leaves_safe : (source entry : ℕ) → c.sweep.next ≡ CopyNext source entry → CopiesSource (copy_step t.held c.live (Some index) source entry c.sweep) known old new d.sweep
         → d ≡ record c { sweep = d.sweep } → u ≡ t
         → Changes (slot_at store.slots) Done old new → LeavesSafe c index store files parts image now among u known new d
     copy_leaves_safe source entry next_is copies on same changes =

@@ -6,7 +6,7 @@ use Rattle.dd_disk.specs.View.{IsDurable}
 use Rattle.ingest_steps.specs.Sealing.{places_with}
 use Rattle.refusals.specs.declared.refusal.Phase.TheVariants as phases
 use Rattle.gc_sweep.specs.declared.sweep.Next.TheVariants.{Copy}
-use Rattle.gc_sweep.specs.Copying.{IsCopyStepRefusal}
+use Rattle.gc_sweep.specs.Copying.{IsCopyStepRefusal, copy_step}
 use Rattle.gc_sweep.specs.Flushing.{WritesCopies}
 use Rattle.gc_sweep.proofs.Nears.{copy_nears, flush_nears, release_nears}
 use Rattle.gc_steps.specs.declared.collection.Stage.TheVariants.{Sweep}
@@ -51,7 +51,7 @@ module _ (t u : Tables) (known now : Option PlaceMap) (old new : DiskView) (c : 
     runs_copied None is runs = subst (Runs new.size now) (sym same) (runs_same old.size new.size known now t size is runs)
     runs_copied (Some plan) is runs = subst (Runs new.size now) (sym same) (runs_emptied old.size new.size known now t plan.dead.items size is.0 is.1 runs)
 
-    pub copy_made : CopiesSource t.held c.live known now old new source entry c.sweep s → Makes before after (Did phases.Copy)
+    pub copy_made : CopiesSource (copy_step t.held c.live known source entry c.sweep) now old new s → Makes before after (Did phases.Copy)
     copy_made copies = record {
       answer_is = answers c stage (Copy source entry) next_is;
       steps = at_next c stage (Copy source entry) next_is (λ st n. StepsTo st n before after) (copies, refl);
@@ -60,7 +60,7 @@ module _ (t u : Tables) (known now : Option PlaceMap) (old new : DiskView) (c : 
       nearer = λ chosen most. fewer chosen (copy_nears t.held c.snapshot source entry c.sweep s sweeping c.live known now old new next_is copies);
     }
 
-    pub copy_refused : (refusal : Refusal) → s ≡ c.sweep → IsCopyStepRefusal t.held c.live known old new source entry c.sweep refusal → MapStays known now refusal
+    pub copy_refused : (refusal : Refusal) → s ≡ c.sweep → IsCopyStepRefusal (copy_step t.held c.live known source entry c.sweep) old new refusal → MapStays known now refusal
         → Refuses before after refusal
     copy_refused refusal stays cause map = record {
       cause = at_next c stage (Copy source entry) next_is (λ st n. IsStepRefusal st n before new refusal) cause;

@@ -20,7 +20,7 @@ use Rattle.store_state.specs.declared.tables.Tables.{Tables}
 use Rattle.gc_sweep.specs.declared.sweep.Next.{Next}
 use Rattle.gc_sweep.specs.declared.sweep.Next.TheVariants.{Copy, Flush, Release, End}
 use Rattle.gc_sweep.specs.declared.sweep.Sweep.{Sweep as SweepValue}
-use Rattle.gc_sweep.specs.Copying.{CopiesSource, IsCopyStepRefusal}
+use Rattle.gc_sweep.specs.Copying.{CopiesSource, IsCopyStepRefusal, copy_step}
 use Rattle.gc_sweep.specs.Flushing.{HasFlushed, IsFlushStepRefusal, WritesCopies}
 use Rattle.gc_sweep.specs.InTurn.{HasReleased, slot_in_turn}
 use Rattle.gc_sweep.specs.Releasing.{ChangesGateAlone, GivesBack, HasFreed, HasNoEntryIn}
@@ -86,7 +86,7 @@ StepsTo (Filter slot) next old new =
     Records old.tables.held old.known old.disk new.disk slot old.collection new.collection × (new.known ≡ old.known)
 StepsTo Select next old new = Chooses old.tables.held old.collection new.collection × (new.known ≡ old.known)
 StepsTo Sweep (Copy source entry) old new =
-    CopiesSource old.tables.held old.collection.live old.known new.known old.disk new.disk source entry old.collection.sweep
+    CopiesSource (copy_step old.tables.held old.collection.live old.known source entry old.collection.sweep) new.known old.disk new.disk
     new.collection.sweep × SweepsOn old new
 StepsTo Sweep (Flush source entry) old new = Flushes source entry old new
 StepsTo Sweep (Release source entry) old new =
@@ -108,7 +108,7 @@ IsStepRefusal (Mark level slot) next old new refusal =
 IsStepRefusal (Filter slot) next old new refusal = IsRecordRefusal old.tables.held old.known old.disk new slot refusal
 IsStepRefusal Select next old new refusal = refusal ≡ Memory
 IsStepRefusal Sweep (Copy source entry) old new refusal =
-    IsCopyStepRefusal old.tables.held old.collection.live old.known old.disk new source entry old.collection.sweep refusal
+    IsCopyStepRefusal (copy_step old.tables.held old.collection.live old.known source entry old.collection.sweep) old.disk new refusal
 IsStepRefusal Sweep (Flush source entry) old new refusal = IsFlushStepRefusal old.tables old.known refusal
 IsStepRefusal Sweep (Release source entry) old new refusal = refusal ≡ DiskWrite
 IsStepRefusal Sweep End old new refusal = ⊥

@@ -1,17 +1,17 @@
 //! A container is scanned: the children of its live nodes of a level become live.
-ghost use Rattle.std.specs.Prelude.{◌≡◌, ◌+◌, ◌<◌, ◌≤◌, length, Err, OnOk, OnErr, IfErr};
+ghost use Rattle.std.specs.Prelude.{◌≡◌, ◌+◌, ◌<◌, ◌≤◌, length, OnOk, OnErr, IfErr};
 ghost use Rattle.container_meta.specs.Spelling.{view};
 ghost use Rattle.dd_disk.specs.Ending.{ending, Reads};
 ghost use Rattle.dd_disk.specs.View.{OnlyReads};
 ghost use Rattle.gc_enumerate.specs.Copies.{CountsReads};
-ghost use Rattle.gc_enumerate.specs.Marking.{UnlessMemory};
-ghost use Rattle.gc_enumerate.specs.declared.fault.ScanFault.TheVariants.{Memory as OutOfMemory};
+ghost use Rattle.gc_enumerate.specs.Marking.{LeavesMarks};
 ghost use Rattle.disk_format.specs.Layout.{slot_at};
 ghost use Rattle.disk_format.specs.declared.numbers.TheConstants.{MOST_SEGMENT, SLOT_BYTES};
 ghost use Rattle.refusals.specs.declared.refusal.Refusal.TheVariants.{Memory};
 ghost use Rattle.store_state.specs.Refused.{blames};
 ghost use Rattle.store_state.specs.Tables.{Runs};
-ghost use Rattle.gc_steps.specs.Marking.{ScansEntries, ScansSome, IsEntriesFault, Scans, KeepsMarks, IsMarkRefusal};
+ghost use Rattle.gc_steps.specs.Marking.{ScansEntries, IsEntriesFault, Scans, scan_for, KeepsMarks, IsMarkRefusal};
+ghost use Rattle.gc_steps.specs.Scanning.{ShowsAt};
 ghost use Rattle.gc_steps.specs.UnderWay.{IsUnderWay};
 ghost use Rattle.gc_steps.specs.declared.collection.Stage.TheVariants.{Mark};
 
@@ -42,9 +42,8 @@ fn scan_lent<D: Disk, X: Index>(
     requires room { MOST_SEGMENT ≤ length buf.old }
     ensures marks { OnOk result (ScansEntries (X.places index.old (D.view disk.old).content) (D.view disk.old) (D.view disk.new) slot level
         (view meta.now) live.old live.new) }
-    ensures some { result ≡ Err OutOfMemory → ScansSome (X.places index.old (D.view disk.old).content) (D.view disk.old)
-        (D.view disk.new) slot level (view meta.now) live.old live.new }
-    ensures kept { IfErr result (λ fault. UnlessMemory fault (live.new ≡ live.old)) }
+    ensures kept { IfErr result (LeavesMarks (scan_for (X.places index.old (D.view disk.old).content) live.old slot level (view meta.now))
+        (ShowsAt (D.view disk.old) (D.view disk.new)) meta.now.entries.items live.new) }
     ensures refused { IfErr result (IsEntriesFault (X.places index.old (D.view disk.old).content) (D.view disk.old)
         (D.view disk.new) slot level (view meta.now) live.old) }
     ensures map { X.places index.new (D.view disk.new).content ≡ X.places index.old (D.view disk.old).content }

@@ -5,6 +5,7 @@ use Rattle.std.specs.FinMap as finite
 use Rattle.gc_enumerate.specs.Live.{IsLiveAt}
 use Rattle.gc_sweep.proofs.HoldsFlushed.{with_before}
 use Rattle.gc_sweep.proofs.InSlots.{live_on}
+use Rattle.gc_sweep.specs.Holding.{store_beside}
 
 -- more keys may become live
 live_more : (index : PlaceMap) (live live_now : LiveKeys) → ((key : List ℕ) (place : Place) → IsLiveAt live key place → IsLiveAt live_now key place) → (key : List ℕ)
@@ -16,7 +17,7 @@ live_more index live live_now more key is = (is.0, (is.1.0, more key is.0 is.1.1
 pub stays_beside : (index : PlaceMap) (held : List (Option HeaderValue)) (image now : List ℕ) (live live_now : LiveKeys) (snapshot : ℕ)
     → ((key : List ℕ) (place : Place) → IsLiveAt live key place → IsLiveAt live_now key place)
     → ((key : List ℕ) (level : ℕ) (bytes : List ℕ) → HasKey index key → HasNewest held key level bytes image → HasNewest held key level bytes now)
-    → GoesOnBeside index index held held image now live live_now snapshot
+    → GoesOnBeside (store_beside index held image live) (store_beside index held now live_now) snapshot
 stays_beside index held image now live live_now snapshot more copies = record {
   keys = live_more index live live_now more;
   places = λ key place has. inl has;
@@ -46,7 +47,8 @@ pub sealed_beside : (index : PlaceMap) (held : List (Option HeaderValue)) (image
     → snapshot ≤ h.id → 1 ≤ free_slots held
     → ((key : List ℕ) (place : Place) → IsLiveAt live key place → IsLiveAt live_now key place)
     → ((key : List ℕ) (level : ℕ) (bytes : List ℕ) → HasKey index key → HasNewest held key level bytes image → HasNewest (with_slot (first_free held) h held) key level bytes now)
-    → GoesOnBeside index (with_entries h.kind (first_free held) h.entries index) held (with_slot (first_free held) h held) image now live live_now snapshot
+    → GoesOnBeside (store_beside index held image live)
+    (store_beside (with_entries h.kind (first_free held) h.entries index) (with_slot (first_free held) h held) now live_now) snapshot
 sealed_beside index held image now live live_now snapshot h right new some more copies = record {
   keys = λ key is.
       live_on index later live_now key (λ place has. still_has h.kind (first_free held) h.entries index key (place, has)) (live_more index live live_now more key is);

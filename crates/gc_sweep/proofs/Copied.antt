@@ -3,7 +3,8 @@ use Rattle.gc_sweep.proofs.Prelude.{◌≡◌, ◌⊎◌, inl, inr, ℕ, suc, �
 use Rattle.std.proofs.Common.{◌^◌}
 use Rattle.std.specs.Prelude.{IfSome}
 use Rattle.std.proofs.lemmas.Bool.{leb-true}
-use Rattle.copy_forward.specs.Copying.{PlansSource}
+use Rattle.copy_forward.specs.Copying.{PlansSource, copy_task}
+use Rattle.gc_sweep.specs.Copying.{copy_step}
 
 -- ---- each entry adds a segment at most
 
@@ -35,7 +36,7 @@ module _ (s : Source) (S : (List ℕ → Type 0) → Type 0) where
 -- so the number of those that were copied is one
 pub copied_fits : (t : SlotTable) (snapshot : ℕ) (s : Sweep) (known : Option PlaceMap) (live : LiveKeys) (slot from : ℕ) (filling : Contents) (old new : DiskView)
     (found : Option Plan)
-    → IsSweeping t snapshot s → PlansSource t known live slot from filling old new found → IfSome found (λ plan. s.copied + plan.copied < 2 ^ 64)
+    → IsSweeping t snapshot s → PlansSource (copy_task t known live slot from filling) old new found → IfSome found (λ plan. s.copied + plan.copied < 2 ^ 64)
 copied_fits t snapshot s known live slot from filling old new None under plans = tt
 copied_fits t snapshot s known live slot from filling old new (Some plan) under plans =
     let few = copied_few (source_of known live slot plans.header.kind) (Shows old new) plans.header from filling plan plans.right plans.plans.1 in
@@ -54,9 +55,9 @@ is_source t source s slot kind within id_is kind_is filling fills = record { wit
 
 pub step_refused : (t : SlotTable) (known : Option PlaceMap) (live : LiveKeys) (source slot entry : ℕ) (kind : Kind) (s : Sweep) (old new : DiskView) (refusal : Refusal)
     → ((filling : Contents) → IsFilling s.buffer kind filling → IsSource t source s slot kind filling)
-    → (refusal ≡ Memory) ⊎ ((filling : Contents) × IsFilling s.buffer kind filling × IsCopyRefusal t known live slot entry filling old new refusal)
-    → IsCopyStepRefusal t live known old new source entry s refusal
-step_refused t known live source slot entry kind s old new refusal is_source (inl is) = subst (IsCopyStepRefusal t live known old new source entry s) (sym is) tt
+    → (refusal ≡ Memory) ⊎ ((filling : Contents) × IsFilling s.buffer kind filling × IsCopyRefusal (copy_task t known live slot entry filling) old new refusal)
+    → IsCopyStepRefusal (copy_step t live known source entry s) old new refusal
+step_refused t known live source slot entry kind s old new refusal is_source (inl is) = subst (IsCopyStepRefusal (copy_step t live known source entry s) old new) (sym is) tt
 step_refused t known live source slot entry kind s old new Memory is_source (inr cause) = tt
 step_refused t known live source slot entry kind s old new refusal is_source (inr (filling, fills, cause)) =
     record { slot = slot; kind = kind; filling = filling; is_source = is_source filling fills; cause = cause }

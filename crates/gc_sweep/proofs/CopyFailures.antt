@@ -5,7 +5,7 @@ use Rattle.base_model.specs.Bytes.{range}
 use Rattle.container_log.specs.Faults.{IsDamage}
 use Rattle.container_log.specs.Parts.{ReadAt}
 use Rattle.container_meta.proofs.Again.{header_again, spelled_in}
-use Rattle.copy_forward.specs.Copying.{IsSourceRefusal}
+use Rattle.copy_forward.specs.Copying.{IsSourceRefusal, copy_task}
 use Rattle.copy_forward.specs.Entries.{IsRemoveRefusal}
 use Rattle.copy_forward.specs.Headers.{IsHeaderRefusal}
 use Rattle.copy_forward.specs.Flushing.{IsFlushRefusal}
@@ -16,7 +16,7 @@ use Rattle.disk_format.specs.declared.why.Why.{Why}
 use Rattle.refusals.specs.declared.refusal.Refusal.TheVariants.{Corrupt, Damaged, DiskRead, DiskWrite, Numbers}
 use Rattle.store_model.specs.Image.{AreCopies}
 use Rattle.store_model.proofs.Copies.{copy_digest}
-use Rattle.gc_sweep.specs.Copying.{CopiesNothing}
+use Rattle.gc_sweep.specs.Copying.{CopiesNothing, copy_step}
 use Rattle.gc_sweep.specs.Flushing.{IsFlushStepRefusal}
 use Rattle.gc_sweep.proofs.InSlots.{copy_at, copy_of, header_at, source_old}
 
@@ -86,29 +86,29 @@ module _ (index : PlaceMap) (held : List (Option HeaderValue)) (image : List ℕ
 
   -- a container that stands is looked at
   source_fails : (live : LiveKeys) (slot from : ℕ) (h : HeaderValue) (buffer : Contents) (refusal : Refusal) → slice_get held slot ≡ Some (Some h)
-      → IsSourceRefusal t (Some index) live slot from buffer old new refusal
+      → IsSourceRefusal (copy_task t (Some index) live slot from buffer) old new refusal
       → IsFailure refusal
   source_fails live slot from h buffer refusal there (inl header) = header_fails slot h there refusal header
   source_fails live slot from h buffer refusal there (inr (g, tabled, shown, kind, few, plan)) = plan_fails live slot g.kind (drop from g.entries) (planned buffer []) refusal plan
 
   copy_fails : (live : LiveKeys) (slot from : ℕ) (h : HeaderValue) (buffer : Contents) (refusal : Refusal) → slice_get held slot ≡ Some (Some h)
-      → IsCopyRefusal t (Some index) live slot from buffer old new refusal
+      → IsCopyRefusal (copy_task t (Some index) live slot from buffer) old new refusal
       → IsFailure refusal
   copy_fails live slot from h buffer refusal there (inl cause) = source_fails live slot from h buffer refusal there cause
   copy_fails live slot from h buffer refusal there (inr cause) = remove_fails refusal cause
 
   -- and so is a source
   pub copying_fails : (live : LiveKeys) (snapshot source entry : ℕ) (s : Sweep) → IsSweeping t snapshot s → s.next ≡ CopyNext source entry → (refusal : Refusal)
-      → IsCopyStepRefusal t live (Some index) old new source entry s refusal → IsFailure refusal
+      → IsCopyStepRefusal (copy_step t live (Some index) source entry s) old new refusal → IsFailure refusal
   copying_fails live snapshot source entry s under stage refusal cause = by_refusal refusal cause
     where
-      nothing : (r : Refusal) → CopiesNothing t live (Some index) old new source entry s r → IsFailure r
+      nothing : (r : Refusal) → CopiesNothing (copy_step t live (Some index) source entry s) old new r → IsFailure r
       nothing r none =
           let has : HasNext t s (CopyNext source entry) = subst (HasNext t s) stage under.next_is in
           let at = header_at held t slots none.slot (get_or s.sources.items source 0) none.is_source.id_is (source_old held t snapshot s under source has.0).0 in
           copy_fails live none.slot entry at.0 none.filling r at.1.0 none.cause
 
-      by_refusal : (r : Refusal) → IsCopyStepRefusal t live (Some index) old new source entry s r → IsFailure r
+      by_refusal : (r : Refusal) → IsCopyStepRefusal (copy_step t live (Some index) source entry s) old new r → IsFailure r
       by_refusal Memory cause = tt
       by_refusal r cause = nothing r cause
 

@@ -6,6 +6,7 @@ use Rattle.gc_sweep.specs.declared.sweep.Next.TheVariants.{Copy}
 use Rattle.gc_sweep.specs.Next.{IsOfKind}
 use Rattle.gc_sweep.proofs.Arrives.{GoesTo, all_by, arrives, by_parts, no_items}
 use Rattle.gc_sweep.proofs.Copied.{adds_few, copied_few}
+use Rattle.gc_sweep.specs.Copying.{copy_step}
 
 -- ---- lists of slots
 
@@ -257,7 +258,7 @@ module _ (t : SlotTable) (snapshot source entry : ℕ) (s s' : Sweep) (under : I
 
 pub copies_on : (t : SlotTable) (snapshot : ℕ) (live : LiveKeys) (known after_known : Option PlaceMap) (old new : DiskView) (source entry : ℕ) (s s' : Sweep)
     → IsSweeping t snapshot s → s.next ≡ Copy source entry
-    → CopiesSource t live known after_known old new source entry s s' → IsSweeping t snapshot s'
+    → CopiesSource (copy_step t live known source entry s) after_known old new s' → IsSweeping t snapshot s'
 copies_on t snapshot live known after_known old new source entry s s' under stage copies = copies_by copies.found refl
   where
     filling : Contents

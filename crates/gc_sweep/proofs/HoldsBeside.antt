@@ -5,10 +5,11 @@ use Rattle.std.specs.FinMap as finite
 use Rattle.std.specs.List.{Contains}
 use Rattle.gc_sweep.proofs.InSlots.{at_copy, copy_at, one_header}
 use Rattle.gc_sweep.proofs.KeyLists.{each_so}
+use Rattle.gc_sweep.specs.Holding.{store_beside}
 
 module _ (index later : PlaceMap) (held held_now : List (Option HeaderValue)) (image now : List ℕ) (live live_now : LiveKeys) (snapshot : ℕ) (s : Sweep)
     (sources : SourcesStand held snapshot s)
-    (beside : GoesOnBeside index later held held_now image now live live_now snapshot) where
+    (beside : GoesOnBeside (store_beside index held image live) (store_beside later held_now now live_now) snapshot) where
   -- what the index has now in a slot of a container of before it had
   had_in : (slot : ℕ) (h : HeaderValue) → slice_get held slot ≡ Some (Some h) → h.id < snapshot → (key : List ℕ) (place : Place) → finite.get later key ≡ Some place
       → place.slot ≡ slot

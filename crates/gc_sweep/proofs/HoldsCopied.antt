@@ -11,6 +11,7 @@ use Rattle.gc_sweep.proofs.InSlots.{one_header, one_slot, stands_in}
 use Rattle.gc_sweep.proofs.PlannedKeys.{all_copied, filled_apart, filled_new, filled_on, keys_stay, passed_copied, places_were, slot_copied}
 use Rattle.gc_sweep.proofs.SourceEnds.{Ends, ends_by}
 use Rattle.gc_sweep.proofs.SourceRead.{IsReadOf, at_copy_next, not_other, read_of}
+use Rattle.gc_sweep.specs.Copying.{copy_step}
 
 -- A step that copied leaves the sweep so, by the map that the index has then: each live key is where it was, and no key is where none was.
 pub record LeavesHeld (index : PlaceMap) (held : List (Option HeaderValue)) (image : List ℕ) (live : LiveKeys) (snapshot : ℕ) (known : Option PlaceMap) (s : Sweep) : Type 0 where
@@ -161,7 +162,7 @@ module _ (t : SlotTable) (index : PlaceMap) (held : List (Option HeaderValue)) (
       partial = λ key place found. partial key place (were key place found);
     }
 
-  pub holds_copied : CopiesSource t live (Some index) known_now old new source entry s s' → LeavesHeld index held image live snapshot known_now s'
+  pub holds_copied : CopiesSource (copy_step t live (Some index) source entry s) known_now old new s' → LeavesHeld index held image live snapshot known_now s'
   holds_copied copies = by_found copies.found copies.plans.plans copies.forgets copies.takes
     where
       h : HeaderValue

@@ -3,6 +3,7 @@ use Rattle.gc_sweep.proofs.Prelude.{◌≡◌, inl, inr, ℕ, ◌+◌, ◌*◌, 
 use Rattle.std.proofs.Common.{◌-◌}
 use Rattle.gc_sweep.specs.declared.sweep.Next.TheVariants.{Copy}
 use Rattle.gc_sweep.specs.StepsLeft.{steps_at, steps_left}
+use Rattle.gc_sweep.specs.Copying.{copy_step}
 
 -- what comes next where the sources from one on are to be copied
 next_few : (t : SlotTable) (sources : List ℕ) (buffer : Contents) (k entry : ℕ) (s : Sweep) (n : Next) → IsNext t sources buffer k entry n
@@ -58,7 +59,7 @@ module _ (t : SlotTable) (snapshot source entry : ℕ) (s s' : Sweep) (under : I
       by_list (x ∷ xs) is = omega arith
 
   module _ (live : LiveKeys) (known after_known : Option PlaceMap) (old new : DiskView) (stage : s.next ≡ Copy source entry)
-      (copies : CopiesSource t live known after_known old new source entry s s') where
+      (copies : CopiesSource (copy_step t live known source entry s) after_known old new s') where
     stopped : (plan : Plan) (header : HeaderValue) → IsPlan (source_of known live copies.slot header.kind) (Shows old new) header.entries entry copies.filling plan
         → plan.ended ≡ false
         → 1 ≤ length copies.filling.segments

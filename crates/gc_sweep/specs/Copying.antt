@@ -3,7 +3,7 @@ use Rattle.std.specs.Prelude.{◌≡◌, ◌⊎◌, ℕ, ◌+◌, ◌<◌, [], �
 use Rattle.container_meta.specs.declared.kind.Kind.{Kind}
 use Rattle.container_meta.specs.Places.{PlaceMap}
 use Rattle.container_meta.specs.Segments.{Contents}
-use Rattle.copy_forward.specs.Copying.{Forgets, IsCopyRefusal, PlansSource}
+use Rattle.copy_forward.specs.Copying.{Forgets, IsCopyRefusal, PlansSource, copy_task}
 use Rattle.copy_forward.specs.declared.plan.Plan.{Plan}
 use Rattle.dd_disk.specs.View.{DiskView}
 use Rattle.gc_enumerate.specs.Live.{LiveKeys}
@@ -54,28 +54,40 @@ pub record IsSource (t : SlotTable) (source : ℕ) (s : Sweep) (slot : ℕ) (kin
   pub kind_is : kind_in t slot ≡ Some kind
   pub filling_is : IsFilling s.buffer kind filling
 
--- A source was copied, from an entry on.
-pub record CopiesSource (t : SlotTable) (live : LiveKeys) (known after_known : Option PlaceMap) (old new : DiskView) (source entry : ℕ)
-    (before after : Sweep) : Type 0 where
+-- A sweep comes to copy the source of a number, from the entry of a number on: by the table of slots, the live keys, and the map of the
+-- index, where it is known.
+pub record CopyStep : Type 0 where
+  pub held : SlotTable
+  pub live : LiveKeys
+  pub known : Option PlaceMap
+  pub source : ℕ
+  pub entry : ℕ
+  pub sweep : Sweep
+
+abbrev pub copy_step : SlotTable → LiveKeys → Option PlaceMap → ℕ → ℕ → Sweep → CopyStep
+copy_step held live known source entry sweep =
+    record { held = held; live = live; known = known; source = source; entry = entry; sweep = sweep }
+
+-- It was copied.
+pub record CopiesSource (step : CopyStep) (after_known : Option PlaceMap) (old new : DiskView) (after : Sweep) : Type 0 where
   pub slot : ℕ
   pub kind : Kind
   pub filling : Contents
-  pub is_source : IsSource t source before slot kind filling
+  pub is_source : IsSource step.held step.source step.sweep slot kind filling
   pub found : Option Plan
-  pub plans : PlansSource t known live slot entry filling old new found
-  pub forgets : Forgets known after_known found
-  pub takes : TakesBy t slot source found before after
-  pub others : GoesOn before after
+  pub plans : PlansSource (copy_task step.held step.known step.live slot step.entry filling) old new found
+  pub forgets : Forgets step.known after_known found
+  pub takes : TakesBy step.held slot step.source found step.sweep after
+  pub others : GoesOn step.sweep after
 
--- Why none was. Want of memory is free.
-pub record CopiesNothing (t : SlotTable) (live : LiveKeys) (known : Option PlaceMap) (old new : DiskView) (source entry : ℕ)
-    (before : Sweep) (refusal : Refusal) : Type 0 where
+-- Why it was not. Want of memory is free.
+pub record CopiesNothing (step : CopyStep) (old new : DiskView) (refusal : Refusal) : Type 0 where
   pub slot : ℕ
   pub kind : Kind
   pub filling : Contents
-  pub is_source : IsSource t source before slot kind filling
-  pub cause : IsCopyRefusal t known live slot entry filling old new refusal
+  pub is_source : IsSource step.held step.source step.sweep slot kind filling
+  pub cause : IsCopyRefusal (copy_task step.held step.known step.live slot step.entry filling) old new refusal
 
-abbrev pub IsCopyStepRefusal : SlotTable → LiveKeys → Option PlaceMap → DiskView → DiskView → ℕ → ℕ → Sweep → Refusal → Type 0
-IsCopyStepRefusal t live known old new source entry before Memory = Unit {0}
-IsCopyStepRefusal t live known old new source entry before refusal = CopiesNothing t live known old new source entry before refusal
+abbrev pub IsCopyStepRefusal : CopyStep → DiskView → DiskView → Refusal → Type 0
+IsCopyStepRefusal step old new Memory = Unit {0}
+IsCopyStepRefusal step old new refusal = CopiesNothing step old new refusal

@@ -4,7 +4,7 @@ use Rattle.container_meta.specs.Places.{PlaceMap}
 use Rattle.container_meta.specs.Segments.{Contents}
 use Rattle.copy_forward.specs.Flushing.{IsFlushRefusal}
 use Rattle.disk_format.specs.declared.numbers.TheConstants.{LAST_ID}
-use Rattle.ingest_steps.specs.Sealing.{HasSlotBeside, HasWritten}
+use Rattle.ingest_steps.specs.Sealing.{HasSlotBeside, HasWritten, KeepsMap}
 use Rattle.refusals.specs.declared.refusal.Refusal.{Refusal}
 use Rattle.refusals.specs.declared.refusal.Refusal.TheVariants.{Memory, Numbers}
 use Rattle.store_state.specs.declared.tables.Tables.{Tables}
@@ -35,3 +35,10 @@ abbrev pub IsFlushStepRefusal : Tables → Option PlaceMap → Refusal → Type 
 IsFlushStepRefusal t known Memory = Unit {0}
 IsFlushStepRefusal t known Numbers = LAST_ID ≤ t.held.last_id
 IsFlushStepRefusal t known refusal = (t.held.last_id < LAST_ID) × IsFlushRefusal known refusal
+
+-- Nothing was written, for its cause: tables and sweep stay, and so does the map of the index, as far as `KeepsMap` says.
+pub record FlushesNothing (old new : Tables) (known after_known : Option PlaceMap) (before after : Sweep) (refusal : Refusal) : Type 0 where
+  pub cause : IsFlushStepRefusal old known refusal
+  pub tables_kept : new ≡ old
+  pub sweep_kept : after ≡ before
+  pub map : KeepsMap known after_known refusal

@@ -74,15 +74,25 @@ pub record HoldsSweep (index : PlaceMap) (held : List (Option HeaderValue)) (ima
   pub none_lost : (slot number : ℕ) (h : HeaderValue) → slice_get held slot ≡ Some (Some h) → number < sources_before s s.next
       → h.id ≡ get_or s.sources.items number 0 → Contains (s.waiting.items ++ s.ready.items) slot
 
+-- the index, the headers in the slots, the image and the live keys, at a moment
+pub record StoreBeside : Type 0 where
+  pub index : PlaceMap
+  pub held : List (Option HeaderValue)
+  pub image : List ℕ
+  pub live : LiveKeys
+
+abbrev pub store_beside : PlaceMap → List (Option HeaderValue) → List ℕ → LiveKeys → StoreBeside
+store_beside index held image live = record { index = index; held = held; image = image; live = live }
+
 -- What others leave of a store and its index: a live key stays so, and the newest copies of keys are what they were; what the index has
 -- newly lies in containers that came after the collection began; and just those that came before stand where they stood.
-pub record GoesOnBeside (index later : PlaceMap) (held held_now : List (Option HeaderValue)) (image now : List ℕ) (live live_now : LiveKeys)
-    (snapshot : ℕ) : Type 0 where
-  pub keys : (key : List ℕ) → IsLive index live key → IsLive later live_now key
-  pub places : (key : List ℕ) (place : Place) → finite.get later key ≡ Some place
-      → (finite.get index key ≡ Some place) ⊎ ((h : HeaderValue) × ((slice_get held_now place.slot ≡ Some (Some h)) × (snapshot ≤ h.id)))
-  pub copies : (key : List ℕ) (level : ℕ) (bytes : List ℕ) → HasKey index key → HasNewest held key level bytes image
-      → HasNewest held_now key level bytes now
-  pub stand : (slot : ℕ) (h : HeaderValue) → slice_get held slot ≡ Some (Some h) → slice_get held_now slot ≡ Some (Some h)
-  pub stood : (slot : ℕ) (h : HeaderValue) → slice_get held_now slot ≡ Some (Some h) → h.id < snapshot
-      → slice_get held slot ≡ Some (Some h)
+pub record GoesOnBeside (old new : StoreBeside) (snapshot : ℕ) : Type 0 where
+  pub keys : (key : List ℕ) → IsLive old.index old.live key → IsLive new.index new.live key
+  pub places : (key : List ℕ) (place : Place) → finite.get new.index key ≡ Some place
+      → (finite.get old.index key ≡ Some place)
+      ⊎ ((h : HeaderValue) × ((slice_get new.held place.slot ≡ Some (Some h)) × (snapshot ≤ h.id)))
+  pub copies : (key : List ℕ) (level : ℕ) (bytes : List ℕ) → HasKey old.index key → HasNewest old.held key level bytes old.image
+      → HasNewest new.held key level bytes new.image
+  pub stand : (slot : ℕ) (h : HeaderValue) → slice_get old.held slot ≡ Some (Some h) → slice_get new.held slot ≡ Some (Some h)
+  pub stood : (slot : ℕ) (h : HeaderValue) → slice_get new.held slot ≡ Some (Some h) → h.id < snapshot
+      → slice_get old.held slot ≡ Some (Some h)

@@ -1,9 +1,12 @@
 -- What a step that gives a source back does to a sweep (docs/MODEL.md, 'Sweeping').
 use Rattle.std.specs.Prelude.{◌≡◌, ◌≢◌, ℕ, ◌+◌, [], drop, get_or}
+use Rattle.dd_disk.specs.View.{DiskView, IsDurable}
 use Rattle.store_state.specs.declared.slot_table.SlotTable.{SlotTable}
+use Rattle.store_state.specs.declared.tables.Tables.{Tables}
 use Rattle.gc_sweep.specs.declared.sweep.Next.TheVariants.{Release}
 use Rattle.gc_sweep.specs.declared.sweep.Sweep.{Sweep}
 use Rattle.gc_sweep.specs.Next.{IsNext}
+use Rattle.gc_sweep.specs.Releasing.{HasFreed}
 
 -- the slot of the first source that is ready
 abbrev pub slot_in_turn : Sweep → ℕ
@@ -19,3 +22,9 @@ pub record HasReleased (t : SlotTable) (source entry : ℕ) (before after : Swee
   pub buffer_is : after.buffer ≡ before.buffer
   pub waiting_is : after.waiting ≡ before.waiting
   pub copied_is : after.copied ≡ before.copied
+
+-- So it is by the tables and by the sweep, and the disk is durable then.
+pub record ReleasesSource (old new : Tables) (source entry : ℕ) (before after : Sweep) (disk : DiskView) : Type 0 where
+  pub freed : HasFreed old (slot_in_turn before) new
+  pub released : HasReleased new.held source entry before after
+  pub durable : IsDurable disk

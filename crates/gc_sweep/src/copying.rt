@@ -1,6 +1,6 @@
 //! A step that copies: what is live of a source is put into the container that is filled.
 ghost use Rattle.std.specs.Prelude.{◌≡◌, ◌∷◌, ◌++◌, ◌+◌, ◌^◌, [], ◌⊎◌, ◌≤◌, ◌<◌, ℕ, get_or, length, Contains, IfOk, IfErr, IfSome, OnOk, OnErr};
-ghost use Rattle.copy_forward.specs.Copying.{Forgets, IsCopyRefusal, PlansSource};
+ghost use Rattle.copy_forward.specs.Copying.{Forgets, IsCopyRefusal, PlansSource, copy_task};
 ghost use Rattle.copy_forward.specs.Entries.{MapStays};
 ghost use Rattle.container_meta.specs.Segments.{Contents};
 ghost use Rattle.dd_disk.specs.Ending.{ending};
@@ -11,7 +11,7 @@ ghost use Rattle.segment_index.specs.Changes.{Changes};
 ghost use Rattle.store_state.specs.Indexing.{IsOfSlots};
 ghost use Rattle.store_state.specs.Refused.{blames};
 ghost use Rattle.store_state.specs.Tables.{Runs};
-ghost use Rattle.gc_sweep.specs.Copying.{CopiesSource, GoesOn, IsCopyStepRefusal, IsFilling, TakesBy};
+ghost use Rattle.gc_sweep.specs.Copying.{CopiesSource, GoesOn, IsCopyStepRefusal, IsFilling, TakesBy, copy_step};
 ghost use Rattle.gc_sweep.specs.UnderWay.{IsSweeping};
 ghost use Rattle.gc_sweep.specs.declared.sweep.Next.TheVariants.{Copy as CopyNext};
 
@@ -57,11 +57,11 @@ fn fill<D: Disk, X: Index>(
     requires slots { IsOfSlots (D.view disk.old).size }
     requires buf { MOST_SEGMENT ≤ length buf.old }
     ensures ok { IfOk result (λ found. (filling : Contents) × IsFilling buffer.now kind filling
-        × PlansSource held.now (X.places index.old (D.view disk.old).content) live.now slot entry filling (D.view disk.old)
+        × PlansSource (copy_task held.now (X.places index.old (D.view disk.old).content) live.now slot entry filling) (D.view disk.old)
         (D.view disk.new) found) }
     ensures map { IfOk result (Forgets (X.places index.old (D.view disk.old).content) (X.places index.new (D.view disk.new).content)) }
     ensures refused { IfErr result (λ refusal. (refusal ≡ Memory) ⊎ ((filling : Contents) × IsFilling buffer.now kind filling
-        × IsCopyRefusal held.now (X.places index.old (D.view disk.old).content) live.now slot entry filling (D.view disk.old)
+        × IsCopyRefusal (copy_task held.now (X.places index.old (D.view disk.old).content) live.now slot entry filling) (D.view disk.old)
         (D.view disk.new) refusal)) }
     ensures kept { IfErr result (MapStays (X.places index.old (D.view disk.old).content) (X.places index.new (D.view disk.new).content)) }
     ensures size { length buf.new ≡ length buf.old }
@@ -143,12 +143,13 @@ pub fn copy_source<D: Disk, X: Index>(
     requires under_way { (snapshot : _) × IsSweeping tables.now.held snapshot sweep.old }
     requires next { sweep.old.next ≡ CopyNext source entry }
     requires buf { MOST_SEGMENT ≤ length buf.old }
-    ensures ok { OnOk result (CopiesSource tables.now.held live.now (X.places index.old (D.view disk.old).content)
-        (X.places index.new (D.view disk.new).content) (D.view disk.old) (D.view disk.new) source entry sweep.old sweep.new) }
+    ensures ok { OnOk result (CopiesSource
+        (copy_step tables.now.held live.now (X.places index.old (D.view disk.old).content) source entry sweep.old)
+        (X.places index.new (D.view disk.new).content) (D.view disk.old) (D.view disk.new) sweep.new) }
     ensures under_way { (snapshot : ℕ) → IsSweeping tables.now.held snapshot sweep.old → IsSweeping tables.now.held snapshot sweep.new }
     ensures unchanged { OnErr result (sweep.new ≡ sweep.old) }
-    ensures refused { IfErr result (IsCopyStepRefusal tables.now.held live.now (X.places index.old (D.view disk.old).content)
-        (D.view disk.old) (D.view disk.new) source entry sweep.old) }
+    ensures refused { IfErr result (IsCopyStepRefusal (copy_step tables.now.held live.now
+        (X.places index.old (D.view disk.old).content) source entry sweep.old) (D.view disk.old) (D.view disk.new)) }
     ensures kept { IfErr result (MapStays (X.places index.old (D.view disk.old).content) (X.places index.new (D.view disk.new).content)) }
     ensures size { length buf.new ≡ length buf.old }
     ensures changes { (slots : ℕ) → (D.view disk.old).size ≡ size_of slots

@@ -1,13 +1,13 @@
 //! A step that writes: the container that was filled comes to a closed slot, and the sources that waited for it are ready.
-ghost use Rattle.std.specs.Prelude.{◌≡◌, ◌+◌, ◌≤◌, ℕ, [], None, OnOk, OnErr, IfOk, IfErr};
+ghost use Rattle.std.specs.Prelude.{◌≡◌, ◌+◌, ◌≤◌, ℕ, [], None, OnOk, IfOk, IfErr};
 ghost use Rattle.dd_disk.specs.Ending.{ending};
 ghost use Rattle.disk_format.specs.declared.numbers.TheConstants.{LAST_ID as MOST_ID, RESERVE};
-ghost use Rattle.ingest_steps.specs.Sealing.{HasSlotBeside, HasPlacesOf, KeepsMap, SealsIndexed};
+ghost use Rattle.ingest_steps.specs.Sealing.{HasSlotBeside, HasPlacesOf, SealsIndexed};
 ghost use Rattle.refusals.specs.declared.refusal.Refusal.TheVariants.{Numbers};
 ghost use Rattle.store_state.specs.Refused.{blames};
 ghost use Rattle.store_state.specs.Settled.{Steps};
 ghost use Rattle.store_state.specs.Tables.{Runs};
-ghost use Rattle.gc_sweep.specs.Flushing.{HasFlushed, IsFlushStepRefusal, WritesCopies, spared};
+ghost use Rattle.gc_sweep.specs.Flushing.{FlushesNothing, HasFlushed, WritesCopies, spared};
 ghost use Rattle.gc_sweep.specs.UnderWay.{IsSweeping, free_in};
 ghost use Rattle.gc_sweep.specs.declared.sweep.Next.TheVariants.{Flush as FlushNext};
 
@@ -79,10 +79,8 @@ pub fn flush_copies<D: Disk, X: Index>(
         (D.view disk.old).content (D.view disk.new).content) }
     ensures sweep { OnOk result (HasFlushed source entry sweep.old sweep.new) }
     ensures under_way { (snapshot : ℕ) → IsSweeping tables.old.held snapshot sweep.old → IsSweeping tables.new.held snapshot sweep.new }
-    ensures refused { IfErr result (IsFlushStepRefusal tables.old (X.places index.old (D.view disk.old).content)) }
-    ensures tables_kept { OnErr result (tables.new ≡ tables.old) }
-    ensures sweep_kept { OnErr result (sweep.new ≡ sweep.old) }
-    ensures kept { IfErr result (KeepsMap (X.places index.old (D.view disk.old).content) (X.places index.new (D.view disk.new).content)) }
+    ensures refused { IfErr result (FlushesNothing tables.old tables.new (X.places index.old (D.view disk.old).content)
+        (X.places index.new (D.view disk.new).content) sweep.old sweep.new) }
     ensures disk { Steps tables.old.slots (ending blames result) (D.view disk.old) (D.view disk.new) }
     ensures moves { SealsIndexed tables.old (tables.old.held.last_id + 1) sweep.old.buffer (ending blames result) (D.view disk.old)
         (D.view disk.new) }

@@ -2,13 +2,12 @@
 ghost use Rattle.std.specs.Prelude.{◌≡◌, ◌≢◌, ◌+◌, ◌^◌, ◌<◌, ◌≤◌, ℕ, [], length, get_or, drop, Contains, OnOk, OnErr, IfErr};
 ghost use Rattle.dd_disk.specs.Ending.{ending};
 ghost use Rattle.dd_disk.specs.Moves.{Acts};
-ghost use Rattle.dd_disk.specs.View.{IsDurable};
 ghost use Rattle.disk_format.specs.declared.numbers.TheConstants.{MOST_SLOTS as MANY};
 ghost use Rattle.refusals.specs.declared.refusal.Refusal.TheVariants.{DiskWrite};
 ghost use Rattle.store_state.specs.Refused.{blames};
 ghost use Rattle.store_state.specs.Tables.{Runs};
-ghost use Rattle.gc_sweep.specs.Releasing.{HasFreed, GivesBack, ChangesGateAlone};
-ghost use Rattle.gc_sweep.specs.InTurn.{HasReleased, slot_in_turn};
+ghost use Rattle.gc_sweep.specs.Releasing.{GivesBack, ChangesGateAlone};
+ghost use Rattle.gc_sweep.specs.InTurn.{HasReleased, ReleasesSource, slot_in_turn};
 ghost use Rattle.gc_sweep.specs.UnderWay.{IsSweeping};
 ghost use Rattle.gc_sweep.specs.declared.sweep.Next.TheVariants.{Release as ReleaseNext};
 
@@ -49,13 +48,11 @@ pub fn release_source<D: Disk>(
     requires runs { (known : _) × Runs (D.view disk.old).size known tables.old }
     requires under_way { (snapshot : ℕ) × IsSweeping tables.old.held snapshot sweep.old }
     requires next { sweep.old.next ≡ ReleaseNext source entry }
-    ensures tables { OnOk result (HasFreed tables.old (slot_in_turn sweep.old) tables.new) }
-    ensures sweep { OnOk result (HasReleased tables.new.held source entry sweep.old sweep.new) }
+    ensures ok { OnOk result (ReleasesSource tables.old tables.new source entry sweep.old sweep.new (D.view disk.new)) }
     ensures under_way { (snapshot : ℕ) → IsSweeping tables.old.held snapshot sweep.old → IsSweeping tables.new.held snapshot sweep.new }
     ensures tables_kept { OnErr result (tables.new ≡ tables.old) }
     ensures kept { OnErr result (sweep.new ≡ sweep.old) }
     ensures refused { IfErr result (λ refusal. refusal ≡ DiskWrite) }
-    ensures durable { OnOk result (IsDurable (D.view disk.new)) }
     ensures disk { Acts (ending blames result) (D.view disk.old) (D.view disk.new) }
     ensures moves { GivesBack tables.old (slot_in_turn sweep.old) (ending blames result) (D.view disk.old) (D.view disk.new) }
     ensures frame { ChangesGateAlone (slot_in_turn sweep.old) (ending blames result) (D.view disk.old) (D.view disk.new) }

@@ -5,7 +5,7 @@ use Rattle.actor_parts.specs.Segments.{children_by}
 use Rattle.store_model.proofs.Indexing.{has_segments, still_has}
 use Rattle.store_state.proofs.Parts.{part_kept}
 use Rattle.ingest_steps.specs.Pinning.{or_else}
-use Rattle.ingest_steps.specs.SealStep.{KeepsSealed}
+use Rattle.ingest_steps.specs.SealStep.{KeepsSealed, store_moment}
 use Rattle.ingest_steps.proofs.Pinned.{all_pinned, pinned_still, pins_with}
 
 both_none : (a b : Option (List ℕ)) → or_else a b ≡ None → (a ≡ None) × (b ≡ None)
@@ -41,13 +41,14 @@ module _ (P : List ℕ → Type 0) (held : List (Option HeaderValue)) (image : L
 one_map : (a b : PlaceMap) → Some a ≡ Some b → a ≡ b
 one_map a b is = cc
 
-pub keeps_sealed : (old new : DiskView) (known known_new : Option PlaceMap) (slot : ℕ) (t : Tables) (parts parts_new : List Part) (actor : ℕ) (filled : Contents) (id : ℕ)
+pub keeps_sealed : (old new : DiskView) (known known_new : Option PlaceMap) (slot : ℕ) (t now_tables : Tables) (parts parts_new : List Part) (actor : ℕ) (filled : Contents)
+    (id : ℕ)
     → id ≡ t.held.last_id + 1 → actor < length parts
     → AllByRecursion (λ s. IsOfKind filled.kind s) filled.segments → (may : MayKeep (part_of parts actor) filled)
     → parts_new ≡ with_part parts actor (Writing (with_pins filled.kind filled.segments may.pins)) → SealsCompared t known (t.held.last_id + 1) filled Done old new
     → ((before : List ℕ) (m : PlaceMap) → old.content ≡ Some before → known ≡ Some m → known_new ≡ places_with filled slot (Some m))
-    → KeepsSealed old new known known_new t parts actor filled parts_new id
-keeps_sealed old new known known_new slot t parts parts_new actor filled id next there step may parts_are seals places =
+    → KeepsSealed (store_moment old known t parts) (store_moment new known_new now_tables parts_new) actor filled id
+keeps_sealed old new known known_new slot t now_tables parts parts_new actor filled id next there step may parts_are seals places =
     λ among store files map more_map given now known_is more_is is content content_now stands distinct sealable holds.
     let kept = seals.holds among store files map given now known_is is content content_now stands distinct sealable in
     let last : ℕ = t.held.last_id + 1 in

@@ -21,18 +21,27 @@ use Rattle.store_state.specs.Tables.{Represents}
 use Rattle.ingest_steps.specs.Pinning.{MayKeep, IsUnkept, with_pins}
 use Rattle.ingest_steps.specs.Sealing.{HasSlot, IsSlotRefusal, IsSealRefusal, HasSealed, HasPlacesOf, WasCompared}
 
+-- the disk, the map of the index, the tables and what each actor does, at a moment
+pub record StoreMoment : Type 1 where
+  pub disk : DiskView
+  pub known : Option PlaceMap
+  pub tables : Tables
+  pub parts : List Part
+
+abbrev pub store_moment : DiskView → Option PlaceMap → Tables → List Part → StoreMoment
+store_moment disk known tables parts = record { disk = disk; known = known; tables = tables; parts = parts }
+
 -- The container was compared with what is held. It stands in a slot that was free, its places are in the map, and the actor
 -- keeps its segments, too.
-pub record IsSealedFor (old : Tables) (disk : DiskView) (known : Option PlaceMap) (parts : List Part) (actor : ℕ) (filled : Contents)
-    (new : Tables) (disk_new : DiskView) (before after : Option (List ℕ) → Option PlaceMap) (parts_new : List Part) (id : ℕ)
+pub record IsSealedFor (old new : StoreMoment) (actor : ℕ) (filled : Contents) (before after : Option (List ℕ) → Option PlaceMap) (id : ℕ)
     : Type 0 where
-  pub may : MayKeep (part_of parts actor) filled
+  pub may : MayKeep (part_of old.parts actor) filled
   pub slot : ℕ
-  pub has : HasSlot old slot
-  pub compared : WasCompared disk.size known (Shows disk disk_new) filled
-  pub sealed : HasSealed old disk.size known slot filled new id
-  pub map : HasPlacesOf filled slot before after disk.content disk_new.content
-  pub parts_are : parts_new ≡ with_part parts actor (Writing (with_pins filled.kind filled.segments may.pins))
+  pub has : HasSlot old.tables slot
+  pub compared : WasCompared old.disk.size old.known (Shows old.disk new.disk) filled
+  pub sealed : HasSealed old.tables old.disk.size old.known slot filled new.tables id
+  pub map : HasPlacesOf filled slot before after old.disk.content new.disk.content
+  pub parts_are : new.parts ≡ with_part old.parts actor (Writing (with_pins filled.kind filled.segments may.pins))
 
 -- Why it isn't sealed, in this order: the actor, a slot, what is held or the disk. Want of memory is free.
 abbrev pub IsStepRefusal : Part → Tables → ℕ → Option PlaceMap → Contents → (Refusal → Type 0) → Refusal → Type 0
@@ -46,11 +55,10 @@ IsStepRefusal part t size known filled compared refusal =
 
 -- What the actor keeps is right still, and closed, where a content stood for files and the map was that of its store; no data of S
 -- differs under one digest.
-abbrev pub KeepsSealed : DiskView → DiskView → Option PlaceMap → Option PlaceMap → Tables → List Part → ℕ → Contents → List Part → ℕ
-    → Type 0
-KeepsSealed old new known known_new t parts actor filled parts_new id =
+abbrev pub KeepsSealed : StoreMoment → StoreMoment → ℕ → Contents → ℕ → Type 0
+KeepsSealed old new actor filled id =
     (among : ByteSet) (store : Store) (files : Files) (map more : PlaceMap) (given held : List ℕ)
-    → known ≡ Some map → known_new ≡ Some more → Represents store known t → old.content ≡ Some given → new.content ≡ Some held
-    → Stands (IsIn among) store files given → HasNoCollisions (IsIn among)
-    → AllByRecursion (MaySeal (IsIn among) filled.kind) filled.segments → HoldsPart (HasKey map) store.held given (part_of parts actor)
-    → HoldsPart (HasKey more) (with_sealed id filled.kind filled.segments store).held held (part_of parts_new actor)
+    → old.known ≡ Some map → new.known ≡ Some more → Represents store old.known old.tables
+    → old.disk.content ≡ Some given → new.disk.content ≡ Some held → Stands (IsIn among) store files given → HasNoCollisions (IsIn among)
+    → AllByRecursion (MaySeal (IsIn among) filled.kind) filled.segments → HoldsPart (HasKey map) store.held given (part_of old.parts actor)
+    → HoldsPart (HasKey more) (with_sealed id filled.kind filled.segments store).held held (part_of new.parts actor)

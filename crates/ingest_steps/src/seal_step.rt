@@ -16,7 +16,7 @@ ghost use Rattle.store_state.specs.Settled.{Steps};
 ghost use Rattle.store_state.specs.Tables.{Runs};
 ghost use Rattle.ingest_steps.specs.Pinning.{WereHad, with_pins};
 ghost use Rattle.ingest_steps.specs.Sealing.{IsCompared, SealsCompared, KeepsMap};
-ghost use Rattle.ingest_steps.specs.SealStep.{IsSealedFor, IsStepRefusal, KeepsSealed};
+ghost use Rattle.ingest_steps.specs.SealStep.{IsSealedFor, IsStepRefusal, KeepsSealed, store_moment};
 
 use crate::comparing_seal::seal_compared;
 use crate::pinning::{may_keep, pin_all, unpin};
@@ -99,9 +99,10 @@ pub fn seal<D: Disk, X: Index>(
     requires state { Runs (D.view disk.old).size None tables.old }
     requires there { 1 ≤ length filled.now.segments }
     requires step { AreStepSegments filled.now.kind filled.now.segments }
-    ensures ok { IfOk result (IsSealedFor tables.old (D.view disk.old) (X.places index.old
-        (D.view disk.old).content) parts.old actor filled.now
-        tables.new (D.view disk.new) (X.places index.old) (X.places index.new) parts.new) }
+    ensures ok { IfOk result (IsSealedFor
+        (store_moment (D.view disk.old) (X.places index.old (D.view disk.old).content) tables.old parts.old)
+        (store_moment (D.view disk.new) (X.places index.new (D.view disk.new).content) tables.new parts.new)
+        actor filled.now (X.places index.old) (X.places index.new)) }
     ensures refused { IfErr result (IsStepRefusal (part_of parts.old actor) tables.old (D.view disk.old).size
         (X.places index.old (D.view disk.old).content) filled.now
         (IsCompared (D.view disk.old).size (X.places index.old (D.view disk.old).content) (Shows (D.view disk.old) (D.view disk.new))
@@ -111,8 +112,9 @@ pub fn seal<D: Disk, X: Index>(
     ensures disk { Steps tables.old.slots (ending blames result) (D.view disk.old) (D.view disk.new) }
     ensures moves { SealsCompared tables.old (X.places index.old (D.view disk.old).content) (tables.old.held.last_id + 1) filled.now
         (ending blames result) (D.view disk.old) (D.view disk.new) }
-    ensures kept { IfOk result (KeepsSealed (D.view disk.old) (D.view disk.new) (X.places index.old (D.view disk.old).content)
-        (X.places index.new (D.view disk.new).content) tables.old parts.old actor filled.now parts.new) }
+    ensures kept { IfOk result (KeepsSealed
+        (store_moment (D.view disk.old) (X.places index.old (D.view disk.old).content) tables.old parts.old)
+        (store_moment (D.view disk.new) (X.places index.new (D.view disk.new).content) tables.new parts.new) actor filled.now) }
     ensures served { X.serves index.new (D.view disk.new).size }
 {
     may_keep(parts.part(actor), filled)?;

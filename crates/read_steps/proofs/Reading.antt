@@ -70,7 +70,7 @@ pub held_given : (counts : ByteSet) (held : List (Option HeaderValue)) (image : 
     (segments : List (List ℕ)) (result : Result (Option ℕ) Refusal)
     → GoesOn actor parts then_parts was rest → whole ≡ buf → (SegmentsAhead counts held image was segments → IsHeldAnswer counts held image rest segments buf result)
     → (root : Root) (ahead : List Top) → part_of parts actor ≡ reading root ahead → SegmentsAhead counts held image ahead segments →
-    GivesHeld counts held image actor parts then_parts ahead segments whole result
+    GivesHeld counts held image (GoesOn actor parts then_parts ahead) segments whole result
 held_given counts held image actor parts then_parts was rest buf whole segments result on same given root ahead is segs =
     let so : was ≡ ahead = same_ahead (part_of parts actor) on.root root was ahead on.part_is is in
     record {

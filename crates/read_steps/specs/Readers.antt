@@ -87,11 +87,11 @@ abbrev pub IsReadRefusal : Option PlaceMap → (ℕ → Why → List ℕ → Typ
 IsReadRefusal known breaks old new actor before after (WrongPart kind) = IsNoReader actor before after kind
 IsReadRefusal known breaks old new actor before after refusal = IsStuck known breaks old new actor before after refusal
 
--- what is answered where segments of held trees are to come
-pub record GivesHeld (counts : ByteSet) (held : List (Option HeaderValue)) (image : List ℕ) (actor : ℕ) (before after : List Part)
-    (was : List Top) (segments : List (List ℕ)) (buf : List ℕ) (result : Result (Option ℕ) Refusal) : Type 0 where
+-- What is answered where segments of held trees are to come; IsRest says what is to come then.
+pub record GivesHeld (counts : ByteSet) (held : List (Option HeaderValue)) (image : List ℕ) (IsRest : List Top → Type 0)
+    (segments : List (List ℕ)) (buf : List ℕ) (result : Result (Option ℕ) Refusal) : Type 0 where
   pub rest : List Top
-  pub goes_on : GoesOn actor before after was rest
+  pub goes_on : IsRest rest
   pub given : IsHeldAnswer counts held image rest segments buf result
 
 -- ---- it is given up

@@ -5,6 +5,7 @@ use Rattle.std.specs.FinMap as finite
 use Rattle.std.specs.List.{AllByRecursion}
 use Rattle.sha2.specs.Sha256.{sha256}
 use Rattle.base_model.specs.Bytes.{key_of}
+use Rattle.dd_disk.specs.Ending.{Ending, Reads}
 use Rattle.dd_disk.specs.View.{DiskView}
 use Rattle.dd_disk.specs.Shows.{Shows}
 use Rattle.disk_format.specs.Layout.{data_at}
@@ -43,6 +44,13 @@ pub record IsCopyAt (known : Option PlaceMap) (old new : DiskView) (key : List �
 pub record WasRead (known : Option PlaceMap) (old new : DiskView) (key bytes : List ℕ) : Type 0 where
   pub place : Place
   pub copy : IsCopyAt known old new key place bytes
+
+-- Calls that only read, and ask the index: its map stays, and its bytes break its form nowhere but where they did.
+pub record AsksIndex (known now : Option PlaceMap) (breaks breaks_now : ℕ → Why → List ℕ → Type 0) (ending : Ending) (old new : DiskView)
+    : Type 0 where
+  pub map : now ≡ known
+  pub form : (at : ℕ) (why : Why) (bytes : List ℕ) → breaks_now at why bytes → breaks at why bytes
+  pub reads : Reads ending old new
 
 -- a node of this digest comes first
 abbrev pub IsNodeNamed : List Top → List ℕ → Type 0
@@ -123,18 +131,25 @@ IsLookupRefusal known breaks old new key (Missing k) = (k ≡ key) × KnownMap k
 IsLookupRefusal known breaks old new key (Damaged at why) = IsDamage known breaks old new at why
 IsLookupRefusal known breaks old new key refusal = ⊥
 
+-- what is told of a copy with another digest: where its bytes lie, and the digests
+pub record CorruptCopy : Type 0 where
+  pub slot : ℕ
+  pub offset : ℕ
+  pub count : ℕ
+  pub want : List ℕ
+  pub got : List ℕ
+
 -- bytes that were found at the place of a key have another digest than the one wanted
-pub record IsCorrupt (known : Option PlaceMap) (old new : DiskView) (key digest : List ℕ) (slot offset count : ℕ) (want got : List ℕ)
-    : Type 0 where
-  pub want_is : want ≡ digest
-  pub differ : want ≢ got
-  pub placed : IsPlacedAt known key slot offset count
-  pub found : WereFound (Shows old new) (data_at slot + offset) count got
+pub record IsCorrupt (known : Option PlaceMap) (old new : DiskView) (key digest : List ℕ) (c : CorruptCopy) : Type 0 where
+  pub want_is : c.want ≡ digest
+  pub differ : c.want ≢ c.got
+  pub placed : IsPlacedAt known key c.slot c.offset c.count
+  pub found : WereFound (Shows old new) (data_at c.slot + c.offset) c.count c.got
 
 -- why the bytes of a key are not given
 abbrev pub IsCopyRefusal : Option PlaceMap → (ℕ → Why → List ℕ → Type 0) → DiskView → DiskView → List ℕ → List ℕ → Refusal → Type 0
 IsCopyRefusal known breaks old new key digest (Corrupt slot offset count want got) =
-    IsCorrupt known old new key digest slot offset count want got
+    IsCorrupt known old new key digest (record { slot = slot; offset = offset; count = count; want = want; got = got })
 IsCopyRefusal known breaks old new key digest refusal = IsLookupRefusal known breaks old new key refusal
 
 -- bytes of the right digest aren't what was named: as a node by their first wrong field, as a segment by their length

@@ -12,7 +12,7 @@ ghost use Rattle.store_model.specs.Image.{Store, names_of};
 ghost use Rattle.store_model.specs.Standing.{IsStoreOf};
 ghost use Rattle.store_state.specs.Refused.{blames};
 ghost use Rattle.read_steps.specs.Walking.{IsIndexed, SegmentsAhead};
-ghost use Rattle.read_steps.specs.Readers.{Opens, OpensFile, IsOpenRefusal, GivesNext, GivesHeld, IsReadRefusal, GivesUp, IsEndRefusal, reading};
+ghost use Rattle.read_steps.specs.Readers.{Opens, OpensFile, IsOpenRefusal, GivesNext, GivesHeld, GoesOn, IsReadRefusal, GivesUp, IsEndRefusal, reading};
 
 use crate::opening::begin_walk;
 use crate::walking::next_segment;
@@ -75,7 +75,7 @@ pub fn read_next<D: Disk, X: Index>(
         → part_of parts.old actor ≡ reading root ahead
         → IsIndexed counts held (X.places index.old (D.view disk.old).content) (D.view disk.old).content image
         → SegmentsAhead counts held image ahead segments
-        → GivesHeld counts held image actor parts.old parts.new ahead segments buf.new result }
+        → GivesHeld counts held image (GoesOn actor parts.old parts.new ahead) segments buf.new result }
     ensures refused { IfErr result (IsReadRefusal (X.places index.old (D.view disk.old).content) (X.breaks index.old)
         (D.view disk.old) (D.view disk.new) actor parts.old parts.new) }
     ensures map { X.places index.new (D.view disk.new).content ≡ X.places index.old (D.view disk.old).content }

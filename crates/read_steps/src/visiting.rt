@@ -1,15 +1,13 @@
 //! A visit of the first tree of a walk: a node is opened, and a segment passed unread.
-ghost use Rattle.std.specs.Prelude.{◌≡◌, ◌↔◌, ℕ, ◌<◌, ◌≤◌, List, [], ◌∷◌, length, Option, None, Some, Ok, IfOk, IfErr, IfSome, OnErr};
-ghost use Rattle.dd_disk.specs.Ending.{ending, Reads};
+ghost use Rattle.std.specs.Prelude.{◌≡◌, ◌↔◌, ℕ, ◌≤◌, List, [], ◌∷◌, length, Option, None, Ok, IfOk, IfErr, IfSome, OnErr};
+ghost use Rattle.dd_disk.specs.Ending.{ending};
 ghost use Rattle.disk_format.specs.declared.numbers.TheConstants.{MOST_SEGMENT as LONGEST};
-ghost use Rattle.disk_format.specs.declared.why.Why.{Why as Reason};
-ghost use Rattle.container_meta.specs.declared.place.Place.{Place as PlaceValue};
 ghost use Rattle.container_meta.specs.Spelling.{HeaderValue};
 ghost use Rattle.merkle_file.specs.Tree.{Tree};
 ghost use Rattle.store_model.specs.Collisions.{ByteSet};
 ghost use Rattle.store_state.specs.Refused.{blames};
-ghost use Rattle.read_steps.specs.Visiting.{IsHeldVisit, IsVisitRefusal, VisitsPlaced, steps_ahead};
-ghost use Rattle.read_steps.specs.Walking.{HeldAhead, IsIndexed};
+ghost use Rattle.read_steps.specs.Visiting.{IsHeldVisit, IsVisitRefusal, VisitsPlaced};
+ghost use Rattle.read_steps.specs.Walking.{AsksIndex, HeldAhead, IsIndexed};
 
 use crate::walking::{find_place, open_node};
 use container_meta::{Kind, Place, key_of};
@@ -36,7 +34,6 @@ pub fn visit<D: Disk, X: Index>(
     ensures end { (result ≡ Ok None) ↔ (cursor.old ≡ []) }
     ensures visits { IfOk result (λ got. IfSome got (VisitsPlaced (X.places index.old (D.view disk.old).content)
         (D.view disk.old) (D.view disk.new) cursor.old cursor.new)) }
-    ensures falls { (place : PlaceValue) → result ≡ Ok (Some place) → steps_ahead cursor.new < steps_ahead cursor.old }
     ensures kept { OnErr result (cursor.new ≡ cursor.old) }
     ensures refused { IfErr result (IsVisitRefusal (X.places index.old (D.view disk.old).content) (X.breaks index.old)
         (D.view disk.old) (D.view disk.new) cursor.old) }
@@ -45,10 +42,9 @@ pub fn visit<D: Disk, X: Index>(
         → IsIndexed counts held (X.places index.old (D.view disk.old).content) (D.view disk.old).content image
         → HeldAhead counts held image cursor.old ts → IsHeldVisit counts held image cursor.new result }
     ensures size { length buf.new ≡ length buf.old }
-    ensures map { X.places index.new (D.view disk.new).content ≡ X.places index.old (D.view disk.old).content }
-    ensures form { (at : ℕ) (why : Reason) (bytes : List ℕ) → X.breaks index.new at why bytes → X.breaks index.old at why bytes }
+    ensures asks { AsksIndex (X.places index.old (D.view disk.old).content) (X.places index.new (D.view disk.new).content)
+        (X.breaks index.old) (X.breaks index.new) (ending blames result) (D.view disk.old) (D.view disk.new) }
     ensures served { X.serves index.new (D.view disk.new).size }
-    ensures reads { Reads (ending blames result) (D.view disk.old) (D.view disk.new) }
 {
     match cursor.want() {
         Want::Node { digest, .. } => Ok(Some(open_node(disk, index, cursor, &digest, buf)?)),

@@ -16,7 +16,7 @@ ghost use Rattle.store_state.specs.Refused.{blames};
 ghost use Rattle.read_steps.specs.Walking.{IsPlaceOf, IsCopyAt, WasRead, IsLookupRefusal, IsCopyRefusal, IsNextRefusal, IsWalkRefusal};
 ghost use Rattle.read_steps.specs.Walking.{IsNodeNamed, IsLeafRead, Walked, leaf_top, level_ahead};
 ghost use Rattle.read_steps.specs.Visiting.{VisitsPlaced};
-ghost use Rattle.read_steps.specs.Walking.{IsAnswer, IsHeldAnswer, IsIndexed, SegmentsAhead};
+ghost use Rattle.read_steps.specs.Walking.{AsksIndex, IsAnswer, IsHeldAnswer, IsIndexed, SegmentsAhead};
 
 use container_meta::{Key, Kind, Place, key_of};
 use dd_disk::Disk;
@@ -108,10 +108,9 @@ pub(crate) fn open_node<D: Disk, X: Index>(
         (D.view disk.old) (D.view disk.new) cursor.old) }
     ensures refused { IfErr result (IsWalkRefusal (X.places index.old (D.view disk.old).content) (X.breaks index.old)
         (D.view disk.old) (D.view disk.new) cursor.old cursor.new) }
-    ensures map { X.places index.new (D.view disk.new).content ≡ X.places index.old (D.view disk.old).content }
-    ensures form { (at : ℕ) (why : Reason) (bytes : List ℕ) → X.breaks index.new at why bytes → X.breaks index.old at why bytes }
+    ensures asks { AsksIndex (X.places index.old (D.view disk.old).content) (X.places index.new (D.view disk.new).content)
+        (X.breaks index.old) (X.breaks index.new) (ending blames result) (D.view disk.old) (D.view disk.new) }
     ensures served { X.serves index.new (D.view disk.new).size }
-    ensures reads { Reads (ending blames result) (D.view disk.old) (D.view disk.new) }
 {
     let place = read_newest(disk, index, Kind::Tree, digest, buf)?;
     match cursor.feed(&buf[..place.length as usize]) {

@@ -13,6 +13,7 @@ use Rattle.journal_cells.specs.Faults as cells
 use Rattle.journal_cells.specs.Faults.{IsFormatBreak, IsJournalBreak, IsReadFault, IsCellFault}
 use Rattle.journal_cells.specs.Heads.{format_in}
 use Rattle.journal_cells.specs.Journal.{JournalValue, IsScanned, journal_in}
+use Rattle.refusals.specs.declared.refusal.Refusal.TheVariants as refusals
 use Rattle.refusals.specs.declared.refusal.Refusal.TheVariants.{Full, WrongSize}
 use Rattle.store_model.specs.Journal.{KnowsOther}
 use Rattle.store_model.specs.Image.{HasFormat}
@@ -84,23 +85,6 @@ own_last shown journal names last is = subst (IsScanned shown journal names) (sy
 
 module _ (old mid new : DiskView) (before : OnlyReads old mid) where
   -- the format cell was not read
-  pub format_refusal : LEAST_SIZE ≤ old.size → (f : CellFault) → IsReadFault IsFormatBreak (λ f. Shows mid new (λ image. format_in (range 0 CELL_BYTES image) ≡ Err f)) f →
-      IsOpenRefusal (Shows old new) old.size (cell_refusal f)
-  format_refusal least = by_fault
-    where
-      breaks : (f : CellFault) → IsFormatBreak f → Shows mid new (λ image. format_in (range 0 CELL_BYTES image) ≡ Err f) → BreaksFormat (Shows old new) old.size f
-      breaks f kind seen = record { least = least; kind = kind; shows = since old mid new before seen }
-
-      by_fault : (f : CellFault) → IsReadFault IsFormatBreak (λ f. Shows mid new (λ image. format_in (range 0 CELL_BYTES image) ≡ Err f)) f →
-          IsOpenRefusal (Shows old new) old.size (cell_refusal f)
-      by_fault cell.Memory is = tt
-      by_fault cell.DiskRead is = tt
-      by_fault cell.DiskWrite is = tt
-      by_fault (cell.Damaged at why) is = inl (breaks (cell.Damaged at why) is.0 is.1)
-      by_fault (cell.NotAStore gate magic) is = breaks (cell.NotAStore gate magic) is.0 is.1
-      by_fault (cell.Version n) is = inl (breaks (cell.Version n) is.0 is.1)
-      by_fault cell.Numbers is = absurd is
-
   pub format_alone : LEAST_SIZE ≤ old.size → (f : CellFault) → IsReadFault IsFormatBreak (λ f. Shows mid new (λ image. format_in (range 0 CELL_BYTES image) ≡ Err f)) f →
       IsFormatRefusal (Shows old new) old.size (cell_refusal f)
   format_alone least = by_fault
@@ -208,3 +192,13 @@ module _ (old mid new : DiskView) (before : OnlyReads old mid) where
         different = slots.different;
       }) (both old mid new (also old mid (also old mid sized.format scanned.holds) scanned.other) before slots.holds after.later);
     }
+
+-- each is why a disk was not opened
+pub open_refusal : (shown : (List ℕ → Type 0) → Type 0) (size : ℕ) (refusal : Refusal) → IsFormatRefusal shown size refusal → IsOpenRefusal shown size refusal
+open_refusal shown size refusals.DiskRead is = tt
+open_refusal shown size refusals.DiskWrite is = tt
+open_refusal shown size (refusals.WrongSize want got) is = is
+open_refusal shown size (refusals.NotAStore gate magic) is = is
+open_refusal shown size (refusals.Version n) is = inl is
+open_refusal shown size (refusals.Damaged at why) is = inl is
+open_refusal shown size refusal is = absurd is

@@ -75,7 +75,6 @@ fn count_slots<D: Disk>(disk: &mut D) -> Result<u32, Refusal>
         → Encodes image store → IsTrue (fails refusal))) }
     ensures durable { OnOk result (IsDurable (D.view disk.new)) }
     ensures reads { Reads (ending blames result) (D.view disk.old) (D.view disk.new) }
-    ensures refused { IfErr result (IsOpenRefusal (Shows (D.view disk.old) (D.view disk.new)) (D.view disk.old).size) }
     ensures format_refused { IfErr result (IsFormatRefusal (Shows (D.view disk.old) (D.view disk.new)) (D.view disk.old).size) }
     ensures not_full { IfErr result IsNotFull }
 {

@@ -16,6 +16,7 @@ use Rattle.store_core.proofs.Frames.{first_with}
 use Rattle.store_core.proofs.KeyFates.{IsWritten, KeepsKeys, tells}
 use Rattle.store_core.proofs.RecordedSums.{stood_low}
 use Rattle.store_core.proofs.SafeSteps.{one_map_at}
+use Rattle.gc_sweep.specs.Copying.{copy_step}
 
 -- The index has the key's copy in a container that was there when the collection began, and whose id is one of these.
 pub record IsFromSource (index : PlaceMap) (held : List (Option HeaderValue)) (snapshot : ℕ) (sources : List ℕ) (key : List ℕ) : Type 0 where
@@ -133,7 +134,7 @@ module _ (among : ByteSet) (s : Store) (stored : Stored) (old new : CoreState) (
 
     -- a source was copied
     module _ (source entry : ℕ) (next_is : b.sweep.next ≡ Copy source entry) (holds : HoldsAt SweepStage index s.held image b)
-        (copies : CopiesSource old.tables.held b.live (Some index) new.known old.disk new.disk source entry b.sweep a.sweep) where
+        (copies : CopiesSource (copy_step old.tables.held b.live (Some index) source entry b.sweep) new.known old.disk new.disk a.sweep) where
       leaves : LeavesHeld index s.held image b.live b.snapshot new.known a.sweep
       leaves =
           copied_leaves old.tables.held index s.held image b.live b.snapshot source entry b.sweep a.sweep new.known old.disk new.disk core.shows.slots_hold

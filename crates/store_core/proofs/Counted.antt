@@ -1,12 +1,12 @@
 -- What a collection counts: the containers that it gave back, and the segments that it copied.
 use Rattle.store_core.proofs.Prelude.{◌≡◌, inl, inr, ℕ, ◌+◌, List, [], ◌∷◌, ◌++◌, length, Option, Some, None, sym, ◌∙◌, ap, subst, arith, Kind, PlaceMap, Plan, DiskView, LiveKeys, Flush, Release, End, CopiesSource, TakesBy, slot_in_turn, Collection, Stage, Filter, Mark, Select, SweepStage, IsToChoose, Keeps, StepsTo, Refusal, StoreChange, SealContainer, ChangeName, FlushContainer, FreeContainer, SlotTable, at_moment, copied_in, freed_in, CoreState}
 use Rattle.container_meta.specs.Segments.{Contents}
-use Rattle.copy_forward.specs.Copying.{PlansSource}
+use Rattle.copy_forward.specs.Copying.{PlansSource, copy_task}
 use Rattle.gc_sweep.specs.declared.sweep.Next.{Next}
 use Rattle.gc_sweep.specs.declared.sweep.Next.TheVariants.{Copy}
 use Rattle.gc_sweep.specs.declared.sweep.Sweep.{Sweep}
 use Rattle.gc_sweep.specs.Beginning.{Begins}
-use Rattle.gc_sweep.specs.Copying.{IsFilling}
+use Rattle.gc_sweep.specs.Copying.{IsFilling, copy_step}
 use Rattle.refusals.specs.declared.refusal.Refusal.TheVariants as refusals
 
 -- ---- what changes count
@@ -69,10 +69,10 @@ filled_many buffer filling kind (inl (none, is)) = ap (λ (c : Contents). length
 filled_many buffer filling kind (inr (some, is)) = ap (λ (c : Contents). length c.segments) is
 
 counts_copied : (t : SlotTable) (live : LiveKeys) (known after_known : Option PlaceMap) (old new : DiskView) (source entry : ℕ) (before after : Sweep)
-    → CopiesSource t live known after_known old new source entry before after → CountsOn [] before after
+    → CopiesSource (copy_step t live known source entry before) after_known old new after → CountsOn [] before after
 counts_copied t live known after_known old new source entry before after copies = by_found copies.found copies.plans copies.takes
   where
-    by_found : (found : Option Plan) → PlansSource t known live copies.slot entry copies.filling old new found → TakesBy t copies.slot source found before after
+    by_found : (found : Option Plan) → PlansSource (copy_task t known live copies.slot entry copies.filling) old new found → TakesBy t copies.slot source found before after
         → CountsOn [] before after
     by_found None plans takes = record { freed_on = omega (arith, copies.others.freed_is); copied_on = omega (arith, takes.3, ap (λ (c : Contents). length c.segments) takes.0) }
     by_found (Some plan) plans takes = record {

@@ -10,7 +10,7 @@ use Rattle.copy_forward.specs.Entries.{is_copy, without_keys}
 use Rattle.copy_forward.specs.Planning.{HasLiveKey, IsLiveIn, IsPlan, Takes, TakesOne}
 use Rattle.gc_sweep.specs.declared.sweep.Next.{Next}
 use Rattle.gc_sweep.specs.declared.sweep.Next.TheVariants.{Copy}
-use Rattle.gc_sweep.specs.Copying.{EndsBy}
+use Rattle.gc_sweep.specs.Copying.{EndsBy, copy_step}
 use Rattle.gc_sweep.specs.Next.{IsNext}
 use Rattle.gc_sweep.specs.declared.sweep.Sweep.{Sweep}
 use Rattle.gc_sweep.specs.UnderWay.{entry_in}
@@ -115,7 +115,7 @@ next_place t sources buffer source entry s many below some End is = (omega (arit
 module _ (among : ByteSet) (s : Store) (stored : Stored) (old new : CoreState) (at : IsAt (IsIn among) s stored old) (b a : Collection) (ran : old.collection ≡ Some b)
     (runs : new.collection ≡ Some a)
     (stage_is : b.stage ≡ SweepStage) (source entry : ℕ) (next_is : b.sweep.next ≡ Copy source entry)
-    (copied : CopiesSource old.tables.held b.live old.known new.known old.disk new.disk source entry b.sweep a.sweep) where
+    (copied : CopiesSource (copy_step old.tables.held b.live old.known source entry b.sweep) new.known old.disk new.disk a.sweep) where
   abbrev index : PlaceMap
   index = at.index
 
@@ -136,8 +136,8 @@ module _ (among : ByteSet) (s : Store) (stored : Stored) (old new : CoreState) (
       subst (λ (st : Stage). HoldsAt st index s.held image b) stage_is
       (held_at index s old.parts image b (subst (IsSafeIn index s old.parts image) ran (at.safe image told)))
 
-  abbrev copies : CopiesSource old.tables.held b.live (Some index) new.known old.disk new.disk source entry b.sweep a.sweep
-  copies = subst (λ (k : Option PlaceMap). CopiesSource old.tables.held b.live k new.known old.disk new.disk source entry b.sweep a.sweep) at.index_known copied
+  abbrev copies : CopiesSource (copy_step old.tables.held b.live (Some index) source entry b.sweep) new.known old.disk new.disk a.sweep
+  copies = subst (λ (k : Option PlaceMap). CopiesSource (copy_step old.tables.held b.live k source entry b.sweep) new.known old.disk new.disk a.sweep) at.index_known copied
 
   abbrev h : HeaderValue
   h = copies.plans.header

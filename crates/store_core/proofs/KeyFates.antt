@@ -22,6 +22,7 @@ use Rattle.store_core.proofs.CopiesOnce.{keys_then}
 use Rattle.store_core.proofs.FinishedStores.{Sweeps, stands_on, still_there}
 use Rattle.store_core.proofs.SafeSteps.{one_map_at}
 use Rattle.store_core.proofs.SparedRest.{same_some}
+use Rattle.gc_sweep.specs.Copying.{copy_step}
 
 -- ---- keys
 
@@ -187,7 +188,7 @@ module _ (among : ByteSet) (s : Store) (stored : Stored) (old new : CoreState) (
 
     -- a source was copied
     module _ (source entry : ℕ) (next_is : b.sweep.next ≡ Copy source entry) (holds : HoldsAt SweepStage index s.held image b)
-        (copies : CopiesSource old.tables.held b.live (Some index) new.known old.disk new.disk source entry b.sweep a.sweep) (store_is : t ≡ s) where
+        (copies : CopiesSource (copy_step old.tables.held b.live (Some index) source entry b.sweep) new.known old.disk new.disk a.sweep) (store_is : t ≡ s) where
       leaves : LeavesHeld index s.held image b.live b.snapshot new.known a.sweep
       leaves =
           copied_leaves old.tables.held index s.held image b.live b.snapshot source entry b.sweep a.sweep new.known old.disk new.disk core.shows.slots_hold

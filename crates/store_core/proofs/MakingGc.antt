@@ -2,7 +2,7 @@
 use Rattle.store_core.proofs.Prelude.{◌≡◌, inl, inr, ℕ, List, [], ◌∷◌, Option, Some, None, Result, Ok, Err, refl, sym, ◌∙◌, subst, Done, ending, ending_of, Shows, DiskView, later_here, reads_here, PlaceMap, Entry, Planned, Source, planned, source_of, Answer, Phase, Refusal, LiveKeys, Flush, Release, End, Collection, Stage, Filter, Mark, Select, Did, IsStepRefusal, Moment, StepsTo, TablesAfter, Touches, answer_at, phase_at, Nears, steps_to_come, HasRoom, IsUnderWay, blames, Tables, SlotTable, GcRow, IsNotMade, TouchesBy, at_moment, Made, CoreState, IsUnderWayIn, Stop}
 use Rattle.std.specs.Prelude.{drop}
 use Rattle.container_meta.specs.Segments.{Contents}
-use Rattle.copy_forward.specs.Copying.{IsCopyRefusal}
+use Rattle.copy_forward.specs.Copying.{IsCopyRefusal, copy_task}
 use Rattle.copy_forward.specs.Planning.{IsStuck}
 use Rattle.actor_parts.specs.declared.step.Answer.TheVariants as answers
 use Rattle.actor_parts.specs.StepValue as asked
@@ -64,7 +64,7 @@ stuck_runs s shown (e ∷ es) before (inl one) = one.1.1
 stuck_runs s shown (e ∷ es) before (inr more) = stuck_runs s shown es more.0 more.1.1
 
 copy_runs : (t : SlotTable) (known : Option PlaceMap) (live : LiveKeys) (slot from : ℕ) (buffer : Contents) (old new : DiskView)
-    → IsCopyRefusal t known live slot from buffer old new refusals.NotCollecting → ⊥
+    → IsCopyRefusal (copy_task t known live slot from buffer) old new refusals.NotCollecting → ⊥
 copy_runs t known live slot from buffer old new (inl (inl header)) = header
 copy_runs t known live slot from buffer old new (inl (inr (h, tabled, shown, kind, within, stuck))) = stuck_runs (source_of known live slot h.kind) (Shows old new)
     (drop from h.entries) (planned buffer []) stuck

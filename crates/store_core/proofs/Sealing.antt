@@ -12,7 +12,7 @@ use Rattle.store_model.proofs.IndexSize.{index_sealed}
 use Rattle.store_model.proofs.Valid.{valid_sealed}
 use Rattle.store_state.specs.Settled as settled
 use Rattle.ingest_steps.specs.Sealing.{HasSealed, HasPlacesOf, SealsCompared, KeepsMap, places_with}
-use Rattle.ingest_steps.specs.SealStep.{IsSealedFor, KeepsSealed}
+use Rattle.ingest_steps.specs.SealStep.{IsSealedFor, KeepsSealed, store_moment}
 use Rattle.store_core.specs.Core.{Makes, IsUnsealed}
 
 pub one_map : (a b : PlaceMap) → Some a ≡ Some b → a ≡ b
@@ -103,10 +103,10 @@ kept_map refusal old new tables map = record { tables_are = tables; index_is = m
 
 pub made_seal : (filled : Contents) (actor id slot : ℕ) (bytes : List ℕ) (old new : CoreState) (before after : Option (List ℕ) → Option PlaceMap) (m : PlaceMap)
     → old.known ≡ Some m
-    → (sealed : IsSealedFor old.tables old.disk old.known old.parts actor filled new.tables new.disk before after new.parts id)
+    → (sealed : IsSealedFor (store_moment old.disk old.known old.tables old.parts) (store_moment new.disk new.known new.tables new.parts) actor filled before after id)
     → new.known ≡ places_with filled sealed.slot (Some m)
     → settled.Steps old.tables.slots Done old.disk new.disk → SealsCompared old.tables old.known (next_id old) filled Done old.disk new.disk
-    → KeepsSealed old.disk new.disk old.known new.known old.tables old.parts actor filled new.parts id → (old.served → new.served)
+    → KeepsSealed (store_moment old.disk old.known old.tables old.parts) (store_moment new.disk new.known new.tables new.parts) actor filled id → (old.served → new.served)
     → Made (asked.Seal filled) actor (Ok (answers.Sealed id)) bytes old new
 made_seal filled actor id slot bytes old new before after m known sealed index steps moves kept served = record {
   row = record { may = sealed.may; compared = sealed.compared; id_is = sealed.sealed.number; last_is = sealed.sealed.last_is; parts_are = sealed.parts_are; kept = kept };

@@ -44,7 +44,7 @@ use Rattle.ingest_steps.specs.declared.claiming.Claimed.TheVariants.{Held, Absen
 use Rattle.ingest_steps.specs.Claiming.{IsClaimed, IsClaimRefusal, DiffersFrom, KeepsPart}
 use Rattle.ingest_steps.specs.Pinning.{MayKeep, with_pins}
 use Rattle.ingest_steps.specs.Sealing.{IsCompared, SealsCompared, WasCompared}
-use Rattle.ingest_steps.specs.SealStep.{IsStepRefusal, KeepsSealed}
+use Rattle.ingest_steps.specs.SealStep.{IsStepRefusal, KeepsSealed, store_moment}
 use Rattle.ingest_steps.specs.Writers.{MayCommit, IsWrongPart, IsCommitRefusal}
 use Rattle.read_steps.specs.Counting.{counts_of}
 use Rattle.read_steps.specs.Readers as readers
@@ -96,7 +96,8 @@ pub record IsSealed (filled : Contents) (id actor : ℕ) (old new : CoreState) :
   -- it is the greatest that was given out
   pub last_is : new.tables.held.last_id ≡ id
   pub parts_are : Gets (Writing (with_pins filled.kind filled.segments may.pins)) actor old new
-  pub kept : KeepsSealed old.disk new.disk old.known new.known old.tables old.parts actor filled new.parts id
+  pub kept : KeepsSealed (store_moment old.disk old.known old.tables old.parts)
+      (store_moment new.disk new.known new.tables new.parts) actor filled id
 
 abbrev pub IsUnsealed : Contents → ℕ → Refusal → CoreState → CoreState → Type 0
 IsUnsealed filled actor refusal old new =
@@ -117,7 +118,7 @@ GivesHeld answer buf actor old new =
     (root : Root) (ahead : List Top) (counts : ByteSet) (held : List (Option HeaderValue)) (image : List ℕ) (segments : List (List ℕ))
     → part_of old.parts actor ≡ readers.reading root ahead → IsIndexed counts held old.known old.disk.content image
     → SegmentsAhead counts held image ahead segments
-    → readers.GivesHeld counts held image actor old.parts new.parts ahead segments buf answer
+    → readers.GivesHeld counts held image (readers.GoesOn actor old.parts new.parts ahead) segments buf answer
 
 -- The next segment of the file, or its end: on any disk as reads showed, and of a tree that is held.
 pub record IsGiven (answer : Option ℕ) (buf : List ℕ) (actor : ℕ) (old new : CoreState) : Type 0 where

@@ -5,7 +5,7 @@ use Rattle.disk_format.specs.Layout.{slot_at}
 use Rattle.segment_index.specs.Changes.{Changes}
 use Rattle.store_state.specs.Refused.{blames}
 use Rattle.store_state.proofs.Changed.{size_on}
-use Rattle.copy_forward.specs.Copying.{PlansSource}
+use Rattle.copy_forward.specs.Copying.{PlansSource, copy_task}
 use Rattle.copy_forward.proofs.Sourced.{changes_after, plans_until}
 use Rattle.copy_forward.proofs.copying.copy_entries.Goals as goal
 
@@ -27,7 +27,7 @@ returns-clause-ok g c =
     let reads = c.in_ok-plan.ensures.reads.only in
     let slots = c.requires.slots in
     let changed = c.in_ok-remove_keys.ensures.changes slots.slots (size_on old mid slots.slots reads.later slots.size_is) in
-    subst (PlansSource c.args.held.now (g.X.Index.places c.args.index.now old.content) c.args.live.now c.args.slot c.args.from c.args.buffer.now old new) c.in-Some.is
+    subst (PlansSource (copy_task c.args.held.now (g.X.Index.places c.args.index.now old.content) c.args.live.now c.args.slot c.args.from c.args.buffer.now) old new) c.in-Some.is
     (plans_until c.args.held.now (g.X.Index.places c.args.index.now old.content) c.args.live.now c.args.slot c.args.from c.args.buffer.now old mid new c.in_ok-plan.field-0 reads
     changed.later c.in_ok-plan.ensures.ok)
 

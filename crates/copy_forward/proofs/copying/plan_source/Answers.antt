@@ -1,7 +1,7 @@
 use Rattle.std.proofs.Common.{◌≡◌, ◌≤◌, ap, length, rules}
 use Rattle.base_model.proofs.Outcome.{passed_on}
 use Rattle.container_meta.specs.Spelling.{view}
-use Rattle.copy_forward.specs.Copying.{IsSourceRefusal}
+use Rattle.copy_forward.specs.Copying.{IsSourceRefusal, copy_task}
 use Rattle.copy_forward.proofs.Sourced.{plans_after, unplanned_after}
 use Rattle.copy_forward.proofs.copying.plan_source.Goals as goal
 
@@ -18,7 +18,7 @@ returns-in_err-plan-clause-refused g c =
     let kind : meta.kind ≡ c.args.buffer.now.kind = search rules in
     let few : c.args.from ≤ length meta.entries.items = search rules in
     passed_on c.from_residual-in_err-plan.result
-    (IsSourceRefusal c.args.held.now (places old.content) c.args.live.now c.args.slot c.args.from c.args.buffer.now old new) e c.from_residual-in_err-plan.ensures.1
+    (IsSourceRefusal (copy_task c.args.held.now (places old.content) c.args.live.now c.args.slot c.args.from c.args.buffer.now) old new) e c.from_residual-in_err-plan.ensures.1
     (unplanned_after c.args.held.now (places old.content) (places mid.content) c.args.live.now c.args.slot c.args.from (view meta) c.args.buffer.now old mid new
     (ap places reads.content_is) c.in_ok-meta.ensures.shown reads
     c.in_err-plan.ensures.reads.only.later e c.in_ok-meta.ensures.tabled kind few c.in_err-plan.ensures.refused)

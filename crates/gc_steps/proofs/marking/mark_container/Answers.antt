@@ -1,5 +1,5 @@
-use Rattle.gc_steps.proofs.Prelude.{inr, Err, ap, arith, view, until, Collection, Stage, columns, few_slots, slot_fits, Mark}
-use Rattle.gc_steps.proofs.Scans.{entries_since, some_since, fault_since, keeps_marks}
+use Rattle.gc_steps.proofs.Prelude.{inr, ap, arith, view, until, Collection, Stage, columns, few_slots, slot_fits, Mark}
+use Rattle.gc_steps.proofs.Scans.{entries_since, fault_since, keeps_marks, kept_since}
 use Rattle.gc_steps.proofs.UnderWay.{at_stage, marked}
 use Rattle.gc_steps.proofs.marking.mark_container.Goals as goal
 
@@ -65,10 +65,9 @@ returns-clause-kept g c =
     let reads = c.in_ok-meta.ensures.reads.only in
     keeps_marks
     (places old.content) old new c.args.level c.args.slot c.args.collection.now c.scan_lent.new.live c.in-Err.fault c.refusal_of.result header c.in_ok-meta.ensures.right
-    (until old mid new c.in_ok-meta.ensures.shown reads.later.clock_is c.in-Err.ensures.only.later) c.refusal_of.ensures c.in-Err.ensures.kept
-    (λ is. some_since (places old.content) (places mid.content) old mid new reads
-    (ap places reads.content_is) c.args.slot c.args.level header c.args.collection.now.live c.scan_lent.new.live
-    (c.in-Err.ensures.some (ap Err is)))
+    (until old mid new c.in_ok-meta.ensures.shown reads.later.clock_is c.in-Err.ensures.only.later) c.refusal_of.ensures
+    (kept_since (places old.content) (places mid.content) old mid new reads
+    (ap places reads.content_is) c.args.slot c.args.level header c.args.collection.now.live c.scan_lent.new.live c.in-Err.fault c.in-Err.ensures.kept)
 
 pub returns-clause-refused : goal.returns-clause-refused
 returns-clause-refused g c =

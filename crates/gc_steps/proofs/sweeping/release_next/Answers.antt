@@ -19,7 +19,7 @@ returns-clause-step g c =
     record {
       made = release_made c.args.tables.now c.release_source.new.tables (places old.content)
           (places new.content) old new now c.release_source.new.sweep c.args.source c.args.entry c.requires.stage c.requires.under_way c.requires.next
-          did.disk.later.size_is did.tables did.sweep did.durable
+          did.disk.later.size_is did.ok.freed did.ok.released did.ok.durable
           (λ given content. map_kept places (g.X.Index.owned_from index) (g.met.X.Index.places_stay index) (g.X.Index.serves index)
           (g.met.X.Index.owns_no_slot index) c.requires.runs.0 c.args.tables.now (slot_in_turn now.sweep)
           old new c.requires.runs.1 (slot_within c.args.source c.args.entry now.snapshot c.args.tables.now now.sweep c.requires.next sweeping) c.requires.serves given content
@@ -34,6 +34,6 @@ returns-clause-under_way g c =
     let now = c.args.collection.now in
     let alone = runs_alone (view c.args.disk.now).size c.requires.runs.0 c.args.tables.now c.requires.runs.1 in
     swept_on (view c.args.disk.now).size None c.args.tables.now.held c.release_source.new.tables now (swept now c.release_source.new.sweep)
-    (did.tables.runs (view c.args.disk.now).size None (λ index is. absurd cc) alone)
-    (omega (arith, did.tables.last_stays)) c.requires.under_way c.requires.stage refl did.sweep.sources_are
+    (did.ok.freed.runs (view c.args.disk.now).size None (λ index is. absurd cc) alone)
+    (omega (arith, did.ok.freed.last_stays)) c.requires.under_way c.requires.stage refl did.ok.released.sources_are
     (did.under_way now.snapshot (at_stage c.args.tables.now.held now Sweep c.requires.under_way c.requires.stage))

@@ -5,6 +5,7 @@ use Rattle.gc_sweep.proofs.CopyKeeps.{copies_on, here}
 use Rattle.gc_sweep.proofs.Copied.{copied_fits, is_source, step_refused}
 use Rattle.gc_sweep.proofs.OnDisk.{columns, few_slots, slot_fits}
 use Rattle.gc_sweep.proofs.copying.copy_source.Goals as goal
+use Rattle.gc_sweep.specs.Copying.{copy_step}
 
 pub slot_of-slot-requires-clause-few : goal.slot_of-slot-requires-clause-few
 slot_of-slot-requires-clause-few g c = few_slots (g.D.Disk.view c.args.disk.now).size c.requires.runs.0 c.args.tables.now c.requires.runs.1
@@ -42,7 +43,8 @@ returns-in_err-found-clause-refused g c =
     let id_is =
     c.slot_of-slot.ensures.id ∙ c.index.ensures ∙ get_or_default_zero sweep.sources.items c.args.source c.index.result.now
     (here t c.requires.under_way.0 c.args.source c.args.entry sweep c.requires.under_way.1 c.requires.next).0 in
-    passed_on c.from_residual-in_err-found.result (IsCopyStepRefusal t c.args.live.now known old new c.args.source c.args.entry sweep) e c.from_residual-in_err-found.ensures.1
+    passed_on c.from_residual-in_err-found.result
+    (IsCopyStepRefusal (copy_step t c.args.live.now known c.args.source c.args.entry sweep) old new) e c.from_residual-in_err-found.ensures.1
     (step_refused t known c.args.live.now c.args.source c.slot_of-slot.result c.args.entry c.kind_of_slot-kind.result sweep old new e
     (is_source t c.args.source sweep c.slot_of-slot.result c.kind_of_slot-kind.result c.slot_of-slot.ensures.within id_is
     (sym c.kind_of_slot-kind.ensures)) c.in_err-found.ensures.refused)

@@ -97,7 +97,7 @@ returns-in-Ok-clause-kept g c =
     let may = subst (λ (p : Part). MayKeep p c.args.filled.now) c.part.ensures.part c.in_ok-may_keep.ensures.may in
     keeps_sealed old (view c.seal_compared.new.disk) (g.X.Index.places c.args.index.now old.content)
     (g.X.Index.places c.seal_compared.new.index
-    (view c.seal_compared.new.disk).content) c.in_ok-slot.slot c.args.tables.now c.args.parts.now c.pin_for.new.parts c.args.actor c.args.filled.now
+    (view c.seal_compared.new.disk).content) c.in_ok-slot.slot c.args.tables.now c.seal_compared.new.tables c.args.parts.now c.pin_for.new.parts c.args.actor c.args.filled.now
     c.in-Ok.id c.in-Ok.ensures.ok.0.number c.part.ensures.there c.requires.step may (c.in_ok-hads.ensures.ok may.pins may.writing) c.in-Ok.ensures.moves
     (λ before m content is. c.in-Ok.ensures.map.told before content m is)
 

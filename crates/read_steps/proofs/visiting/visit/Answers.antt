@@ -1,8 +1,8 @@
 use Rattle.std.proofs.Common.{List, ℕ, sym, subst}
 use Rattle.base_model.proofs.Outcome.{passed_on}
-use Rattle.read_steps.specs.Visiting.{HasPlace, IsVisitRefusal}
-use Rattle.read_steps.specs.Walking.{IsPlaceOf, IsLookupRefusal, WasRead}
-use Rattle.read_steps.proofs.Visits.{leaf_visited, leaf_not_found, node_not_opened, visit_falls, held_after, held_unread}
+use Rattle.read_steps.specs.Visiting.{IsVisitRefusal}
+use Rattle.read_steps.specs.Walking.{IsPlaceOf, IsLookupRefusal}
+use Rattle.read_steps.proofs.Visits.{leaf_visited, leaf_not_found, node_not_opened, held_after, held_unread}
 use Rattle.read_steps.proofs.visiting.visit.Goals as goal
 
 -- ---- a node
@@ -28,13 +28,6 @@ returns-in_err-open_node-in-Node-clause-held g c = λ counts held image ts index
     held_unread counts held known old new image indexed breaks c.args.cursor.now c.open_node.new.cursor ts e c.from_residual.result c.from_residual.ensures.1
     (node_not_opened known breaks old new c.args.cursor.now c.in-Node.digest c.in-Node.level c.in-Node.length (sym c.in-Node.ensures.wanted) e
     c.in_err-open_node-in-Node.ensures.cause) ahead
-
-pub returns-in_ok-open_node-in-Node-clause-falls : goal.returns-in_ok-open_node-in-Node-clause-falls
-returns-in_ok-open_node-in-Node-clause-falls g c = λ place is.
-    let old = g.D.Disk.view c.args.disk.now in
-    let visits = c.in_ok-open_node-in-Node.ensures.visits in
-    visit_falls (WasRead (g.X.Index.places c.args.index.now old.content) old (g.D.Disk.view c.open_node.new.disk)) (HasPlace (g.X.Index.places c.args.index.now old.content))
-    c.args.cursor.now c.open_node.new.cursor visits.0 visits.1.0
 
 pub returns-in_ok-open_node-in-Node-clause-held : goal.returns-in_ok-open_node-in-Node-clause-held
 returns-in_ok-open_node-in-Node-clause-held g c = λ counts held image ts indexed ahead.
@@ -76,17 +69,6 @@ returns-in_ok-place-in-Leaf-clause-visits g c =
     leaf_visited known old (g.D.Disk.view c.find_place.new.disk) c.args.cursor.now c.pass.new.self c.in-Leaf.digest c.in-Leaf.level c.in-Leaf.length place
     (sym c.in-Leaf.ensures.wanted) c.pass.ensures.rest
     (subst (λ (key : List ℕ). IsPlaceOf known key place) c.key_of.ensures c.in_ok-place-in-Leaf.ensures.found) c.in_ok-place-in-Leaf.ensures.place
-
-pub returns-in_ok-place-in-Leaf-clause-falls : goal.returns-in_ok-place-in-Leaf-clause-falls
-returns-in_ok-place-in-Leaf-clause-falls g c = λ place is.
-    let old = g.D.Disk.view c.args.disk.now in
-    let known = g.X.Index.places c.args.index.now old.content in
-    let new = g.D.Disk.view c.find_place.new.disk in
-    let here = c.in_ok-place-in-Leaf.place in
-    let visits = leaf_visited known old new c.args.cursor.now c.pass.new.self c.in-Leaf.digest c.in-Leaf.level c.in-Leaf.length here (sym c.in-Leaf.ensures.wanted)
-    c.pass.ensures.rest
-    (subst (λ (key : List ℕ). IsPlaceOf known key here) c.key_of.ensures c.in_ok-place-in-Leaf.ensures.found) c.in_ok-place-in-Leaf.ensures.place in
-    visit_falls (WasRead known old new) (HasPlace known) c.args.cursor.now c.pass.new.self visits.0 visits.1.0
 
 pub returns-in_ok-place-in-Leaf-clause-held : goal.returns-in_ok-place-in-Leaf-clause-held
 returns-in_ok-place-in-Leaf-clause-held g c = λ counts held image ts indexed ahead.

@@ -1,6 +1,6 @@
-use Rattle.recovery.proofs.Prelude.{◌∙◌, sym, subst, passed_on, ending_of, Shows, always, weaker, since, blames, IsOpenRefusal, IsFormatRefusal}
+use Rattle.recovery.proofs.Prelude.{◌∙◌, sym, subst, passed_on, ending_of, Shows, always, weaker, since, blames, IsFormatRefusal}
 use Rattle.dd_disk.proofs.Ended.{reads_on}
-use Rattle.recovery.proofs.Steps.{begin_fails, is_large, cell_fails, cell_reads, format_refusal, format_alone}
+use Rattle.recovery.proofs.Steps.{begin_fails, is_large, cell_fails, cell_reads, format_alone}
 use Rattle.recovery.proofs.Opens.{cell_not_full}
 use Rattle.recovery.proofs.opening.count_slots.Goals as goal
 
@@ -21,12 +21,6 @@ pub returns-in-Err-clause-reads : goal.returns-in-Err-clause-reads
 returns-in-Err-clause-reads g c =
     reads_on (ending_of (blames c.refused_by.result)) _ _ _ c.in_ok-begin.ensures.reads
     (cell_reads c.in-Err.fault c.refused_by.result _ _ c.refused_by.ensures c.in-Err.ensures.reads)
-
-pub returns-in-Err-clause-refused : goal.returns-in-Err-clause-refused
-returns-in-Err-clause-refused g c =
-    let view = g.D.Disk.view in
-    subst (IsOpenRefusal (Shows (view c.args.disk.now) (view c.slots_of.new.disk)) (view c.args.disk.now).size) (sym c.refused_by.ensures)
-    (format_refusal _ _ _ c.in_ok-begin.ensures.reads.only c.in_ok-begin.ensures.least c.in-Err.fault c.in-Err.ensures.cause)
 
 pub returns-in-Err-clause-not_full : goal.returns-in-Err-clause-not_full
 returns-in-Err-clause-not_full g c = cell_not_full c.in-Err.fault c.refused_by.result c.refused_by.ensures

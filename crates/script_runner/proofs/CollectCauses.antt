@@ -6,7 +6,7 @@ use Rattle.gc_steps.specs.Stepping.{answer_at, phase_at}
 use Rattle.gc_steps.specs.declared.collection.Stage.TheVariants.{Sweep}
 use Rattle.gc_steps.specs.declared.phase.StepDone.TheVariants.{Did}
 use Rattle.refusals.specs.declared.refusal.Refusal.TheVariants as refusals
-use Rattle.store_core.specs.Sound.{IsHarmless}
+use Rattle.store_core.proofs.Damage.{IsHarmless}
 use Rattle.script_runner.proofs.CopyRefused.{IsCopyCause, copying_cause}
 
 -- ---- refusals

@@ -1,5 +1,5 @@
 -- What an actor has kept of a file is held and pinned still, once the answer to a turn is told.
-use Rattle.script_runner.proofs.Prelude.{◌≡◌, ◌∙◌, ◌<◌, inl, inr, ℕ, List, length, Ok, refl, sym, ap, subst, arith, AllByRecursion, Kind, Contents, KindSegment, Segment, segment_key, ACTORS, Answer, PinMap, pin_of, StepValue, apart, with_pins, Due, due_in, open_of, kept, History, answered, IsOffered, SessionState, turn_node, one_of, Row, kept_by, CoreState, HoldsKept, item_is, kept_absent, kept_held, kept_sealed, of_kind, one_item, ◌≡◌, inl, inr, ◌∙◌, ◌<◌, ℕ, List, [], ◌∷◌, Ok, refl, sym, ap, subst, arith, pin_of, Claim, Seal, Nothing, due_in, open_of, History, answered, one_of, item_is, kept_absent, kept_held, kept_sealed, of_kind, one_item}
+use Rattle.script_runner.proofs.Prelude.{◌≡◌, ◌∙◌, ◌<◌, inl, inr, ℕ, List, length, Ok, refl, sym, ap, subst, arith, AllByRecursion, Kind, Contents, KindSegment, Segment, segment_key, ACTORS, Answer, PinMap, pin_of, StepValue, apart, with_pins, Due, due_in, open_of, kept, History, answered, IsOffered, SessionState, turn_node, one_of, Row, kept_by, CoreState, HoldsKept, item_is, kept_absent, kept_held, kept_sealed, of_kind, one_item, [], ◌∷◌, Claim, Seal, Nothing}
 use Rattle.std.specs.FinMap as finite
 use Rattle.actor_parts.specs.declared.part.Part as core_part
 use Rattle.actor_parts.specs.declared.part.Part.TheVariants as core_parts

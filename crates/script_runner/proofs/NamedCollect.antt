@@ -1,5 +1,5 @@
 -- Lines of a collection leave what is named, on any disk.
-use Rattle.script_runner.proofs.Prelude.{◌≡◌, inl, inr, ℕ, List, [], ◌∷◌, length, false, Option, Some, None, Result, Ok, Err, refl, sym, ◌∙◌, ap, subst, arith, Answer, DiskView, ScanFault, IsHeaderRefusal, step_refusal, IsStepRefusal, Moment, TablesAfter, Collection, Stage, Mark, Filter, Select, Next, Copy, Flush, Release, End, IsFlushStepRefusal, PlaceMap, Phase, Refusal, ReplyValue, Tables, SlotTable, GcRow, StartRow, at_moment, CoreStep, Steps, CoreState, Event, IsRunning, running_step, CollectionRun, Collects, RunnerState, Sweeps, Account, stops, ◌≡◌, inl, inr, ℕ, List, [], ◌∷◌, false, Option, Some, None, Result, Ok, Err, refl, sym, ◌∙◌, ap, subst, arith, TablesAfter, GcRow, at_moment, CoreStep, Steps, CoreState}
+use Rattle.script_runner.proofs.Prelude.{◌≡◌, inl, inr, ℕ, List, [], ◌∷◌, length, false, Option, Some, None, Result, Ok, Err, refl, sym, ◌∙◌, ap, subst, arith, Answer, DiskView, ScanFault, IsHeaderRefusal, step_refusal, IsStepRefusal, Moment, TablesAfter, Collection, Stage, Mark, Filter, Select, Next, Copy, Flush, Release, End, IsFlushStepRefusal, PlaceMap, Phase, Refusal, ReplyValue, Tables, SlotTable, GcRow, StartRow, at_moment, CoreStep, Steps, CoreState, Event, IsRunning, running_step, CollectionRun, Collects, RunnerState, Sweeps, Account, stops}
 use Rattle.actor_parts.specs.declared.part.Part as core_part
 use Rattle.actor_parts.specs.declared.step.Answer.TheVariants as answers
 use Rattle.actor_parts.specs.Parts.{part_of}

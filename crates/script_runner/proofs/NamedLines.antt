@@ -1,5 +1,5 @@
 -- Lines over a core that was opened give what is named, on any disk.
-use Rattle.script_runner.proofs.Prelude.{◌≡◌, ◌⊎◌, inl, inr, ◌∙◌, ◌≤◌, ℕ, Bool, true, false, List, [], ◌∷◌, Option, Some, None, Ok, refl, sym, ap, subst, AllByRecursion, Shows, DiskView, IsLater, later_here, later_on, NameMap, Refusal, LineValue, ReplyValue, Store, Encodes, names_of, Tables, IsShort, Stop, IsReadFrom, OpensCore, OpensNone, CoreState, Event, IsRunning, IsUp, UnlessStopped, running_step, up_of, new_runs, Replied, ActsOrNot, ActsReopen, BarsBy, IsOfActor, RefusesReopen, RunnerState, RunsLine, Account, doing_of, opened, stops, AreOfActors, RunsLines, Sessions, kind_in}
+use Rattle.script_runner.proofs.Prelude.{each_so, ◌≡◌, ◌⊎◌, inl, inr, ◌∙◌, ◌≤◌, ℕ, Bool, true, false, List, [], ◌∷◌, Option, Some, None, Ok, refl, sym, ap, subst, AllByRecursion, Shows, DiskView, IsLater, later_here, later_on, NameMap, Refusal, LineValue, ReplyValue, Store, Encodes, names_of, Tables, IsShort, Stop, IsReadFrom, OpensCore, OpensNone, CoreState, Event, IsRunning, IsUp, UnlessStopped, running_step, up_of, new_runs, Replied, ActsOrNot, ActsReopen, BarsBy, IsOfActor, RefusesReopen, RunnerState, RunsLine, Account, doing_of, opened, stops, AreOfActors, RunsLines, Sessions, kind_in}
 use Rattle.std.specs.FinMap as finite
 use Rattle.dd_disk.proofs.Shows.{until}
 use Rattle.actor_parts.specs.Parts.{part_of}
@@ -25,15 +25,11 @@ use Rattle.script_runner.proofs.NamedTaking.{count_names, drop_told, next_told, 
 
 -- ---- what was shown
 
-map_all : {A : Type 0} (P Q : A → Type 0) (xs : List A) → ((x : A) → P x → Q x) → AllByRecursion P xs → AllByRecursion Q xs
-map_all P Q [] each all = tt
-map_all P Q (x ∷ xs) each all = (each x all.0, map_all P Q xs each all.1)
-
 -- it was shown in a call of the run
 shown_in : (v old mid w : DiskView) (store : Store) → IsLater v old → old.clock ≤ mid.clock → IsLater mid w → Shows old mid (λ image. Encodes image store) → WasShown v w store
 shown_in v old mid w store before between after shown = record {
   parts = shown.parts;
-  returned = map_all (λ part. mid.read_returned old.clock part.at part.bytes) (λ part. w.read_returned v.clock part.at part.bytes) shown.parts
+  returned = each_so (λ part. mid.read_returned old.clock part.at part.bytes) (λ part. w.read_returned v.clock part.at part.bytes) shown.parts
       (λ part was. w.returned_earlier v.clock old.clock part.at part.bytes before.clock_is (after.returned old.clock part.at part.bytes between was)) shown.returned;
   shows = λ image sized has. shown.shows image (sized ∙ sym before.size_is) has;
 }
@@ -260,7 +256,7 @@ module _ (C : Type 0) (state : C → CoreState) (v : DiskView) where
   shown_on : (old new : DiskView) → IsLater v old → IsLater old new → (store : Store) → WasShown v old store → WasShown v new store
   shown_on old new before after store shown = record {
     parts = shown.parts;
-    returned = map_all (λ part. old.read_returned v.clock part.at part.bytes) (λ part. new.read_returned v.clock part.at part.bytes) shown.parts
+    returned = each_so (λ part. old.read_returned v.clock part.at part.bytes) (λ part. new.read_returned v.clock part.at part.bytes) shown.parts
         (λ part was. after.returned v.clock part.at part.bytes before.clock_is was) shown.returned;
     shows = shown.shows;
   }

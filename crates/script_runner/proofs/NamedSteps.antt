@@ -1,5 +1,5 @@
 -- What steps leave as it is, on any disk: the names, what other actors are at, and what a session was given.
-use Rattle.script_runner.proofs.Prelude.{◌≡◌, ◌≢◌, ◌⊎◌, inl, inr, ◌∙◌, ◌<◌, ℕ, Bool, true, false, List, [], ◌∷◌, ◌++◌, length, Option, Some, None, Result, Ok, Err, refl, sym, ap, subst, PlaceMap, Contents, KindSegment, Answer, PinMap, StepValue, apart, Refusal, Tables, Due, Claim, Seal, Nothing, due_in, open_of, History, HasHistory, SessionState, Stop, CoreStep, Effect, IsCount, Row, Steps, StepsOr, IsNoGcStep, CoreState, Event, IsRunning, IsUp, running_step, length_on, other_part, up_of, row_one, Asks, IsPaused, IsRefusedTurn, TurnRun, TurnsStopped, turns_stay, IsOfTurn, stops, ◌≡◌, ◌≢◌, ◌⊎◌, inl, inr, ◌∙◌, ◌<◌, ℕ, List, Some, None, refl, sym, ap, subst, KindSegment, PartKind, CoreState, Claim, Seal, History}
+use Rattle.script_runner.proofs.Prelude.{◌≡◌, ◌≢◌, ◌⊎◌, inl, inr, ◌∙◌, ◌<◌, ℕ, Bool, true, false, List, [], ◌∷◌, ◌++◌, length, Option, Some, None, Result, Ok, Err, refl, sym, ap, subst, PlaceMap, Contents, KindSegment, Answer, PinMap, StepValue, apart, Refusal, Tables, Due, Claim, Seal, Nothing, due_in, open_of, History, HasHistory, SessionState, Stop, CoreStep, Effect, IsCount, Row, Steps, StepsOr, IsNoGcStep, CoreState, Event, IsRunning, IsUp, running_step, length_on, other_part, up_of, row_one, Asks, IsPaused, IsRefusedTurn, TurnRun, TurnsStopped, turns_stay, IsOfTurn, stops, PartKind}
 use Rattle.actor_parts.specs.declared.part.Part.{Part}
 use Rattle.actor_parts.specs.declared.part.Part.TheVariants as core_parts
 use Rattle.actor_parts.specs.declared.step.Answer.TheVariants as answers

@@ -1,5 +1,5 @@
 -- Containers that steps of a collection left are byte for byte what they were, by what each step does to the content.
-use Rattle.backup_engine.proofs.Prelude.{◌≡◌, ◌⊎◌, ◌≢◌, inl, inr, ◌+◌, ◌<◌, ◌≤◌, ℕ, List, [], ◌∷◌, ◌++◌, Option, Some, None, Result, Ok, Err, refl, sym, ◌∙◌, ap, subst, arith, slice_get, AllByRecursion, range, HeaderValue, slot_at, SLOT_BYTES, Refusal, DiskWrite, ReplyValue, FreesTo, HasNoGate, with_freed, Encodes, Store, FileMachine, Lines, Replied, RunState, Running, Stepped, of_files, MayStand, store_once, first_free, there_before}
+use Rattle.backup_engine.proofs.Prelude.{both_so, ◌≡◌, ◌⊎◌, ◌≢◌, inl, inr, ◌+◌, ◌<◌, ◌≤◌, ℕ, List, [], ◌∷◌, ◌++◌, Option, Some, None, Result, Ok, Err, refl, sym, ◌∙◌, ap, subst, arith, slice_get, AllByRecursion, range, HeaderValue, slot_at, SLOT_BYTES, Refusal, DiskWrite, ReplyValue, FreesTo, HasNoGate, with_freed, Encodes, Store, FileMachine, Lines, Replied, RunState, Running, Stepped, of_files, MayStand, store_once, first_free, there_before}
 use Rattle.std.proofs.lemmas.Bool.{cases_lt}
 use Rattle.refusals.specs.declared.refusal.Phase.{Phase}
 use Rattle.refusals.specs.declared.refusal.Refusal.TheVariants as refusals
@@ -209,10 +209,6 @@ module _ (S : List ℕ → Type 0) where
 abbrev pub IsGcLine : Replied → Type 0
 IsGcLine one = (((percent : ℕ) × (one.line ≡ lines.Gc percent)) ⊎ (one.line ≡ lines.Sweep)) × (one.reply ≡ replies.Refused refusals.DiskWrite → ⊥)
 
-all_on : (xs ys : List (Stepped (List ℕ))) → AllByRecursion IsGc xs → AllByRecursion IsGc ys → AllByRecursion IsGc (xs ++ ys)
-all_on [] ys one other = other
-all_on (x ∷ xs) ys one other = (one.0, all_on xs ys one.1 other)
-
 did_gc : (made : List (Stepped (List ℕ))) → AreDid of_files made → AllByRecursion IsGc made
 did_gc [] did = tt
 did_gc (x ∷ xs) (is, (phase, answer), more) =
@@ -226,7 +222,7 @@ sweep_line : (reply : ReplyValue) (ss : List (Stepped (List ℕ))) (d e : FileDe
     → AllByRecursion IsGc ss
 sweep_line reply ss d e (run, inl (admits, (made, a, did, (told, is, reply_is), last, sessions))) whole =
     subst (AllByRecursion IsGc) (sym is)
-    (all_on made (step_of of_files a asked.GcStep told ∷ []) (did_gc made did) (inr (refl, (λ wrong. whole (reply_is ∙ ap (reply_of a) wrong))), tt))
+    (both_so IsGc made (step_of of_files a asked.GcStep told ∷ []) (did_gc made did) (inr (refl, (λ wrong. whole (reply_is ∙ ap (reply_of a) wrong))), tt))
 sweep_line reply ss d e (run, inr (refusal, bars, is, none, sessions)) whole = subst (AllByRecursion IsGc) (sym none) tt
 
 one_line : (line : LineValue) (reply : ReplyValue) (ss : List (Stepped (List ℕ))) (d e : FileDesk) → Line of_files line reply ss d e
@@ -238,7 +234,7 @@ pub all_gc : (rs : List Replied) (ss : List (Stepped (List ℕ))) (d e : FileDes
 all_gc [] ss d e ran all = subst (AllByRecursion IsGc) (sym ran.0) tt
 all_gc (one ∷ more) ss d e ran all =
     subst (AllByRecursion IsGc) (sym ran.3)
-    (all_on ran.0 ran.1 (one_line one.line one.reply ran.0 d ran.2 ran.4 all.0.0 all.0.1) (all_gc more ran.1 ran.2 e ran.5 all.1))
+    (both_so IsGc ran.0 ran.1 (one_line one.line one.reply ran.0 d ran.2 ran.4 all.0.0 all.0.1) (all_gc more ran.1 ran.2 e ran.5 all.1))
 
 -- ---- an opening
 

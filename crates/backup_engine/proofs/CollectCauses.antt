@@ -1,5 +1,5 @@
 -- Why a step of a collection is refused, of the whole call: by what reads returned since it began.
-use Rattle.backup_engine.proofs.Prelude.{◌≡◌, ◌≢◌, inl, inr, ◌+◌, ◌<◌, ◌≤◌, ℕ, zero, suc, List, [], ◌∷◌, ◌++◌, drop, get_or, length, Option, None, Some, refl, sym, ◌∙◌, subst, arith, Contains, AllByRecursion, Contains-append_right, Contains-get_or, range, Known, Entry, Kind, PlaceMap, HeaderValue, Reads, Shows, DiskView, IsLater, Both, shown_content, SourceView, SinkView, LAST_ID, size_of, slot_at, IsScanFault, HasMarkedAll, Moment, Touches, HasStage, Stage, Mark, Filter, Select, SweepStage, Flush, Release, End, of_each, Refusal, Memory, DiskRead, DiskWrite, Corrupt, Numbers, Damaged, Refused, SameBefore, WereFound, HoldsSlot, IsIndexOf, bytes_at, FindsNames, Holds, IsCaused, IsUnmarked, IsUnwritten, ShownSince, ShownThere, Collect}
+use Rattle.backup_engine.proofs.Prelude.{each_so, ◌≡◌, ◌≢◌, inl, inr, ◌+◌, ◌<◌, ◌≤◌, ℕ, zero, suc, List, [], ◌∷◌, ◌++◌, drop, get_or, length, Option, None, Some, refl, sym, ◌∙◌, subst, arith, Contains, AllByRecursion, Contains-append_right, Contains-get_or, range, Known, Entry, Kind, PlaceMap, HeaderValue, Reads, Shows, DiskView, IsLater, Both, shown_content, SourceView, SinkView, LAST_ID, size_of, slot_at, IsScanFault, HasMarkedAll, Moment, Touches, HasStage, Stage, Mark, Filter, Select, SweepStage, Flush, Release, End, of_each, Refusal, Memory, DiskRead, DiskWrite, Corrupt, Numbers, Damaged, Refused, SameBefore, WereFound, HoldsSlot, IsIndexOf, bytes_at, FindsNames, Holds, IsCaused, IsUnmarked, IsUnwritten, ShownSince, ShownThere, Collect}
 use Rattle.std.proofs.lemmas.List.Sums.{sum_by-append, sum_by-cons}
 use Rattle.container_meta.specs.Spelling.{header_size}
 use Rattle.container_meta.proofs.Again.{header_fits}
@@ -24,7 +24,6 @@ use Rattle.store_model.proofs.Copies.{data_within}
 use Rattle.backup_engine.proofs.CollectFaults.{fault_wider}
 use Rattle.backup_engine.proofs.CollectSteps.{IsMarking, both_from}
 use Rattle.backup_engine.proofs.OtherHeaders.{CameTo, copied_some, marked_some, other_header, recorded_some}
-use Rattle.backup_engine.proofs.SweptSlots.{all-more}
 
 -- ---- entries
 
@@ -73,7 +72,7 @@ module _ (percent : ℕ) (v w : DiskView) (source : SourceView) (sink : SinkView
   since : (P : List ℕ → Type 0) → Known w.content P → Shows old.disk new P → ShownSince v w P
   since P known shown = record {
     parts = shown.parts;
-    returned = all-more (λ (part : Part). new.read_returned old.disk.clock part.at part.bytes) (λ (part : Part). w.read_returned v.clock part.at part.bytes) shown.parts
+    returned = each_so (λ (part : Part). new.read_returned old.disk.clock part.at part.bytes) (λ (part : Part). w.read_returned v.clock part.at part.bytes) shown.parts
         (λ part was. last.only.later.returned v.clock part.at part.bytes (omega (arith, first.clock_is, step.clock_is))
         (new.returned_earlier v.clock old.disk.clock part.at part.bytes first.clock_is was)) shown.returned;
     known = known;

@@ -1,6 +1,6 @@
 -- What the steps of a collection leave of the bytes, whatever they are: all before the end of the slots, but the gates of containers that it
 -- gave back, and closed slots that it filled.
-use Rattle.backup_engine.proofs.Prelude.{◌≡◌, ℕ, List, [], ◌∷◌, Option, Some, Result, Ok, refl, sym, ◌∙◌, subst, AllByRecursion, Answer, PlaceMap, ending, CrashLeaves, DiskView, leaves_on, leaves_weaker, reads_here, size_of, Touches, Collection, Stage, Mark, Filter, Select, SweepStage, Flush, Release, End, slot_in_turn, Phase, Refusal, CollectionRun, Collects, Store, blames, TouchesBy, Steps, HadContainer, CoreState, MayFill, SameButSlotsOf}
+use Rattle.backup_engine.proofs.Prelude.{each_so, ◌≡◌, ℕ, List, [], ◌∷◌, Option, Some, Result, Ok, refl, sym, ◌∙◌, subst, AllByRecursion, Answer, PlaceMap, ending, CrashLeaves, DiskView, leaves_on, leaves_weaker, reads_here, size_of, Touches, Collection, Stage, Mark, Filter, Select, SweepStage, Flush, Release, End, slot_in_turn, Phase, Refusal, CollectionRun, Collects, Store, blames, TouchesBy, Steps, HadContainer, CoreState, MayFill, SameButSlotsOf}
 use Rattle.actor_parts.specs.declared.step.Answer.TheVariants as answers
 use Rattle.dd_disk.proofs.Later.{reads_leave}
 use Rattle.gc_sweep.specs.declared.sweep.Next.{Next}
@@ -9,7 +9,7 @@ use Rattle.store_core.specs.Collecting.{GcEffect}
 use Rattle.store_core.proofs.CoreRuns.{running_step}
 use Rattle.backup_engine.proofs.CollectSteps.{CollectedSoFar, free_so, gc_event, had_so, may_fill_so, one_more, valid_so}
 use Rattle.backup_engine.proofs.SweptBytes.{filled_with, freed_with, same_slots, stage_so}
-use Rattle.backup_engine.proofs.SweptSlots.{all-more, may_more}
+use Rattle.backup_engine.proofs.SweptSlots.{may_more}
 
 -- but the gates of some slots that had a container, and some slots that were closed, all before the end of the slots is as it was
 pub record IsBut (s : Store) (base c : List ℕ) : Type 0 where
@@ -57,7 +57,7 @@ module _ (s : Store) (index : PlaceMap) (v : DiskView) (sized : v.size ≡ size_
       freed = slot_in_turn collection.sweep ∷ so.freed;
       had = (had_so s index v sized C state old so source entry is next_is, so.slots.had);
       filled = so.filled;
-      may = all-more (MayFill s so.freed) (MayFill s (slot_in_turn collection.sweep ∷ so.freed)) so.filled (may_more s (slot_in_turn collection.sweep) so.freed) so.slots.may;
+      may = each_so (MayFill s so.freed) (MayFill s (slot_in_turn collection.sweep ∷ so.freed)) so.filled (may_more s (slot_in_turn collection.sweep) so.freed) so.slots.may;
       same = same;
     }
     but_so SweepStage End is next_is c same = record { freed = so.freed; had = so.slots.had; filled = so.filled; may = so.slots.may; same = same }

@@ -1,5 +1,5 @@
 -- The steps of a collection, one after the other, whatever the disk holds: what they changed of the store so far.
-use Rattle.backup_engine.proofs.Prelude.{◌≡◌, ◌≢◌, inl, inr, ◌+◌, ◌<◌, ◌≤◌, ℕ, List, [], ◌∷◌, ◌++◌, length, get_or, Option, Some, None, Result, Ok, refl, sym, ◌∙◌, ap, subst, arith, Contains, slice_get, AllByRecursion, Contains-append_right, Contains-get_or, Answer, PlaceMap, Segment, HeaderValue, header_of, DiskView, IsDurable, IsLater, OnlyReads, Both, later_here, later_on, size_of, slot_at, filter_at, Moment, StepsTo, Touches, phase_at, IsUnderWay, Collection, Stage, Mark, Filter, Select, SweepStage, Flush, Release, End, slot_in_turn, HasNext, Phase, Refusal, CollectionRun, Collects, with_freed, IsValidFor, Store, HasFree, first_free, last_id, FlushContainer, FreeContainer, StoreChange, with_sealed, some_same, first_closed, some_free, Changes, SameBefore, Represents, Runs, Tables, GoesOn, TouchesBy, at_moment, Steps, HadContainer, copied_in, freed_in, ChangesTo, CoreState, Event, IsRunning, step_runs, at_stage, FreesUpTo, written_in, MayFill, SameButSlotsOf}
+use Rattle.backup_engine.proofs.Prelude.{both_so, ◌≡◌, ◌≢◌, inl, inr, ◌+◌, ◌<◌, ◌≤◌, ℕ, List, [], ◌∷◌, ◌++◌, length, get_or, Option, Some, None, Result, Ok, refl, sym, ◌∙◌, ap, subst, arith, Contains, slice_get, AllByRecursion, Contains-append_right, Contains-get_or, Answer, PlaceMap, Segment, HeaderValue, header_of, DiskView, IsDurable, IsLater, OnlyReads, Both, later_here, later_on, size_of, slot_at, filter_at, Moment, StepsTo, Touches, phase_at, IsUnderWay, Collection, Stage, Mark, Filter, Select, SweepStage, Flush, Release, End, slot_in_turn, HasNext, Phase, Refusal, CollectionRun, Collects, with_freed, IsValidFor, Store, HasFree, first_free, last_id, FlushContainer, FreeContainer, StoreChange, with_sealed, some_same, first_closed, some_free, Changes, SameBefore, Represents, Runs, Tables, GoesOn, TouchesBy, at_moment, Steps, HadContainer, copied_in, freed_in, ChangesTo, CoreState, Event, IsRunning, step_runs, at_stage, FreesUpTo, written_in, MayFill, SameButSlotsOf}
 use Rattle.actor_parts.specs.declared.step.Answer.TheVariants as answers
 use Rattle.actor_parts.specs.StepValue as asked
 use Rattle.dd_disk.specs.Ending.{Ending}
@@ -27,7 +27,7 @@ use Rattle.backup_engine.proofs.FirstActor.{up_of}
 use Rattle.backup_engine.proofs.NewContainers.{new_few, new_in, new_with, new_without}
 use Rattle.backup_engine.proofs.Returned.{one_later}
 use Rattle.backup_engine.proofs.SweptBytes.{IsFramed, filled_with, freed_with, stage_so}
-use Rattle.backup_engine.proofs.SweptSlots.{SweptSlots, all-append, copied-append, freed-append, slots_filled, slots_freed, written-append}
+use Rattle.backup_engine.proofs.SweptSlots.{SweptSlots, copied-append, freed-append, slots_filled, slots_freed, written-append}
 
 -- a step that did something was not at the end
 no_end : (stage : Stage) (next : Next) (freed copied : ℕ) (phase : Phase) → answer_at stage next freed copied ≡ Did phase → phase_at stage next ≡ phase_at Sweep End → ⊥
@@ -431,7 +431,7 @@ module _ (s : Store) (index : PlaceMap) (v : DiskView) (sized : v.size ≡ size_
           stop_is = one_step.stops;
           running = step_runs (state old) (state new) e collects.1 so.running;
           changes = so.changes ++ changed.changes;
-          each = all-append IsOfCollection so.changes changed.changes so.each changed.each;
+          each = both_so IsOfCollection so.changes changed.changes so.each changed.each;
           after = changed.store_now;
           chain = chain_on so.changes changed.changes s so.after changed.store_now so.chain changed.chain;
           represents = changed.represents_now;

@@ -1,5 +1,5 @@
 -- How a file is given: it is opened, and its segments are read and written one after the other.
-use Rattle.backup_engine.proofs.Prelude.{◌≡◌, inr, ◌<◌, ◌+◌, ◌==◌, ℕ, Bool, true, false, List, [], ◌∷◌, ◌++◌, length, take, drop, Option, Some, Result, Ok, Err, refl, sym, ◌∙◌, ap, subst, arith, take-append-drop, AllByRecursion, concat, IsErrAnd, is_err, Rose, Appended, SinkView, AppendedPart, Sends, Answer, StepValue, Refusal, reading, WasRead, CoreStep, Steps, CoreRun, given_to, CoreState, Event, IsRunning, GivenSoFar, bytes_to_come, IsFresh, IsRead, IsGiven, EndsGiving, WroteGiven, WroteLast, GiveRun}
+use Rattle.backup_engine.proofs.Prelude.{both_so, ◌≡◌, inr, ◌<◌, ◌+◌, ◌==◌, ℕ, Bool, true, false, List, [], ◌∷◌, ◌++◌, length, take, drop, Option, Some, Result, Ok, Err, refl, sym, ◌∙◌, ap, subst, arith, take-append-drop, AllByRecursion, concat, IsErrAnd, is_err, Rose, Appended, SinkView, AppendedPart, Sends, Answer, StepValue, Refusal, reading, WasRead, CoreStep, Steps, CoreRun, given_to, CoreState, Event, IsRunning, GivenSoFar, bytes_to_come, IsFresh, IsRead, IsGiven, EndsGiving, WroteGiven, WroteLast, GiveRun}
 use Rattle.std.proofs.Common.{append_assoc, length-append}
 use Rattle.std.proofs.Math.Seq.{take-append-add}
 use Rattle.std.proofs.lemmas.List.{append-nil}
@@ -16,7 +16,6 @@ use Rattle.backup_engine.specs.Giving.{bytes_of_part}
 use Rattle.backup_engine.proofs.FirstActor.{as_first, by_first, steps_of, first_part, up_of}
 use Rattle.backup_engine.proofs.Kept.{by_error}
 use Rattle.backup_engine.proofs.SinkWrites.{part_sent, fault_counted, all_sent, no_fault}
-use Rattle.backup_engine.proofs.WayLists.{all_on}
 
 -- ---- steps, one after the other
 
@@ -129,7 +128,7 @@ module _ (C : Type 0) (state : C → CoreState) (name : List ℕ) (old : C) (sin
       opened = so_far.opened;
       reads = so_far.reads ++ read answer ∷ [];
       ran = run_on C state so_far.reads (read answer ∷ []) so_far.mid now new so_far.ran (new, (step, refl));
-      each = all_on IsRead so_far.reads (read answer ∷ []) so_far.each ((refl, refl), tt);
+      each = both_so IsRead so_far.reads (read answer ∷ []) so_far.each ((refl, refl), tt);
       ends = ends_giving so_far.reads (read answer) result so_far.given ends;
       wrote = wrote;
       wrote_last = last;
@@ -202,8 +201,8 @@ module _ (C : Type 0) (state : C → CoreState) (name : List ℕ) (old : C) (sin
             opened = so_far.opened;
             reads = so_far.reads ++ read (Ok (answers.Bytes count)) ∷ [];
             ran = run_on C state so_far.reads (read (Ok (answers.Bytes count)) ∷ []) so_far.mid now new so_far.ran (new, (step, refl));
-            each = all_on IsRead so_far.reads (read (Ok (answers.Bytes count)) ∷ []) so_far.each ((refl, refl), tt);
-            given = all_on (λ e. IsGiven e.answer) so_far.reads (read (Ok (answers.Bytes count)) ∷ []) so_far.given (tt, tt);
+            each = both_so IsRead so_far.reads (read (Ok (answers.Bytes count)) ∷ []) so_far.each ((refl, refl), tt);
+            given = both_so (λ e. IsGiven e.answer) so_far.reads (read (Ok (answers.Bytes count)) ∷ []) so_far.given (tt, tt);
             wrote = subst (λ (b : List ℕ). Appended sink.written sink_new.written b) (sym all_is)
                 (written_on sink.written sink_now.written sink_new.written bytes piece so_far.wrote wrote);
             faults_are = faults ∙ so_far.faults_are;

@@ -13,8 +13,7 @@ use Rattle.store_model.specs.Image.{names_of}
 use Rattle.read_steps.specs.Opening.{HasRoot}
 use Rattle.read_steps.specs.Readers.{IsReading}
 use Rattle.read_steps.specs.Walking.{IsCopyRefusal}
-use Rattle.store_core.specs.Runs.{ReadsAlone, IsReadNext, GivesByTree}
-use Rattle.store_core.proofs.CheckedReads.{reads_are_checked}
+use Rattle.store_core.proofs.CheckedReads.{GivesByTree, IsReadNext, ReadsAlone, reads_are_checked}
 use Rattle.store_core.proofs.OwnParts.{same_reader}
 use Rattle.backup_engine.specs.AnyDisk.{WroteSegments}
 use Rattle.backup_engine.proofs.Called.{Called}

@@ -1,5 +1,5 @@
 -- What steps kept of a file: its pieces, each pinned, and what two of one key are.
-use Rattle.backup_engine.proofs.Prelude.{◌≡◌, ◌≢◌, ℕ, ◌==◌, Bool, true, false, cond, List, [], ◌∷◌, ◌++◌, length, map, Option, Some, None, Result, Ok, refl, sym, ◌∙◌, ap, subst, arith, AllByRecursion, bytes_eq-Decides, sha256, Kind, PlaceMap, KindSegment, Segment, segment_key, node_digest, Answer, PinMap, has_pin, KeyPin, children_by, pin_of, StepValue, Refusal, Piece, Data, Node, HasPieceOf, IsPieceOf, piece_bytes, piece_key, piece_segment, key_of_seg, first_unpinned_of, with_pins, kept_by, kept_of, FileEvent, all_map, all_then, in_left, in_right, one_of, HasTwins, IsPiece, AreKept, length_in, IsAskedFor, IsOneOf, IsPutStep}
+use Rattle.backup_engine.proofs.Prelude.{both_so, ◌≡◌, ◌≢◌, ℕ, ◌==◌, Bool, true, false, cond, List, [], ◌∷◌, ◌++◌, length, map, Option, Some, None, Result, Ok, refl, sym, ◌∙◌, ap, subst, arith, AllByRecursion, bytes_eq-Decides, sha256, Kind, PlaceMap, KindSegment, Segment, segment_key, node_digest, Answer, PinMap, has_pin, KeyPin, children_by, pin_of, StepValue, Refusal, Piece, Data, Node, HasPieceOf, IsPieceOf, piece_bytes, piece_key, piece_segment, key_of_seg, first_unpinned_of, with_pins, kept_by, kept_of, FileEvent, all_map, all_then, in_left, in_right, one_of, HasTwins, IsPiece, AreKept, length_in, IsAskedFor, IsOneOf, IsPutStep}
 use Rattle.std.specs.Prelude.{if◌then◌else◌}
 use Rattle.std.specs.FinMap as finite
 use Rattle.std.specs.Cmp.Lexicographic.{slice_cmp, nat_list_cmp_total}
@@ -15,7 +15,6 @@ use Rattle.store_model.proofs.Indexing.{tied}
 use Rattle.ingest_steps.specs.Pinning.{or_else}
 use Rattle.ingest_session.proofs.Members.{in_first}
 use Rattle.backup_engine.specs.Putting.{HasPinOf}
-use Rattle.backup_engine.proofs.WayLists.{all_on}
 
 -- ---- pieces
 
@@ -49,7 +48,7 @@ kept_by_step name file step answer put has = tt
 pub kept_pieces : (name file : List ℕ) (steps : List FileEvent) → AllByRecursion (IsPutStep name file) steps → AllByRecursion (HasPieceOf file) (kept_of steps)
 kept_pieces name file [] each = tt
 kept_pieces name file (f ∷ fs) each =
-    all_on (HasPieceOf file) (kept_by f.event.step f.event.answer) (kept_of fs) (kept_by_step name file f.event.step f.event.answer f.bytes each.0.asked_for)
+    both_so (HasPieceOf file) (kept_by f.event.step f.event.answer) (kept_of fs) (kept_by_step name file f.event.step f.event.answer f.bytes each.0.asked_for)
     (kept_pieces name file fs each.1)
 
 -- ---- pins
@@ -97,7 +96,7 @@ module _ (kept : List KindSegment) (seg : KindSegment) (pins : PinMap) where
 
   pub pinned_next : ArePinned kept pins → ArePinned (kept ++ seg ∷ []) with_seg
   pinned_next are =
-      all_on (λ x. HasPin (key_of_seg x)) kept (seg ∷ []) (all_then (λ x. HasPinOf kept pins (key_of_seg x)) (λ x. HasPin (key_of_seg x)) kept (λ x. next_pin (key_of_seg x)) are)
+      both_so (λ x. HasPin (key_of_seg x)) kept (seg ∷ []) (all_then (λ x. HasPinOf kept pins (key_of_seg x)) (λ x. HasPin (key_of_seg x)) kept (λ x. next_pin (key_of_seg x)) are)
       (last_pin (key_of_seg seg) refl, tt)
 
 pub pinned_all : (kind : Kind) (ss : List Segment) (kept : List KindSegment) (pins : PinMap) → ArePinned kept pins →

@@ -92,6 +92,7 @@ pub use Rattle.gc_steps.specs.UnderWay.{HasStage, IsUnderWay}
 pub use Rattle.gc_steps.specs.declared.collection.Collection.{Collection}
 pub use Rattle.gc_steps.specs.declared.collection.Stage.{Stage}
 pub use Rattle.gc_steps.specs.declared.collection.Stage.TheVariants.{Filter, Mark, Select, Sweep as SweepStage}
+pub use Rattle.gc_sweep.proofs.KeyLists.{both_so, each_so}
 pub use Rattle.gc_sweep.proofs.InSlots.{of_each}
 pub use Rattle.gc_sweep.specs.InTurn.{slot_in_turn}
 pub use Rattle.gc_sweep.specs.UnderWay.{HasNext}
@@ -148,8 +149,7 @@ pub use Rattle.script_runner.specs.Sessions.{kind_in}
 pub use Rattle.segment_index.specs.Changes.{Changes, SameBefore}
 pub use Rattle.session_turns.specs.Turns.{Asks, Feeds, TakesTurns, TurnRun, TurnsStopped}
 pub use Rattle.sha2.specs.Sha256.{sha256}
-pub use Rattle.store_core.proofs.AnySteps.{keeps_files}
-pub use Rattle.store_core.proofs.Damage.{never_damaged}
+pub use Rattle.store_core.proofs.KeepingSegments.{all_two}
 pub use Rattle.store_core.proofs.GcSteps.{end_reads}
 pub use Rattle.store_core.proofs.KeepingFiles.{file_step}
 pub use Rattle.store_core.proofs.RunningOn.{step_runs}
@@ -162,7 +162,6 @@ pub use Rattle.store_core.specs.Keeping.{kept_by, kept_of}
 pub use Rattle.store_core.specs.Opening.{IsGivenUp, IsNew, IsNotRead, IsReadFrom, OpensCore, OpensNone}
 pub use Rattle.store_core.specs.Releases.{SweepsSpare, copied_in, freed_in}
 pub use Rattle.store_core.specs.Runs.{AreNoGcSteps, ChangesTo, CoreRun, FileEvent, FileRun, FileStep, IsAt, IsNoGcStep, IsRootOf, changes_by, changes_of, events_of, given_to, stored_after, stored_by, stored_with}
-pub use Rattle.store_core.specs.Sound.{IsHarmless, MayClash}
 pub use Rattle.store_core.specs.State.{CoreState, Event, IsRunning, IsUp, UnlessStopped}
 pub use Rattle.store_core.specs.declared.stop.Stop.{Stop}
 pub use Rattle.store_machine.specs.ByMap.{FileMachine, ListsThrough, MakesRoom, RunsWith}

@@ -1,6 +1,7 @@
 -- What the steps by which a file is stored make of a core: containers are sealed, and then the name is put, or a step is
 -- refused.
 use Rattle.backup_engine.proofs.Prelude.{◌≡◌, ◌⊎◌, inl, inr, ℕ, suc, ◌≤◌, List, [], ◌∷◌, ◌++◌, Option, Some, None, Result, Ok, Err, refl, sym, ◌∙◌, ap, subst, arith, AllByRecursion, Root, Put, IsLater, IsDurable, PlaceMap, HeaderValue, header_of, Answer, StepValue, Refusal, Memory, DiskWrite, Damaged, Store, IsValidFor, HasFree, free_slots, first_free, with_slot, StoreChange, SealContainer, ChangeName, FlushContainer, FreeContainer, CanChangeName, with_change, Tables, Represents, Stop, CoreStep, Steps, StepsOr, StopsAfter, Effect, Rests, SealsOne, NamesOne, IndexesAll, Makes, KeepsTables, ChangesTo, CoreRun, FileEvent, IsNoGcStep, events_of, CoreState, Event, PutRun, EndsPut, IsPutStep, IsAskedFor, IsNoCommit, IsOk, IsDoneBefore, IsLastPut, seal_by, seals_of}
+use Rattle.store_core.proofs.KeepingFiles.{chain_on}
 use Rattle.container_meta.specs.Segments.{Contents}
 use Rattle.actor_parts.specs.declared.step.Answer.TheVariants as answers
 use Rattle.actor_parts.specs.StepValue as asked
@@ -159,10 +160,6 @@ pub record SealedTo (changes : List StoreChange) (s : Store) (c : CoreState) : T
   pub chain : ChangesTo changes s after
   pub seals : AllByRecursion IsSeal changes
   pub on : IsOn after c
-
-chain_on : (first rest : List StoreChange) (s t u : Store) → ChangesTo first s t → ChangesTo rest t u → ChangesTo (first ++ rest) s u
-chain_on [] rest s t u one two = subst (λ (x : Store). ChangesTo rest x u) one two
-chain_on (change ∷ changes) rest s t u one two = (one.0, chain_on changes rest (changed change s) t u one.1 two)
 
 seals_on : (first rest : List StoreChange) → AllByRecursion IsSeal first → AllByRecursion IsSeal rest → AllByRecursion IsSeal (first ++ rest)
 seals_on [] rest one two = two

@@ -1,11 +1,10 @@
 -- What the index of a core has once a container is sealed: its keys have its places, and all others what they had.
-use Rattle.backup_engine.proofs.Prelude.{◌≡◌, ◌≢◌, ℕ, ◌+◌, List, [], ◌∷◌, length, max, Option, Some, None, option_map, refl, sym, ◌∙◌, ap, arith, AllByRecursion, sha256, key_of, Entry, Kind, Place, kind_byte, PlaceMap, Segment, entries_from, segment_key, HeaderValue, header_of, Store, HasKey, IsPartialIndexOf, first_free, ids_of, last_id, newest, SealContainer, with_sealed, entry_copy, newest_of_entries, OfEach, Represents, Runs, Makes, next_id, CoreState, length_in}
+use Rattle.backup_engine.proofs.Prelude.{all_two, ◌≡◌, ◌≢◌, ℕ, ◌+◌, List, [], ◌∷◌, length, max, Option, Some, None, option_map, refl, sym, ◌∙◌, ap, arith, AllByRecursion, sha256, key_of, Entry, Kind, Place, kind_byte, PlaceMap, Segment, entries_from, segment_key, HeaderValue, header_of, Store, HasKey, IsPartialIndexOf, first_free, ids_of, last_id, newest, SealContainer, with_sealed, entry_copy, newest_of_entries, OfEach, Represents, Runs, Makes, next_id, CoreState, length_in}
 use Rattle.std.specs.FinMap as finite
 use Rattle.store_model.specs.Slots.{Copy}
 use Rattle.store_model.specs.Steps.{CanSeal}
 use Rattle.store_model.proofs.Valid.{last_sealed}
 use Rattle.store_core.proofs.Sealing.{to_entries}
-use Rattle.backup_engine.proofs.WayLists.{all_both}
 
 -- ---- from entries to segments
 
@@ -74,7 +73,7 @@ module _ (old new : CoreState) (kind : Kind) (segments : List Segment) (made : M
       (λ e found.
       let key : List ℕ = key_of (kind_byte kind) e.digest in
       ap (option_map (λ (p : Place). p.length)) (found.0.1 ∙ sym (index_after key found.0.0 found.0.1) ∙ ap (option_map (λ (c : Copy). c.place)) found.1))
-      (all_both (λ e. HasKey now_told.0 (key_of (kind_byte kind) e.digest))
+      (all_two (λ e. HasKey now_told.0 (key_of (kind_byte kind) e.digest))
       (λ e. newest 0 after.held (key_of (kind_byte kind) e.digest) ≡ Some (entry_copy (first_free store.held) (next_id old) e))
       (entries_from 0 segments) has_entries (newest_of_entries header store.held can.right (omega (arith, can.slot)) can.new_id)))
 

@@ -1,5 +1,5 @@
 -- What the changes of a collection make of the slots of a store, whatever the disk holds: which were closed, and which filled.
-use Rattle.backup_engine.proofs.Prelude.{◌≡◌, ◌⊎◌, inl, inr, ◌+◌, ◌<◌, ◌≤◌, ℕ, zero, suc, List, [], ◌∷◌, ◌++◌, Option, Some, None, refl, sym, ap, subst, arith, Contains, slice_get, AllByRecursion, Contains-append_right, Contains-get_or, HeaderValue, HadContainer, copied_in, freed_in, with_freed, Store, first_free, free_slots, last_id, with_slot, without_slot, StoreChange, SealContainer, ChangeName, FlushContainer, FreeContainer, some_same, first_closed, some_free, there_before, written_in, MayFill}
+use Rattle.backup_engine.proofs.Prelude.{each_so, ◌≡◌, ◌⊎◌, inl, inr, ◌+◌, ◌<◌, ◌≤◌, ℕ, zero, suc, List, [], ◌∷◌, ◌++◌, Option, Some, None, refl, sym, ap, subst, arith, Contains, slice_get, AllByRecursion, Contains-append_right, Contains-get_or, HeaderValue, HadContainer, copied_in, freed_in, with_freed, Store, first_free, free_slots, last_id, with_slot, without_slot, StoreChange, SealContainer, ChangeName, FlushContainer, FreeContainer, some_same, first_closed, some_free, there_before, written_in, MayFill}
 
 -- ---- changes, one after the other
 
@@ -23,14 +23,6 @@ written-append (SealContainer id kind segments ∷ changes) more = written-appen
 written-append (ChangeName name change ∷ changes) more = written-append changes more
 written-append (FlushContainer id kind segments ∷ changes) more = omega (arith, written-append changes more)
 written-append (FreeContainer slot ∷ changes) more = written-append changes more
-
-pub all-append : {A : Type 0} (P : A → Type 0) (first more : List A) → AllByRecursion P first → AllByRecursion P more → AllByRecursion P (first ++ more)
-all-append P [] more one two = two
-all-append P (x ∷ xs) more one two = (one.0, all-append P xs more one.1 two)
-
-pub all-more : {A : Type 0} (P Q : A → Type 0) (xs : List A) → ((x : A) → P x → Q x) → AllByRecursion P xs → AllByRecursion Q xs
-all-more P Q [] each all = tt
-all-more P Q (x ∷ xs) each all = (each x all.0, all-more P Q xs each all.1)
 
 -- ---- one slot
 
@@ -80,7 +72,7 @@ module _ (s after : Store) (freed filled : List ℕ) (slots : SweptSlots s after
   pub slots_freed : (slot : ℕ) → HadContainer s slot → SweptSlots s (with_freed slot after) (slot ∷ freed) filled
   slots_freed slot had = record {
     had = (had, slots.had);
-    may = all-more (MayFill s freed) (MayFill s (slot ∷ freed)) filled (may_more s slot freed) slots.may;
+    may = each_so (MayFill s freed) (MayFill s (slot ∷ freed)) filled (may_more s slot freed) slots.may;
     there = λ other h there. slots.there other h (there_before slot other h after.held there).1;
     closed = λ other closed. elim (without_closed slot other after.held closed) [
       | inl same ↦ inr (subst (Contains (slot ∷ freed)) same (Contains-get_or (slot ∷ freed) 0 0 (omega arith)))

@@ -1,5 +1,5 @@
 -- A step that is due is made, and the session is told what it answered.
-use Rattle.backup_engine.proofs.Prelude.{◌≡◌, ◌≢◌, inl, inr, ◌∙◌, ℕ, List, [], ◌∷◌, ◌++◌, map, Option, Some, None, Ok, Err, refl, sym, ap, subst, AllByRecursion, Kind, Leaf, Tree, PlaceMap, KindSegment, Segment, segment_key, Answer, KeyPin, children_by, children_of, IsStep, Refusal, Data, Node, HasPieceOf, IsPieceOf, key_of_seg, CoreStep, kept_of, CoreState, IsRunning, Due, Claim, Seal, due_in, item_kind, open_of, HasHistory, answered, item_if, waiting, item_of, IsItem, SessionState, turn_node, told_by, Asks, all_of, IsFed, MayBe, Stops, opens_of, AreNew, IsOneOf, item_is, one_item}
+use Rattle.backup_engine.proofs.Prelude.{both_so, ◌≡◌, ◌≢◌, inl, inr, ◌∙◌, ℕ, List, [], ◌∷◌, ◌++◌, map, Option, Some, None, Ok, Err, refl, sym, ap, subst, AllByRecursion, Kind, Leaf, Tree, PlaceMap, KindSegment, Segment, segment_key, Answer, KeyPin, children_by, children_of, IsStep, Refusal, Data, Node, HasPieceOf, IsPieceOf, key_of_seg, CoreStep, kept_of, CoreState, IsRunning, Due, Claim, Seal, due_in, item_kind, open_of, HasHistory, answered, item_if, waiting, item_of, IsItem, SessionState, turn_node, told_by, Asks, all_of, IsFed, MayBe, Stops, opens_of, AreNew, IsOneOf, item_is, one_item}
 use Rattle.std.proofs.Common.{append-nil}
 use Rattle.std.specs.FinMap as finite
 use Rattle.merkle_file.specs.Node as node
@@ -17,7 +17,6 @@ use Rattle.ingest_session.proofs.OpenOn.{left_differs, opens_absent}
 use Rattle.backup_engine.proofs.Feds.{fed_absent, fed_held, fed_sealed}
 use Rattle.backup_engine.proofs.KeptPieces as pieces
 use Rattle.backup_engine.proofs.WayClaims.{held_or_absent, way_absent, way_held}
-use Rattle.backup_engine.proofs.WayLists.{all_on}
 use Rattle.backup_engine.proofs.WayRefusals.{way_unclaimed, way_unsealed}
 use Rattle.backup_engine.proofs.WaySeals.{only_sealed, way_sealed}
 
@@ -94,7 +93,7 @@ module _ (C : Type 0) (state : C → CoreState) (given : List ℕ) (s : SessionS
     claim_absent step running has =
         let way = way_absent C state files (opens_of s) start old new fed.way seg buf offered.right seg_piece (opens_of (told_by answers.Absent s))
         (λ kind places fresh none. subst (AreNew places kind) (sym (opens_absent s kind due))
-        (all_on (λ x. finite.get places (segment_key kind x) ≡ None) (opens_of s kind) (item_if kind s) fresh (new_item kind places none)))
+        (both_so (λ x. finite.get places (segment_key kind x) ≡ None) (opens_of s kind) (item_if kind s) fresh (new_item kind places none)))
         step running in
         fed_absent C state given s start old new fed (way.0, way.1 ∙ sym (append-nil (kept_of fed.way.steps))) has
 

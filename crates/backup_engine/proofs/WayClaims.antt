@@ -1,5 +1,5 @@
 -- The claims on a way that were done: the segment is held and kept, or the index has no such segment.
-use Rattle.backup_engine.proofs.Prelude.{◌≡◌, ◌⊎◌, inl, inr, ℕ, List, [], ◌∷◌, ◌++◌, length, Some, None, option_map, Result, Ok, refl, sym, ◌∙◌, ap, subst, Kind, Place, PlaceMap, KindSegment, Segment, Writing, Answer, PinMap, IsStepSegment, pin_of, Refusal, HasPieceOf, key_of_seg, CoreStep, Steps, kept_of, FileEvent, CoreState, IsRunning, Way, AreKept, AreNew, length_in, IsPutStep}
+use Rattle.backup_engine.proofs.Prelude.{both_so, ◌≡◌, ◌⊎◌, inl, inr, ℕ, List, [], ◌∷◌, ◌++◌, length, Some, None, option_map, Result, Ok, refl, sym, ◌∙◌, ap, subst, Kind, Place, PlaceMap, KindSegment, Segment, Writing, Answer, PinMap, IsStepSegment, pin_of, Refusal, HasPieceOf, key_of_seg, CoreStep, Steps, kept_of, FileEvent, CoreState, IsRunning, Way, AreKept, AreNew, length_in, IsPutStep}
 use Rattle.std.specs.FinMap as finite
 use Rattle.std.proofs.lemmas.List.{append-nil}
 use Rattle.actor_parts.specs.declared.part.Part.{Part}
@@ -9,7 +9,6 @@ use Rattle.actor_parts.specs.StepValue as asked
 use Rattle.store_core.specs.Core.{ClaimRow}
 use Rattle.backup_engine.proofs.FirstActor.{Rested, by_first, steps_of, kept_ids, kept_indexed, first_part, up_of}
 use Rattle.backup_engine.proofs.KeptPieces.{pinned_next}
-use Rattle.backup_engine.proofs.WayLists.{all_on}
 use Rattle.backup_engine.proofs.Ways.{Stays, IsStepOn, file_event, put_step, rests, way_on}
 
 pub same_pins : (a b : PinMap) → Writing a ≡ Writing b → a ≡ b
@@ -20,7 +19,7 @@ pub keeps_one : (kept : List KindSegment) (seg : KindSegment) (pins : PinMap) (p
     length_in places (key_of_seg seg) ≡ Some (length seg.segment.bytes)
     → AreKept (kept ++ seg ∷ []) (finite.insert pins (key_of_seg seg) (pin_of seg)) places
 keeps_one kept seg pins places are long = record {
-  long = all_on (λ x. length_in places (key_of_seg x) ≡ Some (length x.segment.bytes)) kept (seg ∷ []) are.long (long, tt);
+  long = both_so (λ x. length_in places (key_of_seg x) ≡ Some (length x.segment.bytes)) kept (seg ∷ []) are.long (long, tt);
   pinned = pinned_next kept seg pins are.pinned;
 }
 

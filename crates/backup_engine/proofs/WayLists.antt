@@ -4,16 +4,6 @@ use Rattle.std.proofs.lemmas.List.{append-nil, append_assoc}
 use Rattle.actor_parts.specs.StepValue as asked
 use Rattle.store_model.specs.Steps.{changed}
 
--- ---- lists
-
-pub all_on : {A : Type 0} (P : A → Type 0) (xs ys : List A) → AllByRecursion P xs → AllByRecursion P ys → AllByRecursion P (xs ++ ys)
-all_on P [] ys first second = second
-all_on P (x ∷ xs) ys first second = (first.0, all_on P xs ys first.1 second)
-
-pub all_both : {A : Type 0} (P Q : A → Type 0) (xs : List A) → AllByRecursion P xs → AllByRecursion Q xs → AllByRecursion (λ x. P x × Q x) xs
-all_both P Q [] first second = tt
-all_both P Q (x ∷ xs) first second = ((first.0, second.0), all_both P Q xs first.1 second.1)
-
 -- ---- what steps kept and sealed
 
 pub kept_on : (fs : List FileEvent) (f : FileEvent) → kept_of (fs ++ f ∷ []) ≡ kept_of fs ++ kept_by f.event.step f.event.answer
@@ -33,10 +23,6 @@ pub seals_then : (fs : List FileEvent) (f : FileEvent) → seal_by f.event.step 
 seals_then fs f none = seals_on fs f ∙ ap (λ (l : List StoreChange). seals_of fs ++ l) none ∙ append-nil (seals_of fs)
 
 -- ---- changes
-
-pub chain_on : (first rest : List StoreChange) (s t u : Store) → ChangesTo first s t → ChangesTo rest t u → ChangesTo (first ++ rest) s u
-chain_on [] rest s t u one two = subst (λ (x : Store). ChangesTo rest x u) one two
-chain_on (change ∷ changes) rest s t u one two = (one.0, chain_on changes rest (changed change s) t u one.1 two)
 
 pub adds_on : (file : List ℕ) (first rest : List StoreChange) (s t : Store) → ChangesTo first s t → AddsOnce file first s → AddsOnce file rest t → AddsOnce file (first ++ rest) s
 adds_on file [] rest s t chain one two = subst (AddsOnce file rest) chain two

@@ -1,5 +1,5 @@
 -- A seal on a way that was done: the segments of the container are held, and kept.
-use Rattle.backup_engine.proofs.Prelude.{◌≡◌, ◌≢◌, ℕ, suc, ◌+◌, List, [], ◌∷◌, ◌++◌, length, map, Option, Some, None, option_map, Result, Ok, refl, sym, ◌∙◌, ap, subst, arith, AllByRecursion, Kind, Place, PlaceMap, KindSegment, Segment, segment_key, Writing, Answer, PinMap, IsStep, Refusal, HasPieceOf, newest, SealContainer, lacks, key_of_seg, with_pins, CoreStep, Makes, Steps, next_id, kept_of, FileEvent, CoreState, IsRunning, all_map, all_then, one_of, Way, AreKept, AreNew, length_in, IsOneOf, IsPutStep}
+use Rattle.backup_engine.proofs.Prelude.{both_so, all_two, ◌≡◌, ◌≢◌, ℕ, suc, ◌+◌, List, [], ◌∷◌, ◌++◌, length, map, Option, Some, None, option_map, Result, Ok, refl, sym, ◌∙◌, ap, subst, arith, AllByRecursion, Kind, Place, PlaceMap, KindSegment, Segment, segment_key, Writing, Answer, PinMap, IsStep, Refusal, HasPieceOf, newest, SealContainer, lacks, key_of_seg, with_pins, CoreStep, Makes, Steps, next_id, kept_of, FileEvent, CoreState, IsRunning, all_map, all_then, one_of, Way, AreKept, AreNew, length_in, IsOneOf, IsPutStep}
 use Rattle.std.specs.FinMap as finite
 use Rattle.container_meta.specs.Segments.{Contents}
 use Rattle.actor_parts.specs.declared.step.Answer.TheVariants as answers
@@ -11,7 +11,6 @@ use Rattle.backup_engine.proofs.FirstActor.{by_first, steps_of, first_part, up_o
 use Rattle.backup_engine.proofs.KeptPieces.{of_kind, pinned_all}
 use Rattle.backup_engine.proofs.SealedIndex.{now_told, sealed_long, sealed_others, sealed_ids}
 use Rattle.backup_engine.proofs.WayClaims.{same_pins}
-use Rattle.backup_engine.proofs.WayLists.{all_both, all_on}
 use Rattle.backup_engine.proofs.Ways.{AddsFromEach, Stays, IsStepOn, file_event, put_step, way_on}
 
 next_of : {m n : ℕ} → m ≡ n → m + 1 ≡ suc n
@@ -58,7 +57,7 @@ module _ (C : Type 0) (state : C → CoreState) (files : List ℕ → Type 0) (o
                 chain = (can, refl);
                 once = (
                   id_is ∙ next_of (w.ids.store_has s represents valid free),
-                  all_both (λ x. HasPieceOf file (of_kind filled.kind x)) (λ x. newest 0 s.held (segment_key filled.kind x) ≡ None) filled.segments (pieces file is)
+                  all_two (λ x. HasPieceOf file (of_kind filled.kind x)) (λ x. newest 0 s.held (segment_key filled.kind x) ≡ None) filled.segments (pieces file is)
                       (all_then (λ x. finite.get w.places (segment_key filled.kind x) ≡ None) (λ x. newest 0 s.held (segment_key filled.kind x) ≡ None) filled.segments
                       (λ x none. lacks s w.places (segment_key filled.kind x) (whole w.places w.known) none) fresh),
                   tt,
@@ -95,7 +94,7 @@ module _ (C : Type 0) (state : C → CoreState) (files : List ℕ → Type 0) (o
 
         keeps_all : AreKept all (with_pins filled.kind filled.segments w.pins) now
         keeps_all = record {
-          long = all_on (λ x. length_in now (key_of_seg x) ≡ Some (length x.segment.bytes)) (kept_of w.steps) (map (of_kind filled.kind) filled.segments)
+          long = both_so (λ x. length_in now (key_of_seg x) ≡ Some (length x.segment.bytes)) (kept_of w.steps) (map (of_kind filled.kind) filled.segments)
               (all_then (λ x. length_in w.places (key_of_seg x) ≡ Some (length x.segment.bytes)) (λ x. length_in now (key_of_seg x) ≡ Some (length x.segment.bytes))
               (kept_of w.steps) long_still w.kept.long)
               (all_map (λ x. length_in now (key_of_seg x) ≡ Some (length x.segment.bytes)) (of_kind filled.kind) filled.segments

@@ -1,12 +1,13 @@
 -- Ways of storing a file: they begin, go on by steps that were done, and end.
-use Rattle.backup_engine.proofs.Prelude.{◌≡◌, ℕ, List, [], ◌∷◌, ◌++◌, Some, None, Result, Ok, Err, refl, sym, ◌∙◌, subst, IsLater, later_here, later_on, Kind, PlaceMap, KindSegment, Segment, Writing, Answer, PinMap, StepValue, IsStep, Refusal, Memory, Store, IsValidFor, HasFree, last_id, StoreChange, Represents, Runs, OfEach, IndexesAll, CoreStep, kept_by, kept_of, ChangesTo, CoreRun, FileEvent, events_of, CoreState, Event, IsUp, IsRunning, step_later, AddsOnce, Way, AreKept, AreNew, IsFresh, IsPutStep, IsAskedFor, IsDoneBefore, IsWholeAt, EndsPut, PutRun, seal_by, seals_of}
+use Rattle.backup_engine.proofs.Prelude.{both_so, ◌≡◌, ℕ, List, [], ◌∷◌, ◌++◌, Some, None, Result, Ok, Err, refl, sym, ◌∙◌, subst, IsLater, later_here, later_on, Kind, PlaceMap, KindSegment, Segment, Writing, Answer, PinMap, StepValue, IsStep, Refusal, Memory, Store, IsValidFor, HasFree, last_id, StoreChange, Represents, Runs, OfEach, IndexesAll, CoreStep, kept_by, kept_of, ChangesTo, CoreRun, FileEvent, events_of, CoreState, Event, IsUp, IsRunning, step_later, AddsOnce, Way, AreKept, AreNew, IsFresh, IsPutStep, IsAskedFor, IsDoneBefore, IsWholeAt, EndsPut, PutRun, seal_by, seals_of}
 use Rattle.std.specs.FinMap as finite
 use Rattle.actor_parts.specs.Parts.{part_of}
 use Rattle.actor_parts.specs.StepValue as asked
 use Rattle.store_core.specs.Core.{OfEachIndexed}
 use Rattle.backup_engine.specs.Putting.{SealsSo}
 use Rattle.backup_engine.proofs.FirstActor.{Rested, by_first, steps_of, represents_still, kept_ids, kept_indexed, first_part, up_of, begun, begin_rests, begin_runs}
-use Rattle.backup_engine.proofs.WayLists.{all_on, kept_on, seals_on, seals_then, chain_on, adds_on, whole_on, whole_all, ends_on, ends_here, files_on}
+use Rattle.store_core.proofs.KeepingFiles.{chain_on}
+use Rattle.backup_engine.proofs.WayLists.{kept_on, seals_on, seals_then, adds_on, whole_on, whole_all, ends_on, ends_here, files_on}
 
 -- a step by which a file is stored
 abbrev pub file_event : StepValue → Result Answer Refusal → List ℕ → List ℕ → FileEvent
@@ -128,8 +129,8 @@ module _ (C : Type 0) (state : C → CoreState) (files : List ℕ → Type 0) wh
         let way : Way C state files more start new = record {
           steps = w.steps ++ f ∷ [];
           ran = files_on C state w.steps (f ∷ []) start old new w.ran (new, (on.made, refl));
-          each = λ name file is. all_on (IsPutStep name file) w.steps (f ∷ []) (w.each name file is) (on.put name file is, tt);
-          done = all_on (λ (g : FileEvent). IsDoneBefore g.event) w.steps (f ∷ []) w.done (on.done, tt);
+          each = λ name file is. both_so (IsPutStep name file) w.steps (f ∷ []) (w.each name file is) (on.put name file is, tt);
+          done = both_so (λ (g : FileEvent). IsDoneBefore g.event) w.steps (f ∷ []) w.done (on.done, tt);
           seals = λ file is. record {
             store_has = λ s represents valid free whole.
                 seals_more file w.steps f s (state old) (state new) ((w.seals file is).store_has s represents valid free whole) (on.adds file is);
@@ -193,7 +194,7 @@ module _ (C : Type 0) (state : C → CoreState) (files : List ℕ → Type 0) wh
     with_last name file result f new is step put none ends whole = record {
       steps = w.steps ++ f ∷ [];
       ran = files_on C state w.steps (f ∷ []) start old new w.ran (new, (step, refl));
-      each = all_on (IsPutStep name file) w.steps (f ∷ []) (w.each name file is) (put, tt);
+      each = both_so (IsPutStep name file) w.steps (f ∷ []) (w.each name file is) (put, tt);
       ends = ends_on w.steps (f ∷ []) result w.done ends;
       whole = whole_on file [] w.steps (f ∷ []) w.done (whole, tt);
       adds = subst (λ (l : List StoreChange). OfEachIndexed (state start).disk.size (state start).known (state start).tables (λ s. AddsOnce file l s))

@@ -196,7 +196,7 @@ module _ {C : Type 0} {state : C → CoreState} {among : ByteSet} {f : FileEvent
   bytes_stepped =
       known_of c.disk.content image (λ given. KnownWith d.disk.content (BytesOf (file_step f).asked (file_step f).answer m n given)) here
       (bytes_by f.event.step f.event.answer to.steps.step.asked to.steps.step.given made.made.row made.made.effect made.stops kept
-      (never_damaged C state among [] f m.store (stored_in m.now) old old new to.steps.apart at refl to.steps.step) to.steps.named to.legal)
+      (never_damaged among f m.store (stored_in m.now) c d to.steps.apart at to.steps.step) to.steps.named to.legal)
 
 -- ---- a core that is stopped
 

@@ -1,5 +1,5 @@
 -- What is to come of a file, by any store that the tables of a core may be of.
-use Rattle.core_machine.proofs.Prelude.{◌≡◌, ◌∙◌, ℕ, ◌≤◌, List, [], ◌∷◌, ◌++◌, length, Option, Some, refl, sym, subst, arith, MOST_FILE, PlaceMap, HeaderValue, Top, of_segment, IsTree, segments_in, Reader, Stored, Store, ByteSet, IsIn, HoldsCounted, HasKey, KeepsCopies, StoreChange, file_tree, tree_on, SegmentsAhead, segments_on, Represents, IsAt, CoreState, NextOn, one_map}
+use Rattle.core_machine.proofs.Prelude.{◌≡◌, ◌∙◌, ℕ, ◌≤◌, List, [], ◌∷◌, ◌++◌, length, Option, Some, refl, sym, subst, arith, MOST_FILE, PlaceMap, HeaderValue, Top, of_segment, IsTree, segments_in, Reader, Stored, Store, ByteSet, IsIn, HoldsCounted, HasKey, KeepsCopies, StoreChange, file_tree, tree_on, SegmentsAhead, segments_on, Represents, IsAt, CoreState, NextOn, some_same}
 use Rattle.std.proofs.lemmas.List.Concat.{flat_map-cons}
 use Rattle.merkle_file.specs.Tree as tree
 use Rattle.merkle_file.specs.Tree.{Tree, Trees, children_of, leaves, leaves_below}
@@ -30,7 +30,7 @@ module _ (S : List ℕ → Type 0) (s : Store) (stored : Stored) (c : CoreState)
     fits = fits;
     root_is = root;
     counts = counts;
-    indexed = λ index index_is key there. subst (λ (m : PlaceMap). HasKey m key) (one_map at.index index (sym at.index_known ∙ index_is)) (has key there);
+    indexed = λ index index_is key there. subst (λ (m : PlaceMap). HasKey m key) (some_same at.index index (sym at.index_known ∙ index_is)) (has key there);
     whole = λ store now represents told_now.
         subst (λ (bytes : List ℕ). HoldsCounted (IsIn counts) store.held bytes (file_tree file)) (same_image now told_now)
         (tree_on (IsIn counts) (IsIn counts) s store image image (goes_on store represents) (λ key there. there) (file_tree file) whole);

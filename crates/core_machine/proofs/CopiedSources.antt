@@ -1,5 +1,5 @@
 -- A copying step of a core's sweep, as one of the machine's, on any disk.
-use Rattle.core_machine.proofs.Prelude.{◌≡◌, ◌≢◌, inl, inr, ℕ, suc, ◌+◌, ◌<◌, Bool, true, false, List, [], ◌∷◌, ◌++◌, append_assoc, drop, length, Option, Some, None, refl, sym, ◌∙◌, ap, subst, arith, eqb-false, length-map, Entry, Kind, Segment, segment_key, HeaderValue, without_keys, Plan, IsPlan, Planned, Source, TakesOne, planned, source_of, Shows, Root, Phase, IsValidFor, HasFree, StoreChange, SlotTable, Tables, Represents, CoreSweep, CopiesSource, EndsBy, IsFilling, TakesBy, HasNext, IsSweeping, entry_in, sources_before, keys_append, Moment, SweepsOn, phase_at, IsUnderWay, one_map, Went, freed_in, keys_written, next_by, sources_in, Sweeping, of_roots, SameRun, SameSweep, ids_at, TellsForgotten, dead_in}
+use Rattle.core_machine.proofs.Prelude.{◌≡◌, ◌≢◌, inl, inr, ℕ, suc, ◌+◌, ◌<◌, Bool, true, false, List, [], ◌∷◌, ◌++◌, append_assoc, drop, length, Option, Some, None, refl, sym, ◌∙◌, ap, subst, arith, eqb-false, length-map, Entry, Kind, Segment, segment_key, HeaderValue, without_keys, Plan, IsPlan, Planned, Source, TakesOne, planned, source_of, Shows, Root, Phase, IsValidFor, HasFree, StoreChange, SlotTable, Tables, Represents, CoreSweep, CopiesSource, EndsBy, IsFilling, TakesBy, HasNext, IsSweeping, entry_in, sources_before, keys_append, Moment, SweepsOn, phase_at, IsUnderWay, some_same, Went, freed_in, keys_written, next_by, sources_in, Sweeping, of_roots, SameRun, SameSweep, ids_at, TellsForgotten, dead_in}
 use Rattle.std.proofs.Common.{append-nil, get_or, map, length-append}
 use Rattle.std.proofs.lemmas.List.{map-append}
 use Rattle.container_meta.specs.Segments.{Contents, keys_of}
@@ -207,7 +207,7 @@ module _ (m : M) (c : Collection Root) (source entry : ℕ) (old new : Moment) (
     where
       tells : Tells []
       tells told = subst (λ (fs : List (List ℕ)). TellsForgotten fs m.store.held moves.after) (sym (append-nil m.forgotten))
-          (subst (TellsForgotten m.forgotten m.store.held) (one_map moves.before moves.after (sym moves.was ∙ sym index ∙ moves.is)) (moves.told told))
+          (subst (TellsForgotten m.forgotten m.store.held) (some_same moves.before moves.after (sym moves.was ∙ sym index ∙ moves.is)) (moves.told told))
 
   -- ---- it was planned
 
@@ -220,7 +220,7 @@ module _ (m : M) (c : Collection Root) (source entry : ℕ) (old new : Moment) (
     -- the keys of dead copies left the index
     tells : Tells plan.dead.items
     tells told = subst (TellsForgotten (m.forgotten ++ plan.dead.items) m.store.held)
-        (one_map (without_keys plan.dead.items moves.before) moves.after (sym index ∙ moves.is))
+        (some_same (without_keys plan.dead.items moves.before) moves.after (sym index ∙ moves.is))
         (copied_told m.forgotten plan.dead.items m.store.held moves.before (moves.told told))
 
     abbrev filling : Contents

@@ -279,7 +279,7 @@ module _ {C : Type 0} {state : C → CoreState} {among : ByteSet} {f : FileEvent
 
   why : f.event.answer ≡ Err refusals.DiskWrite
   why = why_stopped f.event.step f.event.answer (state old).acknowledged (state new).stop stop stops made.stops
-      (never_damaged C state among [] f m.store (stored_in m.now) old old new before.apart here.is_at refl before.step)
+      (never_damaged among f m.store (stored_in m.now) (state old) (state new) before.apart here.is_at before.step)
 
   -- each image is one of the machine that it makes
   stands_as : (other : Option (Found (List ℕ))) (stores : List Store) → n ≡ stopped other stores m

@@ -1,8 +1,9 @@
 -- A copying step of a core that is at the files of a machine: it took what is needed of its source, and where nothing of it is to be written that is ready.
-use Rattle.core_machine.proofs.Prelude.{◌≡◌, inl, inr, ◌⊎◌, ℕ, zero, suc, ◌+◌, Bool, true, false, List, [], ◌∷◌, ◌++◌, drop, length, take, Option, Some, None, refl, sym, ◌∙◌, ap, subst, arith, slice_get, eqb-false, eqb-true, length-map, Entry, PlaceMap, segment_key, Follow, HeaderValue, Plan, IsPlan, Source, planned, source_of, Shows, DiskView, shown_content, CoreSweep, CopiesSource, EndsBy, TakesBy, HoldsSweep, HasNext, entry_in, sources_before, CoreCollection, Phase, StoreChange, SlotTable, CoreState, FileMachine, DoesNotFit, Gathered, GoesOver, sources_in, IsReady, of_files, SameSweep, ids_at, dead_in}
+use Rattle.core_machine.proofs.Prelude.{◌≡◌, inl, inr, ◌⊎◌, ◌<◌, ◌≤◌, ℕ, zero, suc, ◌+◌, Bool, true, false, List, [], ◌∷◌, ◌++◌, drop, length, take, Option, Some, None, refl, sym, ◌∙◌, ap, subst, arith, slice_get, eqb-false, eqb-true, length-map, Entry, PlaceMap, segment_key, Follow, HeaderValue, Plan, IsPlan, Source, planned, source_of, Shows, DiskView, shown_content, CoreSweep, CopiesSource, EndsBy, TakesBy, HoldsSweep, HasNext, entry_in, sources_before, CoreCollection, Phase, StoreChange, SlotTable, CoreState, FileMachine, DoesNotFit, Gathered, GoesOver, sources_in, IsReady, of_files, SameSweep, ids_at, dead_in}
 use Rattle.std.proofs.Common.{append-nil, get_or, length-drop}
-use Rattle.container_meta.specs.Segments.{keys_of}
+use Rattle.container_meta.specs.Segments.{Contents, keys_of}
 use Rattle.copy_forward.specs.Copying.{PlansBy}
+use Rattle.gc_sweep.specs.declared.sweep.Next.{Next}
 use Rattle.gc_sweep.specs.declared.sweep.Next.TheVariants as nexts
 use Rattle.gc_sweep.specs.Next.{IsNext}
 use Rattle.gc_sweep.proofs.KeyLists.{each_so}
@@ -10,7 +11,6 @@ use Rattle.gc_sweep.proofs.SourceRead.{IsReadOf, not_other, read_of}
 use Rattle.gc_steps.specs.declared.collection.Stage.TheVariants as core
 use Rattle.refusals.specs.declared.refusal.Phase.TheVariants as phases
 use Rattle.store_model.specs.Slots.{HoldsSlot}
-use Rattle.store_core.proofs.FoundCopies.{next_place}
 use Rattle.store_machine.specs.Collecting as machine
 use Rattle.store_machine.specs.Machine.{Collection, Sweep}
 use Rattle.core_machine.proofs.CopiedSources.{filling_keys}
@@ -22,6 +22,19 @@ at_drop : (n : ℕ) (es : List Entry) (i : ℕ) → slice_get (drop n es) i ≡ 
 at_drop zero es i = ap (slice_get es) (let is : i ≡ zero + i = omega arith in is)
 at_drop (suc n) [] i = refl
 at_drop (suc n) (e ∷ es) i = at_drop n es i ∙ ap (slice_get (e ∷ es)) (let is : suc (n + i) ≡ suc n + i = omega arith in is)
+
+-- what comes next tells how many sources were copied to their end, and the entry where the next goes on
+next_place : (t : SlotTable) (sources : List ℕ) (buffer : Contents) (source entry : ℕ) (s : CoreSweep) → length s.sources.items ≡ length sources → source ≤ length sources
+    → (0 < entry → source < length sources) → (next : Next)
+    → IsNext t sources buffer source entry next → (sources_before s next ≡ source) × (entry_in next ≡ entry)
+next_place t sources buffer source entry s many below some (nexts.Copy x e) is = (is.0, is.1)
+next_place t sources buffer source entry s many below some (nexts.Flush x e) is = (is.0, is.1)
+next_place t sources buffer source entry s many below some (nexts.Release x e) is = absurd is
+next_place t sources buffer source entry s many below some nexts.End is = (omega (arith, many, below, is.1), no_entry entry some is.1)
+  where
+    no_entry : (n : ℕ) → (0 < n → source < length sources) → length sources ≤ source → 0 ≡ n
+    no_entry zero none past = refl
+    no_entry (suc n) none past = absurd (omega (arith, none (omega arith), past))
 
 module _ (S : List ℕ → Type 0) (m : FileMachine) (c : CoreState) (x : Collection (List ℕ)) (k : CoreCollection) (r : RunsIn S m c x k) (stage : k.stage ≡ core.Sweep)
     (source entry : ℕ)

@@ -3,14 +3,14 @@ use Rattle.core_machine.proofs.Prelude.{◌≡◌, ◌⊎◌, inl, inr, ◌≤�
 use Rattle.actor_parts.specs.declared.step.Answer.TheVariants as answers
 use Rattle.actor_parts.specs.StepValue as steps
 use Rattle.refusals.specs.declared.refusal.Refusal.TheVariants as refusals
-use Rattle.store_core.specs.Runs.{IsOnTheWay, stored_tried}
-use Rattle.store_core.proofs.Crashes.{leaves_on_the_way}
+use Rattle.store_core.proofs.AnySteps.{gc_or_not}
+use Rattle.store_core.proofs.Crashes.{Either, step_leaves as core_leaves, stored_tried}
 use Rattle.store_machine.specs.Asked as asked
 use Rattle.store_machine.specs.Machine.{Stepped}
 use Rattle.store_machine.specs.Runs.{IsPassedFrom}
 use Rattle.core_machine.proofs.FileKept.{answers_by, comes, refused_now}
 use Rattle.core_machine.proofs.FileStands.{stands_opens}
-use Rattle.core_machine.proofs.FileSteps.{StepsTo, by_gc}
+use Rattle.core_machine.proofs.FileSteps.{StepsTo}
 
 found_itself : (state : RunState (List ℕ)) (now : Found (List ℕ)) → MayBeFound of_files state now now
 found_itself Running now = refl
@@ -68,15 +68,15 @@ module _ {C : Type 0} {state : C → CoreState} {among : ByteSet} {f : FileEvent
       subst (λ (x : Result Answer Refusal). stored_with f.event.step x f.bytes (stored_in m.now) ≡ stored_in n.now) is (comes to other stops).now
   other_now other (Err refusal) is legal stops = refused_now m n a f.bytes f.event.buf m.store f.event.step refusal other legal
 
-  step_now : (step : StepValue) → f.event.step ≡ step → IsNoGcStep step ⊎ (step ≡ steps.GcStep) → stored_by f (stored_in m.now) ≡ stored_in n.now
-  step_now step is (inl other) = other_now (subst IsNoGcStep (sym is) other) f.event.answer refl answered made.stops
-  step_now step is (inr gc) =
+  step_now : (step : StepValue) → f.event.step ≡ step → (step ≡ steps.GcStep) ⊎ IsNoGcStep step → stored_by f (stored_in m.now) ≡ stored_in n.now
+  step_now step is (inr other) = other_now (subst IsNoGcStep (sym is) other) f.event.answer refl answered made.stops
+  step_now step is (inl gc) =
       let gc_is : f.event.step ≡ steps.GcStep = is ∙ gc in
       ap (λ (s : StepValue). stored_with s f.event.answer f.bytes (stored_in m.now)) gc_is
       ∙ gc_now m n a f.event.buf f.event.answer (subst (λ (s : StepValue). AnswersOf s f.event.answer) gc_is answered)
 
   now_so : stored_by f (stored_in m.now) ≡ stored_in n.now
-  now_so = step_now f.event.step refl (by_gc f.event.step)
+  now_so = step_now f.event.step refl (gc_or_not f.event.step)
 
   -- what was tried may be found
   abbrev Tried : StepValue → Result Answer Refusal → Type 0
@@ -99,16 +99,18 @@ module _ {C : Type 0} {state : C → CoreState} {among : ByteSet} {f : FileEvent
   tried (steps.Delete name) (Ok answer) legal same = itself (steps.Delete name) (Ok answer) same
   tried step answer legal same = itself step answer same
 
-  on_way : (image : List ℕ) → IsOnTheWay S (f ∷ []) (stored_in m.now) image → IsOfFound S m image ⊎ IsOfFound S n image
+  abbrev Tries : List ℕ → Type 0
+  Tries image = Either S f.event.step f.event.answer f.bytes (stored_in m.now) image
+
+  on_way : (image : List ℕ) → Tries image → IsOfFound S m image ⊎ IsOfFound S n image
   on_way image (inl before) = inl (m.now, found_itself m.state m.now, before)
-  on_way image (inr (inl try)) =
+  on_way image (inr try) =
       let found = tried f.event.step f.event.answer answered now_so in
       inr (found.0, found.1, subst (λ (s : Stored). OpensAs S s image) found.2 try)
-  on_way image (inr (inr after)) = inr (n.now, found_itself n.state n.now, subst (λ (s : Stored). OpensAs S s image) now_so after)
 
   pub step_leaves : CrashLeaves (λ image. IsOfFound S m image ⊎ IsOfFound S n image) (state old).disk (state new).disk
-  step_leaves = leaves_weaker (IsOnTheWay S (f ∷ []) (stored_in m.now)) (λ image. IsOfFound S m image ⊎ IsOfFound S n image) (state old).disk (state new).disk on_way
-      (leaves_on_the_way C state among (f ∷ []) m.store (stored_in m.now) old new to.steps.apart to.steps.at.is_at (new, (to.steps.step, refl)))
+  step_leaves = leaves_weaker Tries (λ image. IsOfFound S m image ⊎ IsOfFound S n image) (state old).disk (state new).disk on_way
+      (core_leaves among f m.store (stored_in m.now) (state old) (state new) to.steps.apart to.steps.at.is_at to.steps.step)
 
   -- the last number falls at no step
   stored_rises : (step : StepValue) (answer : Result Answer Refusal) (bytes : List ℕ) (stored : Stored) → stored.last ≤ (stored_with step answer bytes stored).last

@@ -1,5 +1,5 @@
 -- Steps of a collection, made by a core that is at the files of a machine: what the content of the disk adds to them.
-use Rattle.core_machine.proofs.Prelude.{◌≡◌, inl, inr, ◌⊎◌, ℕ, suc, ◌<◌, Bool, true, List, [], ◌∷◌, ◌++◌, drop, Option, Some, None, option_map, Result, Ok, Err, refl, sym, ◌∙◌, ap, subst, arith, AllByRecursion, Answer, StepValue, Kind, PlaceMap, Segment, Root, LAST_ID, ContainerLiveness, Next, CopiesSource, slot_in_turn, CoreCollection, CoreStage, recorded, TablesAfter, moment, phase_at, at_stage, Phase, Refusal, ByteSet, IsIn, Store, IsSpare, FlushContainer, FreeContainer, SlotTable, Tables, GcRow, StartRow, at_moment, Row, Steps, FileEvent, IsAt, IsHarmless, MayClash, CoreState, IsUnderWayIn, running_step, phase_of, one_map, same_some, FileMachine, GoesOver, IsCollecting, IsCopyOf, IsRecordOf, MayBreak, phase_by, sources_in, SameState, asked_of, forget_collection, Answers, ByState, LegalBy, RunState, Running, Stopped, Sweeping, Adds, AddsBy, AddsToAnswer, IsReady, RootMachine, of_files, of_roots, SameCollection, SameRun, SameStage, SameSweep, ids_at, stored_in, HasIndex, TellsForgotten, answered_by, asked_as, ForgetsBy, MovesAs, NamesGc, NamesStep, changes_of, dead_in, WroteOnce}
+use Rattle.core_machine.proofs.Prelude.{◌≡◌, inl, inr, ◌⊎◌, ℕ, suc, ◌<◌, Bool, true, List, [], ◌∷◌, ◌++◌, drop, Option, Some, None, option_map, Result, Ok, Err, refl, sym, ◌∙◌, ap, subst, arith, AllByRecursion, Answer, StepValue, Kind, PlaceMap, Segment, Root, LAST_ID, ContainerLiveness, Next, CopiesSource, slot_in_turn, CoreCollection, CoreStage, recorded, TablesAfter, moment, phase_at, at_stage, Phase, Refusal, ByteSet, IsIn, Store, IsSpare, FlushContainer, FreeContainer, SlotTable, Tables, GcRow, StartRow, at_moment, Row, Steps, FileEvent, IsAt, IsHarmless, MayClash, CoreState, IsUnderWayIn, running_step, phase_of, some_same, same_some, FileMachine, GoesOver, IsCollecting, IsCopyOf, IsRecordOf, MayBreak, phase_by, sources_in, SameState, asked_of, forget_collection, Answers, ByState, LegalBy, RunState, Running, Stopped, Sweeping, Adds, AddsBy, AddsToAnswer, IsReady, RootMachine, of_files, of_roots, SameCollection, SameRun, SameStage, SameSweep, ids_at, stored_in, HasIndex, TellsForgotten, answered_by, asked_as, ForgetsBy, MovesAs, NamesGc, NamesStep, changes_of, dead_in, WroteOnce}
 use Rattle.std.proofs.Common.{map, IfErr}
 use Rattle.actor_parts.specs.declared.step.Answer.TheVariants as answers
 use Rattle.actor_parts.specs.StepValue as steps
@@ -75,7 +75,7 @@ module _ (C : Type 0) (state : C → CoreState) (among : ByteSet) (f : FileEvent
 
   told : TellsForgotten m.forgotten m.store.held is_at.index
   told =
-      subst (TellsForgotten m.forgotten m.store.held) (one_map own.places is_at.index (sym own.known_is ∙ is_at.index_known))
+      subst (TellsForgotten m.forgotten m.store.held) (some_same own.places is_at.index (sym own.known_is ∙ is_at.index_known))
       (subst (λ (x : Store). TellsForgotten m.forgotten x.held own.places) s.forgets.store
       (subst (λ (keys : List (List ℕ)). TellsForgotten keys r.store.held own.places) s.forgets.forgotten (own.told refl)))
 

@@ -20,7 +20,7 @@ use Rattle.store_model.proofs.Lookups.{finds}
 use Rattle.store_state.specs.Comparing.{FirstDifference, FitSoFar, FitsBytes, IsUnlike}
 use Rattle.store_state.proofs.Compared.{held_all}
 use Rattle.store_core.specs.Runs.{IsRightCommit, IsRootOf}
-use Rattle.store_core.specs.Sound.{HoldsTwin, IsTwin}
+use Rattle.store_core.proofs.Damage.{HoldsTwin, IsTwin}
 use Rattle.store_core.proofs.KeepingSegments.{node_level}
 use Rattle.store_machine.specs.Asked as asked
 use Rattle.store_machine.specs.Legal.{Fits}

@@ -240,6 +240,3 @@ module _ {C : Type 0} {state : C → CoreState} {among : ByteSet} {f : FileEvent
   pub at_store : IsAt (IsIn among) n.store (stored_in n.now) (state new)
   at_store = subst (λ (stored : Stored). IsAt (IsIn among) n.store stored (state new)) comes.now
       (subst (λ (store : Store). IsAt (IsIn among) store (stored_by f (stored_in m.now)) (state new)) comes.store next.next.is_at)
-
-  pub settled : IsSettled (state new).tables.slots (state new).disk
-  settled = stays_settled C state among (f ∷ []) m.store (stored_in m.now) old new at.apart at.at.is_at at.at.settled (new, (at.step, refl)) stays

@@ -11,8 +11,8 @@ use Rattle.gc_steps.specs.declared.collection.Stage.TheVariants.{Sweep}
 use Rattle.gc_steps.specs.Stepping.{Keeps}
 use Rattle.dd_disk.specs.Ending.{Done as DoneEnding}
 use Rattle.store_core.specs.Collecting.{Begins as CoreBegins}
-use Rattle.store_core.proofs.SparedRest.{leaves, refused_known}
-use Rattle.store_core.proofs.Standing.{containers_stay}
+use Rattle.store_core.proofs.AtStore.{leaves, refused_known}
+use Rattle.store_core.proofs.Frames.{at_on, written_stays}
 use Rattle.store_machine.specs.Collecting.{Begins, GoesOn}
 use Rattle.store_machine.specs.Needs.{keys_of}
 use Rattle.store_machine.proofs.Beside.{refused_keeps}
@@ -139,12 +139,11 @@ module _ {C : Type 0} {state : C → CoreState} {among : ByteSet} {f : FileEvent
       let other = plain_no_gc f.event.step plain in
       let goes = next to other stays in
       let before = went m n f.event.actor f.bytes f.event.buf ran runs f.event.step f.event.answer plain answered in
-      let standing =
-      containers_stay C state among (f ∷ []) m.store goes.next.store (stored_in m.now) (stored_by f (stored_in m.now)) content old new at.apart begins here at.at.settled
-      (new, (at.step, refl)) stays goes.next.is_at in
+      let calm = at_on (IsIn among) m.store (stored_in m.now) (state old) begins at.at.settled in
+      let written = (written_stays C state (f.event ∷ []) m.store content old new calm here (new, (at.step.made, refl)) (other, tt)).0 in
       subst (λ (s : Store). LivesJust (NeededSince of_files ran) s (state new) collection) (comes to other stays).store
-      (lives_on (IsIn among) m.store (stored_in m.now) (stored_by f (stored_in m.now)) (state old) (state new) f.event begins goes plain made content standing.0 here standing.1
-      standing.2
+      (lives_on (IsIn among) m.store (stored_in m.now) (stored_by f (stored_in m.now)) (state old) (state new) f.event begins goes plain made content written.0 here written.1
+      written.2.slots
       (NeededSince of_files before.was) (NeededSince of_files ran) before.more (λ c is. at.at.lives before.was c before.ran_before is) collection core_runs)
 
   -- ---- a collection that begins

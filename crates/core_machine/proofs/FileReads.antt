@@ -169,7 +169,7 @@ module _ {C : Type 0} {state : C → CoreState} {among : ByteSet} {f : FileEvent
     harmless : (refusal : Refusal) → f.event.answer ≡ Err refusal → IsHarmless (MayClash f.event.step) refusal
     harmless refusal is =
         subst (λ (answer : Result Answer Refusal). IfErr answer (λ x. IsHarmless (MayClash f.event.step) x)) is
-        (never_damaged C state among [] f m.store (stored_in m.now) old old new at.apart begins refl at.step)
+        (never_damaged among f m.store (stored_in m.now) (state old) (state new) at.apart begins at.step)
 
     abbrev Added : Result Answer Refusal → Type 0
     Added answer = AddsToAnswer a asked.ReadNext (answered_by answer buf) m t

@@ -24,19 +24,3 @@ pub record StepsTo (C : Type 0) (state : C → CoreState) (among : ByteSet) (f :
   pub steps : StepsAt C state among f old new m r t
   pub legal : Legal of_files (file_step f) m n
   pub forgets : Forgets n t
-
--- a step that is none of a collection, or one
-pub by_gc : (step : StepValue) → IsNoGcStep step ⊎ (step ≡ steps.GcStep)
-by_gc steps.GcStep = inr refl
-by_gc steps.Begin = inl tt
-by_gc (steps.Claim seg) = inl tt
-by_gc (steps.Seal filled) = inl tt
-by_gc (steps.Commit name root) = inl tt
-by_gc steps.Abort = inl tt
-by_gc (steps.OpenRead name) = inl tt
-by_gc steps.ReadNext = inl tt
-by_gc steps.EndRead = inl tt
-by_gc (steps.Delete name) = inl tt
-by_gc steps.ListNames = inl tt
-by_gc (steps.GcStart percent) = inl tt
-by_gc steps.Stat = inl tt

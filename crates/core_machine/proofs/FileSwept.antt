@@ -8,7 +8,7 @@ use Rattle.gc_steps.specs.declared.collection.Stage.TheVariants as core
 use Rattle.gc_steps.specs.Stepping.{Keeps}
 use Rattle.gc_steps.proofs.CopiedOn.{goes_well}
 use Rattle.refusals.specs.declared.refusal.Refusal.TheVariants as refusals
-use Rattle.store_core.specs.Runs.{AreChangesBy}
+use Rattle.store_core.proofs.Leading.{AreChangesBy}
 use Rattle.store_core.proofs.AtStore.{at_store}
 use Rattle.store_core.proofs.AnySteps.{after, leads}
 use Rattle.store_machine.specs.Asked as asked
@@ -182,10 +182,6 @@ module _ (C : Type 0) (state : C → CoreState) (among : ByteSet) (f : FileEvent
   swept_at =
       subst (λ (s : Store). IsAt (IsIn among) s (stored_in n.now) d) (sym same.0)
       (subst (λ (now : Found (List ℕ)). IsAt (IsIn among) store_then (stored_in now) d) (sym same.1) then_at)
-
-  pub swept_settled : IsSettled d.tables.slots d.disk
-  swept_settled =
-      stays_settled C state among (f ∷ []) m.store (stored_in m.now) old new to.steps.apart is_at to.steps.at.settled (new, (to.steps.step, refl)) stays
 
   -- ---- what it wrote it does not write again
 

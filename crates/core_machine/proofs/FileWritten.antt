@@ -1,7 +1,7 @@
 -- What a collection wrote it does not write again: a container of an id from its snapshot on has each of these keys, and it fills none of them once more.
-use Rattle.core_machine.proofs.Prelude.{◌≡◌, inl, inr, ℕ, ◌≤◌, true, List, [], ◌∷◌, ◌++◌, Option, Some, None, refl, sym, ◌∙◌, ap, subst, arith, Contains-append_cases, Contains-get_or, PlaceMap, has_key, HeaderValue, header_of, Mark, Filter, Select, Moment, phase_at, HoldsAt, GoesWell, IsStoreAfter, Next, Flush, Release, End, slot_in_turn, Store, IsPartialIndexOf, first_free, FlushContainer, FreeContainer, StoreChange, listed_of, first_with, keys_written, changes_of, MachineCollection, keeping, none_in, IsWritten, WroteOnce, CoreState, FileMachine}
+use Rattle.core_machine.proofs.Prelude.{◌≡◌, inl, inr, ℕ, ◌≤◌, true, List, [], ◌∷◌, ◌++◌, Option, Some, None, refl, sym, ◌∙◌, ap, subst, arith, Contains-append_cases, Contains-get_or, PlaceMap, has_key, HeaderValue, header_of, Mark, Filter, Select, Moment, phase_at, HoldsAt, GoesWell, IsStoreAfter, Next, Flush, Release, End, slot_in_turn, Store, IsPartialIndexOf, first_free, StoreChange, listed_of, first_with, keys_written, changes_of, MachineCollection, keeping, none_in, IsWritten, WroteOnce, CoreState, FileMachine}
 use Rattle.std.proofs.Common.{append-nil}
-use Rattle.std.specs.Prelude.{Contains, get_or}
+use Rattle.std.specs.Prelude.{Contains, get_or, slice_get}
 use Rattle.std.proofs.lemmas.Grind.{get_or_default_zero}
 use Rattle.container_meta.specs.Segments.{Contents, keys_of}
 use Rattle.gc_steps.specs.declared.collection.Collection.{Collection}
@@ -10,7 +10,10 @@ use Rattle.gc_steps.specs.declared.collection.Stage.TheVariants.{Sweep as SweepS
 use Rattle.gc_steps.specs.Stepping.{StepsTo}
 use Rattle.gc_sweep.specs.declared.sweep.Next.TheVariants.{Copy}
 use Rattle.gc_sweep.proofs.Holds.{no_key}
-use Rattle.store_core.proofs.CopiesOnce.{HoldsNewer, listed_found, newer_on, not_old}
+use Rattle.store_core.proofs.CopiesOnce.{HoldsNewer, listed_found, not_old}
+use Rattle.store_core.proofs.Frames.{still_there}
+use Rattle.store_model.proofs.Copies.{some_same}
+use Rattle.store_model.proofs.Freed.{other_there}
 use Rattle.core_machine.proofs.LivesOn.{StandOn}
 use Rattle.gc_sweep.specs.declared.sweep.Sweep.{Sweep}
 
@@ -90,26 +93,37 @@ module _ (index : PlaceMap) (store store_now : Store) (image : List ℕ) (partia
       let is : get_or b.sweep.sources.items source.0 0 ≡ id = sym (get_or_default_zero b.sweep.sources.items source.0 id source.1) ∙ source.2 in
       omega (arith, above, below, is)
 
-  newer_after : (stage : Stage) (next : Next) (key : List ℕ) → b.stage ≡ stage → IsStoreAfter stage next b.snapshot b.sweep index store store_now image
-      → HoldsNewer store.held b.snapshot key → HoldsNewer store_now.held b.snapshot key
-  newer_after SweepStage (Flush source entry) key is flushes newer =
-      newer_on b.snapshot [] (FlushContainer flushes.id b.sweep.buffer.kind b.sweep.buffer.segments ∷ []) store store_now key
-      ((flushes.new, omega (arith, flushes.can.slot)), flushes.now_is)
-      (λ other above none. omega (arith, none.1)) newer
-  newer_after SweepStage (Release source entry) key is frees newer =
-      newer_on b.snapshot b.sweep.sources.items (FreeContainer (slot_in_turn b.sweep) ∷ []) store store_now key (
-        (
-          frees.header,
-          (frees.there, subst (Contains b.sweep.sources.items) (sym frees.id_is) (Contains-get_or b.sweep.sources.items frees.number 0 frees.within)),
-        ),
-        frees.now_is,
-      )
-      (sources_old is) newer
-  newer_after (Mark level slot) next key is same newer = subst (λ (s : Store). HoldsNewer s.held b.snapshot key) (sym same) newer
-  newer_after (Filter slot) next key is same newer = subst (λ (s : Store). HoldsNewer s.held b.snapshot key) (sym same) newer
-  newer_after Select next key is same newer = subst (λ (s : Store). HoldsNewer s.held b.snapshot key) (sym same) newer
-  newer_after SweepStage (Copy source entry) key is same newer = subst (λ (s : Store). HoldsNewer s.held b.snapshot key) (sym same) newer
-  newer_after SweepStage End key is same newer = subst (λ (s : Store). HoldsNewer s.held b.snapshot key) (sym same) newer
+  abbrev Stands : Store → ℕ → HeaderValue → Type 0
+  Stands s slot h = slice_get s.held slot ≡ Some (Some h)
+
+  -- a container that came since then stands on
+  stands_after : (stage : Stage) (next : Next) → b.stage ≡ stage → IsStoreAfter stage next b.snapshot b.sweep index store store_now image → (slot : ℕ) (h : HeaderValue)
+      → b.snapshot ≤ h.id → Stands store slot h → Stands store_now slot h
+  stands_after SweepStage (Flush source entry) is flushes slot h new there =
+      subst (λ (s : Store). Stands s slot h) (sym flushes.now_is)
+      (still_there store.held (header_of flushes.id b.sweep.buffer.kind b.sweep.buffer.segments) (omega (arith, flushes.can.slot)) slot h there)
+  stands_after SweepStage (Release source entry) is frees slot h new there =
+      let source = subst (Contains b.sweep.sources.items) (sym frees.id_is) (Contains-get_or b.sweep.sources.items frees.number 0 frees.within) in
+      let one : slot_in_turn b.sweep ≡ slot → frees.header ≡ h =
+      λ same. some_same frees.header h (some_same (Some frees.header) (Some h) (sym frees.there ∙ ap (slice_get store.held) same ∙ there)) in
+      subst (λ (s : Store). Stands s slot h) (sym frees.now_is)
+      (other_there (slot_in_turn b.sweep) slot store.held
+      (λ same. sources_old is h.id new (subst (λ (g : HeaderValue). Contains b.sweep.sources.items g.id) (one same) source)) ∙ there)
+  stands_after (Mark level at) next is same slot h new there = subst (λ (s : Store). Stands s slot h) (sym same) there
+  stands_after (Filter at) next is same slot h new there = subst (λ (s : Store). Stands s slot h) (sym same) there
+  stands_after Select next is same slot h new there = subst (λ (s : Store). Stands s slot h) (sym same) there
+  stands_after SweepStage (Copy source entry) is same slot h new there = subst (λ (s : Store). Stands s slot h) (sym same) there
+  stands_after SweepStage End is same slot h new there = subst (λ (s : Store). Stands s slot h) (sym same) there
+
+  newer_after : (key : List ℕ) → HoldsNewer store.held b.snapshot key → HoldsNewer store_now.held b.snapshot key
+  newer_after key newer = record {
+    slot = newer.slot;
+    header = newer.header;
+    there = stands_after b.stage b.sweep.next refl after newer.slot newer.header newer.new newer.there;
+    new = newer.new;
+    entry = newer.entry;
+    found = newer.found;
+  }
 
   abbrev Then : List ℕ → Type 0
   Then key = IsWritten store_now.held a.snapshot a.sweep.buffer key
@@ -122,8 +136,8 @@ module _ (index : PlaceMap) (store store_now : Store) (image : List ℕ) (partia
   carried : (key : List ℕ) → IsWritten store.held b.snapshot b.sweep.buffer key → Then key
   carried key is =
       let newer = as_newer store.held b.snapshot b.sweep.buffer key is in
-      then_as key (newer_after b.stage b.sweep.next key refl after newer)
-      (λ has. elim (well.filled key has) [ inl before ↦ is.unfilled before | inr old_one ↦ not_old store.held index key b.snapshot partial newer old_one ])
+      then_as key (newer_after key newer)
+      (λ has. elim (well key has) [ inl before ↦ is.unfilled before | inr old_one ↦ not_old store.held index key b.snapshot partial newer old_one ])
 
   -- and what is written then is not
   pub written_then : (old new : Moment) → old.collection ≡ b → new.collection ≡ a → StepsTo b.stage b.sweep.next old new → (last : ℕ) (written : List (List ℕ))

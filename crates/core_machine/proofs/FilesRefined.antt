@@ -1,11 +1,13 @@
 -- Each step of a core that stands for files is one of the machine of files.
-use Rattle.core_machine.proofs.Prelude.{◌≡◌, ◌⊎◌, inl, inr, ℕ, List, [], ◌∷◌, true, Option, Some, None, Result, Ok, Err, refl, sym, ◌∙◌, ap, subst, ◌≤◌, arith, KnownWith, Root, Answer, IsStep, StepValue, Phase, Refusal, ByteSet, HasNoCollisions, IsIn, Store, IsSettled, Stop, CrashLeaves, leaves_on, reads_leave, AnswersStopped, Row, Steps, StepsOr, FileEvent, FileStep, IsAt, IsGivenRight, IsHarmless, MayClash, CoreState, Event, IsRunning, IsUp, UnlessStopped, running_step, never_damaged, step_runs, step_later, one_map, Asked, FileMachine, SameState, asked_of, forget_step, ByState, Legal, Found, RunState, Running, Stopped, Adds, AddsBy, RootMachine, Run, of_files, of_roots, BytesOf, ChangesBytes, FitsBy, IsOfFound, IsOfPassed, IsAtFiles, IsFileMachine, IsOfFile, stored_in, Follows, FollowsPhase, HasIndex, IsMachine, SameStop, TellsForgotten, answered_by, asked_as, asked_by, NamesStep}
+use Rattle.core_machine.proofs.Prelude.{◌≡◌, ◌⊎◌, inl, inr, ℕ, List, [], ◌∷◌, true, Option, Some, None, Result, Ok, Err, refl, sym, ◌∙◌, ap, subst, ◌≤◌, arith, KnownWith, Root, Answer, IsStep, StepValue, Phase, Refusal, ByteSet, HasNoCollisions, IsIn, Store, IsSettled, Stop, CrashLeaves, leaves_on, reads_leave, AnswersStopped, Row, Steps, StepsOr, FileEvent, FileStep, IsAt, IsGivenRight, IsHarmless, MayClash, CoreState, Event, IsRunning, IsUp, UnlessStopped, running_step, never_damaged, step_runs, step_later, some_same, Asked, FileMachine, SameState, asked_of, forget_step, ByState, Legal, Found, RunState, Running, Stopped, Adds, AddsBy, RootMachine, Run, of_files, of_roots, BytesOf, ChangesBytes, FitsBy, IsOfFound, IsOfPassed, IsAtFiles, IsFileMachine, IsOfFile, stored_in, Follows, FollowsPhase, HasIndex, IsMachine, SameStop, TellsForgotten, answered_by, asked_as, asked_by, NamesStep}
 use Rattle.std.proofs.Common.{IfErr, map}
 use Rattle.actor_parts.specs.declared.step.Answer.TheVariants as answers
 use Rattle.actor_parts.specs.StepValue as steps
 use Rattle.refusals.specs.declared.refusal.Phase.TheVariants as phases
 use Rattle.refusals.specs.declared.refusal.Refusal.TheVariants as refusals
 use Rattle.dd_disk.proofs.Later.{reads_here}
+use Rattle.store_core.proofs.AnySteps.{gc_or_not}
+use Rattle.store_core.proofs.KeepingSegments.{stays_settled}
 use Rattle.store_core.specs.Core.{CoreStep}
 use Rattle.store_machine.specs.Done.{Done}
 use Rattle.store_machine.specs.Forgetting.{Forgets}
@@ -18,13 +20,13 @@ use Rattle.core_machine.proofs.BytesStepped.{bytes_stepped, stopped_bytes}
 use Rattle.core_machine.proofs.FileStands.{disk_stands}
 use Rattle.core_machine.proofs.FileGc.{gc_adds}
 use Rattle.core_machine.proofs.FileIngests.{claim_adds, commit_adds, seal_adds}
-use Rattle.core_machine.proofs.FileKept.{at_store, by_step, settled}
+use Rattle.core_machine.proofs.FileKept.{at_store, by_step}
 use Rattle.core_machine.proofs.FileLives.{lives_then}
 use Rattle.core_machine.proofs.FileReads.{reads_add}
 use Rattle.core_machine.proofs.FileReadsOn.{reads_on}
 use Rattle.core_machine.proofs.FileStays.{stands_read}
-use Rattle.core_machine.proofs.FileSteps.{StepsAt, StepsTo, by_gc}
-use Rattle.core_machine.proofs.FileSwept.{swept_at, swept_settled}
+use Rattle.core_machine.proofs.FileSteps.{StepsAt, StepsTo}
+use Rattle.core_machine.proofs.FileSwept.{swept_at}
 use Rattle.core_machine.proofs.FileWrote.{wrote_on}
 use Rattle.core_machine.proofs.Refined.{core_refines}
 
@@ -123,10 +125,10 @@ module _ {C : Type 0} {state : C → CoreState} {among : ByteSet} {f : FileEvent
   tells =
       subst (λ (keys : List (List ℕ)). TellsForgotten keys m.store.held s.at.is_at.index) s.forgets.forgotten
       (subst (λ (store : Store). TellsForgotten r.forgotten store.held s.at.is_at.index) s.forgets.store
-      (subst (TellsForgotten r.forgotten r.store.held) (one_map own.places s.at.is_at.index (sym own.known_is ∙ s.at.is_at.index_known)) (own.told refl)))
+      (subst (TellsForgotten r.forgotten r.store.held) (some_same own.places s.at.is_at.index (sym own.known_is ∙ s.at.is_at.index_known)) (own.told refl)))
 
   harmless : IfErr f.event.answer (λ refusal. IsHarmless (MayClash f.event.step) refusal)
-  harmless = never_damaged C state among [] f m.store (stored_in m.now) old old new s.apart s.at.is_at refl s.step
+  harmless = never_damaged among f m.store (stored_in m.now) (state old) (state new) s.apart s.at.is_at s.step
 
   abbrev AddsAs : StepValue → Type 0
   AddsAs step = AddsBy (asked_as (λ root. f.bytes) step) f.event.actor (answered_by f.event.answer f.event.buf) m r t
@@ -153,16 +155,13 @@ module _ {C : Type 0} {state : C → CoreState} {among : ByteSet} {f : FileEvent
     (to : StepsTo C state among f old new m n r t)
     (stays : (state new).stop ≡ None) where
   is_at : IsAt (IsIn among) n.store (stored_in n.now) (state new)
-  is_at = elim (by_gc f.event.step) [
-    | inl other ↦ at_store to other stays
-    | inr is ↦ swept_at C state among f old new m n r t to is stays
+  is_at = elim (gc_or_not f.event.step) [
+    | inl is ↦ swept_at C state among f old new m n r t to is stays
+    | inr other ↦ at_store to other stays
   ]
 
   settled_then : IsSettled (state new).tables.slots (state new).disk
-  settled_then = elim (by_gc f.event.step) [
-    | inl other ↦ settled to other stays
-    | inr is ↦ swept_settled C state among f old new m n r t to is stays
-  ]
+  settled_then = stays_settled among f m.store (stored_in m.now) (state old) (state new) to.steps.apart to.steps.at.is_at to.steps.at.settled to.steps.step stays
 
   pub at_files : IsAtFiles (IsIn among) n (state new)
   at_files = record {

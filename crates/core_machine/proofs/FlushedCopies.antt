@@ -1,5 +1,5 @@
 -- A step of a core's sweep that writes what was copied, as one of the machine's, on any disk.
-use Rattle.core_machine.proofs.Prelude.{◌≡◌, ◌≢◌, ℕ, suc, ◌+◌, Bool, true, List, [], ◌∷◌, ◌++◌, length, None, refl, sym, ◌∙◌, ap, subst, arith, Kind, Segment, HeaderValue, header_of, Root, Phase, IsValidFor, Store, HasFree, first_free, FlushContainer, StoreChange, with_sealed, first_closed, some_free, all_first, free_sealed, SlotTable, IsFirstFree, Represents, CoreSweep, HasNext, IsSweeping, IsTaken, entry_in, sources_before, Moment, phase_at, IsUnderWay, one_map, keys_written, next_of, sources_in, Sweeping, forgotten_beside, freed_more, written_more, HasCopied, SameRun, SameSweep, ids_at, FollowsPhase, TellsForgotten}
+use Rattle.core_machine.proofs.Prelude.{◌≡◌, ◌≢◌, ℕ, suc, ◌+◌, Bool, true, List, [], ◌∷◌, ◌++◌, length, None, refl, sym, ◌∙◌, ap, subst, arith, Kind, Segment, HeaderValue, header_of, Root, Phase, IsValidFor, Store, HasFree, first_free, FlushContainer, StoreChange, with_sealed, first_closed, some_free, all_first, free_sealed, SlotTable, IsFirstFree, Represents, CoreSweep, HasNext, IsSweeping, IsTaken, entry_in, sources_before, Moment, phase_at, IsUnderWay, some_same, keys_written, next_of, sources_in, Sweeping, forgotten_beside, freed_more, written_more, HasCopied, SameRun, SameSweep, ids_at, FollowsPhase, TellsForgotten}
 use Rattle.std.proofs.Common.{length-append}
 use Rattle.container_meta.specs.Segments.{keys_of}
 use Rattle.refusals.specs.declared.refusal.Phase.TheVariants as phases
@@ -135,7 +135,7 @@ module _ (m : M) (c : Collection Root) (source entry : ℕ) (old new : Moment) (
       let image = content told in
       let index = flushes.places image.0 image.1 moves.before moves.was in
       subst (λ (keys : List (List ℕ)). TellsForgotten (forgotten_beside keys m.forgotten) after.held moves.after) keys_filled
-      (subst (TellsForgotten (forgotten_beside (keys_of k.buffer) m.forgotten) after.held) (one_map _ moves.after (sym index ∙ moves.is))
+      (subst (TellsForgotten (forgotten_beside (keys_of k.buffer) m.forgotten) after.held) (some_same _ moves.after (sym index ∙ moves.is))
       (put_told m.forgotten (suc m.last_id) flushes.slot kind segments m.store moves.before free (moves.told told)))
 
   -- What was copied is written, whatever the index has.

@@ -1,5 +1,5 @@
 -- A step of a core's sweep that gives a source back, as one of the machine's, on any disk.
-use Rattle.core_machine.proofs.Prelude.{◌≡◌, ◌≢◌, ℕ, zero, suc, ◌+◌, ◌≤◌, Bool, true, false, List, [], ◌∷◌, ◌++◌, drop, length, Option, None, refl, sym, ◌∙◌, ap, subst, arith, AllByRecursion, eq-eqb, get_or-set_other, Contains-append_right, Known, HeaderValue, Root, Phase, with_freed, IsValidFor, Store, HasFree, FreeContainer, StoreChange, SlotTable, Represents, RepresentsSlots, CoreSweep, slot_in_turn, HasNext, IsSweeping, entry_in, sources_before, id_at, CoreCollection, Moment, SweepsOn, phase_at, IsUnderWay, one_map, keys_written, next_by, next_of, sources_in, Sweeping, freed_more, written_more, HasCopied, SameRun, SameSweep, ids_at, FollowsPhase, TellsForgotten}
+use Rattle.core_machine.proofs.Prelude.{◌≡◌, ◌≢◌, ℕ, zero, suc, ◌+◌, ◌≤◌, Bool, true, false, List, [], ◌∷◌, ◌++◌, drop, length, Option, None, refl, sym, ◌∙◌, ap, subst, arith, AllByRecursion, eq-eqb, get_or-set_other, Contains-append_right, Known, HeaderValue, Root, Phase, with_freed, IsValidFor, Store, HasFree, FreeContainer, StoreChange, SlotTable, Represents, RepresentsSlots, CoreSweep, slot_in_turn, HasNext, IsSweeping, entry_in, sources_before, id_at, CoreCollection, Moment, SweepsOn, phase_at, IsUnderWay, some_same, keys_written, next_by, next_of, sources_in, Sweeping, freed_more, written_more, HasCopied, SameRun, SameSweep, ids_at, FollowsPhase, TellsForgotten}
 use Rattle.std.proofs.Common.{Contains, get_or, set, append-nil}
 use Rattle.std.specs.Prelude.{nat_eq}
 use Rattle.std.specs.List.{IsDistinct}
@@ -229,7 +229,7 @@ module _ (m : M) (c : Collection Root) (source entry : ℕ) (old new : Moment) (
   tells : followed ≡ true → TellsForgotten m.forgotten after.held moves.after
   tells told =
       let image = content told in
-      subst (TellsForgotten m.forgotten after.held) (one_map moves.before moves.after (sym moves.was ∙ sym (index image.0 image.1) ∙ moves.is))
+      subst (TellsForgotten m.forgotten after.held) (some_same moves.before moves.after (sym moves.was ∙ sym (index image.0 image.1) ∙ moves.is))
       (freed_told m.forgotten slot m.store.held moves.before (moves.told told))
 
   -- A source is given back, whatever the index has.

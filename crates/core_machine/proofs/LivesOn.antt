@@ -1,7 +1,7 @@
 -- Just the keys of which a predicate holds are live, also after a step that is none of the collection, of which another holds then: of what the
 -- step keeps too. That is pinned, as are the children of a node that it keeps, so that all these are live; and what was live and held whole
 -- stays so.
-use Rattle.core_machine.proofs.Prelude.{◌≡◌, ◌⊎◌, ◌↔◌, inl, inr, ℕ, zero, suc, ◌+◌, ◌-◌, ◌<◌, Bool, true, false, List, [], ◌∷◌, ◌++◌, length, Option, Some, None, Result, Ok, refl, sym, ◌∙◌, ap, subst, arith, slice_get, AllByRecursion, Contains-append_cases, Contains-append_left, Contains-append_right, SLOT_BYTES, slot_at, Entry, Kind, Place, PlaceMap, Segment, entries_from, segment_key, HeaderValue, header_of, contents_in, Answer, PinMap, children_by, pin_by, pin_of, StepValue, apart, Refusal, LiveKeys, IsLiveAt, child_keys, Stored, Store, names_of, key_set, AreHeaders, HasKey, newest, bytes_at, node_key, some_same, contained, in_set, HoldsPart, Mark, Filter, Select, HoldsNode, IsPartKey, IsRoot, IsSafeAt, IsWithin, SweepIsSafe, contains_first, contains_none, IsLive, Collects, IsKeptKey, MarksIn, Row, Steps, ChangesTo, IsAt, IsSafeIn, changes_by, CoreState, Event, NextOn, contains_one, all_part, one_map, IsClosedAt, IsLiveAtStage, LivesJust}
+use Rattle.core_machine.proofs.Prelude.{◌≡◌, ◌⊎◌, ◌↔◌, inl, inr, ℕ, zero, suc, ◌+◌, ◌-◌, ◌<◌, Bool, true, false, List, [], ◌∷◌, ◌++◌, length, Option, Some, None, Result, Ok, refl, sym, ◌∙◌, ap, subst, arith, slice_get, AllByRecursion, Contains-append_cases, Contains-append_left, Contains-append_right, SLOT_BYTES, slot_at, Entry, Kind, Place, PlaceMap, Segment, entries_from, segment_key, HeaderValue, header_of, contents_in, Answer, PinMap, children_by, pin_by, pin_of, StepValue, apart, Refusal, LiveKeys, IsLiveAt, child_keys, Stored, Store, names_of, key_set, AreHeaders, HasKey, newest, bytes_at, node_key, some_same, contained, in_set, HoldsPart, Mark, Filter, Select, HoldsNode, IsPartKey, IsRoot, IsSafeAt, IsWithin, SweepIsSafe, contains_first, contains_none, IsLive, Collects, IsKeptKey, MarksIn, Row, Steps, ChangesTo, IsAt, IsSafeIn, changes_by, CoreState, Event, NextOn, contains_one, all_part, IsClosedAt, IsLiveAtStage, LivesJust}
 use Rattle.std.proofs.Common.{map}
 use Rattle.std.specs.Prelude.{Contains}
 use Rattle.std.specs.FinMap as finite
@@ -37,8 +37,8 @@ use Rattle.gc_steps.proofs.ClaimedPin.{one_more}
 use Rattle.gc_steps.proofs.Marked.{marks_none}
 use Rattle.gc_steps.proofs.PinnedTrees.{pin_found}
 use Rattle.gc_steps.proofs.SealedPins.{key_found}
-use Rattle.store_core.specs.Frame.{KeepsStanding}
-use Rattle.store_core.proofs.FinishedStores.{still_there}
+use Rattle.store_core.specs.Frame.{HadContainer}
+use Rattle.store_core.proofs.Frames.{still_there}
 use Rattle.core_machine.proofs.LiveTrees.{below_on, live_below, live_on}
 use Rattle.core_machine.proofs.PlainSteps.{IsPlainStep}
 
@@ -123,14 +123,18 @@ same_slot slot old new same p n above within =
     ∙ range-range (p - slot_at slot) n (slot_at slot) SLOT_BYTES old (omega (arith, above, within))
     ∙ ap (λ (q : ℕ). range q n old) (sym place)
 
--- the bytes of a copy stay where its container does
-copy_stays : (s t : Store) (base image : List ℕ) → KeepsStanding s t base image → StandOn s t → AreHeaders s.held → (key : List ℕ) (copy : Copy) → newest 0 s.held key ≡ Some copy
-    → bytes_at copy.place image ≡ bytes_at copy.place base
-copy_stays s t base image standing stand headers key copy is =
+-- the slots that have a container keep their bytes
+abbrev pub KeepsSlots : Store → List ℕ → List ℕ → Type 0
+KeepsSlots s base image = (slot : ℕ) → slot < s.slots → HadContainer s slot → range (slot_at slot) SLOT_BYTES image ≡ range (slot_at slot) SLOT_BYTES base
+
+-- and so does each copy
+copy_stays : (s : Store) (base image : List ℕ) → KeepsSlots s base image → length s.held ≡ s.slots → AreHeaders s.held → (key : List ℕ) (copy : Copy)
+    → newest 0 s.held key ≡ Some copy → bytes_at copy.place image ≡ bytes_at copy.place base
+copy_stays s base image keeps many headers key copy is =
     let l = lies 0 s.held key copy is in
     let slot : l.index ≡ copy.place.slot = omega (arith, ap (λ (c : Copy). c.place.slot) l.copy_is) in
     let there : slice_get s.held copy.place.slot ≡ Some (Some l.header) = ap (slice_get s.held) (sym slot) ∙ slice_get-get_or s.held l.index None l.within ∙ ap Some l.there in
-    copy_kept base image s.held key copy headers is (same_slot copy.place.slot base image (standing copy.place.slot l.header there (stand copy.place.slot l.header there)))
+    copy_kept base image s.held key copy headers is (same_slot copy.place.slot base image (keeps copy.place.slot (omega (arith, l.within, slot, many)) (l.header, there)))
 
 -- ---- pins
 
@@ -239,7 +243,7 @@ marks_kept step answer old new plain collects = unmarked (IsKeptKey step answer)
 
 module _ (S : List ℕ → Type 0) (s : Store) (stored later : Stored) (old new : CoreState) (e : Event) (at : IsAt S s stored old)
     (next : NextOn S s (changes_by e.step e.answer) later old new) (plain : IsPlainStep e.step) (steps : Steps e old new)
-    (base image : List ℕ) (was : old.disk.content ≡ Some base) (now : new.disk.content ≡ Some image) (standing : KeepsStanding s next.next.store base image) where
+    (base image : List ℕ) (was : old.disk.content ≡ Some base) (now : new.disk.content ≡ Some image) (keeps : KeepsSlots s base image) where
   abbrev K : List ℕ → Type 0
   K = IsKeptKey e.step e.answer
 
@@ -264,7 +268,7 @@ module _ (S : List ℕ → Type 0) (s : Store) (stored later : Stored) (old new 
       record {
         right = node.right;
         copy_is = is;
-        bytes_are = sym (copy_stays s t base image standing (stands_by s t e.step e.answer chain) at.valid.headers (node_key n) copy is) ∙ node.bytes_are;
+        bytes_are = sym (copy_stays s base image keeps at.valid.many at.valid.headers (node_key n) copy is) ∙ node.bytes_are;
       }
 
   -- what its actor pins is a root from then on
@@ -352,7 +356,7 @@ module _ (S : List ℕ → Type 0) (s : Store) (stored later : Stored) (old new 
           within = within;
           closed = λ shown is. subst (IsClosedAt b.stage after t.held) (some_same image shown (sym now ∙ is)) closed;
           all = λ index shown known is key needed.
-              subst (λ (m : PlaceMap). IsLiveAtStage b.stage m t.held shown a.live key) (one_map then.index index (sym then.index_known ∙ known))
+              subst (λ (m : PlaceMap). IsLiveAtStage b.stage m t.held shown a.live key) (some_same then.index index (sym then.index_known ∙ known))
               (subst (λ (bytes : List ℕ). IsLiveAtStage b.stage then.index t.held bytes a.live key) (some_same image shown (sym now ∙ is)) (all key needed));
         })
 

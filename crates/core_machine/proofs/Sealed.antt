@@ -1,5 +1,5 @@
 -- A seal of the core, as one of the machine of roots.
-use Rattle.core_machine.proofs.Prelude.{arith, ◌≡◌, Bool, true, ◌<◌, ◌≤◌, ℕ, suc, false, List, [], ◌∷◌, slice_set, Option, Some, None, Result, Ok, Err, refl, sym, ◌∙◌, ap, subst, nat_le, leb-true, Root, LAST_ID, Kind, PlaceMap, Segment, segment_key, Answer, PinMap, children_by, pin_by, Refusal, IsValidFor, header_of, IsIndexOf, first_free, first_closed, some_free, with_sealed, free_sealed, IsFirstFree, Represents, SealRow, SealsOne, StopsAfter, counted, Collects, IsKeptKey, CoreState, IsUnderWayIn, one_map, Answers, RunState, Running, Stopped, keeping, put_at, forgotten_beside, of_roots, SameCollection, HasIndex, IsMachine, SameStop, TellsForgotten, answered_by}
+use Rattle.core_machine.proofs.Prelude.{arith, ◌≡◌, Bool, true, ◌<◌, ◌≤◌, ℕ, suc, false, List, [], ◌∷◌, slice_set, Option, Some, None, Result, Ok, Err, refl, sym, ◌∙◌, ap, subst, nat_le, leb-true, Root, LAST_ID, Kind, PlaceMap, Segment, segment_key, Answer, PinMap, children_by, pin_by, Refusal, IsValidFor, header_of, IsIndexOf, first_free, first_closed, some_free, with_sealed, free_sealed, IsFirstFree, Represents, SealRow, SealsOne, StopsAfter, counted, Collects, IsKeptKey, CoreState, IsUnderWayIn, some_same, Answers, RunState, Running, Stopped, keeping, put_at, forgotten_beside, of_roots, SameCollection, HasIndex, IsMachine, SameStop, TellsForgotten, answered_by}
 use Rattle.std.proofs.Common.{◌&&◌}
 use Rattle.std.specs.FinMap as finite
 use Rattle.container_meta.specs.Segments.{Contents}
@@ -91,7 +91,7 @@ module _ {followed : Bool} (c d : CoreState) (m : M) (at : IsMachine followed m 
     map = effect.made.tells own.places own.known_is
 
     indexes : m.swept ≡ false → IndexesAll m.store c.known
-    indexes swept places known = subst (IsIndexOf m.store.held) (one_map own.places places (sym own.known_is ∙ known)) (own.newest swept).1
+    indexes swept places known = subst (IsIndexOf m.store.held) (some_same own.places places (sym own.known_is ∙ known)) (own.newest swept).1
 
     indexed : m.swept ≡ false → IsIndexOf (with_sealed id filled.kind filled.segments m.store).held map.0
     indexed swept =

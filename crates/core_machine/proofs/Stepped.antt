@@ -14,7 +14,7 @@ use Rattle.gc_steps.specs.declared.collection.Stage.TheVariants as core
 use Rattle.gc_steps.specs.Filtering as filtering
 use Rattle.gc_steps.specs.Filtering.{recorded_by}
 use Rattle.gc_steps.specs.Marking.{Scans}
-use Rattle.gc_steps.proofs.SparingStages.{recorded_id_by}
+use Rattle.gc_steps.proofs.RecordOf.{recorded_id_by}
 use Rattle.refusals.specs.declared.refusal.Phase.TheVariants as phases
 use Rattle.store_machine.specs.Collecting.{GoesOn, no_sweep}
 use Rattle.store_machine.specs.Machine.{Collection, Stage}

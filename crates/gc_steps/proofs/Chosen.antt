@@ -6,9 +6,8 @@ use Rattle.std.specs.List.{IsDistinct}
 use Rattle.std.specs.List.Sorted.{IsPermutation}
 use Rattle.std.proofs.lemmas.List.Elements.{All-contains_itself, All-filter, filter_passes}
 use Rattle.std.proofs.lemmas.List.Sorted.{length_permutation}
-use Rattle.gc_select.specs.Selecting.{AreSources, ids_of, selected, sources_of}
+use Rattle.gc_select.specs.Selecting.{ids_of, selected, sources_of}
 use Rattle.gc_select.proofs.Chosen.{ids_many}
-pub use Rattle.gc_select.proofs.Chosen.{chosen_which, sources_many}
 use Rattle.gc_sweep.specs.UnderWay.{AreLeft}
 use Rattle.gc_steps.specs.declared.collection.Stage.TheVariants.{Sweep}
 
@@ -67,10 +66,8 @@ module _ (t : SlotTable) (c : Collection) (sources : List ℕ) (recorded : IsRec
 
 -- what is so of the sources that are chosen
 pub record AreChosen (c : Collection) (sources : List ℕ) : Type 0 where
-  pub which : (id : ℕ) → Contains sources id ↔ IsSelectedId c.snapshot c.percent c.liveness id
   pub each : IsPermutation (ids_of (selected c.snapshot c.percent c.liveness)) sources
   pub apart : IsDistinct nat_eq (ids_of c.liveness) → IsDistinct nat_eq sources
-  pub in_order : AreSources (selected c.snapshot c.percent c.liveness) sources
   pub sources_are : sources ≡ sources_of (selected c.snapshot c.percent c.liveness)
 
 module _ (t : SlotTable) (c : Collection) (sources : List ℕ) (are : AreChosen c sources) (sweep : SweepValue) (begins : Begins t sources sweep) where
@@ -78,10 +75,8 @@ module _ (t : SlotTable) (c : Collection) (sources : List ℕ) (are : AreChosen 
   pub chooses : Chooses t c (record c { stage = Sweep; sweep = sweep })
   chooses =
       let now : AreChosen c sweep.sources.items = subst (AreChosen c) (sym begins.sources_are) are in record {
-        which = now.which;
         each = now.each;
         apart = now.apart;
-        in_order = now.in_order;
         sources_are = now.sources_are;
         begins = subst (λ (xs : List ℕ). Begins t xs sweep) (sym begins.sources_are) begins;
         collection_is = refl;

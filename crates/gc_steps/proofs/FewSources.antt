@@ -1,5 +1,5 @@
 -- No more sources are chosen than containers were there, and a seal brings no such container.
-use Rattle.gc_steps.proofs.Prelude.{◌≡◌, ◌<◌, ◌≤◌, ◌+◌, ◌-◌, ℕ, suc, Bool, true, false, List, [], ◌∷◌, length, Option, Vec, Global, refl, sym, ◌∙◌, ap, subst, arith, if◌then◌else◌, filter, SlotTable, Collection, Chooses, is_old, is_old_slot, old_from, IsRecordedTo, IsUnderWay, old_ids, PlaceMap, DiskView, Tables, Stage, Mark, Filter, Select, IsToChoose, Moment, StepsTo, TablesAfter, moment, Next, Flush, Release, End, Some, None, zero, filter_at, mark_level, mark_at, mark_on, mark_from, first_slot, is_tree_slot}
+use Rattle.gc_steps.proofs.Prelude.{◌≡◌, ◌<◌, ◌≤◌, ◌+◌, ◌-◌, ℕ, suc, Bool, true, false, List, [], ◌∷◌, length, Option, Vec, Global, refl, sym, ◌∙◌, ap, subst, arith, if◌then◌else◌, filter, SlotTable, Collection, Chooses, is_old, is_old_slot, old_from, IsRecordedTo, IsUnderWay, old_ids, PlaceMap, DiskView, Tables, Stage, Mark, Filter, Select, IsToChoose, Moment, StepsTo, TablesAfter, moment, Next, Flush, Release, End}
 use Rattle.std.proofs.Common.{get_or}
 use Rattle.gc_steps.specs.StepsToCome.{count_from}
 use Rattle.gc_steps.specs.declared.collection.Stage.TheVariants.{Sweep}
@@ -7,27 +7,6 @@ use Rattle.gc_steps.specs.FewSources.{HasFewSources}
 use Rattle.gc_sweep.specs.declared.sweep.Next.TheVariants.{Copy}
 use Rattle.gc_steps.proofs.Chosen.{few_chosen}
 use Rattle.gc_steps.proofs.UnderWay.{at_stage}
-
--- ---- it doesn't sweep yet
-
-pub filter_early : (found : Option ℕ) → IsToChoose (filter_at found)
-filter_early None = tt
-filter_early (Some slot) = tt
-
-pub level_early : (snapshot : ℕ) (t : SlotTable) (level : ℕ) → IsToChoose (mark_level snapshot t level)
-level_early snapshot t zero = filter_early (first_slot t (is_old_slot snapshot t) 0)
-level_early snapshot t (suc level) = by_found (first_slot t (is_tree_slot snapshot t) 0)
-  where
-    by_found : (found : Option ℕ) → IsToChoose (mark_at snapshot t (suc level) found)
-    by_found None = filter_early (first_slot t (is_old_slot snapshot t) 0)
-    by_found (Some slot) = tt
-
-pub mark_early : (snapshot : ℕ) (t : SlotTable) (level from : ℕ) → IsToChoose (mark_from snapshot t level from)
-mark_early snapshot t level from = by_found (first_slot t (is_tree_slot snapshot t) from)
-  where
-    by_found : (found : Option ℕ) → IsToChoose (mark_on snapshot t level found)
-    by_found None = level_early snapshot t (level - 1)
-    by_found (Some slot) = tt
 
 -- the slots from one on that pass a test of their ids, of ids from there on
 count_passing : (test : ℕ → Bool) (slot_test : ℕ → Bool) (ids : List ℕ) (from : ℕ) → ((i : ℕ) → i < length ids → slot_test (from + i) ≡ test (get_or ids i 0))

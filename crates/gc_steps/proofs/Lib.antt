@@ -44,7 +44,6 @@ pub mod Scans
 pub mod Sealed
 pub mod SealedPins
 pub mod Sparing
-pub mod SparingStages
 pub mod Started
 pub mod StepSafe
 pub mod SweepSteps

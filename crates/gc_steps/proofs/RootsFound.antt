@@ -1,11 +1,12 @@
 -- The roots of a collection are found, where the content of the disk stands for files.
-use Rattle.gc_steps.proofs.Prelude.{◌≡◌, ◌≢◌, ◌⊎◌, ◌≤◌, inl, inr, ℕ, zero, suc, Bool, true, false, List, [], ◌∷◌, ◌++◌, length, Option, Some, None, refl, sym, ◌∙◌, ap, subst, if◌then◌else◌, nat_lt, AllByRecursion, flat_map, eq-eqb, All-contains, All-from_recursion, key_of, Root, MOST_FILE, ACTORS, Part, Idle, Reading, Writing, Pin, PinMap, Place, PlaceMap, Why, IsMisplaced, Top, node_digest, of_segment, IsTree, contents_of, trees_in, Named, NamedRoot, listing_of, Refusal, Damaged, DiskRead, Memory, Missing, Files, Store, names_of, root_key, HoldsCounted, HasKey, IsPartialIndexOf, IsStoreOf, file_tree, some_same, FitsFile, file_of_root, files_fit, right_file, root_of_tree, ArePinsOf, CoreInvariant, HoldsPart, IndexesFiles, RootKey, IsRootOf, keys_as_pinned, keys_of_listed, keys_of_number, keys_of_part, keys_of_pin, keys_of_root, roots_of, IsFound, IsStartRefusal, IsUnfound, StopsAt}
+use Rattle.gc_steps.proofs.Prelude.{◌≡◌, ◌≢◌, ◌⊎◌, ◌≤◌, inl, inr, ℕ, zero, suc, Bool, true, false, List, [], ◌∷◌, length, Option, Some, None, refl, sym, ◌∙◌, ap, subst, if◌then◌else◌, nat_lt, AllByRecursion, flat_map, eq-eqb, All-contains, All-from_recursion, key_of, Root, MOST_FILE, ACTORS, Part, Idle, Reading, Writing, Pin, PinMap, Place, PlaceMap, Why, IsMisplaced, Top, node_digest, of_segment, IsTree, contents_of, trees_in, Named, NamedRoot, listing_of, Refusal, Damaged, DiskRead, Memory, Missing, Files, Store, names_of, root_key, HoldsCounted, HasKey, IsPartialIndexOf, IsStoreOf, file_tree, some_same, FitsFile, file_of_root, files_fit, right_file, root_of_tree, ArePinsOf, CoreInvariant, HoldsPart, IndexesFiles, RootKey, IsRootOf, keys_as_pinned, keys_of_listed, keys_of_number, keys_of_part, keys_of_pin, keys_of_root, roots_of, IsFound, IsStartRefusal, IsUnfound, StopsAt}
 use Rattle.std.proofs.Common.{◌==◌}
 use Rattle.std.specs.FinMap as finite
 use Rattle.std.specs.List.{Contains}
 use Rattle.actor_parts.specs.Parts.{part_of}
 use Rattle.merkle_file.specs.Tree as tree
 use Rattle.merkle_file.specs.Tree.{Tree}
+use Rattle.gc_sweep.proofs.KeyLists.{both_so}
 use Rattle.gc_steps.specs.Roots.{keys_of_first}
 use Rattle.gc_steps.proofs.Levels.{tree_level}
 use Rattle.gc_steps.proofs.ListedKeys.{each_name}
@@ -16,13 +17,9 @@ use Rattle.gc_steps.proofs.Started.{part_holds}
 
 -- ---- lists
 
-joined : (P : RootKey → Type 0) (xs ys : List RootKey) → AllByRecursion P xs → AllByRecursion P ys → AllByRecursion P (xs ++ ys)
-joined P [] ys first second = second
-joined P (x ∷ xs) ys first second = (first.0, joined P xs ys first.1 second)
-
 each_of : {X : Type 0} (P : RootKey → Type 0) (f : X → List RootKey) (xs : List X) → AllByRecursion (λ x. AllByRecursion P (f x)) xs → AllByRecursion P (flat_map f xs)
 each_of P f [] all = tt
-each_of P f (x ∷ xs) all = joined P (f x) (flat_map f xs) all.0 (each_of P f xs all.1)
+each_of P f (x ∷ xs) all = both_so P (f x) (flat_map f xs) all.0 (each_of P f xs all.1)
 
 every : {X : Type 0} (P : X → Type 0) (xs : List X) → ((x : X) → P x) → AllByRecursion P xs
 every P [] all = tt
@@ -98,14 +95,14 @@ module _ (index : PlaceMap) (store : Store) (files : Files) (image : List ℕ) (
     first_found : (parts : List Part) (count : ℕ) → AllByRecursion (HoldsPart (HasKey index) store.held image) parts → AllByRecursion Found (keys_of_first parts count)
     unfolding keys_of_first
     first_found parts zero all = tt
-    first_found parts (suc count) all = joined Found (keys_of_first parts count) (keys_of_number parts count) (first_found parts count all) (number_found parts count all)
+    first_found parts (suc count) all = both_so Found (keys_of_first parts count) (keys_of_number parts count) (first_found parts count all) (number_found parts count all)
 
 -- Each root is found.
 pub roots_found : (index : PlaceMap) (store : Store) (files : Files) (parts : List Part) (image : List ℕ) → CoreInvariant index store files parts image
     → IsStoreOf store files image
     → AllByRecursion (IsFound (Some index)) (roots_of (names_of store) parts)
 roots_found index store files parts image core holds =
-    joined (IsFound (Some index)) (flat_map keys_of_listed (listing_of (names_of store))) (keys_of_first parts ACTORS)
+    both_so (IsFound (Some index)) (flat_map keys_of_listed (listing_of (names_of store))) (keys_of_first parts ACTORS)
     (names_found index store files image core.index_is_newest holds core.files_are_indexed)
     (first_found index store files image core.index_is_newest holds parts ACTORS core.pins_are_closed)
 

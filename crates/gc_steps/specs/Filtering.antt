@@ -1,5 +1,5 @@
 -- What recording a container, and choosing the sources, do to a collection (docs/MODEL.md, 'Collection').
-use Rattle.std.specs.Prelude.{◌≡◌, ◌⊎◌, ◌↔◌, ℕ, ◌+◌, [], ◌∷◌, ◌++◌, get_or, slice_get, Option, None, Some, Contains, nat_eq}
+use Rattle.std.specs.Prelude.{◌≡◌, ◌⊎◌, ℕ, ◌+◌, [], ◌∷◌, ◌++◌, get_or, slice_get, Option, None, Some, nat_eq}
 use Rattle.std.specs.List.{IsDistinct}
 use Rattle.std.specs.List.Sorted.{IsPermutation}
 use Rattle.container_meta.specs.declared.kind.Kind.TheVariants.{Leaf}
@@ -9,7 +9,7 @@ use Rattle.dd_disk.specs.Shows.{Shows}
 use Rattle.dd_disk.specs.View.{DiskView}
 use Rattle.disk_format.specs.Layout.{slot_at}
 use Rattle.gc_select.specs.declared.liveness.ContainerLiveness.{ContainerLiveness}
-use Rattle.gc_select.specs.Selecting.{AreSources, IsSelectedId, ids_of, selected, sources_of}
+use Rattle.gc_select.specs.Selecting.{ids_of, selected, sources_of}
 use Rattle.segment_index.specs.Places.{KnownMap}
 use Rattle.store_model.specs.Slots.{HoldsSlot}
 use Rattle.store_state.specs.declared.slot_table.SlotCount.{SlotCount}
@@ -56,10 +56,8 @@ IsRecordRefusal t known old new slot refusal = ⊥
 -- The sources are chosen: just the containers that are selected, each as often as it was recorded, so each once where each was recorded
 -- once; data before trees, and by rising id. There is one such list. And a sweep of them begins.
 pub record Chooses (t : SlotTable) (before after : Collection) : Type 0 where
-  pub which : (id : ℕ) → Contains after.sweep.sources.items id ↔ IsSelectedId before.snapshot before.percent before.liveness id
   pub each : IsPermutation (ids_of (selected before.snapshot before.percent before.liveness)) after.sweep.sources.items
   pub apart : IsDistinct nat_eq (ids_of before.liveness) → IsDistinct nat_eq after.sweep.sources.items
-  pub in_order : AreSources (selected before.snapshot before.percent before.liveness) after.sweep.sources.items
   pub sources_are : after.sweep.sources.items ≡ sources_of (selected before.snapshot before.percent before.liveness)
   pub begins : Begins t after.sweep.sources.items after.sweep
   pub collection_is : after ≡ record before { stage = Sweep; sweep = after.sweep }

@@ -1,10 +1,9 @@
 -- What planning the entries of a container adds to what is filled, and which keys leave the index, by a map that is known.
-use Rattle.gc_sweep.proofs.Prelude.{◌≡◌, ◌⊎◌, inl, inr, ℕ, true, false, List, [], ◌∷◌, ◌++◌, take, map, Some, append-nil, refl, sym, ◌∙◌, ap, subst, AllByRecursion, bytes_eq, sha256, Entry, Kind, kind_byte, PlaceMap, Contents, Segment, has_key, keys_of, segment_key, entry_key, place_of, bytes_at, is_copy, Planned, Source, Takes, TakesOne}
+use Rattle.gc_sweep.proofs.Prelude.{◌≡◌, ◌⊎◌, inl, inr, ℕ, true, false, List, [], ◌∷◌, ◌++◌, take, map, Some, append-nil, refl, sym, ◌∙◌, ap, subst, AllByRecursion, sha256, Entry, Kind, kind_byte, PlaceMap, Contents, Segment, has_key, keys_of, segment_key, entry_key, place_of, bytes_at, is_copy, Planned, Source, Takes, TakesOne}
 use Rattle.std.proofs.Common.{append_assoc}
-use Rattle.std.specs.List.{IsDistinct}
 use Rattle.base_model.specs.Bytes.{key_of}
 use Rattle.copy_forward.specs.Planning.{HasLiveKey}
-use Rattle.gc_sweep.proofs.KeyLists.{both_so, distinct_more, keys_append, listed, listed_left, listed_one, listed_right}
+use Rattle.gc_sweep.proofs.KeyLists.{both_so, keys_append, listed, listed_left, listed_one, listed_right}
 
 -- A segment that was added: that of a live copy, as it was shown.
 pub record IsOfCopy (s : Source) (S : (List ℕ → Type 0) → Type 0) (m : PlaceMap) (x : Segment) : Type 0 where
@@ -150,25 +149,3 @@ module _ (s : Source) (S : (List ℕ → Type 0) → Type 0) (m : PlaceMap) (kno
       let first = one_gains e before mid one in
       subst (λ (n : ℕ). AllByRecursion (IsPlanned s m after) (take n (e ∷ es))) (sym more)
       (later_planned e mid after (takes_gain es mid after rest others) (one_planned e before mid kind one), all_planned es mid after rest (first.kind_is ∙ kind) others)
-
-  -- ---- no key is filled twice
-
-  one_apart : (e : Entry) (before after : Planned) → before.buffer.kind ≡ s.kind → TakesOne s S e before after → IsDistinct bytes_eq (keys_of before.buffer)
-      → IsDistinct bytes_eq (keys_of after.buffer)
-  one_apart e before after kind (inl (passed, is)) apart = subst (λ (p : Planned). IsDistinct bytes_eq (keys_of p.buffer)) (sym is) apart
-  one_apart e before after kind (inr (inl (dead, is))) apart = subst (λ (p : Planned). IsDistinct bytes_eq (keys_of p.buffer)) (sym is) apart
-  one_apart e before after kind (inr (inr (live, inl (had, is), dead))) apart = subst (λ (c : Contents). IsDistinct bytes_eq (keys_of c)) (sym is) apart
-  one_apart e before after kind (inr (inr (live, inr (lacks, adds), dead))) apart =
-      let added : Segment = record { level = e.level; bytes = adds.bytes } in
-      let key : segment_key before.buffer.kind added ≡ entry_key s.kind e = ap (λ (k : Kind). segment_key k added) kind ∙ key_of_added e adds.bytes adds.digest_is in
-      subst (λ (c : Contents). IsDistinct bytes_eq (keys_of c)) (sym adds.after_is)
-      (subst (IsDistinct bytes_eq) (sym (keys_append before.buffer.kind before.buffer.segments (added ∷ [])))
-      (distinct_more (keys_of before.buffer) (segment_key before.buffer.kind added) apart (ap (has_key before.buffer) key ∙ lacks.0)))
-
-  pub takes_apart : (es : List Entry) (before after : Planned) (count : ℕ) → before.buffer.kind ≡ s.kind → Takes s S es before after count
-      → IsDistinct bytes_eq (keys_of before.buffer)
-      → IsDistinct bytes_eq (keys_of after.buffer)
-  takes_apart [] before after count kind none apart = subst (λ (p : Planned). IsDistinct bytes_eq (keys_of p.buffer)) (sym none.0) apart
-  takes_apart (e ∷ es) before after count kind (inl full) apart = subst (λ (p : Planned). IsDistinct bytes_eq (keys_of p.buffer)) (sym full.1) apart
-  takes_apart (e ∷ es) before after count kind (inr (mid, (rest, (more, one, others)))) apart =
-      takes_apart es mid after rest ((one_gains e before mid one).kind_is ∙ kind) others (one_apart e before mid kind one apart)

@@ -1,19 +1,15 @@
 -- What holds of a sweep by the store, as it begins, as the disk changes beside its copies, and as it ends.
-use Rattle.gc_sweep.proofs.Prelude.{◌≡◌, ◌≢◌, ℕ, ◌<◌, true, false, List, [], ◌∷◌, ◌++◌, length, get_or, map, Option, Some, refl, sym, ◌∙◌, ap, subst, arith, AllByRecursion, bytes_eq, Contains-append_right, PlaceMap, Contents, Segment, has_key, segment_key, HeaderValue, LiveKeys, HasNewest, RepresentsSlots, SlotTable, Next, CopyNext, Flush, Release, End, Sweep, Begins, HoldsSweep, IsCopied, slot_in_turn, IsNext, HasNoEntryIn, HasNext, IsSweeping, entry_in, sources_before}
-use Rattle.std.specs.Prelude.{slice_get}
-use Rattle.std.specs.List.{Contains, IsDistinct}
+use Rattle.gc_sweep.proofs.Prelude.{◌≡◌, ◌≢◌, ℕ, true, false, List, [], ◌∷◌, get_or, map, Option, refl, sym, ◌∙◌, ap, subst, arith, AllByRecursion, Contains-append_right, PlaceMap, Contents, Segment, has_key, segment_key, HeaderValue, LiveKeys, HasNewest, RepresentsSlots, SlotTable, Next, CopyNext, Flush, Release, End, Sweep, Begins, HoldsSweep, IsCopied, slot_in_turn, IsNext, HasNoEntryIn, HasNext, IsSweeping, entry_in, sources_before}
+use Rattle.std.specs.List.{Contains}
 use Rattle.std.proofs.lemmas.List.Elements.{Contains-get_or}
 use Rattle.gc_sweep.proofs.InSlots.{IsSourceIn, none_in, stands_in}
-use Rattle.gc_sweep.proofs.KeyLists.{each_so, listed, none_distinct}
+use Rattle.gc_sweep.proofs.KeyLists.{each_so, listed}
 
 -- ---- what is filled
 
 -- where it has nothing it has no key
 pub no_key : (c : Contents) (key : List ℕ) → c.segments ≡ [] → has_key c key ≡ true → ⊥
 no_key c key none has = let wrong : true ≡ false = sym has ∙ ap (λ (ss : List Segment). listed (map (segment_key c.kind) ss) key) none in cc
-
-pub no_keys_apart : (c : Contents) → c.segments ≡ [] → IsDistinct bytes_eq (map (segment_key c.kind) c.segments)
-no_keys_apart c none = subst (λ (ss : List Segment). IsDistinct bytes_eq (map (segment_key c.kind) ss)) (sym none) none_distinct
 
 pub none_copied : (P : Segment → Type 0) (c : Contents) → c.segments ≡ [] → AllByRecursion P c.segments
 none_copied P c none = subst (AllByRecursion P) (sym none) tt
@@ -25,21 +21,19 @@ pub begun_holds : (t : SlotTable) (sources : List ℕ) (s : Sweep) (index : Plac
     → HoldsSweep index held image live snapshot s
 begun_holds t sources s index held image live snapshot begins = record {
   copied = none_copied (IsCopied index live held image s.buffer.kind) s.buffer begins.empty;
-  once = no_keys_apart s.buffer begins.empty;
   origin = λ key place has found. absurd (no_key s.buffer key begins.empty has);
   waiting = λ slot there. absurd (none_in s.waiting.items slot begins.none_waits there);
   ready = λ slot there. absurd (none_in s.ready.items slot begins.none_ready there);
-  half = λ slot h half. absurd (omega (arith, half.some, first.1));
-  none_lost = λ slot number h there below id_is. absurd (omega (arith, below, first.0));
+  half = λ slot h half. absurd (omega (arith, half.some, first));
 }
   where
-    by_next : (n : Next) → IsNext t sources s.buffer 0 0 n → (sources_before s n ≡ 0) × (entry_in n ≡ 0)
-    by_next (CopyNext source entry) is = (is.0, is.1)
-    by_next (Flush source entry) is = (is.0, is.1)
+    by_next : (n : Next) → IsNext t sources s.buffer 0 0 n → entry_in n ≡ 0
+    by_next (CopyNext source entry) is = is.1
+    by_next (Flush source entry) is = is.1
     by_next (Release source entry) is = absurd is
-    by_next End is = (omega (arith, is.1, ap length begins.sources_are), refl)
+    by_next End is = refl
 
-    first : (sources_before s s.next ≡ 0) × (entry_in s.next ≡ 0)
+    first : entry_in s.next ≡ 0
     first = by_next s.next begins.next_is
 
 -- ---- a disk whose newest copies stay
@@ -55,12 +49,10 @@ holds_on_disk index held image now live snapshot s keeps holds = record {
         newest = keeps
             (segment_key s.buffer.kind x) x.level x.bytes is.newest;
       } in one)) holds.copied;
-  once = holds.once;
   origin = holds.origin;
   waiting = holds.waiting;
   ready = holds.ready;
   half = holds.half;
-  none_lost = holds.none_lost;
 }
 
 -- ---- the first source that is ready
@@ -86,16 +78,3 @@ in_turn t index held image live snapshot source entry s slots under stage holds 
       is_ready = there;
       none = holds.ready (slot_in_turn s) there;
     }
-
--- ---- at its end
-
--- no source stands still
-pub none_left : (t : SlotTable) (index : PlaceMap) (held : List (Option HeaderValue)) (image : List ℕ) (live : LiveKeys) (snapshot : ℕ) (s : Sweep) → IsSweeping t snapshot s
-    → s.next ≡ End
-    → HoldsSweep index held image live snapshot s → (number : ℕ) → number < length s.sources.items → (slot : ℕ) (h : HeaderValue) → slice_get held slot ≡ Some (Some h)
-    → h.id ≢ get_or s.sources.items number 0
-none_left t index held image live snapshot s under stage holds number within slot h there id_is =
-    let has : HasNext t s End = subst (HasNext t s) stage under.next_is in
-    let below : number < sources_before s s.next = subst (λ (n : Next). number < sources_before s n) (sym stage) within in
-    let none : s.waiting.items ++ s.ready.items ≡ [] = ap (λ (xs : List ℕ). xs ++ s.ready.items) (under.waits has.1) ∙ has.0 in
-    none_in (s.waiting.items ++ s.ready.items) slot none (holds.none_lost slot number h there below id_is)

@@ -55,7 +55,6 @@ module _ (index later : PlaceMap) (held held_now : List (Option HeaderValue)) (i
         } in
         one
         )) holds.copied;
-    once = holds.once;
     origin = λ key place has found. elim (beside.places key place found) [
       | inl was ↦ origin_on place.slot (holds.origin key place has was)
       | inr new ↦ inr (inr new)
@@ -68,8 +67,6 @@ module _ (index later : PlaceMap) (held held_now : List (Option HeaderValue)) (i
         let was = half_before slot h half in
         let so = holds.half slot h was in
         (so.0, copied_on slot h (has_key s.buffer) (entry_in s.next) was.there (half_old slot h half) so.1);
-    none_lost = λ slot number h there below id_is.
-        holds.none_lost slot number h (beside.stood slot h there (omega (arith, id_is, sources.old number (omega (arith, below, sources.before))))) below id_is;
   }
 
 -- and so do its sources

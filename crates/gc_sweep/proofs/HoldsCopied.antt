@@ -1,14 +1,13 @@
 -- What holds of a sweep by the store holds once a source was copied; each live key keeps its place, and the index has no new one.
-use Rattle.gc_sweep.proofs.Prelude.{◌≡◌, inl, inr, ℕ, ◌<◌, ◌≤◌, true, false, List, [], ◌++◌, length, drop, get_or, append-nil, Option, Some, None, refl, sym, ◌∙◌, ap, subst, arith, nat_eq, AllByRecursion, bytes_eq, eq-eqb, eqb-true, Contains-append_left, apart_from_distinct, Kind, Place, PlaceMap, Contents, has_key, keys_of, HeaderValue, Plan, PlansBy, without_keys, IsPlan, planned, source_of, Shows, DiskView, shown_content, LiveKeys, DifferentIds, HoldSlots, HoldsSlot, IsPartialIndexOf, HasNewest, RepresentsSlots, SlotTable, CopyNext, Sweep, CopiesSource, GoesOn, TakesBy, AreCopied, HoldsSweep, IsCopied, IsHalfCopied, IsLive, IsOrigin, HasNoEntryIn, HasNext, IsSweeping, entry_in, sources_before}
-use Rattle.std.specs.Prelude.{slice_get}
+use Rattle.gc_sweep.proofs.Prelude.{IsLive, ◌≡◌, inl, inr, ℕ, ◌<◌, ◌≤◌, true, false, List, [], length, drop, get_or, Option, Some, None, refl, sym, ◌∙◌, ap, subst, arith, nat_eq, AllByRecursion, eq-eqb, eqb-true, Contains-append_left, apart_from_distinct, Kind, Place, PlaceMap, Contents, has_key, HeaderValue, Plan, PlansBy, without_keys, IsPlan, planned, source_of, Shows, DiskView, shown_content, LiveKeys, DifferentIds, HoldSlots, HoldsSlot, IsPartialIndexOf, HasNewest, RepresentsSlots, SlotTable, CopyNext, Sweep, CopiesSource, GoesOn, TakesBy, AreCopied, HoldsSweep, IsCopied, IsHalfCopied, IsOrigin, HasNoEntryIn, HasNext, IsSweeping, entry_in, sources_before}
 use Rattle.std.specs.FinMap as finite
-use Rattle.std.specs.List.{Contains, IsDistinct}
+use Rattle.std.specs.List.{Contains}
 use Rattle.copy_forward.specs.Copying.{Forgets}
 use Rattle.gc_sweep.specs.Holding.{HasOnlyIn}
 use Rattle.gc_sweep.proofs.Copied.{adds_few}
 use Rattle.gc_sweep.proofs.Holds.{holds_on_disk, no_key}
 use Rattle.gc_sweep.proofs.InSlots.{one_header, one_slot, stands_in}
-use Rattle.gc_sweep.proofs.PlannedKeys.{all_copied, filled_apart, filled_new, filled_on, keys_stay, passed_copied, places_were, slot_copied}
+use Rattle.gc_sweep.proofs.PlannedKeys.{all_copied, filled_new, filled_on, keys_stay, passed_copied, places_were, slot_copied}
 use Rattle.gc_sweep.proofs.SourceEnds.{Ends, ends_by}
 use Rattle.gc_sweep.proofs.SourceRead.{IsReadOf, at_copy_next, not_other, read_of}
 use Rattle.gc_sweep.specs.Copying.{copy_step}
@@ -125,31 +124,14 @@ module _ (t : SlotTable) (index : PlaceMap) (held : List (Option HeaderValue)) (
               (subst (λ (c : Contents). AreCopied (has_key c) later slot h plan.next) (sym buffer_is) all))),
         )
 
-    none_lost_now : (x number : ℕ) (g : HeaderValue) → slice_get held x ≡ Some (Some g) → number < sources_before s' s'.next → g.id ≡ get_or s'.sources.items number 0
-        → Contains (s'.waiting.items ++ s'.ready.items) x
-    none_lost_now x number g there below id_is =
-        let id : g.id ≡ get_or s.sources.items number 0 = id_is ∙ ap (λ (xs : List ℕ). get_or xs number 0) (ap (λ (v : _). v.items) others.sources_are) in
-        elim (ends.lost number below) [
-          | inl less ↦
-              let lost = holds.none_lost x number g there (omega (arith, less, before_is)) id in
-              let waits = subst (λ (xs : List ℕ). Contains xs x) (ap (λ (xs : List ℕ). s.waiting.items ++ xs) at.1 ∙ append-nil s.waiting.items) lost in
-              Contains-append_left s'.waiting.items s'.ready.items x (ends.waits_on x waits)
-          | inr (same, here) ↦
-              let slot_is : x ≡ slot = one_slot held x slot g h differ there read.there (id ∙ ap (λ (k : ℕ). get_or s.sources.items k 0) same ∙ sym read.id_is) in
-              subst (Contains (s'.waiting.items ++ s'.ready.items)) (sym slot_is) here
-        ]
-
     held_now : HoldsSweep later held image live snapshot s'
     held_now = record {
       copied = subst (λ (c : Contents). AllByRecursion (IsCopied later live held image c.kind) c.segments) (sym buffer_is)
           (all_copied index held image live snapshot source entry s slot kind filling h partial read old new content plan is holds.copied);
-      once = subst (λ (c : Contents). IsDistinct bytes_eq (keys_of c)) (sym buffer_is)
-          (filled_apart index held image live snapshot source entry s slot kind filling h partial read old new content plan is holds.once);
       origin = origin_now;
       waiting = waiting_now;
       ready = ready_now_empty;
       half = half_now;
-      none_lost = none_lost_now;
     }
 
     leaves : known_now ≡ Some later → LeavesHeld index held image live snapshot known_now s'

@@ -1,10 +1,10 @@
 -- What holds of a sweep by the store holds once what was copied is written, and all live keys stay live.
-use Rattle.gc_sweep.proofs.Prelude.{◌≡◌, ◌≢◌, ◌⊎◌, inl, inr, ℕ, zero, suc, ◌+◌, ◌<◌, ◌≤◌, Bool, true, false, List, [], ◌∷◌, ◌++◌, length, get_or, map, take, append-nil, Option, Some, None, refl, sym, ◌∙◌, ap, subst, arith, ◌||◌, bytes_eq, Contains-append_left, sha256, Entry, Kind, Place, PlaceMap, Segment, entries_from, has_key, segment_key, HeaderValue, IsHeader, header_of, is_copy, LiveKeys, entry_key, with_entries, first_free, free_slots, place_of, with_slot, some_same, first_closed, some_free, entry_of, put_none, put_some, still_has, RepresentsSlots, SlotTable, Flush, Sweep, HasFlushed, AreCopied, HoldsSweep, IsCopied, IsHalfCopied, IsLive, HasNoEntryIn, HasNext, IsSweeping, entry_in, sources_before}
+use Rattle.gc_sweep.proofs.Prelude.{◌≡◌, ◌≢◌, ◌⊎◌, inl, inr, ℕ, zero, suc, ◌+◌, ◌<◌, ◌≤◌, Bool, true, false, List, [], ◌∷◌, length, get_or, map, take, Option, Some, None, refl, sym, ◌∙◌, ap, subst, arith, ◌||◌, bytes_eq, Contains-append_left, sha256, Entry, Kind, Place, PlaceMap, Segment, entries_from, has_key, segment_key, HeaderValue, IsHeader, header_of, is_copy, LiveKeys, entry_key, with_entries, first_free, free_slots, place_of, with_slot, some_same, first_closed, some_free, entry_of, put_none, put_some, still_has, RepresentsSlots, SlotTable, Flush, Sweep, HasFlushed, AreCopied, HoldsSweep, IsCopied, IsHalfCopied, IsLive, HasNoEntryIn, HasNext, IsSweeping, entry_in, sources_before}
 use Rattle.std.proofs.Common.{cond}
 use Rattle.std.specs.Prelude.{slice_get}
 use Rattle.std.specs.FinMap as finite
 use Rattle.std.specs.List.{Contains}
-use Rattle.gc_sweep.proofs.Holds.{no_key, no_keys_apart, none_copied}
+use Rattle.gc_sweep.proofs.Holds.{no_key, none_copied}
 use Rattle.gc_sweep.proofs.InSlots.{at_copy, copy_at, live_on, none_in, source_old, stands_in}
 use Rattle.gc_sweep.proofs.KeyLists.{each_so, listed}
 
@@ -134,7 +134,6 @@ module _ (t : SlotTable) (index : PlaceMap) (held : List (Option HeaderValue)) (
     pub holds_flushed : HoldsSweep later held_now now live snapshot s'
     holds_flushed = record {
       copied = none_copied (IsCopied later live held_now now s'.buffer.kind) s'.buffer flushed.emptied;
-      once = no_keys_apart s'.buffer flushed.emptied;
       origin = λ key at filled found. absurd (no_key s'.buffer key flushed.emptied filled);
       waiting = λ slot there. absurd (none_in s'.waiting.items slot flushed.none_waits there);
       ready = λ slot there. ready_empty slot (subst (λ (xs : List ℕ). Contains xs slot) flushed.ready_is there);
@@ -145,11 +144,4 @@ module _ (t : SlotTable) (index : PlaceMap) (held : List (Option HeaderValue)) (
             omega (arith, so.0, count),
             subst (λ (n : ℕ). AreCopied (has_key s'.buffer) later slot g n) (sym count) (half_empty slot g (entry_in s.next) was.there so.1),
           );
-      none_lost = λ slot number g there below id_is.
-          let id : g.id ≡ get_or s.sources.items number 0 = id_is ∙ ap (λ (xs : List ℕ). get_or xs number 0) sources_are in
-          let within : number < length s.sources.items = omega (arith, below, before_now, before_is, under.before) in
-          let lost = holds.none_lost slot number g (source_before slot number g within id there) (omega (arith, below, before_now, before_is)) id in
-          subst (λ (xs : List ℕ). Contains xs slot)
-          (ap (λ (xs : List ℕ). s.waiting.items ++ xs) has.0 ∙ append-nil s.waiting.items ∙ sym flushed.ready_is
-          ∙ ap (λ (xs : List ℕ). xs ++ s'.ready.items) (sym flushed.none_waits)) lost;
     }

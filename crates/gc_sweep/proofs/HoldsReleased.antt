@@ -1,8 +1,7 @@
 -- What holds of a sweep by the store holds once a source is given back.
-use Rattle.gc_sweep.proofs.Prelude.{◌≡◌, ◌≢◌, inl, inr, ℕ, zero, suc, ◌<◌, ◌≤◌, true, List, [], ◌∷◌, length, get_or, drop, Option, Some, refl, sym, ◌∙◌, ap, subst, arith, AllByRecursion, bytes_eq, Contains-append_left, Contains-append_right, PlaceMap, Contents, has_key, keys_of, segment_key, HeaderValue, LiveKeys, HasKey, without_slot, HasNewest, RepresentsSlots, SlotTable, Next, CopyNext, Flush, Release, End, Sweep, AreCopied, HoldsSweep, IsCopied, IsHalfCopied, IsOrigin, HasReleased, slot_in_turn, IsNext, HasNext, IsSweeping, entry_in, sources_before}
-use Rattle.std.specs.Prelude.{slice_get, slice_index_or}
-use Rattle.std.specs.List.{Contains, IsDistinct}
-use Rattle.std.proofs.lemmas.List.Elements.{Contains-append_cases}
+use Rattle.gc_sweep.proofs.Prelude.{◌≡◌, inl, inr, ℕ, suc, ◌<◌, ◌≤◌, true, List, [], ◌∷◌, length, get_or, drop, Option, Some, refl, sym, ◌∙◌, ap, subst, arith, AllByRecursion, PlaceMap, Contents, has_key, segment_key, HeaderValue, LiveKeys, HasKey, without_slot, HasNewest, RepresentsSlots, SlotTable, Next, CopyNext, Flush, Release, End, Sweep, AreCopied, HoldsSweep, IsCopied, IsHalfCopied, IsOrigin, HasReleased, slot_in_turn, IsNext, HasNext, IsSweeping, entry_in, sources_before}
+use Rattle.std.specs.Prelude.{slice_get}
+use Rattle.std.specs.List.{Contains}
 use Rattle.store_model.proofs.Freed.{other_there, there_before}
 use Rattle.gc_sweep.proofs.Holds.{IsInTurn, in_turn, no_key}
 use Rattle.gc_sweep.proofs.InSlots.{one_header}
@@ -14,15 +13,6 @@ use Rattle.gc_sweep.proofs.KeyLists.{each_so}
 in_rest : (xs : List ℕ) (x : ℕ) → Contains (drop 1 xs) x → Contains xs x
 in_rest [] x there = there
 in_rest (y ∷ ys) x there = (suc there.0, omega (arith, there.1), there.2)
-
--- and each but the first comes after it
-rest_in : (xs : List ℕ) (x : ℕ) → Contains xs x → get_or xs 0 0 ≢ x → Contains (drop 1 xs) x
-rest_in [] x there other = there
-rest_in (y ∷ ys) x there other = by_place there.0 there.1 there.2
-  where
-    by_place : (i : ℕ) → i < length (y ∷ ys) → slice_index_or (y ∷ ys) i x ≡ x → Contains ys x
-    by_place zero below is = absurd (other is)
-    by_place (suc i) below is = (i, omega (arith, below), is)
 
 -- ---- a source that is given back
 
@@ -103,7 +93,6 @@ module _ (t then : SlotTable) (index : PlaceMap) (held : List (Option HeaderValu
         record { is_live = is.is_live; newest = keeps (segment_key s.buffer.kind x) x.level x.bytes (is.is_live.0, is.is_live.1.0) is.newest } in
         one
         )) holds.copied);
-    once = subst (λ (c : Contents). IsDistinct bytes_eq (keys_of c)) (sym released.buffer_is) holds.once;
     origin = λ key place filled found.
         let was : has_key s.buffer key ≡ true = sym (same_filled key) ∙ filled in
         origin_on key place.slot was (holds.origin key place was found);
@@ -116,12 +105,4 @@ module _ (t then : SlotTable) (index : PlaceMap) (held : List (Option HeaderValu
           subst (λ (c : Contents). AreCopied (has_key c) index other h (entry_in s'.next)) (sym released.buffer_is)
               (subst (λ (n : ℕ). AreCopied (has_key s.buffer) index other h n) (sym count) so.1),
         );
-    none_lost = λ other number h there below id_is.
-        let before = there_before slot other h held there in
-        let lost = holds.none_lost other number h before.1 (omega (arith, below, goes_on.0, before_is)) (id_is ∙ ap (λ (xs : List ℕ). get_or xs number 0) sources_are) in
-        elim (Contains-append_cases s.waiting.items s.ready.items other lost) [
-          | inl waits ↦ Contains-append_left s'.waiting.items s'.ready.items other (subst (λ (xs : List ℕ). Contains xs other) (sym waiting_is) waits)
-          | inr is_ready ↦ Contains-append_right s'.waiting.items s'.ready.items other
-              (subst (λ (xs : List ℕ). Contains xs other) (sym released.ready_is) (rest_in s.ready.items other is_ready before.0))
-        ];
   }

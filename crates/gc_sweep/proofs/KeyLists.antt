@@ -2,7 +2,7 @@
 use Rattle.gc_sweep.proofs.Prelude.{◌≡◌, ◌≢◌, ◌⊎◌, inl, inr, ℕ, Bool, true, false, List, [], ◌∷◌, ◌++◌, map, Option, Some, None, refl, sym, ◌∙◌, ap, subst, if◌then◌else◌, ◌||◌, AllByRecursion, bytes_eq, bytes_eq-Decides, Kind, Place, PlaceMap, Segment, segment_key, without_keys}
 use Rattle.std.specs.Cmp.Lexicographic.{slice_cmp, nat_list_cmp_total}
 use Rattle.std.specs.FinMap as finite
-use Rattle.std.specs.List.{IsDistinct, list_any}
+use Rattle.std.specs.List.{list_any}
 use Rattle.std.specs.Ordering.{nat_cmp, eq_by_cmp}
 use Rattle.std.proofs.lemmas.List.Folds.{list_any-append}
 use Rattle.store_model.proofs.Indexing.{tied}
@@ -24,10 +24,6 @@ or_left false b is = absurd cc
 or_right : (a b : Bool) → b ≡ true → a || b ≡ true
 or_right true b is = refl
 or_right false b is = is
-
-or_neither : (a b : Bool) → a || b ≡ false → (a ≡ false) × (b ≡ false)
-or_neither true b is = absurd cc
-or_neither false b is = (refl, is)
 
 pub listed_left : (xs ys : List (List ℕ)) (key : List ℕ) → listed xs key ≡ true → listed (xs ++ ys) key ≡ true
 listed_left xs ys key has = list_any-append (λ k. bytes_eq k key) xs ys ∙ or_left (listed xs key) (listed ys key) has
@@ -57,22 +53,6 @@ both_so P (x ∷ xs) ys first second = (first.0, both_so P xs ys first.1 second)
 pub each_so : {X : Type 0} (P Q : X → Type 0) (xs : List X) → ((x : X) → P x → Q x) → AllByRecursion P xs → AllByRecursion Q xs
 each_so P Q [] each all = tt
 each_so P Q (x ∷ xs) each all = (each x all.0, each_so P Q xs each all.1)
-
--- no key is twice in a list with one more that it lacks
-pub distinct_more : (keys : List (List ℕ)) (key : List ℕ) → IsDistinct bytes_eq keys → listed keys key ≡ false → IsDistinct bytes_eq (keys ++ key ∷ [])
-unfolding IsDistinct
-distinct_more [] key apart lacks = (tt, tt)
-distinct_more (k ∷ ks) key apart lacks =
-    let neither = or_neither (bytes_eq k key) (listed ks key) lacks in
-    (all_last ks apart.0 neither.0, distinct_more ks key apart.1 neither.1)
-  where
-    all_last : (xs : List (List ℕ)) → AllByRecursion (λ y. bytes_eq k y ≡ false) xs → bytes_eq k key ≡ false → AllByRecursion (λ y. bytes_eq k y ≡ false) (xs ++ key ∷ [])
-    all_last [] all one = (one, tt)
-    all_last (x ∷ xs) all one = (all.0, all_last xs all.1 one)
-
-pub none_distinct : IsDistinct bytes_eq []
-unfolding IsDistinct
-none_distinct = tt
 
 -- the keys of segments, one after the other
 pub keys_append : (kind : Kind) (xs ys : List Segment) → map (segment_key kind) (xs ++ ys) ≡ map (segment_key kind) xs ++ map (segment_key kind) ys

@@ -1,10 +1,9 @@
 -- What the plan of a source makes of the index and of what is filled, where the index's map is known and the disk tells its content.
 use Rattle.gc_sweep.proofs.Prelude.{◌≡◌, ◌≢◌, ◌⊎◌, inl, inr, ℕ, zero, suc, ◌+◌, ◌<◌, ◌≤◌, true, List, [], ◌∷◌, ◌++◌, length, drop, take, map, Option, Some, None, find, refl, sym, ◌∙◌, ap, subst, arith, length-append, AllByRecursion, bytes_eq, Entry, Kind, Place, PlaceMap, Contents, Segment, has_key, keys_of, segment_key, HeaderValue, Plan, is_copy, without_keys, IsPlan, Planned, Source, planned, source_of, Shows, DiskView, shown_content, LiveKeys, entry_key, IsPartialIndexOf, place_of, bytes_at, some_same, found_so, Sweep, IsFilling, AreCopied, IsCopied, IsLive}
 use Rattle.std.specs.FinMap as finite
-use Rattle.std.specs.List.{IsDistinct}
 use Rattle.gc_enumerate.specs.Live.{IsLiveAt}
-use Rattle.gc_sweep.proofs.Gains.{Gains, IsOfCopy, IsOfDead, IsPlanned, all_planned, gained_keys, takes_apart, takes_gain}
-use Rattle.gc_sweep.proofs.Holds.{no_key, no_keys_apart, none_copied}
+use Rattle.gc_sweep.proofs.Gains.{Gains, IsOfCopy, IsOfDead, IsPlanned, all_planned, gained_keys, takes_gain}
+use Rattle.gc_sweep.proofs.Holds.{no_key, none_copied}
 use Rattle.gc_sweep.proofs.InSlots.{at_copy, copy_at, copy_of, lies_at, live_anywhere, live_on, one_header}
 use Rattle.gc_sweep.proofs.KeyLists.{both_so, each_so, gone, had_before, keys_append, listed, listed_either, listed_so, place_stays}
 use Rattle.gc_sweep.proofs.SourceRead.{IsReadOf}
@@ -128,14 +127,6 @@ module _ (index : PlaceMap) (held : List (Option HeaderValue)) (image : List ℕ
             ap
                 (λ (ss : List Segment). length ss) some,
           )
-
-  -- no key is filled twice
-  pub filled_apart : IsDistinct bytes_eq (keys_of s.buffer) → IsDistinct bytes_eq (keys_of plan.buffer)
-  filled_apart apart = takes_apart src (Shows old new) index refl (drop entry h.entries) before after is.passed read.kind_is is.takes (by_filling read.fills)
-    where
-      by_filling : IsFilling s.buffer kind filling → IsDistinct bytes_eq (keys_of filling)
-      by_filling (inl (none, other)) = no_keys_apart filling (ap (λ (c : Contents). c.segments) other)
-      by_filling (inr (some, same)) = subst (λ (c : Contents). IsDistinct bytes_eq (keys_of c)) (sym same) apart
 
   -- each segment is the newest copy of a live key
   of_copy : (x : Segment) → IsOfCopy src (Shows old new) index x → IsCopied later live held image h.kind x

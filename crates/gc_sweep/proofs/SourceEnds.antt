@@ -1,8 +1,7 @@
 -- How a source that was copied ended: it waits, is ready, or goes on.
-use Rattle.gc_sweep.proofs.Prelude.{◌≡◌, ◌⊎◌, inl, inr, ℕ, ◌+◌, ◌<◌, ◌≤◌, Bool, true, false, List, [], ◌∷◌, ◌++◌, length, get_or, Option, refl, sym, ◌∙◌, ap, subst, arith, leb_tells, Contains-append_left, Contains-append_right, Kind, PlaceMap, Contents, HeaderValue, Plan, SlotTable, Next, CopyNext, Flush, Release, End, Sweep, EndsBy, GoesOn, HasEnded, IsHalfCopied, IsOrigin, IsNext, entry_in, sources_before}
+use Rattle.gc_sweep.proofs.Prelude.{◌≡◌, ◌⊎◌, inl, inr, ℕ, ◌+◌, ◌<◌, ◌≤◌, Bool, true, false, List, [], ◌∷◌, ◌++◌, length, get_or, Option, refl, sym, ◌∙◌, ap, subst, arith, Contains-append_left, Kind, PlaceMap, Contents, HeaderValue, Plan, SlotTable, Next, CopyNext, Flush, Release, End, Sweep, EndsBy, GoesOn, HasEnded, IsHalfCopied, IsOrigin, IsNext, entry_in, sources_before}
 use Rattle.std.specs.List.{Contains}
 use Rattle.std.proofs.lemmas.List.Elements.{Contains-push, Contains-push_cases}
-use Rattle.gc_sweep.proofs.CopyKeeps.{before_next}
 use Rattle.gc_sweep.proofs.InSlots.{none_in}
 use Rattle.gc_sweep.proofs.SourceRead.{IsReadOf}
 
@@ -13,13 +12,6 @@ pub record Ends (held : List (Option HeaderValue)) (snapshot source slot : ℕ) 
   pub waits : (x : ℕ) → Contains s'.waiting.items x → Contains s.waiting.items x ⊎ ((x ≡ slot) × (length h.entries ≤ plan.next))
   pub is_ready : (x : ℕ) → Contains s'.ready.items x → (x ≡ slot) × (length h.entries ≤ plan.next) × (plan.copied ≡ 0)
   pub half : (x : ℕ) (g : HeaderValue) → IsHalfCopied held s' x g → (g.id ≡ h.id) × (entry_in s'.next ≡ plan.next)
-  pub lost : (number : ℕ) → number < sources_before s' s'.next → (number < source) ⊎ ((number ≡ source) × Contains (s'.waiting.items ++ s'.ready.items) slot)
-
-one_more : (number source : ℕ) → number < source + 1 → (number < source) ⊎ (number ≡ source)
-one_more number source below = elim (leb_tells source number) [
-  | inl least ↦ inr (omega (arith, least.1, below))
-  | inr less ↦ inl less.1
-]
 
 -- ---- how it ended
 
@@ -44,10 +36,6 @@ module _ (t : SlotTable) (index : PlaceMap) (held : List (Option HeaderValue)) (
       ];
       is_ready = λ x there. absurd (none_in s'.ready.items x ready_is there);
       half = λ x g half. absurd (omega (arith, half.some, entry_none s'.next next));
-      lost = λ number below. elim (one_more number source (omega (arith, below, before_now))) [
-        | inl less ↦ inl less
-        | inr same ↦ inr (same, Contains-append_left s'.waiting.items s'.ready.items slot here)
-      ];
     }
       where
         here : Contains s'.waiting.items slot
@@ -58,12 +46,6 @@ module _ (t : SlotTable) (index : PlaceMap) (held : List (Option HeaderValue)) (
         entry_none (Flush k e) is = is.1
         entry_none (Release k e) is = absurd is
         entry_none End is = refl
-
-        before_now : sources_before s' s'.next ≡ source + 1
-        before_now =
-            before_next t s' (source + 1) (omega (arith, within, ap length sources_are)) s'.next
-            (subst (λ (b : Contents). IsNext t s'.sources.items b (source + 1) 0 s'.next) (sym buffer_is)
-            (subst (λ (xs : List ℕ). IsNext t xs plan.buffer (source + 1) 0 s'.next) (sym sources_are) next))
 
     -- and is ready
     ready_now : plan.copied ≡ 0 → s'.waiting.items ≡ s.waiting.items → s'.ready.items ≡ slot ∷ [] → s'.next ≡ Release (source + 1) 0 → Ends held snapshot source slot h plan s s'
@@ -76,10 +58,6 @@ module _ (t : SlotTable) (index : PlaceMap) (held : List (Option HeaderValue)) (
         | inr same ↦ (sym same, most, none)
       ];
       half = λ x g half. absurd (omega (arith, half.some, ap entry_in next_is));
-      lost = λ number below. elim (one_more number source (omega (arith, below, ap (sources_before s') next_is))) [
-        | inl less ↦ inl less
-        | inr same ↦ inr (same, Contains-append_right s'.waiting.items s'.ready.items slot (subst (λ (xs : List ℕ). Contains xs slot) (sym ready_is) (Contains-push [] slot)))
-      ];
     }
 
     ended_now : HasEnded t slot source plan s s' → Ends held snapshot source slot h plan s s'
@@ -108,7 +86,6 @@ module _ (t : SlotTable) (index : PlaceMap) (held : List (Option HeaderValue)) (
       half.id_is ∙ ap (λ (k : ℕ). get_or s'.sources.items k 0) (ap (sources_before s') next_is) ∙ ap (λ (xs : List ℕ). get_or xs source 0) sources_are ∙ sym read.id_is,
       ap entry_in next_is,
     );
-    lost = λ number below. inl (omega (arith, below, ap (sources_before s') next_is));
   }
 
   pub ends_by : (ended : Bool) → (ended ≡ true → length h.entries ≤ plan.next) → EndsBy ended t slot source plan s s' → Ends held snapshot source slot h plan s s'

@@ -2,12 +2,11 @@
 -- (docs/MODEL.md, 'Sweeping').
 use Rattle.std.specs.Prelude.{◌≡◌, ◌⊎◌, ℕ, ◌<◌, ◌≤◌, Bool, true, List, ◌++◌, length, take, get_or, slice_get, Option, Some, Contains}
 use Rattle.std.specs.FinMap as finite
-use Rattle.std.specs.List.{AllByRecursion, IsDistinct}
-use Rattle.std.specs.Str.{bytes_eq}
+use Rattle.std.specs.List.{AllByRecursion}
 use Rattle.container_meta.specs.declared.kind.Kind.{Kind}
 use Rattle.container_meta.specs.declared.place.Place.{Place}
 use Rattle.container_meta.specs.Places.{PlaceMap}
-use Rattle.container_meta.specs.Segments.{Segment, has_key, keys_of, segment_key}
+use Rattle.container_meta.specs.Segments.{Segment, has_key, segment_key}
 use Rattle.container_meta.specs.Spelling.{HeaderValue}
 use Rattle.copy_forward.specs.Entries.{is_copy}
 use Rattle.gc_enumerate.specs.Live.{LiveKeys, IsLiveAt}
@@ -58,21 +57,18 @@ pub record SourcesStand (held : List (Option HeaderValue)) (snapshot : ℕ) (s :
   pub stand : (slot : ℕ) → Contains (s.waiting.items ++ s.ready.items) slot
       → (h : HeaderValue) × ((slice_get held slot ≡ Some (Some h)) × (h.id < snapshot))
 
--- What was copied is live, and is what the store holds; no key was copied twice, and the index has each in one of the sources that it came
--- from, or in a newer container. What the index has of a source that waits was copied, as what it has of the first entries of one that was
--- copied in part; of a source that is ready it has nothing. And each source that came to its end and stands still waits or is ready.
+-- What was copied is live, and is what the store holds; and the index has each key of it in one of the sources that it came from, or in a
+-- newer container. What the index has of a source that waits was copied, as what it has of the first entries of one that was copied in part;
+-- of a source that is ready it has nothing.
 pub record HoldsSweep (index : PlaceMap) (held : List (Option HeaderValue)) (image : List ℕ) (live : LiveKeys) (snapshot : ℕ) (s : Sweep)
     : Type 0 where
   pub copied : AllByRecursion (IsCopied index live held image s.buffer.kind) s.buffer.segments
-  pub once : IsDistinct bytes_eq (keys_of s.buffer)
   pub origin : (key : List ℕ) (place : Place) → has_key s.buffer key ≡ true → finite.get index key ≡ Some place
       → IsOrigin held snapshot s place.slot
   pub waiting : (slot : ℕ) → Contains s.waiting.items slot → HasOnlyIn (has_key s.buffer) index slot
   pub ready : (slot : ℕ) → Contains s.ready.items slot → HasNoEntryIn index slot
   pub half : (slot : ℕ) (h : HeaderValue) → IsHalfCopied held s slot h
       → (entry_in s.next ≤ length h.entries) × AreCopied (has_key s.buffer) index slot h (entry_in s.next)
-  pub none_lost : (slot number : ℕ) (h : HeaderValue) → slice_get held slot ≡ Some (Some h) → number < sources_before s s.next
-      → h.id ≡ get_or s.sources.items number 0 → Contains (s.waiting.items ++ s.ready.items) slot
 
 -- the index, the headers in the slots, the image and the live keys, at a moment
 pub record StoreBeside : Type 0 where

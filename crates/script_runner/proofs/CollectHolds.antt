@@ -1,4 +1,5 @@
 -- What actors have pinned is held still after a step of a collection.
+use Rattle.store_model.proofs.Copies.{some_same}
 use Rattle.script_runner.proofs.Prelude.{◌≡◌, inr, ◌<◌, ℕ, List, [], Some, Result, sym, ◌∙◌, subst, PlaceMap, KindSegment, segment_key, slot_at, ACTORS, Pin, Answer, PinMap, pin_of, Refusal, Stored, Store, HasKey, IsStoreOf, FileEvent, IsAt, CoreState}
 use Rattle.std.specs.FinMap as finite
 use Rattle.actor_parts.specs.declared.part.Part.TheVariants as core_parts
@@ -17,7 +18,6 @@ use Rattle.store_state.specs.Settled.{IsSettled}
 use Rattle.store_core.specs.Keeping.{IsHeldIn}
 use Rattle.store_core.proofs.Leading.{Leads}
 use Rattle.store_core.proofs.OwnParts.{all_part}
-use Rattle.store_core.proofs.Sealing.{one_map}
 use Rattle.core_machine.proofs.CollectTakes.{root_within}
 
 -- ---- a segment that each image holds
@@ -33,7 +33,7 @@ module _ (S : List ℕ → Type 0) (s : Store) (stored : Stored) (c : CoreState)
       let here = at.stands.known.1 in
       let right = (at.stands.each image (c.disk.as_read image here)).holds.right in
       record {
-        indexed = λ index is. subst (λ (m : PlaceMap). HasKey m seg_key) (one_map at.index index (sym at.index_known ∙ is)) has;
+        indexed = λ index is. subst (λ (m : PlaceMap). HasKey m seg_key) (some_same at.index index (sym at.index_known ∙ is)) has;
         newest = λ t represents. record {
           known = at.stands.known;
           each = λ left leaves.

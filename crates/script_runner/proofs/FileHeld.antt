@@ -9,9 +9,8 @@ use Rattle.store_state.specs.Settled.{IsSettled}
 use Rattle.store_core.specs.Keeping.{IsHeldIn}
 use Rattle.store_core.proofs.KeepingSegments.{keeps_segments, stays_held, stays_settled}
 use Rattle.store_core.proofs.Leading.{Leads}
-use Rattle.store_core.proofs.AnySteps.{leads}
+use Rattle.store_core.proofs.AnySteps.{gc_or_not, leads}
 use Rattle.core_machine.specs.Files.{stored_in}
-use Rattle.core_machine.proofs.FileSteps.{by_gc}
 use Rattle.script_runner.proofs.CollectHolds.{gc_event}
 use Rattle.script_runner.proofs.CollectHolds.{needed_held}
 use Rattle.script_runner.proofs.CollectHolds.{pin_needed}
@@ -52,7 +51,7 @@ module _ (C : Type 0) (state : C → CoreState) (among : ByteSet) (apart : HasNo
     led = leads among apart gc m.store (stored_in m.now) (state old) (state new) refl gc_step at.is_at stays
 
     settled : IsSettled (state new).tables.slots (state new).disk
-    settled = stays_settled C state among (f ∷ []) m.store (stored_in m.now) old new apart at.is_at at.settled (new, (step, refl)) stays
+    settled = stays_settled among f m.store (stored_in m.now) (state old) (state new) apart at.is_at at.settled step stays
 
     -- what an actor has pinned it spares
     spared : (b : ℕ) (k : Kept) → b < ACTORS → (own : HoldsKept b k (state old)) → (kind : Kind) (x : Segment) → (pin : _) × (finite.get own.pins (segment_key kind x) ≡ Some pin)
@@ -69,9 +68,9 @@ module _ (C : Type 0) (state : C → CoreState) (among : ByteSet) (apart : HasNo
   holds_on b k below same own = record {
     pins = own.pins;
     writing = same ∙ own.writing;
-    held = λ kind x there. elim (by_gc e.step) [
-      | inl no_gc ↦ held_by no_gc (record { kind = kind; segment = x }) (own.held kind x there)
-      | inr is ↦ spared is b k below own kind x (own.pinned kind x there) (own.held kind x there)
+    held = λ kind x there. elim (gc_or_not e.step) [
+      | inr no_gc ↦ held_by no_gc (record { kind = kind; segment = x }) (own.held kind x there)
+      | inl is ↦ spared is b k below own kind x (own.pinned kind x there) (own.held kind x there)
     ];
     pinned = own.pinned;
   }

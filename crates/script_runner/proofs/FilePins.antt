@@ -1,5 +1,5 @@
 -- Keys that are pinned, where more are.
-use Rattle.script_runner.proofs.Prelude.{◌≡◌, ◌∙◌, ℕ, zero, suc, Bool, true, false, cond, List, [], ◌∷◌, Some, refl, sym, ap, subst, slice_cmp, nat_list_cmp_total, nat_cmp, eq_by_cmp, Kind, Segment, segment_key, Pin, PinMap, with_pins, in_none, ◌≡◌, ◌∙◌, ℕ, zero, suc, Bool, true, false, cond, List, [], ◌∷◌, Some, refl, sym, ap, in_none}
+use Rattle.script_runner.proofs.Prelude.{◌≡◌, ◌∙◌, ℕ, zero, suc, Bool, true, false, cond, List, [], ◌∷◌, Some, refl, sym, ap, subst, slice_cmp, nat_list_cmp_total, nat_cmp, eq_by_cmp, Kind, Segment, segment_key, Pin, PinMap, with_pins, in_none}
 use Rattle.std.specs.FinMap as finite
 use Rattle.actor_parts.specs.Segments.{pin_by}
 use Rattle.ingest_session.proofs.Members.{IsIn}

@@ -1,5 +1,5 @@
 -- What an actor has kept of a file is held and pinned still, once the answer to a turn is told.
-use Rattle.script_runner.proofs.Prelude.{◌≡◌, ◌∙◌, ◌<◌, inl, inr, ℕ, List, length, Ok, refl, sym, ap, subst, arith, AllByRecursion, Kind, Contents, KindSegment, Segment, segment_key, ACTORS, Answer, PinMap, pin_of, StepValue, apart, with_pins, Due, due_in, open_of, kept, History, answered, IsOffered, SessionState, turn_node, one_of, Row, kept_by, CoreState, HoldsKept, item_is, kept_absent, kept_held, kept_sealed, of_kind, one_item, ◌≡◌, inl, inr, ◌∙◌, ◌<◌, ℕ, List, [], ◌∷◌, Ok, refl, sym, ap, subst, arith, pin_of, Claim, Seal, due_in, open_of, History, answered, one_of, item_is, kept_absent, kept_held, kept_sealed, of_kind, one_item}
+use Rattle.script_runner.proofs.Prelude.{ACTORS, AllByRecursion, Answer, Claim, Contents, CoreState, Due, History, HoldsKept, IsOffered, Kind, KindSegment, List, Nothing, Ok, PinMap, Row, Seal, Segment, SessionState, StepValue, [], answered, ap, apart, arith, due_in, inl, inr, item_is, kept, kept_absent, kept_by, kept_held, kept_sealed, length, of_kind, one_item, one_of, open_of, pin_of, refl, segment_key, subst, sym, turn_node, with_pins, ℕ, ◌<◌, ◌∙◌, ◌∷◌, ◌≡◌}
 use Rattle.std.specs.FinMap as finite
 use Rattle.actor_parts.specs.declared.part.Part as core_part
 use Rattle.actor_parts.specs.declared.part.Part.TheVariants as core_parts

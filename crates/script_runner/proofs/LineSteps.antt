@@ -1,5 +1,5 @@
 -- A line but `reopen` makes steps of the core, or none.
-use Rattle.script_runner.proofs.Prelude.{all_on, ◌≡◌, ◌≢◌, ◌⊎◌, inl, inr, ℕ, ◌+◌, ◌≤◌, List, [], ◌∷◌, ◌++◌, Option, Some, None, Result, Ok, Err, refl, ap, subst, arith, Answer, StepValue, Refusal, Memory, Due, Claim, Seal, Nothing, due_in, open_of, SessionState, pushed_bytes, ReplyValue, CoreStep, commands_in, CoreRun, AreNoGcSteps, IsNoGcStep, CoreState, Event, Asks, Feeds, IsPaused, IsRefusedTurn, TakesTurn, TurnRun, TurnsStopped, IsNoSweep, commands_of_line, ActsOrNot, DoesStep, RefusesPut, RefusesStep, RunnerState, RunsLine}
+use Rattle.script_runner.proofs.Prelude.{both_so, ◌≡◌, ◌≢◌, ◌⊎◌, inl, inr, ℕ, ◌+◌, ◌≤◌, List, [], ◌∷◌, ◌++◌, Option, Some, None, Result, Ok, Err, refl, ap, subst, arith, Answer, StepValue, Refusal, Memory, Due, Claim, Seal, Nothing, due_in, open_of, SessionState, pushed_bytes, ReplyValue, CoreStep, commands_in, CoreRun, AreNoGcSteps, IsNoGcStep, CoreState, Event, Asks, Feeds, IsPaused, IsRefusedTurn, TakesTurn, TurnRun, TurnsStopped, IsNoSweep, commands_of_line, ActsOrNot, DoesStep, RefusesPut, RefusesStep, RunnerState, RunsLine}
 use Rattle.actor_parts.specs.declared.step.Answer.TheVariants as answers
 use Rattle.actor_parts.specs.StepValue as asked
 use Rattle.script_lines.specs.Grammar as lines
@@ -37,7 +37,7 @@ module _ (C : Type 0) (state : C → CoreState) where
     (
       run_on one.0 other.0 old mid new one.1.0 other.1.0,
       omega (arith, few, commands-append one.0 other.0, one.1.1, other.1.1),
-      all_on
+      both_so
           (λ e. IsNoGcStep e.step) one.0 other.0 one.1.2 other.1.2,
     ),
   )

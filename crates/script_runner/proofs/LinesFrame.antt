@@ -1,5 +1,5 @@
 -- Lines one after the other keep what was written before them.
-use Rattle.script_runner.proofs.Prelude.{all_on, ◌≡◌, ◌≢◌, inl, inr, ℕ, ◌+◌, ◌≤◌, true, List, [], ◌∷◌, ◌++◌, Some, refl, sym, ◌∙◌, subst, arith, half_cells, KnownWith, Shows, CrashLeaves, DiskView, OnlyReads, leaves_on, leaves_weaker, reads_here, reads_leave, IsShort, Refusal, LineValue, ReplyValue, Store, Encodes, KeepsContainers, commands_in, IsReadFrom, OpensCore, CoreRun, AreNoGcSteps, IsNoGcStep, CoreState, Event, Replied, ends, ActsReopen, RefusesReopen, RunnerState, RunsLine, IsNoSweep, commands_of_line, RunsLines}
+use Rattle.script_runner.proofs.Prelude.{both_so, ◌≡◌, ◌≢◌, inl, inr, ℕ, ◌+◌, ◌≤◌, true, List, [], ◌∷◌, ◌++◌, Some, refl, sym, ◌∙◌, subst, arith, half_cells, KnownWith, Shows, CrashLeaves, DiskView, OnlyReads, leaves_on, leaves_weaker, reads_here, reads_leave, IsShort, Refusal, LineValue, ReplyValue, Store, Encodes, KeepsContainers, commands_in, IsReadFrom, OpensCore, CoreRun, AreNoGcSteps, IsNoGcStep, CoreState, Event, Replied, ends, ActsReopen, RefusesReopen, RunnerState, RunsLine, IsNoSweep, commands_of_line, RunsLines}
 use Rattle.dd_disk.specs.Ending.{Done, Reads}
 use Rattle.dd_disk.specs.View.{IsDurable}
 use Rattle.dd_disk.proofs.Shows.{shown_content}
@@ -86,7 +86,7 @@ module _ (C : Type 0) (state : C → CoreState) where
       keeps_where s (Needs (events ++ makes.0) more s) (Needs events rs s) base old new
       (λ needs. (fewer needs.0, omega (arith, needs.1, few, makes.1.1, commands-append events makes.0)))
       (rest (events ++ makes.0) s base old on told encodes enough (run_on C state events makes.0 old here next run makes.1.0)
-      (all_on (λ e. IsNoGcStep e.step) events makes.0 others makes.1.2))
+      (both_so (λ e. IsNoGcStep e.step) events makes.0 others makes.1.2))
 
   -- where nothing but reads follows
   after_reads : (rs : List Replied) (here new : C) → OnlyReads (state here).disk (state new).disk → KeepsFrom rs here new

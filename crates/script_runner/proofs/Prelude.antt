@@ -80,7 +80,7 @@ pub use Rattle.session_turns.proofs.Results.{by_error}
 pub use Rattle.session_turns.proofs.TurnRuns.{turns_stay}
 pub use Rattle.session_turns.specs.Turns.{Asks, Feeds, IsPaused, IsRefusedTurn, TakesTurn, TurnRun, TurnsStopped}
 pub use Rattle.store_core.proofs.CoreRuns.{running_step}
-pub use Rattle.store_core.proofs.KeepingSegments.{all_on}
+pub use Rattle.gc_sweep.proofs.KeyLists.{both_so, each_so}
 pub use Rattle.store_core.proofs.Making.{up_of}
 pub use Rattle.store_core.proofs.Opened.{new_runs}
 pub use Rattle.store_core.proofs.Stepping.{length_on, other_part, row_one, step_later}

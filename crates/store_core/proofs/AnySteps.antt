@@ -1,9 +1,8 @@
--- Steps of a run, those of a collection among them.
+-- Where a step leads, one of a collection or another.
 use Rattle.actor_parts.specs.StepValue as asked
-use Rattle.store_core.proofs.Prelude.{Answer, AreChangesBy, FileEvent, FileStep, IsAt, IsNoGcStep, changes_by, stored_by, ByteSet, HasNoCollisions, IsIn, CoreState, IndexesAll, Steps, [], List, None, Result, ap, refl, subst, sym, ◌++◌, ◌∷◌, ◌≡◌, ◌⊎◌, inl, inr, Refusal, StepValue, Store, StoreChange, Stored, stored_with}
-use Rattle.store_core.specs.Runs.{KeepsFiles}
-use Rattle.store_core.proofs.Leading.{Leads}
-use Rattle.store_core.proofs.KeepingFiles.{chain_on, file_step, run_running, NextOn}
+use Rattle.store_core.proofs.Prelude.{Answer, FileEvent, FileStep, IsAt, IsNoGcStep, changes_by, stored_by, ByteSet, HasNoCollisions, IsIn, CoreState, Steps, None, Result, ap, refl, subst, sym, ◌≡◌, ◌⊎◌, inl, inr, Refusal, StepValue, Store, Stored, stored_with}
+use Rattle.store_core.proofs.Leading.{AreChangesBy, Leads}
+use Rattle.store_core.proofs.KeepingFiles.{file_step, NextOn}
 use Rattle.store_core.proofs.GcSteps.{gc_led}
 use Rattle.store_core.proofs.CoreRuns.{running_step, was_running}
 
@@ -39,22 +38,6 @@ changes_same asked.ListNames answer other = refl
 changes_same (asked.GcStart percent) answer other = refl
 changes_same asked.Stat answer other = refl
 
-pub changes_only : (step : StepValue) (answer : Result Answer Refusal) (changes : List StoreChange) → IsNoGcStep step → AreChangesBy step answer changes
-    → changes ≡ changes_by step answer
-changes_only asked.GcStep answer changes other are = absurd other
-changes_only asked.Begin answer changes other are = are
-changes_only (asked.Claim seg) answer changes other are = are
-changes_only (asked.Seal filled) answer changes other are = are
-changes_only (asked.Commit name root) answer changes other are = are
-changes_only asked.Abort answer changes other are = are
-changes_only (asked.OpenRead name) answer changes other are = are
-changes_only asked.ReadNext answer changes other are = are
-changes_only asked.EndRead answer changes other are = are
-changes_only (asked.Delete name) answer changes other are = are
-changes_only asked.ListNames answer changes other are = are
-changes_only (asked.GcStart percent) answer changes other are = are
-changes_only asked.Stat answer changes other are = are
-
 -- the same step by another name
 abbrev pub with_step : FileEvent → StepValue → FileEvent
 with_step f step = record { event = record { actor = f.event.actor; step = step; answer = f.event.answer; buf = f.event.buf }; bytes = f.bytes }
@@ -81,35 +64,13 @@ module _ (among : ByteSet) (distinct : HasNoCollisions (IsIn among)) where
     whole = λ none. goes.whole;
   }
 
-  -- a step of a run, whichever it is
+  -- a step, whichever it is
   pub any_step : (f : FileEvent) (s : Store) (stored : Stored) (old new : CoreState) → FileStep (IsIn among) f old new → IsAt (IsIn among) s stored old → new.stop ≡ None
       → Leads (IsIn among) s f (stored_by f stored) old new
   any_step f s stored old new step at stays = elim (gc_or_not f.event.step) [
     | inl gc ↦ gc_leads among f s stored old new gc step at stays
     | inr other ↦ other_leads f s stored old new other (file_step among distinct f s stored old new other step at stays)
   ]
-
-module _ (C : Type 0) (state : C → CoreState) where
-  pub keeps_files : KeepsFiles C state
-  keeps_files among [] s stored old new distinct at run stays = record {
-    store = s;
-    changes = [];
-    changes_are = refl;
-    chain = refl;
-    is_at = subst (λ (c : C). IsAt (IsIn among) s stored (state c)) (sym run) at;
-    whole = λ none. subst (λ (c : C). IndexesAll s (state old).known → IndexesAll s (state c).known) (sym run) (λ whole. whole);
-  }
-  keeps_files among (f ∷ fs) s stored old new distinct at run stays =
-      let leads = any_step among distinct f s stored (state old) (state run.0) run.1.0 at (run_running C state among fs run.0 new run.1.1 stays) in
-      let reached = keeps_files among fs leads.next.store (stored_by f stored) run.0 new distinct leads.next.is_at run.1.1 stays in
-      record {
-        store = reached.store;
-        changes = leads.changes ++ reached.changes;
-        changes_are = (leads.changes, reached.changes, refl, leads.changes_are, reached.changes_are);
-        chain = chain_on leads.changes reached.changes s leads.next.store reached.store leads.next.chain reached.chain;
-        is_at = reached.is_at;
-        whole = λ none whole. reached.whole none.1 (leads.whole none.0 whole);
-      }
 
 -- ---- a step of a collection, which leaves the files
 

@@ -1,5 +1,5 @@
 -- How many steps a collection takes.
-use Rattle.store_core.proofs.Prelude.{◌≡◌, ◌≤◌, ℕ, ◌+◌, ◌*◌, List, [], ◌∷◌, length, Option, Some, None, Result, Ok, Err, Vec, Global, refl, sym, ◌∙◌, ap, subst, arith, Answer, StepValue, header_of, LiveKeys, Collection, Stage, Filter, Mark, Select, Flush, Release, End, Did, IsToChoose, Keeps, StepsTo, Nears, steps_to_come, IsUnderWay, Refusal, first_free, IsFirstFree, SlotTable, Tables, Stop, IsNoEnd, NoneEnds, starts, Collects, GcRow, GoesOn, IsKeptKey, MarksIn, StartRow, at_moment, Effect, KeepsTables, Row, Steps, StepsOr, next_id, CoreRun, CoreState, Event, IsRunning, IsUnderWayIn, IsUp, UnlessStopped}
+use Rattle.store_core.proofs.Prelude.{inl, inr, ◌≡◌, ◌≤◌, ℕ, ◌+◌, ◌*◌, List, [], ◌∷◌, length, Option, Some, None, Result, Ok, Err, Vec, Global, refl, sym, ◌∙◌, ap, subst, arith, Answer, StepValue, header_of, LiveKeys, Collection, Stage, Filter, Mark, Select, Flush, Release, End, Did, IsToChoose, Keeps, StepsTo, Nears, steps_to_come, IsUnderWay, Refusal, first_free, IsFirstFree, SlotTable, Tables, Stop, IsNoEnd, NoneEnds, starts, Collects, GcRow, GoesOn, IsKeptKey, MarksIn, StartRow, at_moment, Effect, KeepsTables, Row, Steps, StepsOr, next_id, CoreRun, CoreState, Event, IsRunning, IsUnderWayIn, IsUp, UnlessStopped}
 use Rattle.actor_parts.specs.declared.step.Answer.TheVariants as answers
 use Rattle.actor_parts.specs.StepValue as asked
 use Rattle.container_meta.specs.Segments.{Contents}
@@ -11,12 +11,9 @@ use Rattle.gc_steps.proofs.NoNearer.{as_many}
 use Rattle.refusals.specs.declared.refusal.Refusal.TheVariants as refusals
 use Rattle.store_core.specs.Bounds.{BoundsSteps, made_by, made_in}
 use Rattle.store_core.specs.Collecting.{Begins}
-use Rattle.store_core.proofs.Counted.{refused_live}
+use Rattle.store_core.proofs.AtStore.{same_some}
 use Rattle.store_core.proofs.CoreRuns.{running_step}
 use Rattle.store_core.proofs.RunningOn.{commit_held, delete_held, first_closed, first_within, step_runs, tables_kept}
-
-same_some : (a b : Collection) (o : Option Collection) → o ≡ Some a → o ≡ Some b → a ≡ b
-same_some a b o one two = let both : Some a ≡ Some b = sym one ∙ two in cc
 
 -- no step that was refused was made
 refused_none : (step : StepValue) (refusal : Refusal) → made_by step (Err refusal) ≡ 0
@@ -33,6 +30,20 @@ refused_none (asked.Delete name) refusal = refl
 refused_none asked.ListNames refusal = refl
 refused_none (asked.GcStart percent) refusal = refl
 refused_none asked.Stat refusal = refl
+
+-- a refusal leaves a collection, but for its live keys
+refused_live : (old new : CoreState) (b : Collection) (stage : Stage) (next : Next) (refusal : Refusal) (a : Collection)
+    → Keeps stage next (at_moment old b) (at_moment new a) refusal
+    → (live : LiveKeys) × (a ≡ record b { live = live })
+refused_live old new b (Mark level slot) next refusals.Memory a (inl same, known) = (b.live, same)
+refused_live old new b (Mark level slot) next refusals.Memory a (inr only, known) = (a.live, only.collection_is)
+refused_live old new b (Mark level slot) next refusal a keeps = (b.live, keeps.0)
+refused_live old new b (Filter slot) next refusal a keeps = (b.live, keeps.0)
+refused_live old new b Select next refusal a keeps = (b.live, keeps.0)
+refused_live old new b Sweep (Copy source entry) refusal a keeps = (b.live, keeps.0)
+refused_live old new b Sweep (Flush source entry) refusal a keeps = (b.live, keeps.0)
+refused_live old new b Sweep (Release source entry) refusal a keeps = (b.live, keeps)
+refused_live old new b Sweep End refusal a keeps = (b.live, keeps.0)
 
 -- What a step leaves of a collection that runs: it chose no fewer sources, and chose them once; and that step and those that then come are no
 -- more than those that came before it.

@@ -1,5 +1,5 @@
 -- What a reader gives on any disk is what the tree of the opened root names.
-use Rattle.store_core.proofs.Prelude.{◌≡◌, ◌<◌, ℕ, Bool, true, false, List, [], ◌∷◌, ◌++◌, length, take, Option, Some, None, Result, Ok, Err, refl, sym, ◌∙◌, ap, subst, eqb-true, eqb-false, Root, Top, Part, Answer, StepValue, apart, Refusal, NameMap, top_of, reading, Stop, ReadRow, Row, Steps, StepsOr, CoreRun, ReadsAlone, IsReadNext, opens, CoreState, Event}
+use Rattle.store_core.proofs.Prelude.{AllByRecursion, CoreStep, ◌≡◌, ◌<◌, ℕ, Bool, true, false, List, [], ◌∷◌, ◌++◌, length, take, Option, Some, None, Result, Ok, Err, refl, sym, ◌∙◌, ap, subst, eqb-true, eqb-false, Root, Top, Part, Answer, StepValue, apart, Refusal, NameMap, top_of, reading, Stop, ReadRow, Row, Steps, StepsOr, CoreRun, opens, CoreState, Event}
 use Rattle.std.proofs.Common.{◌==◌, sum_by}
 use Rattle.merkle_file.specs.Walk.{start_of}
 use Rattle.actor_parts.specs.declared.step.Answer.TheVariants as answers
@@ -9,9 +9,32 @@ use Rattle.refusals.specs.declared.refusal.Refusal.TheVariants as refusals
 use Rattle.read_steps.specs.Opening.{HasRoot}
 use Rattle.read_steps.specs.Walking.{WasRead, Walked, GivesAll, AnyBytes}
 use Rattle.read_steps.proofs.Walks.{walked_none, all_walked, all_given, reads_are_whole}
-use Rattle.store_core.specs.Runs.{GivesAsNamed, GivesByTree, ReadsAreChecked, EndsAreWhole, given_by, given_to, ends}
+use Rattle.store_core.specs.Runs.{given_by, given_to}
 use Rattle.store_core.proofs.OwnParts.{same_reader}
 use Rattle.store_core.proofs.Stepping.{ChangesOne, length_on, other_part, row_one}
+
+-- the actor makes no other step than to read on
+abbrev pub IsReadNext : StepValue → Type 0
+IsReadNext asked.ReadNext = Unit {0}
+IsReadNext step = ⊥
+
+abbrev pub ReadsAlone : ℕ → List Event → Type 0
+ReadsAlone actor events = AllByRecursion (λ e. e.actor ≡ actor → IsReadNext e.step) events
+
+-- What an actor was given of a root is what its tree names, one after the other, from the first on.
+pub record GivesAsNamed (root : Root) (segments : List (List ℕ)) (actor : ℕ) (c : CoreState) : Type 0 where
+  pub rest : List Top
+  pub part_is : part_of c.parts actor ≡ reading root rest
+  pub gives : GivesAll (start_of (top_of root)) segments rest
+
+-- So it is of the root that the name had when it was opened, of the length that was answered; and where nothing is to come
+-- what was given has that length.
+pub record GivesByTree (names : NameMap) (name : List ℕ) (actor count : ℕ) (events : List Event) (new : CoreState) : Type 0 where
+  pub root : Root
+  pub has_root : HasRoot names name root
+  pub count_is : count ≡ root.length
+  pub given : GivesAsNamed root (given_to actor events) actor new
+  pub whole : given.rest ≡ [] → sum_by length (given_to actor events) ≡ count
 
 -- the actor takes a file of this root, of which it was given these segments, the first of them first
 pub record Comes (actor : ℕ) (root : Root) (segments : List (List ℕ)) (c : CoreState) : Type 0 where
@@ -156,7 +179,9 @@ module _ (old new : CoreState) (actor : ℕ) (name : List ℕ) (count : ℕ) (bu
   opened_by (Some stop) is runs steps = absurd (let both = sym runs ∙ is in cc)
 
 module _ (C : Type 0) (state : C → CoreState) where
-  pub reads_are_checked : ReadsAreChecked C state
+  pub reads_are_checked : (actor : ℕ) (name : List ℕ) (count : ℕ) (buf : List ℕ) (events : List Event) (old mid new : C) → actor < length (state old).parts
+      → (state old).stop ≡ None → CoreStep (state old) (opens actor name count buf) (state mid) → CoreRun C state events mid new → ReadsAlone actor events
+      → GivesByTree (state old).tables.names name actor count events (state new)
   reads_are_checked actor name count buf events old mid new below runs step run alone =
       let began = opened_by (state old) (state mid) actor name count buf below (state old).stop refl runs step in
       let comes = comes_on C state actor began.root events [] mid new began.comes run alone in
@@ -167,15 +192,3 @@ module _ (C : Type 0) (state : C → CoreState) where
         given = comes.given;
         whole = λ ended. whole_of C state actor began.root (given_to actor events) (state new) comes.given ended ∙ sym began.count_is;
       }
-
-  ended_by : (names : NameMap) (name : List ℕ) (old new : CoreState) (actor count : ℕ) (events : List Event) (buf : List ℕ) (stop : Option Stop)
-      → GivesByTree names name actor count events old → old.stop ≡ stop → old.stop ≡ None → StepsOr stop (ends actor buf) old new
-      → sum_by length (given_to actor events) ≡ count
-  ended_by names name old new actor count events buf None by is runs steps =
-      let row = steps.made.row.next in
-      let same = same_reader row.goes_on.root by.root row.was by.given.rest (sym row.goes_on.part_is ∙ by.given.part_is) in
-      by.whole (sym same.1 ∙ row.given.0)
-  ended_by names name old new actor count events buf (Some stop) by is runs steps = absurd (let both = sym runs ∙ is in cc)
-
-  pub ends_are_whole : EndsAreWhole C state
-  ends_are_whole names name actor count events buf new last by runs step = ended_by names name (state new) (state last) actor count events buf (state new).stop by refl runs step

@@ -1,5 +1,5 @@
 -- What a commit or a delete makes of a core.
-use Rattle.store_core.proofs.Prelude.{◌≡◌, ◌≤◌, ℕ, List, Option, Some, Ok, sym, ◌∙◌, subst, ap, arith, None, Known, KnownWith, Change, Root, Delete, Put, PlaceMap, IsLater, IsDurable, Done, Reads, Answer, Store, Encodes, IsValidFor, HasKey, AnyKey, ChangeName, KeepsCopies, with_change, Tables, Represents, Runs, record_alone, IndexesAll, Made, NamesOne, CoreState}
+use Rattle.store_core.proofs.Prelude.{some_same, ◌≡◌, ◌≤◌, ℕ, List, Option, Some, Ok, sym, ◌∙◌, subst, ap, arith, None, Known, KnownWith, Change, Root, Delete, Put, PlaceMap, IsLater, IsDurable, Done, Reads, Answer, Store, Encodes, IsValidFor, HasKey, AnyKey, ChangeName, KeepsCopies, with_change, Tables, Represents, Runs, record_alone, IndexesAll, Made, NamesOne, CoreState}
 use Rattle.std.specs.FinMap as finite
 use Rattle.dd_disk.specs.Moves.{Acts}
 use Rattle.actor_parts.specs.declared.step.Answer.TheVariants as answers
@@ -11,7 +11,6 @@ use Rattle.ingest_steps.specs.Recording.{KeepsButRecord}
 use Rattle.ingest_steps.specs.Writers.{IsCommitted}
 use Rattle.read_steps.specs.Readers as readers
 use Rattle.store_core.specs.Core.{Makes, GivesHeld}
-use Rattle.store_core.proofs.Sealing.{one_map}
 
 module _ (old new : CoreState) (name : List ℕ) (change : Change) (sequence : ℕ) (named : IsChanged old.tables name change new.tables sequence) (later : IsLater old.disk new.disk)
     (index : new.known ≡ old.known) where
@@ -27,9 +26,9 @@ module _ (old new : CoreState) (name : List ℕ) (change : Change) (sequence : �
           (valid_change old.disk.size name change store valid (named.can store represents.names_are) named.right);
     };
     tells = λ places is. (places, index ∙ is);
-    keeps_keys = λ before is after after_is key has. subst (λ (m : PlaceMap). HasKey m key) (one_map before after (sym is ∙ sym index ∙ after_is)) has;
+    keeps_keys = λ before is after after_is key has. subst (λ (m : PlaceMap). HasKey m key) (some_same before after (sym is ∙ sym index ∙ after_is)) has;
     adds_keys = λ before is after after_is. tt;
-    keeps_others = λ before is after after_is key none. ap (λ (m : PlaceMap). finite.get m key) (one_map after before (sym after_is ∙ index ∙ is));
+    keeps_others = λ before is after after_is key none. ap (λ (m : PlaceMap). finite.get m key) (some_same after before (sym after_is ∙ index ∙ is));
     alone = record {
       store_has = λ store represents valid free. record {
         can = (named.can store represents.names_are, named.right);

@@ -1,39 +1,20 @@
 -- A key that a collection copied is not copied again: its newest copy lies in a container that came after the collection began.
-use Rattle.store_core.proofs.Prelude.{◌≡◌, ℕ, zero, suc, ◌+◌, ◌≤◌, Bool, true, false, cond, List, [], ◌∷◌, ◌++◌, length, map, Option, Some, None, refl, sym, ◌∙◌, ap, subst, arith, ◌||◌, if◌then◌else◌, nat_lt, AllByRecursion, bytes_eq, ltb-true, ltb-false, bytes_eq-Decides, sha256, key_of, Entry, Kind, kind_byte, PlaceMap, Segment, entries_from, segment_key, HeaderValue, copy_of, listed, Store, IsPartialIndexOf, newest, place_of, StoreChange, SealContainer, ChangeName, FlushContainer, FreeContainer, some_same, copied_keys, ◌⊎◌, inl, inr}
+use Rattle.store_core.proofs.Prelude.{◌≡◌, ℕ, zero, suc, ◌+◌, ◌≤◌, Bool, true, false, cond, List, [], ◌∷◌, length, map, Option, Some, None, refl, sym, ◌∙◌, ap, subst, arith, ◌||◌, if◌then◌else◌, nat_lt, bytes_eq, ltb-true, ltb-false, bytes_eq-Decides, sha256, key_of, Entry, Kind, kind_byte, PlaceMap, Segment, entries_from, segment_key, HeaderValue, copy_of, listed, IsPartialIndexOf, newest, place_of, some_same, ◌⊎◌, inl, inr}
 use Rattle.std.proofs.Common.{find, option_map}
 use Rattle.std.specs.Prelude.{Contains, slice_get}
-use Rattle.std.specs.List.{IsDistinct}
 use Rattle.std.proofs.lemmas.Option.{slice_get-get_or}
 use Rattle.gc_steps.proofs.CopiedOn.{LiesOld}
 use Rattle.gc_sweep.proofs.KeyLists.{listed_left, listed_one, listed_right}
 use Rattle.store_model.specs.Slots.{Copy, copy_in, newer}
 use Rattle.store_model.proofs.Copies.{lies}
-use Rattle.store_core.proofs.FinishedStores.{Sweeps, all_then, stands_on}
 
 -- ---- lists of keys
-
-append_more : (xs ys zs : List (List ℕ)) → xs ++ (ys ++ zs) ≡ (xs ++ ys) ++ zs
-append_more [] ys zs = refl
-append_more (x ∷ xs) ys zs = ap (λ (rest : List (List ℕ)). x ∷ rest) (append_more xs ys zs)
-
-pub keys_then : (changes more : List StoreChange) → copied_keys (changes ++ more) ≡ copied_keys changes ++ copied_keys more
-keys_then [] more = refl
-keys_then (SealContainer id kind segments ∷ changes) more = keys_then changes more
-keys_then (ChangeName name change ∷ changes) more = keys_then changes more
-keys_then (FlushContainer id kind segments ∷ changes) more =
-    ap (λ (rest : List (List ℕ)). map (segment_key kind) segments ++ rest) (keys_then changes more)
-    ∙ append_more (map (segment_key kind) segments) (copied_keys changes) (copied_keys more)
-keys_then (FreeContainer slot ∷ changes) more = keys_then changes more
 
 -- a key that a list contains is found in it
 pub listed_of : (keys : List (List ℕ)) (key : List ℕ) → Contains keys key → listed keys key ≡ true
 listed_of [] key (k, below, is) = absurd (omega (arith, below))
 listed_of (x ∷ xs) key (zero, below, is) = listed_left (x ∷ []) xs key (subst (λ (y : List ℕ). listed (y ∷ []) key ≡ true) (sym is) (listed_one key))
 listed_of (x ∷ xs) key (suc k, below, is) = listed_right (x ∷ []) xs key (listed_of xs key (k, omega (arith, below), is))
-
--- a key is none of these
-abbrev pub IsNoneOf : List (List ℕ) → List ℕ → Type 0
-IsNoneOf keys key = AllByRecursion (λ k. bytes_eq key k ≡ false) keys
 
 or_cases : (a b : Bool) → (a || b) ≡ true → (a ≡ true) ⊎ (b ≡ true)
 or_cases true b is = inl refl
@@ -45,23 +26,6 @@ of_listed (x ∷ xs) key has = elim (or_cases (bytes_eq x key) (listed xs key) h
   | inl same ↦ (0, omega arith, (bytes_eq-Decides x key).0 same)
   | inr later ↦ let there = of_listed xs key later in (suc there.0, omega (arith, there.1), there.2)
 ]
-
-pub none_listed : (keys : List (List ℕ)) (key : List ℕ) → (listed keys key ≡ true → ⊥) → IsNoneOf keys key
-none_listed [] key none = tt
-none_listed (k ∷ ks) key none = (differs (bytes_eq key k) refl, none_listed ks key (λ has. none (listed_right (k ∷ []) ks key has)))
-  where
-    differs : (b : Bool) → bytes_eq key k ≡ b → bytes_eq key k ≡ false
-    differs true same = absurd (none (listed_left (k ∷ []) ks key (subst (λ (x : List ℕ). listed (k ∷ []) x ≡ true) (sym ((bytes_eq-Decides key k).0 same)) (listed_one k))))
-    differs false other = other
-
-pub distinct_then : (xs ys : List (List ℕ)) → IsDistinct bytes_eq xs → IsDistinct bytes_eq ys → ((key : List ℕ) → listed xs key ≡ true → IsNoneOf ys key)
-    → IsDistinct bytes_eq (xs ++ ys)
-unfolding IsDistinct
-distinct_then [] ys one two apart = two
-distinct_then (x ∷ xs) ys one two apart = (
-  all_then (λ k. bytes_eq x k ≡ false) xs ys one.0 (apart x (listed_left (x ∷ []) xs x (listed_one x))),
-  distinct_then xs ys one.1 two (λ key has. apart key (listed_right (x ∷ []) xs key has)),
-)
 
 -- ---- the newest copy
 
@@ -142,16 +106,3 @@ not_old held index key snapshot partial newer_one (place, (has, (g, (there, belo
     let in_slot : place.slot ≡ at.index = omega (arith, slot_is) in
     let header_is : g ≡ at.header = some_same g at.header (some_same (Some g) (Some at.header) (sym there ∙ ap (slice_get held) in_slot ∙ here)) in
     omega (arith, below, ap (λ (x : HeaderValue). x.id) header_is, ap (λ (x : Copy). x.id) at.copy_is, ap (λ (x : Copy). x.id) same, above.1.1, newer_one.new)
-
--- it stands on
-pub newer_on : (snapshot : ℕ) (sources : List ℕ) (changes : List StoreChange) (s t : Store) (key : List ℕ) → Sweeps snapshot sources changes s t
-    → ((id : ℕ) → snapshot ≤ id → Contains sources id → ⊥)
-    → HoldsNewer s.held snapshot key → HoldsNewer t.held snapshot key
-newer_on snapshot sources changes s t key sweeps old is = record {
-  slot = is.slot;
-  header = is.header;
-  there = stands_on snapshot sources changes s t is.slot is.header sweeps (old is.header.id is.new) is.there;
-  new = is.new;
-  entry = is.entry;
-  found = is.found;
-}

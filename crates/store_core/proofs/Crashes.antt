@@ -1,5 +1,5 @@
--- What a crash leaves at any moment of a run.
-use Rattle.store_core.proofs.Prelude.{◌≡◌, ◌⊎◌, inl, inr, ℕ, false, List, [], ◌∷◌, ◌+◌, ◌<◌, ◌≤◌, Option, Some, None, Result, Ok, Err, refl, sym, ◌∙◌, subst, arith, ap, suc, OnlyReads, CrashLeaves, SteppedFrom, reads_here, reads_leave, leaves_on, leaves_weaker, Change, Root, Delete, Put, Answer, StepValue, IsStep, Refusal, HasNoCollisions, ByteSet, IsIn, Stands, Store, last_sequence, with_sealed, with_change, Files, Stored, with_stored, without_stored, last_changed, Stop, Effect, SealsOne, NamesOne, StepsOr, next_id, FileEvent, FileStep, FileRun, IsAt, IsGivenRight, stored_by, stored_after, events_of, IsSafeIn, CoreState, IsUnderWayIn, Mark, Filter, Select, SweepStage, CopyNext, Flush, Release, End, Changes, SameBefore, Collection, HoldsAt, HasStage, IsUnderWay, HoldsSweep, slot_in_turn, IsSweeping, IsSafeAt, PlaceMap, Represents, Stage, Touches, TouchesBy, blames, ending, Ending, slot_at, with_freed, RESERVE, header_of, HasKey, free_slots, free_less, StandsSealed, free_reserve, reserve_by, headers_of_right, reached_less, reached_put, HasReserve, IsReachable, CanBeOpened, CoreInvariant, IndexesFiles}
+-- What a crash leaves at any moment of a step.
+use Rattle.store_core.proofs.Prelude.{stored_with, ◌≡◌, ◌⊎◌, inl, inr, ℕ, false, List, ◌+◌, ◌<◌, ◌≤◌, Option, Some, None, Result, Ok, Err, refl, sym, ◌∙◌, subst, arith, ap, suc, OnlyReads, CrashLeaves, SteppedFrom, reads_leave, leaves_weaker, Change, Root, Delete, Put, Answer, StepValue, IsStep, Refusal, HasNoCollisions, ByteSet, IsIn, Stands, Store, last_sequence, with_sealed, with_change, Files, Stored, with_stored, without_stored, last_changed, Stop, Effect, SealsOne, NamesOne, StepsOr, next_id, FileEvent, FileStep, IsAt, IsGivenRight, IsSafeIn, CoreState, IsUnderWayIn, Mark, Filter, Select, SweepStage, CopyNext, Flush, Release, End, Changes, SameBefore, Collection, HoldsAt, HasStage, IsUnderWay, HoldsSweep, slot_in_turn, IsSweeping, IsSafeAt, PlaceMap, Represents, Stage, Touches, TouchesBy, blames, ending, Ending, slot_at, with_freed, RESERVE, header_of, HasKey, free_slots, free_less, StandsSealed, free_reserve, reserve_by, headers_of_right, reached_less, reached_put, HasReserve, IsReachable, CanBeOpened, CoreInvariant, IndexesFiles}
 use Rattle.container_meta.specs.Segments.{Contents}
 use Rattle.actor_parts.specs.StepValue as asked
 use Rattle.refusals.specs.declared.refusal.Refusal.TheVariants as refusals
@@ -9,12 +9,9 @@ use Rattle.store_model.proofs.Cells.{last_with_cell}
 use Rattle.ingest_steps.specs.Naming.{FilesStandStill}
 use Rattle.store_model.specs.Files.{with_file, without_file}
 use Rattle.store_model.specs.Files as files
-use Rattle.store_core.specs.Runs.{IsOnTheWay, IsRootOf, SurvivesCrashes, SurvivesSince, KeepsAcknowledged, stored_tried}
-use Rattle.store_core.proofs.CoreRuns.{stopped_reads, core_run}
+use Rattle.store_core.specs.Runs.{IsRootOf}
 use Rattle.gc_sweep.specs.declared.sweep.Next.{Next}
-use Rattle.store_core.proofs.AnySteps.{any_step, keeps_files}
 use Rattle.store_core.proofs.KeepingFiles.{may_seal_all}
-use Rattle.store_core.proofs.Stepping.{step_later}
 use Rattle.gc_sweep.specs.Releasing.{GivesBack}
 use Rattle.gc_sweep.specs.Releasing.{HasNoEntryIn}
 use Rattle.gc_sweep.proofs.Holds.{in_turn}
@@ -44,8 +41,14 @@ image_at S s stored c at image left = record { store = s; stands = at.stands.eac
 
 -- ---- one step
 
+-- the files after a step, where a write that failed stands
+abbrev pub stored_tried : StepValue → Result Answer Refusal → List ℕ → Stored → Stored
+stored_tried (asked.Commit name root) (Err refusals.DiskWrite) bytes stored = with_stored stored name bytes
+stored_tried (asked.Delete name) (Err refusals.DiskWrite) bytes stored = without_stored stored name
+stored_tried step answer bytes stored = stored_with step answer bytes stored
+
 -- an image that can be opened as the files before, or as those after, where a write that failed may stand
-abbrev Either : (List ℕ → Type 0) → StepValue → Result Answer Refusal → List ℕ → Stored → List ℕ → Type 0
+abbrev pub Either : (List ℕ → Type 0) → StepValue → Result Answer Refusal → List ℕ → Stored → List ℕ → Type 0
 Either S step answer bytes stored image = OpensAs S stored image ⊎ OpensAs S (stored_tried step answer bytes stored) image
 
 module _ (among : ByteSet) (s : Store) (stored : Stored) (old new : CoreState) (bytes : List ℕ) (distinct : HasNoCollisions (IsIn among))
@@ -299,64 +302,8 @@ module _ (among : ByteSet) (s : Store) (stored : Stored) (old new : CoreState) (
   by_stop None f same steps right given = by_effect f.event.step f.event.answer steps.made.effect right given
   by_stop (Some stop) f same steps right given = by_reads f.event.step f.event.answer steps.same.disk.only
 
--- ---- a run
-
-module _ (C : Type 0) (state : C → CoreState) (among : ByteSet) (distinct : HasNoCollisions (IsIn among)) where
-  abbrev In : List ℕ → Type 0
-  In = IsIn among
-
-  -- a core that is stopped only reads
-  still_reads : (stop : Stop) (steps : List FileEvent) (old new : C) → (state old).stop ≡ Some stop → FileRun C state In steps old new → OnlyReads (state old).disk (state new).disk
-  still_reads stop steps old new is run = stopped_reads C state stop (events_of steps) old new is (core_run C state In steps old new run)
-
-  on_the_way : (steps : List FileEvent) (stored : Stored) (c : List ℕ) → OpensAs In stored c → IsOnTheWay In steps stored c
-  on_the_way [] stored c is = is
-  on_the_way (f ∷ fs) stored c is = inl is
-
-  first_one : (f : FileEvent) (fs : List FileEvent) (stored : Stored) (c : List ℕ) → Either In f.event.step f.event.answer f.bytes stored c → IsOnTheWay In (f ∷ fs) stored c
-  first_one f fs stored c (inl is) = inl is
-  first_one f fs stored c (inr is) = inr (inl is)
-
-  -- a step, and what follows where it didn't stop the core
-  step_leaves : (f : FileEvent) (fs : List FileEvent) (s : Store) (stored : Stored) (old mid new : C) → IsAt In s stored (state old) → FileStep In f (state old) (state mid)
-      → FileRun C state In fs mid new
-      → ((t : Store) → IsAt In t (stored_by f stored) (state mid) → CrashLeaves (IsOnTheWay In fs (stored_by f stored)) (state mid).disk (state new).disk)
-      → (stop : Option Stop) → (state mid).stop ≡ stop → CrashLeaves (IsOnTheWay In (f ∷ fs) stored) (state old).disk (state new).disk
-  step_leaves f fs s stored old mid new at step run others None is =
-      let first = by_stop among s stored (state old) (state mid) f.bytes distinct at (state old).stop f refl step.made step.asked step.given in
-      let later = step_later (state old) (state mid) f.event (state old).stop step.made in
-      let next = (any_step among distinct f s stored (state old) (state mid) step at is).next in
-      leaves_on (Either In f.event.step f.event.answer f.bytes stored) (IsOnTheWay In fs (stored_by f stored)) (IsOnTheWay In (f ∷ fs) stored) (state old).disk (state mid).disk
-      (state new).disk later.clock_is
-      first (others next.store next.is_at) (first_one f fs stored) (λ c is. inr (inr is))
-  step_leaves f fs s stored old mid new at step run others (Some stop) is =
-      let first = by_stop among s stored (state old) (state mid) f.bytes distinct at (state old).stop f refl step.made step.asked step.given in
-      let later = step_later (state old) (state mid) f.event (state old).stop step.made in
-      leaves_on (Either In f.event.step f.event.answer f.bytes stored) (Either In f.event.step f.event.answer f.bytes stored) (IsOnTheWay In (f ∷ fs) stored) (state old).disk
-      (state mid).disk (state new).disk later.clock_is
-      first (reads_leave (Either In f.event.step f.event.answer f.bytes stored) (state mid).disk (state new).disk first.now (still_reads stop fs mid new is run))
-      (first_one f fs stored) (first_one f fs stored)
-
-  pub leaves : (steps : List FileEvent) (s : Store) (stored : Stored) (old new : C) → IsAt In s stored (state old) → FileRun C state In steps old new
-      → CrashLeaves (IsOnTheWay In steps stored) (state old).disk (state new).disk
-  leaves [] s stored old new at run =
-      reads_leave (IsOnTheWay In [] stored) (state old).disk (state new).disk (image_at In s stored (state old) at)
-      (subst (λ (c : C). OnlyReads (state old).disk (state c).disk) (sym run) (reads_here (state old).disk))
-  leaves (f ∷ fs) s stored old new at run =
-      step_leaves f fs s stored old run.0 new at run.1.0 run.1.1 (λ t there. leaves fs t (stored_by f stored) run.0 new there run.1.1) (state run.0).stop refl
-
-module _ (C : Type 0) (state : C → CoreState) where
-  pub leaves_on_the_way : SurvivesCrashes C state
-  leaves_on_the_way among steps s stored old new distinct at run = leaves C state among distinct steps s stored old new at run
-
-  pub survives_crashes : SurvivesSince C state
-  survives_crashes among steps s stored old new distinct at run below image since =
-      elim ((leaves C state among distinct steps s stored old new at run).since (state old).disk.clock image (omega arith) since) [
-        | inl was ↦ on_the_way C state among distinct steps stored image (image_at (IsIn among) s stored (state old) at image ((state old).disk.only_now image below was))
-        | inr is ↦ is
-      ]
-
-  pub keeps_acknowledged : KeepsAcknowledged C state
-  keeps_acknowledged among first rest s stored old mid new distinct at before stays run below image since =
-      let reached = keeps_files C state among first s stored old mid distinct at before stays in
-      survives_crashes among rest reached.store (stored_after first stored) mid new distinct reached.is_at run below image since
+-- At each moment of a step, and after it, a crash leaves an image that can be opened as the files before it or after it, where a write that
+-- failed may stand; or one that it might have left before.
+pub step_leaves : (among : ByteSet) (f : FileEvent) (s : Store) (stored : Stored) (old new : CoreState) → HasNoCollisions (IsIn among) → IsAt (IsIn among) s stored old
+    → FileStep (IsIn among) f old new → CrashLeaves (Either (IsIn among) f.event.step f.event.answer f.bytes stored) old.disk new.disk
+step_leaves among f s stored old new distinct at step = by_stop among s stored old new f.bytes distinct at old.stop f refl step.made step.asked step.given

@@ -1,37 +1,60 @@
--- No step of a run finds damage, and names are found as they are.
-use Rattle.store_core.proofs.Prelude.{◌≡◌, ◌≢◌, ◌<◌, ℕ, zero, suc, List, [], ◌∷◌, length, Option, Some, None, Result, Ok, Err, refl, sym, ◌∙◌, ap, subst, arith, AllByRecursion, sha256, key_of, Shows, shown_content, Kind, Place, kind_byte, Segment, KindSegment, Root, Top, NameMap, Named, Answer, StepValue, Refusal, HasNoCollisions, ByteSet, IsIn, IsAmong, Stands, Files, Stored, Store, names_of, newest, bytes_at, root_of, copy_digest, newest_so, IsNodeEntry, nodes_so, IsAmongThese, among_so, Stop, Row, ClaimRow, SealRow, CommitRow, OpenRow, ReadRow, EndRow, DeleteRow, ListRow, IsNotGiven, StepsOr, FileEvent, FileStep, FileRun, IsAt, IsGivenRight, stored_after, IsSafeIn, CoreState, IsUnderWayIn, Collection, Filter, Mark, Select, GcRow, IsNotMade, StartRow, IsSafeAt, PlaceMap, Represents, Stage, moment, IsStepRefusal}
-use Rattle.std.proofs.Common.{get_or, IsSome, option_map, IfErr, rules}
-use Rattle.std.specs.FinMap as finite
+-- No step of a core that is at a store finds damage, or misses what a file needs.
+use Rattle.store_core.proofs.Prelude.{some_same, ◌≡◌, ◌≢◌, ◌<◌, ℕ, zero, suc, List, [], ◌∷◌, length, Option, Some, None, Result, Ok, Err, refl, sym, ◌∙◌, ap, subst, arith, AllByRecursion, sha256, key_of, Shows, shown_content, Kind, Place, kind_byte, Segment, KindSegment, Root, Top, NameMap, Answer, StepValue, Refusal, HasNoCollisions, ByteSet, IsIn, IsAmong, Stands, Stored, Store, names_of, newest, bytes_at, copy_digest, newest_so, IsNodeEntry, nodes_so, IsAmongThese, among_so, Stop, Row, ClaimRow, SealRow, CommitRow, OpenRow, ReadRow, EndRow, DeleteRow, ListRow, IsNotGiven, StepsOr, FileEvent, FileStep, IsAt, IsGivenRight, IsSafeIn, CoreState, IsUnderWayIn, Collection, Filter, Mark, Select, GcRow, IsNotMade, StartRow, IsSafeAt, PlaceMap, Represents, Stage, moment, IsStepRefusal, Memory, roots_of}
+use Rattle.std.proofs.Common.{get_or, option_map, IfErr}
 use Rattle.container_meta.specs.declared.kind.Kind.TheVariants as kinds
 use Rattle.container_meta.specs.Segments.{Contents, segment_at}
-use Rattle.namespace.specs.Listing.{listing_of}
-use Rattle.actor_parts.specs.declared.step.Answer.TheVariants as answers
 use Rattle.actor_parts.specs.StepValue as asked
 use Rattle.refusals.specs.declared.refusal.PartKind.{PartKind}
 use Rattle.refusals.specs.declared.refusal.PartKind.TheVariants as part
 use Rattle.refusals.specs.declared.refusal.Difference.TheVariants.{Length, Byte}
 use Rattle.refusals.specs.declared.refusal.Refusal.TheVariants as refusals
 use Rattle.store_model.specs.Slots.{Copy}
-use Rattle.store_model.specs.Standing.{IsFileOf}
-use Rattle.store_model.proofs.Listed.{listed_as_files}
+use Rattle.store_model.specs.Trees.{IsNodeOf}
 use Rattle.store_model.proofs.Roots.{length_of_copy}
 use Rattle.store_state.specs.Comparing.{IsUnlike}
 use Rattle.read_steps.specs.Readers.{IsStuck}
 use Rattle.read_steps.specs.Walking.{IsHeldAnswer}
 use Rattle.store_core.specs.Core.{IsAtOther}
-use Rattle.store_core.specs.Sound.{HasTwin, IsTwin, MayClash, IsHarmless, NeverDamaged, FindsFile, FindsFiles}
-use Rattle.store_core.proofs.AnySteps.{keeps_files}
 use Rattle.store_core.proofs.OwnParts.{stuck_held}
 use Rattle.gc_steps.specs.declared.collection.Stage.TheVariants.{Sweep}
-use Rattle.store_core.proofs.Unbegun.{unbegun_memory}
 use Rattle.gc_steps.proofs.NoDamage.{IsClean, no_damage, IsMarked}
+use Rattle.gc_steps.specs.Starting.{IsFound, IsStartRefusal}
+use Rattle.gc_steps.proofs.RootsFound.{begins_by_memory, roots_found}
+use Rattle.store_core.specs.Collecting.{IsUnbegun}
 
-some_one : {A : Type 0} (x y : A) → Some x ≡ Some y → x ≡ y
-some_one x y same = cc
+-- ---- what no step answers
 
-some_named : {A : Type 0} (o : Option A) → IsSome o → (x : A) × (o ≡ Some x)
-some_named None is = absurd (search rules)
-some_named (Some x) is = (x, refl)
+-- some node has the digest of these bytes, and is another
+pub record HasTwin (bytes : List ℕ) : Type 0 where
+  pub other : List ℕ
+  pub level : ℕ
+  pub node : IsNodeOf level other
+  pub digest : sha256 other ≡ sha256 bytes
+  pub differ : other ≢ bytes
+
+-- a segment is a node, and has such a twin
+abbrev pub IsTwin : Kind → List ℕ → Type 0
+IsTwin kind bytes = (kind ≡ kinds.Tree) × HasTwin bytes
+
+-- one of the segments of a container is
+pub record HoldsTwin (filled : Contents) : Type 0 where
+  pub number : ℕ
+  pub within : number < length filled.segments
+  pub is_twin : IsTwin filled.kind (segment_at filled.segments number).bytes
+
+-- when a step may clash: never by data
+abbrev pub MayClash : StepValue → Type 0
+MayClash (asked.Claim seg) = IsTwin seg.kind seg.segment.bytes
+MayClash (asked.Seal filled) = HoldsTwin filled
+MayClash step = ⊥
+
+-- nothing is damaged or missing, and a clash is so
+abbrev pub IsHarmless : Type 0 → Refusal → Type 0
+IsHarmless clash (refusals.Clash key at) = clash
+IsHarmless clash (refusals.Corrupt slot offset count want got) = ⊥
+IsHarmless clash (refusals.Missing key) = ⊥
+IsHarmless clash (refusals.Damaged at why) = ⊥
+IsHarmless clash refusal = Unit {0}
 
 -- the copy whose place the index has
 pub record HasCopy (found : Option Copy) (place : Place) : Type 0 where
@@ -41,12 +64,24 @@ pub record HasCopy (found : Option Copy) (place : Place) : Type 0 where
 
 copy_placed : (found : Option Copy) (place : Place) → option_map (λ c. c.place) found ≡ Some place → HasCopy found place
 copy_placed None place is = absurd cc
-copy_placed (Some copy) place is = record { copy = copy; found_is = refl; place_is = some_one copy.place place is }
+copy_placed (Some copy) place is = record { copy = copy; found_is = refl; place_is = some_same copy.place place is }
 
 all_at : (P : Segment → Type 0) (segments : List Segment) (number : ℕ) → number < length segments → AllByRecursion P segments → P (segment_at segments number)
 all_at P [] number within all = absurd (omega (arith, within))
 all_at P (s ∷ ss) zero within all = all.0
 all_at P (s ∷ ss) (suc number) within all = all_at P ss number (omega (arith, within)) all.1
+
+-- where a collection does not begin memory ran out: the index has each root at its level
+unbegun_memory : (S : List ℕ → Type 0) (s : Store) (stored : Stored) (old new : CoreState) → IsAt S s stored old → (refusal : Refusal) → IsUnbegun refusal old new
+    → refusal ≡ Memory
+unbegun_memory S s stored old new at refusal row =
+    let image : List ℕ = at.stands.known.0 in
+    let here : old.disk.content ≡ Some image = at.stands.known.1 in
+    let holds = (at.stands.each image (old.disk.as_read image here)).holds in
+    let found : AllByRecursion (IsFound (Some at.index)) (roots_of (names_of s) old.parts) = roots_found at.index s stored.files old.parts image (at.invariant image here) holds in
+    begins_by_memory at.index (roots_of (names_of s) old.parts) found refusal
+    (subst (λ (k : Option PlaceMap). IsStartRefusal k k (roots_of (names_of s) old.parts) refusal) at.index_known
+    (subst (λ (names : NameMap). IsStartRefusal old.known old.known (roots_of names old.parts) refusal) at.represents.names_are.names_are row.cause))
 
 module _ (among : ByteSet) (s : Store) (stored : Stored) (old new : CoreState) (distinct : HasNoCollisions (IsIn among)) (at : IsAt (IsIn among) s stored old) where
   abbrev image : List ℕ
@@ -276,102 +311,16 @@ module _ (among : ByteSet) (s : Store) (stored : Stored) (old new : CoreState) (
     answer_harmless step (Ok answer) given row = tt
     answer_harmless step (Err refusal) given row = step_harmless step refusal given row
 
-    -- ---- names
+-- ---- a step, whether or not the core is stopped
 
-    named_file : (named : Option Named) (file : Option (List ℕ)) (n : Named) → named ≡ Some n → IsFileOf s.held image named file → (bytes : List ℕ)
-        × ((file ≡ Some bytes) × (n.root ≡ root_of bytes))
-    named_file None file n is f = absurd cc
-    named_file (Some m) None n is f = absurd f
-    named_file (Some m) (Some b) n is f = (b, (refl, ap (λ (x : Named). x.root) (sym (some_one m n is)) ∙ f.0))
+by_stop : (among : ByteSet) (f : FileEvent) (s : Store) (stored : Stored) (old new : CoreState) → HasNoCollisions (IsIn among) → IsAt (IsIn among) s stored old
+    → FileStep (IsIn among) f old new → (stop : Option Stop) → StepsOr stop f.event old new → IfErr f.event.answer (λ refusal. IsHarmless (MayClash f.event.step) refusal)
+by_stop among f s stored old new distinct at step None made =
+    answer_harmless among s stored old new distinct at f.event.actor f.event.buf f.bytes f.event.step f.event.answer step.given made.made.row
+by_stop among f s stored old new distinct at step (Some stop) made =
+    subst (λ (a : Result Answer Refusal). IfErr a (λ refusal. IsHarmless (MayClash f.event.step) refusal)) (sym made.answer_is) tt
 
-    unnamed_file : (named : Option Named) (file : Option (List ℕ)) → named ≡ None → IsFileOf s.held image named file → file ≡ None
-    unnamed_file None None is f = refl
-    unnamed_file None (Some b) is f = absurd f
-    unnamed_file (Some m) file is f = absurd cc
-
-    -- a name as the tables have it
-    abbrev named_of : List ℕ → Option Named
-    named_of name = finite.get (names_of s) name
-
-    same_names : old.tables.names ≡ names_of s
-    same_names = at.represents.names_are.names_are
-
-    open_finds : (name : List ℕ) (answer : Result Answer Refusal) → OpenRow name actor answer old new → FindsFile stored.files (asked.OpenRead name) answer
-    open_finds name (Ok (answers.Opened count)) row =
-        let has = row.opens.begins.has_root in
-        let file = named_file (named_of name) (finite.get stored.files name) (record { sequence = has.sequence; root = row.opens.root })
-        (ap (λ (names : NameMap). finite.get names name) (sym same_names) ∙ has.found) (stands_here.holds.files_are name) in
-        (file.0, (file.1.0, row.opens.count_is ∙ ap (λ (r : Root). r.length) file.1.1))
-    open_finds name (Err refusals.NoFile) row =
-        unnamed_file (named_of name) (finite.get stored.files name) (ap (λ (names : NameMap). finite.get names name) (sym same_names) ∙ row.0.1.1)
-        (stands_here.holds.files_are name)
-    open_finds name answer row = tt
-
-    -- a name that is there has a file
-    has_file : (name : List ℕ) → IsSome (finite.get old.tables.names name) → (bytes : List ℕ) × (finite.get stored.files name ≡ Some bytes)
-    has_file name is =
-        let there = some_named (finite.get old.tables.names name) is in
-        let file = named_file (named_of name) (finite.get stored.files name) there.0 (ap (λ (names : NameMap). finite.get names name) (sym same_names) ∙ there.1)
-        (stands_here.holds.files_are name) in
-        (file.0, file.1.0)
-
-    delete_finds : (name : List ℕ) (answer : Result Answer Refusal) → DeleteRow name answer old new → FindsFile stored.files (asked.Delete name) answer
-    delete_finds name (Ok (answers.Deleted sequence)) row = has_file name row.0.there
-    delete_finds name (Ok answer) row = absurd row
-    delete_finds name (Err refusals.NoFile) row =
-        unnamed_file (named_of name) (finite.get stored.files name) (ap (λ (names : NameMap). finite.get names name) (sym same_names) ∙ row.0.1) (stands_here.holds.files_are name)
-    delete_finds name (Err refusals.Numbers) row = has_file name row.0.0.there
-    delete_finds name (Err refusals.DiskWrite) row = has_file name row.0.0.there
-    delete_finds name (Err refusal) row = tt
-
-    list_finds : (answer : Result Answer Refusal) → ListRow answer old new → FindsFile stored.files asked.ListNames answer
-    list_finds (Ok (answers.Listed listed)) row =
-        row.0 ∙ ap listing_of same_names ∙ listed_as_files s.held (names_of s) image stored.files stands_here.holds.files_are
-    list_finds (Ok answer) row = absurd row
-    list_finds (Err refusal) row = tt
-
-    pub step_finds : (step : StepValue) (answer : Result Answer Refusal) → Row step actor answer buf old new → FindsFile stored.files step answer
-    step_finds (asked.OpenRead name) answer row = open_finds name answer row
-    step_finds (asked.Delete name) answer row = delete_finds name answer row
-    step_finds asked.ListNames answer row = list_finds answer row
-    step_finds step answer row = tt
-
--- ---- a run
-
--- a core that is stopped answers so
-stopped_harmless : (step : StepValue) (answer : Result Answer Refusal) (at : ℕ) → answer ≡ Err (refusals.Stopped at) → IfErr answer (λ refusal. IsHarmless (MayClash step) refusal)
-stopped_harmless step answer at is = subst (λ (a : Result Answer Refusal). IfErr a (λ refusal. IsHarmless (MayClash step) refusal)) (sym is) tt
-
-stopped_finds : (files : Files) (step : StepValue) (at : ℕ) → FindsFile files step (Err (refusals.Stopped at))
-stopped_finds files (asked.OpenRead name) at = tt
-stopped_finds files (asked.Delete name) at = tt
-stopped_finds files asked.ListNames at = tt
-stopped_finds files step at = tt
-
-module _ (C : Type 0) (state : C → CoreState) where
-  harmless_by : (among : ByteSet) (steps : List FileEvent) (f : FileEvent) (s : Store) (stored : Stored) (old mid new : C) → HasNoCollisions (IsIn among)
-      → IsAt (IsIn among) s stored (state old) → FileRun C state (IsIn among) steps old mid
-      → FileStep (IsIn among) f (state mid) (state new) → (stop : Option Stop) → (state mid).stop ≡ stop → StepsOr stop f.event (state mid) (state new)
-      → IfErr f.event.answer (λ refusal. IsHarmless (MayClash f.event.step) refusal)
-  harmless_by among steps f s stored old mid new distinct at run step None is made =
-      let reached = keeps_files C state among steps s stored old mid distinct at run is in
-      answer_harmless among reached.store (stored_after steps stored) (state mid)
-      (state new) distinct reached.is_at f.event.actor f.event.buf f.bytes f.event.step f.event.answer step.given made.made.row
-  harmless_by among steps f s stored old mid new distinct at run step (Some stop) is made = stopped_harmless f.event.step f.event.answer stop.at made.answer_is
-
-  pub never_damaged : NeverDamaged C state
-  never_damaged among steps f s stored old mid new distinct at run step = harmless_by among steps f s stored old mid new distinct at run step (state mid).stop refl step.made
-
-  finds_by : (among : ByteSet) (steps : List FileEvent) (f : FileEvent) (s : Store) (stored : Stored) (old mid new : C) → HasNoCollisions (IsIn among)
-      → IsAt (IsIn among) s stored (state old) → FileRun C state (IsIn among) steps old mid
-      → (stop : Option Stop) → (state mid).stop ≡ stop → StepsOr stop f.event (state mid) (state new) → FindsFile (stored_after steps stored).files f.event.step f.event.answer
-  finds_by among steps f s stored old mid new distinct at run None is made =
-      let reached = keeps_files C state among steps s stored old mid distinct at run is in
-      step_finds among reached.store (stored_after steps stored) (state mid)
-      (state new) distinct reached.is_at f.event.actor f.event.buf f.bytes f.event.step f.event.answer made.made.row
-  finds_by among steps f s stored old mid new distinct at run (Some stop) is made =
-      subst (λ (a : Result Answer Refusal). FindsFile (stored_after steps stored).files f.event.step a) (sym made.answer_is)
-      (stopped_finds (stored_after steps stored).files f.event.step stop.at)
-
-  pub finds_files : FindsFiles C state
-  finds_files among steps f s stored old mid new distinct at run step = finds_by among steps f s stored old mid new distinct at run (state mid).stop refl step.made
+-- A core that is at a store finds no damage, and misses nothing; and data never clashes.
+pub never_damaged : (among : ByteSet) (f : FileEvent) (s : Store) (stored : Stored) (old new : CoreState) → HasNoCollisions (IsIn among) → IsAt (IsIn among) s stored old
+    → FileStep (IsIn among) f old new → IfErr f.event.answer (λ refusal. IsHarmless (MayClash f.event.step) refusal)
+never_damaged among f s stored old new distinct at step = by_stop among f s stored old new distinct at step old.stop step.made

@@ -1,5 +1,5 @@
 -- What a run leaves of the bytes of the disk, whatever these are.
-use Rattle.store_core.proofs.Prelude.{◌≡◌, ◌≢◌, inl, inr, ℕ, zero, suc, ◌+◌, ◌<◌, ◌≤◌, Bool, true, false, List, [], ◌∷◌, length, Option, Some, None, Result, Ok, Err, refl, sym, ◌∙◌, ap, subst, arith, nat_lt, ltb-true, ltb-false, lt-ltb, range, SameOutside, KnownWith, SLOT_BYTES, Change, Delete, Put, half_cells, slot_at, ending_of, DiskView, IsLater, OnlyReads, CrashLeaves, SteppedFrom, StandsFor, Both, reads_here, reads_leave, leaves_on, leaves_weaker, PlaceMap, HeaderValue, header_of, SameBefore, Answer, StepValue, JournalValue, Refusal, Stored, Store, IsValidFor, free_slots, first_free, with_slot, StoreChange, SealContainer, ChangeName, FlushContainer, FreeContainer, changed, with_change, free_less, Tables, blames, IsSettled, Left, Represents, ChangesSlotAlone, SameButSlotOf, ChangesBytes, record_alone, Stop, CoreStep, Steps, StepsOr, StopsAfter, Row, Effect, Rests, SealsOne, NamesOne, KeepsTables, IsOn, KeepsBytes, ChangesTo, CoreRun, FileEvent, IsAt, changes_by, changes_of, events_of, AreNoGcSteps, IsNoGcStep, CoreState, Event}
+use Rattle.store_core.proofs.Prelude.{◌≡◌, ◌≢◌, inl, inr, ℕ, zero, suc, ◌+◌, ◌<◌, ◌≤◌, Bool, true, false, List, [], ◌∷◌, length, Option, Some, None, Result, Ok, Err, refl, sym, ◌∙◌, ap, subst, arith, nat_lt, ltb-true, ltb-false, lt-ltb, range, SameOutside, KnownWith, SLOT_BYTES, Change, Delete, Put, half_cells, slot_at, ending_of, DiskView, IsLater, OnlyReads, CrashLeaves, SteppedFrom, StandsFor, Both, reads_here, reads_leave, leaves_on, leaves_weaker, PlaceMap, HeaderValue, header_of, SameBefore, Answer, StepValue, JournalValue, Refusal, Stored, Store, IsValidFor, free_slots, first_free, some_same, with_slot, StoreChange, SealContainer, ChangeName, FlushContainer, FreeContainer, changed, with_change, free_less, Tables, blames, IsSettled, Left, Represents, ChangesSlotAlone, SameButSlotOf, ChangesBytes, record_alone, Stop, CoreStep, Steps, StepsOr, StopsAfter, Row, Effect, Rests, SealsOne, NamesOne, KeepsTables, IsOn, KeepsBytes, ChangesTo, CoreRun, FileEvent, IsAt, changes_by, changes_of, events_of, AreNoGcSteps, IsNoGcStep, CoreState, Event}
 use Rattle.std.proofs.Common.{length-append}
 use Rattle.std.specs.Prelude.{slice_get}
 use Rattle.disk_format.specs.declared.numbers.TheConstants.{CELL_BYTES, FIRST_HALF, FIRST_SLOT}
@@ -58,6 +58,14 @@ pub first_none : (held : List (Option HeaderValue)) → 1 ≤ free_slots held �
 first_none [] some = absurd (omega (arith, some))
 first_none (None ∷ cs) some = refl
 first_none (Some x ∷ cs) some = first_none cs some
+
+-- a container that is added comes into a slot that was closed
+module _ (held : List (Option HeaderValue)) (h : HeaderValue) (some : 1 ≤ free_slots held) where
+  was_closed : (slot : ℕ) (g : HeaderValue) → slice_get held slot ≡ Some (Some g) → slot ≢ first_free held
+  was_closed slot g there is = let wrong : None ≡ Some g = some_same None (Some g) (sym (first_none held some) ∙ ap (slice_get held) (sym is) ∙ there) in cc
+
+  pub still_there : (slot : ℕ) (g : HeaderValue) → slice_get held slot ≡ Some (Some g) → slice_get (with_slot (first_free held) h held) slot ≡ Some (Some g)
+  still_there slot g there = other_with slot h held (was_closed slot g there) ∙ there
 
 -- ---- bytes
 

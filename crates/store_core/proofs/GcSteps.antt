@@ -1,6 +1,5 @@
 -- Where a step of a collection leads.
-use Rattle.store_core.proofs.Prelude.{blames, ACTORS, Answer, AreChangesBy, ChangesTo, FileEvent, IsAt, IsSafeIn, ByteSet, IsIn, Stands, Collection, HasKey, CoreInvariant, CoreState, IsUnderWayIn, Did, Done, Ending, Reads, ending_of, Filter, Mark, Select, SweepStage, Flush, Release, End, slot_in_turn, [], Err, List, None, Ok, Option, Result, Some, ap, arith, length, refl, subst, sym, ℕ, ◌∙◌, ◌∷◌, ◌≡◌, ◌≤◌, FlushContainer, FreeContainer, StoreChange, GcEffect, GcRow, IsNotMade, TouchesBy, GoesOn, HasEnded, at_moment, HasNewest, DiskView, IsLater, OnlyReads, IsNeeded, IsSafe, IsStoreAfter, step_safe, IsStoreOf, IsUnderWay, IsValidFor, Store, JournalValue, Part, Phase, PlaceMap, Refusal, Represents, Stage, StandsFor, IsStepRefusal, Keeps, Moment, StepsTo, TablesAfter, Touches, answer_at, moment, phase_at, StopsAfter, Stored, Tables, stands_reads}
-use Rattle.store_core.proofs.SafeSteps.{one_list, one_map_at}
+use Rattle.store_core.proofs.Prelude.{some_same, blames, ACTORS, Answer, ChangesTo, FileEvent, IsAt, IsSafeIn, ByteSet, IsIn, Stands, Collection, HasKey, CoreInvariant, CoreState, IsUnderWayIn, Did, Done, Ending, Reads, ending_of, Filter, Mark, Select, SweepStage, Flush, Release, End, slot_in_turn, [], Err, List, None, Ok, Option, Result, Some, ap, arith, length, refl, subst, sym, ℕ, ◌∙◌, ◌∷◌, ◌≡◌, ◌≤◌, FlushContainer, FreeContainer, StoreChange, GcEffect, GcRow, IsNotMade, TouchesBy, GoesOn, HasEnded, at_moment, HasNewest, DiskView, IsLater, OnlyReads, IsNeeded, IsSafe, IsStoreAfter, step_safe, IsStoreOf, IsUnderWay, IsValidFor, Store, JournalValue, Part, Phase, PlaceMap, Refusal, Represents, Stage, StandsFor, IsStepRefusal, Keeps, Moment, StepsTo, TablesAfter, Touches, answer_at, moment, phase_at, StopsAfter, Stored, Tables, stands_reads}
 use Rattle.refusals.specs.declared.refusal.Refusal.TheVariants as refusals
 use Rattle.actor_parts.specs.declared.step.Answer.TheVariants as answers
 use Rattle.actor_parts.specs.StepValue as asked
@@ -8,7 +7,7 @@ use Rattle.gc_sweep.specs.declared.sweep.Next.{Next}
 use Rattle.gc_sweep.specs.declared.sweep.Next.TheVariants.{Copy}
 use Rattle.gc_sweep.specs.declared.sweep.Sweep.{Sweep}
 use Rattle.store_core.specs.Collecting.{NoneRuns}
-use Rattle.store_core.proofs.Leading.{Leads}
+use Rattle.store_core.proofs.Leading.{AreChangesBy, Leads}
 use Rattle.gc_steps.specs.Stepping.{answer_of}
 use Rattle.gc_steps.proofs.RefusedSafe.{refused_safe}
 
@@ -106,11 +105,11 @@ module _ (among : ByteSet) (s : Store) (stored : Stored) (old new : CoreState) (
       valid = valid;
       stands = stands;
       last_is = ap (λ (j : JournalValue). j.last) journal ∙ at.last_is;
-      invariant = λ c is. subst (CoreInvariant later t stored.files new.parts) (one_list now c (sym told ∙ is))
+      invariant = λ c is. subst (CoreInvariant later t stored.files new.parts) (some_same now c (sym told ∙ is))
           (subst (λ (p : List Part). CoreInvariant later t stored.files p now) (sym parts) core);
       many = ap length parts ∙ at.many;
       under_way = under_way;
-      safe = λ c is. subst (λ (bytes : List ℕ). IsSafeIn later t new.parts bytes new.collection) (one_list now c (sym told ∙ is))
+      safe = λ c is. subst (λ (bytes : List ℕ). IsSafeIn later t new.parts bytes new.collection) (some_same now c (sym told ∙ is))
           (subst (λ (p : List Part). IsSafeIn later t p now new.collection) (sym parts) safe);
     }
 
@@ -129,10 +128,10 @@ module _ (among : ByteSet) (s : Store) (stored : Stored) (old new : CoreState) (
             (ap (λ (t : Tables). t.journal) tables) core safe;
       };
       keys = λ key before is spared first then first_is then_is has. subst (λ (m : PlaceMap). HasKey m key)
-          (one_map_at first then (sym first_is ∙ at.index_known ∙ sym known ∙ then_is)) has;
+          (some_same first then (sym first_is ∙ at.index_known ∙ sym known ∙ then_is)) has;
       copies = λ key before after is after_is spared first first_is has level text newest.
-          subst (HasNewest s.held key level text) (one_list now after (sym told ∙ after_is))
-          (keeps key level text (subst (HasNewest s.held key level text) (one_list before image (sym is ∙ here)) newest));
+          subst (HasNewest s.held key level text) (some_same now after (sym told ∙ after_is))
+          (keeps key level text (subst (HasNewest s.held key level text) (some_same before image (sym is ∙ here)) newest));
       whole = λ other. absurd other;
     }
 
@@ -163,11 +162,11 @@ module _ (among : ByteSet) (s : Store) (stored : Stored) (old new : CoreState) (
                 (subst (IsSafeIn leaves.later leaves.store_now old.parts now) (sym row.runs) leaves.safe);
           };
           keys = λ key before is spared first then first_is then_is has.
-              subst (λ (m : PlaceMap). HasKey m key) (one_map_at leaves.later then (sym leaves.known_is ∙ then_is))
-              (leaves.spares key (subst (λ (b : List ℕ). IsNeeded s old.parts b key) (one_list before image (sym is ∙ here)) spared)).0;
+              subst (λ (m : PlaceMap). HasKey m key) (some_same leaves.later then (sym leaves.known_is ∙ then_is))
+              (leaves.spares key (subst (λ (b : List ℕ). IsNeeded s old.parts b key) (some_same before image (sym is ∙ here)) spared)).0;
           copies = λ key before after is after_is spared first first_is has level text newest.
-              let same : before ≡ image = one_list before image (sym is ∙ here) in
-              subst (HasNewest leaves.store_now.held key level text) (one_list now after (sym told ∙ after_is))
+              let same : before ≡ image = some_same before image (sym is ∙ here) in
+              subst (HasNewest leaves.store_now.held key level text) (some_same now after (sym told ∙ after_is))
               ((leaves.spares key (subst (λ (b : List ℕ). IsNeeded s old.parts b key) same spared)).1 level text (subst (HasNewest s.held key level text) same newest));
           whole = λ other. absurd other;
         }
@@ -176,7 +175,7 @@ module _ (among : ByteSet) (s : Store) (stored : Stored) (old new : CoreState) (
     read_led : (answer : Result Answer Refusal) → AreChangesBy asked.GcStep answer [] → new.known ≡ old.known → new.tables ≡ old.tables → OnlyReads old.disk new.disk
         → (IsSafeIn at.index s old.parts image old.collection → IsSafeIn at.index s old.parts image new.collection) → Led answer
     read_led answer none known tables reads safe =
-        let same : image ≡ now = one_list image now (sym here ∙ sym reads.content_is ∙ told) in
+        let same : image ≡ now = some_same image now (sym here ∙ sym reads.content_is ∙ told) in
         same_led answer none (known ∙ at.index_known) tables (stands_reads (Stands (IsIn among) s stored.files) old.disk new.disk at.stands reads)
         (subst (CoreInvariant at.index s stored.files old.parts) same (at.invariant image here))
         (subst (λ (bytes : List ℕ). IsSafeIn at.index s old.parts bytes new.collection) same (safe (at.safe image here)))

@@ -1,5 +1,5 @@
 -- A core that isn't stopped has the stored of the commits that it acknowledged, and its invariant holds.
-use Rattle.store_core.proofs.Prelude.{◌≡◌, ◌⊎◌, inl, inr, ℕ, List, [], ◌∷◌, ◌++◌, Option, Some, None, Result, Ok, Err, refl, sym, ◌∙◌, subst, ap, suc, length, arith, AllByRecursion, Root, Delete, Put, DiskView, IsLater, OnlyReads, ending, ending_of, StandsFor, stands_reads, Kind, PlaceMap, Segment, KindSegment, Part, Idle, Answer, IsStepSegment, AreStepSegments, StepValue, IsStep, Refusal, HasNoCollisions, ByteSet, IsIn, IsAmong, Stands, Stored, with_stored, without_stored, Store, IsValidFor, last_sequence, names_of, HasFree, HasKey, IsPartialIndexOf, HasReserve, free_reserve, free_sealed, reached_less, reached_put, AnyKey, StoreChange, SealContainer, ChangeName, KeepsCopies, changed, with_sealed, with_change, Tables, CoreInvariant, HoldsPart, IndexesFiles, blames, Represents, Runs, last_changed, StandsSealed, Stop, IndexesAll, Row, Effect, Rests, SealsOne, KeepsTables, StopsAfter, StepsOr, next_id, FileEvent, FileStep, FileRun, IsAt, ChangesTo, changes_by, events_of, IsGivenRight, stored_with, stored_by, IsNoGcStep, IsSafeIn, CoreState, IsUnderWayIn, ACTORS, Collection, Collects, KeepsBoth, Known, apart}
+use Rattle.store_core.proofs.Prelude.{some_same, ◌≡◌, ◌⊎◌, inl, inr, ℕ, List, [], ◌∷◌, ◌++◌, Option, Some, None, Result, Ok, Err, refl, sym, ◌∙◌, subst, ap, suc, length, arith, AllByRecursion, Root, Delete, Put, DiskView, IsLater, OnlyReads, ending, ending_of, StandsFor, stands_reads, Kind, PlaceMap, Segment, KindSegment, Part, Idle, Answer, IsStepSegment, AreStepSegments, StepValue, IsStep, Refusal, HasNoCollisions, ByteSet, IsIn, IsAmong, Stands, Stored, with_stored, without_stored, Store, IsValidFor, last_sequence, names_of, HasFree, HasKey, IsPartialIndexOf, HasReserve, free_reserve, free_sealed, reached_less, reached_put, AnyKey, StoreChange, SealContainer, ChangeName, KeepsCopies, changed, with_sealed, with_change, Tables, CoreInvariant, HoldsPart, IndexesFiles, blames, Represents, Runs, last_changed, StandsSealed, Stop, IndexesAll, Row, Effect, Rests, SealsOne, KeepsTables, StopsAfter, StepsOr, next_id, FileEvent, FileStep, FileRun, IsAt, ChangesTo, changes_by, events_of, IsGivenRight, stored_with, stored_by, IsNoGcStep, IsSafeIn, CoreState, IsUnderWayIn, ACTORS, Collection, Collects, KeepsBoth, Known, apart}
 use Rattle.dd_disk.specs.Moves.{Moved, Arrives, Ends}
 use Rattle.container_meta.specs.declared.kind.Kind.TheVariants as kind
 use Rattle.container_meta.specs.Segments.{Contents}
@@ -32,9 +32,6 @@ pub record NextOn (S : List ℕ → Type 0) (s : Store) (changes : List StoreCha
   pub copies : (first : PlaceMap) (before after : List ℕ) → old.known ≡ Some first → old.disk.content ≡ Some before → new.disk.content ≡ Some after
       → KeepsCopies (HasKey first) s before next.store after
   pub whole : IndexesAll s old.known → IndexesAll next.store new.known
-
-one_some : {A : Type 0} (x y : A) → Some x ≡ Some y → x ≡ y
-one_some x y same = cc
 
 -- ---- what a step leads to
 
@@ -94,10 +91,10 @@ module _ (among : ByteSet) (s : Store) (stored : Stored) (old new : CoreState) (
       (subst (λ (parts : List Part). HoldsPart P t.held after (part_of parts actor)) one.parts_are own))
 
   same_index : (first : PlaceMap) → old.known ≡ Some first → at.index ≡ first
-  same_index first is = one_some at.index first (sym at.index_known ∙ is)
+  same_index first is = some_same at.index first (sym at.index_known ∙ is)
 
   kept_keys : KeepsTables old new → (first then : PlaceMap) → old.known ≡ Some first → new.known ≡ Some then → (key : List ℕ) → HasKey first key → HasKey then key
-  kept_keys kept first then is after key has = subst (λ (m : PlaceMap). HasKey m key) (one_some first then (sym is ∙ sym kept.index_is ∙ after)) has
+  kept_keys kept first then is after key has = subst (λ (m : PlaceMap). HasKey m key) (some_same first then (sym is ∙ sym kept.index_is ∙ after)) has
 
   kept_whole : KeepsTables old new → IndexesAll s old.known → IndexesAll s new.known
   kept_whole kept whole = subst (IndexesAll s) (sym kept.index_is) whole
@@ -123,12 +120,12 @@ module _ (among : ByteSet) (s : Store) (stored : Stored) (old new : CoreState) (
       is_at = arrive (IsIn among) s stored new at.index invariant.reserve_holds free (same_tables kept) (kept.index_is ∙ at.index_known)
           (subst (λ (size : ℕ). IsValidFor size s) (sym reads.later.size_is) at.valid) (stands_reads (Stands (IsIn among) s stored.files) old.disk new.disk at.stands reads)
           (same_last kept) invariant.files_are_indexed
-          (λ image is. let same : content ≡ image = one_some content image (sym told ∙ sym reads.content_is ∙ is) in
+          (λ image is. let same : content ≡ image = some_same content image (sym told ∙ sym reads.content_is ∙ is) in
           subst (λ (bytes : List ℕ). AllByRecursion (HoldsPart (HasKey at.index) s.held bytes) new.parts) same
           (all_hold at.index s content (λ key has. has) (λ key level bytes counts has. has) own)) many_here under_way safe;
     };
     keys = kept_keys kept;
-    copies = λ first before after is is_before is_after. let same : before ≡ after = one_some before after (sym is_before ∙ sym reads.content_is ∙ is_after) in
+    copies = λ first before after is is_before is_after. let same : before ≡ after = some_same before after (sym is_before ∙ sym reads.content_is ∙ is_after) in
         subst (λ (bytes : List ℕ). KeepsCopies (HasKey first) s before s bytes) same (λ key level bytes counts has. has);
     whole = kept_whole kept;
   }
@@ -147,7 +144,7 @@ module _ (among : ByteSet) (s : Store) (stored : Stored) (old new : CoreState) (
           (λ image is. let kept_here = keeps image is in all_hold at.index s image (λ key has. has) kept_here.0 kept_here.1) many_here under_way safe;
     };
     keys = kept_keys kept;
-    copies = λ first before after is is_before is_after. let same : content ≡ before = one_some content before (sym told ∙ is_before) in
+    copies = λ first before after is is_before is_after. let same : content ≡ before = some_same content before (sym told ∙ is_before) in
         subst (λ (m : PlaceMap). KeepsCopies (HasKey m) s before s after) (same_index first is)
         (subst (λ (bytes : List ℕ). KeepsCopies (HasKey at.index) s bytes s after) same (keeps after is_after).0);
     whole = kept_whole kept;
@@ -175,7 +172,7 @@ module _ (among : ByteSet) (s : Store) (stored : Stored) (old new : CoreState) (
               (λ image is. let kept = keeps known.0 image known.1 is in all_hold known.0 (changed change s) image keys kept.0 kept.1) many_here under_way (safe known.0 known.1);
         };
         keys = λ first then is after key has. made.keeps_keys first is then after key has;
-        copies = λ first before after is is_before is_after. let same : content ≡ before = one_some content before (sym told ∙ is_before) in
+        copies = λ first before after is is_before is_after. let same : content ≡ before = some_same content before (sym told ∙ is_before) in
             subst (λ (m : PlaceMap). KeepsCopies (HasKey m) s before (changed change s) after) (same_index first is)
             (subst (λ (bytes : List ℕ). KeepsCopies (HasKey at.index) s bytes (changed change s) after) same (keeps known.0 after known.1 is_after).0);
         whole = λ whole. made.whole.store_has s at.represents at.valid free whole;
@@ -246,7 +243,7 @@ module _ (among : ByteSet) (s : Store) (stored : Stored) (old new : CoreState) (
   rested_safe : (answer : Result Answer Refusal) → Rests answer old new → (IsSafeIn at.index s old.parts image old.collection → IsSafeIn at.index s new.parts image new.collection)
       → IsSafeFor at.index s stored new
   rested_safe answer effect safe after told core is_store =
-      let same : image ≡ after = one_some image after (sym here ∙ sym effect.disk.only.content_is ∙ told) in
+      let same : image ≡ after = some_same image after (sym here ∙ sym effect.disk.only.content_is ∙ told) in
       subst (λ (bytes : List ℕ). IsSafeIn at.index s new.parts bytes new.collection) same (safe (at.safe image here))
 
   rests_by : (step : StepValue) (answer : Result Answer Refusal) → Row step actor answer buf old new → Rests answer old new → IsUnderWayIn new.tables.held new.collection
@@ -387,14 +384,14 @@ module _ (among : ByteSet) (s : Store) (stored : Stored) (old new : CoreState) (
   -- where nothing changes
   refused_safe : OnlyReads old.disk new.disk → new.parts ≡ old.parts → new.collection ≡ old.collection → IsSafeFor at.index s stored new
   refused_safe reads parts same after told core holds_now =
-      let bytes : image ≡ after = one_some image after (sym here ∙ sym reads.content_is ∙ told) in
+      let bytes : image ≡ after = some_same image after (sym here ∙ sym reads.content_is ∙ told) in
       subst (λ (b : List ℕ). IsSafeIn at.index s new.parts b new.collection) bytes
       (unchanged_safe at.index at.index s s old.parts new.parts image image old.collection new.collection (still_rested among s stored old new actor buf at parts) same
       (at.safe image here))
 
   -- where the index is the same, the reserve is
   reserve_still : new.known ≡ old.known → (then : PlaceMap) → new.known ≡ Some then → HasReserve (HasKey then) s.held
-  reserve_still same then is = subst (λ (m : PlaceMap). HasReserve (HasKey m) s.held) (one_some at.index then (sym at.index_known ∙ sym same ∙ is)) invariant_here.reserve_holds
+  reserve_still same then is = subst (λ (m : PlaceMap). HasReserve (HasKey m) s.held) (some_same at.index then (sym at.index_known ∙ sym same ∙ is)) invariant_here.reserve_holds
 
   -- a name
   commit_next : (name : List ℕ) (root : Root) (answer : Result Answer Refusal) → Goes (asked.Commit name root) answer
@@ -411,13 +408,13 @@ module _ (among : ByteSet) (s : Store) (stored : Stored) (old new : CoreState) (
       (λ key there. effect.made.keeps_keys at.index at.index_known then then_is key (given.indexed at.index at.index_known key there)))
       (λ then after then_is is. (
         (λ key level text counts has. subst (KeepsCopies AnyKey s image (with_change name (Put root) s))
-            (one_some copies.0 after (sym copies.1 ∙ is)) copies.2 key level text tt has),
+            (some_same copies.0 after (sym copies.1 ∙ is)) copies.2 key level text tt has),
         subst (λ (parts : List Part). HoldsPart (HasKey then) s.held after (part_of parts actor)) (sym row.2)
             (own_set (HoldsPart (HasKey then) s.held after) old.parts actor Idle tt tt),
       ))
       (λ then then_is after is core holds_now. committed_safe among s stored old new actor buf at name root (row.0, refl, row.2, row.3) effect.index collects then then_is after
       (λ key level text counts has. subst (KeepsCopies AnyKey s image (with_change name (Put root) s))
-      (one_some copies.0 after (sym copies.1 ∙ is)) copies.2 key level text tt has))
+      (some_same copies.0 after (sym copies.1 ∙ is)) copies.2 key level text tt has))
   commit_next name root (Err refusal) row effect collects stops right given =
       let reads = only_reads old new stays (asked.Commit name root) refusal stops effect.disk.ends in
       rests among s stored old new actor at (row_one actor buf old new (asked.Commit name root) (Err refusal) row)
@@ -436,14 +433,14 @@ module _ (among : ByteSet) (s : Store) (stored : Stored) (old new : CoreState) (
       (last_changed name Delete s at.valid.follow ∙ ap suc last_here) effect.made (reserve_still effect.index) invariant_here.has_free effect.disk.later
       moved.arrives (λ then then_is all. reached_less (HasKey then) stored.files all name)
       (λ then after then_is is.
-      let any = subst (KeepsCopies AnyKey s image (with_change name Delete s)) (one_some copies.0 after (sym copies.1 ∙ is)) copies.2 in
+      let any = subst (KeepsCopies AnyKey s image (with_change name Delete s)) (some_same copies.0 after (sym copies.1 ∙ is)) copies.2 in
       let kept : KeepsCopies (HasKey at.index) s image (with_change name Delete s) after = λ key level text counts has. any key level text tt has in (
         kept,
         part_kept (HasKey at.index) (HasKey then) s (with_change name Delete s) image after kept (effect.made.keeps_keys at.index at.index_known then then_is)
             (part_of new.parts actor) (own_still row.2),
       ))
       (λ then then_is after is core holds_now. deleted_safe among s stored old new actor buf at name row.2 effect.index collects then then_is after
-      (λ key level text counts has. subst (KeepsCopies AnyKey s image (with_change name Delete s)) (one_some copies.0 after (sym copies.1 ∙ is)) copies.2 key level text tt has))
+      (λ key level text counts has. subst (KeepsCopies AnyKey s image (with_change name Delete s)) (some_same copies.0 after (sym copies.1 ∙ is)) copies.2 key level text tt has))
   delete_next name (Err refusal) row effect collects stops right given =
       let reads = only_reads old new stays (asked.Delete name) refusal stops effect.disk.ends in
       rests among s stored old new actor at (row_one actor buf old new (asked.Delete name) (Err refusal) row)

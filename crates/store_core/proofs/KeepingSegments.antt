@@ -1,5 +1,5 @@
 -- The segments that the steps of a run kept are held at its end.
-use Rattle.store_core.proofs.Prelude.{◌≡◌, inl, inr, ℕ, List, [], ◌∷◌, ◌++◌, map, Some, None, Result, Ok, Err, refl, sym, ◌∙◌, ap, subst, Option, eqb-true, AllByRecursion, sha256, slot_at, size_of, ending_of, Done, Ending, OnlyReads, IsDurable, shown_content, Kind, Place, PlaceMap, Segment, KindSegment, segment_key, SameBefore, Changes, Answer, pin_of, StepValue, IsStep, Refusal, HasNoCollisions, ByteSet, IsIn, IsAmong, Stands, Files, Stored, Store, HasKey, newest, StoreChange, SealContainer, ChangeName, FlushContainer, FreeContainer, with_sealed, with_change, HasNewest, bytes_at, copy_digest, headers_of_right, IsAmongThese, IsNodeEntry, among_so, newest_so, nodes_so, blames, IsSettled, Left, Row, ClaimRow, SealRow, Effect, StopsAfter, next_id, Steps, FileEvent, FileStep, FileRun, IsAt, IsGivenRight, ChangesTo, changes_by, stored_by, stored_after, AreNoGcSteps, IsNoGcStep, events_of, CoreState, Mark, Filter, Select, SweepStage, CopyNext, Flush, Release, End, Collection, GcEffect, GcRow, TouchesBy, at_moment, Stage, StepsTo, Touches, IsStepRefusal, with_freed}
+use Rattle.store_core.proofs.Prelude.{some_same, ◌≡◌, inl, inr, ℕ, List, [], ◌∷◌, ◌++◌, map, Some, None, Result, Ok, Err, refl, sym, ◌∙◌, ap, subst, Option, eqb-true, AllByRecursion, sha256, slot_at, size_of, ending_of, Done, Ending, OnlyReads, IsDurable, shown_content, Kind, Place, PlaceMap, Segment, KindSegment, segment_key, SameBefore, Changes, Answer, pin_of, StepValue, IsStep, Refusal, HasNoCollisions, ByteSet, IsIn, IsAmong, Stands, Files, Stored, Store, HasKey, newest, StoreChange, SealContainer, ChangeName, FlushContainer, FreeContainer, with_sealed, with_change, HasNewest, bytes_at, copy_digest, headers_of_right, IsAmongThese, IsNodeEntry, among_so, newest_so, nodes_so, blames, IsSettled, Left, Row, ClaimRow, SealRow, Effect, StopsAfter, next_id, Steps, FileEvent, FileStep, FileRun, IsAt, IsGivenRight, ChangesTo, changes_by, stored_by, stored_after, AreNoGcSteps, IsNoGcStep, events_of, CoreState, Mark, Filter, Select, SweepStage, CopyNext, Flush, Release, End, Collection, GcEffect, GcRow, TouchesBy, at_moment, Stage, StepsTo, Touches, IsStepRefusal, with_freed}
 use Rattle.std.proofs.lemmas.List.{append-nil, append_assoc}
 use Rattle.container_meta.specs.declared.kind.Kind.TheVariants.{Leaf, Tree}
 use Rattle.container_meta.specs.Segments.{Contents}
@@ -16,30 +16,22 @@ use Rattle.store_model.proofs.SameIndex.{same_copies}
 use Rattle.store_state.specs.Comparing.{FitsBytes}
 use Rattle.store_state.specs.Settled.{KeepsWhatCounts}
 use Rattle.ingest_steps.proofs.HeldPins.{node_of}
-use Rattle.store_core.specs.Keeping.{kept_by, kept_of, IsHeldIn, KeepsSegments, StaysHeld, StaysSettled}
-use Rattle.store_core.proofs.CoreRuns.{running_step}
+use Rattle.store_core.specs.Keeping.{kept_by, kept_of, IsHeldIn, KeepsSegments, StaysHeld}
+use Rattle.store_core.proofs.CoreRuns.{running_step, was_running}
 use Rattle.gc_sweep.specs.declared.sweep.Next.{Next}
 use Rattle.store_core.proofs.AnySteps.{any_step, gc_or_not, other_leads, with_step}
 use Rattle.store_core.proofs.GcSteps.{end_reads}
 use Rattle.store_core.proofs.Leading.{Leads}
 use Rattle.store_core.proofs.KeepingFiles.{file_step, run_running, only_reads, seal_holds, NextOn}
-use Rattle.store_core.proofs.Sealing.{one_map}
+use Rattle.gc_sweep.proofs.KeyLists.{both_so, each_so}
 
 -- ---- lists
-
-pub all_on : {A : Type 0} (P : A → Type 0) (xs ys : List A) → AllByRecursion P xs → AllByRecursion P ys → AllByRecursion P (xs ++ ys)
-all_on P [] ys first second = second
-all_on P (x ∷ xs) ys first second = (first.0, all_on P xs ys first.1 second)
 
 all_map : {A B : Type 0} (P : A → Type 0) (Q : B → Type 0) (f : A → B) (xs : List A) → ((x : A) → P x → Q (f x)) → AllByRecursion P xs → AllByRecursion Q (map f xs)
 all_map P Q f [] each all = tt
 all_map P Q f (x ∷ xs) each all = (each x all.0, all_map P Q f xs each all.1)
 
-all_weaker : {A : Type 0} (P Q : A → Type 0) (xs : List A) → ((x : A) → P x → Q x) → AllByRecursion P xs → AllByRecursion Q xs
-all_weaker P Q [] each all = tt
-all_weaker P Q (x ∷ xs) each all = (each x all.0, all_weaker P Q xs each all.1)
-
-all_two : {A : Type 0} (P Q : A → Type 0) (xs : List A) → AllByRecursion P xs → AllByRecursion Q xs → AllByRecursion (λ x. P x × Q x) xs
+pub all_two : {A : Type 0} (P Q : A → Type 0) (xs : List A) → AllByRecursion P xs → AllByRecursion Q xs → AllByRecursion (λ x. P x × Q x) xs
 all_two P Q [] first second = tt
 all_two P Q (x ∷ xs) first second = ((first.0, second.0), all_two P Q xs first.1 second.1)
 
@@ -263,7 +255,7 @@ module _ (among : ByteSet) (s : Store) (stored later : Stored) (old new : CoreSt
   step_kept step answer row = λ next then then_is after is effect right given. tt
 
 -- a disk that was settled is settled, whatever the step
-pub settled_step : (among : ByteSet) (distinct : HasNoCollisions (IsIn among)) (f : FileEvent) (s : Store) (stored : Stored) (old new : CoreState) → IsAt (IsIn among) s stored old
+settled_step : (among : ByteSet) (distinct : HasNoCollisions (IsIn among)) (f : FileEvent) (s : Store) (stored : Stored) (old new : CoreState) → IsAt (IsIn among) s stored old
     → IsSettled old.tables.slots old.disk
     → FileStep (IsIn among) f old new → (leads : Leads (IsIn among) s f (stored_by f stored) old new) → old.stop ≡ None → new.stop ≡ None → IsSettled new.tables.slots new.disk
 settled_step among distinct f s stored old new at settled step leads runs stays =
@@ -278,6 +270,12 @@ settled_step among distinct f s stored old new at settled step leads runs stays 
       | inr other ↦ effect_settled old new stays at.stands.known.0 at.stands.known.1 settled f.event.step f.event.answer other steps.stops steps.made.effect
     ])
 
+pub stays_settled : (among : ByteSet) (f : FileEvent) (s : Store) (stored : Stored) (old new : CoreState) → HasNoCollisions (IsIn among) → IsAt (IsIn among) s stored old
+    → IsSettled old.tables.slots old.disk → FileStep (IsIn among) f old new → new.stop ≡ None → IsSettled new.tables.slots new.disk
+stays_settled among f s stored old new distinct at settled step stays =
+    settled_step among distinct f s stored old new at settled step (any_step among distinct f s stored old new step at stays)
+    (was_running old.stop f.event old new refl step.made stays) stays
+
 module _ (among : ByteSet) (distinct : HasNoCollisions (IsIn among)) where
   -- a step more, of no collection
   keeps_step : (f : FileEvent) (s : Store) (stored : Stored) (segs : List KindSegment) (old new : CoreState) → IsNoGcStep f.event.step → Keeps (IsIn among) s stored segs old
@@ -291,8 +289,8 @@ module _ (among : ByteSet) (distinct : HasNoCollisions (IsIn among)) where
         record {
           is_at = next.next.is_at;
           settled = settled_step among distinct f s stored old new at keeps.settled step (other_leads among distinct f s stored old new other next) runs stays;
-          held = λ then then_is after is. all_on (HoldsSegment then next.next.store after) segs (kept_by f.event.step f.event.answer)
-              (all_weaker (HoldsSegment at.index s at.stands.known.0) (HoldsSegment then next.next.store after) segs
+          held = λ then then_is after is. both_so (HoldsSegment then next.next.store after) segs (kept_by f.event.step f.event.answer)
+              (each_so (HoldsSegment at.index s at.stands.known.0) (HoldsSegment then next.next.store after) segs
               (λ seg has. (
                 next.keys at.index then at.index_known then_is (segment_key seg.kind seg.segment) has.0,
                 next.copies at.index at.stands.known.0 after at.index_known at.stands.known.1 is (segment_key seg.kind seg.segment)
@@ -315,7 +313,7 @@ module _ (S : List ℕ → Type 0) (s : Store) (stored : Stored) (c : CoreState)
       let right = (at.stands.each image (c.disk.as_read image here)).holds.right in
       let key : List ℕ = segment_key seg.kind seg.segment in
       record {
-        indexed = λ index is. subst (λ (m : PlaceMap). HasKey m key) (one_map at.index index (sym at.index_known ∙ is)) has.0;
+        indexed = λ index is. subst (λ (m : PlaceMap). HasKey m key) (some_same at.index index (sym at.index_known ∙ is)) has.0;
         newest = λ t represents. record {
           known = at.stands.known;
           each = λ left leaves.
@@ -327,7 +325,7 @@ module _ (S : List ℕ → Type 0) (s : Store) (stored : Stored) (c : CoreState)
       }
 
   all_held : (segs : List KindSegment) → AllByRecursion (HoldsSegment at.index s at.stands.known.0) segs → AllByRecursion (λ seg. IsHeldIn seg c) segs
-  all_held segs all = all_weaker (HoldsSegment at.index s at.stands.known.0) (λ seg. IsHeldIn seg c) segs held_in all
+  all_held segs all = each_so (HoldsSegment at.index s at.stands.known.0) (λ seg. IsHeldIn seg c) segs held_in all
 
 -- ---- a run
 
@@ -357,27 +355,11 @@ module _ (C : Type 0) (state : C → CoreState) (among : ByteSet) (distinct : Ha
       subst (λ (all : List KindSegment). KeepsAll (IsIn among) (stored_after (f ∷ fs) stored) all (state new)) (append_assoc segs more (kept_of fs))
       (keeps_on fs next.0 (stored_by f stored) (segs ++ more) mid new next.1 run.1.1 others.1 stays)
 
-  -- where a run leads, and its disk is settled
-  pub settled_on : (steps : List FileEvent) (s : Store) (stored : Stored) (old new : C) → IsAt (IsIn among) s stored (state old)
-      → IsSettled (state old).tables.slots (state old).disk → FileRun C state (IsIn among) steps old new
-      → (state new).stop ≡ None → IsSettled (state new).tables.slots (state new).disk
-  settled_on [] s stored old new at settled run stays = subst (λ (c : C). IsSettled (state c).tables.slots (state c).disk) (sym run) settled
-  settled_on (f ∷ fs) s stored old new at settled run stays =
-      let mid = run.0 in
-      let going = run_running C state among fs mid new run.1.1 stays in
-      let runs = run_running C state among (f ∷ fs) old new run stays in
-      let leads = any_step among distinct f s stored (state old) (state mid) run.1.0 at going in
-      settled_on fs leads.next.store (stored_by f stored) mid new leads.next.is_at
-      (settled_step among distinct f s stored (state old) (state mid) at settled run.1.0 leads runs going) run.1.1 stays
-
 module _ (C : Type 0) (state : C → CoreState) where
   pub keeps_segments : KeepsSegments C state
   keeps_segments among steps s stored old new distinct at settled run others stays =
       held_after (IsIn among) (stored_after steps stored) (kept_of steps) (state new)
       (keeps_on C state among distinct steps s stored [] old new (record { is_at = at; settled = settled; held = λ index known image is. tt }) run others stays)
-
-  pub stays_settled : StaysSettled C state
-  stays_settled among steps s stored old new distinct at settled run stays = settled_on C state among distinct steps s stored old new at settled run stays
 
   pub stays_held : StaysHeld C state
   stays_held among steps s stored seg old new distinct at settled run others stays held =

@@ -1,7 +1,17 @@
--- Where a step of a run leads, and what it may not lose.
+-- Where a step leads, and what it may not lose.
 use Rattle.actor_parts.specs.StepValue as asked
-use Rattle.store_core.proofs.Prelude.{AreChangesBy, FileEvent, IsNoGcStep, CoreState, HasKey, HasNewest, IndexesAll, IsNeeded, List, Some, ℕ, ◌≡◌, Part, PlaceMap, StepValue, Store, StoreChange, Stored}
+use Rattle.actor_parts.specs.declared.step.Answer.TheVariants as answers
+use Rattle.refusals.specs.declared.refusal.Phase.TheVariants as phases
+use Rattle.store_core.proofs.Prelude.{[], Ok, Result, Answer, Segment, Kind, Refusal, changes_by, FlushContainer, FreeContainer, ◌∷◌, FileEvent, IsNoGcStep, CoreState, HasKey, HasNewest, IndexesAll, IsNeeded, List, Some, ℕ, ◌≡◌, Part, PlaceMap, StepValue, Store, StoreChange, Stored}
 use Rattle.store_core.proofs.KeepingFiles.{Next}
+
+-- These are the changes of a step: those that its answer tells, and, where a collection writes copies or gives a container back, one of
+-- some container or slot.
+abbrev pub AreChangesBy : StepValue → Result Answer Refusal → List StoreChange → Type 0
+AreChangesBy asked.GcStep (Ok (answers.Did phases.Flush)) changes =
+    (id : ℕ) × (kind : Kind) × (segments : List Segment) × (changes ≡ FlushContainer id kind segments ∷ [])
+AreChangesBy asked.GcStep (Ok (answers.Did phases.Release)) changes = (slot : ℕ) × (changes ≡ FreeContainer slot ∷ [])
+AreChangesBy step answer changes = changes ≡ changes_by step answer
 
 -- a key that a step may not lose: for a collection each that is needed, and else each
 abbrev pub IsSpared : StepValue → Store → List Part → List ℕ → List ℕ → Type 0

@@ -1,5 +1,5 @@
 -- What becomes live where a collection runs.
-use Rattle.store_core.proofs.Prelude.{◌≡◌, ◌↔◌, ◌⊎◌, ◌≤◌, ◌+◌, inl, inr, ℕ, List, [], ◌∷◌, length, map, take, Option, Some, None, Result, Ok, Err, refl, sym, ◌∙◌, ap, subst, key_of, Entry, Kind, kind_byte, Segment, entries_from, segment_key, IsLiveAt, LiveKeys, Collection, Marks, contains_none, marks_none, MarksIn, Restores}
+use Rattle.store_core.proofs.Prelude.{some_same, ◌≡◌, ◌↔◌, ◌⊎◌, ◌≤◌, ◌+◌, inl, inr, ℕ, List, [], ◌∷◌, length, map, take, Option, Some, None, Result, Ok, Err, refl, sym, ◌∙◌, ap, subst, key_of, Entry, Kind, kind_byte, Segment, entries_from, segment_key, IsLiveAt, LiveKeys, Collection, Marks, contains_none, marks_none, MarksIn, Restores}
 use Rattle.std.proofs.Common.{OnOk, OnErr, IfOk}
 use Rattle.std.specs.List.{Contains}
 use Rattle.std.proofs.lemmas.List.{take_all}
@@ -66,16 +66,13 @@ pub unmarks_some : (before now : Option Collection) (fresh : List (List ℕ)) (m
     → Restores before now fresh → MarksIn (λ k. ⊥) before (Some new)
 unmarks_some None now fresh mid new ran others unmarks restores = absurd (let wrong : None ≡ Some mid = sym restores ∙ ran in cc)
 unmarks_some (Some c) now fresh mid new ran others unmarks restores =
-    let same : mid ≡ record c { live = restores.0 } = one_running mid (record c { live = restores.0 }) (sym ran ∙ restores.1.0) in (
+    let same : mid ≡ record c { live = restores.0 } = some_same mid (record c { live = restores.0 }) (sym ran ∙ restores.1.0) in (
       new.live,
       (
         ap (λ (x : Collection). Some x) (others ∙ ap (λ (x : Collection). record x { live = new.live }) same),
         marks_nothing c.live new.live (restores.1.1 new.live (subst (λ (x : Collection). Unmarks fresh x.live new.live) same unmarks)),
       ),
     )
-  where
-    one_running : (a b : Collection) → Some a ≡ Some b → a ≡ b
-    one_running a b is = cc
 
 -- ---- the keys of a container
 

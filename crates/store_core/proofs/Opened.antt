@@ -1,5 +1,5 @@
 -- A core that was opened runs, and runs can begin at it; one that was not opened again runs on.
-use Rattle.store_core.proofs.Prelude.{◌≡◌, ℕ, zero, suc, Bool, true, false, List, [], length, Option, None, Some, Ok, Err, refl, sym, ◌∙◌, ap, subst, inl, inr, arith, AllByRecursion, Done, Reads, Shows, DiskView, IsDurable, reads_here, shown_content, slot_at, SameBefore, PlaceMap, ACTORS, Idle, Part, Refusal, Memory, IsIn, Stands, Stored, Store, Encodes, IsValidFor, HasKey, last_id, free_reserve, store_once, Tables, HoldsPart, IndexesFiles, IsSettled, Represents, Runs, Stop, IndexesAll, LeavesUnread, IsSafeIn, CoreState, IsUnderWayIn, IsUp, UnlessStopped, IsRunning}
+use Rattle.store_core.proofs.Prelude.{◌≡◌, ℕ, zero, suc, Bool, true, false, List, [], length, Option, None, Some, Ok, Err, refl, sym, ◌∙◌, ap, subst, inl, inr, arith, AllByRecursion, Done, Reads, Shows, DiskView, IsDurable, reads_here, shown_content, slot_at, SameBefore, PlaceMap, ACTORS, Idle, Part, Refusal, Memory, Stands, Stored, Store, Encodes, IsValidFor, HasKey, last_id, free_reserve, store_once, Tables, HoldsPart, IndexesFiles, IsSettled, Represents, Runs, Stop, IndexesAll, LeavesUnread, IsSafeIn, CoreState, IsUnderWayIn, IsUp, UnlessStopped, IsRunning}
 use Rattle.std.proofs.Common.{replicate}
 use Rattle.std.proofs.lemmas.List.{length-replicate}
 use Rattle.disk_format.specs.declared.why.Why.{Why}
@@ -10,7 +10,7 @@ use Rattle.store_model.proofs.Lookups.{indexed_by}
 use Rattle.store_model.proofs.Reached.{reached_held}
 use Rattle.store_state.specs.declared.open_store.OpenStore.{OpenStore}
 use Rattle.store_state.specs.State as opened
-use Rattle.store_core.specs.Opening.{IsNew, IsKept, BeginsAt, IsNewAt, IsNotRead, IsReadFrom, OpensCore, OpensNone, StaysOrStops, WritesUnread}
+use Rattle.store_core.specs.Opening.{IsNew, IsKept, BeginsAt, IsNotRead, IsReadFrom, OpensCore, OpensNone, StaysOrStops, WritesUnread}
 use Rattle.store_core.proofs.Rooms.{has_room}
 use Rattle.store_core.proofs.SafeSteps.{alone}
 
@@ -207,7 +207,3 @@ begins_at S stored image v c new durable reads told is =
       last_id_is = new.last_id_is ∙ ap (λ (store : Store). last_id store.held) same;
       settled = durable_settled c.tables.slots c.disk durable;
     }
-
-pub new_is_at : (D : Type 0) (view : D → DiskView) (C : Type 0) (state : C → CoreState) → IsNewAt D view C state
-new_is_at D view C state among stored image before c new durable reads told is =
-    begins_at (IsIn among) stored image (view before) (state c) new durable reads told is

@@ -47,13 +47,10 @@ pub use Rattle.gc_enumerate.specs.Live.{IsLiveAt, LiveKeys}
 pub use Rattle.gc_select.specs.Selecting.{IsSelectedId, selected, sources_of}
 pub use Rattle.gc_select.specs.declared.liveness.ContainerLiveness.{ContainerLiveness}
 pub use Rattle.gc_steps.proofs.Carried.{KeepsBoth}
-pub use Rattle.gc_steps.proofs.Chosen.{chosen_which}
 pub use Rattle.gc_steps.proofs.ClaimedPin.{one_more}
 pub use Rattle.gc_steps.proofs.FirstStage.{id_below, id_there}
-pub use Rattle.gc_steps.proofs.FewSources.{level_early}
 pub use Rattle.gc_steps.proofs.Marked.{contains_first, contains_none, marks_none}
 pub use Rattle.gc_steps.proofs.Sparing.{held_at, ready_is_spare}
-pub use Rattle.gc_steps.proofs.SparingStages.{copied_leaves, entry_none}
 pub use Rattle.gc_steps.proofs.StepSafe.{IsFlushing, IsStoreAfter, step_safe}
 pub use Rattle.gc_steps.proofs.UnderWay.{at_stage}
 pub use Rattle.gc_steps.specs.FewSources.{IsToChoose}
@@ -104,11 +101,10 @@ pub use Rattle.store_core.specs.Bounds.{IsNoEnd, NoneEnds, starts}
 pub use Rattle.store_core.specs.Collecting.{Collects, GcEffect, GcRow, GoesOn, HasEnded, IsKeptKey, IsNotMade, MarksIn, Restores, StartRow, TouchesBy, at_moment}
 pub use Rattle.store_core.specs.Core.{AbortRow, BeginRow, ClaimRow, CommitRow, CoreStep, DeleteRow, Effect, EndRow, IndexesAll, IsNotGiven, KeepsTables, KeepsUnlessBroken, ListRow, Made, NamesOne, OpenRow, ReadRow, Rests, Row, SealRow, SealsOne, StatRow, Steps, StepsOr, StopsAfter, counted, next_id}
 pub use Rattle.store_core.specs.Finding.{IsNoSweep}
-pub use Rattle.store_core.specs.Finished.{AreCopiesOf, Collected, FindsLive, IsAdded, IsDid, IsOfCopies, WasRecorded, WereCopies, copied_keys, sealed_keys}
 pub use Rattle.store_core.specs.Frame.{IsOn, KeepsBytes}
 pub use Rattle.store_core.specs.Opening.{LeavesUnread}
-pub use Rattle.store_core.specs.Releases.{SweepsSpare, copied_in, ends_with, freed_in}
-pub use Rattle.store_core.specs.Runs.{AreChangesBy, AreChangesOf, AreNoGcSteps, ChangesTo, CoreRun, FileEvent, FileRun, FileStep, IsAt, IsGivenRight, IsNoGcStep, IsReadNext, IsSafeIn, ReadsAlone, changes_by, changes_of, events_of, opens, stored_after, stored_by, stored_with}
+pub use Rattle.store_core.specs.Releases.{SweepsSpare, copied_in, freed_in}
+pub use Rattle.store_core.specs.Runs.{AreNoGcSteps, ChangesTo, CoreRun, FileEvent, FileRun, FileStep, IsAt, IsGivenRight, IsNoGcStep, IsSafeIn, changes_by, changes_of, events_of, opens, stored_after, stored_by, stored_with}
 pub use Rattle.store_core.specs.State.{CoreState, Event, IsRunning, IsUnderWayIn, IsUp, UnlessStopped}
 pub use Rattle.store_core.specs.declared.stop.Stop.{Stop}
 pub use Rattle.store_model.proofs.Copies.{copy_digest, headers_of_right, some_same}

@@ -1,7 +1,7 @@
 -- Steps keep what holds of the collection that runs.
 use Rattle.std.specs.FinMap as finite
 use Rattle.gc_steps.proofs.SealedPins.{sealed_safe}
-use Rattle.store_core.proofs.Prelude.{root_key, ClaimRow, CommitRow, Rests, SealRow, SealsOne, next_id, AllByRecursion, Answer, ByteSet, IsIn, Collection, Collects, IsKeptKey, MarksIn, StartRow, HasKey, CoreInvariant, CoreState, IsUnderWayIn, Delete, Put, Filter, Mark, Select, [], Err, List, None, Ok, Option, Result, Some, ap, arith, map, refl, subst, true, ℕ, ◌<◌, ◌↔◌, ◌∙◌, ◌∷◌, ◌≡◌, ◌≢◌, ◌⊎◌, suc, inl, inr, sym, length, Idle, Writing, IsAt, IsSafeIn, IsLiveAt, LiveKeys, IsPartKey, Marks, IsSafe, IsSafeAt, IsStoreOf, KeepsBoth, KeepsCopies, with_change, with_sealed, Kind, KindSegment, Segment, segment_key, Part, PinMap, Place, PlaceMap, Refusal, Represents, Runs, Root, Stage, Store, names_of, Stored, Tables, one_more, contains_first, contains_none, pin_of, with_pins}
+use Rattle.store_core.proofs.Prelude.{some_same, root_key, ClaimRow, CommitRow, Rests, SealRow, SealsOne, next_id, AllByRecursion, Answer, ByteSet, IsIn, Collection, Collects, IsKeptKey, MarksIn, StartRow, HasKey, CoreInvariant, CoreState, IsUnderWayIn, Delete, Put, Filter, Mark, Select, [], Err, List, None, Ok, Option, Result, Some, ap, arith, map, refl, subst, true, ℕ, ◌<◌, ◌↔◌, ◌∙◌, ◌∷◌, ◌≡◌, ◌≢◌, ◌⊎◌, suc, inl, inr, sym, length, Idle, Writing, IsAt, IsSafeIn, IsLiveAt, LiveKeys, IsPartKey, Marks, IsSafe, IsSafeAt, IsStoreOf, KeepsBoth, KeepsCopies, with_change, with_sealed, Kind, KindSegment, Segment, segment_key, Part, PinMap, Place, PlaceMap, Refusal, Represents, Runs, Root, Stage, Store, names_of, Stored, Tables, one_more, contains_first, contains_none, pin_of, with_pins}
 use Rattle.ingest_steps.specs.Writers.{IsStored}
 use Rattle.refusals.specs.declared.refusal.Refusal.TheVariants as refusals
 use Rattle.actor_parts.specs.declared.step.Answer.TheVariants as answers
@@ -31,12 +31,6 @@ runs_alone S s stored c at = record {
   valid = at.valid;
   has_free = (at.invariant at.stands.known.0 at.stands.known.1).has_free;
 }
-
-pub one_list : (a b : List ℕ) → Some a ≡ Some b → a ≡ b
-one_list a b is = cc
-
-pub one_map_at : (a b : PlaceMap) → Some a ≡ Some b → a ≡ b
-one_map_at a b is = cc
 
 -- the collection's invariant holds of these, where the core's does
 abbrev pub IsSafeFor : PlaceMap → Store → Stored → CoreState → Type 0
@@ -177,7 +171,7 @@ module _ (among : ByteSet) (s : Store) (stored : Stored) (old new : CoreState) (
   pub claim_safe : (seg : KindSegment) (answer : Result Answer Refusal) → ClaimRow seg actor answer old new → Rests answer old new → Collects (asked.Claim seg) answer old new
       → IsSafeFor at.index s stored new
   claim_safe seg answer row effect collects after told core holds =
-      let same : image ≡ after = one_list image after (sym here ∙ sym effect.disk.only.content_is ∙ told) in
+      let same : image ≡ after = some_same image after (sym here ∙ sym effect.disk.only.content_is ∙ told) in
       subst (λ (bytes : List ℕ). IsSafeIn at.index s new.parts bytes new.collection) same
       (claimed_here seg answer row collects (subst (CoreInvariant at.index s stored.files new.parts) (sym same) core) (subst (IsStoreOf s stored.files) (sym same) holds)
       (at.safe image here))
@@ -225,7 +219,7 @@ module _ (among : ByteSet) (s : Store) (stored : Stored) (old new : CoreState) (
       let may = row.0 in
       let t : Store = with_change name (Put root) s in
       let within = there (Writing may.pins) may.writing (λ is. cc) in
-      let same : at.index ≡ then = one_map_at at.index then (sym at.index_known ∙ sym index ∙ then_is) in
+      let same : at.index ≡ then = some_same at.index then (sym at.index_known ∙ sym index ∙ then_is) in
       subst (λ (m : PlaceMap). IsSafeIn m t new.parts after new.collection) same
       (unchanged_safe at.index at.index s t old.parts new.parts image after old.collection new.collection
       (λ c. subst (λ (p : List Part). KeepsBoth at.index at.index s t old.parts p image after c c) (sym row.2)
@@ -237,7 +231,7 @@ module _ (among : ByteSet) (s : Store) (stored : Stored) (old new : CoreState) (
       → IsSafeIn then (with_change name Delete s) new.parts after new.collection
   deleted_safe name parts index collects then then_is after keeps =
       let t : Store = with_change name Delete s in
-      let same : at.index ≡ then = one_map_at at.index then (sym at.index_known ∙ sym index ∙ then_is) in
+      let same : at.index ≡ then = some_same at.index then (sym at.index_known ∙ sym index ∙ then_is) in
       subst (λ (m : PlaceMap). IsSafeIn m t new.parts after new.collection) same
       (unchanged_safe at.index at.index s t old.parts new.parts image after old.collection new.collection
       (λ c. subst (λ (p : List Part). KeepsBoth at.index at.index s t old.parts p image after c c) (sym parts)
@@ -266,6 +260,6 @@ module _ (among : ByteSet) (s : Store) (stored : Stored) (old new : CoreState) (
 
   pub begun_safe : (percent : ℕ) (answer : Result Answer Refusal) → StartRow percent answer old new → Rests answer old new → IsSafeFor at.index s stored new
   begun_safe percent answer row effect after told core holds =
-      let same : image ≡ after = one_list image after (sym here ∙ sym effect.disk.only.content_is ∙ told) in
+      let same : image ≡ after = some_same image after (sym here ∙ sym effect.disk.only.content_is ∙ told) in
       subst (λ (bytes : List ℕ). IsSafeIn at.index s new.parts bytes new.collection) same
       (begun_here percent answer row (subst (IsStoreOf s stored.files) (sym same) holds) (at.safe image here))

@@ -1,5 +1,5 @@
 -- What a seal makes of a core.
-use Rattle.store_core.proofs.Prelude.{◌≡◌, ◌≢◌, ◌+◌, ℕ, [], ◌∷◌, length, List, Option, Some, None, Ok, Err, refl, sym, ◌∙◌, ap, subst, arith, AllByRecursion, PlaceMap, sha256, key_of, Entry, kind_byte, Segment, entries_from, segment_key, IsLater, Done, ending_of, Refusal, IsValidFor, with_entries, HasKey, first_free, SealContainer, CanSeal, with_sealed, put_none, blames, Represents, Runs, HasSlot, Made, KeepsUnlessBroken, next_id, CoreState}
+use Rattle.store_core.proofs.Prelude.{some_same, ◌≡◌, ◌≢◌, ◌+◌, ℕ, [], ◌∷◌, length, List, Option, Some, None, Ok, Err, refl, sym, ◌∙◌, ap, subst, arith, AllByRecursion, PlaceMap, sha256, key_of, Entry, kind_byte, Segment, entries_from, segment_key, IsLater, Done, ending_of, Refusal, IsValidFor, with_entries, HasKey, first_free, SealContainer, CanSeal, with_sealed, put_none, blames, Represents, Runs, HasSlot, Made, KeepsUnlessBroken, next_id, CoreState}
 use Rattle.container_meta.specs.Segments.{Contents}
 use Rattle.actor_parts.specs.declared.step.Answer.TheVariants as answers
 use Rattle.actor_parts.specs.StepValue as asked
@@ -14,9 +14,6 @@ use Rattle.store_state.specs.Settled as settled
 use Rattle.ingest_steps.specs.Sealing.{HasSealed, HasPlacesOf, SealsCompared, KeepsMap, places_with}
 use Rattle.ingest_steps.specs.SealStep.{IsSealedFor, KeepsSealed, store_moment}
 use Rattle.store_core.specs.Core.{Makes, IsUnsealed}
-
-pub one_map : (a b : PlaceMap) → Some a ≡ Some b → a ≡ b
-one_map a b is = cc
 
 -- what is so of the digests of segments is so of their entries
 pub to_entries : (P : List ℕ → Type 0) (offset : ℕ) (ss : List Segment) → AllByRecursion (λ (s : Segment). P (sha256 s.bytes)) ss
@@ -58,15 +55,15 @@ module _ (old new : CoreState) (filled : Contents) (slot id : ℕ) (has : HasSlo
     };
     tells = λ places is. (_, index);
     keeps_keys = λ before is after after_is key had.
-        let here : m ≡ before = one_map m before (sym known ∙ is) in
-        let there : with_entries filled.kind slot (entries_from 0 filled.segments) m ≡ after = one_map _ after (sym index ∙ after_is) in
+        let here : m ≡ before = some_same m before (sym known ∙ is) in
+        let there : with_entries filled.kind slot (entries_from 0 filled.segments) m ≡ after = some_same _ after (sym index ∙ after_is) in
         subst (λ (x : PlaceMap). HasKey x key) there (still_has filled.kind slot (entries_from 0 filled.segments) m key (subst (λ (x : PlaceMap). HasKey x key) (sym here) had));
     adds_keys = λ before is after after_is.
-        subst (λ (x : PlaceMap). AllByRecursion (λ s. HasKey x (segment_key filled.kind s)) filled.segments) (one_map _ after (sym index ∙ after_is))
+        subst (λ (x : PlaceMap). AllByRecursion (λ s. HasKey x (segment_key filled.kind s)) filled.segments) (some_same _ after (sym index ∙ after_is))
         (has_segments filled.kind slot 0 filled.segments m);
     keeps_others = λ before is after after_is key none.
-        let here : m ≡ before = one_map m before (sym known ∙ is) in
-        let there : with_entries filled.kind slot (entries_from 0 filled.segments) m ≡ after = one_map _ after (sym index ∙ after_is) in
+        let here : m ≡ before = some_same m before (sym known ∙ is) in
+        let there : with_entries filled.kind slot (entries_from 0 filled.segments) m ≡ after = some_same _ after (sym index ∙ after_is) in
         ap (λ (x : PlaceMap). finite.get x key) (sym there)
         ∙ put_none filled.kind slot (entries_from 0 filled.segments) m key
         (none_found filled.kind key (entries_from 0 filled.segments) (to_entries (λ digest. key_of (kind_byte filled.kind) digest ≢ key) 0 filled.segments none))
@@ -76,7 +73,7 @@ module _ (old new : CoreState) (filled : Contents) (slot id : ℕ) (has : HasSlo
           let can = subst (λ (n : ℕ). CanSeal n filled.kind filled.segments store) id_is (sealed.can.store_has store represents valid free) in
           let first : slot ≡ first_free store.held = ((has.slot_is old.disk.size old.known).store_has store represents valid free).first in
           let there : with_entries filled.kind (first_free store.held) (entries_from 0 filled.segments) m ≡ after =
-          ap (λ (s : ℕ). with_entries filled.kind s (entries_from 0 filled.segments) m) (sym first) ∙ one_map _ after (sym index ∙ after_is) in
+          ap (λ (s : ℕ). with_entries filled.kind s (entries_from 0 filled.segments) m) (sym first) ∙ some_same _ after (sym index ∙ after_is) in
           subst (IsIndexOf (with_sealed (next_id old) filled.kind filled.segments store).held) there
           (index_sealed (next_id old) filled.kind filled.segments store can m (whole m known) can.right);
     };

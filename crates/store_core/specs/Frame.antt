@@ -9,15 +9,13 @@ use Rattle.dd_disk.specs.Moves.{StandsFor}
 use Rattle.actor_parts.specs.StepValue as asked
 use Rattle.actor_parts.specs.StepValue.{StepValue}
 use Rattle.container_meta.specs.Spelling.{HeaderValue}
-use Rattle.store_model.specs.Collisions.{HasNoCollisions, ByteSet, IsIn}
-use Rattle.store_model.specs.Files.{Stored}
 use Rattle.store_model.specs.Image.{Store, Encodes, IsValidFor}
 use Rattle.store_model.specs.Slots.{HasFree, free_slots}
 use Rattle.store_model.specs.Standing.{HasJournal}
 use Rattle.store_model.specs.Steps.{StoreChange, HasCellsFor}
 use Rattle.store_state.specs.Settled.{IsSettled}
 use Rattle.store_state.specs.Tables.{Represents}
-use Rattle.store_core.specs.Runs.{AreNoGcSteps, FileEvent, FileRun, CoreRun, ChangesTo, IsAt, changes_of, events_of}
+use Rattle.store_core.specs.Runs.{AreNoGcSteps, FileEvent, CoreRun, ChangesTo, changes_of, events_of}
 use Rattle.store_core.specs.State.{CoreState, Event}
 
 -- The tables are those of the store, which has a free slot, and the disk is settled.
@@ -107,16 +105,3 @@ abbrev pub ReserveStays : (C : Type 0) → (C → CoreState) → Type 0
 ReserveStays C state = (events : List Event) (s : Store) (base : List ℕ) (old new : C)
     → IsOn s (state old) → (state old).disk.content ≡ Some base → Encodes base s → RESERVE ≤ free_slots s.held
     → CoreRun C state events old new → AreNoGcSteps events → KnownWith (state new).disk.content HasReserveIn
-
--- A container that stands in its slot before and after has the same bytes.
-abbrev pub KeepsStanding : Store → Store → List ℕ → List ℕ → Type 0
-KeepsStanding s t old new = (slot : ℕ) (h : HeaderValue) → slice_get s.held slot ≡ Some (Some h) → slice_get t.held slot ≡ Some (Some h)
-    → range (slot_at slot) SLOT_BYTES new ≡ range (slot_at slot) SLOT_BYTES old
-
--- So it is over data without collisions and on a settled disk, whatever steps come between, those of collections among them.
-abbrev pub ContainersStay : (C : Type 0) → (C → CoreState) → Type 0
-ContainersStay C state = (among : ByteSet) (steps : List FileEvent) (s t : Store) (stored stored_now : Stored) (base : List ℕ) (old new : C)
-    → HasNoCollisions (IsIn among) → IsAt (IsIn among) s stored (state old) → (state old).disk.content ≡ Some base
-    → IsSettled (state old).tables.slots (state old).disk
-    → FileRun C state (IsIn among) steps old new → (state new).stop ≡ None → IsAt (IsIn among) t stored_now (state new)
-    → KnownWith (state new).disk.content (KeepsStanding s t base)

@@ -45,13 +45,6 @@ StaysHeld C state = (among : ByteSet) (steps : List FileEvent) (s : Store) (stor
     → FileRun C state (IsIn among) steps old new → AreNoGcSteps (events_of steps) → (state new).stop ≡ None
     → IsHeldIn seg (state old) → IsHeldIn seg (state new)
 
--- and a disk that was settled is settled at the end of any run.
-abbrev pub StaysSettled : (C : Type 0) → (C → CoreState) → Type 0
-StaysSettled C state = (among : ByteSet) (steps : List FileEvent) (s : Store) (stored : Stored) (old new : C)
-    → HasNoCollisions (IsIn among) → IsAt (IsIn among) s stored (state old)
-    → IsSettled (state old).tables.slots (state old).disk
-    → FileRun C state (IsIn among) steps old new → (state new).stop ≡ None → IsSettled (state new).tables.slots (state new).disk
-
 -- What the steps of such a run kept is held at its end, where no two different data segments have one digest.
 abbrev pub KeepsSegments : (C : Type 0) → (C → CoreState) → Type 0
 KeepsSegments C state = (among : ByteSet) (steps : List FileEvent) (s : Store) (stored : Stored) (old new : C)

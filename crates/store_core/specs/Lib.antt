@@ -2,11 +2,9 @@ pub mod Bounds
 pub mod Collecting
 pub mod Core
 pub mod Finding
-pub mod Finished
 pub mod Frame
 pub mod Keeping
 pub mod Opening
 pub mod Releases
 pub mod Runs
-pub mod Sound
 pub mod State

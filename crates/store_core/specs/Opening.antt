@@ -9,7 +9,6 @@ use Rattle.actor_parts.specs.declared.actor.TheConstants.{ACTORS}
 use Rattle.actor_parts.specs.declared.part.Part.TheVariants.{Idle}
 use Rattle.refusals.specs.declared.refusal.Refusal.{Refusal}
 use Rattle.refusals.specs.declared.refusal.Refusal.TheVariants.{DiskWrite}
-use Rattle.store_model.specs.Collisions.{ByteSet, IsIn, IsOf}
 use Rattle.store_model.specs.Files.{Stored}
 use Rattle.store_model.specs.Image.{Store, Encodes, IsValidFor}
 use Rattle.store_model.specs.Slots.{free_slots, last_id}
@@ -114,11 +113,3 @@ pub record BeginsAt (S : List ℕ → Type 0) (stored : Stored) (c : CoreState) 
   pub none_runs : c.collection ≡ None
   pub last_id_is : c.tables.held.last_id ≡ last_id store.held
   pub settled : IsSettled c.tables.slots c.disk
-
--- So it is of a core that was opened, where the content was of these files. It was opened over anything that has a disk, as that
--- was before.
-abbrev pub IsNewAt : (D : Type 0) → (D → DiskView) → (C : Type 0) → (C → CoreState) → Type 0
-IsNewAt D view C state = (among : ByteSet) (stored : Stored) (image : List ℕ) (before : D) (c : C)
-    → IsNew (Shows (view before) (state c).disk) (view before).size (state c) → IsDurable (state c).disk
-    → Reads Done (view before) (state c).disk
-    → (view before).content ≡ Some image → IsOf (IsIn among) stored image → BeginsAt (IsIn among) stored (state c)

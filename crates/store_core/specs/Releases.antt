@@ -1,12 +1,9 @@
 -- What a collection that runs alone changes, and how it ends (docs/MODEL.md, 'The core').
-use Rattle.std.specs.Prelude.{◌≡◌, ℕ, ◌+◌, List, [], ◌∷◌, length, Ok}
-use Rattle.actor_parts.specs.declared.step.Answer.TheVariants as answers
-use Rattle.actor_parts.specs.StepValue as asked
+use Rattle.std.specs.Prelude.{◌≡◌, ℕ, ◌+◌, List, [], ◌∷◌, length}
 use Rattle.store_model.specs.Freeing.{with_freed}
 use Rattle.store_model.specs.Image.{Store}
 use Rattle.store_model.specs.Reserve.{IsSpare}
 use Rattle.store_model.specs.Steps.{CanFlush, FlushContainer, FreeContainer, StoreChange, with_sealed}
-use Rattle.store_core.specs.State.{Event}
 
 -- What a collection changes alone, one after the other: a container is given back that holds the newest copy of no key of which P holds, or
 -- one of copies is written beside a slot to spare.
@@ -27,8 +24,3 @@ abbrev pub copied_in : List StoreChange → ℕ
 copied_in [] = 0
 copied_in (FlushContainer id kind segments ∷ more) = length segments + copied_in more
 copied_in (change ∷ more) = copied_in more
-
--- a step that says that the collection ended
-abbrev pub ends_with : ℕ → ℕ → ℕ → List ℕ → Event
-ends_with actor freed copied buf =
-    record { actor = actor; step = asked.GcStep; answer = Ok (answers.Done freed copied); buf = buf }

@@ -1,43 +1,32 @@
 -- Steps of a core one after the other, by any actors (docs/MODEL.md, 'The core').
-use Rattle.std.specs.Prelude.{Bool, true, ◌≡◌, ◌⊎◌, ◌-◌, ◌^◌, ◌<◌, ℕ, List, [], ◌∷◌, ◌++◌, ◌==◌, length, sum_by, take, Option, None, Some, Result, Ok, Err}
+use Rattle.std.specs.Prelude.{Bool, true, ◌≡◌, ℕ, List, [], ◌∷◌, ◌++◌, ◌==◌, length, take, Option, None, Some, Result, Ok, Err}
 use Rattle.std.specs.List.{AllByRecursion}
 use Rattle.base_model.specs.Known.{Known}
 use Rattle.disk_format.specs.Cells.{Root}
 use Rattle.disk_format.specs.Cells.Change.{Delete, Put}
 use Rattle.dd_disk.specs.Moves.{StandsFor}
-use Rattle.dd_disk.specs.View.{CrashLeaves}
-use Rattle.container_meta.specs.declared.kind.Kind.{Kind}
 use Rattle.container_meta.specs.Places.{PlaceMap}
-use Rattle.container_meta.specs.Segments.{Segment}
-use Rattle.merkle_file.specs.declared.top.Top.{Top}
-use Rattle.merkle_file.specs.Walk.{start_of}
 use Rattle.actor_parts.specs.declared.step.Answer.{Answer}
 use Rattle.actor_parts.specs.declared.step.Answer.TheVariants as answers
-use Rattle.actor_parts.specs.Parts.{part_of}
 use Rattle.actor_parts.specs.StepValue as asked
 use Rattle.actor_parts.specs.StepValue.{StepValue, IsStep}
 use Rattle.refusals.specs.declared.refusal.Refusal.{Refusal}
 use Rattle.refusals.specs.declared.refusal.Refusal.TheVariants as refusals
-use Rattle.store_model.specs.Collisions.{HasNoCollisions, ByteSet, IsIn, IsAmong, Stands, OpensAs}
+use Rattle.store_model.specs.Collisions.{IsAmong, Stands}
 use Rattle.store_model.specs.Files.{Stored, with_stored, without_stored}
 use Rattle.store_model.specs.Image.{Store, IsValidFor}
 use Rattle.store_model.specs.Reserve.{AllKeys}
 use Rattle.store_model.specs.Slots.{HasKey}
 use Rattle.segment_index.specs.Places.{KnownMap}
-use Rattle.store_model.specs.Steps.{StoreChange, SealContainer, ChangeName, FlushContainer, FreeContainer, CanChange, changed}
+use Rattle.store_model.specs.Steps.{StoreChange, SealContainer, ChangeName, CanChange, changed}
 use Rattle.store_model.specs.Trees.{root_of, file_tree, HoldsTree}
 use Rattle.store_state.specs.Invariant.{CoreInvariant}
 use Rattle.store_state.specs.Tables.{Represents}
-use Rattle.read_steps.specs.Readers.{reading}
-use Rattle.namespace.specs.Names.{NameMap}
-use Rattle.read_steps.specs.Opening.{top_of, HasRoot}
-use Rattle.read_steps.specs.Walking.{GivesAll}
-use Rattle.refusals.specs.declared.refusal.Phase.TheVariants as phases
 use Rattle.actor_parts.specs.declared.actor.TheConstants.{ACTORS}
 use Rattle.actor_parts.specs.declared.part.Part.{Part}
 use Rattle.gc_steps.specs.declared.collection.Collection.{Collection}
 use Rattle.gc_steps.specs.Safety.{IsSafe}
-use Rattle.store_core.specs.Core.{CoreStep, IndexesAll}
+use Rattle.store_core.specs.Core.{CoreStep}
 use Rattle.store_core.specs.State.{CoreState, Event, IsRunning, IsUnderWayIn}
 
 -- The first step makes of the core one of which the others make the last one. A core is anything that has a state.
@@ -136,21 +125,6 @@ abbrev pub changes_of : List FileEvent → List StoreChange
 changes_of [] = []
 changes_of (f ∷ fs) = changes_by f.event.step f.event.answer ++ changes_of fs
 
--- These are the changes of a step: those that its answer tells, and, where a collection writes copies or gives a container back, one of
--- some container or slot.
-abbrev pub AreChangesBy : StepValue → Result Answer Refusal → List StoreChange → Type 0
-AreChangesBy asked.GcStep (Ok (answers.Did phases.Flush)) changes =
-    (id : ℕ) × (kind : Kind) × (segments : List Segment) × (changes ≡ FlushContainer id kind segments ∷ [])
-AreChangesBy asked.GcStep (Ok (answers.Did phases.Release)) changes = (slot : ℕ) × (changes ≡ FreeContainer slot ∷ [])
-AreChangesBy step answer changes = changes ≡ changes_by step answer
-
--- and of steps, the first of them first
-abbrev pub AreChangesOf : List FileEvent → List StoreChange → Type 0
-AreChangesOf [] changes = changes ≡ []
-AreChangesOf (f ∷ fs) changes =
-    (first : List StoreChange) × (rest : List StoreChange) × (changes ≡ first ++ rest)
-    × AreChangesBy f.event.step f.event.answer first × AreChangesOf fs rest
-
 -- a step of another kind than those of a collection: the index keeps what it has, and containers stay
 abbrev pub IsNoGcStep : StepValue → Type 0
 IsNoGcStep asked.GcStep = ⊥
@@ -163,77 +137,10 @@ abbrev pub events_of : List FileEvent → List Event
 events_of [] = []
 events_of (f ∷ fs) = f.event ∷ events_of fs
 
--- It has come to these files, from a store by the changes that the steps' answers tell. Where the map of the index had each key that the
--- store held, and no step was one of a collection, it has each that this one holds.
-pub record Reaches (S : List ℕ → Type 0) (s : Store) (known : Option PlaceMap) (stored : Stored) (steps : List FileEvent) (c : CoreState)
-    : Type 0 where
-  pub store : Store
-  pub changes : List StoreChange
-  pub changes_are : AreChangesOf steps changes
-  pub chain : ChangesTo changes s store
-  pub is_at : IsAt S store stored c
-  pub whole : AreNoGcSteps (events_of steps) → IndexesAll s known → IndexesAll store c.known
-
--- A core that isn't stopped at the end of a run has made exactly the commits, the deletes, the seals and the releases that it acknowledged,
--- and its invariants hold.
-abbrev pub KeepsFiles : (C : Type 0) → (C → CoreState) → Type 0
-KeepsFiles C state = (among : ByteSet) (steps : List FileEvent) (s : Store) (stored : Stored) (old new : C)
-    → HasNoCollisions (IsIn among) → IsAt (IsIn among) s stored (state old) → FileRun C state (IsIn among) steps old new
-    → (state new).stop ≡ None → Reaches (IsIn among) s (state old).known (stored_after steps stored) steps (state new)
-
--- ---- crashes
-
--- the files after a step, where a write that failed stands
-abbrev pub stored_tried : StepValue → Result Answer Refusal → List ℕ → Stored → Stored
-stored_tried (asked.Commit name root) (Err refusals.DiskWrite) bytes stored = with_stored stored name bytes
-stored_tried (asked.Delete name) (Err refusals.DiskWrite) bytes stored = without_stored stored name
-stored_tried step answer bytes stored = stored_with step answer bytes stored
-
--- An image that can be opened as these files, or as those after some of the steps, the first of them first; and a commit or a delete whose
--- write failed may have taken effect.
-abbrev pub IsOnTheWay : (List ℕ → Type 0) → List FileEvent → Stored → List ℕ → Type 0
-IsOnTheWay S [] stored image = OpensAs S stored image
-IsOnTheWay S (f ∷ fs) stored image =
-    OpensAs S stored image ⊎ OpensAs S (stored_tried f.event.step f.event.answer f.bytes stored) image
-    ⊎ IsOnTheWay S fs (stored_by f stored) image
-
--- At the end of the steps, and at each moment between, a crash leaves an image that is on the way, or one that it might have
--- left before the first of them.
-abbrev pub SurvivesCrashes : (C : Type 0) → (C → CoreState) → Type 0
-SurvivesCrashes C state = (among : ByteSet) (steps : List FileEvent) (s : Store) (stored : Stored) (old new : C)
-    → HasNoCollisions (IsIn among) → IsAt (IsIn among) s stored (state old) → FileRun C state (IsIn among) steps old new
-    → CrashLeaves (IsOnTheWay (IsIn among) steps stored) (state old).disk (state new).disk
-
--- So each image since the first step is one on the way.
-abbrev pub SurvivesSince : (C : Type 0) → (C → CoreState) → Type 0
-SurvivesSince C state = (among : ByteSet) (steps : List FileEvent) (s : Store) (stored : Stored) (old new : C)
-    → HasNoCollisions (IsIn among) → IsAt (IsIn among) s stored (state old) → FileRun C state (IsIn among) steps old new
-    → (state old).disk.clock < 2 ^ 64 - 1 → (image : List ℕ) → (state new).disk.images_since (state old).disk.clock image
-    → IsOnTheWay (IsIn among) steps stored image
-
--- Each image since a moment between two steps is of the files after all commands that were acknowledged before that moment, or is
--- one on the way from there.
-abbrev pub KeepsAcknowledged : (C : Type 0) → (C → CoreState) → Type 0
-KeepsAcknowledged C state = (among : ByteSet) (first rest : List FileEvent) (s : Store) (stored : Stored) (old mid new : C)
-    → HasNoCollisions (IsIn among) → IsAt (IsIn among) s stored (state old) → FileRun C state (IsIn among) first old mid
-    → (state mid).stop ≡ None → FileRun C state (IsIn among) rest mid new
-    → (state mid).disk.clock < 2 ^ 64 - 1 → (image : List ℕ) → (state new).disk.images_since (state mid).disk.clock image
-    → IsOnTheWay (IsIn among) rest (stored_after first stored) image
-
 -- ---- readers
-
--- the actor makes no other step than to read on
-abbrev pub IsReadNext : StepValue → Type 0
-IsReadNext asked.ReadNext = Unit {0}
-IsReadNext step = ⊥
-
-abbrev pub ReadsAlone : ℕ → List Event → Type 0
-ReadsAlone actor events = AllByRecursion (λ e. e.actor ≡ actor → IsReadNext e.step) events
 
 abbrev pub opens : ℕ → List ℕ → ℕ → List ℕ → Event
 opens actor name count buf = record { actor = actor; step = asked.OpenRead name; answer = Ok (answers.Opened count); buf = buf }
-
--- ---- on any disk
 
 -- the segments that an actor was given
 abbrev pub given_by : Bool → Result Answer Refusal → List ℕ → List (List ℕ) → List (List ℕ)
@@ -243,33 +150,3 @@ given_by own answer buf others = others
 abbrev pub given_to : ℕ → List Event → List (List ℕ)
 given_to actor [] = []
 given_to actor (e ∷ es) = given_by (e.actor == actor) e.answer e.buf (given_to actor es)
-
--- What an actor was given of a root is what its tree names, one after the other, from the first on.
-pub record GivesAsNamed (root : Root) (segments : List (List ℕ)) (actor : ℕ) (c : CoreState) : Type 0 where
-  pub rest : List Top
-  pub part_is : part_of c.parts actor ≡ reading root rest
-  pub gives : GivesAll (start_of (top_of root)) segments rest
-
-abbrev pub ends : ℕ → List ℕ → Event
-ends actor buf = record { actor = actor; step = asked.ReadNext; answer = Ok answers.End; buf = buf }
-
--- So it is of the root that the name had when it was opened, of the length that was answered; and the end is answered only where
--- what was given has that length.
-pub record GivesByTree (names : NameMap) (name : List ℕ) (actor count : ℕ) (events : List Event) (new : CoreState) : Type 0 where
-  pub root : Root
-  pub has_root : HasRoot names name root
-  pub count_is : count ≡ root.length
-  pub given : GivesAsNamed root (given_to actor events) actor new
-  pub whole : given.rest ≡ [] → sum_by length (given_to actor events) ≡ count
-
-abbrev pub ReadsAreChecked : (C : Type 0) → (C → CoreState) → Type 0
-ReadsAreChecked C state = (actor : ℕ) (name : List ℕ) (count : ℕ) (buf : List ℕ) (events : List Event) (old mid new : C)
-    → actor < length (state old).parts → (state old).stop ≡ None → CoreStep (state old) (opens actor name count buf) (state mid)
-    → CoreRun C state events mid new → ReadsAlone actor events
-    → GivesByTree (state old).tables.names name actor count events (state new)
-
-abbrev pub EndsAreWhole : (C : Type 0) → (C → CoreState) → Type 0
-EndsAreWhole C state = (names : NameMap) (name : List ℕ) (actor count : ℕ) (events : List Event) (buf : List ℕ) (new last : C)
-    → GivesByTree names name actor count events (state new) → (state new).stop ≡ None
-    → CoreStep (state new) (ends actor buf) (state last)
-    → sum_by length (given_to actor events) ≡ count

@@ -10,10 +10,8 @@ mod state;
 mod stop;
 
 pub use laws::{
-    a_core_bounds_collections, a_core_collects_what_it_selected, a_core_finds_all_keys,
-    a_core_finds_no_damage, a_core_keeps_files, a_core_keeps_segments, a_core_keeps_what_is_held,
-    a_core_keeps_what_is_written, a_core_keeps_what_stands, a_core_runs_on,
-    a_core_survives_crashes, a_reader_checks_what_it_gives, an_opened_core_is_at,
+    a_core_bounds_collections, a_core_finds_all_keys, a_core_keeps_segments,
+    a_core_keeps_what_is_written, a_core_runs_on,
 };
 pub use running::Core;
 pub use solo::Solo;

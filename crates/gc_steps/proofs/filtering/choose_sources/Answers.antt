@@ -18,10 +18,8 @@ pub returns-clause-ok : goal.returns-clause-ok
 returns-clause-ok c =
     let selects = c.in_ok-sources.ensures in
     chooses c.args.tables.now.held c.args.collection.now c.in_ok-sources.sources.items (record {
-      which = selects.which;
       each = selects.each;
       apart = selects.apart;
-      in_order = selects.sources;
       sources_are = selects.ids;
     }) c.in_ok-collection.field-0 c.in_ok-collection.ensures.begun
 
@@ -34,10 +32,8 @@ returns-clause-under_way c =
     let was = at_stage t now Select c.requires.under_way c.requires.stage in
     chosen t now c.requires.under_way _ c.requires.stage
     (chooses t now sources (record {
-      which = selects.which;
       each = selects.each;
       apart = selects.apart;
-      in_order = selects.sources;
       sources_are = selects.ids;
     }) c.in_ok-collection.field-0 c.in_ok-collection.ensures.begun)
     (c.in_ok-collection.ensures.under_way now.snapshot (once t now sources was.0 c.requires.under_way.ids_differ selects.apart)

@@ -27,6 +27,7 @@ use Rattle.script_runner.proofs.NamedAt.{At, AtPart, Counts, Told, at_by, at_on,
 use Rattle.script_runner.proofs.NamedChange.{generation_now, last_now, names_now, number_so, records_now}
 use Rattle.script_runner.proofs.NamedSteps.{Gives, IsWriting, Quiet, Stands, Turned, done_stands, keeps_paused, quiet_here, quiet_on, quiet_step, refused_stands, refused_turned, stopped_turned, turns_turned}
 use Rattle.script_runner.proofs.NamedSteps.{no_other}
+use Rattle.session_turns.specs.Turns.{session_at}
 
 -- ---- what a line that is taken finds
 
@@ -167,7 +168,7 @@ module _ (C : Type 0) (state : C → CoreState) (t : Account) (r s : RunnerState
 
     not_pushed : (refusal : Refusal) (was now : SessionState) (given : List ℕ) → doing_of t a ≡ Writing given → Admits (lines.Push a digits) r.sessions (state r.core) →
         session_of r.sessions a ≡ Some was
-        → s.sessions ≡ with_session r.sessions a (Some now) → Feeds C state a (Err refusal) (pushed_bytes digits) was now r.core s.core →
+        → s.sessions ≡ with_session r.sessions a (Some now) → Feeds C state a (Err refusal) (pushed_bytes digits) (session_at was r.core) (session_at now s.core) →
         Told C state (lines.Push a digits) (replies.Refused refusal) t s
     not_pushed refusal was now given is admits session_is sessions (inl stopped) =
         let turned = stopped_turned C state a refusal was now r.core s.core stopped.0 (gives admits.runs (Writing given) is tt) in
@@ -325,7 +326,7 @@ module _ (C : Type 0) (state : C → CoreState) (t : Account) (r s : RunnerState
     -- why it is refused: a turn is, or the name
     put_refused : (refusal : Refusal) (was now : SessionState) → Admits (lines.Commit a name) r.sessions (state r.core) → Gives a (state r.core) →
         session_of r.sessions a ≡ Some was → s.sessions ≡ with_session r.sessions a (Some now)
-        → RefusesPut C state a name refusal was now r.core s.core → Told C state (lines.Commit a name) (replies.Refused refusal) t s
+        → RefusesPut C state a name refusal (session_at was r.core) (session_at now s.core) → Told C state (lines.Commit a name) (replies.Refused refusal) t s
     put_refused refusal was now admits giving_now session_is sessions (inl stopped) =
         let turned = stopped_turned C state a refusal was now r.core s.core stopped giving_now in
         let right = right_part (lines.Commit a name) a t refl (taken t r.sessions old at (lines.Commit a name) a below refl admits) in

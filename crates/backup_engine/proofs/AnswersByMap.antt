@@ -15,14 +15,15 @@ use Rattle.backup_engine.proofs.FailsAlone.{refusal_fails}
 use Rattle.backup_engine.proofs.NotDone.{not_sink}
 use Rattle.backup_engine.proofs.Ran.{Silent}
 use Rattle.backup_engine.proofs.Rested.{AtEnd, WasStore, crash_by, is_store, last, left_by, room_made, was_store}
+use Rattle.backup_engine.specs.Seen.{devices, disk_and_sink}
 
 -- ---- what was said
 
 -- what a call said, whatever room was made before
 pub told : (D : Type 0) (view : D → DiskView) (command : CommandLine) (given : List ℕ) (rs : List Replied) (ending : Option Ending) (disk disk_now : DiskView)
     (source source_now : SourceView) (sink sink_now : SinkView) (AreSo : List Replied → Type 0)
-    → ((v : DiskView) → SpeaksAs command given ending rs v disk_now source source_now sink sink_now → Speaks AreSo ending rs v disk_now sink sink_now)
-    → DoesCommand D view command given rs ending disk disk_now source source_now sink sink_now → AreSo rs ⊎ Silent ending rs sink sink_now
+    → ((v : DiskView) → SpeaksAs command given ending rs (devices v disk_now source source_now sink sink_now) → Speaks AreSo ending rs v disk_now sink sink_now)
+    → DoesCommand D view command given rs ending (devices disk disk_now source source_now sink sink_now) → AreSo rs ⊎ Silent ending rs sink sink_now
 told D view command given rs ending disk disk_now source source_now sink sink_now AreSo says does = elim does.way [
   | inl (inl ((keeps, speaks), no_room)) ↦ spoke disk (says disk speaks)
   | inl (inr (mid, (made, later, (keeps, speaks)))) ↦ spoke (view mid) (says (view mid) speaks)
@@ -120,7 +121,7 @@ module _ (S : List ℕ → Type 0) (command : CommandLine) (given : List ℕ) (m
         )
         by (new, known, inr (found, (may, inr (write, began)))) = inl (ap (λ (r : Refusal). Some (Refused r)) (sym same_refusal ∙ write))
 
-    pub unopened_answers : AnswersByMap S command given (Some (Refused refusal)) m v w sink sink_now
+    pub unopened_answers : AnswersByMap S command given (Some (Refused refusal)) m (disk_and_sink v sink) (disk_and_sink w sink_now)
     unopened_answers = record {
       by_map = inr (refusal, (refl, fails_so));
       wrote = nothing_written command given m refusal sink sink_now same;
@@ -180,7 +181,7 @@ module _ (S : List ℕ → Type 0) (command : CommandLine) (given : List ℕ) (m
           ),
         )
 
-    pub unasked_answers : AnswersByMap S command given (Some (Refused refusal)) m v w sink sink_now
+    pub unasked_answers : AnswersByMap S command given (Some (Refused refusal)) m (disk_and_sink v sink) (disk_and_sink w sink_now)
     unasked_answers = record {
       by_map = inr (refusal, (refl, fails_so));
       wrote = nothing_written command given m refusal sink sink_now same;
@@ -195,7 +196,7 @@ module _ (S : List ℕ → Type 0) (command : CommandLine) (given : List ℕ) (m
 abbrev pub AnswersOpened : CommandLine → List ℕ → Option Ending → List Replied → DiskView → DiskView → SinkView → SinkView → Type 0
 AnswersOpened command given ending rs v w sink sink_now = (among : ByteSet) (m : Stored) (old : List ℕ) → HasNoCollisions (IsIn among)
     → ((bytes : List ℕ) → IsSegmentOf given bytes → IsIn among bytes) → v.content ≡ Some old → (opens : OpensAs (IsIn among) m old)
-    → RunsByFiles (IsIn among) rs (unopened m opens.store) v w → AnswersByMap (IsIn among) command given ending m v w sink sink_now
+    → RunsByFiles (IsIn among) rs (unopened m opens.store) v w → AnswersByMap (IsIn among) command given ending m (disk_and_sink v sink) (disk_and_sink w sink_now)
 
 module _ (command : CommandLine) (given : List ℕ) (ending : Option Ending) (rs : List Replied) (v w : DiskView) (sink sink_now : SinkView) (through : ListsThrough)
     (each : RunsEachByFiles ending rs v w) (alone : rs ≡ [] → FailsAlone ending rs v) (silent : rs ≡ [] → Silent ending rs sink sink_now)
@@ -207,15 +208,15 @@ module _ (command : CommandLine) (given : List ℕ) (ending : Option Ending) (rs
     where
       by : Silent ending rs sink sink_now
           → RunsByFiles (IsIn among) rs (unopened m opens.store) v w ⊎ RefusedByFiles (IsIn among) ending rs (unopened m opens.store) v w
-          → AnswersByMap (IsIn among) command given ending m v w sink sink_now
+          → AnswersByMap (IsIn among) command given ending m (disk_and_sink v sink) (disk_and_sink w sink_now)
       by so (inl runs) =
           let fails_so = alone none among (unopened m opens.store) distinct (cuts among given_in (unopened m opens.store)) (old, known, files_begin among m old opens) so.refusal
           so.ending_is in
-          subst (λ (e : Option Ending). AnswersByMap (IsIn among) command given e m v w sink sink_now) (sym so.ending_is)
+          subst (λ (e : Option Ending). AnswersByMap (IsIn among) command given e m (disk_and_sink v sink) (disk_and_sink w sink_now)) (sym so.ending_is)
           (unasked_answers (IsIn among) command given m opens.store so.refusal v w sink sink_now so.wrote (was_store (IsIn among) m v old known opens) through fails_so
           (subst (λ (l : List Replied). RunsByFiles (IsIn among) l (unopened m opens.store) v w) none runs))
       by so (inr refused) =
-          subst (λ (e : Option Ending). AnswersByMap (IsIn among) command given e m v w sink sink_now) (sym so.ending_is)
+          subst (λ (e : Option Ending). AnswersByMap (IsIn among) command given e m (disk_and_sink v sink) (disk_and_sink w sink_now)) (sym so.ending_is)
           (unopened_answers (IsIn among) command given m opens.store so.refusal v w sink sink_now so.wrote (was_store (IsIn among) m v old known opens) rs
           (subst (λ (e : Option Ending). RefusedByFiles (IsIn among) e rs (unopened m opens.store) v w) so.ending_is refused))
 
@@ -233,11 +234,11 @@ module _ (command : CommandLine) (given : List ℕ) (ending : Option Ending) (rs
 -- by what the command said: what is so where no line was run, what it cuts, and what it answers where lines were
 module _ (D : Type 0) (view : D → DiskView) (command : CommandLine) (given : List ℕ) (rs : List Replied) (ending : Option Ending) (old new : D) (source source_now : SourceView)
     (sink sink_now : SinkView) (AreSo : List Replied → Type 0)
-    (says : (v : DiskView) → SpeaksAs command given ending rs v (view new) source source_now sink sink_now → Speaks AreSo ending rs v (view new) sink sink_now)
+    (says : (v : DiskView) → SpeaksAs command given ending rs (devices v (view new) source source_now sink sink_now) → Speaks AreSo ending rs v (view new) sink sink_now)
     (through : ListsThrough) (silent : AreSo rs → rs ≡ [] → Silent ending rs sink sink_now)
     (cuts : AreSo rs → (among : ByteSet) → ((bytes : List ℕ) → IsSegmentOf given bytes → IsIn among bytes) → (m : FileMachine) → CutsAmong among rs m)
     (spoken : AreSo rs → (rs ≡ []) ⊎ AnswersOpened command given ending rs (view old) (view new) sink sink_now) where
-  pub answers_call : DoesCommand D view command given rs ending (view old) (view new) source source_now sink sink_now
+  pub answers_call : DoesCommand D view command given rs ending (devices (view old) (view new) source source_now sink sink_now)
       → AnswersEachMap command given ending (view old) (view new) sink sink_now
   answers_call does = elim (told D view command given rs ending (view old) (view new) source source_now sink sink_now AreSo says does) [
     | inl are ↦ answers_each command given ending rs (view old) (view new) sink sink_now through does.by_files does.fails_alone (silent are) (cuts are) (spoken are)

@@ -11,6 +11,7 @@ use Rattle.backup_engine.proofs.AnswersByMap.{AnswersOpened, answers_call, told}
 use Rattle.backup_engine.proofs.CollectGiven.{AreCollect, collect_gave}
 use Rattle.backup_engine.proofs.Ran.{Silent, collect_ran, ran_cuts, ran_silent}
 use Rattle.backup_engine.proofs.Rested.{CanBeIf, WasStore, all_lines, all_steps, answers_by, as_found, last, opened_room, ran, rested, stays_left, was_store}
+use Rattle.backup_engine.specs.Seen.{disk_and_sink}
 
 module _ (given : List ℕ) (percent : ℕ) where
   collect_follows : (rs : List Replied) → AreCollect percent rs → (files : ℕ) → AllFollow (machine.Collect percent) (said lines.Reopen (replies.Opened files)) rs
@@ -57,7 +58,7 @@ module _ (given : List ℕ) (percent : ℕ) where
         (ran S rs m store v w runs)
 
     collect_answers : (ending : Option Ending) → EndsBy (Collect percent) given m v.content w.content ending ⊎ EndsFailing ending
-        → Wrote (Collect percent) given m ending sink sink_now → AnswersByMap S (Collect percent) given ending m v w sink sink_now
+        → Wrote (Collect percent) given m ending sink sink_now → AnswersByMap S (Collect percent) given ending m (disk_and_sink v sink) (disk_and_sink w sink_now)
     collect_answers ending by_map wrote =
         let room = opened_room S rs m store v w runs in
         answers_by S rs m store v w runs (Collect percent) given ending
@@ -74,7 +75,8 @@ module _ (D : Type 0) (view : D → DiskView) (collects : CollectsByMap) (throug
   ]
 
   gave_so : (S : List ℕ → Type 0) (m : Stored) (first : List ℕ) (known : (view old).content ≡ Some first) (opens : OpensAs S m first)
-      → RunsByFiles S rs (unopened m opens.store) (view old) (view new) → CollectsFor percent given ending m first (view old).content (view new).content sink sink_now
+      → RunsByFiles S rs (unopened m opens.store) (view old) (view new)
+      → CollectsFor percent given ending m first (disk_and_sink (view old) sink) (disk_and_sink (view new) sink_now)
   gave_so S m first known opens runs =
       let was = was_store S m (view old) first known opens in
       collect_gave given percent S m opens.store first (view old) (view new) known opens.stands.holds.right was rs are runs

@@ -29,6 +29,7 @@ use Rattle.backup_engine.proofs.CollectBytes.{IsGcLine, RunKeeps, all_gc, room_k
 use Rattle.backup_engine.proofs.EarlierFrees.{frees_later}
 use Rattle.backup_engine.proofs.EarlierIds.{frees, frees_from, last_freed, all_freed, slots_freed, sweeps_from, written_frees}
 use Rattle.backup_engine.proofs.Rested.{WasStore, all_lines, has_reserve, last, left_at as left_of, frees_to as frees_of, rested}
+use Rattle.backup_engine.specs.Seen.{disk_and_sink}
 
 -- ---- room is made in one way
 
@@ -286,22 +287,22 @@ module _ (given : List ℕ) (percent : ℕ) (S : List ℕ → Type 0) (m : Store
     opens_done Q has = record { store = store; right = right; opened = opened; room = room; has = has }
 
     answers_done : (ending : Option Ending) (sink sink_now : SinkView) → (ending ≡ None) ⊎ (ending ≡ Some Sink) → WroteReply (collected_line freed copied) ending sink sink_now
-        → CollectsFor percent given ending m old v.content w.content sink sink_now
+        → CollectsFor percent given ending m old (disk_and_sink v sink) (disk_and_sink w sink_now)
     answers_done ending sink sink_now (inl is) wrote =
-        subst (λ (e : Option Ending). CollectsFor percent given e m old v.content w.content sink sink_now) (sym is) (record {
+        subst (λ (e : Option Ending). CollectsFor percent given e m old (disk_and_sink v sink) (disk_and_sink w sink_now)) (sym is) (record {
           why = tt;
           store = opens_done (λ s. GivesSlotsBack percent None m.files s old w.content sink sink_now × RunsOutBy None m.files s w.content)
               ((freed, copied, (done_gave, subst (λ (e : Option Ending). WroteReply (collected_line freed copied) e sink sink_now) is wrote)), tt);
         })
     answers_done ending sink sink_now (inr is) wrote =
-        subst (λ (e : Option Ending). CollectsFor percent given e m old v.content w.content sink sink_now) (sym is) (record {
+        subst (λ (e : Option Ending). CollectsFor percent given e m old (disk_and_sink v sink) (disk_and_sink w sink_now)) (sym is) (record {
           why = tt;
           store = opens_done (λ s. GivesSlotsBack percent (Some Sink) m.files s old w.content sink sink_now × RunsOutBy (Some Sink) m.files s w.content)
               ((freed, copied, (done_gave, subst (λ (e : Option Ending). WroteReply (collected_line freed copied) e sink sink_now) is wrote)), tt);
         })
 
     -- there was no memory for the reply
-    answers_untold : (sink sink_now : SinkView) → CollectsFor percent given (Some (Refused Memory)) m old v.content w.content sink sink_now
+    answers_untold : (sink sink_now : SinkView) → CollectsFor percent given (Some (Refused Memory)) m old (disk_and_sink v sink) (disk_and_sink w sink_now)
     answers_untold sink sink_now = record {
       why = left_at swept.runs (swept.room (reserve_of opened room)) (λ s. Unit {0}) tt;
       store = opens_done (λ s. GivesSlotsBack percent (Some (Refused Memory)) m.files s old w.content sink sink_now × Unit {0})
@@ -414,7 +415,7 @@ module _ (given : List ℕ) (percent : ℕ) (S : List ℕ → Type 0) (m : Store
         }
     runs_out r is may = tt
 
-    answers_refused : CollectsFor percent given (Some (Refused refusal)) m old v.content w.content sink sink_now
+    answers_refused : CollectsFor percent given (Some (Refused refusal)) m old (disk_and_sink v sink) (disk_and_sink w sink_now)
     answers_refused = record {
       why = why_by refusal refl (collected.refused refusal refused);
       store = opens_refused
@@ -425,7 +426,7 @@ module _ (given : List ℕ) (percent : ℕ) (S : List ℕ → Type 0) (m : Store
   -- ---- however it ended
 
   pub collect_gave : (ending : Option Ending) (sink sink_now : SinkView) → IsCollect percent ending sink sink_now rs → (rs ≡ [] → ⊥)
-      → CollectsFor percent given ending m old v.content w.content sink sink_now
+      → CollectsFor percent given ending m old (disk_and_sink v sink) (disk_and_sink w sink_now)
   collect_gave None sink sink_now (f, c, ((snapshot, is), wrote)) some =
       let done = done_at snapshot f c is in
       answers_done done None sink sink_now (inl refl) (subst (λ (line : List ℕ). WroteReply line None sink sink_now) (numbers_of done snapshot f c is) wrote)
@@ -434,7 +435,7 @@ module _ (given : List ℕ) (percent : ℕ) (S : List ℕ → Type 0) (m : Store
       answers_done done (Some Sink) sink sink_now (inr refl) (subst (λ (line : List ℕ). WroteReply line (Some Sink) sink sink_now) (numbers_of done snapshot f c is) wrote)
   collect_gave (Some (Refused refusal)) sink sink_now (inl (memory, inl none), wrote) some = absurd (some none)
   collect_gave (Some (Refused refusal)) sink sink_now (inl (memory, inr (f, c, (snapshot, is))), wrote) some =
-      subst (λ (r : Refusal). CollectsFor percent given (Some (Refused r)) m old v.content w.content sink sink_now) (sym memory)
+      subst (λ (r : Refusal). CollectsFor percent given (Some (Refused r)) m old (disk_and_sink v sink) (disk_and_sink w sink_now)) (sym memory)
       (answers_untold (done_at snapshot f c is) sink sink_now)
   collect_gave (Some (Refused refusal)) sink sink_now (inr (inl is), wrote) some =
       answers_refused refusal (subst (λ (l : List Replied). EndsRefused refusal (said lines.Reopen (replies.Opened runs.files) ∷ l)) (sym is)

@@ -16,6 +16,7 @@ use Rattle.backup_engine.proofs.IngestCuts.{put_cut}
 use Rattle.backup_engine.proofs.IngestMade.{done_adds, ingested, opened, refused_adds, refused_by, room, source_adds}
 use Rattle.backup_engine.proofs.IngestTails.{ArePut, Commit, Finish, IsCommit, IsTail, Nothing, Push, Tail, commit_last, last_push, push_tail, put_follows, put_lines, pushes_give, pushes_last, tail_end}
 use Rattle.backup_engine.proofs.Rested.{CanBeIf, WasStore, all_lines, answers_by, as_found, last, rested, was_store}
+use Rattle.backup_engine.specs.Seen.{devices, disk_and_sink}
 
 module _ (given name : List ℕ) where
   abbrev Now : Stored → Found (List ℕ)
@@ -102,7 +103,8 @@ module _ (given name : List ℕ) where
       pub ingest_answers : (ending : Option Ending) (sink sink_now : SinkView) → CanBeIf (Ingest name) given m ending
           → ((x : Found (List ℕ)) → MayBeFound of_files end.state end.now x → (d : List ℕ) → OpensAs S (stored_in x) d → IsLeftAs S (Ingest name) given m ending d)
           → EndsBy (Ingest name) given m v.content w.content ending → Wrote (Ingest name) given m ending sink sink_now
-          → Adds name given ending (opened given name S m store v w was ingests pushes tail is runs) w.content → AnswersByMap S (Ingest name) given ending m v w sink sink_now
+          → Adds name given ending (opened given name S m store v w was ingests pushes tail is runs) w.content
+          → AnswersByMap S (Ingest name) given ending m (disk_and_sink v sink) (disk_and_sink w sink_now)
       ingest_answers ending sink sink_now can leaves by_map wrote adds =
           answers_by S rs m store v w runs (Ingest name) given ending leaves was (machine.Ingest name) (refl, put_follows given name pushes tail runs.files) (through name) sink
           sink_now can (inl by_map) wrote
@@ -154,7 +156,8 @@ module _ (given name : List ℕ) where
         (refusal : Refusal) (refuses : (tail_end given name tail (last_push given name begun 0 pushes)).reply ≡ replies.Refused refusal)
         (sink sink_now : SinkView) (wrote : Wrote (Ingest name) given m (Some (Refused refusal)) sink sink_now) where
       refused_answers : ((x : Found (List ℕ)) → MayBeFound of_files (end pushes tail is runs).state (end pushes tail is runs).now x → (d : List ℕ) → OpensAs S (stored_in x) d
-          → IsLeftAs S (Ingest name) given m (Some (Refused refusal)) d) → AnswersByMap S (Ingest name) given (Some (Refused refusal)) m v w sink sink_now
+          → IsLeftAs S (Ingest name) given m (Some (Refused refusal)) d)
+          → AnswersByMap S (Ingest name) given (Some (Refused refusal)) m (disk_and_sink v sink) (disk_and_sink w sink_now)
       refused_answers leaves =
           ingest_answers pushes tail is runs (Some (Refused refusal)) sink sink_now tt leaves
           (refused_by given name S m store v w was ingests pushes tail is runs refusal refuses clashes distinct given_in) wrote
@@ -163,7 +166,7 @@ module _ (given name : List ℕ) where
     -- by the ending
     put_answers : (ending : Option Ending) (tail : Tail) → EndsAs ending tail → (pushes : List Digits) → IsTail given name pushes tail
         → RunsByFiles S (put_lines given name pushes tail) (unopened m store) v w → (sink sink_now : SinkView)
-        → Wrote (Ingest name) given m ending sink sink_now → AnswersByMap S (Ingest name) given ending m v w sink sink_now
+        → Wrote (Ingest name) given m ending sink sink_now → AnswersByMap S (Ingest name) given ending m (disk_and_sink v sink) (disk_and_sink w sink_now)
     put_answers None (Commit (replies.Committed a sequence)) ends pushes is runs sink sink_now wrote =
         ingest_answers pushes (Commit (replies.Committed a sequence)) is runs None sink sink_now (committed_can pushes (replies.Committed a sequence) is runs tt)
         (committed_left pushes (replies.Committed a sequence) is runs tt) (committed_can pushes (replies.Committed a sequence) is runs tt) wrote
@@ -190,7 +193,7 @@ module _ (given name : List ℕ) where
   -- ---- of a call
 
   module _ (D : Type 0) (view : D → DiskView) (rs : List Replied) (ending : Option Ending) (old new : D) (source source_now : SourceView) (sink sink_now : SinkView)
-      (does : DoesCommand D view (Ingest name) given rs ending (view old) (view new) source source_now sink sink_now) where
+      (does : DoesCommand D view (Ingest name) given rs ending (devices (view old) (view new) source source_now sink sink_now)) where
     ingest_wrote : WroteReply (stored_line name (root_of given)) ending sink sink_now
     ingest_wrote = elim does.way [
       | inl (inl ((keeps, speaks), no_room)) ↦ keeps.any.wrote

@@ -17,6 +17,7 @@ use Rattle.backup_engine.specs.Lists.{AnswersBy, KeepsAs, KeepsCall, seen_by, No
 use Rattle.backup_engine.proofs.ListScripts.{no_lines, passes_of, refused_leads, script_leads}
 use Rattle.backup_engine.proofs.ListsFormat.{formats_nothing}
 use Rattle.backup_engine.proofs.Reading.{same_reads, since_began, since_start}
+use Rattle.backup_engine.specs.Seen.{devices, disk_and_sink}
 
 -- ---- one call
 
@@ -76,7 +77,7 @@ record Leaves (S : List ℕ → Type 0) (command : CommandLine) (c : Call) (m : 
   crash : (image : List ℕ) → SinceStart v w image → v.images image ⊎ MayBeMeanwhile S command c.given m c.ending image
 
 module _ (S : List ℕ → Type 0) (c : Call) (m : Stored) (v w : DiskView) where
-  whole_leaves : (command : CommandLine) → AnswersByMap S command c.given c.ending m v w c.sink c.sink_now → Leaves S command c m v w
+  whole_leaves : (command : CommandLine) → AnswersByMap S command c.given c.ending m (disk_and_sink v c.sink) (disk_and_sink w c.sink_now) → Leaves S command c m v w
   whole_leaves command answers = record { left = inl answers.left; crash = since_began (MayBeMeanwhile S command c.given m c.ending) v w answers.crash }
 
   command_leaves : (command : CommandLine) → AnswersBy S command c m v w → Leaves S command c m v w
@@ -359,7 +360,7 @@ done_at_zero (Some (Refused refusal)) is = absurd (refused refusal is)
 
 module _ (D : Type 0) (view : D → DiskView) (slots : ℕ) (c : Call) (v w : DiskView) where
   abbrev DoesBy : Option TableLine → Option Ending → Type 0
-  DoesBy line ending = Does D view line c.given c.rs ending v w c.source c.source_now c.sink c.sink_now
+  DoesBy line ending = Does D view line c.given c.rs ending (devices v w c.source c.source_now c.sink c.sink_now)
 
   format_done : KeepsCall D view c v w → c.line ≡ Some (Single (Format slots)) → c.status ≡ 0 → Formats slots v w × IsDurable w
   format_done keeps line_is zero_is =

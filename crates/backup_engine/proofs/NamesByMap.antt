@@ -18,6 +18,7 @@ use Rattle.backup_engine.specs.PlainMap.{MayDelete, room_of}
 use Rattle.backup_engine.proofs.AnswersByMap.{AnswersOpened, answers_call, is_write}
 use Rattle.backup_engine.proofs.Ran.{delete_ran, list_ran, ran_cuts, ran_silent}
 use Rattle.backup_engine.proofs.Rested.{CanBeIf, all_lines, all_steps, answers_by, as_found, last, is_store, left_with, ran, rested, stays_left, was_store, WasStore}
+use Rattle.backup_engine.specs.Seen.{disk_and_sink}
 
 -- ---- the last line
 
@@ -60,14 +61,15 @@ module _ (given : List ℕ) where
         (listed.found end.now (subst (λ (state : RunState (List ℕ)). MayBeFound of_files state end.now end.now) (sym at.0) refl)) tt
 
     list_answers : (ending : Option Ending) → CanBeIf table.List given m ending → EndsBy table.List given m v.content w.content ending
-        → Wrote table.List given m ending sink sink_now → AnswersByMap S table.List given ending m v w sink sink_now
+        → Wrote table.List given m ending sink sink_now → AnswersByMap S table.List given ending m (disk_and_sink v sink) (disk_and_sink w sink_now)
     list_answers ending can by_map wrote =
         answers_by S rs m store v w runs table.List given ending
         (λ x may d opens. stays_left S table.List given m refl ending d (as_found S x (rested m store).now d (listed.found x may) opens)) was machine.List
         (refl, (refl, refl, tt)) through sink sink_now can (inl by_map) wrote (opened, (listed.store.1, is_store S rs m store v w runs opened at))
 
     -- it was refused, or there was no memory for its reply
-    list_refused : (refusal : Refusal) → ListRefusal refusal → sink_now.written ≡ sink.written → AnswersByMap S table.List given (Some (Refused refusal)) m v w sink sink_now
+    list_refused : (refusal : Refusal) → ListRefusal refusal → sink_now.written ≡ sink.written
+        → AnswersByMap S table.List given (Some (Refused refusal)) m (disk_and_sink v sink) (disk_and_sink w sink_now)
     list_refused refusal may same = list_answers (Some (Refused refusal)) tt (list_ends m v.content w.content refusal may list_store) same
 
   module _ (S : List ℕ → Type 0) (m : Stored) (store : Store) (v w : DiskView) (was : WasStore m store v) (sink sink_now : SinkView) (lists : ListsByMap)
@@ -78,12 +80,12 @@ module _ (given : List ℕ) where
         sym (append-nil (listing_text files)) ∙ (listed S m store v w was sink sink_now lists through (replies.Listed files) runs).done
         (said lines.ListNames (replies.Listed files), refl, tt)
 
-    list_done : WroteReply (listing_text files) None sink sink_now → AnswersByMap S table.List given None m v w sink sink_now
+    list_done : WroteReply (listing_text files) None sink sink_now → AnswersByMap S table.List given None m (disk_and_sink v sink) (disk_and_sink w sink_now)
     list_done wrote =
         list_answers S m store v w was sink sink_now lists through (replies.Listed files) runs None tt tt
         (subst (λ (text : List ℕ). WroteReply text None sink sink_now) list_text wrote)
 
-    list_unwritten : WroteReply (listing_text files) (Some Sink) sink sink_now → AnswersByMap S table.List given (Some Sink) m v w sink sink_now
+    list_unwritten : WroteReply (listing_text files) (Some Sink) sink sink_now → AnswersByMap S table.List given (Some Sink) m (disk_and_sink v sink) (disk_and_sink w sink_now)
     list_unwritten wrote =
         list_answers S m store v w was sink sink_now lists through (replies.Listed files) runs (Some Sink) tt tt
         (subst (λ (text : List ℕ). WroteReply text (Some Sink) sink sink_now) list_text wrote)
@@ -169,12 +171,13 @@ module _ (given name : List ℕ) where
           let opened : Store = deleted.store.0 in
           (opened, (deleted.store.1, is_store S ds m store v w runs (with_change name Gone opened) (ins.done (said (lines.Delete name) reply, refl, is_done)).0))
 
-      delete_done : WroteReply (deleted_line name) None sink sink_now → AnswersByMap S (Delete name) given None m v w sink sink_now
+      delete_done : WroteReply (deleted_line name) None sink sink_now → AnswersByMap S (Delete name) given None m (disk_and_sink v sink) (disk_and_sink w sink_now)
       delete_done wrote =
           answers_by S ds m store v w runs (Delete name) given None after was (machine.Delete name) (refl, (refl, refl, tt)) (through name) sink sink_now
           (gone_can S m gone_end.now gone) (inl (gone_can S m gone_end.now gone)) wrote done_store
 
-      delete_unwritten : WroteReply (deleted_line name) (Some Sink) sink sink_now → AnswersByMap S (Delete name) given (Some Sink) m v w sink sink_now
+      delete_unwritten : WroteReply (deleted_line name) (Some Sink) sink sink_now
+          → AnswersByMap S (Delete name) given (Some Sink) m (disk_and_sink v sink) (disk_and_sink w sink_now)
       delete_unwritten wrote =
           answers_by S ds m store v w runs (Delete name) given (Some Sink) after was (machine.Delete name) (refl, (refl, refl, tt)) (through name) sink sink_now
           (gone_can S m gone_end.now gone) (inl (gone_can S m gone_end.now gone)) wrote done_store
@@ -247,7 +250,7 @@ module _ (given name : List ℕ) where
           lacking (inr full) = inr full
       delete_ends refusal is may left still = absurd may
 
-      delete_refused : sink_now.written ≡ sink.written → AnswersByMap S (Delete name) given (Some (Refused reason)) m v w sink sink_now
+      delete_refused : sink_now.written ≡ sink.written → AnswersByMap S (Delete name) given (Some (Refused reason)) m (disk_and_sink v sink) (disk_and_sink w sink_now)
       delete_refused same =
           let made = deleted S m store v w was sink sink_now deletes through (replies.Refused reason) runs in
           let cause = why S m store v w was sink sink_now deletes through (replies.Refused reason) runs reason refl in

@@ -14,6 +14,7 @@ use Rattle.store_machine.specs.Runs.{IsPassedFrom, Run}
 use Rattle.core_machine.specs.FileOpenings.{opening}
 use Rattle.store_machine.proofs.Reached.{needs_reach}
 use Rattle.backup_engine.specs.AnswersByMap.{EndsBy}
+use Rattle.backup_engine.specs.Seen.{disk_and_sink}
 
 -- a store at rest, that no one has open
 abbrev pub rested : Stored → Store → FileMachine
@@ -163,7 +164,7 @@ module _ (S : List ℕ → Type 0) (rs : List Replied) (m : Stored) (store : Sto
 
     pub answers_by : WasStore m store v → (command : Command) → AreLinesOf command all_lines → Through command → (sink sink_now : SinkView) → CanBeIf line given m ending
         → EndsBy line given m v.content w.content ending ⊎ EndsFailing ending → Wrote line given m ending sink sink_now → MakesStore line given ending
-        → AnswersByMap S line given ending m v w sink sink_now
+        → AnswersByMap S line given ending m (disk_and_sink v sink) (disk_and_sink w sink_now)
     answers_by was command are through sink sink_now can by_map wrote (opened, (room, changes)) = record {
       by_map = by_map;
       wrote = wrote;

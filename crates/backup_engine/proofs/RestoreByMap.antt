@@ -20,6 +20,7 @@ use Rattle.backup_engine.specs.AnswersByMap.{EndsBy}
 use Rattle.backup_engine.proofs.AnswersByMap.{AnswersOpened, answers_call, nothing_of}
 use Rattle.backup_engine.proofs.Ran.{ran_cuts, ran_silent, restore_ran}
 use Rattle.backup_engine.proofs.Rested.{CanBeIf, all_lines, all_steps, answers_by, as_found, last, left_with, ran, rested, stays_left, was_store, WasStore}
+use Rattle.backup_engine.specs.Seen.{disk_and_sink}
 
 -- ---- the lines
 
@@ -103,14 +104,14 @@ module _ (given name : List ℕ) where
         (restored.found end.now (subst (λ (state : RunState (List ℕ)). MayBeFound of_files state end.now end.now) (sym at.0) refl)) (each opened)
 
     restore_answers : (ending : Option Ending) → CanBeIf (Restore name) given m ending → EndsBy (Restore name) given m v.content w.content ending
-        → Wrote (Restore name) given m ending sink sink_now → AnswersByMap S (Restore name) given ending m v w sink sink_now
+        → Wrote (Restore name) given m ending sink sink_now → AnswersByMap S (Restore name) given ending m (disk_and_sink v sink) (disk_and_sink w sink_now)
     restore_answers ending can by_map wrote =
         answers_by S rs m store v w runs (Restore name) given ending
         (λ x may d opens. stays_left S (Restore name) given m refl ending d (as_found S x (rested m store).now d (restored.found x may) opens)) was (machine.Restore name)
         (refl, follow runs.files) (through name) sink sink_now can (inl by_map) wrote (restored.store.0, (restored.store.1, tt))
 
     restore_refused : (refusal : Refusal) → RestoreRefusal name (rested m store).now refusal → WroteFile (finite.get m.files name) (Some (Refused refusal)) sink sink_now
-        → AnswersByMap S (Restore name) given (Some (Refused refusal)) m v w sink sink_now
+        → AnswersByMap S (Restore name) given (Some (Refused refusal)) m (disk_and_sink v sink) (disk_and_sink w sink_now)
     restore_refused refusal may wrote = restore_answers (Some (Refused refusal)) tt (restore_ends m v.content w.content refusal may restore_left) wrote
 
   -- the name was read
@@ -158,11 +159,11 @@ module _ (given name : List ℕ) where
         (file_first.1 ∙ ap (λ (l : List ℕ). l ++ file_first.0) is ∙ append_assoc first more file_first.0) wrote)
 
     abbrev answers : (ending : Option Ending) → CanBeIf (Restore name) given m ending → EndsBy (Restore name) given m v.content w.content ending
-        → Wrote (Restore name) given m ending sink sink_now → AnswersByMap S (Restore name) given ending m v w sink sink_now
+        → Wrote (Restore name) given m ending sink sink_now → AnswersByMap S (Restore name) given ending m (disk_and_sink v sink) (disk_and_sink w sink_now)
     answers = restore_answers S m store v w was sink sink_now restores through rs runs follow
 
     restore_done : final ≡ said (lines.Next 0) (replies.End 0) → Appended sink.written sink_now.written (concat segments)
-        → AnswersByMap S (Restore name) given None m v w sink sink_now
+        → AnswersByMap S (Restore name) given None m (disk_and_sink v sink) (disk_and_sink w sink_now)
     restore_done is wrote =
         let whole = so.done (final, last_is, subst (λ (one : Replied). machine.IsDone (machine.Restore name) one.reply) (sym is) tt) in
         let text_is : text ≡ concat segments =
@@ -172,7 +173,7 @@ module _ (given name : List ℕ) where
         (subst (Appended sink.written sink_now.written) (sym (printed_is ∙ text_is)) wrote))
 
     restore_unwritten : (bytes part : List ℕ) → final ≡ said (lines.Next 0) (replies.Bytes 0 bytes) → IsFirstOf part bytes
-        → Appended sink.written sink_now.written (concat segments ++ part) → AnswersByMap S (Restore name) given (Some Sink) m v w sink sink_now
+        → Appended sink.written sink_now.written (concat segments ++ part) → AnswersByMap S (Restore name) given (Some Sink) m (disk_and_sink v sink) (disk_and_sink w sink_now)
     restore_unwritten bytes part is (more, bytes_is) wrote =
         let text_is : text ≡ (concat segments ++ part) ++ more =
         ap (λ (one : Replied). concat segments ++ machine.text_of (machine.Restore name) [] one.line one.reply) is ∙ ap (λ (l : List ℕ). concat segments ++ l) bytes_is
@@ -180,7 +181,7 @@ module _ (given name : List ℕ) where
         answers (Some Sink) (ap is_some had.1) (ap is_some had.1) (wrote_of Sink (concat segments ++ part) more text_is wrote)
 
     restore_stopped : (refusal : Refusal) → final ≡ refused (lines.Next 0) refusal → Appended sink.written sink_now.written (concat segments)
-        → AnswersByMap S (Restore name) given (Some (Refused refusal)) m v w sink sink_now
+        → AnswersByMap S (Restore name) given (Some (Refused refusal)) m (disk_and_sink v sink) (disk_and_sink w sink_now)
     restore_stopped refusal is wrote =
         let why = so.refused refusal (final, last_is, ap (λ (one : Replied). one.reply) is) in
         restore_refused S m store v w was sink sink_now restores through rs runs follow refusal why

@@ -25,6 +25,7 @@ use Rattle.backup_engine.specs.Line as table
 use Rattle.backup_engine.specs.PlainMap.{map_after, CanBeDone}
 use Rattle.backup_engine.specs.Promise.{EndsFailing, LeavesMeanwhile, MayChange, RefusedBy, WroteReply}
 use Rattle.backup_engine.specs.TopCall.{DoesCommand}
+use Rattle.backup_engine.specs.Seen.{DiskAndSink, devices, disk_and_sink}
 
 -- ---- how it ended
 
@@ -116,24 +117,24 @@ StaysUnopened ending m before content = EndsFailing ending
 -- failed; and it leaves the map as it was or as it is after the command, at the end and at every moment before, but for what a crash might
 -- have left before it.
 pub record AnswersByMap (S : List ℕ → Type 0) (command : CommandLine) (given : List ℕ) (ending : Option Ending) (m : Stored)
-    (disk disk_now : DiskView) (sink sink_now : SinkView) : Type 0 where
-  pub by_map : EndsBy command given m disk.content disk_now.content ending ⊎ EndsFailing ending
-  pub wrote : Wrote command given m ending sink sink_now
-  pub store : KnownWith disk.content (λ old. OpensStore m old (λ opened. ChangesStore command given ending opened disk_now.content))
-      ⊎ StaysUnopened ending m disk.content disk_now.content
-  pub left : LeavesAs (IsLeftAs S command given m ending) ending disk disk_now
-  pub crash : LeavesMeanwhile (MayBeMeanwhile S command given m ending) disk disk_now
+    (old new : DiskAndSink) : Type 0 where
+  pub by_map : EndsBy command given m old.disk.content new.disk.content ending ⊎ EndsFailing ending
+  pub wrote : Wrote command given m ending old.sink new.sink
+  pub store : KnownWith old.disk.content (λ was. OpensStore m was (λ opened. ChangesStore command given ending opened new.disk.content))
+      ⊎ StaysUnopened ending m old.disk.content new.disk.content
+  pub left : LeavesAs (IsLeftAs S command given m ending) ending old.disk new.disk
+  pub crash : LeavesMeanwhile (MayBeMeanwhile S command given m ending) old.disk new.disk
 
 -- It holds where no two different data segments have one digest: of a set of those that the disk holds and is given.
 abbrev pub AnswersEachMap : CommandLine → List ℕ → Option Ending → DiskView → DiskView → SinkView → SinkView → Type 0
 AnswersEachMap command given ending disk disk_now sink sink_now =
     Known disk.content (λ old. (among : ByteSet) (m : Stored) → HasNoCollisions (IsIn among)
     → ((bytes : List ℕ) → IsSegmentOf given bytes → IsIn among bytes) → OpensAs (IsIn among) m old
-    → AnswersByMap (IsIn among) command given ending m disk disk_now sink sink_now)
+    → AnswersByMap (IsIn among) command given ending m (disk_and_sink disk sink) (disk_and_sink disk_now sink_now))
 
 -- So it is of each call of the command, by what the top call says of it.
 abbrev pub AnswersEachCall : (D : Type 0) → (D → DiskView) → CommandLine → Type 0
 AnswersEachCall D view command = (given : List ℕ) (rs : List Replied) (ending : Option Ending) (old new : D)
     (source source_now : SourceView) (sink sink_now : SinkView)
-    → DoesCommand D view command given rs ending (view old) (view new) source source_now sink sink_now
+    → DoesCommand D view command given rs ending (devices (view old) (view new) source source_now sink sink_now)
     → AnswersEachMap command given ending (view old) (view new) sink sink_now

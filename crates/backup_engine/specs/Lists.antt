@@ -29,7 +29,7 @@ use Rattle.backup_engine.specs.Checking.{ChecksDisk}
 use Rattle.backup_engine.specs.Line.{CommandLine, Format, TableLine, Single, Run, Check}
 use Rattle.backup_engine.specs.PlainMap.{map_after, CanBeDone}
 use Rattle.backup_engine.specs.Promise.{SinceStart, Stands}
-use Rattle.backup_engine.specs.Seen.{Seen}
+use Rattle.backup_engine.specs.Seen.{Seen, disk_and_sink}
 use Rattle.backup_engine.specs.TopCall.{Promise, KeepsLine}
 use Rattle.backup_engine.specs.ByFiles.{RefusedByFiles, RunsByFiles}
 use Rattle.backup_engine.specs.Singles.{said}
@@ -187,7 +187,8 @@ pub record FormatsNothing (S : List ℕ → Type 0) (slots : ℕ) (c : Call) (m 
 -- what a command answers to a map that it finds
 abbrev pub AnswersBy : (List ℕ → Type 0) → CommandLine → Call → Stored → DiskView → DiskView → Type 0
 AnswersBy S (Format slots) c m disk disk_now = FormatsNothing S slots c m disk disk_now
-AnswersBy S command c m disk disk_now = AnswersByMap S command c.given c.ending m disk disk_now c.sink c.sink_now
+AnswersBy S command c m disk disk_now =
+    AnswersByMap S command c.given c.ending m (disk_and_sink disk c.sink) (disk_and_sink disk_now c.sink_now)
 
 -- A command that is called after them answers by one of these maps: that of the content which it finds.
 abbrev pub AnswersByTheMap : (D : Type 0) → (D → DiskView) → Type 0

@@ -36,6 +36,7 @@ use Rattle.backup_engine.proofs.NotDone.{holds}
 use Rattle.backup_engine.proofs.Reading.{reads_frame, unchanged}
 use Rattle.backup_engine.proofs.Replied.{IsReplied, replied_faults}
 use Rattle.backup_engine.proofs.WholeCall.{all_counted, all_reads, leaves_more, leaves_of, to_end}
+use Rattle.backup_engine.specs.Seen.{devices}
 
 abbrev pub start_event : ℕ → Result Answer Refusal → List ℕ → Event
 start_event percent answer buf = record { actor = 0; step = asked.GcStart percent; answer = answer; buf = buf }
@@ -97,7 +98,7 @@ module _ (C : Type 0) (state : C → CoreState) (v w : DiskView) (old new : C) (
         (subst (λ roots. StopsAt (state old).known (state old).known roots r) names_only stops)
 
     not_begun_cause : (r : Refusal) → StartRow percent (Err r) (state old) (state new) → (source : SourceView) (sink : SinkView) →
-        IsCaused (Collect percent) [] v w source source sink sink (Some (Refused r))
+        IsCaused (Collect percent) [] (devices v w source source sink sink) (Some (Refused r))
     not_begun_cause refusals.Memory row source sink = tt
     not_begun_cause (refusals.Collecting phase) row source sink = absurd (let wrong : None ≡ Some row.0.0 = sym called.opened.collection_is ∙ row.0.1.0 in cc)
     not_begun_cause refusals.DiskRead row source sink = tt
@@ -107,7 +108,7 @@ module _ (C : Type 0) (state : C → CoreState) (v w : DiskView) (old new : C) (
       inr (inr (inr (inr (record { index = index; index_is = called.opened.whole index called.opened.told.1; stops = unrooted r row.cause })))),
     )
 
-    pub unbegun_any : (source : SourceView) (sink : SinkView) → OnAnyDisk (Collect percent) [] (Some (Refused refusal)) v w source source sink sink
+    pub unbegun_any : (source : SourceView) (sink : SinkView) → OnAnyDisk (Collect percent) [] (Some (Refused refusal)) (devices v w source source sink sink)
     unbegun_any source sink = record {
       took = (refl, refl);
       caused = not_begun_cause refusal (started (Err refusal) new start.0 start.1).made.row source sink;
@@ -342,7 +343,7 @@ module _ (C : Type 0) (state : C → CoreState) (v w : DiskView) (old new : C) (
       done_wrote (Some over) sink sink_now replied wrote = absurd replied
 
       done_caused : (over : Option reply.Ending) (source : SourceView) (sink sink_now : SinkView) → IsReplied over sink sink_now →
-          IsCaused (Collect percent) [] v w source source sink sink_now over
+          IsCaused (Collect percent) [] (devices v w source source sink sink_now) over
       done_caused None source sink sink_now replied = tt
       done_caused (Some Sink) source sink sink_now replied = (tt, replied)
       done_caused (Some over) source sink sink_now replied = absurd replied
@@ -359,7 +360,7 @@ module _ (C : Type 0) (state : C → CoreState) (v w : DiskView) (old new : C) (
 
       pub done_any : (over : Option reply.Ending) (source : SourceView) (sink sink_now : SinkView) → IsReplied over sink sink_now →
           WroteReply (collected_line freed copied) over sink sink_now
-          → OnAnyDisk (Collect percent) [] over v w source source sink sink_now
+          → OnAnyDisk (Collect percent) [] over (devices v w source source sink sink_now)
       done_any over source sink sink_now replied wrote = record {
         took = (refl, refl);
         caused = done_caused over source sink sink_now replied;
@@ -371,7 +372,7 @@ module _ (C : Type 0) (state : C → CoreState) (v w : DiskView) (old new : C) (
       }
 
       -- there was no memory for its reply
-      pub untold_any : (source : SourceView) (sink : SinkView) → OnAnyDisk (Collect percent) [] (Some (Refused refusals.Memory)) v w source source sink sink
+      pub untold_any : (source : SourceView) (sink : SinkView) → OnAnyDisk (Collect percent) [] (Some (Refused refusals.Memory)) (devices v w source source sink sink)
       untold_any source sink = record {
         took = (refl, refl);
         caused = tt;
@@ -415,7 +416,7 @@ module _ (C : Type 0) (state : C → CoreState) (v w : DiskView) (old new : C) (
       slots_many = omega (arith, ap (λ (ids : List ℕ). length ids) so_far.represents.slots_hold.ids_are, as_many_ids so_far.after.held, so_far.valid.many, so_far.slots_are)
 
       by_row : (r : Refusal) → IsNotMade r at (state new) → TouchesBy at.collection err at (state new).disk → (source : SourceView) (sink : SinkView) →
-          IsCaused (Collect percent) [] v w source source sink sink (Some (Refused r))
+          IsCaused (Collect percent) [] (devices v w source source sink sink) (Some (Refused r))
       by_row r made touches source sink =
           let c = made.before in
           let so_is = same_collection so_far.collection c at.collection so_far.runs made.ran in
@@ -428,11 +429,11 @@ module _ (C : Type 0) (state : C → CoreState) (v w : DiskView) (old new : C) (
           made.cause
 
       cause_of : (r : Refusal) → GcRow (Err r) at (state new) → TouchesBy at.collection err at (state new).disk → (source : SourceView) (sink : SinkView)
-          → IsCaused (Collect percent) [] v w source source sink sink (Some (Refused r))
+          → IsCaused (Collect percent) [] (devices v w source source sink sink) (Some (Refused r))
       cause_of refusals.NotCollecting row touches source sink = absurd (let wrong : None ≡ Some so_far.collection = sym row.0.none_ran ∙ so_far.runs in cc)
       cause_of r row touches source sink = by_row r row.0 touches source sink
 
-      pub stopped_any : (source : SourceView) (sink : SinkView) → OnAnyDisk (Collect percent) [] (Some (Refused refusal)) v w source source sink sink
+      pub stopped_any : (source : SourceView) (sink : SinkView) → OnAnyDisk (Collect percent) [] (Some (Refused refusal)) (devices v w source source sink sink)
       stopped_any source sink = record {
         took = (refl, refl);
         caused = cause_of refusal (ends (Err refusal) sweeps).made.row (ends (Err refusal) sweeps).made.effect.touches source sink;

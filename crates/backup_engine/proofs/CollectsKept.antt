@@ -11,21 +11,22 @@ use Rattle.backup_engine.proofs.CollectSteps.{collection_later}
 use Rattle.backup_engine.proofs.Replied.{replied_sent, wrote_sent}
 use Rattle.backup_engine.proofs.Returned.{one_later}
 use Rattle.backup_engine.proofs.ReadSteps.{steps_of}
+use Rattle.backup_engine.specs.Seen.{devices}
 
 module _ (C : Type 0) (state : C → CoreState) (v w : DiskView) (old new : C) (called : Called C state v w old new) (percent : ℕ) where
   abbrev KeepsSo : Result Unit Ending → SourceView → SinkView → SinkView → Type 0
-  KeepsSo result source sink sink_now = Keeps (Collect percent) [] (ending_in result) v w source source sink sink_now
+  KeepsSo result source sink sink_now = Keeps (Collect percent) [] (ending_in result) (devices v w source source sink sink_now)
 
   -- it was refused, and wrote nothing
   stopped_so : (refusal : Refusal) (result : Result Unit Ending) (source : SourceView) (sink sink_now : SinkView) →
-      Keeps (Collect percent) [] (Some (Refused refusal)) v w source source sink sink → IsStopped refusal result sink sink_now
+      Keeps (Collect percent) [] (Some (Refused refusal)) (devices v w source source sink sink) → IsStopped refusal result sink sink_now
       → KeepsSo result source sink sink_now
   stopped_so refusal result source sink sink_now keeps (is, same) =
       subst (λ (r : Result Unit Ending). KeepsSo r source sink sink_now) (sym is)
-      (subst (λ (s : SinkView). Keeps (Collect percent) [] (Some (Refused refusal)) v w source source sink s) (sym same) keeps)
+      (subst (λ (s : SinkView). Keeps (Collect percent) [] (Some (Refused refusal)) (devices v w source source sink s)) (sym same) keeps)
 
   unbegun : (refusal : Refusal) → Starts C state percent (Err refusal) old new → (source : SourceView) (sink : SinkView) →
-      Keeps (Collect percent) [] (Some (Refused refusal)) v w source source sink sink
+      Keeps (Collect percent) [] (Some (Refused refusal)) (devices v w source source sink sink)
   unbegun refusal start source sink = record {
     any = unbegun_any C state v w old new called percent refusal start source sink;
     frame = unbegun_frame C state v w old new called percent refusal start;
@@ -36,7 +37,7 @@ module _ (C : Type 0) (state : C → CoreState) (v w : DiskView) (old new : C) (
 
   module _ (snapshot : ℕ) (mid : C) (start : Starts C state percent (Ok snapshot) old mid) where
     stopped : (refusal : Refusal) → Sweeps C state (Err refusal) mid new → (source : SourceView) (sink : SinkView) →
-        Keeps (Collect percent) [] (Some (Refused refusal)) v w source source sink sink
+        Keeps (Collect percent) [] (Some (Refused refusal)) (devices v w source source sink sink)
     stopped refusal sweeps source sink = record {
       any = stopped_any C state v w old new called percent snapshot mid start refusal sweeps source sink;
       frame = ends_frame C state v w old new called percent snapshot mid start (Err refusal) sweeps (Some (Refused refusal));
@@ -60,7 +61,7 @@ module _ (C : Type 0) (state : C → CoreState) (v w : DiskView) (old new : C) (
             untouched = tt;
           }
 
-      untold : (source : SourceView) (sink : SinkView) → Keeps (Collect percent) [] (Some (Refused Memory)) v w source source sink sink
+      untold : (source : SourceView) (sink : SinkView) → Keeps (Collect percent) [] (Some (Refused Memory)) (devices v w source source sink sink)
       untold source sink = record {
         any = untold_any C state v w old new called percent snapshot mid start freed copied sweeps source sink;
         frame = ends_frame C state v w old new called percent snapshot mid start (Ok (answers.Done freed copied)) sweeps (Some (Refused Memory));

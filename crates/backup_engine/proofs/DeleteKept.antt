@@ -22,6 +22,7 @@ use Rattle.backup_engine.proofs.ReadSteps.{steps_of}
 use Rattle.backup_engine.proofs.Reading.{reads_frame}
 use Rattle.backup_engine.proofs.Replied.{IsReplied, replied_faults}
 use Rattle.backup_engine.proofs.WholeCall.{all_counted, all_reads, leaves_more, leaves_of, to_end}
+use Rattle.backup_engine.specs.Seen.{devices}
 
 is_none : {A : Type 0} (o : Option A) → o ≡ None → is_some o ≡ false
 is_none o is = ap is_some is
@@ -115,7 +116,7 @@ module _ (C : Type 0) (state : C → CoreState) (v w : DiskView) (old new : C) (
       }
 
       done_caused : (ending : Option Ending) (source : SourceView) (sink sink_now : SinkView) → IsReplied ending sink sink_now →
-          IsCaused (Delete name) [] v w source source sink sink_now ending
+          IsCaused (Delete name) [] (devices v w source source sink sink_now) ending
       done_caused None source sink sink_now replied = was_deleted
       done_caused (Some Sink) source sink sink_now replied = (was_deleted, replied)
       done_caused (Some ending) source sink sink_now replied = absurd replied
@@ -134,7 +135,7 @@ module _ (C : Type 0) (state : C → CoreState) (v w : DiskView) (old new : C) (
       done_durable (Some ending) sink sink_now replied = absurd replied
 
       pub done_any : (ending : Option Ending) (source : SourceView) (sink sink_now : SinkView) → IsReplied ending sink sink_now →
-          WroteReply (deleted_line name) ending sink sink_now → OnAnyDisk (Delete name) [] ending v w source source sink sink_now
+          WroteReply (deleted_line name) ending sink sink_now → OnAnyDisk (Delete name) [] ending (devices v w source source sink sink_now)
       done_any ending source sink sink_now replied wrote = record {
         took = (refl, refl);
         caused = done_caused ending source sink sink_now replied;
@@ -173,7 +174,7 @@ module _ (C : Type 0) (state : C → CoreState) (v w : DiskView) (old new : C) (
       no_numbers (inr full) = inr (omega (arith, full.0, called.opened.represents.names_are.count), sym called.opened.represents.names_are.generation ∙ full.1)
 
       caused_by : (r : Refusal) (source : SourceView) (sink : SinkView) → IsDeleteRefusal (state old).tables name r →
-          IsCaused (Delete name) [] v w source source sink sink (Some (Refused r))
+          IsCaused (Delete name) [] (devices v w source source sink sink) (Some (Refused r))
       caused_by Memory source sink cause = tt
       caused_by DiskRead source sink cause = tt
       caused_by DiskWrite source sink cause = tt
@@ -193,7 +194,7 @@ module _ (C : Type 0) (state : C → CoreState) (v w : DiskView) (old new : C) (
           )
       caused_by r source sink cause = absurd cause
 
-      pub undone_any : (source : SourceView) (sink : SinkView) → OnAnyDisk (Delete name) [] (Some (Refused refusal)) v w source source sink sink
+      pub undone_any : (source : SourceView) (sink : SinkView) → OnAnyDisk (Delete name) [] (Some (Refused refusal)) (devices v w source source sink sink)
       undone_any source sink = record {
         took = (refl, refl);
         caused = caused_by refusal source sink why;

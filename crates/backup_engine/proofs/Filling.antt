@@ -14,6 +14,7 @@ use Rattle.backup_engine.proofs.SayingSteps.{finish_refused}
 use Rattle.backup_engine.proofs.Taking.{all_taken, more_taken, none_taken, still_taken}
 use Rattle.backup_engine.proofs.Turned.{end_refused, end_stopped, fed_more, fed_to_end, not_fed}
 use Rattle.backup_engine.proofs.Ways.{way_stops}
+use Rattle.session_turns.specs.Turns.{session_at}
 
 -- what a source gave: all that it had left; where it doesn't tell that, what was taken
 pub given_or : Option (List ℕ) → List ℕ → List ℕ
@@ -70,7 +71,7 @@ module _ (C : Type 0) (state : C → CoreState) (s t : SessionState) (old mid : 
 
   -- the source failed
   pub fill_failed : Known between.left (λ left. source_now.left ≡ Some left) → Rose between.faults source_now.faults →
-      Fills C state (SaysPushes C state) (Err Source) s t old mid source source_now
+      Fills C state (SaysPushes C state) (Err Source) (session_at s old) (session_at t mid) source source_now
   fill_failed kept rose =
       let still = still_taken source.left between.left source_now.left taken so_far.took kept in
       record {
@@ -87,7 +88,7 @@ module _ (C : Type 0) (state : C → CoreState) (s t : SessionState) (old mid : 
   -- it gave more
   module _ (count : ℕ) (into : List ℕ) (takes : Known between.left (λ left. Takes count left into source_now.left)) (same : source_now.faults ≡ between.faults) where
     -- it ended
-    pub fill_ended : count ≡ 0 → Known between.left (λ left. left ≡ []) → Fills C state (SaysPushes C state) (Ok tt) s t old mid source source_now
+    pub fill_ended : count ≡ 0 → Known between.left (λ left. left ≡ []) → Fills C state (SaysPushes C state) (Ok tt) (session_at s old) (session_at t mid) source source_now
     fill_ended none end =
         let all = all_taken source.left between.left source_now.left taken into count so_far.took end none takes in
         record {
@@ -105,7 +106,7 @@ module _ (C : Type 0) (state : C → CoreState) (s t : SessionState) (old mid : 
       more : TakenSoFar source.left source_now.left (taken ++ piece)
       more = more_taken source.left between.left source_now.left taken into count so_far.took takes
 
-      pub fill_on : Feeds C state actor (Ok tt) piece t u mid new → u.ended ≡ t.ended → FilledSoFar C state s u old new source source_now
+      pub fill_on : Feeds C state actor (Ok tt) piece (session_at t mid) (session_at u new) → u.ended ≡ t.ended → FilledSoFar C state s u old new source source_now
       fill_on feeds stays =
           let fed : (start : C) → IsFed C state [] s start old → IsFed C state (taken ++ piece) u start new =
           λ start begun. fed_more C state laws actor first taken start piece t u mid new so_far.ongoing (so_far.fed start begun) feeds in
@@ -121,12 +122,13 @@ module _ (C : Type 0) (state : C → CoreState) (s t : SessionState) (old mid : 
           }
 
       -- a step was refused as it was fed
-      pub fill_refused : (refusal : Refusal) (result : Result Unit Ending) → IsErrAnd result (λ e. e ≡ Refused refusal) → Feeds C state actor (Err refusal) piece t u mid new
-          → Fills C state (SaysPushes C state) result s u old new source source_now
+      pub fill_refused : (refusal : Refusal) (result : Result Unit Ending) → IsErrAnd result (λ e. e ≡ Refused refusal)
+          → Feeds C state actor (Err refusal) piece (session_at t mid) (session_at u new)
+          → Fills C state (SaysPushes C state) result (session_at s old) (session_at u new) source source_now
       fill_refused refusal result is feeds =
           let given : List ℕ = given_or source.left (taken ++ piece) in
           let one = refused (lines.Push 0 line.0.digits) refusal in
-          by_error (λ r. Fills C state (SaysPushes C state) r s u old new source source_now) result (Refused refusal) is (record {
+          by_error (λ r. Fills C state (SaysPushes C state) r (session_at s old) (session_at u new) source source_now) result (Refused refusal) is (record {
             given = given;
             took = told_or source.left (taken ++ piece);
             heard = same ∙ so_far.heard;
@@ -151,34 +153,37 @@ module _ (C : Type 0) (state : C → CoreState) (s t : SessionState) (old mid : 
 -- where it ended before, the same lines were run
 pub fill_stopped : (C : Type 0) (state : C → CoreState) (s t : SessionState) (old mid : C) (source source_now : SourceView) (e : Ending) (result : Result Unit Ending) →
     IsErrAnd result (λ y. y ≡ e)
-    → Fills C state (SaysPushes C state) (Err e) s t old mid source source_now → Fills C state (SaysEnd C state) result s t old mid source source_now
+    → Fills C state (SaysPushes C state) (Err e) (session_at s old) (session_at t mid) source source_now
+    → Fills C state (SaysEnd C state) result (session_at s old) (session_at t mid) source source_now
 fill_stopped C state s t old mid source source_now e result is filled =
-    by_error (λ r. Fills C state (SaysEnd C state) r s t old mid source source_now) result e is
+    by_error (λ r. Fills C state (SaysEnd C state) r (session_at s old) (session_at t mid) source source_now) result e is
     (record { given = filled.given; took = filled.took; heard = filled.heard; filled = filled.filled; spoken = filled.spoken })
 
 module _ (C : Type 0) (state : C → CoreState) (s t u : SessionState) (old mid : C) (source source_now : SourceView)
-    (filled : Fills C state (SaysPushes C state) (Ok tt) s t old mid source source_now) (laws : SessionLaws) where
+    (filled : Fills C state (SaysPushes C state) (Ok tt) (session_at s old) (session_at t mid) source source_now) (laws : SessionLaws) where
   end_not_filled : (new : C) (refusal : Refusal) (result : Result Unit Ending) → IsErrAnd result (λ e. e ≡ Refused refusal)
       → ((start : C) (name : List ℕ) → IsFed C state filled.given t start mid → Stops C state name filled.given refusal start new)
       → ((start : C) → IsFed C state filled.given t start mid → StopsSaying C state t u mid new filled.given refusal) →
-      Fills C state (SaysEnd C state) result s u old new source source_now
-  end_not_filled new refusal result is ends says = by_error (λ r. Fills C state (SaysEnd C state) r s u old new source source_now) result (Refused refusal) is (record {
-    given = filled.given;
-    took = filled.took;
-    heard = filled.heard;
-    filled = λ start name begun. ends start name (filled.filled.1 start begun);
-    spoken = λ start begun. says_stop C state s t u old mid new filled.given (filled.spoken start begun) source source_now refusal (says start (filled.filled.1 start begun));
-  })
+      Fills C state (SaysEnd C state) result (session_at s old) (session_at u new) source source_now
+  end_not_filled new refusal result is ends says = by_error (λ r. Fills C state (SaysEnd C state) r (session_at s old) (session_at u new) source source_now) result
+      (Refused refusal) is (record {
+        given = filled.given;
+        took = filled.took;
+        heard = filled.heard;
+        filled = λ start name begun. ends start name (filled.filled.1 start begun);
+        spoken = λ start begun. says_stop C state s t u old mid new filled.given (filled.spoken start begun) source source_now refusal (says start (filled.filled.1 start begun));
+      })
 
   -- there was no memory to end it
   pub not_finished : (refusal : Refusal) (result : Result Unit Ending) → IsErrAnd result (λ e. e ≡ Refused refusal) → t.ended ≡ false → IsFinishAnswer t (Err refusal) → u ≡ t
-      → Fills C state (SaysEnd C state) result s u old mid source source_now
+      → Fills C state (SaysEnd C state) result (session_at s old) (session_at u mid) source source_now
   not_finished refusal result is off answer same =
       end_not_filled mid refusal result is (λ start name fed. end_refused C state laws 0 refl filled.given start refusal t mid off answer fed name)
       (λ start fed. inl (finish_refused C state mid t u refusal fed.way.runs off answer same))
 
   module _ (new : C) (ended : SessionState) (ending : IsEnding t ended) (history : (h : History) → HasHistory t h → HasHistory ended h) (actor : ℕ) (first : actor ≡ 0) where
-    pub turns_taken : TakesTurns {T = Unit {0}} C state actor (Ok tt) ended u mid new → Fills C state (SaysEnd C state) (Ok tt) s u old new source source_now
+    pub turns_taken : TakesTurns {T = Unit {0}} C state actor (Ok tt) ended u mid new
+        → Fills C state (SaysEnd C state) (Ok tt) (session_at s old) (session_at u new) source source_now
     turns_taken turns = record {
       given = filled.given;
       took = filled.took;
@@ -191,7 +196,7 @@ module _ (C : Type 0) (state : C → CoreState) (s t u : SessionState) (old mid 
 
     pub turns_refused : (refusal : Refusal) (result : Result Unit Ending) → IsErrAnd result (λ e. e ≡ Refused refusal) →
         TakesTurns {T = Unit {0}} C state actor (Err refusal) ended u mid new
-        → Fills C state (SaysEnd C state) result s u old new source source_now
+        → Fills C state (SaysEnd C state) result (session_at s old) (session_at u new) source source_now
     turns_refused refusal result is stopped =
         end_not_filled new refusal result is (λ start name fed. end_stopped C state laws actor first filled.given start t ended u mid new ending history fed refusal stopped name)
         (λ start fed. turns_stop C state laws.counts start filled.given t ended u mid new ending history fed actor first refusal stopped)

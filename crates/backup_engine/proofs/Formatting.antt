@@ -7,6 +7,7 @@ use Rattle.reply_text.specs.declared.ending.Ending.{Ending}
 use Rattle.recovery.specs.Formatting.{IsLeftByFormat, IsBlankOrFormatted}
 use Rattle.backup_engine.proofs.Replied.{IsReplied, replied_faults}
 use Rattle.backup_engine.proofs.Reading.{reads_leave}
+use Rattle.backup_engine.specs.Seen.{devices}
 
 -- ---- refused
 
@@ -60,12 +61,12 @@ module _ (slots : ℕ) (v w : DiskView) where
   -- ---- all of it
 
   caused : (refusal : Refusal) (source : SourceView) (sink : SinkView) → IsFormatRefusal shown v.size slots refusal →
-      IsCaused (Format slots) [] v w source source sink sink (Some (Refused refusal))
+      IsCaused (Format slots) [] (devices v w source source sink sink) (Some (Refused refusal))
   caused Memory source sink wrong = tt
   caused refusal source sink wrong = wrong
 
   done_caused : (ending : Option Ending) (source : SourceView) (sink sink_now : SinkView) → IsReplied ending sink sink_now → Formats slots v w
-      → IsCaused (Format slots) [] v w source source sink sink_now ending
+      → IsCaused (Format slots) [] (devices v w source source sink sink_now) ending
   done_caused None source sink sink_now replied formats = formats
   done_caused (Some Sink) source sink sink_now replied formats = (formats, replied)
   done_caused (Some ending) source sink sink_now replied formats = absurd replied
@@ -87,7 +88,7 @@ module _ (slots : ℕ) (v w : DiskView) where
 
   module _ (acts_left : IsLeft) (crash : Crashes) (store : ReadsAStore) (source : SourceView) where
     pub refused_keeps : (refusal : Refusal) (sink : SinkView) → IsFormatRefusal shown v.size slots refusal → Acts (ending_of (blames refusal)) v w
-        → Keeps (Format slots) [] (Some (Refused refusal)) v w source source sink sink
+        → Keeps (Format slots) [] (Some (Refused refusal)) (devices v w source source sink sink)
     refused_keeps refusal sink wrong acts = record {
       any = record {
         took = (refl, refl);
@@ -107,7 +108,7 @@ module _ (slots : ℕ) (v w : DiskView) where
     -- it was done, and its reply was written, or not
     pub done_keeps : (ending : Option Ending) (sink sink_now : SinkView) → IsReplied ending sink sink_now → Formats slots v w → IsDurable w → Acts Done v w →
         WroteReply (formatted_line slots) ending sink sink_now
-        → Keeps (Format slots) [] ending v w source source sink sink_now
+        → Keeps (Format slots) [] ending (devices v w source source sink sink_now)
     done_keeps ending sink sink_now replied formats durable acts wrote = record {
       any = record {
         took = (refl, refl);

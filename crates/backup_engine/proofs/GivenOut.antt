@@ -19,6 +19,7 @@ use Rattle.backup_engine.specs.AnyDisk.{WroteSegments}
 use Rattle.backup_engine.proofs.Called.{Called}
 use Rattle.backup_engine.proofs.NotDone.{holds}
 use Rattle.backup_engine.proofs.ReadSteps.{LeavesAll, open_leaves, Came, came, last_made, last_reads}
+use Rattle.backup_engine.specs.Seen.{devices}
 
 -- ---- a walk that is stuck, as it is shown of the whole call
 
@@ -171,7 +172,7 @@ module _ (C : Type 0) (state : C → CoreState) (v w : DiskView) (old new : C) (
           (subst (λ (known : Option PlaceMap). IsNextRefusal known last.breaks last.disk (state new).disk rest refusal) known_there cause))
 
       refused_caused : (refusal : Refusal) → ReadRow 0 (Err refusal) way.event.buf last (state new) → WroteSegments ahead segments (Some (endings.Refused refusal)) sink sink_now
-          → IsCaused (Restore name) [] v w source source sink sink_now (Some (endings.Refused refusal))
+          → IsCaused (Restore name) [] (devices v w source source sink sink_now) (Some (endings.Refused refusal))
       refused_caused Memory row wrote = tt
       refused_caused DiskRead row wrote = tt
       refused_caused DiskWrite row wrote = tt
@@ -188,7 +189,7 @@ module _ (C : Type 0) (state : C → CoreState) (v w : DiskView) (old new : C) (
           ))
 
       caused : (r : Result Unit Ending) → EndsGiving (way.event ∷ []) r → WroteGiven r (concat segments) sink sink_now →
-          IsCaused (Restore name) [] v w source source sink sink_now (ending_in r)
+          IsCaused (Restore name) [] (devices v w source source sink sink_now) (ending_in r)
       caused (Ok u) ends wrote = tt
       caused (Err (endings.Refused refusal)) ends wrote = refused_caused refusal (last_row (Err refusal) ends) wrote.0
       caused (Err endings.Sink) ends wrote = (tt, wrote.1)
@@ -205,7 +206,7 @@ module _ (C : Type 0) (state : C → CoreState) (v w : DiskView) (old new : C) (
       faultless (Err endings.Sink) wrote other = absurd (other refl)
       faultless (Err ending) wrote other = wrote.1
 
-      pub given_on_any : OnAnyDisk (Restore name) [] (ending_in result) v w source source sink sink_now
+      pub given_on_any : OnAnyDisk (Restore name) [] (ending_in result) (devices v w source source sink sink_now)
       given_on_any = record {
         took = (refl, refl);
         caused = caused result way.ends out.wrote;

@@ -9,6 +9,7 @@ use Rattle.backup_engine.proofs.PutChanges.{EndsBy, ways_of}
 use Rattle.backup_engine.proofs.PutFrame.{Leaves, IsFramed, framed_way, framed_open, last_put, last_refused}
 use Rattle.backup_engine.proofs.PutNames.{opened_framed, opened_right}
 use Rattle.backup_engine.proofs.WholeCall.{leaves_more, leaves_of}
+use Rattle.backup_engine.specs.Seen.{streaming}
 
 module _ (C : Type 0) (state : C → CoreState) (v w : DiskView) (old new : C) (called : Called C state v w old new) where
   abbrev store : Store
@@ -100,7 +101,7 @@ module _ (C : Type 0) (state : C → CoreState) (v w : DiskView) (old new : C) (
 
 -- Whatever the disk holds, `ingest` keeps what was open.
 pub ingest_frame : (C : Type 0) (state : C → CoreState) (v w : DiskView) (old new : C) → Called C state v w old new → (name : List ℕ) (result : Result Unit Ending)
-    (source source_now : SourceView) (sink sink_now : SinkView) (run : IngestRun C state name result old new source source_now sink sink_now)
+    (source source_now : SourceView) (sink sink_now : SinkView) (run : IngestRun C state name result (streaming old source sink) (streaming new source_now sink_now))
     → KeepsOthers (Ingest name) (ending_in result) v w
 ingest_frame C state v w old new called name result source source_now sink sink_now run = elim run.way [
   | inl none ↦ others_kept C state v w old new called name (ending_in result)

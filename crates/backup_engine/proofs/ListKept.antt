@@ -15,6 +15,7 @@ use Rattle.backup_engine.proofs.ReadSteps.{steps_of}
 use Rattle.backup_engine.proofs.Reading.{reads_frame}
 use Rattle.backup_engine.proofs.Replied.{IsReplied, replied_faults, replied_sent, wrote_sent}
 use Rattle.backup_engine.proofs.WholeCall.{all_counted, all_reads, to_end}
+use Rattle.backup_engine.specs.Seen.{devices}
 
 -- ---- over any disk
 
@@ -49,7 +50,7 @@ module _ (C : Type 0) (state : C → CoreState) (v w : DiskView) (old new : C) (
     wrote_any (Some ending) sink sink_now replied wrote = absurd replied
 
     caused : (ending : Option Ending) (source : SourceView) (sink sink_now : SinkView) → IsReplied ending sink sink_now →
-        IsCaused table.List [] v w source source sink sink_now ending
+        IsCaused table.List [] (devices v w source source sink sink_now) ending
     caused None source sink sink_now replied = tt
     caused (Some Sink) source sink sink_now replied = (tt, replied)
     caused (Some ending) source sink sink_now replied = absurd replied
@@ -61,7 +62,7 @@ module _ (C : Type 0) (state : C → CoreState) (v w : DiskView) (old new : C) (
 
     -- they were written, or the sink failed
     were_listed : (ending : Option Ending) (source : SourceView) (sink sink_now : SinkView) → IsReplied ending sink sink_now → WroteReply (listing_text files) ending sink sink_now
-        → Keeps table.List [] ending v w source source sink sink_now
+        → Keeps table.List [] ending (devices v w source source sink sink_now)
     were_listed ending source sink sink_now replied wrote = record {
       any = record {
         took = (refl, refl);
@@ -79,24 +80,24 @@ module _ (C : Type 0) (state : C → CoreState) (v w : DiskView) (old new : C) (
     }
 
     -- there was no memory for their text
-    untold : (source : SourceView) (sink : SinkView) → Keeps table.List [] (Some (Refused Memory)) v w source source sink sink
+    untold : (source : SourceView) (sink : SinkView) → Keeps table.List [] (Some (Refused Memory)) (devices v w source source sink sink)
     untold source sink =
         without_memory table.List [] v w source source sink
         (record { only = all_reads C state v w old new called reads.only; faults_are = all_counted C state v w old new called NoFault reads.faults_are }) (refl, refl) refl
 
     pub told_names : (result : Result Unit Ending) (source : SourceView) (sink sink_now : SinkView) → WritesNames (Ok files) result sink sink_now
-        → Keeps table.List [] (ending_in result) v w source source sink sink_now
+        → Keeps table.List [] (ending_in result) (devices v w source source sink sink_now)
     told_names result source sink sink_now (inl sent) =
         were_listed (ending_in result) source sink sink_now (replied_sent (listing_text files) result sink sink_now sent)
         (wrote_sent (listing_text files) result sink sink_now sent)
     told_names result source sink sink_now (inr (is, stays)) =
-        subst (λ (r : Result Unit Ending). Keeps table.List [] (ending_in r) v w source source sink sink_now) (sym is)
-        (subst (λ (s : SinkView). Keeps table.List [] (Some (Refused Memory)) v w source source sink s) (sym stays) (untold source sink))
+        subst (λ (r : Result Unit Ending). Keeps table.List [] (ending_in r) (devices v w source source sink sink_now)) (sym is)
+        (subst (λ (s : SinkView). Keeps table.List [] (Some (Refused Memory)) (devices v w source source sink s)) (sym stays) (untold source sink))
 
   -- there was no memory for the list
   by_refusal : (r : Refusal) (buf : List ℕ) → CoreStep (state old) (asks (Err r) buf) (state new) → ListRow (Err r) (state old) (state new) →
       (source : SourceView) (sink : SinkView)
-      → Keeps table.List [] (Some (Refused r)) v w source source sink sink
+      → Keeps table.List [] (Some (Refused r)) (devices v w source source sink sink)
   by_refusal Memory buf step row source sink =
       let effect = (made (Err Memory) buf step).made.effect in
       without_memory table.List [] v w source source sink
@@ -105,5 +106,5 @@ module _ (C : Type 0) (state : C → CoreState) (v w : DiskView) (old new : C) (
   by_refusal r buf step row source sink = absurd row
 
   pub not_listed : (refusal : Refusal) → Lists C state (Err refusal) old new → (source : SourceView) (sink : SinkView) →
-      Keeps table.List [] (Some (Refused refusal)) v w source source sink sink
+      Keeps table.List [] (Some (Refused refusal)) (devices v w source source sink sink)
   not_listed refusal listed source sink = by_refusal refusal listed.0 listed.1 (made (Err refusal) listed.0 listed.1).made.row source sink

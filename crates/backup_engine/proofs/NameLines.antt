@@ -6,6 +6,7 @@ use Rattle.script_lines.specs.Grammar as lines
 use Rattle.script_lines.specs.ReplyValue as replies
 use Rattle.backup_engine.specs.Saying.{idle}
 use Rattle.backup_engine.proofs.Saying.{line_then}
+use Rattle.backup_engine.specs.Storing.{Replies}
 
 module _ (C : Type 0) (state : C → CoreState) (old new : C) (runs : (state old).stop ≡ None) where
   admits_all : (line : LineValue) → actor_of line ≡ None → Admits line no_sessions (state old)
@@ -34,7 +35,8 @@ module _ (C : Type 0) (state : C → CoreState) (old new : C) (runs : (state old
     replied (Err Sink) sink sink_now sent = ((next_sequence, refl), sent.0)
     replied (Err ending) sink sink_now sent = absurd sent
 
-    pub delete_lines : (result : Result Unit Ending) (sink sink_now : SinkView) → DeleteRun C state name (deleted_line name) result old new sink sink_now →
+    pub delete_lines : (result : Result Unit Ending) (sink sink_now : SinkView)
+        → DeleteRun C state name (λ deleted. Replies (deleted_line name) deleted result sink sink_now) old new →
         RunsSingle C state (IsDelete name (ending_in result) sink sink_now) old new
     delete_lines result sink sink_now (Ok u, (asks, sent)) =
         (said (lines.Delete name) (replies.Deleted next_sequence) ∷ [], (replied result sink sink_now sent, (idle new, (refl, deleted_line_run asks.0 asks.1))))

@@ -10,6 +10,8 @@ use Rattle.backup_engine.proofs.DeleteKept.{done_any, done_frame, undone_any, un
 use Rattle.backup_engine.proofs.ListKept.{not_listed, told_names}
 use Rattle.backup_engine.proofs.Replied.{replied_sent, wrote_sent}
 use Rattle.backup_engine.proofs.Returned.{one_later}
+use Rattle.backup_engine.specs.Seen.{devices}
+use Rattle.backup_engine.specs.Storing.{Replies}
 
 module _ (C : Type 0) (state : C → CoreState) (v w : DiskView) (old new : C) (called : Called C state v w old new) where
   -- ---- delete
@@ -17,7 +19,7 @@ module _ (C : Type 0) (state : C → CoreState) (v w : DiskView) (old new : C) (
   module _ (name : List ℕ) (source : SourceView) (sink : SinkView) where
     -- it was done
     deleted : (answer : Answer) → DoesStep 0 (asked.Delete name) answer (state old) (state new) → (result : Result Unit Ending) (sink_now : SinkView)
-        → Sent (deleted_line name) result sink sink_now → Keeps (Delete name) [] (ending_in result) v w source source sink sink_now
+        → Sent (deleted_line name) result sink sink_now → Keeps (Delete name) [] (ending_in result) (devices v w source source sink sink_now)
     deleted answer step result sink_now sent =
         let ending = ending_in result in
         let replied = replied_sent (deleted_line name) result sink sink_now sent in
@@ -32,7 +34,7 @@ module _ (C : Type 0) (state : C → CoreState) (v w : DiskView) (old new : C) (
 
     -- it was refused
     undeleted : (refusal : Refusal) → RefusesStep 0 (asked.Delete name) refusal (state old) (state new) →
-        Keeps (Delete name) [] (Some (Refused refusal)) v w source source sink sink
+        Keeps (Delete name) [] (Some (Refused refusal)) (devices v w source source sink sink)
     undeleted refusal step = record {
       any = undone_any C state v w old new called name refusal step.0 step.1 source sink;
       frame = undone_frame C state v w old new called name refusal step.0 step.1;
@@ -41,21 +43,21 @@ module _ (C : Type 0) (state : C → CoreState) (v w : DiskView) (old new : C) (
       untouched = tt;
     }
 
-    pub delete_keeps : (result : Result Unit Ending) (sink_now : SinkView) → DeleteRun C state name (deleted_line name) result old new sink sink_now →
-        Keeps (Delete name) [] (ending_in result) v w source source sink sink_now
+    pub delete_keeps : (result : Result Unit Ending) (sink_now : SinkView) → DeleteRun C state name (λ deleted. Replies (deleted_line name) deleted result sink sink_now) old new →
+        Keeps (Delete name) [] (ending_in result) (devices v w source source sink sink_now)
     delete_keeps result sink_now (Ok u, (asks, sent)) = deleted asks.0 asks.1 result sink_now sent
     delete_keeps result sink_now (Err refusal, (asks, (is, same))) =
-        subst (λ (r : Result Unit Ending). Keeps (Delete name) [] (ending_in r) v w source source sink sink_now) (sym is)
-        (subst (λ (s : SinkView). Keeps (Delete name) [] (Some (Refused refusal)) v w source source sink s) (sym same) (undeleted refusal asks))
+        subst (λ (r : Result Unit Ending). Keeps (Delete name) [] (ending_in r) (devices v w source source sink sink_now)) (sym is)
+        (subst (λ (s : SinkView). Keeps (Delete name) [] (Some (Refused refusal)) (devices v w source source sink s)) (sym same) (undeleted refusal asks))
 
   -- ---- list
 
   pub list_keeps : (result : Result Unit Ending) (source : SourceView) (sink sink_now : SinkView) → ListRun C state result old new sink sink_now →
-      Keeps table.List [] (ending_in result) v w source source sink sink_now
+      Keeps table.List [] (ending_in result) (devices v w source source sink sink_now)
   list_keeps result source sink sink_now (Ok files, (listed, wrote)) = told_names C state v w old new called files listed result source sink sink_now wrote
   list_keeps result source sink sink_now (Err refusal, (listed, (is, same))) =
-      subst (λ (r : Result Unit Ending). Keeps table.List [] (ending_in r) v w source source sink sink_now) (sym is)
-      (subst (λ (s : SinkView). Keeps table.List [] (Some (Refused refusal)) v w source source sink s) (sym same)
+      subst (λ (r : Result Unit Ending). Keeps table.List [] (ending_in r) (devices v w source source sink sink_now)) (sym is)
+      (subst (λ (s : SinkView). Keeps table.List [] (Some (Refused refusal)) (devices v w source source sink s)) (sym same)
       (not_listed C state v w old new called refusal listed source sink))
 
 -- ---- the disk, later
@@ -65,7 +67,8 @@ module _ (C : Type 0) (state : C → CoreState) (old new : C) where
   asked_later name (Ok u) asks = one_later C state _ old new asks.1.1
   asked_later name (Err refusal) asks = one_later C state _ old new asks.1
 
-  pub delete_later : (name reply : List ℕ) (result : Result Unit Ending) (sink sink_now : SinkView) → DeleteRun C state name reply result old new sink sink_now →
+  pub delete_later : (name reply : List ℕ) (result : Result Unit Ending) (sink sink_now : SinkView)
+      → DeleteRun C state name (λ deleted. Replies reply deleted result sink sink_now) old new →
       IsLater (state old).disk (state new).disk
   delete_later name reply result sink sink_now run = asked_later name run.0 run.1.0
 

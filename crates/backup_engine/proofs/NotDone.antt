@@ -5,6 +5,7 @@ use Rattle.backup_engine.specs.Line.{Delete}
 use Rattle.backup_engine.specs.Line as table
 use Rattle.backup_engine.proofs.Called.{Called}
 use Rattle.backup_engine.proofs.Reading.{since_start, reads_frame, unchanged}
+use Rattle.backup_engine.specs.Seen.{devices}
 
 -- ---- a store that was not opened
 
@@ -13,14 +14,14 @@ abbrev pub IsUnopened : DiskView → DiskView → Refusal → Type 0
 IsUnopened v w refusal = IsNotRead refusal v w
 
 ingest_caused : (v w : DiskView) (name given : List ℕ) (source : SourceView) (sink : SinkView) (refusal : Refusal) → IsOpenRefusal (Shows v w) v.size refusal
-    → IsCaused (Ingest name) given v w source source sink sink (Some (Refused refusal))
+    → IsCaused (Ingest name) given (devices v w source source sink sink) (Some (Refused refusal))
 ingest_caused v w name given source sink Memory cause = tt
 ingest_caused v w name given source sink DiskRead cause = tt
 ingest_caused v w name given source sink DiskWrite cause = tt
 ingest_caused v w name given source sink refusal cause = inl (cause, refl)
 
 restore_caused : (v w : DiskView) (name given : List ℕ) (source : SourceView) (sink : SinkView) (refusal : Refusal) → IsOpenRefusal (Shows v w) v.size refusal
-    → IsCaused (Restore name) given v w source source sink sink (Some (Refused refusal))
+    → IsCaused (Restore name) given (devices v w source source sink sink) (Some (Refused refusal))
 restore_caused v w name given source sink Memory cause = tt
 restore_caused v w name given source sink DiskRead cause = tt
 restore_caused v w name given source sink DiskWrite cause = tt
@@ -28,7 +29,7 @@ restore_caused v w name given source sink refusal cause = inl cause
 
 pub unopened_ingest : (v w : DiskView) (refusal : Refusal) → IsUnopened v w refusal → (name given : List ℕ) (source : SourceView) (sink : SinkView) →
     Known source.left (λ all. given ≡ all)
-    → Keeps (Ingest name) given (Some (Refused refusal)) v w source source sink sink
+    → Keeps (Ingest name) given (Some (Refused refusal)) (devices v w source source sink sink)
 unopened_ingest v w refusal is name given source sink took = record {
   any = record {
     took = λ all told. (took all told, tt);
@@ -46,7 +47,7 @@ unopened_ingest v w refusal is name given source sink took = record {
 }
 
 pub unopened_restore : (v w : DiskView) (refusal : Refusal) → IsUnopened v w refusal → (name : List ℕ) (source : SourceView) (sink : SinkView)
-    → Keeps (Restore name) [] (Some (Refused refusal)) v w source source sink sink
+    → Keeps (Restore name) [] (Some (Refused refusal)) (devices v w source source sink sink)
 unopened_restore v w refusal is name source sink = record {
   any = record {
     took = (refl, refl);
@@ -64,28 +65,28 @@ unopened_restore v w refusal is name source sink = record {
 }
 
 delete_caused : (v w : DiskView) (name : List ℕ) (source : SourceView) (sink : SinkView) (refusal : Refusal) → IsOpenRefusal (Shows v w) v.size refusal
-    → IsCaused (Delete name) [] v w source source sink sink (Some (Refused refusal))
+    → IsCaused (Delete name) [] (devices v w source source sink sink) (Some (Refused refusal))
 delete_caused v w name source sink Memory cause = tt
 delete_caused v w name source sink DiskRead cause = tt
 delete_caused v w name source sink DiskWrite cause = tt
 delete_caused v w name source sink refusal cause = inl cause
 
 list_caused : (v w : DiskView) (source : SourceView) (sink : SinkView) (refusal : Refusal) → IsOpenRefusal (Shows v w) v.size refusal
-    → IsCaused table.List [] v w source source sink sink (Some (Refused refusal))
+    → IsCaused table.List [] (devices v w source source sink sink) (Some (Refused refusal))
 list_caused v w source sink Memory cause = tt
 list_caused v w source sink DiskRead cause = tt
 list_caused v w source sink DiskWrite cause = tt
 list_caused v w source sink refusal cause = cause
 
 collect_caused : (v w : DiskView) (percent : ℕ) (source : SourceView) (sink : SinkView) (refusal : Refusal) → IsOpenRefusal (Shows v w) v.size refusal
-    → IsCaused (Collect percent) [] v w source source sink sink (Some (Refused refusal))
+    → IsCaused (Collect percent) [] (devices v w source source sink sink) (Some (Refused refusal))
 collect_caused v w percent source sink Memory cause = tt
 collect_caused v w percent source sink DiskRead cause = tt
 collect_caused v w percent source sink DiskWrite cause = tt
 collect_caused v w percent source sink refusal cause = inl cause
 
 pub unopened_delete : (v w : DiskView) (refusal : Refusal) → IsUnopened v w refusal → (name : List ℕ) (source : SourceView) (sink : SinkView)
-    → Keeps (Delete name) [] (Some (Refused refusal)) v w source source sink sink
+    → Keeps (Delete name) [] (Some (Refused refusal)) (devices v w source source sink sink)
 unopened_delete v w refusal is name source sink = record {
   any = record {
     took = (refl, refl);
@@ -103,7 +104,7 @@ unopened_delete v w refusal is name source sink = record {
 }
 
 pub unopened_list : (v w : DiskView) (refusal : Refusal) → IsUnopened v w refusal → (source : SourceView) (sink : SinkView)
-    → Keeps table.List [] (Some (Refused refusal)) v w source source sink sink
+    → Keeps table.List [] (Some (Refused refusal)) (devices v w source source sink sink)
 unopened_list v w refusal is source sink = record {
   any = record {
     took = (refl, refl);
@@ -121,7 +122,7 @@ unopened_list v w refusal is source sink = record {
 }
 
 pub unopened_collect : (v w : DiskView) (refusal : Refusal) → IsUnopened v w refusal → (percent : ℕ) (source : SourceView) (sink : SinkView)
-    → Keeps (Collect percent) [] (Some (Refused refusal)) v w source source sink sink
+    → Keeps (Collect percent) [] (Some (Refused refusal)) (devices v w source source sink sink)
 unopened_collect v w refusal is percent source sink = record {
   any = record {
     took = (refl, refl);
@@ -183,7 +184,7 @@ memory_durable (Collect percent) w = tt
 -- There was no memory, and the disk was read at most.
 pub without_memory : (command : CommandLine) (given : List ℕ) (v w : DiskView) (source source_now : SourceView) (sink : SinkView) → Reads NoFault v w →
     Took command given (Some (Refused Memory)) source source_now → source_now.faults ≡ source.faults
-    → Keeps command given (Some (Refused Memory)) v w source source_now sink sink
+    → Keeps command given (Some (Refused Memory)) (devices v w source source_now sink sink)
 without_memory command given v w source source_now sink reads took faults = record {
   any = record {
     took = took;
@@ -201,7 +202,7 @@ without_memory command given v w source source_now sink reads took faults = reco
 }
 
 pub not_begun : (command : CommandLine) (given : List ℕ) (v : DiskView) (source : SourceView) (sink : SinkView) → Took command given (Some (Refused Memory)) source source →
-    Keeps command given (Some (Refused Memory)) v v source source sink sink
+    Keeps command given (Some (Refused Memory)) (devices v v source source sink sink)
 not_begun command given v source sink took = without_memory command given v v source source sink (reads_refused v) took refl
 
 -- ---- a store that was opened

@@ -16,6 +16,7 @@ use Rattle.backup_engine.proofs.GivenOut.{reads_closed}
 use Rattle.backup_engine.proofs.NotDone.{holds}
 use Rattle.backup_engine.proofs.Reading.{reads_frame}
 use Rattle.backup_engine.proofs.ReadSteps.{LeavesAll, open_leaves, steps_of}
+use Rattle.backup_engine.specs.Seen.{devices}
 
 -- no name has a file where its entry is none
 is_none : {A : Type 0} (o : Option A) → o ≡ None → is_some o ≡ false
@@ -51,7 +52,7 @@ module _ (C : Type 0) (state : C → CoreState) (v w : DiskView) (old new : C) (
 
     -- no reader has this name, since it is no name, or has no root; else there was no memory
     caused_by : (r : Refusal) → readers.IsOpenRefusal (state old).tables.names name (part_of (state old).parts 0) r →
-        IsCaused (Restore name) [] v w source source sink sink (Some (endings.Refused r))
+        IsCaused (Restore name) [] (devices v w source source sink sink) (Some (endings.Refused r))
     caused_by Memory cause = tt
     caused_by BadName cause = inr (inl (holds C state v w old new was of_core.only.later, cause.1))
     caused_by NoFile cause =
@@ -66,7 +67,7 @@ module _ (C : Type 0) (state : C → CoreState) (v w : DiskView) (old new : C) (
     caused_by (WrongPart kind) cause = absurd (cause.0 idle)
     caused_by r cause = absurd cause.1
 
-    kept : Keeps (Restore name) [] (Some (endings.Refused refusal)) v w source source sink sink
+    kept : Keeps (Restore name) [] (Some (endings.Refused refusal)) (devices v w source source sink sink)
     kept = record {
       any = record {
         took = (refl, refl);
@@ -85,8 +86,8 @@ module _ (C : Type 0) (state : C → CoreState) (v w : DiskView) (old new : C) (
 
 pub not_opened : (C : Type 0) (state : C → CoreState) (v w : DiskView) (old new : C) → Called C state v w old new →
     (name : List ℕ) (result : Result Unit Ending) (source : SourceView) (sink sink_now : SinkView)
-    → IsNotOpened C state name result old new sink sink_now → Keeps (Restore name) [] (ending_in result) v w source source sink sink_now
+    → IsNotOpened C state name result old new sink sink_now → Keeps (Restore name) [] (ending_in result) (devices v w source source sink sink_now)
 not_opened C state v w old new was name result source sink sink_now is =
-    subst (λ (r : Result Unit Ending). Keeps (Restore name) [] (ending_in r) v w source source sink sink_now) (sym is.result_is)
-    (subst (λ (s : SinkView). Keeps (Restore name) [] (Some (endings.Refused is.refusal)) v w source source sink s) (sym is.sink_is)
+    subst (λ (r : Result Unit Ending). Keeps (Restore name) [] (ending_in r) (devices v w source source sink sink_now)) (sym is.result_is)
+    (subst (λ (s : SinkView). Keeps (Restore name) [] (Some (endings.Refused is.refusal)) (devices v w source source sink s)) (sym is.sink_is)
     (kept C state v w old new was name source sink is.refusal is.buf is.asked))

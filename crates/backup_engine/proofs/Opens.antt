@@ -13,6 +13,7 @@ use Rattle.backup_engine.proofs.Lending.{below, lent_end, lent_view, made_there}
 use Rattle.backup_engine.proofs.NotDone.{holds}
 use Rattle.backup_engine.proofs.Unlent.{holds as holds_back}
 use Rattle.backup_engine.proofs.FailsAlone.{fails_memory}
+use Rattle.backup_engine.specs.Seen.{devices}
 
 -- a core that was opened is fresh
 pub opened_fresh : (D : Type 0) (view : D → DiskView) (v : DiskView) (c : CoreState) → OpensCore D view v c → IsRunning c → IsFresh c
@@ -23,14 +24,14 @@ opened_fresh D view v c (inr is) running = fresh (view is.0) c is.1.1.opened is.
 
 -- what a command keeps, and says, of a disk whose store was not read
 pub record Unread (command : CommandLine) (given : List ℕ) (refusal : Refusal) (v w : DiskView) (source : SourceView) (sink : SinkView) : Type 0 where
-  pub keeps : Keeps command given (Some (Refused refusal)) v w source source sink sink
-  pub speaks : SpeaksAs command given (Some (Refused refusal)) [] v w source source sink sink
+  pub keeps : Keeps command given (Some (Refused refusal)) (devices v w source source sink sink)
+  pub speaks : SpeaksAs command given (Some (Refused refusal)) [] (devices v w source source sink sink)
 
 module _ (D : Type 0) (view : D → DiskView) (refusal : Refusal) (v w : DiskView) (source : SourceView) (sink : SinkView) where
   pub does_none : (command : CommandLine) (given : List ℕ) → Took command given (Some (Refused refusal)) source source
       → ((before : DiskView) → IsNotRead refusal before w → Unread command given refusal before w source sink)
       → RunsEachByFiles (Some (Refused refusal)) [] v w → FailsAlone (Some (Refused refusal)) [] v → OpensNone D view refusal v w →
-      DoesCommand D view command given [] (Some (Refused refusal)) v w source source sink sink
+      DoesCommand D view command given [] (Some (Refused refusal)) (devices v w source source sink sink)
   does_none command given took unread by_files alone (inl is) =
       let un = unread v is.0 in does_unread D view command given v w source sink refusal is.0 is.1 un.keeps un.speaks by_files (λ none. alone)
   does_none command given took unread by_files alone (inr (inl is)) =
@@ -40,7 +41,7 @@ module _ (D : Type 0) (view : D → DiskView) (refusal : Refusal) (v w : DiskVie
 
   pub runs_none : ((before : DiskView) → IsNotRead refusal before w → KeepsScript [] (Some (Refused refusal)) before w source source sink sink)
       → RunsEachByFiles (Some (Refused refusal)) [] v w → FailsAlone (Some (Refused refusal)) [] v → OpensNone D view refusal v w
-      → RunsScript D view [] (Some (Refused refusal)) v w source source sink sink
+      → RunsScript D view [] (Some (Refused refusal)) (devices v w source source sink sink)
   runs_none unread by_files alone (inl is) = record {
     by_files = by_files;
     fails_alone = alone;
@@ -66,14 +67,14 @@ unbegun v = record {
 }
 
 pub does_without_memory : (D : Type 0) (view : D → DiskView) (v : DiskView) (source : SourceView) (sink : SinkView) (command : CommandLine) (given : List ℕ)
-    → Keeps command given (Some (Refused Memory)) v v source source sink sink → SpeaksAs command given (Some (Refused Memory)) [] v v source source sink sink
-    → DoesCommand D view command given [] (Some (Refused Memory)) v v source source sink sink
+    → Keeps command given (Some (Refused Memory)) (devices v v source source sink sink) → SpeaksAs command given (Some (Refused Memory)) [] (devices v v source source sink sink)
+    → DoesCommand D view command given [] (Some (Refused Memory)) (devices v v source source sink sink)
 does_without_memory D view v source sink command given keeps speaks = does_unread D view command given v v source sink Memory (unbegun v) tt keeps speaks (memory_by_files v)
     (λ none. fails_memory v)
 
 pub runs_without_memory : (D : Type 0) (view : D → DiskView) (v : DiskView) (source : SourceView) (sink : SinkView) →
     KeepsScript [] (Some (Refused Memory)) v v source source sink sink
-    → RunsScript D view [] (Some (Refused Memory)) v v source source sink sink
+    → RunsScript D view [] (Some (Refused Memory)) (devices v v source source sink sink)
 runs_without_memory D view v source sink keeps = record {
   by_files = memory_by_files v;
   fails_alone = fails_memory v;
@@ -132,11 +133,11 @@ module _ (D : Type 0) (view : D → DiskView) (C : Type 0) (state : C → CoreSt
         (by_files : RunsEachByFiles ending rs (view first.now) w) (alone : rs ≡ [] → FailsAlone ending rs (view first.now)) where
       -- What it does from the disk on that was read.
       abbrev pub Goes : MutBor D → Type 0
-      Goes before = Keeps command given ending (view before.now) w source source_now sink sink_now × SpeaksAs command given ending rs (view before.now) w source source_now sink
-          sink_now
+      Goes before = Keeps command given ending (devices (view before.now) w source source_now sink sink_now)
+          × SpeaksAs command given ending rs (devices (view before.now) w source source_now sink sink_now)
 
       pub does_opened : OpensCore (MutBor D) lent (lent first) (state old) → ((before : MutBor D) → Called C state (lent before) end old new → Goes before)
-          → DoesCommand D view command given rs ending (view first.now) w source source_now sink sink_now
+          → DoesCommand D view command given rs ending (devices (view first.now) w source source_now sink sink_now)
       does_opened (inl read) goes =
           let went = goes first (called first read) in
           does_here D view command given (view first.now) w source source_now sink sink_now rs ending went.0 went.1 by_files
@@ -149,7 +150,7 @@ module _ (D : Type 0) (view : D → DiskView) (C : Type 0) (state : C → CoreSt
     module _ (rs : List Replied) (ending : Option Ending) (source source_now : SourceView) (sink sink_now : SinkView) where
       pub runs_opened : OpensCore (MutBor D) lent (lent first) (state old) → RunsEachByFiles ending rs (view first.now) w → FailsAlone ending rs (view first.now)
           → ((before : MutBor D) → Called C state (lent before) end old new → KeepsScript rs ending (view before.now) w source source_now sink sink_now)
-          → RunsScript D view rs ending (view first.now) w source source_now sink sink_now
+          → RunsScript D view rs ending (devices (view first.now) w source source_now sink sink_now)
       runs_opened (inl read) by_files alone goes = record {
         by_files = by_files;
         fails_alone = alone;

@@ -12,6 +12,7 @@ use Rattle.backup_engine.proofs.PutChanges.{IsOn, Puts, EndsBy, IsWayStep, AreUn
 use Rattle.backup_engine.proofs.PutNames.{names_with, opened_on}
 use Rattle.backup_engine.proofs.UnlikeNodes.{reads_wider, unlike_so}
 use Rattle.backup_engine.proofs.WayCommits.{has_room}
+use Rattle.backup_engine.specs.Seen.{devices, streaming}
 
 -- ---- counts of faults
 
@@ -84,7 +85,7 @@ module _ (C : Type 0) (state : C → CoreState) (v w : DiskView) (old new : C) (
 
   module _ (name given : List ℕ) (source source_now : SourceView) (sink sink_now : SinkView) where
     abbrev Any : Option Ending → Type 0
-    Any ending = OnAnyDisk (Ingest name) given ending v w source source_now sink sink_now
+    Any ending = OnAnyDisk (Ingest name) given ending (devices v w source source_now sink sink_now)
 
     -- what reads of the core returned reads of the call did
     abbrev Since : (List ℕ → Type 0) → Type 0
@@ -101,7 +102,7 @@ module _ (C : Type 0) (state : C → CoreState) (v w : DiskView) (old new : C) (
 
     cause_of : (refusal : Refusal) (added : HasAdded given v w) → AreUnless refusal added.after (state new) → IsLater (state old).disk (state new).disk →
         IsPutRefusal name given (state old).disk (state new) refusal
-        → IsCaused (Ingest name) given v w source source_now sink sink_now (Some (Refused refusal))
+        → IsCaused (Ingest name) given (devices v w source source_now sink sink_now) (Some (Refused refusal))
     cause_of Memory added are later refuses = tt
     cause_of DiskRead added are later refuses = tt
     cause_of DiskWrite added are later refuses = tt
@@ -189,7 +190,8 @@ module _ (C : Type 0) (state : C → CoreState) (v w : DiskView) (old new : C) (
           subst (λ (r : Result Unit Ending). Any (ending_in r)) (sym replies.0)
           (was_refused refusal run refused replies.1 (subst (λ (r : Result Unit Ending). Heard (ending_in r)) replies.0 heard))
 
-      pub taken_any : (result : Result Unit Ending) → IsTaken C state name given result old new sink sink_now → IsReadOut result source.left source_now.left →
+      pub taken_any : (result : Result Unit Ending) → IsTaken C state name given result (streaming old source sink) (streaming new source_now sink_now)
+          → IsReadOut result source.left source_now.left →
           Heard (ending_in result)
           → Any (ending_in result)
       taken_any result taken out heard = by_put taken.put taken.ran taken.few taken.held taken.refused result taken.replies out heard
@@ -232,7 +234,8 @@ module _ (C : Type 0) (state : C → CoreState) (v w : DiskView) (old new : C) (
         }
         stopped ending cause long heard = absurd cause
 
-      pub stopped_any : (result : Result Unit Ending) → IsStopped C state name given result old new source source_now sink sink_now → Heard (ending_in result) →
+      pub stopped_any : (result : Result Unit Ending) → IsStopped C state name given result (streaming old source sink) (streaming new source_now sink_now)
+          → Heard (ending_in result) →
           Any (ending_in result)
       stopped_any result is heard =
           subst (λ (r : Result Unit Ending). Any (ending_in r)) (sym is.result_is)
@@ -240,9 +243,9 @@ module _ (C : Type 0) (state : C → CoreState) (v w : DiskView) (old new : C) (
 
 -- Over any disk each ending of a run of `ingest` has its cause, where no fault of the source is passed over.
 pub ingest_any : (C : Type 0) (state : C → CoreState) (v w : DiskView) (old new : C) → Called C state v w old new → (name : List ℕ) (result : Result Unit Ending)
-    (source source_now : SourceView) (sink sink_now : SinkView) (run : IngestRun C state name result old new source source_now sink sink_now)
+    (source source_now : SourceView) (sink sink_now : SinkView) (run : IngestRun C state name result (streaming old source sink) (streaming new source_now sink_now))
     → (¬ (ending_in result ≡ Some Source) → source_now.faults ≡ source.faults)
-    → OnAnyDisk (Ingest name) run.given (ending_in result) v w source source_now sink sink_now
+    → OnAnyDisk (Ingest name) run.given (ending_in result) (devices v w source source_now sink sink_now)
 ingest_any C state v w old new called name result source source_now sink sink_now run heard = elim run.way [
   | inl none ↦ stopped_any C state v w old new called name run.given source source_now sink sink_now run.took result none heard
   | inr taken ↦ taken_any C state v w old new called name run.given source source_now sink sink_now run.took result taken run.to_end heard

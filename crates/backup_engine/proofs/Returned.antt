@@ -2,6 +2,7 @@
 use Rattle.backup_engine.proofs.Prelude.{◌≡◌, inl, inr, ◌∷◌, [], List, ℕ, Result, refl, IsLater, later_on, SourceView, SinkView, CoreStep, events_of, CoreState, Event, GiveRun, IngestRun}
 use Rattle.reply_text.specs.declared.ending.Ending.{Ending}
 use Rattle.backup_engine.proofs.PutCauses.{run_later}
+use Rattle.backup_engine.specs.Seen.{streaming}
 
 -- the first of two lists is the first of the other
 pub first_same : (a b : ℕ) (xs ys : List ℕ) → a ∷ xs ≡ b ∷ ys → a ≡ b
@@ -21,7 +22,7 @@ module _ (C : Type 0) (state : C → CoreState) where
       later_on (state old).disk (state out.mid).disk (state new).disk (one_later _ old out.mid out.opened) (run_later C state out.reads out.mid new out.ran)
 
   pub ingest_later : (name : List ℕ) (result : Result Unit Ending) (old new : C) (source source_now : SourceView) (sink sink_now : SinkView) →
-      IngestRun C state name result old new source source_now sink sink_now
+      IngestRun C state name result (streaming old source sink) (streaming new source_now sink_now)
       → IsLater (state old).disk (state new).disk
   ingest_later name result old new source source_now sink sink_now run = elim run.way [
     | inl none ↦ run_later C state (events_of none.ran.steps) old new none.ran.ran

@@ -4,6 +4,7 @@ use Rattle.script_lines.specs.Grammar as lines
 use Rattle.script_lines.specs.ReplyValue as replies
 use Rattle.backup_engine.proofs.SayingEnds.{EndsSaying, HasEnded, StopsSaying, says_more}
 use Rattle.backup_engine.proofs.SayingSteps.{finish_line, push_line, push_refused}
+use Rattle.session_turns.specs.Turns.{session_at}
 
 module _ (C : Type 0) (state : C → CoreState) (counted : BytesAreCounted) (start : C) where
   -- the session counts what it was given
@@ -12,14 +13,14 @@ module _ (C : Type 0) (state : C → CoreState) (counted : BytesAreCounted) (sta
 
   module _ (actor : ℕ) (first : actor ≡ 0) (taken piece : List ℕ) (digits : Digits) (same : pushed_bytes digits.digits ≡ piece) where
     pub push_says : (s t u : SessionState) (old mid new : C) → t.ended ≡ false → IsFed C state taken t start mid → IsFed C state (taken ++ piece) u start new →
-        Feeds C state actor (Ok tt) piece t u mid new
+        Feeds C state actor (Ok tt) piece (session_at t mid) (session_at u new)
         → SaysPushed C state taken s t old mid → SaysPushed C state (taken ++ piece) s u old new
     push_says s t u old mid new off fed after feeds says =
         says_more C state s t u old mid new taken piece digits same says
         (push_line C state mid new t u fed.way.runs off actor first digits.digits piece same (length (taken ++ piece)) feeds (counts (taken ++ piece) u new after))
 
     pub push_stops : (t u : SessionState) (mid new : C) → t.ended ≡ false → IsFed C state taken t start mid → (refusal : Refusal) →
-        Feeds C state actor (Err refusal) piece t u mid new
+        Feeds C state actor (Err refusal) piece (session_at t mid) (session_at u new)
         → RunsLine C state (lines.Push 0 digits.digits) (replies.Refused refusal) (giving mid t) (giving new u)
     push_stops t u mid new off fed refusal feeds = push_refused C state mid new t u fed.way.runs off actor first digits.digits piece same refusal feeds
 

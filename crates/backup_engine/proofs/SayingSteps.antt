@@ -16,6 +16,7 @@ use Rattle.script_runner.proofs.SessionLists.{only_memory}
 use Rattle.backup_engine.specs.Saying.{idle}
 use Rattle.backup_engine.proofs.FirstActor.{by_first, idle_of}
 use Rattle.backup_engine.proofs.Saying.{admits}
+use Rattle.session_turns.specs.Turns.{session_at}
 
 -- ---- sessions
 
@@ -75,11 +76,13 @@ module _ (C : Type 0) (state : C → CoreState) where
 
   module _ (old new : C) (s t : SessionState) (runs : (state old).stop ≡ None) where
     module _ (off : s.ended ≡ false) (actor : ℕ) (first : actor ≡ 0) (digits piece : List ℕ) (same : pushed_bytes digits ≡ piece) where
-      feeds_so : (result : _) → Feeds C state actor result piece s t old new → Feeds C state 0 result (pushed_bytes digits) s t old new
+      feeds_so : (result : _) → Feeds C state actor result piece (session_at s old) (session_at t new)
+          → Feeds C state 0 result (pushed_bytes digits) (session_at s old) (session_at t new)
       feeds_so result feeds =
-          subst (λ (bytes : List ℕ). Feeds C state 0 result bytes s t old new) (sym same) (subst (λ (a : ℕ). Feeds C state a result piece s t old new) first feeds)
+          subst (λ (bytes : List ℕ). Feeds C state 0 result bytes (session_at s old) (session_at t new)) (sym same)
+          (subst (λ (a : ℕ). Feeds C state a result piece (session_at s old) (session_at t new)) first feeds)
 
-      pub push_line : (count : ℕ) → Feeds C state actor (Ok tt) piece s t old new → count ≡ t.count →
+      pub push_line : (count : ℕ) → Feeds C state actor (Ok tt) piece (session_at s old) (session_at t new) → count ≡ t.count →
           RunsLine C state (lines.Push 0 digits) (replies.Pushed 0 count) (giving old s) (giving new t)
       push_line count feeds count_is =
           inl (
@@ -87,7 +90,7 @@ module _ (C : Type 0) (state : C → CoreState) where
             (refl, (s, t, replaces old new s t, feeds_so (Ok tt) feeds, count_is)),
           )
 
-      pub push_refused : (refusal : Refusal) → Feeds C state actor (Err refusal) piece s t old new →
+      pub push_refused : (refusal : Refusal) → Feeds C state actor (Err refusal) piece (session_at s old) (session_at t new) →
           RunsLine C state (lines.Push 0 digits) (replies.Refused refusal) (giving old s) (giving new t)
       push_refused refusal feeds =
           inl (
@@ -107,7 +110,8 @@ module _ (C : Type 0) (state : C → CoreState) where
       commit_taken : Admits (lines.Commit 0 name) (giving old s).sessions (state old)
       commit_taken = admits (lines.Commit 0 name) (giving old s).sessions (state old) kinds.Finished runs refl (kind_finished old s (state old).parts on) refl
 
-      pub commit_refused : (refusal : Refusal) → RefusesPut C state 0 name refusal s t old new → RunsLine C state (lines.Commit 0 name) (replies.Refused refusal) (giving old s)
+      pub commit_refused : (refusal : Refusal) → RefusesPut C state 0 name refusal (session_at s old) (session_at t new)
+          → RunsLine C state (lines.Commit 0 name) (replies.Refused refusal) (giving old s)
           (giving new t)
       commit_refused refusal refuses = inl (commit_taken, (s, t, replaces old new s t, refuses))
 

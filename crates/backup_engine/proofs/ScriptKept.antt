@@ -25,6 +25,7 @@ use Rattle.backup_engine.proofs.Reading.{reads_leave}
 use Rattle.backup_engine.proofs.UnlikeCopies.{shown_since}
 use Rattle.backup_engine.proofs.Reopened.{room_cause, room_so}
 use Rattle.backup_engine.proofs.Unlent.{open_refusal, reads, shows}
+use Rattle.backup_engine.specs.Seen.{streaming}
 
 -- ---- what was shown
 
@@ -144,7 +145,8 @@ module _ (D : Type 0) (view : D → DiskView) (C : Type 0) (state : C → CoreSt
     (called : Called C state (view before) w r.core s.core)
     (go_on : LinesGoOn C state) (by_roots : OpenedRunsByRoots D view C state) (is_on : OpenedIsOn D view C state) (keep : LinesKeepWritten C state)
     (fresh : r.sessions ≡ replicate ACTORS None)
-    (result : Result Unit Ending) (source source_now : SourceView) (sink sink_now : SinkView) (run : ScriptRun C state result r s source source_now sink sink_now) where
+    (result : Result Unit Ending) (source source_now : SourceView) (sink sink_now : SinkView)
+    (run : ScriptRun C state result (streaming r source sink) (streaming s source_now sink_now)) where
   abbrev v : DiskView
   v = view before
 

@@ -18,6 +18,7 @@ use Rattle.backup_engine.specs.Script.{EndsRefused, TookLines}
 use Rattle.backup_engine.specs.ScriptRuns.{RunsBy, RunsNext, goes_on}
 use Rattle.backup_engine.proofs.Kept.{by_error}
 use Rattle.backup_engine.proofs.ScriptLists.{actors_snoc, all_snoc, few_lines, lines_snoc, number_snoc, of_actor, printed_snoc, runs_snoc, stops_none, stops_snoc}
+use Rattle.backup_engine.specs.Seen.{streaming}
 
 -- what was added twice was added as one
 appended_on : (a b c : Option (List ℕ)) (xs ys : List ℕ) → Appended a b xs → Appended b c ys → Appended a c (xs ++ ys)
@@ -26,7 +27,7 @@ appended_on a b c xs ys first second = record {
 }
 
 pub begin_script : (C : Type 0) (state : C → CoreState) (r : RunnerState C) (source : SourceView) (sink : SinkView) (laws : ReadsTellScripts) →
-    ScriptSoFar C state [] fresh_reader r r source source sink sink
+    ScriptSoFar C state [] fresh_reader (streaming r source sink) (streaming r source sink)
 begin_script C state r source sink laws = record {
   runs = refl;
   actors = tt;
@@ -45,7 +46,7 @@ same_refusal one a b first second =
 
 module _ (C : Type 0) (state : C → CoreState) (laws : ReadsTellScripts) (rs : List Replied) (reader after : ReaderState) (r mid s : RunnerState C)
     (source between source_now : SourceView)
-    (sink sink_mid sink_now : SinkView) (so_far : ScriptSoFar C state rs reader r mid source between sink sink_mid) where
+    (sink sink_mid sink_now : SinkView) (so_far : ScriptSoFar C state rs reader (streaming r source sink) (streaming mid between sink_mid)) where
   abbrev begun : Given source.left (λ bytes. (rest : List ℕ) × Begins bytes (lines_of rs) rest)
   begun = laws.so_far source.left between.left (lines_of rs) reader so_far.read
 
@@ -77,7 +78,7 @@ module _ (C : Type 0) (state : C → CoreState) (laws : ReadsTellScripts) (rs : 
         (appended_on sink.written sink_mid.written sink_now.written (printed rs) (reply_line one.reply) so_far.wrote wrote)
 
     -- the script goes on
-    goes_so : result ≡ Ok tt → source_now.faults ≡ between.faults → ScriptSoFar C state all after r s source source_now sink sink_now
+    goes_so : result ≡ Ok tt → source_now.faults ≡ between.faults → ScriptSoFar C state all after (streaming r source sink) (streaming s source_now sink_now)
     goes_so done same =
         let sends : SendsReply run.line run.replies.reply (Ok tt) sink_mid sink_now = subst (λ (x : Result Unit Ending). SendsReply run.line run.replies.reply x sink_mid sink_now)
         done run.replies.sends in
@@ -101,7 +102,7 @@ module _ (C : Type 0) (state : C → CoreState) (laws : ReadsTellScripts) (rs : 
 
       -- the sink failed
       not_sent : AppendedPart sink_mid.written sink_now.written (reply_line one.reply) → Rose sink_mid.faults sink_now.faults →
-          ScriptRun C state (Err Sink) r s source source_now sink sink_now
+          ScriptRun C state (Err Sink) (streaming r source sink) (streaming s source_now sink_now)
       not_sent part_is rose = record {
         rs = all;
         runs = ran;
@@ -122,7 +123,7 @@ module _ (C : Type 0) (state : C → CoreState) (laws : ReadsTellScripts) (rs : 
       }
 
       -- there was no memory for the reply
-      left_out : ¬ (IsAcknowledged one.reply) → sink_now ≡ sink_mid → ScriptRun C state (Err (Refused Memory)) r s source source_now sink sink_now
+      left_out : ¬ (IsAcknowledged one.reply) → sink_now ≡ sink_mid → ScriptRun C state (Err (Refused Memory)) (streaming r source sink) (streaming s source_now sink_now)
       left_out none sink_is = record {
         rs = all;
         runs = ran;
@@ -152,7 +153,7 @@ module _ (C : Type 0) (state : C → CoreState) (laws : ReadsTellScripts) (rs : 
 
       not_reopened : (refusal : Refusal) → ◌≡◌ {A = Replied} one (record { line = lines.Reopen; reply = replies.Refused refusal }) →
           Appended sink_mid.written sink_now.written (reply_line one.reply)
-          → sink_now.faults ≡ sink_mid.faults → ScriptRun C state (Err (Refused refusal)) r s source source_now sink sink_now
+          → sink_now.faults ≡ sink_mid.faults → ScriptRun C state (Err (Refused refusal)) (streaming r source sink) (streaming s source_now sink_now)
       not_reopened refusal is wrote sent = record {
         rs = all;
         runs = ran;
@@ -174,7 +175,7 @@ module _ (C : Type 0) (state : C → CoreState) (laws : ReadsTellScripts) (rs : 
       refusal_of line reply ending is = absurd is
 
       abbrev Stops : Ending → Type 0
-      Stops ending = ScriptRun C state (Err ending) r s source source_now sink sink_now
+      Stops ending = ScriptRun C state (Err ending) (streaming r source sink) (streaming s source_now sink_now)
 
       ended_so : (ending : Ending) → ((ending ≡ Refused Memory) × ¬ (IsAcknowledged one.reply) × (sink_now ≡ sink_mid))
           ⊎ (EndsBy run.line run.replies.reply ending × (Appended sink_mid.written sink_now.written (reply_line one.reply) × (sink_now.faults ≡ sink_mid.faults))) → Stops ending
@@ -203,7 +204,8 @@ module _ (C : Type 0) (state : C → CoreState) (laws : ReadsTellScripts) (rs : 
     sent_here = ap (λ (v : SinkView). v.faults) sink_is ∙ so_far.sent
 
     -- the script has ended
-    read_out : source_now.faults ≡ between.faults → IsNext next.End reader after between.left source_now.left → ScriptRun C state (Ok tt) r s source source_now sink sink_now
+    read_out : source_now.faults ≡ between.faults → IsNext next.End reader after between.left source_now.left
+        → ScriptRun C state (Ok tt) (streaming r source sink) (streaming s source_now sink_now)
     read_out heard is_next = record {
       rs = rs;
       runs = runs_here;
@@ -229,7 +231,7 @@ module _ (C : Type 0) (state : C → CoreState) (laws : ReadsTellScripts) (rs : 
 
     -- the source failed
     unread : IsPart after.line → after.ready ≡ [] → TakesOff after.line reader after between.left source_now.left → Rose between.faults source_now.faults →
-        ScriptRun C state (Err Source) r s source source_now sink sink_now
+        ScriptRun C state (Err Source) (streaming r source sink) (streaming s source_now sink_now)
     unread part drained takes rose = record {
       rs = rs;
       runs = runs_here;
@@ -244,7 +246,7 @@ module _ (C : Type 0) (state : C → CoreState) (laws : ReadsTellScripts) (rs : 
 
     -- what came is no line
     broken : (number : ℕ) → number ≡ number_after (lines_of rs) → source_now.faults ≡ between.faults → Given source.left (λ bytes. Breaks bytes (lines_of rs))
-        → ScriptRun C state (Err (Line number)) r s source source_now sink sink_now
+        → ScriptRun C state (Err (Line number)) (streaming r source sink) (streaming s source_now sink_now)
     broken number is heard breaks = record {
       rs = rs;
       runs = runs_here;
@@ -258,7 +260,8 @@ module _ (C : Type 0) (state : C → CoreState) (laws : ReadsTellScripts) (rs : 
     }
 
     -- it is too long
-    overrun : source_now.faults ≡ between.faults → Given source.left (λ bytes. Overruns bytes (lines_of rs)) → ScriptRun C state (Err Script) r s source source_now sink sink_now
+    overrun : source_now.faults ≡ between.faults → Given source.left (λ bytes. Overruns bytes (lines_of rs))
+        → ScriptRun C state (Err Script) (streaming r source sink) (streaming s source_now sink_now)
     overrun heard overruns = record {
       rs = rs;
       runs = runs_here;
@@ -277,7 +280,7 @@ module _ (C : Type 0) (state : C → CoreState) (laws : ReadsTellScripts) (rs : 
     -- after one line more
     pub record GoneOn : Type 0 where
       pub rs_now : List Replied
-      pub so_far_now : ScriptSoFar C state rs_now after r s source source_now sink sink_now
+      pub so_far_now : ScriptSoFar C state rs_now after (streaming r source sink) (streaming s source_now sink_now)
       pub number_now : number + 1 ≡ number_after (lines_of rs_now)
       pub taken : reader.taken < after.taken
 
@@ -301,58 +304,63 @@ module _ (C : Type 0) (state : C → CoreState) (laws : ReadsTellScripts) (rs : 
 
     off_line : (halt : Result Unit Halt) (e : Ending) → Err e ≡ goes_on number halt → RunsBytes C state after.line halt mid s sink_mid sink_now →
         IsNext next.Line reader after between.left source_now.left → IsPart after.line
-        → source_now.faults ≡ between.faults → ScriptRun C state (Err e) r s source source_now sink sink_now
+        → source_now.faults ≡ between.faults → ScriptRun C state (Err e) (streaming r source sink) (streaming s source_now sink_now)
     off_line (Ok u) e is run is_next part heard = absurd cc
     off_line (Err NoLine) e is run is_next part heard =
         let same : e ≡ Line number = cc in
-        subst (λ (x : Ending). ScriptRun C state (Err x) r s source source_now sink sink_now) (sym same)
+        subst (λ (x : Ending). ScriptRun C state (Err x) (streaming r source sink) (streaming s source_now sink_now)) (sym same)
         (broken run.same run.sink_is number number_is heard
         (laws.no_line source.left between.left source_now.left (lines_of rs) reader after so_far.read is_next part (not_line part run)))
     off_line (Err (Ended ending)) e is run is_next part heard =
         let same : e ≡ ending = cc in
-        subst (λ (x : Ending). ScriptRun C state (Err x) r s source source_now sink sink_now) (sym same) (ends_so (Err ending) run is_next part heard ending refl)
+        subst (λ (x : Ending). ScriptRun C state (Err x) (streaming r source sink) (streaming s source_now sink_now)) (sym same)
+        (ends_so (Err ending) run is_next part heard ending refl)
 
     -- the script goes on
-    goes_on_so : RunsNext C state number (Ok true) reader after mid s between source_now sink_mid sink_now → GoneOn
+    goes_on_so : RunsNext C state number (Ok true) reader after (streaming mid between sink_mid) (streaming s source_now sink_now) → GoneOn
     goes_on_so (inl on) = by_next on.next on.is_next on.runs
       where
-        by_next : (n : NextLine) → IsNext n reader after between.left source_now.left → RunsBy C state n number (Ok true) after.line mid s sink_mid sink_now → GoneOn
+        by_next : (n : NextLine) → IsNext n reader after between.left source_now.left
+            → RunsBy C state n number (Ok true) after.line (streaming mid between sink_mid) (streaming s source_now sink_now) → GoneOn
         by_next next.Line is_next runs = (on_line runs.0 true runs.1.0 runs.1.1 is_next on.part on.heard).1
         by_next next.End is_next runs = absurd (let no : true ≡ false = cc in cc)
         by_next next.Wrong is_next runs = absurd cc
         by_next next.TooMany is_next runs = absurd cc
     goes_on_so (inr none) = let no = none.result_is in absurd cc
 
-    pub went_on : (more : Bool) → more ≡ true → RunsNext C state number (Ok more) reader after mid s between source_now sink_mid sink_now → GoneOn
+    pub went_on : (more : Bool) → more ≡ true → RunsNext C state number (Ok more) reader after (streaming mid between sink_mid) (streaming s source_now sink_now) → GoneOn
     went_on true on next = goes_on_so next
     went_on false on next = absurd cc
 
     -- it has ended
-    goes_out : RunsNext C state number (Ok false) reader after mid s between source_now sink_mid sink_now → ScriptRun C state (Ok tt) r s source source_now sink sink_now
+    goes_out : RunsNext C state number (Ok false) reader after (streaming mid between sink_mid) (streaming s source_now sink_now)
+        → ScriptRun C state (Ok tt) (streaming r source sink) (streaming s source_now sink_now)
     goes_out (inl on) = by_next on.next on.is_next on.runs
       where
-        by_next : (n : NextLine) → IsNext n reader after between.left source_now.left → RunsBy C state n number (Ok false) after.line mid s sink_mid sink_now →
-            ScriptRun C state (Ok tt) r s source source_now sink sink_now
+        by_next : (n : NextLine) → IsNext n reader after between.left source_now.left
+            → RunsBy C state n number (Ok false) after.line (streaming mid between sink_mid) (streaming s source_now sink_now) →
+            ScriptRun C state (Ok tt) (streaming r source sink) (streaming s source_now sink_now)
         by_next next.Line is_next runs = let no : false ≡ true = (on_line runs.0 false runs.1.0 runs.1.1 is_next on.part on.heard).0 in absurd cc
         by_next next.End is_next runs = read_out runs.1.0 runs.1.1 on.heard is_next
         by_next next.Wrong is_next runs = let no = runs.0 in absurd cc
         by_next next.TooMany is_next runs = let no = runs.0 in absurd cc
     goes_out (inr none) = let no = none.result_is in absurd cc
 
-    pub went_out : (more : Bool) → more ≡ false → RunsNext C state number (Ok more) reader after mid s between source_now sink_mid sink_now →
-        ScriptRun C state (Ok tt) r s source source_now sink sink_now
+    pub went_out : (more : Bool) → more ≡ false → RunsNext C state number (Ok more) reader after (streaming mid between sink_mid) (streaming s source_now sink_now) →
+        ScriptRun C state (Ok tt) (streaming r source sink) (streaming s source_now sink_now)
     went_out false out next = goes_out next
     went_out true out next = absurd cc
 
     abbrev Gives : Ending → Type 0
-    Gives x = ScriptRun C state (Err x) r s source source_now sink sink_now
+    Gives x = ScriptRun C state (Err x) (streaming r source sink) (streaming s source_now sink_now)
 
     -- or it was given up
-    gives_up : (e : Ending) → RunsNext C state number (Err e) reader after mid s between source_now sink_mid sink_now →
-        ScriptRun C state (Err e) r s source source_now sink sink_now
+    gives_up : (e : Ending) → RunsNext C state number (Err e) reader after (streaming mid between sink_mid) (streaming s source_now sink_now) →
+        ScriptRun C state (Err e) (streaming r source sink) (streaming s source_now sink_now)
     gives_up e (inl on) = by_next on.next on.is_next on.runs
       where
-        by_next : (n : NextLine) → IsNext n reader after between.left source_now.left → RunsBy C state n number (Err e) after.line mid s sink_mid sink_now → Gives e
+        by_next : (n : NextLine) → IsNext n reader after between.left source_now.left
+            → RunsBy C state n number (Err e) after.line (streaming mid between sink_mid) (streaming s source_now sink_now) → Gives e
         by_next next.Line is_next runs = off_line runs.0 e runs.1.0 runs.1.1 is_next on.part on.heard
         by_next next.End is_next runs = let no = runs.0 in absurd cc
         by_next next.Wrong is_next runs =
@@ -368,13 +376,13 @@ module _ (C : Type 0) (state : C → CoreState) (laws : ReadsTellScripts) (rs : 
     gives_up e (inr none) =
         let is = none.result_is in
         let same : e ≡ Source = cc in
-        subst (λ (x : Ending). ScriptRun C state (Err x) r s source source_now sink sink_now) (sym same)
+        subst (λ (x : Ending). ScriptRun C state (Err x) (streaming r source sink) (streaming s source_now sink_now)) (sym same)
         (unread none.none.0 none.none.1 none.part none.drained none.takes none.rose)
 
-    pub gave_up : (e : Ending) (result : Result Unit Ending) → IsErrAnd result (λ y. y ≡ e) → RunsNext C state number (Err e) reader after mid s between source_now sink_mid
-        sink_now
-        → ScriptRun C state result r s source source_now sink sink_now
-    gave_up e result is next = by_error (λ x. ScriptRun C state x r s source source_now sink sink_now) result e is (gives_up e next)
+    pub gave_up : (e : Ending) (result : Result Unit Ending) → IsErrAnd result (λ y. y ≡ e)
+        → RunsNext C state number (Err e) reader after (streaming mid between sink_mid) (streaming s source_now sink_now)
+        → ScriptRun C state result (streaming r source sink) (streaming s source_now sink_now)
+    gave_up e result is next = by_error (λ x. ScriptRun C state x (streaming r source sink) (streaming s source_now sink_now)) result e is (gives_up e next)
 
     -- it does not go on for longer than a number of lines has room
     pub few_numbers : number ≤ MOST_SCRIPT + 1

@@ -3,6 +3,7 @@ use Rattle.backup_engine.proofs.Prelude.{◌≡◌, inl, inr, ◌<◌, ◌≤◌
 use Rattle.reply_text.specs.declared.ending.Ending.{Ending}
 use Rattle.reply_text.specs.declared.ending.Ending.TheVariants.{Source}
 use Rattle.backup_engine.specs.Storing.{IsHeardAt}
+use Rattle.backup_engine.specs.Seen.{streaming}
 
 -- What a source had to give that was not read: what it had left; where it doesn't tell that, nothing.
 pub given_of : Option (List ℕ) → List ℕ
@@ -52,7 +53,8 @@ module _ (C : Type 0) (state : C → CoreState) (name : List ℕ) (source source
     -- no more was asked
     pub stopped : (ending : Ending) (sink : SinkView) → IsSourceFault source source_now ending → IsHeardAt source source_now ending →
         (ending ≡ Refused TooLong → MOST_FILE < length given) → PutRun C state name given (Err Memory) old new
-        → RunsSingle C state (IsIngest name given (Some ending) source source_now) old new → IngestRun C state name (Err ending) old new source source_now sink sink
+        → RunsSingle C state (IsIngest name given (Some ending) source source_now) old new
+        → IngestRun C state name (Err ending) (streaming old source sink) (streaming new source_now sink)
     stopped ending sink cause heard long ran said = record {
       given = given;
       took = took;
@@ -65,8 +67,8 @@ module _ (C : Type 0) (state : C → CoreState) (name : List ℕ) (source source
     -- a step was refused
     pub not_stored : (refusal : Refusal) (sink : SinkView) → source_now.faults ≡ source.faults → PutRun C state name given (Err refusal) old new →
         IsPutRefusal name given (state old).disk (state new) refusal
-        → RunsSingle C state (IsIngest name given (Some (Refused refusal)) source source_now) old new → IngestRun C state name (Err (Refused refusal)) old new source source_now
-        sink sink
+        → RunsSingle C state (IsIngest name given (Some (Refused refusal)) source source_now) old new
+        → IngestRun C state name (Err (Refused refusal)) (streaming old source sink) (streaming new source_now sink)
     not_stored refusal sink same ran refused said = record {
       given = given;
       took = took;
@@ -80,7 +82,7 @@ module _ (C : Type 0) (state : C → CoreState) (name : List ℕ) (source source
     pub stored : (result : Result Unit Ending) (sink sink_now : SinkView) → Known source.left (λ all. source_now.left ≡ Some []) → source_now.faults ≡ source.faults →
         PutRun C state name given (Ok tt) old new
         → length given ≤ MOST_FILE → HoldsPieces name given (state new) → Sent (stored_line name (root_of given)) result sink sink_now →
-        RunsSingle C state (StoresFile name given) old new → IngestRun C state name result old new source source_now sink sink_now
+        RunsSingle C state (StoresFile name given) old new → IngestRun C state name result (streaming old source sink) (streaming new source_now sink_now)
     stored result sink sink_now out same ran few held sent said = record {
       given = given;
       took = took;

@@ -16,6 +16,8 @@ use Rattle.backup_engine.proofs.Saying.{finish_goes_on, line_after, line_then}
 use Rattle.backup_engine.proofs.SayingSteps.{begin_line, commit_line, commit_refused, committed, sequence_after}
 use Rattle.backup_engine.proofs.SourceRuns.{given_of, given_told, not_stored, nothing_put, stopped, stored, too_long}
 use Rattle.backup_engine.proofs.Ways.{way_begun, way_stops}
+use Rattle.session_turns.specs.Turns.{session_at}
+use Rattle.backup_engine.specs.Seen.{streaming}
 
 -- A session was begun over a core that was just opened: it has nothing yet, and that was the first line.
 pub record Began (C : Type 0) (state : C → CoreState) (start mid : C) (s : SessionState) : Type 0 where
@@ -35,10 +37,10 @@ began C state start mid s actor answer buf first fresh made running begins has =
 module _ (C : Type 0) (state : C → CoreState) (name : List ℕ) (source : SourceView) where
   -- there was no memory to begin
   pub no_memory : (core : C) (sink : SinkView) (result : Result Unit Ending) → IsErrAnd result (λ e. e ≡ Refused Memory) →
-      IngestRun C state name result core core source source sink sink
+      IngestRun C state name result (streaming core source sink) (streaming core source sink)
   no_memory core sink result is =
       let given : List ℕ = given_of source.left in
-      by_error (λ r. IngestRun C state name r core core source source sink sink) result (Refused Memory) is
+      by_error (λ r. IngestRun C state name r (streaming core source sink) (streaming core source sink)) result (Refused Memory) is
       (stopped C state name source source given (given_told source.left) core core (Refused Memory) sink tt refl (λ is. absurd cc)
       (nothing_put C state name source source given core)
       ([], (inl (refl, refl), (idle core, (refl, refl)))))
@@ -49,14 +51,15 @@ module _ (C : Type 0) (state : C → CoreState) (name : List ℕ) (source : Sour
 
     -- this is how it ended
     abbrev Ran : Result Unit Ending → C → SinkView → SinkView → Type 0
-    Ran result last sink sink_now = IngestRun C state name result start last source source_now sink sink_now
+    Ran result last sink sink_now = IngestRun C state name result (streaming start source sink) (streaming last source_now sink_now)
 
     -- a file was begun, and then these lines were run
     begun_then : (P : List Replied → Type 0) (core : C) (more : List Replied) (last : RunnerState C) → P (begun ∷ more) → last.core ≡ core →
         RunsLines C state more (giving mid s) last → RunsSingle C state P start core
     begun_then P core more last right same says = (begun ∷ more, (right, (last, (same, line_then C state begun more (idle start) (giving mid s) last refl begins.line says))))
 
-    stop_lines : (given : List ℕ) (e : Ending) → SaysStop C state e given source source_now s t mid new → RunsSingle C state (IsIngest name given (Some e) source source_now) start
+    stop_lines : (given : List ℕ) (e : Ending) → SaysStop C state e given source source_now (session_at s mid) (session_at t new)
+        → RunsSingle C state (IsIngest name given (Some e) source source_now) start
         new
     stop_lines given Source says = begun_then (IsIngest name given (Some Source) source source_now) new (push_lines 0 says.0) (giving new t) (says.0, (says.1.0, refl)) refl
         says.1.1
@@ -65,7 +68,7 @@ module _ (C : Type 0) (state : C → CoreState) (name : List ℕ) (source : Sour
         begun_then (IsIngest name given (Some (Refused refusal)) source source_now) new so.0 (giving new t) (inr (so.0, (refl, so.1.0))) refl so.1.1
     stop_lines given e says = absurd says
 
-    not_filled : (e : Ending) (sink : SinkView) → Fills C state (SaysEnd C state) (Err e) s t mid new source source_now → Ran (Err e) new sink sink
+    not_filled : (e : Ending) (sink : SinkView) → Fills C state (SaysEnd C state) (Err e) (session_at s mid) (session_at t new) source source_now → Ran (Err e) new sink sink
     not_filled Source sink filled =
         stopped C state name source source_now filled.given filled.took start new Source sink filled.filled.0 tt (λ is. absurd cc) (filled.filled.1 start name fed)
         (stop_lines filled.given Source (filled.spoken start fed))
@@ -82,15 +85,15 @@ module _ (C : Type 0) (state : C → CoreState) (name : List ℕ) (source : Sour
     not_filled e sink filled = absurd filled.filled
 
     pub not_taken : (e : Ending) (sink : SinkView) (result : Result Unit Ending) → IsErrAnd result (λ y. y ≡ e) →
-        Fills C state (SaysEnd C state) (Err e) s t mid new source source_now → Ran result new sink sink
+        Fills C state (SaysEnd C state) (Err e) (session_at s mid) (session_at t new) source source_now → Ran result new sink sink
     not_taken e sink result is filled = by_error (λ r. Ran r new sink sink) result e is (not_filled e sink filled)
 
-    module _ (filled : Fills C state (SaysEnd C state) (Ok tt) s t mid new source source_now) (root : Root) (ready : IsReady root t) where
+    module _ (filled : Fills C state (SaysEnd C state) (Ok tt) (session_at s mid) (session_at t new) source source_now) (root : Root) (ready : IsReady root t) where
       abbrev all_said : SaysAll C state filled.given s t mid new
       all_said = filled.spoken start fed
 
       -- the commit was the last line
-      commit_stops : (refusal : Refusal) (last : C) → RefusesPut C state 0 name refusal all_said.before t all_said.mid last →
+      commit_stops : (refusal : Refusal) (last : C) → RefusesPut C state 0 name refusal (session_at all_said.before all_said.mid) (session_at t last) →
           RunsSingle C state (IsIngest name filled.given (Some (Refused refusal)) source source_now) start last
       commit_stops refusal last refuses =
           let one = refused (lines.Commit 0 name) refusal in

@@ -5,7 +5,7 @@ use Rattle.reply_text.specs.Table.{status_of}
 use Rattle.backup_engine.specs.Line.{Run, Delete}
 use Rattle.backup_engine.specs.Line as table
 use Rattle.backup_engine.specs.Noted.{IsNoted, AreNoted}
-use Rattle.backup_engine.specs.Seen.{Seen}
+use Rattle.backup_engine.specs.Seen.{Seen, devices}
 use Rattle.backup_engine.specs.TopCall.{KeepsLine}
 use Rattle.backup_engine.proofs.NotDone.{not_begun}
 use Rattle.backup_engine.proofs.Opens.{does_without_memory, runs_without_memory}
@@ -53,7 +53,7 @@ words_promise D view line status v source sink notes notes_now none is noted =
 
 -- there was no memory to read the words, whatever command they are
 memory_does : (D : Type 0) (view : D → DiskView) (command : CommandLine) (v : DiskView) (source : SourceView) (sink : SinkView)
-    → (given : List ℕ) × ((rs : List Replied) × Does D view (Some (Single command)) given rs (Some (Refused Memory)) v v source source sink sink)
+    → (given : List ℕ) × ((rs : List Replied) × Does D view (Some (Single command)) given rs (Some (Refused Memory)) (devices v v source source sink sink))
 memory_does D view (Format slots) v source sink = ([], ([], (not_begun (Format slots) [] v source sink (refl, refl), refl)))
 memory_does D view (Ingest name) v source sink =
     let given = given_of source.left in (
@@ -124,15 +124,15 @@ module _ (D : Type 0) (view : D → DiskView) (status : ℕ) (v : DiskView) (sou
 -- what is so of a line is so of what is that line
 pub does_as : (D : Type 0) (view : D → DiskView) (line said : TableLine) → line ≡ said → (given : List ℕ) (rs : List Replied) (ending : Option Ending) (v w : DiskView)
     (source source_now : SourceView) (sink sink_now : SinkView)
-    → Does D view (Some said) given rs ending v w source source_now sink sink_now →
-    (given : List ℕ) × ((rs : List Replied) × Does D view (Some line) given rs ending v w source source_now sink sink_now)
+    → Does D view (Some said) given rs ending (devices v w source source_now sink sink_now) →
+    (given : List ℕ) × ((rs : List Replied) × Does D view (Some line) given rs ending (devices v w source source_now sink sink_now))
 does_as D view line said is given rs ending v w source source_now sink sink_now does =
-    (given, (rs, subst (λ (l : TableLine). Does D view (Some l) given rs ending v w source source_now sink sink_now) (sym is) does))
+    (given, (rs, subst (λ (l : TableLine). Does D view (Some l) given rs ending (devices v w source source_now sink sink_now)) (sym is) does))
 
 -- a line that is no `check`, as it ended
 pub keeps_line : (D : Type 0) (view : D → DiskView) (said : TableLine) (status : ℕ) (ending : Option Ending) (v w : DiskView)
     (source source_now : SourceView) (sink sink_now notes notes_now : SinkView) → status ≡ status_by ending → AreNoted notes notes_now ending
-    → ((given : List ℕ) × ((rs : List Replied) × Does D view (Some said) given rs ending v w source source_now sink sink_now))
+    → ((given : List ℕ) × ((rs : List Replied) × Does D view (Some said) given rs ending (devices v w source source_now sink sink_now)))
     → (ending : Option Ending) × ((given : List ℕ) × ((rs : List Replied)
     × KeepsLine D view (Some said) ending given rs status (saw v w source source_now sink sink_now notes notes_now)))
 keeps_line D view said status ending v w source source_now sink sink_now notes notes_now is noted does =

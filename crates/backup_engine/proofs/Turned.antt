@@ -3,7 +3,7 @@ use Rattle.backup_engine.proofs.Prelude.{◌≡◌, inl, inr, ◌∙◌, ℕ, �
 use Rattle.std.proofs.Common.{if◌then◌else◌, append_assoc, append-nil, length-append}
 use Rattle.refusals.specs.declared.refusal.PartKind.TheVariants.{Finished}
 use Rattle.ingest_session.specs.Calls.{IsPushAnswer}
-use Rattle.session_turns.specs.Turns.{IsPaused, IsRefusedTurn, IsTurn}
+use Rattle.session_turns.specs.Turns.{IsPaused, IsRefusedTurn, IsTurn, session_at}
 use Rattle.session_turns.proofs.TurnRuns.{turns_stay}
 use Rattle.backup_engine.proofs.Feds.{fed_due, fed_ended, fed_pushed, may_be_still}
 use Rattle.backup_engine.proofs.Turning.{asked_on, asked_refused}
@@ -88,7 +88,7 @@ module _ (C : Type 0) (state : C → CoreState) (laws : SessionLaws) (actor : �
   -- ---- bytes
 
   module _ (bytes : List ℕ) (s t : SessionState) (old new : C) (off : s.ended ≡ false) (fed : IsFed C state given s start old) where
-    pub fed_more : Feeds C state actor (Ok tt) bytes s t old new → IsFed C state (given ++ bytes) t start new
+    pub fed_more : Feeds C state actor (Ok tt) bytes (session_at s old) (session_at t new) → IsFed C state (given ++ bytes) t start new
     fed_more feeds =
         let mid = feeds.1 in
         let here = fed_turns feeds.0 s mid old new feeds.2 fed in
@@ -113,7 +113,7 @@ module _ (C : Type 0) (state : C → CoreState) (laws : SessionLaws) (actor : �
           way_stops C state (MayBe given t) (opens_of t) start new here.way name file (may_be_before given bytes s t file on may),
         )
 
-    pub not_fed : (refusal : Refusal) → Feeds C state actor (Err refusal) bytes s t old new → (name file : List ℕ) → MayBe (given ++ bytes) s file →
+    pub not_fed : (refusal : Refusal) → Feeds C state actor (Err refusal) bytes (session_at s old) (session_at t new) → (name file : List ℕ) → MayBe (given ++ bytes) s file →
         Stops C state name file refusal start new
     not_fed refusal feeds name file may = elim feeds [
       | inl stopped ↦ stopped_turns refusal s t old new stopped.0 fed name file (may_be_before given bytes s s file off may)

@@ -11,6 +11,7 @@ use Rattle.backup_engine.specs.Line.{Delete}
 use Rattle.backup_engine.specs.Line as table
 use Rattle.backup_engine.proofs.UnlikeNodes.{found, unlike_so}
 use Rattle.backup_engine.proofs.CollectFaults.{bad_header_so, uncopied_so, unmarked_so}
+use Rattle.backup_engine.specs.Seen.{devices}
 
 module _ (loans loans_now : List ℕ) (v w : DiskView) where
   abbrev v' : DiskView
@@ -146,8 +147,8 @@ module _ (loans loans_now : List ℕ) (v w : DiskView) where
     opens : (refusal : Refusal) → IsOpenRefusal (Shows lent lent_now) v.size refusal → IsOpenRefusal (Shows v w) v.size refusal
     opens = open_refusal (Shows lent lent_now) (Shows v w) on v.size
 
-    ingest_refused : (refusal : Refusal) → IsRefused (Ingest name) given lent lent_now source source_now sink sink_now refusal →
-        IsRefused (Ingest name) given v w source source_now sink sink_now refusal
+    ingest_refused : (refusal : Refusal) → IsRefused (Ingest name) given (devices lent lent_now source source_now sink sink_now) refusal →
+        IsRefused (Ingest name) given (devices v w source source_now sink sink_now) refusal
     ingest_refused DiskRead is = is
     ingest_refused DiskWrite is = is
     ingest_refused refusal (inl is) = inl (opens refusal is.0, is.1)
@@ -163,8 +164,8 @@ module _ (loans loans_now : List ℕ) (v w : DiskView) where
       names = λ old told. let stands = is.names old told in record { known = stands.known; each = stands.each };
     }
 
-    ingest_caused : (ending : Option Ending) → IsCaused (Ingest name) given lent lent_now source source_now sink sink_now ending →
-        IsCaused (Ingest name) given v w source source_now sink sink_now ending
+    ingest_caused : (ending : Option Ending) → IsCaused (Ingest name) given (devices lent lent_now source source_now sink sink_now) ending →
+        IsCaused (Ingest name) given (devices v w source source_now sink sink_now) ending
     ingest_caused None is = ingest_done is
     ingest_caused (Some Source) is = (is.0, added given is.1, is.2)
     ingest_caused (Some Sink) is = (ingest_done is.0, is.1)
@@ -177,8 +178,8 @@ module _ (loans loans_now : List ℕ) (v w : DiskView) where
     ingest_durable (Some Sink) is = is
     ingest_durable (Some ending) is = tt
 
-    restore_refused : (refusal : Refusal) → IsRefused (Restore name) given lent lent_now source source_now sink sink_now refusal →
-        IsRefused (Restore name) given v w source source_now sink sink_now refusal
+    restore_refused : (refusal : Refusal) → IsRefused (Restore name) given (devices lent lent_now source source_now sink sink_now) refusal →
+        IsRefused (Restore name) given (devices v w source source_now sink sink_now) refusal
     restore_refused DiskRead is = is
     restore_refused DiskWrite is = is
     restore_refused refusal (inl is) = inl (opens refusal is)
@@ -186,8 +187,8 @@ module _ (loans loans_now : List ℕ) (v w : DiskView) where
     restore_refused refusal (inr (inr is)) =
         inr (inr (given_back sink sink_now name (Some (Refused refusal)) is.0, stuck sink sink_now name (Some (Refused refusal)) is.0 refusal is.1))
 
-    restore_caused : (ending : Option Ending) → IsCaused (Restore name) given lent lent_now source source_now sink sink_now ending →
-        IsCaused (Restore name) given v w source source_now sink sink_now ending
+    restore_caused : (ending : Option Ending) → IsCaused (Restore name) given (devices lent lent_now source source_now sink sink_now) ending →
+        IsCaused (Restore name) given (devices v w source source_now sink sink_now) ending
     restore_caused None is = is
     restore_caused (Some Source) is = (is.0, added given is.1, is.2)
     restore_caused (Some Sink) is = is
@@ -201,8 +202,8 @@ module _ (loans loans_now : List ℕ) (v w : DiskView) where
     restore_wrote (Some ending) (inl is) = inl is
     restore_wrote (Some ending) (inr is) = inr (given_back sink sink_now name (Some ending) is)
 
-    delete_refused : (refusal : Refusal) → IsRefused (Delete name) given lent lent_now source source_now sink sink_now refusal →
-        IsRefused (Delete name) given v w source source_now sink sink_now refusal
+    delete_refused : (refusal : Refusal) → IsRefused (Delete name) given (devices lent lent_now source source_now sink sink_now) refusal →
+        IsRefused (Delete name) given (devices v w source source_now sink sink_now) refusal
     delete_refused DiskRead is = is
     delete_refused DiskWrite is = is
     delete_refused refusal (inl is) = inl (opens refusal is)
@@ -216,8 +217,8 @@ module _ (loans loans_now : List ℕ) (v w : DiskView) where
       names = λ old told. let stands = is.names old told in record { known = stands.known; each = stands.each };
     }
 
-    delete_caused : (ending : Option Ending) → IsCaused (Delete name) given lent lent_now source source_now sink sink_now ending →
-        IsCaused (Delete name) given v w source source_now sink sink_now ending
+    delete_caused : (ending : Option Ending) → IsCaused (Delete name) given (devices lent lent_now source source_now sink sink_now) ending →
+        IsCaused (Delete name) given (devices v w source source_now sink sink_now) ending
     delete_caused None is = deleted is
     delete_caused (Some Source) is = (is.0, added given is.1, is.2)
     delete_caused (Some Sink) is = (deleted is.0, is.1)
@@ -230,14 +231,14 @@ module _ (loans loans_now : List ℕ) (v w : DiskView) where
     delete_durable (Some Sink) is = is
     delete_durable (Some ending) is = tt
 
-    list_refused : (refusal : Refusal) → IsRefused table.List given lent lent_now source source_now sink sink_now refusal →
-        IsRefused table.List given v w source source_now sink sink_now refusal
+    list_refused : (refusal : Refusal) → IsRefused table.List given (devices lent lent_now source source_now sink sink_now) refusal →
+        IsRefused table.List given (devices v w source source_now sink sink_now) refusal
     list_refused DiskRead is = is
     list_refused DiskWrite is = is
     list_refused refusal is = opens refusal is
 
-    list_caused : (ending : Option Ending) → IsCaused table.List given lent lent_now source source_now sink sink_now ending →
-        IsCaused table.List given v w source source_now sink sink_now ending
+    list_caused : (ending : Option Ending) → IsCaused table.List given (devices lent lent_now source source_now sink sink_now) ending →
+        IsCaused table.List given (devices v w source source_now sink sink_now) ending
     list_caused None is = is
     list_caused (Some Source) is = (is.0, added given is.1, is.2)
     list_caused (Some Sink) is = is
@@ -276,15 +277,15 @@ module _ (loans loans_now : List ℕ) (v w : DiskView) where
     uncollected is refusal (inr (inr (inr (inl unwritten)))) = inr (inr (inr (inl (unwritten.0, unwritten.1, names_so is.store unwritten.2))))
     uncollected is refusal (inr (inr (inr (inr none)))) = inr (inr (inr (inr none)))
 
-    collect_refused : (percent : ℕ) (refusal : Refusal) → IsRefused (Collect percent) given lent lent_now source source_now sink sink_now refusal →
-        IsRefused (Collect percent) given v w source source_now sink sink_now refusal
+    collect_refused : (percent : ℕ) (refusal : Refusal) → IsRefused (Collect percent) given (devices lent lent_now source source_now sink sink_now) refusal →
+        IsRefused (Collect percent) given (devices v w source source_now sink sink_now) refusal
     collect_refused percent DiskRead is = is
     collect_refused percent DiskWrite is = is
     collect_refused percent refusal (inl is) = inl (opens refusal is)
     collect_refused percent refusal (inr is) = inr (holds is.0, uncollected is.0 refusal is.1)
 
-    collect_caused : (percent : ℕ) (ending : Option Ending) → IsCaused (Collect percent) given lent lent_now source source_now sink sink_now ending →
-        IsCaused (Collect percent) given v w source source_now sink sink_now ending
+    collect_caused : (percent : ℕ) (ending : Option Ending) → IsCaused (Collect percent) given (devices lent lent_now source source_now sink sink_now) ending →
+        IsCaused (Collect percent) given (devices v w source source_now sink sink_now) ending
     collect_caused percent None is = is
     collect_caused percent (Some Source) is = (is.0, added given is.1, is.2)
     collect_caused percent (Some Sink) is = is
@@ -310,8 +311,8 @@ module _ (loans loans_now : List ℕ) (v w : DiskView) where
     frame_kept : (command : CommandLine) (ending : Option Ending) → KeepsOthers command ending lent lent_now → KeepsOthers command ending v w
     frame_kept command ending is = record { content = is.content; crash = λ old told. let leaves = is.crash old told in record { now = leaves.now; since = leaves.since } }
 
-    pub ingest_kept : (ending : Option Ending) → Keeps (Ingest name) given ending lent lent_now source source_now sink sink_now →
-        Keeps (Ingest name) given ending v w source source_now sink sink_now
+    pub ingest_kept : (ending : Option Ending) → Keeps (Ingest name) given ending (devices lent lent_now source source_now sink sink_now) →
+        Keeps (Ingest name) given ending (devices v w source source_now sink sink_now)
     ingest_kept ending is = record {
       any = record {
         took = is.any.took;
@@ -328,8 +329,8 @@ module _ (loans loans_now : List ℕ) (v w : DiskView) where
       untouched = is.untouched;
     }
 
-    pub restore_kept : (ending : Option Ending) → Keeps (Restore name) given ending lent lent_now source source_now sink sink_now →
-        Keeps (Restore name) given ending v w source source_now sink sink_now
+    pub restore_kept : (ending : Option Ending) → Keeps (Restore name) given ending (devices lent lent_now source source_now sink sink_now) →
+        Keeps (Restore name) given ending (devices v w source source_now sink sink_now)
     restore_kept ending is = record {
       any = record {
         took = is.any.took;
@@ -346,8 +347,8 @@ module _ (loans loans_now : List ℕ) (v w : DiskView) where
       untouched = is.untouched;
     }
 
-    pub delete_kept : (ending : Option Ending) → Keeps (Delete name) given ending lent lent_now source source_now sink sink_now →
-        Keeps (Delete name) given ending v w source source_now sink sink_now
+    pub delete_kept : (ending : Option Ending) → Keeps (Delete name) given ending (devices lent lent_now source source_now sink sink_now) →
+        Keeps (Delete name) given ending (devices v w source source_now sink sink_now)
     delete_kept ending is = record {
       any = record {
         took = is.any.took;
@@ -364,8 +365,8 @@ module _ (loans loans_now : List ℕ) (v w : DiskView) where
       untouched = is.untouched;
     }
 
-    pub list_kept : (ending : Option Ending) → Keeps table.List given ending lent lent_now source source_now sink sink_now →
-        Keeps table.List given ending v w source source_now sink sink_now
+    pub list_kept : (ending : Option Ending) → Keeps table.List given ending (devices lent lent_now source source_now sink sink_now) →
+        Keeps table.List given ending (devices v w source source_now sink sink_now)
     list_kept ending is = record {
       any = record {
         took = is.any.took;
@@ -382,8 +383,8 @@ module _ (loans loans_now : List ℕ) (v w : DiskView) where
       untouched = is.untouched;
     }
 
-    pub collect_kept : (percent : ℕ) (ending : Option Ending) → Keeps (Collect percent) given ending lent lent_now source source_now sink sink_now →
-        Keeps (Collect percent) given ending v w source source_now sink sink_now
+    pub collect_kept : (percent : ℕ) (ending : Option Ending) → Keeps (Collect percent) given ending (devices lent lent_now source source_now sink sink_now) →
+        Keeps (Collect percent) given ending (devices v w source source_now sink sink_now)
     collect_kept percent ending is = record {
       any = record {
         took = is.any.took;

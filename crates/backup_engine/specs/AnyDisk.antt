@@ -64,6 +64,7 @@ use Rattle.backup_engine.specs.Line.{CommandLine, Format, Ingest, Restore, Delet
 use Rattle.backup_engine.specs.Line as table
 use Rattle.backup_engine.specs.Causes.{HasNumbers, Room, room, RefusesIngest, RefusesRestore, RefusesDelete, MayDelete, HasAll}
 use Rattle.backup_engine.specs.Promise.{WroteReply}
+use Rattle.backup_engine.specs.Seen.{Devices}
 
 -- ---- what reads showed
 
@@ -255,34 +256,34 @@ IsUncollected {disk} {disk_now} holds refusal =
 -- ---- causes
 
 -- Why a command is refused. A call of the disk that failed is told by its count of faults.
-abbrev pub IsRefused : CommandLine → List ℕ → DiskView → DiskView → SourceView → SourceView → SinkView → SinkView → Refusal → Type 0
-IsRefused (Format slots) given disk disk_now source source_now sink sink_now refusal =
-    IsFormatRefusal (Shows disk disk_now) disk.size slots refusal
-IsRefused (Ingest name) given disk disk_now source source_now sink sink_now DiskRead = Unit {0}
-IsRefused (Ingest name) given disk disk_now source source_now sink sink_now DiskWrite = Unit {0}
-IsRefused (Ingest name) given disk disk_now source source_now sink sink_now refusal =
-    (IsOpenRefusal (Shows disk disk_now) disk.size refusal × (source_now.left ≡ source.left))
-    ⊎ ((added : HasAdded given disk disk_now)
+abbrev pub IsRefused : CommandLine → List ℕ → Devices → Refusal → Type 0
+IsRefused (Format slots) given saw refusal = IsFormatRefusal (Shows saw.disk saw.disk_now) saw.disk.size slots refusal
+IsRefused (Ingest name) given saw DiskRead = Unit {0}
+IsRefused (Ingest name) given saw DiskWrite = Unit {0}
+IsRefused (Ingest name) given saw refusal =
+    (IsOpenRefusal (Shows saw.disk saw.disk_now) saw.disk.size refusal × (saw.source_now.left ≡ saw.source.left))
+    ⊎ ((added : HasAdded given saw.disk saw.disk_now)
     × (RefusesIngest name given (room_in (Ingest name) added.after) refusal
-    ⊎ IsUnlikeNode given added.after (ReadsSince disk disk_now) refusal))
-IsRefused (Restore name) given disk disk_now source source_now sink sink_now DiskRead = Unit {0}
-IsRefused (Restore name) given disk disk_now source source_now sink sink_now DiskWrite = Unit {0}
-IsRefused (Restore name) given disk disk_now source source_now sink sink_now refusal =
-    IsOpenRefusal (Shows disk disk_now) disk.size refusal
-    ⊎ ((holds : Holds disk disk_now) × RefusesRestore name (room_in (Restore name) holds.store) refusal)
-    ⊎ ((given : GivesBack name (Some (Refused refusal)) disk disk_now sink sink_now) × IsStuck given refusal)
-IsRefused (Delete name) given disk disk_now source source_now sink sink_now DiskRead = Unit {0}
-IsRefused (Delete name) given disk disk_now source source_now sink sink_now DiskWrite = Unit {0}
-IsRefused (Delete name) given disk disk_now source source_now sink sink_now refusal =
-    IsOpenRefusal (Shows disk disk_now) disk.size refusal
-    ⊎ ((holds : Holds disk disk_now) × RefusesDelete name (room_in (Delete name) holds.store) refusal)
-IsRefused table.List given disk disk_now source source_now sink sink_now DiskRead = Unit {0}
-IsRefused table.List given disk disk_now source source_now sink sink_now DiskWrite = Unit {0}
-IsRefused table.List given disk disk_now source source_now sink sink_now refusal = IsOpenRefusal (Shows disk disk_now) disk.size refusal
-IsRefused (Collect percent) given disk disk_now source source_now sink sink_now DiskRead = Unit {0}
-IsRefused (Collect percent) given disk disk_now source source_now sink sink_now DiskWrite = Unit {0}
-IsRefused (Collect percent) given disk disk_now source source_now sink sink_now refusal =
-    IsOpenRefusal (Shows disk disk_now) disk.size refusal ⊎ ((holds : Holds disk disk_now) × IsUncollected holds refusal)
+    ⊎ IsUnlikeNode given added.after (ReadsSince saw.disk saw.disk_now) refusal))
+IsRefused (Restore name) given saw DiskRead = Unit {0}
+IsRefused (Restore name) given saw DiskWrite = Unit {0}
+IsRefused (Restore name) given saw refusal =
+    IsOpenRefusal (Shows saw.disk saw.disk_now) saw.disk.size refusal
+    ⊎ ((holds : Holds saw.disk saw.disk_now) × RefusesRestore name (room_in (Restore name) holds.store) refusal)
+    ⊎ ((given : GivesBack name (Some (Refused refusal)) saw.disk saw.disk_now saw.sink saw.sink_now) × IsStuck given refusal)
+IsRefused (Delete name) given saw DiskRead = Unit {0}
+IsRefused (Delete name) given saw DiskWrite = Unit {0}
+IsRefused (Delete name) given saw refusal =
+    IsOpenRefusal (Shows saw.disk saw.disk_now) saw.disk.size refusal
+    ⊎ ((holds : Holds saw.disk saw.disk_now) × RefusesDelete name (room_in (Delete name) holds.store) refusal)
+IsRefused table.List given saw DiskRead = Unit {0}
+IsRefused table.List given saw DiskWrite = Unit {0}
+IsRefused table.List given saw refusal = IsOpenRefusal (Shows saw.disk saw.disk_now) saw.disk.size refusal
+IsRefused (Collect percent) given saw DiskRead = Unit {0}
+IsRefused (Collect percent) given saw DiskWrite = Unit {0}
+IsRefused (Collect percent) given saw refusal =
+    IsOpenRefusal (Shows saw.disk saw.disk_now) saw.disk.size refusal
+    ⊎ ((holds : Holds saw.disk saw.disk_now) × IsUncollected holds refusal)
 
 -- An `ingest` that was done: each piece of the file is held, the name has room, and its record had its numbers. The journal of a disk
 -- that tells its content is now that with the name, whatever its containers hold.
@@ -309,18 +310,16 @@ IsDone (Delete name) given disk disk_now = IsDeleted name disk disk_now
 IsDone table.List given disk disk_now = Unit {0}
 IsDone (Collect percent) given disk disk_now = Unit {0}
 
-abbrev pub IsCaused : CommandLine → List ℕ → DiskView → DiskView → SourceView → SourceView → SinkView → SinkView → Option Ending → Type 0
-IsCaused command given disk disk_now source source_now sink sink_now None = IsDone command given disk disk_now
-IsCaused command given disk disk_now source source_now sink sink_now (Some Words) = ⊥
-IsCaused command given disk disk_now source source_now sink sink_now (Some (Line number)) = ⊥
-IsCaused command given disk disk_now source source_now sink sink_now (Some Script) = ⊥
-IsCaused command given disk disk_now source source_now sink sink_now (Some Source) =
-    ((name : List ℕ) × (command ≡ Ingest name)) × HasAdded given disk disk_now × Rose source.faults source_now.faults
-IsCaused command given disk disk_now source source_now sink sink_now (Some Sink) =
-    IsDone command given disk disk_now × Rose sink.faults sink_now.faults
-IsCaused command given disk disk_now source source_now sink sink_now (Some (Refused Memory)) = Unit {0}
-IsCaused command given disk disk_now source source_now sink sink_now (Some (Refused refusal)) =
-    IsRefused command given disk disk_now source source_now sink sink_now refusal
+abbrev pub IsCaused : CommandLine → List ℕ → Devices → Option Ending → Type 0
+IsCaused command given saw None = IsDone command given saw.disk saw.disk_now
+IsCaused command given saw (Some Words) = ⊥
+IsCaused command given saw (Some (Line number)) = ⊥
+IsCaused command given saw (Some Script) = ⊥
+IsCaused command given saw (Some Source) =
+    ((name : List ℕ) × (command ≡ Ingest name)) × HasAdded given saw.disk saw.disk_now × Rose saw.source.faults saw.source_now.faults
+IsCaused command given saw (Some Sink) = IsDone command given saw.disk saw.disk_now × Rose saw.sink.faults saw.sink_now.faults
+IsCaused command given saw (Some (Refused Memory)) = Unit {0}
+IsCaused command given saw (Some (Refused refusal)) = IsRefused command given saw refusal
 
 -- ---- what was written, and taken
 
@@ -389,13 +388,12 @@ EndsDurable command (Some Sink) disk_now = IsDurable disk_now
 EndsDurable command (Some ending) disk_now = Unit {0}
 
 -- Each ending has its cause; the disk's count of faults rose where a call of it is blamed, and else is as it was.
-pub record OnAnyDisk (command : CommandLine) (given : List ℕ) (ending : Option Ending) (disk disk_now : DiskView)
-    (source source_now : SourceView) (sink sink_now : SinkView) : Type 0 where
-  pub took : Took command given ending source source_now
-  pub caused : IsCaused command given disk disk_now source source_now sink sink_now ending
-  pub wrote : WroteOnAny command given ending disk disk_now sink sink_now
-  pub faults_are : CountsFault (disk_ending ending) disk.faults disk_now.faults
-  pub durable : EndsDurable command ending disk_now
+pub record OnAnyDisk (command : CommandLine) (given : List ℕ) (ending : Option Ending) (saw : Devices) : Type 0 where
+  pub took : Took command given ending saw.source saw.source_now
+  pub caused : IsCaused command given saw ending
+  pub wrote : WroteOnAny command given ending saw.disk saw.disk_now saw.sink saw.sink_now
+  pub faults_are : CountsFault (disk_ending ending) saw.disk.faults saw.disk_now.faults
+  pub durable : EndsDurable command ending saw.disk_now
   -- no fault of a source or a sink is passed over
-  pub source_faults : ¬ (ending ≡ Some Source) → source_now.faults ≡ source.faults
-  pub sink_faults : ¬ (ending ≡ Some Sink) → sink_now.faults ≡ sink.faults
+  pub source_faults : ¬ (ending ≡ Some Source) → saw.source_now.faults ≡ saw.source.faults
+  pub sink_faults : ¬ (ending ≡ Some Sink) → saw.sink_now.faults ≡ saw.sink.faults

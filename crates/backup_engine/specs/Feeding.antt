@@ -21,6 +21,7 @@ use Rattle.ingest_session.specs.State.{SessionState}
 use Rattle.backup_engine.specs.Putting.{Way}
 use Rattle.backup_engine.specs.Running.{PutRun, HoldsPieces, IsOneOf, IsPutRefusal}
 use Rattle.backup_engine.specs.Storing.{IsHeard, IsSourceFault}
+use Rattle.session_turns.specs.Turns.{SessionMoment}
 
 -- what is so of every session: what feeding one rests on
 pub record SessionLaws : Type 0 where
@@ -66,28 +67,27 @@ pub record IsAllFed (C : Type 0) (state : C → CoreState) (given : List ℕ) (s
   pub done : due_in s ≡ Nothing
 
 -- How reading a source to its end went: a session was fed what it gave; or no more was asked of the core.
-abbrev pub FilledBy : (C : Type 0) → (C → CoreState) → Result Unit Ending → List ℕ → SessionState → SessionState → C → C → SourceView →
-    SourceView
-    → Type 0
-FilledBy C state (Ok u) given s t old new source source_now =
+abbrev pub FilledBy : (C : Type 0) → (C → CoreState) → Result Unit Ending → List ℕ → SessionMoment C → SessionMoment C → SourceView
+    → SourceView → Type 0
+FilledBy C state (Ok u) given old new source source_now =
     Known source.left (λ all. source_now.left ≡ Some [])
-    × ((start : C) → IsFed C state [] s start old → IsFed C state given t start new)
-FilledBy C state (Err Source) given s t old new source source_now =
+    × ((start : C) → IsFed C state [] old.session start old.core → IsFed C state given new.session start new.core)
+FilledBy C state (Err Source) given old new source source_now =
     IsSourceFault source source_now Source
-    × ((start : C) (name : List ℕ) → IsFed C state [] s start old → PutRun C state name given (Err Memory) start new)
-FilledBy C state (Err (Refused refusal)) given s t old new source source_now =
-    (start : C) (name : List ℕ) → IsFed C state [] s start old → Stops C state name given refusal start new
-FilledBy C state (Err ending) given s t old new source source_now = ⊥
+    × ((start : C) (name : List ℕ) → IsFed C state [] old.session start old.core → PutRun C state name given (Err Memory) start new.core)
+FilledBy C state (Err (Refused refusal)) given old new source source_now =
+    (start : C) (name : List ℕ) → IsFed C state [] old.session start old.core → Stops C state name given refusal start new.core
+FilledBy C state (Err ending) given old new source source_now = ⊥
 
--- Spoken is what was so of it as lines of a script: of the ending, of what was given, of the source, of the session and of the core.
+-- Spoken is what was so of it as lines of a script: of the ending, of what was given, of the source, and of the session and the core.
 pub record Fills (C : Type 0) (state : C → CoreState)
-    (Spoken : Result Unit Ending → List ℕ → SourceView → SourceView → SessionState → SessionState → C → C → Type 0)
-    (result : Result Unit Ending) (s t : SessionState) (old new : C) (source source_now : SourceView) : Type 0 where
+    (Spoken : Result Unit Ending → List ℕ → SourceView → SourceView → SessionMoment C → SessionMoment C → Type 0)
+    (result : Result Unit Ending) (old new : SessionMoment C) (source source_now : SourceView) : Type 0 where
   pub given : List ℕ
   pub took : Known source.left (λ all. given ≡ all)
   pub heard : IsHeard result source source_now
-  pub filled : FilledBy C state result given s t old new source source_now
-  pub spoken : (start : C) → IsFed C state [] s start old → Spoken result given source source_now s t old new
+  pub filled : FilledBy C state result given old new source source_now
+  pub spoken : (start : C) → IsFed C state [] old.session start old.core → Spoken result given source source_now old new
 
 -- the name is given the root
 pub record IsPut (C : Type 0) (state : C → CoreState) (name given : List ℕ) (result : Result Unit Refusal) (start new : C) : Type 0 where

@@ -12,17 +12,15 @@ use Rattle.reply_text.specs.Text.{listing_text}
 use Rattle.script_runner.specs.Acts.{DoesStep, Lists, RefusesStep}
 use Rattle.script_runner.specs.Runner.{Sent}
 use Rattle.store_core.specs.State.{CoreState}
-use Rattle.backup_engine.specs.Storing.{Replies}
 
 -- the name was asked to be deleted
 abbrev pub AsksDelete : (C : Type 0) → (C → CoreState) → List ℕ → Result Unit Refusal → C → C → Type 0
 AsksDelete C state name (Ok u) old new = (answer : Answer) × DoesStep 0 (asked.Delete name) answer (state old) (state new)
 AsksDelete C state name (Err refusal) old new = RefusesStep 0 (asked.Delete name) refusal (state old) (state new)
 
--- The name was deleted, and replied to; or not.
-abbrev pub DeleteRun : (C : Type 0) → (C → CoreState) → List ℕ → List ℕ → Result Unit Ending → C → C → SinkView → SinkView → Type 0
-DeleteRun C state name reply result old new sink sink_now =
-    (deleted : Result Unit Refusal) × (AsksDelete C state name deleted old new × Replies reply deleted result sink sink_now)
+-- The name was deleted, or not, and it was replied to that so.
+abbrev pub DeleteRun : (C : Type 0) → (C → CoreState) → List ℕ → (Result Unit Refusal → Type 0) → C → C → Type 0
+DeleteRun C state name Replied old new = (deleted : Result Unit Refusal) × (AsksDelete C state name deleted old new × Replied deleted)
 
 -- what was listed is written, or there was no memory for it; or nothing was listed
 abbrev pub WritesNames : Result (List NamedRoot) Refusal → Result Unit Ending → SinkView → SinkView → Type 0

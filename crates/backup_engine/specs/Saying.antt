@@ -14,7 +14,7 @@ use Rattle.script_runner.specs.Acts.{DoesStep, RefusesStep, RunnerState}
 use Rattle.script_runner.specs.Runner.{runner_of}
 use Rattle.script_runner.specs.Scripts.{RunsLines}
 use Rattle.script_runner.specs.Sessions.{Sessions, with_session}
-use Rattle.session_turns.specs.Turns.{TurnRun}
+use Rattle.session_turns.specs.Turns.{SessionMoment, TurnRun}
 use Rattle.store_core.specs.State.{CoreState}
 use Rattle.backup_engine.specs.Singles.{Digits, GaveFirst, StopsAt, finish_lines, push_lines, pushed}
 
@@ -41,23 +41,25 @@ abbrev pub Says : (C : Type 0) → (C → CoreState) → List Replied → Sessio
 Says C state rs s t old new = RunsLines C state rs (giving old s) (giving new t)
 
 -- the source failed, after pushes of all that it gave, or a line was refused
-abbrev pub SaysStop : (C : Type 0) → (C → CoreState) → Ending → List ℕ → SourceView → SourceView → SessionState → SessionState → C → C
+abbrev pub SaysStop : (C : Type 0) → (C → CoreState) → Ending → List ℕ → SourceView → SourceView → SessionMoment C → SessionMoment C
     → Type 0
-SaysStop C state Source given source source_now s t old new =
-    (pushes : List Digits) × (GaveFirst (pushed pushes) given source source_now × Says C state (push_lines 0 pushes) s t old new)
-SaysStop C state (Refused refusal) given source source_now s t old new =
-    (name : List ℕ) → (rs : List Replied) × (StopsAt name given source source_now refusal rs × Says C state rs s t old new)
-SaysStop C state ending given source source_now s t old new = ⊥
+SaysStop C state Source given source source_now old new =
+    (pushes : List Digits) × (GaveFirst (pushed pushes) given source source_now
+    × Says C state (push_lines 0 pushes) old.session new.session old.core new.core)
+SaysStop C state (Refused refusal) given source source_now old new =
+    (name : List ℕ) → (rs : List Replied) × (StopsAt name given source source_now refusal rs
+    × Says C state rs old.session new.session old.core new.core)
+SaysStop C state ending given source source_now old new = ⊥
 
 -- the pushes of all of these bytes
 abbrev pub SaysPushed : (C : Type 0) → (C → CoreState) → List ℕ → SessionState → SessionState → C → C → Type 0
 SaysPushed C state given s t old new =
     (pushes : List Digits) × ((pushed pushes ≡ given) × Says C state (push_lines 0 pushes) s t old new)
 
-abbrev pub SaysPushes : (C : Type 0) → (C → CoreState) → Result Unit Ending → List ℕ → SourceView → SourceView → SessionState
-    → SessionState → C → C → Type 0
-SaysPushes C state (Ok u) given source source_now s t old new = SaysPushed C state given s t old new
-SaysPushes C state (Err ending) given source source_now s t old new = SaysStop C state ending given source source_now s t old new
+abbrev pub SaysPushes : (C : Type 0) → (C → CoreState) → Result Unit Ending → List ℕ → SourceView → SourceView → SessionMoment C
+    → SessionMoment C → Type 0
+SaysPushes C state (Ok u) given source source_now old new = SaysPushed C state given old.session new.session old.core new.core
+SaysPushes C state (Err ending) given source source_now old new = SaysStop C state ending given source source_now old new
 
 -- The file ended, and all turns that were due were made: these belong to the commit that is to come.
 pub record SaysAll (C : Type 0) (state : C → CoreState) (given : List ℕ) (s t : SessionState) (old new : C) : Type 0 where
@@ -71,10 +73,10 @@ pub record SaysAll (C : Type 0) (state : C → CoreState) (given : List ℕ) (s 
   pub answers_are : List Answer
   pub turns : TurnRun C state 0 answers_are before t mid new
 
-abbrev pub SaysEnd : (C : Type 0) → (C → CoreState) → Result Unit Ending → List ℕ → SourceView → SourceView → SessionState → SessionState
-    → C → C → Type 0
-SaysEnd C state (Ok u) given source source_now s t old new = SaysAll C state given s t old new
-SaysEnd C state (Err ending) given source source_now s t old new = SaysStop C state ending given source source_now s t old new
+abbrev pub SaysEnd : (C : Type 0) → (C → CoreState) → Result Unit Ending → List ℕ → SourceView → SourceView → SessionMoment C
+    → SessionMoment C → Type 0
+SaysEnd C state (Ok u) given source source_now old new = SaysAll C state given old.session new.session old.core new.core
+SaysEnd C state (Err ending) given source source_now old new = SaysStop C state ending given source source_now old new
 
 -- the name was asked to be put
 abbrev pub AsksPut : (C : Type 0) → (C → CoreState) → List ℕ → Root → Result Unit Refusal → C → C → Type 0

@@ -23,6 +23,7 @@ use Rattle.backup_engine.specs.Collected.{collected_line}
 use Rattle.backup_engine.specs.Line.{CommandLine, Format, Ingest, Restore, Delete, Collect}
 use Rattle.backup_engine.specs.Line as table
 use Rattle.backup_engine.specs.Promise.{WroteReply}
+use Rattle.backup_engine.specs.Seen.{Devices}
 
 -- a line, and what it replied
 abbrev pub said : LineValue → ReplyValue → Replied
@@ -193,16 +194,15 @@ abbrev pub Speaks : (List Replied → Type 0) → Option Ending → List Replied
 Speaks AreSo ending rs disk disk_now sink sink_now = AreSo rs ⊎ OpensNone ending rs disk disk_now sink sink_now
 
 -- A `format` has no lines, and nothing is said of it here.
-abbrev pub SpeaksAs : CommandLine → List ℕ → Option Ending → List Replied → DiskView → DiskView → SourceView → SourceView → SinkView
-    → SinkView → Type 0
-SpeaksAs (Format slots) given ending rs disk disk_now source source_now sink sink_now = rs ≡ []
-SpeaksAs (Ingest name) given ending rs disk disk_now source source_now sink sink_now =
-    Speaks (IsIngest name given ending source source_now) ending rs disk disk_now sink sink_now
-SpeaksAs (Restore name) given ending rs disk disk_now source source_now sink sink_now =
-    Speaks (IsRestore name ending sink sink_now) ending rs disk disk_now sink sink_now
-SpeaksAs (Delete name) given ending rs disk disk_now source source_now sink sink_now =
-    Speaks (IsDelete name ending sink sink_now) ending rs disk disk_now sink sink_now
-SpeaksAs table.List given ending rs disk disk_now source source_now sink sink_now =
-    Speaks (IsListing ending sink sink_now) ending rs disk disk_now sink sink_now
-SpeaksAs (Collect percent) given ending rs disk disk_now source source_now sink sink_now =
-    Speaks (IsCollect percent ending sink sink_now) ending rs disk disk_now sink sink_now
+abbrev pub SpeaksAs : CommandLine → List ℕ → Option Ending → List Replied → Devices → Type 0
+SpeaksAs (Format slots) given ending rs saw = rs ≡ []
+SpeaksAs (Ingest name) given ending rs saw =
+    Speaks (IsIngest name given ending saw.source saw.source_now) ending rs saw.disk saw.disk_now saw.sink saw.sink_now
+SpeaksAs (Restore name) given ending rs saw =
+    Speaks (IsRestore name ending saw.sink saw.sink_now) ending rs saw.disk saw.disk_now saw.sink saw.sink_now
+SpeaksAs (Delete name) given ending rs saw =
+    Speaks (IsDelete name ending saw.sink saw.sink_now) ending rs saw.disk saw.disk_now saw.sink saw.sink_now
+SpeaksAs table.List given ending rs saw =
+    Speaks (IsListing ending saw.sink saw.sink_now) ending rs saw.disk saw.disk_now saw.sink saw.sink_now
+SpeaksAs (Collect percent) given ending rs saw =
+    Speaks (IsCollect percent ending saw.sink saw.sink_now) ending rs saw.disk saw.disk_now saw.sink saw.sink_now

@@ -15,6 +15,7 @@ use Rattle.store_core.specs.State.{CoreState}
 use Rattle.backup_engine.specs.Running.{PutRun, HoldsPieces, IsPutRefusal}
 use Rattle.backup_engine.specs.Saying.{RunsSingle}
 use Rattle.backup_engine.specs.Singles.{IsIngest}
+use Rattle.backup_engine.specs.Seen.{Streaming}
 use Rattle.backup_engine.specs.TopCall.{ending_in}
 
 -- ---- the source
@@ -49,32 +50,31 @@ Replies reply (Err refusal) result sink sink_now = (result ≡ Err (Refused refu
 -- ---- both
 
 -- No more was asked of the core: the source failed, or had too much, or there was no memory. So it is as where there was none.
-pub record IsStopped (C : Type 0) (state : C → CoreState) (name given : List ℕ) (result : Result Unit Ending) (old new : C)
-    (source source_now : SourceView) (sink sink_now : SinkView) : Type 0 where
+pub record IsStopped (C : Type 0) (state : C → CoreState) (name given : List ℕ) (result : Result Unit Ending) (old new : Streaming C)
+    : Type 0 where
   pub ending : Ending
   pub result_is : result ≡ Err ending
-  pub cause : IsSourceFault source source_now ending
+  pub cause : IsSourceFault old.source new.source ending
   pub long : ending ≡ Refused TooLong → MOST_FILE < length given
-  pub ran : PutRun C state name given (Err Memory) old new
-  pub sink_is : sink_now ≡ sink
+  pub ran : PutRun C state name given (Err Memory) old.runner new.runner
+  pub sink_is : new.sink ≡ old.sink
 
 -- the file was put in, or refused by a step
-pub record IsTaken (C : Type 0) (state : C → CoreState) (name given : List ℕ) (result : Result Unit Ending) (old new : C)
-    (sink sink_now : SinkView) : Type 0 where
+pub record IsTaken (C : Type 0) (state : C → CoreState) (name given : List ℕ) (result : Result Unit Ending) (old new : Streaming C)
+    : Type 0 where
   pub put : Result Unit Refusal
-  pub ran : PutRun C state name given put old new
+  pub ran : PutRun C state name given put old.runner new.runner
   pub few : OnOk put (length given ≤ MOST_FILE)
-  pub held : OnOk put (HoldsPieces name given (state new))
-  pub refused : IfErr put (IsPutRefusal name given (state old).disk (state new))
-  pub replies : Replies (stored_line name (root_of given)) put result sink sink_now
+  pub held : OnOk put (HoldsPieces name given (state new.runner))
+  pub refused : IfErr put (IsPutRefusal name given (state old.runner).disk (state new.runner))
+  pub replies : Replies (stored_line name (root_of given)) put result old.sink new.sink
 
 -- What the source gave was stored under the name, or not.
-pub record IngestRun (C : Type 0) (state : C → CoreState) (name : List ℕ) (result : Result Unit Ending) (old new : C)
-    (source source_now : SourceView) (sink sink_now : SinkView) : Type 0 where
+pub record IngestRun (C : Type 0) (state : C → CoreState) (name : List ℕ) (result : Result Unit Ending) (old new : Streaming C)
+    : Type 0 where
   pub given : List ℕ
-  pub took : Known source.left (λ all. given ≡ all)
-  pub to_end : IsReadOut result source.left source_now.left
-  pub heard : IsHeard result source source_now
-  pub lines_are : RunsSingle C state (IsIngest name given (ending_in result) source source_now) old new
-  pub way : IsStopped C state name given result old new source source_now sink sink_now
-      ⊎ IsTaken C state name given result old new sink sink_now
+  pub took : Known old.source.left (λ all. given ≡ all)
+  pub to_end : IsReadOut result old.source.left new.source.left
+  pub heard : IsHeard result old.source new.source
+  pub lines_are : RunsSingle C state (IsIngest name given (ending_in result) old.source new.source) old.runner new.runner
+  pub way : IsStopped C state name given result old new ⊎ IsTaken C state name given result old new

@@ -20,7 +20,7 @@ use Rattle.backup_engine.specs.Line.{CommandLine, Format, TableLine, Single, Run
 use Rattle.backup_engine.specs.Noted.{AreNoted, status_by}
 use Rattle.backup_engine.specs.Promise.{SinceStart}
 use Rattle.backup_engine.specs.Script.{KeepsScript}
-use Rattle.backup_engine.specs.Seen.{Seen}
+use Rattle.backup_engine.specs.Seen.{Devices, Seen, devices}
 use Rattle.backup_engine.specs.Singles.{SpeaksAs}
 
 abbrev pub ending_in : Result Unit Ending → Option Ending
@@ -45,16 +45,15 @@ IsUntouched command ending disk disk_now = Unit {0}
 
 -- ---- all of it, from the disk on as it was once there was room
 
-pub record Keeps (command : CommandLine) (given : List ℕ) (ending : Option Ending) (disk disk_now : DiskView)
-    (source source_now : SourceView) (sink sink_now : SinkView) : Type 0 where
+pub record Keeps (command : CommandLine) (given : List ℕ) (ending : Option Ending) (saw : Devices) : Type 0 where
   -- Over any disk, each ending has its cause.
-  pub any : OnAnyDisk command given ending disk disk_now source source_now sink sink_now
+  pub any : OnAnyDisk command given ending saw
   -- And whatever the disk holds, what was open stays.
-  pub frame : KeepsOthers command ending disk disk_now
+  pub frame : KeepsOthers command ending saw.disk saw.disk_now
   -- A `collect` writes only once it has found the keys of the trees of all names, also where it is refused then.
-  pub found : FindsBeforeWriting command disk disk_now
-  pub blank : IsLeftBlank command disk disk_now
-  pub untouched : IsUntouched command ending disk disk_now
+  pub found : FindsBeforeWriting command saw.disk saw.disk_now
+  pub blank : IsLeftBlank command saw.disk saw.disk_now
+  pub untouched : IsUntouched command ending saw.disk saw.disk_now
 
 -- All that is known of the disk is what was: also the moment, which each read, write and sync makes rise. (A view is too large a
 -- type for ≡.)
@@ -103,42 +102,36 @@ pub record MakesNoRoom (rs : List Replied) (ending : Option Ending) (disk disk_n
 -- A single command but a `format`: what it does as lines of the machine of files, from the beginning of the call on, from which follows how
 -- it answers by the map (`a_command_answers_by_the_map`); and, from the disk as it was once there was room, all that it keeps.
 pub record DoesCommand (D : Type 0) (view : D → DiskView) (command : CommandLine) (given : List ℕ) (rs : List Replied)
-    (ending : Option Ending) (disk disk_now : DiskView) (source source_now : SourceView) (sink sink_now : SinkView) : Type 0 where
-  pub by_files : RunsEachByFiles ending rs disk disk_now
-  pub fails_alone : rs ≡ [] → FailsAlone ending rs disk
-  pub took : Took command given ending source source_now
-  pub way : OnceThereWasRoom D view (λ v. Keeps command given ending v disk_now source source_now sink sink_now
-      × SpeaksAs command given ending rs v disk_now source source_now sink sink_now) ending disk disk_now
-      ⊎ MakesNoRoom rs ending disk disk_now source source_now sink sink_now
+    (ending : Option Ending) (saw : Devices) : Type 0 where
+  pub by_files : RunsEachByFiles ending rs saw.disk saw.disk_now
+  pub fails_alone : rs ≡ [] → FailsAlone ending rs saw.disk
+  pub took : Took command given ending saw.source saw.source_now
+  pub way : OnceThereWasRoom D view (λ v. Keeps command given ending (record saw { disk = v })
+      × SpeaksAs command given ending rs (record saw { disk = v })) ending saw.disk saw.disk_now
+      ⊎ MakesNoRoom rs ending saw.disk saw.disk_now saw.source saw.source_now saw.sink saw.sink_now
 
 -- The lines of the script that the source has.
-pub record RunsScript (D : Type 0) (view : D → DiskView) (rs : List Replied) (ending : Option Ending) (disk disk_now : DiskView)
-    (source source_now : SourceView) (sink sink_now : SinkView) : Type 0 where
-  pub by_files : RunsEachByFiles ending rs disk disk_now
-  pub fails_alone : FailsAlone ending rs disk
-  pub way : OnceThereWasRoom D view (λ v. KeepsScript rs ending v disk_now source source_now sink sink_now) ending disk disk_now
-      ⊎ MakesNoRoom rs ending disk disk_now source source_now sink sink_now
+pub record RunsScript (D : Type 0) (view : D → DiskView) (rs : List Replied) (ending : Option Ending) (saw : Devices) : Type 0 where
+  pub by_files : RunsEachByFiles ending rs saw.disk saw.disk_now
+  pub fails_alone : FailsAlone ending rs saw.disk
+  pub way : OnceThereWasRoom D view (λ v. KeepsScript rs ending v saw.disk_now saw.source saw.source_now saw.sink saw.sink_now)
+      ending saw.disk saw.disk_now
+      ⊎ MakesNoRoom rs ending saw.disk saw.disk_now saw.source saw.source_now saw.sink saw.sink_now
 
 -- What a line of the table does, but a `check`: see `Promise`. A disk is anything that has a view.
-abbrev pub Does : (D : Type 0) → (D → DiskView) → Option TableLine → List ℕ → List Replied → Option Ending → DiskView → DiskView →
-    SourceView
-    → SourceView → SinkView → SinkView → Type 0
-Does D view None given rs ending disk disk_now source source_now sink sink_now =
-    DoesNothing ending disk disk_now source source_now sink sink_now
-Does D view (Some (Single (Format slots))) given rs ending disk disk_now source source_now sink sink_now =
-    Keeps (Format slots) given ending disk disk_now source source_now sink sink_now × (rs ≡ [])
-Does D view (Some (Single command)) given rs ending disk disk_now source source_now sink sink_now =
-    DoesCommand D view command given rs ending disk disk_now source source_now sink sink_now
-Does D view (Some Run) given rs ending disk disk_now source source_now sink sink_now =
-    RunsScript D view rs ending disk disk_now source source_now sink sink_now
-Does D view (Some Check) given rs ending disk disk_now source source_now sink sink_now = ⊥
+abbrev pub Does : (D : Type 0) → (D → DiskView) → Option TableLine → List ℕ → List Replied → Option Ending → Devices → Type 0
+Does D view None given rs ending saw = DoesNothing ending saw.disk saw.disk_now saw.source saw.source_now saw.sink saw.sink_now
+Does D view (Some (Single (Format slots))) given rs ending saw = Keeps (Format slots) given ending saw × (rs ≡ [])
+Does D view (Some (Single command)) given rs ending saw = DoesCommand D view command given rs ending saw
+Does D view (Some Run) given rs ending saw = RunsScript D view rs ending saw
+Does D view (Some Check) given rs ending saw = ⊥
 
 -- How the call ended, what the source gave, and which lines were run, are one throughout.
 pub record KeepsLine (D : Type 0) (view : D → DiskView) (line : Option TableLine) (ending : Option Ending) (given : List ℕ)
     (rs : List Replied) (status : ℕ) (saw : Seen) : Type 0 where
   pub status_is : status ≡ status_by ending
   pub noted : AreNoted saw.notes saw.notes_now ending
-  pub does : Does D view line given rs ending saw.disk saw.disk_now saw.source saw.source_now saw.sink saw.sink_now
+  pub does : Does D view line given rs ending (devices saw.disk saw.disk_now saw.source saw.source_now saw.sink saw.sink_now)
 
 -- A `check` inspects the disk; each other line does what `Does` says.
 abbrev pub Promise : (D : Type 0) → (D → DiskView) → Option TableLine → ℕ → Seen → Type 0

@@ -8,6 +8,7 @@ ghost use Rattle.backup_engine.specs.Collecting.{CollectRun};
 ghost use Rattle.backup_engine.specs.Line.{Collect};
 ghost use Rattle.backup_engine.specs.Running.{IsFresh};
 ghost use Rattle.backup_engine.specs.TopCall.{DoesCommand, ending_in};
+ghost use Rattle.backup_engine.specs.Seen.{devices};
 
 use crate::by_files::calls_run_by_files;
 use crate::lent::handed_back;
@@ -54,7 +55,7 @@ pub(crate) fn collect<D: Disk, K: Sink>(
     percent: Percent,
 ) -> Result<(), Ending>
     ensures does { (source : SourceView) → (rs : List Replied) × DoesCommand D D.view (Collect percent) [] rs (ending_in result)
-        (D.view disk.old) (D.view disk.new) source source (K.view sink.old) (K.view sink.new) }
+        (devices (D.view disk.old) (D.view disk.new) source source (K.view sink.old) (K.view sink.new)) }
     ensures later { IsLater (D.view disk.old) (D.view disk.new) }
 {
     calls_run_by_files::<&mut D, Core<&mut D, NoSummary>>();

@@ -8,6 +8,8 @@ ghost use Rattle.backup_engine.specs.Line.{Delete};
 ghost use Rattle.backup_engine.specs.Naming.{DeleteRun};
 ghost use Rattle.backup_engine.specs.Running.{IsFresh};
 ghost use Rattle.backup_engine.specs.TopCall.{DoesCommand, ending_in};
+ghost use Rattle.backup_engine.specs.Seen.{devices};
+ghost use Rattle.backup_engine.specs.Storing.{Replies};
 
 use crate::by_files::calls_run_by_files;
 use crate::lent::handed_back;
@@ -31,7 +33,8 @@ pub(crate) fn delete_name<C: HasState, K: Sink>(
     sink: &mut K,
 ) -> Result<(), Ending>
     requires fresh { IsFresh (C.state core.old) }
-    ensures ran { DeleteRun C C.state name.now reply.now result core.old core.new (K.view sink.old) (K.view sink.new) }
+    ensures ran { DeleteRun C C.state name.now
+        (λ deleted. Replies reply.now deleted result (K.view sink.old) (K.view sink.new)) core.old core.new }
     ensures running { IsRunning (C.state core.new) }
 {
     let step = Step::Delete {
@@ -49,7 +52,7 @@ pub(crate) fn delete<D: Disk, K: Sink>(
     name: &str,
 ) -> Result<(), Ending>
     ensures does { (source : SourceView) → (rs : List Replied) × DoesCommand D D.view (Delete name.now) [] rs (ending_in result)
-        (D.view disk.old) (D.view disk.new) source source (K.view sink.old) (K.view sink.new) }
+        (devices (D.view disk.old) (D.view disk.new) source source (K.view sink.old) (K.view sink.new)) }
     ensures later { IsLater (D.view disk.old) (D.view disk.new) }
 {
     calls_run_by_files::<&mut D, Core<&mut D, NoSummary>>();

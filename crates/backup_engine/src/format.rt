@@ -5,6 +5,7 @@ ghost use Rattle.dd_disk.specs.View.{IsLater};
 ghost use Rattle.disk_format.specs.Layout.{IsSlotCount};
 ghost use Rattle.backup_engine.specs.Line.{Format};
 ghost use Rattle.backup_engine.specs.TopCall.{Keeps, ending_in};
+ghost use Rattle.backup_engine.specs.Seen.{devices};
 
 use crate::reply::send;
 use dd_disk::Disk;
@@ -20,8 +21,8 @@ pub(crate) fn format<D: Disk, K: Sink>(
     slots: u32,
 ) -> Result<(), Ending>
     requires { IsSlotCount slots }
-    ensures keeps { (source : SourceView) → Keeps (Format slots) [] (ending_in result) (D.view disk.old) (D.view disk.new)
-        source source (K.view sink.old) (K.view sink.new) }
+    ensures keeps { (source : SourceView) → Keeps (Format slots) [] (ending_in result)
+        (devices (D.view disk.old) (D.view disk.new) source source (K.view sink.old) (K.view sink.new)) }
     ensures later { IsLater (D.view disk.old) (D.view disk.new) }
 {
     // Its memory is taken before the first write.

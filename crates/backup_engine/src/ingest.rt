@@ -4,6 +4,7 @@ ghost use Rattle.dd_disk.specs.View.{IsLater};
 ghost use Rattle.backup_engine.specs.Line.{Ingest};
 ghost use Rattle.store_machine.specs.Commands.{Replied};
 ghost use Rattle.backup_engine.specs.TopCall.{DoesCommand, ending_in};
+ghost use Rattle.backup_engine.specs.Seen.{devices};
 
 use crate::by_files::calls_run_by_files;
 use crate::lent::handed_back;
@@ -25,7 +26,7 @@ pub(crate) fn ingest<D: Disk, S: Source, K: Sink>(
     name: &str,
 ) -> Result<(), Ending>
     ensures does { (given : List ℕ) × ((rs : List Replied) × DoesCommand D D.view (Ingest name.now) given rs (ending_in result)
-        (D.view disk.old) (D.view disk.new) (S.view source.old) (S.view source.new) (K.view sink.old) (K.view sink.new)) }
+        (devices (D.view disk.old) (D.view disk.new) (S.view source.old) (S.view source.new) (K.view sink.old) (K.view sink.new))) }
     ensures later { IsLater (D.view disk.old) (D.view disk.new) }
 {
     calls_run_by_files::<&mut D, Core<&mut D, NoSummary>>();

@@ -5,6 +5,7 @@ ghost use Rattle.dd_disk.specs.View.{IsLater};
 ghost use Rattle.backup_engine.specs.Line.{Restore};
 ghost use Rattle.store_machine.specs.Commands.{Replied};
 ghost use Rattle.backup_engine.specs.TopCall.{DoesCommand, ending_in};
+ghost use Rattle.backup_engine.specs.Seen.{devices};
 
 use crate::by_files::calls_run_by_files;
 use crate::giving::give_out;
@@ -27,7 +28,7 @@ pub(crate) fn restore<D: Disk, K: Sink>(
     name: &str,
 ) -> Result<(), Ending>
     ensures does { (source : SourceView) → (rs : List Replied) × DoesCommand D D.view (Restore name.now) [] rs (ending_in result)
-        (D.view disk.old) (D.view disk.new) source source (K.view sink.old) (K.view sink.new) }
+        (devices (D.view disk.old) (D.view disk.new) source source (K.view sink.old) (K.view sink.new)) }
     ensures later { IsLater (D.view disk.old) (D.view disk.new) }
 {
     calls_run_by_files::<&mut D, Core<&mut D, NoSummary>>();

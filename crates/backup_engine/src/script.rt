@@ -5,6 +5,7 @@ ghost use Rattle.store_machine.specs.Commands.{Replied};
 ghost use Rattle.script_lines.specs.declared.script.TheConstants.{MOST_SCRIPT};
 ghost use Rattle.backup_engine.specs.ScriptRuns.{RunsNext, ScriptRun};
 ghost use Rattle.backup_engine.specs.TopCall.{RunsScript, ending_in};
+ghost use Rattle.backup_engine.specs.Seen.{devices, streaming};
 
 use crate::by_files::calls_run_by_files;
 use crate::lent::handed_back;
@@ -29,8 +30,8 @@ fn run_next<C: HasState, S: Source, K: Sink>(
     source: &mut S,
     sink: &mut K,
 ) -> Result<bool, Ending>
-    ensures { RunsNext C C.state number result reader.old reader.new runner.old runner.new (S.view source.old) (S.view source.new)
-        (K.view sink.old) (K.view sink.new) }
+    ensures { RunsNext C C.state number result reader.old reader.new (streaming runner.old (S.view source.old) (K.view sink.old))
+        (streaming runner.new (S.view source.new) (K.view sink.new)) }
 {
     match reader.next(source) {
         Ok(NextLine::Line) => {}
@@ -52,7 +53,8 @@ fn run_lines<C: HasState, S: Source, K: Sink>(
     source: &mut S,
     sink: &mut K,
 ) -> Result<(), Ending>
-    ensures { ScriptRun C C.state result runner.old runner.new (S.view source.old) (S.view source.new) (K.view sink.old) (K.view sink.new) }
+    ensures { ScriptRun C C.state result (streaming runner.old (S.view source.old) (K.view sink.old))
+        (streaming runner.new (S.view source.new) (K.view sink.new)) }
 {
     reads_tell_scripts();
     let mut reader = ScriptReader::new();
@@ -70,8 +72,8 @@ pub(crate) fn run<D: Disk, S: Source, K: Sink>(
     source: &mut S,
     sink: &mut K,
 ) -> Result<(), Ending>
-    ensures runs { (rs : List Replied) × RunsScript D D.view rs (ending_in result) (D.view disk.old) (D.view disk.new) (S.view source.old)
-        (S.view source.new) (K.view sink.old) (K.view sink.new) }
+    ensures runs { (rs : List Replied) × RunsScript D D.view rs (ending_in result)
+        (devices (D.view disk.old) (D.view disk.new) (S.view source.old) (S.view source.new) (K.view sink.old) (K.view sink.new)) }
     ensures later { IsLater (D.view disk.old) (D.view disk.new) }
 {
     reads_tell_scripts();

@@ -9,6 +9,8 @@ ghost use Rattle.backup_engine.specs.Running.{IsFresh};
 ghost use Rattle.backup_engine.specs.Saying.{SaysEnd, SaysPushes};
 ghost use Rattle.backup_engine.specs.Singles.{Digits};
 ghost use Rattle.backup_engine.specs.Storing.{IngestRun};
+ghost use Rattle.session_turns.specs.Turns.{session_at};
+ghost use Rattle.backup_engine.specs.Seen.{streaming};
 
 use crate::putting::{commit, first};
 use crate::reply::send;
@@ -48,7 +50,7 @@ fn fill<C: HasState, S: Source>(
 ) -> Result<(), Ending>
     requires running { IsRunning (C.state core.old) }
     requires ongoing { session.old.ended ≡ false }
-    ensures fills { Fills C C.state (SaysPushes C C.state) result session.old session.new core.old core.new
+    ensures fills { Fills C C.state (SaysPushes C C.state) result (session_at session.old core.old) (session_at session.new core.new)
         (S.view source.old) (S.view source.new) }
     ensures ongoing { session.new.ended ≡ false }
     ensures running { IsRunning (C.state core.new) }
@@ -76,7 +78,7 @@ fn take_in<C: HasState, S: Source>(
 ) -> Result<(), Ending>
     requires running { IsRunning (C.state core.old) }
     requires ongoing { session.old.ended ≡ false }
-    ensures fills { Fills C C.state (SaysEnd C C.state) result session.old session.new core.old core.new
+    ensures fills { Fills C C.state (SaysEnd C C.state) result (session_at session.old core.old) (session_at session.new core.new)
         (S.view source.old) (S.view source.new) }
     ensures ended { OnOk result (session.new.ended ≡ true) }
     ensures done { OnOk result (due_in session.new ≡ Due.Nothing) }
@@ -98,8 +100,8 @@ pub(crate) fn store_source<C: HasState, S: Source, K: Sink>(
     name: &str,
 ) -> Result<(), Ending>
     requires fresh { IsFresh (C.state core.old) }
-    ensures ran { IngestRun C C.state name.now result core.old core.new
-        (S.view source.old) (S.view source.new) (K.view sink.old) (K.view sink.new) }
+    ensures ran { IngestRun C C.state name.now result (streaming core.old (S.view source.old) (K.view sink.old))
+        (streaming core.new (S.view source.new) (K.view sink.new)) }
     ensures running { IsRunning (C.state core.new) }
 {
     let mut buf = SegBuf::new(alloc)?;

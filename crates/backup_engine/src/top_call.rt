@@ -7,6 +7,7 @@ ghost use Rattle.backup_engine.specs.Line.{Single, line_of};
 ghost use Rattle.backup_engine.specs.LineValue.{command_value, IsRightCommand, size_made};
 ghost use Rattle.backup_engine.specs.Noted.{AreNoted, IsNoted, status_by};
 ghost use Rattle.backup_engine.specs.TopCall.{Promise, Does, ending_in};
+ghost use Rattle.backup_engine.specs.Seen.{devices};
 
 use crate::checking::check;
 use crate::collecting::collect;
@@ -114,9 +115,9 @@ fn run_command<D: Disk, S: Source, K: Sink>(
     sink: &mut K,
 ) -> Result<(), Ending>
     requires { IsRightCommand command.now }
-    ensures does { (given : List ℕ) × ((rs : List Replied) × Does D D.view (Some (Single (command_value command.now))) given rs
-        (ending_in result) (D.view disk.old) (D.view disk.new) (S.view source.old) (S.view source.new) (K.view sink.old)
-        (K.view sink.new)) }
+    ensures does { (given : List ℕ)
+        × ((rs : List Replied) × Does D D.view (Some (Single (command_value command.now))) given rs (ending_in result)
+        (devices (D.view disk.old) (D.view disk.new) (S.view source.old) (S.view source.new) (K.view sink.old) (K.view sink.new))) }
     ensures later { IsLater (D.view disk.old) (D.view disk.new) }
 {
     match command {

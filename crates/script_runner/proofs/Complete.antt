@@ -6,7 +6,7 @@ use Rattle.script_lines.specs.ReplyValue as replies
 use Rattle.store_machine.specs.Commands.{desk, run_on}
 use Rattle.store_machine.specs.Twins.{IsGivenIn, UnpinnedByTwins}
 use Rattle.store_machine.proofs.TwinLines.{file_reads, unpinned_has_twins}
-use Rattle.script_runner.specs.Complete.{EndByReopen, EndsUnopened, IsNodeIn, WhatCanBeDoneIsDone}
+use Rattle.script_runner.specs.Complete.{EndByReopen, EndsUnopened, IsHeldIn, IsNodeIn, WhatCanBeDoneIsDone}
 use Rattle.script_runner.proofs.CompleteLines.{Tells, says, tells_on}
 use Rattle.script_runner.proofs.CompleteNodes.{PieceAmong}
 use Rattle.script_runner.proofs.CompleteTrace.{Content, DoesAmong, Step, on_the_way, traced_as, traced_parts}
@@ -52,12 +52,15 @@ module _ (D S : List ℕ → Type 0) (no_data : HasNoCollisions D) (no_nodes : H
 
 pub what_can_be_done_is_done : WhatCanBeDoneIsDone
 what_can_be_done_is_done rs ss m e ran content now traced runs idle calm last no_data no_nodes =
-    all (λ bytes. IsGivenIn of_files rs ss (desk m) e ran (Data bytes)) (IsNodeIn rs ss m e ran (Some content) now traced) no_data no_nodes
+    all (λ bytes. IsGivenIn of_files rs ss (desk m) e ran (Data bytes))
+    (IsNodeIn (IsGivenIn of_files rs ss (desk m) e ran) (IsHeldIn ss m e.machine (run_of of_files rs ss (desk m) e ran) (Some content) now traced)) no_data no_nodes
     rs ss (desk m) e ran (Some content) now
-    (on_the_way (IsNodeIn rs ss m e ran (Some content) now traced) ss m e.machine (run_of of_files rs ss (desk m) e ran) (Some content) now traced (λ bytes held. inr held))
+    (on_the_way (IsNodeIn (IsGivenIn of_files rs ss (desk m) e ran) (IsHeldIn ss m e.machine (run_of of_files rs ss (desk m) e ran) (Some content) now traced)) ss m e.machine
+    (run_of of_files rs ss (desk m) e ran) (Some content) now traced (λ bytes held. inr held))
     (content, refl) runs calm last among (unpinned_has_twins of_files (λ file. refl) file_reads rs ss m e idle ran)
   where
     among : (p : Piece) → IsGivenIn of_files rs ss (desk m) e ran p
-        → PieceAmong (λ bytes. IsGivenIn of_files rs ss (desk m) e ran (Data bytes)) (IsNodeIn rs ss m e ran (Some content) now traced) p
+        → PieceAmong (λ bytes. IsGivenIn of_files rs ss (desk m) e ran (Data bytes))
+        (IsNodeIn (IsGivenIn of_files rs ss (desk m) e ran) (IsHeldIn ss m e.machine (run_of of_files rs ss (desk m) e ran) (Some content) now traced)) p
     among (Data bytes) given = given
     among (Node n) given = inl (n, (given, refl))

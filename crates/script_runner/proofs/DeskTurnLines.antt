@@ -28,6 +28,7 @@ use Rattle.script_runner.proofs.DeskTurns.{TurnsMade, answering, due_of, paused_
 use Rattle.script_runner.proofs.Fitting.{AtDesk, Fitted}
 use Rattle.script_runner.proofs.PushRefused.{why_long}
 use Rattle.script_runner.proofs.TurnIdle.{idle, idle_due, idle_has, settled_idle}
+use Rattle.session_turns.specs.Turns.{session_at}
 
 -- what is replied to a turn
 turn_reply : (a : ℕ) (answer : Answer) (told : Turned) (buf : List ℕ) → turned (Some answer) ≡ Some told → replies.Turn a told ≡ reply_of a (answered_by (Ok answer) buf)
@@ -168,7 +169,7 @@ module _ (F : Fitted) (r : RunnerState F.C) (d : Desk F.V F.R) (at : AtDesk F d 
       gave : DeskSession (owned d.machine r.core) d.sessions a x
       gave = desk_session (λ b k. Owns b k d.machine (state r.core)) d.sessions r.sessions at.same a x there
 
-      pushed : (b count : ℕ) → b ≡ a → Feeds C state a (Ok tt) bytes x y r.core s.core → count ≡ y.count → Pushes (replies.Pushed b count)
+      pushed : (b count : ℕ) → b ≡ a → Feeds C state a (Ok tt) bytes (session_at x r.core) (session_at y s.core) → count ≡ y.count → Pushes (replies.Pushed b count)
       pushed b count same feeds counts =
           let mid : SessionState = feeds.1 in
           let went = turns_made F a feeds.0 gave.s x mid d.machine r.core s.core gave.is (allowed a gave.s gave.there) at.runs at.fits feeds.2 in
@@ -204,7 +205,7 @@ module _ (F : Fitted) (r : RunnerState F.C) (d : Desk F.V F.R) (at : AtDesk F d 
                 }) went.fits went.runs went.others went.stays;
           }
 
-      not_pushed : (refusal : Refusal) → x.ended ≡ false → Feeds C state a (Err refusal) bytes x y r.core s.core → Pushes (replies.Refused refusal)
+      not_pushed : (refusal : Refusal) → x.ended ≡ false → Feeds C state a (Err refusal) bytes (session_at x r.core) (session_at y s.core) → Pushes (replies.Refused refusal)
       not_pushed refusal on (inl stopped) =
           let stop = turns_stop F a refusal gave.s x y d.machine r.core s.core gave.is (allowed a gave.s gave.there) at.runs at.fits stopped.0 in
           record {
@@ -341,7 +342,8 @@ module _ (F : Fitted) (r : RunnerState F.C) (d : Desk F.V F.R) (at : AtDesk F d 
                     (λ c k differs owns. one.keeps.others c k differs (went.stays c k differs owns));
               }
 
-      put_refused : (refusal : Refusal) → s.sessions ≡ with_session r.sessions a (Some y) → RefusesPut C state a name refusal x y r.core s.core → Commits (replies.Refused refusal)
+      put_refused : (refusal : Refusal) → s.sessions ≡ with_session r.sessions a (Some y) → RefusesPut C state a name refusal (session_at x r.core) (session_at y s.core)
+          → Commits (replies.Refused refusal)
       put_refused refusal sessions (inl stopped) =
           let stop = turns_stop F a refusal wrote.s x y d.machine r.core s.core wrote.is (allowed a wrote.s wrote.there) at.runs at.fits stopped in
           record {

@@ -9,7 +9,7 @@ use Rattle.ingest_session.specs.Told.{IsAnswerFor, IsSettled}
 use Rattle.script_lines.specs.ReplyValue as replies
 use Rattle.store_machine.specs.Lines as machine
 use Rattle.store_machine.specs.Lines.{StopsAfter, answer_of}
-use Rattle.session_turns.specs.Turns.{AreForRoom, IsCrowded, IsTurn, StopForRoom}
+use Rattle.session_turns.specs.Turns.{AreForRoom, IsCrowded, IsTurn, StopForRoom, session_at}
 use Rattle.session_turns.proofs.Told.{told}
 use Rattle.script_runner.proofs.DeskRuns.{Ran, ran_none, ran_on}
 use Rattle.script_runner.proofs.DeskSessions.{session_on}
@@ -180,7 +180,7 @@ module _ (F : Fitted) (a : ℕ) where
     pub runs : IsRunning (state new)
     pub others : (b : ℕ) → b ≢ a → part_of (state new).parts b ≡ part_of (state old).parts b
     pub stays : Stays m next old new
-    pub room : AreForRoom C state a answers_are x y old new ran → machine.AreForRoom v s made
+    pub room : AreForRoom C state a answers_are (session_at x old) (session_at y new) ran → machine.AreForRoom v s made
 
   pub turns_made : (answers_are : List Answer) (s : Session) (x y : SessionState) (m : Machine V R) (old new : C) → IsSessionOf (owned a m old) s x → Allowed s.given s.ended
       → IsRunning (state old) → Fits m (state old)
@@ -286,7 +286,7 @@ module _ (F : Fitted) (a : ℕ) where
     pub runs : IsRunning (state new)
     pub others : (b : ℕ) → b ≢ a → part_of (state new).parts b ≡ part_of (state old).parts b
     pub stays : Stays m next old new
-    pub room : StopForRoom C state a refusal x y old new stopped → machine.AreForRoom v s ss
+    pub room : StopForRoom C state a refusal (session_at x old) (session_at y new) stopped → machine.AreForRoom v s ss
 
   pub turns_stop : (refusal : Refusal) (s : Session) (x y : SessionState) (m : Machine V R) (old new : C) → IsSessionOf (owned a m old) s x → Allowed s.given s.ended
       → IsRunning (state old) → Fits m (state old)

@@ -6,6 +6,7 @@ use Rattle.script_lines.specs.Grammar as lines
 use Rattle.script_lines.specs.ReplyValue as replies
 use Rattle.store_core.specs.Frame.{commands_of}
 use Rattle.script_runner.specs.Acts.{Acts, counted}
+use Rattle.session_turns.specs.Turns.{session_at}
 
 -- steps of a core, one after the other, none of a collection, of which so many at most give a name a root or take it away
 abbrev pub MakesSteps : (C : Type 0) → (C → CoreState) → ℕ → C → C → Type 0
@@ -83,12 +84,14 @@ module _ (C : Type 0) (state : C → CoreState) where
 
   -- ---- lines
 
-  feeds : (actor : ℕ) (result : Result (Unit {0}) Refusal) (bytes : List ℕ) (s t : SessionState) (old new : C) → Feeds C state actor result bytes s t old new → Makes 0 old new
+  feeds : (actor : ℕ) (result : Result (Unit {0}) Refusal) (bytes : List ℕ) (s t : SessionState) (old new : C)
+      → Feeds C state actor result bytes (session_at s old) (session_at t new) → Makes 0 old new
   feeds actor (Ok u) bytes s t old new is = turns actor is.0 s is.1 old new is.2
   feeds actor (Err refusal) bytes s t old new (inl stops) = stopped actor refusal s t old new stops.0
   feeds actor (Err refusal) bytes s t old new (inr refused) = turns actor refused.0 s t old new refused.1
 
-  put_refused : (actor : ℕ) (name : List ℕ) (refusal : Refusal) (s t : SessionState) (old new : C) → RefusesPut C state actor name refusal s t old new → Makes 1 old new
+  put_refused : (actor : ℕ) (name : List ℕ) (refusal : Refusal) (s t : SessionState) (old new : C) → RefusesPut C state actor name refusal (session_at s old) (session_at t new)
+      → Makes 1 old new
   put_refused actor name refusal s t old new (inl stops) = let made = stopped actor refusal s t old new stops in (made.0, (made.1.0, omega (arith, made.1.1), made.1.2))
   put_refused actor name refusal s t old new (inr tried) =
       both 0 1 1 old tried.1 new (omega arith) (turns actor tried.0 s t old tried.1 tried.2)

@@ -29,7 +29,7 @@ use Rattle.store_core.specs.Opening.{OpensCore, OpensNone, StaysOrStops}
 use Rattle.store_core.specs.State.{CoreState}
 use Rattle.store_machine.specs.Lines.{actor_of, takes}
 use Rattle.script_runner.specs.Sessions.{Sessions, kind_in, session_of, with_session}
-use Rattle.session_turns.specs.Turns.{Feeds, TakesTurn, TurnRun, TurnsStopped}
+use Rattle.session_turns.specs.Turns.{Feeds, SessionMoment, TakesTurn, TurnRun, TurnsStopped, session_at}
 
 -- ---- which lines are taken
 
@@ -69,6 +69,11 @@ RefusesStep actor step refusal old new = (buf : List ℕ) × StepOf actor step (
 abbrev pub IsText : (ℕ → ReplyValue) → (ℕ → Type 0) → List ℕ → Type 0
 IsText reply P text = (n : ℕ) × ((text ≡ reply_line (reply n)) × P n)
 
+-- the core of a runner, and the sessions of its actors
+pub record RunnerState (C : Type 0) : Type 0 where
+  pub core : C
+  pub sessions : Sessions
+
 -- ---- a file that is given
 
 -- a session was begun
@@ -84,12 +89,13 @@ abbrev pub Replaces : ℕ → SessionState → SessionState → Sessions → Ses
 Replaces actor s t sessions sessions_now = (session_of sessions actor ≡ Some s) × (sessions_now ≡ with_session sessions actor (Some t))
 
 -- bytes were given; the count is that of all that were given
-abbrev pub Pushes : (C : Type 0) → (C → CoreState) → ℕ → List ℕ → Result ℕ Refusal → Sessions → Sessions → C → C → Type 0
-Pushes C state actor bytes (Ok count) sessions sessions_now old new =
-    (s : SessionState) × (t : SessionState) × Replaces actor s t sessions sessions_now × Feeds C state actor (Ok tt) bytes s t old new
-    × (count ≡ t.count)
-Pushes C state actor bytes (Err refusal) sessions sessions_now old new =
-    (s : SessionState) × (t : SessionState) × Replaces actor s t sessions sessions_now × Feeds C state actor (Err refusal) bytes s t old new
+abbrev pub Pushes : (C : Type 0) → (C → CoreState) → ℕ → List ℕ → Result ℕ Refusal → RunnerState C → RunnerState C → Type 0
+Pushes C state actor bytes (Ok count) old new =
+    (s : SessionState) × (t : SessionState) × Replaces actor s t old.sessions new.sessions
+    × Feeds C state actor (Ok tt) bytes (session_at s old.core) (session_at t new.core) × (count ≡ t.count)
+Pushes C state actor bytes (Err refusal) old new =
+    (s : SessionState) × (t : SessionState) × Replaces actor s t old.sessions new.sessions
+    × Feeds C state actor (Err refusal) bytes (session_at s old.core) (session_at t new.core)
 
 -- all was given
 abbrev pub Finishes : (C : Type 0) → ℕ → Result ℕ Refusal → Sessions → Sessions → C → C → Type 0
@@ -141,22 +147,22 @@ pub record Puts (C : Type 0) (state : C → CoreState) (actor : ℕ) (name : Lis
   pub sequence_is : sequence ≡ min ((state mid).tables.journal.last + 1) (2 ^ 64 - 1)
 
 -- A turn was refused; or, once all were made, there was no memory, or the name was refused.
-abbrev pub RefusesPut : (C : Type 0) → (C → CoreState) → ℕ → List ℕ → Refusal → SessionState → SessionState → C → C → Type 0
-RefusesPut C state actor name refusal session last old new =
-    TurnsStopped C state actor refusal session last old new
-    ⊎ ((answers_are : List Answer) × (mid : C) × TurnRun C state actor answers_are session last old mid
-    × ((root : Root) × IsReady root last
-    × (((refusal ≡ Memory) × (new ≡ mid)) ⊎ RefusesStep actor (asked.Commit name root) refusal (state mid) (state new))))
+abbrev pub RefusesPut : (C : Type 0) → (C → CoreState) → ℕ → List ℕ → Refusal → SessionMoment C → SessionMoment C → Type 0
+RefusesPut C state actor name refusal old new =
+    TurnsStopped C state actor refusal old.session new.session old.core new.core
+    ⊎ ((answers_are : List Answer) × (mid : C) × TurnRun C state actor answers_are old.session new.session old.core mid
+    × ((root : Root) × IsReady root new.session
+    × (((refusal ≡ Memory) × (new.core ≡ mid)) ⊎ RefusesStep actor (asked.Commit name root) refusal (state mid) (state new.core))))
 
-abbrev pub Commits : (C : Type 0) → (C → CoreState) → ℕ → List ℕ → ℕ → Sessions → Sessions → C → C → Type 0
-Commits C state actor name sequence sessions sessions_now old new =
-    (session : SessionState) × (session_of sessions actor ≡ Some session) × Puts C state actor name sequence session old new
-    × (sessions_now ≡ with_session sessions actor None)
+abbrev pub Commits : (C : Type 0) → (C → CoreState) → ℕ → List ℕ → ℕ → RunnerState C → RunnerState C → Type 0
+Commits C state actor name sequence old new =
+    (session : SessionState) × (session_of old.sessions actor ≡ Some session)
+    × Puts C state actor name sequence session old.core new.core × (new.sessions ≡ with_session old.sessions actor None)
 
-abbrev pub RefusesCommit : (C : Type 0) → (C → CoreState) → ℕ → List ℕ → Refusal → Sessions → Sessions → C → C → Type 0
-RefusesCommit C state actor name refusal sessions sessions_now old new =
-    (session : SessionState) × (last : SessionState) × Replaces actor session last sessions sessions_now
-    × RefusesPut C state actor name refusal session last old new
+abbrev pub RefusesCommit : (C : Type 0) → (C → CoreState) → ℕ → List ℕ → Refusal → RunnerState C → RunnerState C → Type 0
+RefusesCommit C state actor name refusal old new =
+    (session : SessionState) × (last : SessionState) × Replaces actor session last old.sessions new.sessions
+    × RefusesPut C state actor name refusal (session_at session old.core) (session_at last new.core)
 
 -- it was given up
 abbrev pub Aborts : (C : Type 0) → (C → CoreState) → ℕ → Result Unit Refusal → Sessions → Sessions → C → C → Type 0
@@ -250,10 +256,6 @@ pub record RefusesReopen (C : Type 0) (state : C → CoreState) (refusal : Refus
 
 -- ---- all lines
 
-pub record RunnerState (C : Type 0) : Type 0 where
-  pub core : C
-  pub sessions : Sessions
-
 -- core and sessions changed so
 abbrev pub Both : (C : Type 0) → (Sessions → Sessions → C → C → Type 0) → RunnerState C → RunnerState C → Type 0
 Both C P r s = P r.sessions s.sessions r.core s.core
@@ -266,15 +268,15 @@ Core C P r s = P r.core s.core × (s.sessions ≡ r.sessions)
 abbrev pub Acts : (C : Type 0) → (C → CoreState) → LineValue → ReplyValue → RunnerState C → RunnerState C → Type 0
 Acts C state (lines.Begin a) (replies.Begun b) r s = (b ≡ a) × Both C (Begins C state a (Ok tt)) r s
 Acts C state (lines.Begin a) (replies.Refused refusal) r s = Both C (Begins C state a (Err refusal)) r s
-Acts C state (lines.Push a digits) (replies.Pushed b count) r s = (b ≡ a) × Both C (Pushes C state a (pushed_bytes digits) (Ok count)) r s
-Acts C state (lines.Push a digits) (replies.Refused refusal) r s = Both C (Pushes C state a (pushed_bytes digits) (Err refusal)) r s
+Acts C state (lines.Push a digits) (replies.Pushed b count) r s = (b ≡ a) × Pushes C state a (pushed_bytes digits) (Ok count) r s
+Acts C state (lines.Push a digits) (replies.Refused refusal) r s = Pushes C state a (pushed_bytes digits) (Err refusal) r s
 Acts C state (lines.Finish a) (replies.Finished b count) r s = (b ≡ a) × Both C (Finishes C a (Ok count)) r s
 Acts C state (lines.Finish a) (replies.Refused refusal) r s = Both C (Finishes C a (Err refusal)) r s
 Acts C state (lines.Turn a) (replies.Turn b told) r s = (b ≡ a) × Both C (Turns C state a (Ok told)) r s
 Acts C state (lines.Turn a) (replies.Refused refusal) r s = Both C (Turns C state a (Err refusal)) r s
 Acts C state (lines.Commit a name) (replies.Committed b sequence) r s =
-    (b ≡ a) × Both C (Commits C state a name sequence) r s
-Acts C state (lines.Commit a name) (replies.Refused refusal) r s = Both C (RefusesCommit C state a name refusal) r s
+    (b ≡ a) × Commits C state a name sequence r s
+Acts C state (lines.Commit a name) (replies.Refused refusal) r s = RefusesCommit C state a name refusal r s
 Acts C state (lines.Abort a) (replies.Aborted b) r s = (b ≡ a) × Both C (Aborts C state a (Ok tt)) r s
 Acts C state (lines.Abort a) (replies.Refused refusal) r s = Both C (Aborts C state a (Err refusal)) r s
 Acts C state (lines.Read a name) (replies.Reading b count) r s = (b ≡ a) × Core C (Opens C state a name (Ok count)) r s

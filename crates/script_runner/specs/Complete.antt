@@ -13,7 +13,7 @@ use Rattle.script_lines.specs.Grammar as lines
 use Rattle.script_lines.specs.ReplyValue.{ReplyValue}
 use Rattle.script_lines.specs.ReplyValue as replies
 use Rattle.store_model.specs.Collisions.{HasNoCollisions}
-use Rattle.store_model.specs.Pieces.{Data, Node}
+use Rattle.store_model.specs.Pieces.{Piece, Data, Node}
 use Rattle.store_model.specs.Slots.{Copy, newest}
 use Rattle.store_model.specs.Trees.{bytes_at}
 use Rattle.store_machine.specs.ByMap.{FileMachine}
@@ -40,13 +40,9 @@ IsHeldIn [] m n run was now traced bytes = ⊥
 IsHeldIn (s ∷ ss) m n run was now traced bytes =
     KnownWith was (IsHeldNode bytes) ⊎ IsHeldIn ss run.0 n run.1.1 traced.0 now traced.1.1 bytes
 
--- so it is on the way of these lines; or as one of them begins some actor gives the node, in the tree of what it has given so far
-abbrev pub IsNodeIn : (rs : List Replied) (ss : List (Stepped (List ℕ))) (m : FileMachine) (e : FileDesk)
-    (ran : Lines of_files rs ss (desk m) e) (was now : Option (List ℕ))
-    → Traced of_files ChangesBytes ss m e.machine (run_of of_files rs ss (desk m) e ran) was now → List ℕ → Type 0
-IsNodeIn rs ss m e ran was now traced bytes =
-    ((n : Contents) × (IsGivenIn of_files rs ss (desk m) e ran (Node n) × (bytes ≡ spelling n)))
-    ⊎ IsHeldIn ss m e.machine (run_of of_files rs ss (desk m) e ran) was now traced bytes
+-- So it is on the way of lines (Held); or as one of them begins some actor gives the node, in the tree of what it has given so far (Given).
+abbrev pub IsNodeIn : (Piece → Type 0) → (List ℕ → Type 0) → List ℕ → Type 0
+IsNodeIn Given Held bytes = ((n : Contents) × (Given (Node n) × (bytes ≡ spelling n))) ⊎ Held bytes
 
 -- ---- lines
 
@@ -96,5 +92,6 @@ WhatCanBeDoneIsDone = (rs : List Replied) (ss : List (Stepped (List ℕ))) (m : 
     (traced : Traced of_files ChangesBytes ss m e.machine (run_of of_files rs ss (desk m) e ran) (Some content) now)
     → m.state ≡ Running → m.parts ≡ all_idle → AllByRecursion (λ one. IsUnblamed one.reply) rs → EndByReopen rs
     → HasNoCollisions (λ bytes. IsGivenIn of_files rs ss (desk m) e ran (Data bytes))
-    → HasNoCollisions (IsNodeIn rs ss m e ran (Some content) now traced)
+    → HasNoCollisions (IsNodeIn (IsGivenIn of_files rs ss (desk m) e ran)
+    (IsHeldIn ss m e.machine (run_of of_files rs ss (desk m) e ran) (Some content) now traced))
     → AllByRecursion (λ one. MayReply one.line one.reply) rs × ((e.machine.state ≡ Running) ⊎ EndsUnopened rs)

@@ -6,7 +6,8 @@ ghost use Rattle.script_lines.specs.ReplyValue.{Committed};
 ghost use Rattle.store_core.specs.State.{IsRunning};
 ghost use Rattle.script_runner.specs.Acts.{Aborts, Begins, Commits, Finishes, GivesRoot, IsText, Pushes, Puts, RefusesCommit, RefusesPut, RefusesStep, Settles, Turns, turned};
 ghost use Rattle.script_runner.specs.Sessions.{has_ended, session_of};
-ghost use Rattle.session_turns.specs.Turns.{TurnsStopped};
+ghost use Rattle.session_turns.specs.Turns.{TurnsStopped, session_at};
+ghost use Rattle.script_runner.specs.Runner.{runner_of};
 
 use crate::sessions::Sessions;
 use actor_parts::{Actor, Answer, SegBuf, Step};
@@ -48,7 +49,8 @@ pub(crate) fn push<C: HasState>(
     requires gives { has_ended (session_of sessions.old actor) ≡ Some false }
     requires hex { IsHex digits.now }
     requires few { length digits.now ≤ 2 * MOST_PIECE }
-    ensures pushes { Pushes C C.state actor (pushed_bytes digits.now) result sessions.old sessions.new core.old core.new }
+    ensures pushes { Pushes C C.state actor (pushed_bytes digits.now) result (runner_of core.old sessions.old)
+        (runner_of core.new sessions.new) }
     ensures running { IsRunning (C.state core.new) }
 {
     let mut bytes = [0u8; MOST_PIECE];
@@ -169,7 +171,8 @@ fn put<C: HasState>(
     requires ended { session.old.ended ≡ true }
     ensures puts { IfOk result (λ text. IsText (λ sequence. Committed actor sequence)
         (λ sequence. Puts C C.state actor name.now sequence session.old core.old core.new) text.items) }
-    ensures refused { IfErr result (λ refusal. RefusesPut C C.state actor name.now refusal session.old session.new core.old core.new) }
+    ensures refused { IfErr result (λ refusal. RefusesPut C C.state actor name.now refusal (session_at session.old core.old)
+        (session_at session.new core.new)) }
     ensures running { IsRunning (C.state core.new) }
 {
     let root = settle(core, session, actor, buf)?;
@@ -191,8 +194,10 @@ pub(crate) fn commit<C: HasState>(
     requires running { IsRunning (C.state core.old) }
     requires gave { has_ended (session_of sessions.old actor) ≡ Some true }
     ensures commits { IfOk result (λ text. IsText (λ sequence. Committed actor sequence)
-        (λ sequence. Commits C C.state actor name.now sequence sessions.old sessions.new core.old core.new) text.items) }
-    ensures refused { IfErr result (λ refusal. RefusesCommit C C.state actor name.now refusal sessions.old sessions.new core.old core.new) }
+        (λ sequence. Commits C C.state actor name.now sequence (runner_of core.old sessions.old) (runner_of core.new sessions.new))
+        text.items) }
+    ensures refused { IfErr result (λ refusal. RefusesCommit C C.state actor name.now refusal (runner_of core.old sessions.old)
+        (runner_of core.new sessions.new)) }
     ensures running { IsRunning (C.state core.new) }
 {
     let Some(mut session) = sessions.take(actor) else {

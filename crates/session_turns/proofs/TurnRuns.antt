@@ -17,7 +17,7 @@ use Rattle.ingest_session.specs.Told.{IsAnswerFor}
 use Rattle.store_core.specs.declared.stop.Stop.{Stop}
 use Rattle.store_core.specs.Core.{ClaimRow, SealRow, StepsOr}
 use Rattle.store_core.specs.State.{CoreState}
-use Rattle.session_turns.specs.Turns.{AreForRoom, Asks, IsCrowded, IsPaused, IsTurn, MakesRoom, TurnRun, TakesTurn, TakesTurns}
+use Rattle.session_turns.specs.Turns.{AreForRoom, Asks, IsCrowded, IsPaused, IsTurn, MakesRoom, TurnRun, TakesTurn, TakesTurns, session_at}
 use Rattle.session_turns.proofs.Told.{Stays, after, told}
 
 -- ---- an answer is one that the step can have
@@ -144,16 +144,16 @@ module _ (C : Type 0) (state : C → CoreState) (actor : ℕ) where
   -- ---- one more, for room
 
   pause_for_room : (answers : List Answer) (s t u : SessionState) (old new : C) (run : TurnRun C state actor answers s t old new) (pause : IsPaused t u) →
-      AreForRoom C state actor answers s t old new run
-      → AreForRoom C state actor answers s u old new (turns_then_pause answers s t u old new run pause)
+      AreForRoom C state actor answers (session_at s old) (session_at t new) run
+      → AreForRoom C state actor answers (session_at s old) (session_at u new) (turns_then_pause answers s t u old new run pause)
   unfolding turns_then_pause
   pause_for_room [] s t u old new run pause room = tt
   pause_for_room (answer ∷ answers) s t u old new run pause room = (room.0, pause_for_room answers run.0 t u run.1 new run.3 pause room.1)
 
   one_for_room : (answers : List Answer) (answer : Answer) (s t u : SessionState) (old mid new : C) (run : TurnRun C state actor answers s t old mid)
       (turn : IsTurn actor answer t u (state mid) (state new))
-      → AreForRoom C state actor answers s t old mid run → IsCrowded t
-      → AreForRoom C state actor (answers ++ answer ∷ []) s u old new (turns_then_one answers answer s t u old mid new run turn)
+      → AreForRoom C state actor answers (session_at s old) (session_at t mid) run → IsCrowded t
+      → AreForRoom C state actor (answers ++ answer ∷ []) (session_at s old) (session_at u new) (turns_then_one answers answer s t u old mid new run turn)
   unfolding turns_then_one
   one_for_room [] answer s t u old mid new run turn room crowded = ((crowded.0, paused_on s t crowded.0 run.0 crowded.1, crowded.2), tt)
   one_for_room (first ∷ answers) answer s t u old mid new run turn room crowded = (room.0, one_for_room answers answer run.0 t u run.1 mid new run.3 turn room.1 crowded)

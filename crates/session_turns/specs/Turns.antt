@@ -79,33 +79,45 @@ TakesTurn C state actor (Err refusal) s t old new =
 abbrev pub IsCrowded : SessionState → Type 0
 IsCrowded s = (x : SessionState) × IsPaused s x × (MOST_WAITING < seen x)
 
+-- a session, and the core that makes its steps, at a moment
+pub record SessionMoment (C : Type 0) : Type 0 where
+  pub session : SessionState
+  pub core : C
+
+abbrev pub session_at : {C : Type 0} → SessionState → C → SessionMoment C
+session_at s core = record { session = s; core = core }
+
 -- each of these turns was made while that was so
-abbrev pub AreForRoom : (C : Type 0) (state : C → CoreState) (actor : ℕ) (answers : List Answer) (s t : SessionState) (old new : C)
-    → TurnRun C state actor answers s t old new → Type 0
-AreForRoom C state actor [] s t old new run = Unit {0}
-AreForRoom C state actor (answer ∷ answers) s t old new run =
-    IsCrowded s × AreForRoom C state actor answers run.0 t run.1 new run.3
+abbrev pub AreForRoom : (C : Type 0) (state : C → CoreState) (actor : ℕ) (answers : List Answer) (old new : SessionMoment C)
+    → TurnRun C state actor answers old.session new.session old.core new.core → Type 0
+AreForRoom C state actor [] old new run = Unit {0}
+AreForRoom C state actor (answer ∷ answers) old new run =
+    IsCrowded old.session × AreForRoom C state actor answers (session_at run.0 run.1) new run.3
 
 -- and the one that was refused after them, or for which there was no memory
-abbrev pub StopForRoom : (C : Type 0) (state : C → CoreState) (actor : ℕ) (refusal : Refusal) (s t : SessionState) (old new : C)
-    → TurnsStopped C state actor refusal s t old new → Type 0
-StopForRoom C state actor refusal s t old new stopped =
-    AreForRoom C state actor stopped.0 s stopped.1 old stopped.2 stopped.3 × IsCrowded stopped.1
+abbrev pub StopForRoom : (C : Type 0) (state : C → CoreState) (actor : ℕ) (refusal : Refusal) (old new : SessionMoment C)
+    → TurnsStopped C state actor refusal old.session new.session old.core new.core → Type 0
+StopForRoom C state actor refusal old new stopped =
+    AreForRoom C state actor stopped.0 old (session_at stopped.1 stopped.2) stopped.3 × IsCrowded stopped.1
 
 -- any number of turns, each made for room
 abbrev pub MakesRoom : {T : Type 0} (C : Type 0) → (C → CoreState) → ℕ → Result T Refusal → SessionState → SessionState → C → C → Type 0
 MakesRoom C state actor (Ok x) s t old new =
-    (answers : List Answer) × (run : TurnRun C state actor answers s t old new) × AreForRoom C state actor answers s t old new run
+    (answers : List Answer) × (run : TurnRun C state actor answers s t old new)
+    × AreForRoom C state actor answers (session_at s old) (session_at t new) run
 MakesRoom C state actor (Err refusal) s t old new =
-    (stopped : TurnsStopped C state actor refusal s t old new) × StopForRoom C state actor refusal s t old new stopped
+    (stopped : TurnsStopped C state actor refusal s t old new)
+    × StopForRoom C state actor refusal (session_at s old) (session_at t new) stopped
 
 -- Bytes were given to a session: after turns that made room it took them all, or refused them.
-abbrev pub Feeds : (C : Type 0) → (C → CoreState) → ℕ → Result (Unit {0}) Refusal → List ℕ → SessionState → SessionState → C → C → Type 0
-Feeds C state actor (Ok u) bytes s t old new =
-    (answers : List Answer) × (mid : SessionState) × (run : TurnRun C state actor answers s mid old new) × IsTaking bytes mid t
-    × ((h : History) → HasHistory mid h → HasHistory t (record h { given = h.given ++ bytes }))
-    × AreForRoom C state actor answers s mid old new run
-Feeds C state actor (Err refusal) bytes s t old new =
-    ((stopped : TurnsStopped C state actor refusal s t old new) × StopForRoom C state actor refusal s t old new stopped)
-    ⊎ ((answers : List Answer) × (run : TurnRun C state actor answers s t old new) × IsPushAnswer t (length bytes) (Err refusal)
-    × AreForRoom C state actor answers s t old new run)
+abbrev pub Feeds : (C : Type 0) → (C → CoreState) → ℕ → Result (Unit {0}) Refusal → List ℕ → SessionMoment C → SessionMoment C → Type 0
+Feeds C state actor (Ok u) bytes old new =
+    (answers : List Answer) × (mid : SessionState) × (run : TurnRun C state actor answers old.session mid old.core new.core)
+    × IsTaking bytes mid new.session
+    × ((h : History) → HasHistory mid h → HasHistory new.session (record h { given = h.given ++ bytes }))
+    × AreForRoom C state actor answers old (session_at mid new.core) run
+Feeds C state actor (Err refusal) bytes old new =
+    ((stopped : TurnsStopped C state actor refusal old.session new.session old.core new.core)
+    × StopForRoom C state actor refusal old new stopped)
+    ⊎ ((answers : List Answer) × (run : TurnRun C state actor answers old.session new.session old.core new.core)
+    × IsPushAnswer new.session (length bytes) (Err refusal) × AreForRoom C state actor answers old new run)

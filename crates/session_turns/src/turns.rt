@@ -6,7 +6,7 @@ ghost use Rattle.ingest_session.specs.Due.{due_in};
 ghost use Rattle.ingest_session.specs.Settling.{seen};
 ghost use Rattle.ingest_session.specs.Work.{to_do};
 ghost use Rattle.ingest_session.specs.Told.{IsSettled};
-ghost use Rattle.session_turns.specs.Turns.{Asks, Feeds, MakesRoom, TakesTurn, TakesTurns};
+ghost use Rattle.session_turns.specs.Turns.{Asks, Feeds, MakesRoom, TakesTurn, TakesTurns, session_at};
 
 use actor_parts::{Actor, Answer, SegBuf, Step};
 use disk_format::LEAST_SEGMENT;
@@ -120,7 +120,7 @@ pub fn feed<C: HasState>(
 ) -> Result<(), Refusal>
     requires running { IsRunning (C.state core.old) }
     requires few { length bytes.now ≤ MOST_PIECE }
-    ensures feeds { Feeds C C.state actor result bytes.now session.old session.new core.old core.new }
+    ensures feeds { Feeds C C.state actor result bytes.now (session_at session.old core.old) (session_at session.new core.new) }
     ensures ended { session.new.ended ≡ session.old.ended }
     ensures count { OnOk result (session.new.count ≡ session.old.count + length bytes.now) }
     ensures few { OnOk result (session.new.count ≤ MOST_FILE) }

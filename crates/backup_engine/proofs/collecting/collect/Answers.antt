@@ -12,6 +12,7 @@ use Rattle.backup_engine.proofs.Returned.{first_same, rest_same}
 use Rattle.backup_engine.proofs.SinglesRun.{unbegun_speaks, unopened_speaks}
 use Rattle.backup_engine.proofs.Unlent.{collect_kept}
 use Rattle.backup_engine.proofs.collecting.collect.Goals as goal
+use Rattle.backup_engine.specs.Seen.{devices}
 
 -- there was no memory
 pub returns-in_err-buf-clause-does : goal.returns-in_err-buf-clause-does
@@ -19,7 +20,7 @@ returns-in_err-buf-clause-does g c = λ source.
     let disk = g.D.Disk.view c.args.disk.now in
     let sink = g.K.Sink.view c.args.sink.now in (
       [],
-      by_error (λ (x : Result (Unit {0}) Ending). DoesCommand _ g.D.Disk.view (Collect c.args.percent) [] [] (ending_in x) disk disk source source sink sink)
+      by_error (λ (x : Result (Unit {0}) Ending). DoesCommand _ g.D.Disk.view (Collect c.args.percent) [] [] (ending_in x) (devices disk disk source source sink sink))
           c.from_residual.result (Refused Memory) c.from_residual.ensures.1
           (does_without_memory _ g.D.Disk.view disk source sink (Collect c.args.percent) [] (not_begun (Collect c.args.percent) [] disk source sink (refl, refl))
           (unbegun_speaks (IsCollect c.args.percent (Some (Refused Memory)) sink sink) disk sink (inl (refl, inl refl), refl))),
@@ -36,8 +37,8 @@ returns-in-Err g c =
     let first : MutBor g.row.D.Denot = record { ref_ptr = c.args.disk.ref_ptr; ghost_name = _; now = c.args.disk.now } in
     let later = none_later _ view first _ w refusal c.in-Err.ensures.refused in
     record {
-      does = λ source. by_same (λ d. (rs : List Replied) × DoesCommand _ view (Collect c.args.percent) [] rs (Some (Refused refusal)) (view c.args.disk.now) (view d) source source
-          sink sink) _ c.in-Err.refused.0.now (search rules) (
+      does = λ source. by_same (λ d. (rs : List Replied) × DoesCommand _ view (Collect c.args.percent) [] rs (Some (Refused refusal))
+          (devices (view c.args.disk.now) (view d) source source sink sink)) _ c.in-Err.refused.0.now (search rules) (
             [],
             does_none _ view refusal (view c.args.disk.now) w source sink (Collect c.args.percent) [] (refl, refl)
                 (λ before is. record {
@@ -81,8 +82,8 @@ returns g c =
     let by_files = single_back _ view _ _ first _ w core core_now opens is.running closed.disk closed.moment between is.opened are (ending_in result) run
     (λ rs are. ran_actors (ending_in result) rs sink sink_now (collect_ran rs sink sink_now c.args.percent (ending_in result) are)) in
     record {
-      does = λ source. by_same (λ d. (rs : List Replied) × DoesCommand _ view (Collect c.args.percent) [] rs (ending_in result) (view c.args.disk.now) (view d) source source sink
-          sink_now) _ c.close-disk.result.now (search (rules, named)) (
+      does = λ source. by_same (λ d. (rs : List Replied) × DoesCommand _ view (Collect c.args.percent) [] rs (ending_in result)
+          (devices (view c.args.disk.now) (view d) source source sink sink_now)) _ c.close-disk.result.now (search (rules, named)) (
             run.0,
             does_opened _ view _ _ first _ w core core_now opens is.running closed.disk closed.moment between (Collect c.args.percent) [] (ending_in result) source source sink
                 sink_now run.0 by_files (ran_alone (ending_in result) run.0 sink sink_now (collect_ran run.0 sink sink_now c.args.percent (ending_in result) run.1.0) _ _ by_files)

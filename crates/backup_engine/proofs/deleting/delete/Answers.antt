@@ -14,6 +14,8 @@ use Rattle.backup_engine.proofs.Returned.{first_same, rest_same}
 use Rattle.backup_engine.proofs.SinglesRun.{unbegun_speaks, unopened_speaks}
 use Rattle.backup_engine.proofs.Unlent.{delete_kept}
 use Rattle.backup_engine.proofs.deleting.delete.Goals as goal
+use Rattle.backup_engine.specs.Seen.{devices}
+use Rattle.backup_engine.specs.Storing.{Replies}
 
 -- there was no memory
 pub returns-in_err-reply-clause-does : goal.returns-in_err-reply-clause-does
@@ -21,7 +23,7 @@ returns-in_err-reply-clause-does g c = λ source.
     let disk = g.D.Disk.view c.args.disk.now in
     let sink = g.K.Sink.view c.args.sink.now in (
       [],
-      by_error (λ (x : Result (Unit {0}) Ending). DoesCommand _ g.D.Disk.view (Delete c.args.name.now) [] [] (ending_in x) disk disk source source sink sink)
+      by_error (λ (x : Result (Unit {0}) Ending). DoesCommand _ g.D.Disk.view (Delete c.args.name.now) [] [] (ending_in x) (devices disk disk source source sink sink))
           c.from_residual.result (Refused Memory) c.from_residual.ensures.1
           (does_without_memory _ g.D.Disk.view disk source sink (Delete c.args.name.now) [] (not_begun (Delete c.args.name.now) [] disk source sink (refl, refl))
           (unbegun_speaks (IsDelete c.args.name.now (Some (Refused Memory)) sink sink) disk sink (inl (refl, refl), refl))),
@@ -32,7 +34,7 @@ returns-in_err-buf-clause-does g c = λ source.
     let disk = g.D.Disk.view c.args.disk.now in
     let sink = g.K.Sink.view c.args.sink.now in (
       [],
-      by_error (λ (x : Result (Unit {0}) Ending). DoesCommand _ g.D.Disk.view (Delete c.args.name.now) [] [] (ending_in x) disk disk source source sink sink)
+      by_error (λ (x : Result (Unit {0}) Ending). DoesCommand _ g.D.Disk.view (Delete c.args.name.now) [] [] (ending_in x) (devices disk disk source source sink sink))
           c.from_residual-in_err-buf.result (Refused Memory) c.from_residual-in_err-buf.ensures.1
           (does_without_memory _ g.D.Disk.view disk source sink (Delete c.args.name.now) [] (not_begun (Delete c.args.name.now) [] disk source sink (refl, refl))
           (unbegun_speaks (IsDelete c.args.name.now (Some (Refused Memory)) sink sink) disk sink (inl (refl, refl), refl))),
@@ -49,8 +51,8 @@ returns-in-Err g c =
     let first : MutBor g.row.D.Denot = record { ref_ptr = c.args.disk.ref_ptr; ghost_name = _; now = c.args.disk.now } in
     let later = none_later _ view first _ w refusal c.in-Err.ensures.refused in
     record {
-      does = λ source. by_same (λ d. (rs : List Replied) × DoesCommand _ view (Delete c.args.name.now) [] rs (Some (Refused refusal)) (view c.args.disk.now) (view d) source source
-          sink sink) _ c.in-Err.refused.0.now (search rules) (
+      does = λ source. by_same (λ d. (rs : List Replied) × DoesCommand _ view (Delete c.args.name.now) [] rs (Some (Refused refusal))
+          (devices (view c.args.disk.now) (view d) source source sink sink)) _ c.in-Err.refused.0.now (search rules) (
             [],
             does_none _ view refusal (view c.args.disk.now) w source sink (Delete c.args.name.now) [] (refl, refl)
                 (λ before is. record {
@@ -86,7 +88,7 @@ returns g c =
     let stop_is = (opened_fresh _ _ _ _ is.opened is.running).runs in
     let name = c.args.name.now in
     let ran =
-    subst (λ (reply : List ℕ). DeleteRun _ _ name reply result core core_now sink sink_now)
+    subst (λ (reply : List ℕ). DeleteRun _ _ name (λ deleted. Replies reply deleted result sink sink_now) core core_now)
     (c.deref.ensures.value ∙ c.in_ok-reply.ensures ∙ ap deleted_line c.as_bytes.ensures.value) c.delete_name-deleted.ensures.ran in
     let are = IsDelete c.args.name.now (ending_in result) sink sink_now in
     let first : MutBor g.row.D.Denot = record { ref_ptr = c.args.disk.ref_ptr; ghost_name = _; now = c.args.disk.now } in
@@ -98,8 +100,8 @@ returns g c =
     let by_files = single_back _ view _ _ first _ w core core_now opens is.running closed.disk closed.moment between is.opened are (ending_in result) run
     (λ rs are. ran_actors (ending_in result) rs sink sink_now (delete_ran rs sink sink_now name (ending_in result) are)) in
     record {
-      does = λ source. by_same (λ d. (rs : List Replied) × DoesCommand _ view (Delete c.args.name.now) [] rs (ending_in result) (view c.args.disk.now) (view d) source source sink
-          sink_now) _ c.close-disk.result.now (search (rules, named)) (
+      does = λ source. by_same (λ d. (rs : List Replied) × DoesCommand _ view (Delete c.args.name.now) [] rs (ending_in result)
+          (devices (view c.args.disk.now) (view d) source source sink sink_now)) _ c.close-disk.result.now (search (rules, named)) (
             run.0,
             does_opened _ view _ _ first _ w core core_now opens is.running closed.disk closed.moment between (Delete c.args.name.now) [] (ending_in result) source source sink
                 sink_now run.0 by_files (ran_alone (ending_in result) run.0 sink sink_now (delete_ran run.0 sink sink_now name (ending_in result) run.1.0) _ _ by_files) is.opened

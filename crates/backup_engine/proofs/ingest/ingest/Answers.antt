@@ -13,11 +13,12 @@ use Rattle.backup_engine.proofs.SinglesRun.{ingest_actors, ingest_memory, unopen
 use Rattle.backup_engine.proofs.SourceRuns.{given_of, given_told}
 use Rattle.backup_engine.proofs.Unlent.{ingest_kept}
 use Rattle.backup_engine.proofs.ingest.ingest.Goals as goal
+use Rattle.backup_engine.specs.Seen.{devices}
 
 -- all that is done
 abbrev Ingested : (D : Type 0) → (D → DiskView) → DiskView → DiskView → List ℕ → Option Ending → SourceView → SourceView → SinkView → SinkView → Type 0
 Ingested D view v w name ending source source_now sink sink_now =
-    (given : List ℕ) × ((rs : List Replied) × DoesCommand D view (Ingest name) given rs ending v w source source_now sink sink_now)
+    (given : List ℕ) × ((rs : List Replied) × DoesCommand D view (Ingest name) given rs ending (devices v w source source_now sink sink_now))
 
 -- the store was not opened
 pub returns-in-Err : goal.returns-in-Err

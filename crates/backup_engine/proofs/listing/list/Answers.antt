@@ -14,6 +14,7 @@ use Rattle.backup_engine.proofs.Returned.{first_same, rest_same}
 use Rattle.backup_engine.proofs.SinglesRun.{unbegun_speaks, unopened_speaks}
 use Rattle.backup_engine.proofs.Unlent.{list_kept}
 use Rattle.backup_engine.proofs.listing.list.Goals as goal
+use Rattle.backup_engine.specs.Seen.{devices}
 
 -- there was no memory
 pub returns-in_err-buf-clause-does : goal.returns-in_err-buf-clause-does
@@ -21,7 +22,7 @@ returns-in_err-buf-clause-does g c = λ source.
     let disk = g.D.Disk.view c.args.disk.now in
     let sink = g.K.Sink.view c.args.sink.now in (
       [],
-      by_error (λ (x : Result (Unit {0}) Ending). DoesCommand _ g.D.Disk.view table.List [] [] (ending_in x) disk disk source source sink sink) c.from_residual.result
+      by_error (λ (x : Result (Unit {0}) Ending). DoesCommand _ g.D.Disk.view table.List [] [] (ending_in x) (devices disk disk source source sink sink)) c.from_residual.result
           (Refused Memory) c.from_residual.ensures.1
           (does_without_memory _ g.D.Disk.view disk source sink table.List [] (not_begun table.List [] disk source sink (refl, refl))
           (unbegun_speaks (IsListing (Some (Refused Memory)) sink sink) disk sink (inl (refl, inl refl), refl))),
@@ -38,7 +39,8 @@ returns-in-Err g c =
     let first : MutBor g.row.D.Denot = record { ref_ptr = c.args.disk.ref_ptr; ghost_name = _; now = c.args.disk.now } in
     let later = none_later _ view first _ w refusal c.in-Err.ensures.refused in
     record {
-      does = λ source. by_same (λ d. (rs : List Replied) × DoesCommand _ view table.List [] rs (Some (Refused refusal)) (view c.args.disk.now) (view d) source source sink sink) _
+      does = λ source. by_same (λ d. (rs : List Replied)
+          × DoesCommand _ view table.List [] rs (Some (Refused refusal)) (devices (view c.args.disk.now) (view d) source source sink sink)) _
           c.in-Err.refused.0.now (search rules) (
             [],
             does_none _ view refusal (view c.args.disk.now) w source sink table.List [] (refl, refl)
@@ -83,7 +85,8 @@ returns g c =
     let by_files = single_back _ view _ _ first _ w core core_now opens is.running closed.disk closed.moment between is.opened are (ending_in result) run
     (λ rs are. ran_actors (ending_in result) rs sink sink_now (list_ran rs sink sink_now (ending_in result) are)) in
     record {
-      does = λ source. by_same (λ d. (rs : List Replied) × DoesCommand _ view table.List [] rs (ending_in result) (view c.args.disk.now) (view d) source source sink sink_now) _
+      does = λ source. by_same (λ d. (rs : List Replied)
+          × DoesCommand _ view table.List [] rs (ending_in result) (devices (view c.args.disk.now) (view d) source source sink sink_now)) _
           c.close-disk.result.now (search (rules, named)) (
             run.0,
             does_opened _ view _ _ first _ w core core_now opens is.running closed.disk closed.moment between table.List [] (ending_in result) source source sink sink_now run.0

@@ -12,6 +12,7 @@ use Rattle.backup_engine.proofs.Returned.{first_same, give_later, rest_same}
 use Rattle.backup_engine.proofs.SinglesRun.{unbegun_speaks, unopened_speaks}
 use Rattle.backup_engine.proofs.Unlent.{restore_kept}
 use Rattle.backup_engine.proofs.restore.restore.Goals as goal
+use Rattle.backup_engine.specs.Seen.{devices}
 
 -- there was no memory
 pub returns-in_default-clause-does : goal.returns-in_default-clause-does
@@ -36,8 +37,8 @@ returns-in-Err g c =
     let first : MutBor g.row.D.Denot = record { ref_ptr = c.args.disk.ref_ptr; ghost_name = _; now = c.args.disk.now } in
     let later = none_later _ view first _ w refusal c.in-Err.ensures.refused in
     record {
-      does = λ source. by_same (λ d. (rs : List Replied) × DoesCommand _ view (Restore name) [] rs (Some (Refused refusal)) (view c.args.disk.now) (view d) source source sink
-          sink) _ c.in-Err.refused.0.now (search rules) (
+      does = λ source. by_same (λ d. (rs : List Replied) × DoesCommand _ view (Restore name) [] rs (Some (Refused refusal))
+          (devices (view c.args.disk.now) (view d) source source sink sink)) _ c.in-Err.refused.0.now (search rules) (
             [],
             does_none _ view refusal (view c.args.disk.now) w source sink (Restore name) [] (refl, refl)
                 (λ before is. record {
@@ -82,7 +83,8 @@ returns g c =
     let by_files = single_back _ view _ _ first _ w core core_now opens is.running closed.disk closed.moment between is.opened are (ending_in result) run
     (λ rs are. ran_actors (ending_in result) rs sink sink_now (restore_ran rs sink sink_now name (ending_in result) are)) in
     record {
-      does = λ source. by_same (λ d. (rs : List Replied) × DoesCommand _ view (Restore name) [] rs (ending_in result) (view c.args.disk.now) (view d) source source sink sink_now)
+      does = λ source. by_same (λ d. (rs : List Replied)
+          × DoesCommand _ view (Restore name) [] rs (ending_in result) (devices (view c.args.disk.now) (view d) source source sink sink_now))
           _ c.close-disk.result.now (search (rules, named)) (
             run.0,
             does_opened _ view _ _ first _ w core core_now opens is.running closed.disk closed.moment between (Restore name) [] (ending_in result) source source sink sink_now run.0

@@ -8,6 +8,7 @@ use Rattle.backup_engine.proofs.Opens.{opened_later, runs_back, runs_none, runs_
 use Rattle.backup_engine.proofs.Returned.{first_same, rest_same}
 use Rattle.backup_engine.proofs.ScriptKept.{called_by, ends_alone, later_by, no_memory_kept, run_kept, script_back, unopened_kept}
 use Rattle.backup_engine.proofs.script.run.Goals as goal
+use Rattle.backup_engine.specs.Seen.{devices}
 
 -- there was no memory
 pub returns-in_err-sessions-clause-runs : goal.returns-in_err-sessions-clause-runs
@@ -16,7 +17,7 @@ returns-in_err-sessions-clause-runs g c =
     let source = g.S.Source.view c.args.source.now in
     let sink = g.K.Sink.view c.args.sink.now in (
       [],
-      by_error (λ (x : Result (Unit {0}) Ending). RunsScript _ g.D.Disk.view [] (ending_in x) disk disk source source sink sink) c.from_residual.result (Refused Memory)
+      by_error (λ (x : Result (Unit {0}) Ending). RunsScript _ g.D.Disk.view [] (ending_in x) (devices disk disk source source sink sink)) c.from_residual.result (Refused Memory)
           c.from_residual.ensures.1
           (runs_without_memory _ g.D.Disk.view disk source sink (no_memory_kept disk source sink c.reads_tell_scripts.ensures)),
     )
@@ -27,7 +28,8 @@ returns-in_err-buf-clause-runs g c =
     let source = g.S.Source.view c.args.source.now in
     let sink = g.K.Sink.view c.args.sink.now in (
       [],
-      by_error (λ (x : Result (Unit {0}) Ending). RunsScript _ g.D.Disk.view [] (ending_in x) disk disk source source sink sink) c.from_residual-in_err-buf.result (Refused Memory)
+      by_error (λ (x : Result (Unit {0}) Ending). RunsScript _ g.D.Disk.view [] (ending_in x) (devices disk disk source source sink sink)) c.from_residual-in_err-buf.result
+          (Refused Memory)
           c.from_residual-in_err-buf.ensures.1
           (runs_without_memory _ g.D.Disk.view disk source sink (no_memory_kept disk source sink c.reads_tell_scripts.ensures)),
     )
@@ -43,7 +45,8 @@ returns-in-Err g c =
     let first : MutBor g.row.D.Denot = record { ref_ptr = c.args.disk.ref_ptr; ghost_name = _; now = c.args.disk.now } in
     let later = none_later _ view first _ w refusal c.in-Err.ensures.refused in
     record {
-      runs = by_same (λ d. (rs : List Replied) × RunsScript _ view rs (Some (Refused refusal)) (view c.args.disk.now) (view d) source source sink sink) _ c.in-Err.refused.0.now
+      runs = by_same (λ d. (rs : List Replied)
+          × RunsScript _ view rs (Some (Refused refusal)) (devices (view c.args.disk.now) (view d) source source sink sink)) _ c.in-Err.refused.0.now
           (search rules) (
             [],
             runs_none _ view refusal (view c.args.disk.now) w source sink (λ before is. unopened_kept before w refusal is source sink c.reads_tell_scripts.ensures)
@@ -82,7 +85,8 @@ returns g c =
     let by_files = runs_back _ view _ _ first _ w core core_now opens is.running closed.disk closed.moment between is.opened (ending_in result) run.rs r s c.new-runner.ensures.core
     (c.new-runner.ensures.sessions ∙ c.in_ok-sessions.ensures) c.into_core.ensures.core run.actors run.runs in
     record {
-      runs = by_same (λ d. (rs : List Replied) × RunsScript _ view rs (ending_in result) (view c.args.disk.now) (view d) source source_now sink sink_now) _ c.close-disk.result.now
+      runs = by_same (λ d. (rs : List Replied)
+          × RunsScript _ view rs (ending_in result) (devices (view c.args.disk.now) (view d) source source_now sink sink_now)) _ c.close-disk.result.now
           (search (rules, named)) (
             run.rs,
             runs_opened _ view _ _ first _ w core core_now opens is.running closed.disk closed.moment between run.rs (ending_in result) source source_now sink sink_now is.opened

@@ -1,6 +1,7 @@
 use Rattle.backup_engine.proofs.Prelude.{rules, ◌≤◌, ◌+◌, [], refl, sym, subst, MOST_SCRIPT, ReaderState, ScriptSoFar}
 use Rattle.backup_engine.proofs.ScriptSteps.{begin_script, few_numbers, gave_up, went_on, went_out}
 use Rattle.backup_engine.proofs.script.run_lines.Goals as goal
+use Rattle.backup_engine.specs.Seen.{streaming}
 
 pub loop-number-init : goal.loop-number-init
 loop-number-init g c =
@@ -10,7 +11,7 @@ loop-number-init g c =
     let r = c.args.runner.now in (
       [],
       (
-        subst (λ (reader : ReaderState). ScriptSoFar _ state [] reader r r source source sink sink) (sym c.new-reader.ensures)
+        subst (λ (reader : ReaderState). ScriptSoFar _ state [] reader (streaming r source sink) (streaming r source sink)) (sym c.new-reader.ensures)
             (begin_script _ state r source sink c.reads_tell_scripts.ensures),
         refl,
       ),
